@@ -1,0 +1,161 @@
+-- Chunks, releases and metadata: each front reads what is spelled, and nothing else.
+use Rattle.std.proofs.Common.{◌≡◌, ◌==◌, ℕ, ◌<◌, true, false, List, [], ◌∷◌, ◌++◌, length, drop, Option, Some, None, refl, sym, ap, ◌∙◌, inl, inr}
+use Rattle.std.proofs.lemmas.Bool.{cases_Bool}
+use Rattle.std.proofs.lemmas.List.{drop_at, take-append-drop, take_at}
+use Rattle.std.specs.Char.{is_ascii_digit}
+use Rattle.std.specs.Cmp.{first_so, nat_eq_equiv, second_so}
+use Rattle.std.specs.List.{list_all, prefix_len, take_while}
+use Rattle.version_parts.specs.Bytes.{dot, is_identifier_byte, is_metadata_byte}
+use Rattle.version_parts.specs.Chunk.{PlainChunk, Numeric, Alphanum, SpellsChunk, chunk_front, chunk_text}
+use Rattle.version_parts.specs.Front.{Front, begins, behind, dotted_front, further, map_value, optional, run_front}
+use Rattle.version_parts.specs.Grammar.{SpellsDotted, SpellsOptional}
+use Rattle.version_parts.specs.Metadata.{SpellsMetadata}
+use Rattle.version_parts.specs.Numeral.{unsigned_front}
+use Rattle.version_parts.specs.Reading.{EndsList, EndsRun, IsComplete, IsPrinted, IsSound}
+use Rattle.version_parts.specs.Release.{SpellsRelease, release_text}
+use Rattle.version_parts.proofs.Dotted.{behind-Some, behind_dot_shrinks, cases_Option, dotted_complete, dotted_sound, further-None, further-next}
+use Rattle.version_parts.proofs.NumeralReading.{numeral_printed, unsigned_complete, unsigned_sound}
+use Rattle.version_parts.proofs.RunFronts.{list_all-take_while, prefix_len-append, reads_run, run_front-reads}
+
+digit_identifier : (b : ℕ) → is_ascii_digit b ≡ true → is_identifier_byte b ≡ true
+digit_identifier b h = rw h refl
+
+digits_identifier : (text : List ℕ) → list_all is_ascii_digit text ≡ true → list_all is_identifier_byte text ≡ true
+digits_identifier [] h = refl
+digits_identifier (b ∷ text) h = rw (digit_identifier b (first_so _ _ h)) (digits_identifier text (second_so _ _ h))
+
+ends_numeral : (rest : List ℕ) → EndsRun is_identifier_byte rest → EndsRun is_ascii_digit rest
+ends_numeral [] e = refl
+ends_numeral (b ∷ rest) e = elim (cases_Bool (is_ascii_digit b)) [
+  | inl digit ↦ cc (digit_identifier b digit, e)
+  | inr other ↦ other
+]
+
+-- what the front gives, where the run is all digits and where it isn't
+chunk-digits : (text : List ℕ) → list_all is_ascii_digit (take_while is_identifier_byte text) ≡ true → chunk_front text ≡ map_value Numeric (unsigned_front text)
+unfolding chunk_front
+chunk-digits text h = rw h refl
+
+chunk-run : (text : List ℕ) → list_all is_ascii_digit (take_while is_identifier_byte text) ≡ false
+    → chunk_front text ≡ Some (Alphanum (take_while is_identifier_byte text), drop (prefix_len is_identifier_byte text) text)
+unfolding chunk_front
+chunk-run text h = rw h refl
+
+pub chunk_sound : IsSound SpellsChunk chunk_front
+chunk_sound text x rest e = elim (cases_Bool (list_all is_ascii_digit (take_while is_identifier_byte text))) [
+  | inl digits ↦ elim (cases_Option (unsigned_front text)) [
+    | inl none ↦ cc (rw (chunk-digits text digits, none) at e)
+    | inr one ↦
+        let same : (Numeric one.0.0, one.0.1) ≡ (x, rest) = cc (rw (chunk-digits text digits, one.1) at e) in
+        let value : Numeric one.0.0 ≡ x = ap (λ (p : PlainChunk × List ℕ). p.0) same in
+        let left : one.0.1 ≡ rest = ap (λ (p : PlainChunk × List ℕ). p.1) same in
+        let read = unsigned_sound text one.0.0 one.0.1 one.1 in
+        (read.0, read.1 ∙ ap (λ (l : List ℕ). read.0 ++ l) left, rw (← value) read.2)
+  ]
+  | inr run ↦
+      let same : (Alphanum (take_while is_identifier_byte text), drop (prefix_len is_identifier_byte text) text) ≡ (x, rest) = cc (rw (chunk-run text run) at e) in
+      let value : Alphanum (take_while is_identifier_byte text) ≡ x = ap (λ (p : PlainChunk × List ℕ). p.0) same in
+      let left : drop (prefix_len is_identifier_byte text) text ≡ rest = ap (λ (p : PlainChunk × List ℕ). p.1) same in (
+        take_while is_identifier_byte text,
+        rw (← left) (sym (take-append-drop (prefix_len is_identifier_byte text) text)),
+        rw (← value) (refl, list_all-take_while is_identifier_byte text, run),
+      )
+]
+
+whole_run : (run rest : List ℕ) → list_all is_identifier_byte run ≡ true → EndsRun is_identifier_byte rest → (take_while is_identifier_byte (run ++ rest) ≡ run) × (drop (prefix_len is_identifier_byte (run ++ rest)) (run ++ rest) ≡ rest)
+whole_run run rest all ends =
+    let len = prefix_len-append is_identifier_byte run rest all ends in
+    (rw len (take_at run rest _ refl), rw len (drop_at run rest _ refl))
+
+pub chunk_complete : IsComplete SpellsChunk (EndsRun is_identifier_byte) chunk_front
+chunk_complete piece (Numeric n) rest s ends =
+    let run = whole_run piece rest (digits_identifier piece s.digits) ends in
+    let digits : list_all is_ascii_digit (take_while is_identifier_byte (piece ++ rest)) ≡ true = rw run.0 s.digits in
+    rw (chunk-digits (piece ++ rest) digits, unsigned_complete piece n rest s (ends_numeral rest ends)) refl
+chunk_complete piece (Alphanum text) rest s ends =
+    let all : list_all is_identifier_byte piece ≡ true = rw s.0 s.1 in
+    let run = whole_run piece rest all ends in
+    let other : list_all is_ascii_digit (take_while is_identifier_byte (piece ++ rest)) ≡ false = rw (run.0, s.0) s.2 in
+    rw (chunk-run (piece ++ rest) other, run.0, run.1, s.0) refl
+
+-- the steps of a loop over the further chunks of a release
+pub next_chunk_shrinks : (text : List ℕ) (x : PlainChunk) (rest : List ℕ) → behind dot chunk_front text ≡ Some (x, rest) → length rest < length text
+next_chunk_shrinks = behind_dot_shrinks SpellsChunk chunk_front chunk_sound
+
+pub next_chunk : (text : List ℕ) (x : PlainChunk) (rest : List ℕ) → behind dot chunk_front text ≡ Some (x, rest)
+    → further chunk_front (length text) text ≡ (x ∷ (further chunk_front (length rest) rest).0, (further chunk_front (length rest) rest).1)
+next_chunk = further-next SpellsChunk chunk_front chunk_sound
+
+pub no_next_chunk : (text : List ℕ) → behind dot chunk_front text ≡ None → further chunk_front (length text) text ≡ ([], text)
+no_next_chunk text = further-None SpellsChunk chunk_front text (length text)
+
+-- what a list has, where its first element is read
+pub listed : (text : List ℕ) (x : PlainChunk) (rest : List ℕ) → chunk_front text ≡ Some (x, rest)
+    → dotted_front chunk_front text ≡ Some (x ∷ (further chunk_front (length rest) rest).0, (further chunk_front (length rest) rest).1)
+unfolding dotted_front
+listed text x rest e = rw e refl
+
+pub unlisted : (text : List ℕ) → chunk_front text ≡ None → dotted_front chunk_front text ≡ None
+unfolding dotted_front
+unlisted text e = rw e refl
+
+pub release_sound : IsSound SpellsRelease (dotted_front chunk_front)
+release_sound = dotted_sound SpellsChunk chunk_front chunk_sound
+
+pub release_complete : IsComplete SpellsRelease (EndsList (EndsRun is_identifier_byte)) (dotted_front chunk_front)
+release_complete = dotted_complete SpellsChunk chunk_front (EndsRun is_identifier_byte) chunk_complete (λ text. refl)
+
+pub metadata_sound : IsSound SpellsMetadata (run_front is_metadata_byte)
+metadata_sound text meta rest e =
+    let run = reads_run is_metadata_byte text meta rest e in
+    (meta, run.whole, (refl, run.all, run.some))
+
+pub metadata_complete : IsComplete SpellsMetadata (EndsRun is_metadata_byte) (run_front is_metadata_byte)
+metadata_complete piece meta rest s ends =
+    rw s.0 (run_front-reads is_metadata_byte meta rest s.1 s.2 ends)
+
+pub chunk_printed : IsPrinted SpellsChunk chunk_text
+chunk_printed text (Numeric n) s = numeral_printed text n s
+chunk_printed text (Alphanum run) s = sym s.0
+
+pub release_printed : IsPrinted SpellsRelease release_text
+unfolding SpellsDotted
+release_printed text [] s = absurd s
+release_printed text (x ∷ []) s = chunk_printed text x s
+release_printed text (x ∷ y ∷ xs) s =
+    rw s.2 (rw (chunk_printed s.0 x s.3) (ap (λ (l : List ℕ). s.0 ++ dot ∷ l) (release_printed s.1 (y ∷ xs) s.4)))
+
+-- a piece behind a byte, that may be absent
+module _ {X : Type 0} (mark : ℕ) (Spells : List ℕ → X → Type 0) (front : Front X) where
+  optional-None : (text : List ℕ) → behind mark front text ≡ None → optional (behind mark front) text ≡ (None, text)
+  unfolding optional
+  optional-None text e = rw e refl
+
+  optional-Some : (text : List ℕ) (x : X) (rest : List ℕ) → behind mark front text ≡ Some (x, rest) → optional (behind mark front) text ≡ (Some x, rest)
+  unfolding optional
+  optional-Some text x rest e = rw e refl
+
+  pub optional_sound : IsSound Spells front → (text : List ℕ)
+      → (piece : List ℕ) × (text ≡ piece ++ (optional (behind mark front) text).1) × SpellsOptional mark Spells piece (optional (behind mark front) text).0
+  unfolding SpellsOptional
+  optional_sound sound text = elim (cases_Option (behind mark front text)) [
+    | inl none ↦ rw (optional-None text none) ([], refl, refl)
+    | inr one ↦
+        let parts = behind-Some mark front text one.0 one.1 in
+        let read = sound parts.0 one.0.0 one.0.1 parts.2 in
+        rw (optional-Some text one.0.0 one.0.1 one.1)
+        (mark ∷ read.0, parts.1 ∙ ap (λ (l : List ℕ). mark ∷ l) read.1, (read.0, refl, read.2))
+  ]
+
+  behind-absent : (text : List ℕ) → begins (λ b. b == mark) text ≡ false → behind mark front text ≡ None
+  behind-absent [] e = refl
+  behind-absent (b ∷ text) e = rw e refl
+
+  pub optional_complete : (Ends : List ℕ → Type 0) → IsComplete Spells Ends front → (piece : List ℕ) (o : Option X) (rest : List ℕ)
+      → SpellsOptional mark Spells piece o → Ends rest → begins (λ b. b == mark) rest ≡ false → optional (behind mark front) (piece ++ rest) ≡ (o, rest)
+  unfolding SpellsOptional
+  optional_complete Ends complete piece None rest s ends other = rw s (optional-None rest (behind-absent rest other))
+  optional_complete Ends complete piece (Some x) rest s ends other =
+      let here : (mark == mark) ≡ true = nat_eq_equiv.refl mark in
+      let read : behind mark front (mark ∷ (s.0 ++ rest)) ≡ Some (x, rest) = rw here (complete s.0 x rest s.2 ends) in
+      rw s.1 (optional-Some (mark ∷ (s.0 ++ rest)) x rest read)

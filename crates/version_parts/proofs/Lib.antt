@@ -1,0 +1,7 @@
+pub mod ChunkReading
+pub mod Dotted
+pub mod NumeralReading
+pub mod Numerals
+pub mod Printing
+pub mod RunFronts
+pub mod Runs

@@ -1,0 +1,20 @@
+-- The bytes that versions are made of, all of them ASCII. A letter is an ASCII letter, a digit an ASCII digit.
+use Rattle.std.specs.Prelude.{ℕ, Bool, ◌||◌, ◌==◌}
+use Rattle.std.specs.Char.{is_ascii_alphanumeric}
+
+abbrev pub plus : ℕ
+plus = 43
+
+abbrev pub hyphen : ℕ
+hyphen = 45
+
+abbrev pub dot : ℕ
+dot = 46
+
+-- a letter, a digit or a hyphen: what the identifiers of a release are made of (SemVer 2.0, section 9)
+abbrev pub is_identifier_byte : ℕ → Bool
+is_identifier_byte b = is_ascii_alphanumeric b || b == hyphen
+
+-- the same or a dot: what build metadata is made of
+abbrev pub is_metadata_byte : ℕ → Bool
+is_metadata_byte b = is_identifier_byte b || b == dot

@@ -1,0 +1,63 @@
+-- Fronts: what a reader reads at the front of a text, and the rest that it leaves; or nothing.
+use Rattle.std.specs.Prelude.{◌≡◌, Bool, false, ℕ, zero, suc, List, [], ◌∷◌, length, drop, Option, Some, None, Result, Ok, Err, IsSomeAnd, ◌==◌, if◌then◌else◌}
+use Rattle.std.specs.List.{prefix_len, take_while}
+use Rattle.std.specs.Option.{option_map, option_and_then, option_map_or}
+use Rattle.std.specs.declared.alloc.AllocError.{AllocError}
+use Rattle.std.specs.Borrow.{Bor}
+use Rattle.version_parts.specs.Bytes.{dot}
+
+-- a front of values of the type X
+abbrev pub Front : Type 0 → Type 0
+Front X = List ℕ → Option (X × List ℕ)
+
+infixl 10 ◌>>=◌
+abbrev pub ◌>>=◌ : {A B : Type 0} → Option A → (A → Option B) → Option B
+o >>= f = option_and_then f o
+
+-- f of the value at the front
+abbrev pub map_value : {X Y : Type 0} → (X → Y) → Option (X × List ℕ) → Option (Y × List ℕ)
+map_value f = option_map (λ p. (f p.0, p.1))
+
+-- whether a text begins with a byte that passes the test
+abbrev pub begins : (ℕ → Bool) → List ℕ → Bool
+begins test [] = false
+begins test (b ∷ text) = test b
+
+-- a piece that may not be empty
+abbrev pub unless_empty : List ℕ × List ℕ → Option (List ℕ × List ℕ)
+unless_empty run = if length run.0 == 0 then None else Some run
+
+-- the longest run of the bytes that pass the test, which may not be empty
+unfoldable pub run_front : (ℕ → Bool) → Front (List ℕ)
+run_front test text = unless_empty (take_while test text, drop (prefix_len test text) text)
+
+-- what follows the byte mark, where the text begins with it
+abbrev pub after_mark : ℕ → List ℕ → Option (List ℕ)
+after_mark mark [] = None
+after_mark mark (b ∷ text) = if b == mark then Some text else None
+
+-- a front behind the byte mark
+abbrev pub behind : {X : Type 0} → ℕ → Front X → Front X
+behind mark front text = after_mark mark text >>= front
+
+-- a piece that may be absent; one that can't be read is absent, and nothing of it is consumed
+unfoldable pub optional : {X : Type 0} → Front X → List ℕ → Option X × List ℕ
+optional front text = option_map_or (λ p. (Some p.0, p.1)) (front text) (None, text)
+
+-- further elements, each behind a dot, as long as they can be read, and n at most
+unfoldable pub further : {X : Type 0} → Front X → ℕ → List ℕ → List X × List ℕ
+further front zero text = ([], text)
+further front (suc n) text = option_map_or (λ p. (p.0 ∷ (further front n p.1).0, (further front n p.1).1)) (behind dot front text) ([], text)
+
+-- one element or more, joined by dots; it stops before a dot behind which no element can be read
+unfoldable pub dotted_front : {X : Type 0} → Front X → Front (List X)
+dotted_front front text = do
+  first ← front text
+  let others = further front (length first.1) first.1
+  Some (first.0 ∷ others.0, others.1)
+
+-- What a reader answered, seen by view: what the front gives. It wants memory only where the front gives a value
+-- that owns some.
+abbrev pub Reads : {V X : Type 0} → (V → X) → (X → Type 0) → Result (Option (V × Bor (List ℕ))) AllocError → Option (X × List ℕ) → Type 0
+Reads view Owns (Ok answer) front = option_map (λ r. (view r.0, r.1.now)) answer ≡ front
+Reads view Owns (Err e) front = IsSomeAnd front (λ r. Owns r.0)

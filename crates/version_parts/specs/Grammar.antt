@@ -1,0 +1,14 @@
+-- Grammars: which text spells which value, said by the pieces that the text is made of.
+use Rattle.std.specs.Prelude.{◌≡◌, ℕ, List, [], ◌∷◌, ◌++◌, Option, Some, None}
+use Rattle.version_parts.specs.Bytes.{dot}
+
+-- one element or more, joined by dots
+unfoldable pub SpellsDotted : {X : Type 0} → (List ℕ → X → Type 0) → List ℕ → List X → Type 0
+SpellsDotted Spells text [] = ⊥
+SpellsDotted Spells text (x ∷ []) = Spells text x
+SpellsDotted Spells text (x ∷ y ∷ xs) = (first others : List ℕ) × (text ≡ first ++ dot ∷ others) × Spells first x × SpellsDotted Spells others (y ∷ xs)
+
+-- the byte mark and a piece behind it, or nothing at all
+unfoldable pub SpellsOptional : {X : Type 0} → ℕ → (List ℕ → X → Type 0) → List ℕ → Option X → Type 0
+SpellsOptional mark Spells text None = text ≡ []
+SpellsOptional mark Spells text (Some x) = (piece : List ℕ) × (text ≡ mark ∷ piece) × Spells piece x

@@ -1,0 +1,9 @@
+pub mod Bytes
+pub mod Chunk
+pub mod Class
+pub mod Front
+pub mod Grammar
+pub mod Metadata
+pub mod Numeral
+pub mod Reading
+pub mod Release
