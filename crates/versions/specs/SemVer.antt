@@ -1,0 +1,89 @@
+-- Strict versions (SemVer 2.0, sections 2, 9 and 10).
+use Rattle.std.specs.Prelude.{◌≡◌, ℕ, List, [], ◌∷◌, ◌++◌, Option, Some, None, length, ◌==◌, if◌then◌else◌, ◌⊎◌, IsSome}
+use Rattle.std.specs.Fmt.{decimal}
+use Rattle.std.specs.Option.{option_map}
+use Rattle.std.specs.String.{string_bytes}
+use Rattle.version_parts.specs.Bytes.{dot, hyphen, plus}
+use Rattle.version_parts.specs.Chunk.{PlainChunk}
+use Rattle.version_parts.specs.Front.{◌>>=◌, Front, behind, optional}
+use Rattle.version_parts.specs.Grammar.{SpellsOptional}
+use Rattle.version_parts.specs.Metadata.{SpellsMetadata, meta_front}
+use Rattle.version_parts.specs.Numeral.{SpellsNumeral, unsigned_front}
+use Rattle.version_parts.specs.Release.{SpellsRelease, plain_release, release_front, release_text}
+use Rattle.versions.specs.declared.semver.Pieces.{Pieces}
+use Rattle.versions.specs.declared.semver.SemVer.{SemVer}
+
+-- a strict version, apart from where its texts lie
+pub record PlainSemVer : Type 0 where
+  pub major : ℕ
+  pub minor : ℕ
+  pub patch : ℕ
+  pub pre_rel : Option (List PlainChunk)
+  pub meta : Option (List ℕ)
+
+-- the version that a value holds
+abbrev pub plain_semver : SemVer → PlainSemVer
+plain_semver v = record {
+  major = v.major;
+  minor = v.minor;
+  patch = v.patch;
+  pre_rel = option_map plain_release v.pre_rel;
+  meta = option_map string_bytes v.meta;
+}
+
+-- the version that was scanned
+abbrev pub plain_pieces : Pieces → PlainSemVer
+plain_pieces p = record {
+  major = p.major;
+  minor = p.minor;
+  patch = p.patch;
+  pre_rel = p.pre_rel;
+  meta = option_map (λ text. text.now) p.meta;
+}
+
+-- The text spells the version: three numerals joined by dots, then a release behind a hyphen or none, then
+-- metadata behind a plus or none.
+pub record SpellsSemVer (text : List ℕ) (v : PlainSemVer) : Type 0 where
+  pub major : List ℕ
+  pub minor : List ℕ
+  pub patch : List ℕ
+  pub pre_rel : List ℕ
+  pub meta : List ℕ
+  pub whole : text ≡ major ++ dot ∷ (minor ++ dot ∷ (patch ++ (pre_rel ++ meta)))
+  pub major_is : SpellsNumeral major v.major
+  pub minor_is : SpellsNumeral minor v.minor
+  pub patch_is : SpellsNumeral patch v.patch
+  pub pre_rel_is : SpellsOptional hyphen SpellsRelease pre_rel v.pre_rel
+  pub meta_is : SpellsOptional plus SpellsMetadata meta v.meta
+
+-- three numbers joined by dots, and then a release and metadata as far as they can be read
+unfoldable pub semver_front : Front PlainSemVer
+semver_front text = do
+  major ← unsigned_front text
+  minor ← behind dot unsigned_front major.1
+  patch ← behind dot unsigned_front minor.1
+  let pre_rel = optional release_front patch.1
+  let meta = optional meta_front pre_rel.1
+  Some (record { major = major.0; minor = minor.0; patch = patch.0; pre_rel = pre_rel.0; meta = meta.0 }, meta.1)
+
+-- the value that a front reads, where it leaves no rest
+abbrev pub whole : {X : Type 0} → Option (X × List ℕ) → Option X
+whole read = read >>= λ p. if length p.1 == 0 then Some p.0 else None
+
+-- the strict version that the whole text spells, where it spells one
+unfoldable pub semver_of : List ℕ → Option PlainSemVer
+semver_of text = whole (semver_front text)
+
+-- a piece behind its mark, or nothing
+abbrev pub optional_text : {X : Type 0} → ℕ → (X → List ℕ) → Option X → List ℕ
+optional_text mark text_of None = []
+optional_text mark text_of (Some x) = mark ∷ text_of x
+
+-- the printed text: major.minor.patch, a hyphen and the release if there is one, a plus and the metadata if there is any
+abbrev pub semver_text : PlainSemVer → List ℕ
+semver_text v = decimal v.major ++ dot ∷ (decimal v.minor ++ dot ∷ (decimal v.patch
+    ++ (optional_text hyphen release_text v.pre_rel ++ optional_text plus (λ text. text) v.meta)))
+
+-- a version with a release or metadata owns memory
+abbrev pub SemVerOwns : PlainSemVer → Type 0
+SemVerOwns v = IsSome v.pre_rel ⊎ IsSome v.meta
