@@ -10,8 +10,8 @@ use Rattle.std.specs.Str.{IsAscii, IsCharBoundary, IsUtf8}
 use Rattle.std.specs.Char.{is_ascii_alphanumeric, is_ascii_digit}
 use Rattle.version_parts.specs.Bytes.{is_identifier_byte, is_metadata_byte}
 use Rattle.version_parts.specs.Class.{contains}
-use Rattle.version_parts.specs.declared.parsers.Class.{Class}
-use Rattle.version_parts.specs.declared.parsers.Class.TheVariants.{Digit, Alphanumeric, Identifier, Metadata}
+use Rattle.version_parts.specs.declared.scan.Class.{Class}
+use Rattle.version_parts.specs.declared.scan.Class.TheVariants.{Digit, Alphanumeric, Identifier, Metadata}
 
 digit_ascii : (b : ℕ) → is_ascii_digit b ≡ true → b < 128
 digit_ascii b h = grind (arith, nat_tests)

@@ -7,8 +7,8 @@ use Rattle.std.specs.List.{list_all, prefix_len, take_while}
 use Rattle.std.specs.String.{string_bytes}
 use Rattle.version_parts.specs.declared.Chunk.{Chunk}
 use Rattle.version_parts.specs.declared.Chunk.TheVariants as owned
-use Rattle.version_parts.specs.declared.ChunkPiece.{ChunkPiece}
-use Rattle.version_parts.specs.declared.ChunkPiece.TheVariants as lent
+use Rattle.version_parts.specs.declared.scan.ChunkPiece.{ChunkPiece}
+use Rattle.version_parts.specs.declared.scan.ChunkPiece.TheVariants as lent
 use Rattle.version_parts.specs.Bytes.{is_identifier_byte}
 use Rattle.version_parts.specs.Front.{Front, map_value}
 use Rattle.version_parts.specs.Numeral.{SpellsNumeral, unsigned_front}

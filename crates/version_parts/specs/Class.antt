@@ -2,8 +2,8 @@
 use Rattle.std.specs.Prelude.{ℕ, Bool}
 use Rattle.std.specs.Char.{is_ascii_alphanumeric, is_ascii_digit}
 use Rattle.version_parts.specs.Bytes.{is_identifier_byte, is_metadata_byte}
-use Rattle.version_parts.specs.declared.parsers.Class.{Class}
-use Rattle.version_parts.specs.declared.parsers.Class.TheVariants.{Digit, Alphanumeric, Identifier, Metadata}
+use Rattle.version_parts.specs.declared.scan.Class.{Class}
+use Rattle.version_parts.specs.declared.scan.Class.TheVariants.{Digit, Alphanumeric, Identifier, Metadata}
 
 -- whether a byte is of the class
 abbrev pub contains : Class → ℕ → Bool

@@ -9,7 +9,8 @@ ghost use Rattle.versions.specs.SemVer.{plain_semver, plain_pieces, semver_front
 
 use std::alloc::{AllocError, Global};
 use std::fmt;
-use version_parts::{Release, ReleasePiece, parsers};
+use version_parts::scan::ReleasePiece;
+use version_parts::{Release, scan};
 
 /// A strict version: `major.minor.patch`, then perhaps a pre-release, then perhaps build metadata, as
 /// `1.2.3-rc.1+x86` (SemVer 2.0, sections 2, 9 and 10). The numbers are below 2^32.
@@ -93,9 +94,9 @@ impl<'a> Pieces<'a> {
     fn scan(i: &'a str) -> Option<(Pieces<'a>, &'a str)>
         ensures { option_map (λ r. (plain_pieces r.0, r.1.now)) result ≡ semver_front i.now }
     {
-        let (major, rest) = parsers::unsigned(i)?;
-        let (minor, rest) = parsers::unsigned(parsers::behind(rest, b'.')?)?;
-        let (patch, rest) = parsers::unsigned(parsers::behind(rest, b'.')?)?;
+        let (major, rest) = scan::unsigned(i)?;
+        let (minor, rest) = scan::unsigned(scan::after_mark(rest, b'.')?)?;
+        let (patch, rest) = scan::unsigned(scan::after_mark(rest, b'.')?)?;
         let (pre_rel, rest) = optional_release(rest);
         let (meta, rest) = optional_meta(rest);
         let pieces = Pieces {
@@ -152,6 +153,17 @@ fn optional_release(i: &str) -> (Option<ReleasePiece<'_>>, &str)
     }
 }
 
+// The metadata at the front of a text, if there is any, and the rest.
+#[tactic(auto, unfolding(version_parts::specs::Front::optional))]
+fn optional_meta(i: &str) -> (Option<&str>, &str)
+    ensures { (option_map (λ text. text.now) result.0, result.1.now) ≡ optional meta_front i.now }
+{
+    match scan::metadata(i) {
+        Some((text, rest)) => (Some(text), rest),
+        None => (None, i),
+    }
+}
+
 // The chunks of a release, if there is one.
 fn build_release(
     alloc: Global,
@@ -174,16 +186,5 @@ fn copy_text(alloc: Global, text: Option<&str>) -> Result<Option<String>, AllocE
     match text {
         Some(text) => Ok(Some(String::from_str(alloc, text)?)),
         None => Ok(None),
-    }
-}
-
-// The metadata at the front of a text, if there is any, and the rest.
-#[tactic(auto, unfolding(version_parts::specs::Front::optional))]
-fn optional_meta(i: &str) -> (Option<&str>, &str)
-    ensures { (option_map (λ text. text.now) result.0, result.1.now) ≡ optional meta_front i.now }
-{
-    match parsers::scan_meta(i) {
-        Some((text, rest)) => (Some(text), rest),
-        None => (None, i),
     }
 }

@@ -1,7 +1,7 @@
 use Rattle.std.proofs.Common.{◌∙◌, List, length, ap, arith, rules, sym, ℕ}
 use Rattle.version_parts.specs.Chunk.{PlainChunk, plain_piece}
 use Rattle.version_parts.proofs.ChunkReading.{next_chunk, next_chunk_shrinks, no_next_chunk}
-use Rattle.version_parts.proofs.skip_further.Goals as goal
+use Rattle.version_parts.proofs.scan.skip_further.Goals as goal
 
 pub loop-after-smaller : goal.loop-after-smaller
 loop-after-smaller c = next_chunk_shrinks c.loop-after.rest.now (plain_piece c.in-Some.field-0-0) c.in-Some.after.now (sym c.in-Some.ensures)

@@ -3,7 +3,7 @@ use denote.Shadow.{shadow}
 use denote.Text.{Utf8}
 use Rattle.version_parts.specs.Chunk.{chunk_front, plain_chunk}
 use Rattle.version_parts.specs.Front.{further}
-use Rattle.version_parts.proofs.ReleasePiece.build.Given as goal
+use Rattle.version_parts.proofs.scan.ReleasePiece.build.Given as goal
 
 -- the chunks so far and those that the rest has are all of them
 abbrev pub invariant-loop-piece : goal.invariant-loop-piece

@@ -1,7 +1,7 @@
 use Rattle.std.proofs.Common.{◌≡◌, ◌+◌, drop}
 use Rattle.std.specs.List.{prefix_len}
 use Rattle.version_parts.specs.Class.{contains}
-use Rattle.version_parts.proofs.parsers.run_len.Given as goal
+use Rattle.version_parts.proofs.scan.run_len.Given as goal
 
 -- all bytes so far are of the class
 abbrev pub invariant-loop-n : goal.invariant-loop-n

@@ -3,7 +3,7 @@ use denote.Shadow.{shadow}
 use denote.Text.{Utf8}
 use Rattle.version_parts.specs.Chunk.{chunk_front}
 use Rattle.version_parts.specs.Front.{further}
-use Rattle.version_parts.proofs.skip_further.Given as goal
+use Rattle.version_parts.proofs.scan.skip_further.Given as goal
 
 -- the chunks so far and those that the rest has are all of them
 abbrev pub invariant-loop-after : goal.invariant-loop-after

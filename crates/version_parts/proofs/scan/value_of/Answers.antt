@@ -1,6 +1,6 @@
 use Rattle.std.proofs.lemmas.Str.Parse.{parse_digits}
 use Rattle.version_parts.proofs.Numerals.{digits_model, some_if_ok}
-use Rattle.version_parts.proofs.parsers.value_of.Goals as goal
+use Rattle.version_parts.proofs.scan.value_of.Goals as goal
 
 pub returns : goal.returns
 returns c =

@@ -1,6 +1,6 @@
 use Rattle.std.proofs.Common.{◌≡◌, ◌<◌, arith, get_or, length}
 use Rattle.std.proofs.lemmas.Str.{IsCharBoundary-after_ascii}
-use Rattle.version_parts.proofs.parsers.behind.Goals as goal
+use Rattle.version_parts.proofs.scan.after_mark.Goals as goal
 
 pub split_at-requires : goal.split_at-requires
 split_at-requires c =

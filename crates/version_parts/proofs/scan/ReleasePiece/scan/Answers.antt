@@ -2,7 +2,7 @@ use Rattle.std.proofs.Common.{rules, ◌≡◌, ◌∙◌, ◌∷◌, List, leng
 use Rattle.version_parts.specs.Chunk.{chunk_front, plain_piece, PlainChunk}
 use Rattle.version_parts.specs.Front.{after_mark, behind, dotted_front, further}
 use Rattle.version_parts.proofs.ChunkReading.{listed, unlisted}
-use Rattle.version_parts.proofs.ReleasePiece.scan.Goals as goal
+use Rattle.version_parts.proofs.scan.ReleasePiece.scan.Goals as goal
 
 behind_mark : (mark : ℕ) (text tail : List ℕ) → after_mark mark text ≡ Some tail → behind mark (dotted_front chunk_front) text ≡ dotted_front chunk_front tail
 behind_mark mark text tail e = rw e refl

@@ -4,7 +4,7 @@ use Rattle.std.proofs.lemmas.List.{append_assoc, map_push}
 use Rattle.version_parts.specs.Chunk.{chunk_front, plain_chunk, plain_piece, PlainChunk}
 use Rattle.version_parts.specs.Front.{further}
 use Rattle.version_parts.proofs.ChunkReading.{listed, next_chunk, next_chunk_shrinks, no_next_chunk, unlisted}
-use Rattle.version_parts.proofs.ReleasePiece.build.Goals as goal
+use Rattle.version_parts.proofs.scan.ReleasePiece.build.Goals as goal
 
 pub unreachable-requires : goal.unreachable-requires
 unreachable-requires c =
