@@ -1,0 +1,5 @@
+//! Tests that cross crates: worked rows, and what no contract says.
+#![tactic(auto)]
+
+#[cfg(test)]
+mod strict;
