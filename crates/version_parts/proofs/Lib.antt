@@ -1,7 +1,17 @@
 pub mod ChunkReading
+pub mod Codes
+pub mod DigitRun
 pub mod Dotted
+pub mod NumberBytes
 pub mod NumeralReading
 pub mod Numerals
+pub mod Orders
+pub mod PartKey
 pub mod Printing
+pub mod ReleaseOrder
 pub mod RunFronts
 pub mod Runs
+pub mod Split
+pub mod TextBytes
+pub mod Texts
+pub mod Worked

@@ -1,1 +1,10 @@
+pub mod Key
+pub mod KeyBytes
+pub mod Mess
 pub mod SemVer
+pub mod SemVerOrder
+pub mod Tail
+pub mod Texts
+pub mod Version
+pub mod Versioning
+pub mod Worked

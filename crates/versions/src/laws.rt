@@ -1,15 +1,4 @@
 //! Laws of the definitions that the contracts cite, each the contract of a function that does nothing.
 
-ghost use Rattle.std.specs.Prelude.{◌≡◌, ◌↔◌, [], List, Some, ℕ};
-ghost use Rattle.version_parts.specs.Reading.{IsPrinted, IsSound};
-ghost use Rattle.versions.specs.SemVer.{semver_front, semver_of, semver_text, PlainSemVer, SpellsSemVer};
-
-/// A front without rest is the whole grammar; what is read is spelled so, with any rest; a text spells one version
-/// at most, and that prints the text.
-fn strict_versions()
-    ensures whole { (text : List ℕ) (v : PlainSemVer) → (semver_front text ≡ Some (v, [])) ↔ SpellsSemVer text v }
-    ensures sound { IsSound SpellsSemVer semver_front }
-    ensures only { (text : List ℕ) (v w : PlainSemVer) → SpellsSemVer text v → SpellsSemVer text w → v ≡ w }
-    ensures printed { IsPrinted SpellsSemVer semver_text }
-    ensures answer { (text : List ℕ) (v : PlainSemVer) → (semver_of text ≡ Some v) ↔ SpellsSemVer text v }
-{}
+mod grammar;
+mod order;

@@ -1,5 +1,5 @@
 use Rattle.version_parts.proofs.NumeralReading.{unsigned_complete, numeral_printed, unsigned_sound}
-use Rattle.version_parts.proofs.laws.numerals.Goals as goal
+use Rattle.version_parts.proofs.laws.grammar.numerals.Goals as goal
 
 pub returns : goal.returns
 returns c = record { sound = unsigned_sound; complete = unsigned_complete; printed = numeral_printed }

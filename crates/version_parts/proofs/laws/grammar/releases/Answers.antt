@@ -1,5 +1,5 @@
 use Rattle.version_parts.proofs.ChunkReading.{release_complete, release_printed, release_sound}
-use Rattle.version_parts.proofs.laws.releases.Goals as goal
+use Rattle.version_parts.proofs.laws.grammar.releases.Goals as goal
 
 pub returns : goal.returns
 returns c = record { sound = release_sound; complete = release_complete; printed = release_printed }

@@ -1,5 +1,5 @@
 use Rattle.versions.proofs.SemVerReading.{semver_complete, semver_of-Some, semver_of-spells, semver_printed, semver_sound, semver_unique, semver_whole}
-use Rattle.versions.proofs.laws.strict_versions.Goals as goal
+use Rattle.versions.proofs.laws.grammar.strict_versions.Goals as goal
 
 pub returns : goal.returns
 returns c = record {

@@ -1,5 +1,5 @@
 use Rattle.version_parts.proofs.ChunkReading.{chunk_complete, chunk_printed, chunk_sound}
-use Rattle.version_parts.proofs.laws.chunks.Goals as goal
+use Rattle.version_parts.proofs.laws.grammar.chunks.Goals as goal
 
 pub returns : goal.returns
 returns c = record { sound = chunk_sound; complete = chunk_complete; printed = chunk_printed }

@@ -1,5 +1,5 @@
 use Rattle.version_parts.proofs.ChunkReading.{metadata_complete, metadata_sound}
-use Rattle.version_parts.proofs.laws.metadata.Goals as goal
+use Rattle.version_parts.proofs.laws.grammar.metadata.Goals as goal
 
 pub returns : goal.returns
 returns c = record { sound = metadata_sound; complete = metadata_complete }

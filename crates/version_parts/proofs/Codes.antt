@@ -1,0 +1,150 @@
+-- What a code that writes an order gives, and how such codes are put together.
+use Rattle.std.proofs.Common.{◌≡◌, ◌↔◌, ℕ, List, [], ◌∷◌, ◌++◌, Option, Some, None, refl, sym, ap, ◌∙◌, subst, append_assoc}
+use Rattle.std.proofs.lemmas.List.{append-nil}
+use Rattle.std.specs.Cmp.{IsTotalOrder, on_total, tied_itself}
+use Rattle.std.specs.Cmp.Lexicographic.{nat_list_cmp_total, slice_cmp}
+use Rattle.std.specs.FinMap.{IsAntisymmetric, nat_cmp-IsAntisymmetric, slice_cmp-IsAntisymmetric}
+use Rattle.std.specs.Option.{option_cmp}
+use Rattle.std.specs.Ordering.{on, ordering_then, then_cmp}
+use Rattle.std.specs.declared.cmp.Ordering.{Ordering}
+use Rattle.std.specs.declared.cmp.Ordering.TheVariants.{Less, Equal, Greater}
+use Rattle.version_parts.specs.Codes.{Writes, list_bytes}
+use Rattle.version_parts.specs.Lists.{bytes_cmp, ended_cmp, none_last_cmp, with_end}
+
+-- ---- one order and then another
+
+pub then_assoc : (a b c : Ordering) → ordering_then (ordering_then a b) c ≡ ordering_then a (ordering_then b c)
+then_assoc Less b c = refl
+then_assoc Equal b c = refl
+then_assoc Greater b c = refl
+
+pub then_equal : (a : Ordering) → ordering_then a Equal ≡ a
+then_equal Less = refl
+then_equal Equal = refl
+then_equal Greater = refl
+
+-- what is not Equal decides, whatever follows
+pub then_decided : (a b c : Ordering) → ¬ (a ≡ Equal) → ordering_then a b ≡ ordering_then a c
+then_decided Less b c h = refl
+then_decided Equal b c h = absurd (h refl)
+then_decided Greater b c h = refl
+
+pub then_first : (a b : Ordering) → ordering_then a b ≡ Equal → a ≡ Equal
+then_first Less b e = cc e
+then_first Equal b e = refl
+then_first Greater b e = cc e
+
+pub then_second : (a b : Ordering) → ordering_then a b ≡ Equal → b ≡ Equal
+then_second Less b e = cc e
+then_second Equal b e = e
+then_second Greater b e = cc e
+
+-- ---- orders that are Equal only of one and the same value
+
+pub options_same : {A : Type 0} {R : A → A → Ordering} → IsAntisymmetric R → IsAntisymmetric (option_cmp R)
+options_same same None None e = refl
+options_same same None (Some b) e = cc e
+options_same same (Some a) None e = cc e
+options_same same (Some a) (Some b) e = ap Some (same a b e)
+
+pub none_last_same : {A : Type 0} {R : A → A → Ordering} → IsAntisymmetric R → IsAntisymmetric (none_last_cmp R)
+none_last_same same None None e = refl
+none_last_same same None (Some b) e = cc e
+none_last_same same (Some a) None e = cc e
+none_last_same same (Some a) (Some b) e = ap Some (same a b e)
+
+pub bytes_same : IsAntisymmetric bytes_cmp
+bytes_same = slice_cmp-IsAntisymmetric nat_cmp-IsAntisymmetric
+
+with_end-same : {A : Type 0} (xs ys : List A) → with_end xs ≡ with_end ys → xs ≡ ys
+with_end-same [] [] e = refl
+with_end-same [] (y ∷ ys) e = cc e
+with_end-same (x ∷ xs) [] e = cc e
+with_end-same (x ∷ xs) (y ∷ ys) e =
+    let rest : with_end xs ≡ with_end ys = cc e in
+    let tails : xs ≡ ys = with_end-same xs ys rest in
+    cc (e, tails)
+
+pub ended_same : {A : Type 0} {R : Option A → Option A → Ordering} → IsAntisymmetric R → IsAntisymmetric (ended_cmp R)
+ended_same same xs ys e = with_end-same xs ys (slice_cmp-IsAntisymmetric same (with_end xs) (with_end ys) e)
+
+-- ---- codes put together
+
+pub writes_on : {A B : Type 0} {R : B → B → Ordering} {code : B → List ℕ} (f : A → B) → Writes R code → Writes (on f R) (λ a. code (f a))
+writes_on f w = record { compares = λ a b. w.compares (f a) (f b) }
+
+-- two codes in turn, from what the first gives with the rest behind it
+pub in_turn : (c s x d t y : List ℕ) (a b z : Ordering)
+    → bytes_cmp (c ++ (s ++ x)) (d ++ (t ++ y)) ≡ ordering_then a (ordering_then b z)
+    → bytes_cmp ((c ++ s) ++ x) ((d ++ t) ++ y) ≡ ordering_then (ordering_then a b) z
+in_turn c s x d t y a b z e = rw (append_assoc c s x, append_assoc d t y) (e ∙ sym (then_assoc a b z))
+
+pub writes_then : {A : Type 0} {R S : A → A → Ordering} {c d : A → List ℕ}
+    → Writes R c → Writes S d → Writes (then_cmp R S) (λ a. c a ++ d a)
+writes_then {R = R} {S} {c} {d} v w = record {
+  compares = λ a b x y. in_turn (c a) (d a) x (c b) (d b) y (R a b) (S a b) (bytes_cmp x y)
+      (v.compares a b (d a ++ x) (d b ++ y) ∙ ap (ordering_then (R a b)) (w.compares a b x y));
+}
+
+-- a list whose end is ranked, from its items and their end
+pub writes_list : {A : Type 0} {R : Option A → Option A → Ordering} {code : Option A → List ℕ}
+    → IsAntisymmetric R → Writes R code → Writes (ended_cmp R) (list_bytes code)
+writes_list {A} {R} {code} same w = record { compares = go }
+  where
+    one : (a b : Option A) (s t x y : List ℕ) (rest : Ordering) → bytes_cmp (s ++ x) (t ++ y) ≡ ordering_then rest (bytes_cmp x y)
+        → bytes_cmp ((code a ++ s) ++ x) ((code b ++ t) ++ y) ≡ ordering_then (ordering_then (R a b) rest) (bytes_cmp x y)
+    one a b s t x y rest e = in_turn (code a) s x (code b) t y (R a b) rest (bytes_cmp x y)
+        (w.compares a b (s ++ x) (t ++ y) ∙ ap (ordering_then (R a b)) e)
+
+    apart : (a b : Option A) (s t x y : List ℕ) (rest : Ordering) → ¬ (R a b ≡ Equal)
+        → bytes_cmp ((code a ++ s) ++ x) ((code b ++ t) ++ y) ≡ ordering_then (ordering_then (R a b) rest) (bytes_cmp x y)
+    apart a b s t x y rest differ = in_turn (code a) s x (code b) t y (R a b) rest (bytes_cmp x y)
+        (w.compares a b (s ++ x) (t ++ y) ∙ then_decided (R a b) _ (ordering_then rest (bytes_cmp x y)) differ)
+
+    go : (xs ys : List A) (x y : List ℕ) → bytes_cmp (list_bytes code xs ++ x) (list_bytes code ys ++ y) ≡ ordering_then (ended_cmp R xs ys) (bytes_cmp x y)
+    go [] [] x y = one None None [] [] x y Equal refl
+    go [] (b ∷ bs) x y = apart None (Some b) [] (list_bytes code bs) x y (slice_cmp R [] (with_end bs)) (λ e. cc (same None (Some b) e))
+    go (a ∷ more) [] x y = apart (Some a) None (list_bytes code more) [] x y (slice_cmp R (with_end more) []) (λ e. cc (same (Some a) None e))
+    go (a ∷ more) (b ∷ bs) x y = one (Some a) (Some b) (list_bytes code more) (list_bytes code bs) x y (ended_cmp R more bs) (go more bs x y)
+
+-- a list whose end comes before any item is std's order of lists
+ended_first : {A : Type 0} (R : A → A → Ordering) (xs ys : List A) → ended_cmp (option_cmp R) xs ys ≡ slice_cmp R xs ys
+ended_first R [] [] = refl
+ended_first R [] (b ∷ bs) = refl
+ended_first R (a ∷ more) [] = refl
+ended_first R (a ∷ more) (b ∷ bs) = ap (ordering_then (R a b)) (ended_first R more bs)
+
+pub writes_slice : {A : Type 0} {R : A → A → Ordering} {code : Option A → List ℕ}
+    → IsAntisymmetric R → Writes (option_cmp R) code → Writes (slice_cmp R) (list_bytes code)
+writes_slice {A} {R} {code} same w =
+    subst (λ S. Writes S (list_bytes code)) (λ i xs ys. ended_first R xs ys i) (writes_list (options_same same) w)
+
+-- ---- what a code that writes an order gives
+
+-- bytes with nothing behind them
+pub writes_alone : {A : Type 0} {R : A → A → Ordering} {code : A → List ℕ} → Writes R code
+    → (a b : A) → bytes_cmp (code a) (code b) ≡ R a b
+writes_alone {R = R} {code} w a b =
+    let e : bytes_cmp (code a ++ []) (code b ++ []) ≡ ordering_then (R a b) Equal = w.compares a b [] [] in
+    rw (append-nil (code a), append-nil (code b)) at e ∙ then_equal (R a b)
+
+-- the order is total, as that of the bytes is
+pub writes_total : {A : Type 0} {R : A → A → Ordering} {code : A → List ℕ} → Writes R code → IsTotalOrder R
+writes_total {A} {R} {code} w = subst IsTotalOrder (λ i a b. writes_alone w a b i) (on_total code nat_list_cmp_total)
+
+-- no code begins a different one
+pub writes_no_prefix : {A : Type 0} {R : A → A → Ordering} {code : A → List ℕ} → IsAntisymmetric R → Writes R code
+    → (a b : A) (x y : List ℕ) → code a ++ x ≡ code b ++ y → a ≡ b
+writes_no_prefix {R = R} {code} same w a b x y e =
+    let level : bytes_cmp (code a ++ x) (code b ++ y) ≡ Equal = rw e (tied_itself nat_list_cmp_total (code b ++ y)) in
+    same a b (then_first (R a b) (bytes_cmp x y) (sym (w.compares a b x y) ∙ level))
+
+-- an order is Equal exactly of one and the same value
+pub equal_where_same : {A : Type 0} {R : A → A → Ordering} → IsTotalOrder R → IsAntisymmetric R → (a b : A) → (R a b ≡ Equal) ↔ (a ≡ b)
+equal_where_same {R = R} total same a b = (same a b, λ e. rw e (tied_itself total b))
+
+-- equal bytes are those of equal values
+pub writes_canonical : {A : Type 0} {R : A → A → Ordering} {code : A → List ℕ} → IsAntisymmetric R → Writes R code
+    → (a b : A) → (code a ≡ code b) ↔ (R a b ≡ Equal)
+writes_canonical {R = R} {code} same w a b =
+    (λ e. sym (writes_alone w a b) ∙ ap (bytes_cmp (code a)) (sym e) ∙ tied_itself nat_list_cmp_total (code a), λ e. ap code (same a b e))

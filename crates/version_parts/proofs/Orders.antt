@@ -1,0 +1,68 @@
+-- The laws that the contracts of `src/laws/order.rt` state, and for each order what follows from its code.
+use Rattle.std.proofs.Common.{◌≡◌, ◌↔◌, List, Option}
+use Rattle.std.specs.Cmp.{IsTotalOrder}
+use Rattle.std.specs.declared.cmp.Ordering.TheVariants.{Equal}
+use Rattle.version_parts.proofs.Codes.{equal_where_same, writes_total}
+use Rattle.version_parts.proofs.DigitRun.{split_of-digits, split_of-no_digit}
+use Rattle.version_parts.proofs.NumberBytes.{length_bytes-long, length_bytes-short, number_bytes-decimal, number_bytes-zero, number_writes}
+use Rattle.version_parts.proofs.PartKey.{list_writes, lists_same, part_key-decimal, part_key-digits, part_key-word, part_writes, parts_same}
+use Rattle.version_parts.proofs.ReleaseOrder.{release_writes, releases_same}
+use Rattle.version_parts.proofs.Split.{split_writes, splits_same}
+use Rattle.version_parts.proofs.TextBytes.{text_writes}
+use Rattle.version_parts.proofs.Worked.{worked_bytes, worked_order}
+use Rattle.version_parts.specs.Chunk.{PlainChunk}
+use Rattle.version_parts.specs.PartKey.{PartKey, list_cmp, part_cmp}
+use Rattle.version_parts.specs.ReleaseOrder.{release_cmp}
+use Rattle.version_parts.specs.Split.{Split, split_cmp}
+
+pub split_total : IsTotalOrder split_cmp
+split_total = writes_total split_writes
+
+pub split_equal : (v w : Split) → (split_cmp v w ≡ Equal) ↔ (v ≡ w)
+split_equal = equal_where_same split_total splits_same
+
+pub part_total : IsTotalOrder part_cmp
+part_total = writes_total part_writes
+
+pub part_equal : (a b : Option PartKey) → (part_cmp a b ≡ Equal) ↔ (a ≡ b)
+part_equal = equal_where_same part_total parts_same
+
+pub list_total : IsTotalOrder list_cmp
+list_total = writes_total list_writes
+
+pub list_equal : (xs ys : List PartKey) → (list_cmp xs ys ≡ Equal) ↔ (xs ≡ ys)
+list_equal = equal_where_same list_total lists_same
+
+pub release_total : IsTotalOrder release_cmp
+release_total = writes_total release_writes
+
+pub release_equal : (a b : List PlainChunk) → (release_cmp a b ≡ Equal) ↔ (a ≡ b)
+release_equal = equal_where_same release_total releases_same
+
+pub ruleset laws = (
+  length_bytes-short,
+  length_bytes-long,
+  number_bytes-zero,
+  number_bytes-decimal,
+  number_writes,
+  text_writes,
+  split_total,
+  split_equal,
+  split_writes,
+  split_of-no_digit,
+  split_of-digits,
+  part_total,
+  part_equal,
+  part_writes,
+  part_key-digits,
+  part_key-word,
+  part_key-decimal,
+  list_total,
+  list_equal,
+  list_writes,
+  release_total,
+  release_equal,
+  release_writes,
+  worked_bytes,
+  worked_order,
+)

@@ -1,0 +1,21 @@
+-- Runs of digits in a text, and the numbers that they write. A run may have any length.
+use Rattle.std.specs.Prelude.{ℕ, List, [], ◌∷◌, drop, Bool, false, ◌&&◌, if◌then◌else◌, Option, Some, None}
+use Rattle.std.specs.Char.{is_ascii_digit}
+use Rattle.std.specs.List.{list_all, prefix_len, take_while}
+use Rattle.std.specs.Str.Parse.{digits_value}
+
+-- whether a text begins with a digit
+abbrev pub starts_with_digit : List ℕ → Bool
+starts_with_digit [] = false
+starts_with_digit (byte ∷ rest) = is_ascii_digit byte
+
+-- whether a text is a run of digits: one or more, and nothing else
+abbrev pub is_digits : List ℕ → Bool
+is_digits text = starts_with_digit text && list_all is_ascii_digit text
+
+-- the value of the longest run that a text begins with, and what stands behind it; none where it begins with no digit
+abbrev pub number_front : List ℕ → Option (ℕ × List ℕ)
+number_front text =
+    if starts_with_digit text
+    then Some (digits_value 10 (take_while is_ascii_digit text), drop (prefix_len is_ascii_digit text) text)
+    else None

@@ -1,0 +1,25 @@
+-- Orders of lists and of options, made from an order of the items.
+use Rattle.std.specs.Prelude.{ℕ, List, [], ◌∷◌, ◌++◌, map, Option, Some, None}
+use Rattle.std.specs.Ordering.{nat_cmp, on}
+use Rattle.std.specs.declared.cmp.Ordering.{Ordering}
+use Rattle.std.specs.declared.cmp.Ordering.TheVariants.{Less, Equal, Greater}
+use Rattle.std.specs.Cmp.Lexicographic.{slice_cmp}
+
+-- two byte lists: byte by byte, the shorter first where one begins the other
+abbrev pub bytes_cmp : List ℕ → List ℕ → Ordering
+bytes_cmp = slice_cmp nat_cmp
+
+-- a list with its end as one more item
+abbrev pub with_end : {A : Type 0} → List A → List (Option A)
+with_end xs = map Some xs ++ None ∷ []
+
+-- two lists, under an order that ranks the end among the items: the first place where they differ decides
+abbrev pub ended_cmp : {A : Type 0} → (Option A → Option A → Ordering) → List A → List A → Ordering
+ended_cmp R = on with_end (slice_cmp R)
+
+-- two options: none is above every value
+abbrev pub none_last_cmp : {A : Type 0} → (A → A → Ordering) → Option A → Option A → Ordering
+none_last_cmp R (Some a) (Some b) = R a b
+none_last_cmp R (Some a) None = Less
+none_last_cmp R None (Some b) = Greater
+none_last_cmp R None None = Equal

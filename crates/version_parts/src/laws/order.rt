@@ -1,0 +1,89 @@
+//! Laws of the one order and its bytes.
+#![tactic(auto, using(crate::proofs::Orders::laws))]
+
+ghost use Rattle.std.specs.Cmp.{IsTotalOrder};
+ghost use Rattle.std.specs.Ordering.{nat_cmp};
+ghost use Rattle.std.specs.List.{list_any};
+ghost use Rattle.std.specs.Char.{is_ascii_digit};
+ghost use Rattle.std.specs.Str.Parse.{digits_value};
+ghost use Rattle.std.specs.Fmt.{decimal};
+ghost use Rattle.std.specs.Prelude.{ℕ, ◌≡◌, ◌↔◌, ◌+◌, ◌<◌, ◌^◌, ◌++◌, ◌∷◌, [], length, List, Option, true, false};
+ghost use Rattle.std.specs.declared.cmp.Ordering.TheVariants.{Equal};
+ghost use Rattle.version_parts.specs.Chunk.{PlainChunk};
+ghost use Rattle.version_parts.specs.Codes.{Writes};
+ghost use Rattle.version_parts.specs.DigitRun.{is_digits, starts_with_digit};
+ghost use Rattle.version_parts.specs.Lists.{bytes_cmp};
+ghost use Rattle.version_parts.specs.NumberBytes.{length_bytes, number_bytes};
+ghost use Rattle.version_parts.specs.PartKey.{Number, PartKey, Word, list_cmp, part_bytes, part_cmp, part_key, parts_bytes, suffix_of};
+ghost use Rattle.version_parts.specs.ReleaseOrder.{release_bytes, release_cmp};
+ghost use Rattle.version_parts.specs.Split.{Split, split_bytes, split_cmp, split_of};
+ghost use Rattle.version_parts.specs.TextBytes.{text_bytes};
+ghost use Rattle.version_parts.specs.Worked.{WorkedBytes, WorkedOrder};
+
+/// A length below 255 is one byte; a longer one is the byte 255, and then the rest of it.
+fn length_bytes_by_255s()
+    ensures short { (n : ℕ) → n < 255 → length_bytes n ≡ n ∷ [] }
+    ensures long { (n : ℕ) → length_bytes (255 + n) ≡ 255 ∷ length_bytes n }
+{}
+
+/// The bytes of a number are the length of its decimal digits and the digits themselves; zero has none.
+fn number_bytes_of_decimal()
+    ensures zero { number_bytes 0 ≡ 0 ∷ [] }
+    ensures other { (n : ℕ) → 0 < n → n < 2 ^ 64 → number_bytes n ≡ length_bytes (length (decimal n)) ++ decimal n }
+{}
+
+/// Whatever follows them, the bytes of numbers compare as the numbers do, and those of texts as the texts.
+fn number_and_text_bytes()
+    ensures numbers { Writes nat_cmp number_bytes }
+    ensures texts { Writes bytes_cmp text_bytes }
+{}
+
+/// The order of splits is total and Equal exactly of the same split, and the bytes compare as it does.
+fn split_order()
+    ensures total { IsTotalOrder split_cmp }
+    ensures same { (v w : Split) → (split_cmp v w ≡ Equal) ↔ (v ≡ w) }
+    ensures bytes { Writes split_cmp split_bytes }
+{}
+
+/// The order of parts, with the end of a list among them, is total and Equal exactly of the same part,
+/// and the bytes compare as it does.
+fn part_order()
+    ensures total { IsTotalOrder part_cmp }
+    ensures same { (a b : Option PartKey) → (part_cmp a b ≡ Equal) ↔ (a ≡ b) }
+    ensures bytes { Writes part_cmp part_bytes }
+{}
+
+/// The order of lists of parts is total and Equal exactly of the same list, and the bytes compare as it does.
+fn list_order()
+    ensures total { IsTotalOrder list_cmp }
+    ensures same { (xs ys : List PartKey) → (list_cmp xs ys ≡ Equal) ↔ (xs ≡ ys) }
+    ensures bytes { Writes list_cmp parts_bytes }
+{}
+
+/// The order of releases is total and Equal exactly of the same release, and the bytes compare as it does.
+fn release_order()
+    ensures total { IsTotalOrder release_cmp }
+    ensures same { (a b : List PlainChunk) → (release_cmp a b ≡ Equal) ↔ (a ≡ b) }
+    ensures bytes { Writes release_cmp release_bytes }
+{}
+
+/// A text is split before its first digit and behind the run that begins there, and not at all without a digit.
+fn split_of_text()
+    ensures whole { (text : List ℕ) → list_any is_ascii_digit text ≡ false → split_of text ≡ record { before = text; number = None } }
+    ensures cut { (before digits rest : List ℕ) → list_any is_ascii_digit before ≡ false → is_digits digits ≡ true → starts_with_digit rest ≡ false
+        → split_of (before ++ (digits ++ rest)) ≡ record { before = before; number = Some (digits_value 10 digits, rest) } }
+{}
+
+/// A part is the number of the run of digits that its text begins with, and else a word; a number in decimal is itself.
+fn part_key_of_text()
+    ensures number { (digits rest : List ℕ) → is_digits digits ≡ true → starts_with_digit rest ≡ false
+        → part_key (digits ++ rest) ≡ Number (digits_value 10 digits) (suffix_of rest) }
+    ensures word { (text : List ℕ) → starts_with_digit text ≡ false → part_key text ≡ Word (split_of text) }
+    ensures decimals { (n : ℕ) → n < 2 ^ 64 → part_key (decimal n) ≡ Number n None }
+{}
+
+/// The bytes of four lengths and a text, and parts and lists of parts in increasing order.
+fn worked_parts()
+    ensures bytes { WorkedBytes }
+    ensures order { WorkedOrder }
+{}

@@ -1,0 +1,93 @@
+-- The laws that the contracts of `src/laws/order.rt` state, as they follow from the codes.
+use Rattle.std.proofs.Common.{◌≡◌, ◌↔◌, ℕ, List, ◌∷◌, ◌++◌, Option, refl, ◌∙◌, subst}
+use Rattle.std.specs.Cmp.{IsTotalOrder, on_total}
+use Rattle.std.specs.Ordering.{ordering_then}
+use Rattle.std.specs.declared.cmp.Ordering.TheVariants.{Equal}
+use Rattle.version_parts.proofs.Codes.{equal_where_same, then_decided, then_equal, writes_alone, writes_canonical, writes_no_prefix, writes_total}
+use Rattle.version_parts.specs.Lists.{bytes_cmp}
+use Rattle.version_parts.specs.MChunk.{PlainMChunk}
+use Rattle.version_parts.specs.PartKey.{PartKey}
+use Rattle.versions.proofs.Precedence.{key_writes, keys_same}
+use Rattle.versions.proofs.SemVerOrder.{precedence_of_semvers}
+use Rattle.versions.proofs.Tail.{sections_same, sections_writes, tail_writes, tails_same}
+use Rattle.versions.proofs.Texts.{keys_are_bytes, versions_are_bytes}
+use Rattle.versions.proofs.Worked.{worked_keys}
+use Rattle.versions.specs.Key.{Key, key_of_semver, key_of_version, precedence, sections_tail}
+use Rattle.versions.specs.KeyBytes.{key_bytes}
+use Rattle.versions.specs.Mess.{PlainSep}
+use Rattle.versions.specs.SemVer.{PlainSemVer}
+use Rattle.versions.specs.SemVerOrder.{semver_cmp}
+use Rattle.versions.specs.Tail.{Tail, sections_cmp, tail_cmp}
+use Rattle.versions.specs.Version.{PlainVersion}
+
+pub sections_total : IsTotalOrder sections_cmp
+sections_total = writes_total sections_writes
+
+pub sections_equal : (a b : List (List PartKey)) → (sections_cmp a b ≡ Equal) ↔ (a ≡ b)
+sections_equal = equal_where_same sections_total sections_same
+
+pub tail_total : IsTotalOrder tail_cmp
+tail_total = writes_total tail_writes
+
+pub tail_equal : (a b : Tail) → (tail_cmp a b ≡ Equal) ↔ (a ≡ b)
+tail_equal = equal_where_same tail_total tails_same
+
+pub precedence_total : IsTotalOrder precedence
+precedence_total = writes_total key_writes
+
+pub precedence_equal : (k l : Key) → (precedence k l ≡ Equal) ↔ (k ≡ l)
+precedence_equal = equal_where_same precedence_total keys_same
+
+pub key_bytes_compare : (k l : Key) (x y : List ℕ) → bytes_cmp (key_bytes k ++ x) (key_bytes l ++ y) ≡ ordering_then (precedence k l) (bytes_cmp x y)
+key_bytes_compare = key_writes.compares
+
+pub key_bytes_alone : (k l : Key) → bytes_cmp (key_bytes k) (key_bytes l) ≡ precedence k l
+key_bytes_alone = writes_alone key_writes
+
+pub key_bytes_equal : (k l : Key) → (key_bytes k ≡ key_bytes l) ↔ (precedence k l ≡ Equal)
+key_bytes_equal = writes_canonical keys_same key_writes
+
+pub key_bytes_apart : (k l : Key) (x y : List ℕ) → ¬ (precedence k l ≡ Equal) → bytes_cmp (key_bytes k ++ x) (key_bytes l ++ y) ≡ precedence k l
+key_bytes_apart k l x y differ = key_writes.compares k l x y ∙ then_decided (precedence k l) (bytes_cmp x y) Equal differ ∙ then_equal (precedence k l)
+
+pub no_key_begins_another : (k l : Key) (x y : List ℕ) → key_bytes k ++ x ≡ key_bytes l ++ y → k ≡ l
+no_key_begins_another = writes_no_prefix keys_same key_writes
+
+-- the order of strict versions is that of their keys
+pub semver_total : IsTotalOrder semver_cmp
+semver_total = subst IsTotalOrder (λ i a b. precedence_of_semvers a b i) (on_total key_of_semver precedence_total)
+
+-- metadata and the signs between sections have no part in a key
+pub semver_metadata : (v : PlainSemVer) (meta : Option (List ℕ)) → key_of_semver (record v { meta = meta }) ≡ key_of_semver v
+semver_metadata v meta = refl
+
+pub version_metadata : (v : PlainVersion) (meta : Option (List ℕ)) → key_of_version (record v { meta = meta }) ≡ key_of_version v
+version_metadata v meta = refl
+
+pub signs : (sign other : PlainSep) (section : List PlainMChunk) (more : List (PlainSep × List PlainMChunk))
+    → sections_tail ((sign, section) ∷ more) ≡ sections_tail ((other, section) ∷ more)
+signs sign other section more = refl
+
+pub ruleset laws = (
+  sections_total,
+  sections_equal,
+  sections_writes,
+  tail_total,
+  tail_equal,
+  tail_writes,
+  precedence_total,
+  precedence_equal,
+  key_bytes_compare,
+  key_bytes_alone,
+  key_bytes_equal,
+  key_bytes_apart,
+  no_key_begins_another,
+  precedence_of_semvers,
+  semver_total,
+  keys_are_bytes,
+  versions_are_bytes,
+  semver_metadata,
+  version_metadata,
+  signs,
+  worked_keys,
+)

@@ -1,0 +1,14 @@
+-- The order of strict versions (SemVer 2.0, section 11).
+use Rattle.std.specs.Ordering.{nat_cmp, on, then_cmp}
+use Rattle.std.specs.declared.cmp.Ordering.{Ordering}
+use Rattle.version_parts.specs.Lists.{none_last_cmp}
+use Rattle.version_parts.specs.ReleaseOrder.{release_cmp}
+use Rattle.versions.specs.SemVer.{PlainSemVer}
+
+-- two strict versions: major, minor and patch by value, then a pre-release below none; metadata isn't looked at
+abbrev pub semver_cmp : PlainSemVer → PlainSemVer → Ordering
+semver_cmp =
+    then_cmp (on (λ (v : PlainSemVer). v.major) nat_cmp)
+    (then_cmp (on (λ (v : PlainSemVer). v.minor) nat_cmp)
+    (then_cmp (on (λ (v : PlainSemVer). v.patch) nat_cmp)
+    (on (λ (v : PlainSemVer). v.pre_rel) (none_last_cmp release_cmp))))

@@ -1,0 +1,79 @@
+//! Laws of the one order and its bytes.
+#![tactic(auto, using(crate::proofs::Orders::laws))]
+
+ghost use Rattle.std.specs.Cmp.{IsTotalOrder};
+ghost use Rattle.std.specs.Ordering.{ordering_then};
+ghost use Rattle.std.specs.Prelude.{ℕ, ◌≡◌, ◌↔◌, ◌∷◌, ◌++◌, List, Option};
+ghost use Rattle.std.specs.declared.cmp.Ordering.TheVariants.{Equal};
+ghost use Rattle.version_parts.specs.Codes.{Writes, list_bytes};
+ghost use Rattle.version_parts.specs.Lists.{bytes_cmp};
+ghost use Rattle.version_parts.specs.MChunk.{PlainMChunk};
+ghost use Rattle.version_parts.specs.PartKey.{PartKey};
+ghost use Rattle.version_parts.specs.Texts.{AreBytes};
+ghost use Rattle.versions.specs.Key.{Key, key_of, key_of_semver, key_of_version, precedence, sections_tail};
+ghost use Rattle.versions.specs.KeyBytes.{key_bytes};
+ghost use Rattle.versions.specs.Mess.{PlainSep};
+ghost use Rattle.versions.specs.SemVer.{PlainSemVer};
+ghost use Rattle.versions.specs.SemVerOrder.{semver_cmp};
+ghost use Rattle.versions.specs.Tail.{Tail, section_bytes, sections_cmp, tail_bytes, tail_cmp};
+ghost use Rattle.versions.specs.Texts.{key_text, texts_of};
+ghost use Rattle.versions.specs.Version.{PlainVersion};
+ghost use Rattle.versions.specs.Versioning.{PlainVersioning};
+ghost use Rattle.versions.specs.Worked.{WorkedKeys};
+
+/// The order of messy sections is total and Equal exactly of the same sections, and the bytes compare as it does.
+fn sections_order()
+    ensures total { IsTotalOrder sections_cmp }
+    ensures same { (a b : List (List PartKey)) → (sections_cmp a b ≡ Equal) ↔ (a ≡ b) }
+    ensures bytes { Writes sections_cmp (list_bytes section_bytes) }
+{}
+
+/// The order of tails is total and Equal exactly of the same tail, and the bytes compare as it does.
+fn tail_order()
+    ensures total { IsTotalOrder tail_cmp }
+    ensures same { (a b : Tail) → (tail_cmp a b ≡ Equal) ↔ (a ≡ b) }
+    ensures bytes { Writes tail_cmp tail_bytes }
+{}
+
+/// Precedence answers for every two keys, is reversed by swapping them, and is transitive, Equal included:
+/// and it is Equal exactly of the same key.
+fn precedence_order()
+    ensures total { IsTotalOrder precedence }
+    ensures same { (k l : Key) → (precedence k l ≡ Equal) ↔ (k ≡ l) }
+{}
+
+/// Whatever bytes follow the bytes of two keys, they compare as the keys do, and where those are Equal as what follows.
+/// So the bytes alone order exactly as precedence, equal bytes mean Equal precedence and the other way round,
+/// what follows two different keys doesn't change their order, and no key begins a different one.
+fn key_bytes_order()
+    ensures followed { (k l : Key) (x y : List ℕ) → bytes_cmp (key_bytes k ++ x) (key_bytes l ++ y) ≡ ordering_then (precedence k l) (bytes_cmp x y) }
+    ensures alone { (k l : Key) → bytes_cmp (key_bytes k) (key_bytes l) ≡ precedence k l }
+    ensures canonical { (k l : Key) → (key_bytes k ≡ key_bytes l) ↔ (precedence k l ≡ Equal) }
+    ensures apart { (k l : Key) (x y : List ℕ) → ¬ (precedence k l ≡ Equal) → bytes_cmp (key_bytes k ++ x) (key_bytes l ++ y) ≡ precedence k l }
+    ensures no_prefix { (k l : Key) (x y : List ℕ) → key_bytes k ++ x ≡ key_bytes l ++ y → k ≡ l }
+{}
+
+/// On two strict versions precedence is the order of strict versions, which so is total too.
+fn precedence_of_strict_versions()
+    ensures same { (a b : PlainSemVer) → precedence (key_of_semver a) (key_of_semver b) ≡ semver_cmp a b }
+    ensures total { IsTotalOrder semver_cmp }
+{}
+
+/// Every byte of a key is below 256 where the bytes of its texts are, and so where those of the version's texts are.
+fn key_bytes_below_256()
+    ensures keys { (k : Key) → AreBytes (key_text k) → AreBytes (key_bytes k) }
+    ensures versions { (v : PlainVersioning) → AreBytes (texts_of v) → AreBytes (key_bytes (key_of v)) }
+{}
+
+/// Metadata has no part in a key, nor have the signs before the sections of its tail.
+fn not_looked_at()
+    ensures strict { (v : PlainSemVer) (meta : Option (List ℕ)) → key_of_semver (record v { meta = meta }) ≡ key_of_semver v }
+    ensures general { (v : PlainVersion) (meta : Option (List ℕ)) → key_of_version (record v { meta = meta }) ≡ key_of_version v }
+    ensures signs { (sign other : PlainSep) (section : List PlainMChunk) (more : List (PlainSep × List PlainMChunk))
+        → sections_tail ((sign, section) ∷ more) ≡ sections_tail ((other, section) ∷ more) }
+{}
+
+/// The keys of versions of every kind, byte by byte.
+fn worked_keys()
+    ensures { WorkedKeys }
+{}
