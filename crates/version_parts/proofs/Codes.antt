@@ -3,58 +3,14 @@ use Rattle.std.proofs.Common.{◌≡◌, ◌↔◌, ℕ, List, [], ◌∷◌, �
 use Rattle.std.proofs.lemmas.List.{append-nil}
 use Rattle.std.specs.Cmp.{IsTotalOrder, on_total, tied_itself}
 use Rattle.std.specs.Cmp.Lexicographic.{nat_list_cmp_total, slice_cmp}
-use Rattle.std.specs.FinMap.{IsAntisymmetric, nat_cmp-IsAntisymmetric, slice_cmp-IsAntisymmetric}
+use Rattle.std.specs.FinMap.{IsAntisymmetric, slice_cmp-IsAntisymmetric}
 use Rattle.std.specs.Option.{option_cmp}
 use Rattle.std.specs.Ordering.{on, ordering_then, then_cmp}
 use Rattle.std.specs.declared.cmp.Ordering.{Ordering}
-use Rattle.std.specs.declared.cmp.Ordering.TheVariants.{Less, Equal, Greater}
+use Rattle.std.specs.declared.cmp.Ordering.TheVariants.{Equal}
 use Rattle.version_parts.specs.Codes.{Writes, list_bytes}
-use Rattle.version_parts.specs.Lists.{bytes_cmp, ended_cmp, none_last_cmp, with_end}
-
--- ---- one order and then another
-
-pub then_assoc : (a b c : Ordering) → ordering_then (ordering_then a b) c ≡ ordering_then a (ordering_then b c)
-then_assoc Less b c = refl
-then_assoc Equal b c = refl
-then_assoc Greater b c = refl
-
-pub then_equal : (a : Ordering) → ordering_then a Equal ≡ a
-then_equal Less = refl
-then_equal Equal = refl
-then_equal Greater = refl
-
--- what is not Equal decides, whatever follows
-pub then_decided : (a b c : Ordering) → ¬ (a ≡ Equal) → ordering_then a b ≡ ordering_then a c
-then_decided Less b c h = refl
-then_decided Equal b c h = absurd (h refl)
-then_decided Greater b c h = refl
-
-pub then_first : (a b : Ordering) → ordering_then a b ≡ Equal → a ≡ Equal
-then_first Less b e = cc e
-then_first Equal b e = refl
-then_first Greater b e = cc e
-
-pub then_second : (a b : Ordering) → ordering_then a b ≡ Equal → b ≡ Equal
-then_second Less b e = cc e
-then_second Equal b e = e
-then_second Greater b e = cc e
-
--- ---- orders that are Equal only of one and the same value
-
-pub options_same : {A : Type 0} {R : A → A → Ordering} → IsAntisymmetric R → IsAntisymmetric (option_cmp R)
-options_same same None None e = refl
-options_same same None (Some b) e = cc e
-options_same same (Some a) None e = cc e
-options_same same (Some a) (Some b) e = ap Some (same a b e)
-
-pub none_last_same : {A : Type 0} {R : A → A → Ordering} → IsAntisymmetric R → IsAntisymmetric (none_last_cmp R)
-none_last_same same None None e = refl
-none_last_same same None (Some b) e = cc e
-none_last_same same (Some a) None e = cc e
-none_last_same same (Some a) (Some b) e = ap Some (same a b e)
-
-pub bytes_same : IsAntisymmetric bytes_cmp
-bytes_same = slice_cmp-IsAntisymmetric nat_cmp-IsAntisymmetric
+use Rattle.version_parts.specs.Lists.{bytes_cmp, ended_cmp, with_end}
+use Rattle.version_parts.specs.OrderLaws.{options_same, then_assoc, then_decided, then_equal, then_first}
 
 with_end-same : {A : Type 0} (xs ys : List A) → with_end xs ≡ with_end ys → xs ≡ ys
 with_end-same [] [] e = refl
@@ -138,10 +94,6 @@ pub writes_no_prefix : {A : Type 0} {R : A → A → Ordering} {code : A → Lis
 writes_no_prefix {R = R} {code} same w a b x y e =
     let level : bytes_cmp (code a ++ x) (code b ++ y) ≡ Equal = rw e (tied_itself nat_list_cmp_total (code b ++ y)) in
     same a b (then_first (R a b) (bytes_cmp x y) (sym (w.compares a b x y) ∙ level))
-
--- an order is Equal exactly of one and the same value
-pub equal_where_same : {A : Type 0} {R : A → A → Ordering} → IsTotalOrder R → IsAntisymmetric R → (a b : A) → (R a b ≡ Equal) ↔ (a ≡ b)
-equal_where_same {R = R} total same a b = (same a b, λ e. rw e (tied_itself total b))
 
 -- equal bytes are those of equal values
 pub writes_canonical : {A : Type 0} {R : A → A → Ordering} {code : A → List ℕ} → IsAntisymmetric R → Writes R code

@@ -2,16 +2,18 @@
 use Rattle.std.proofs.Common.{◌≡◌, ◌↔◌, List, Option}
 use Rattle.std.specs.Cmp.{IsTotalOrder}
 use Rattle.std.specs.declared.cmp.Ordering.TheVariants.{Equal}
-use Rattle.version_parts.proofs.Codes.{equal_where_same, writes_total}
+use Rattle.version_parts.proofs.Codes.{writes_total}
 use Rattle.version_parts.proofs.DigitRun.{split_of-digits, split_of-no_digit}
 use Rattle.version_parts.proofs.NumberBytes.{length_bytes-long, length_bytes-short, number_bytes-decimal, number_bytes-zero, number_writes}
 use Rattle.version_parts.proofs.PartKey.{list_writes, lists_same, part_key-decimal, part_key-digits, part_key-word, part_writes, parts_same}
-use Rattle.version_parts.proofs.ReleaseOrder.{release_writes, releases_same}
+use Rattle.version_parts.proofs.ReleaseOrder.{release_writes}
 use Rattle.version_parts.proofs.Split.{split_writes, splits_same}
 use Rattle.version_parts.proofs.TextBytes.{text_writes}
 use Rattle.version_parts.proofs.Worked.{worked_bytes, worked_order}
+use Rattle.version_parts.specs.OrderLaws.{equal_where_same}
 use Rattle.version_parts.specs.Chunk.{PlainChunk}
 use Rattle.version_parts.specs.PartKey.{PartKey, list_cmp, part_cmp}
+use Rattle.version_parts.specs.ReleaseLaws.{release_total, releases_same}
 use Rattle.version_parts.specs.ReleaseOrder.{release_cmp}
 use Rattle.version_parts.specs.Split.{Split, split_cmp}
 
@@ -32,9 +34,6 @@ list_total = writes_total list_writes
 
 pub list_equal : (xs ys : List PartKey) → (list_cmp xs ys ≡ Equal) ↔ (xs ≡ ys)
 list_equal = equal_where_same list_total lists_same
-
-pub release_total : IsTotalOrder release_cmp
-release_total = writes_total release_writes
 
 pub release_equal : (a b : List PlainChunk) → (release_cmp a b ≡ Equal) ↔ (a ≡ b)
 release_equal = equal_where_same release_total releases_same

@@ -6,10 +6,11 @@ use Rattle.std.specs.FinMap.{IsAntisymmetric, nat_cmp-IsAntisymmetric}
 use Rattle.std.specs.Fmt.{decimal}
 use Rattle.std.specs.Ordering.{nat_cmp, ordering_then}
 use Rattle.std.specs.Str.Parse.{digits_value}
-use Rattle.version_parts.proofs.Codes.{ended_same, in_turn, none_last_same, then_first, then_second, writes_list}
+use Rattle.version_parts.proofs.Codes.{ended_same, in_turn, writes_list}
 use Rattle.version_parts.proofs.DigitRun.{decimal-digits, number_front-digits, number_front-none}
 use Rattle.version_parts.proofs.NumberBytes.{number_writes}
 use Rattle.version_parts.proofs.Split.{split_writes, splits_same}
+use Rattle.version_parts.specs.OrderLaws.{none_last_same, then_first, then_second}
 use Rattle.version_parts.specs.Codes.{Writes}
 use Rattle.version_parts.specs.DigitRun.{is_digits, starts_with_digit}
 use Rattle.version_parts.specs.Lists.{bytes_cmp, none_last_cmp}

@@ -1,21 +1,15 @@
--- The order of releases tells all of them apart, and their bytes compare as they do.
-use Rattle.std.proofs.Common.{◌≡◌, ℕ, List, ◌++◌, Option, Some, None, refl, ap}
-use Rattle.std.specs.FinMap.{IsAntisymmetric, nat_cmp-IsAntisymmetric, slice_cmp-IsAntisymmetric}
+-- The bytes of releases compare as the releases do.
+use Rattle.std.proofs.Common.{◌≡◌, ℕ, List, ◌++◌, Option, Some, None, refl}
 use Rattle.std.specs.Option.{option_cmp}
 use Rattle.std.specs.Ordering.{ordering_then}
-use Rattle.version_parts.proofs.Codes.{bytes_same, writes_slice}
+use Rattle.version_parts.proofs.Codes.{writes_slice}
 use Rattle.version_parts.proofs.NumberBytes.{number_writes}
 use Rattle.version_parts.proofs.TextBytes.{text_writes}
 use Rattle.version_parts.specs.Chunk.{PlainChunk, Numeric, Alphanum}
 use Rattle.version_parts.specs.Codes.{Writes}
 use Rattle.version_parts.specs.Lists.{bytes_cmp}
+use Rattle.version_parts.specs.ReleaseLaws.{chunks_same}
 use Rattle.version_parts.specs.ReleaseOrder.{chunk_bytes, chunk_cmp, release_bytes, release_cmp}
-
-chunks_same : IsAntisymmetric chunk_cmp
-chunks_same (Numeric m) (Numeric n) e = ap Numeric (nat_cmp-IsAntisymmetric m n e)
-chunks_same (Numeric m) (Alphanum t) e = cc e
-chunks_same (Alphanum s) (Numeric n) e = cc e
-chunks_same (Alphanum s) (Alphanum t) e = ap Alphanum (bytes_same s t e)
 
 chunk_compares : (a b : Option PlainChunk) (x y : List ℕ) → bytes_cmp (chunk_bytes a ++ x) (chunk_bytes b ++ y) ≡ ordering_then (option_cmp chunk_cmp a b) (bytes_cmp x y)
 chunk_compares None None x y = refl
@@ -27,9 +21,6 @@ chunk_compares (Some (Numeric m)) (Some (Numeric n)) x y = number_writes.compare
 chunk_compares (Some (Numeric m)) (Some (Alphanum t)) x y = refl
 chunk_compares (Some (Alphanum s)) (Some (Numeric n)) x y = refl
 chunk_compares (Some (Alphanum s)) (Some (Alphanum t)) x y = text_writes.compares s t x y
-
-pub releases_same : IsAntisymmetric release_cmp
-releases_same = slice_cmp-IsAntisymmetric chunks_same
 
 pub release_writes : Writes release_cmp release_bytes
 release_writes = writes_slice chunks_same (record { compares = chunk_compares })

@@ -3,9 +3,10 @@ use Rattle.std.proofs.Common.{◌≡◌, ℕ, List, ◌++◌, Option, Some, None
 use Rattle.std.specs.FinMap.{IsAntisymmetric, nat_cmp-IsAntisymmetric}
 use Rattle.std.specs.Option.{option_cmp}
 use Rattle.std.specs.Ordering.{ordering_then}
-use Rattle.version_parts.proofs.Codes.{bytes_same, options_same, then_first, then_second, writes_on, writes_then}
+use Rattle.version_parts.proofs.Codes.{writes_on, writes_then}
 use Rattle.version_parts.proofs.NumberBytes.{number_writes}
 use Rattle.version_parts.proofs.TextBytes.{text_writes}
+use Rattle.version_parts.specs.OrderLaws.{bytes_same, options_same, then_first, then_second}
 use Rattle.version_parts.specs.Codes.{Writes}
 use Rattle.version_parts.specs.Lists.{bytes_cmp}
 use Rattle.version_parts.specs.NumberBytes.{number_bytes}

@@ -1,8 +1,10 @@
 -- Chunks of a release: a numeral, or a nonempty run of letters, digits and hyphens that isn't all digits
 -- (SemVer 2.0, section 9).
-use Rattle.std.specs.Prelude.{◌≡◌, ℕ, List, Some, true, false, drop, if◌then◌else◌}
+use Rattle.std.specs.Prelude.{◌≡◌, ◌++◌, ℕ, List, Some, true, false, drop, if◌then◌else◌}
 use Rattle.std.specs.Char.{is_ascii_digit}
 use Rattle.std.specs.Fmt.{decimal}
+use Rattle.std.specs.Hash as fed
+use Rattle.std.specs.Hash.{HashWrites}
 use Rattle.std.specs.List.{list_all, prefix_len, take_while}
 use Rattle.std.specs.String.{string_bytes}
 use Rattle.version_parts.specs.declared.Chunk.{Chunk}
@@ -48,3 +50,8 @@ chunk_text (Alphanum text) = text
 abbrev pub ChunkOwns : PlainChunk → Type 0
 ChunkOwns (Numeric n) = ⊥
 ChunkOwns (Alphanum text) = Unit {0}
+
+-- what a hash is fed with: which variant it is, and what that holds
+abbrev pub chunk_fed : PlainChunk → HashWrites
+chunk_fed (Numeric n) = fed.u8 0 ++ fed.u32 n
+chunk_fed (Alphanum text) = fed.u8 1 ++ fed.str text

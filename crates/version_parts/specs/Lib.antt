@@ -11,9 +11,11 @@ pub mod MChunk
 pub mod Metadata
 pub mod NumberBytes
 pub mod Numeral
+pub mod OrderLaws
 pub mod PartKey
 pub mod Reading
 pub mod Release
+pub mod ReleaseLaws
 pub mod ReleaseOrder
 pub mod Split
 pub mod TextBytes

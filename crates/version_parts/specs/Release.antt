@@ -1,10 +1,12 @@
 -- Releases: one chunk or more, joined by dots (SemVer 2.0, section 9).
 use Rattle.std.specs.Prelude.{ℕ, List, [], map}
+use Rattle.std.specs.Hash as fed
+use Rattle.std.specs.Hash.{HashWrites}
 use Rattle.std.specs.List.{join_with_byte}
 use Rattle.std.specs.Option.{option_map_or}
 use Rattle.version_parts.specs.declared.Release.{Release}
 use Rattle.version_parts.specs.Bytes.{dot, hyphen}
-use Rattle.version_parts.specs.Chunk.{PlainChunk, SpellsChunk, chunk_front, chunk_text, plain_chunk}
+use Rattle.version_parts.specs.Chunk.{PlainChunk, SpellsChunk, chunk_fed, chunk_front, chunk_text, plain_chunk}
 use Rattle.version_parts.specs.Front.{Front, behind, dotted_front}
 use Rattle.version_parts.specs.Grammar.{SpellsDotted}
 
@@ -27,3 +29,7 @@ chunks_at text = option_map_or (λ p. p.0) (dotted_front chunk_front text) []
 -- the printed text: the chunks joined by dots
 abbrev pub release_text : List PlainChunk → List ℕ
 release_text chunks = join_with_byte dot (map chunk_text chunks)
+
+-- what a hash is fed with: how many chunks there are, and each of them
+abbrev pub release_fed : List PlainChunk → HashWrites
+release_fed = fed.slice chunk_fed

@@ -1,9 +1,10 @@
 -- The laws that the contracts of `src/laws/order.rt` state, as they follow from the codes.
-use Rattle.std.proofs.Common.{◌≡◌, ◌↔◌, ℕ, List, ◌∷◌, ◌++◌, Option, refl, ◌∙◌, subst}
-use Rattle.std.specs.Cmp.{IsTotalOrder, on_total}
+use Rattle.std.proofs.Common.{◌≡◌, ◌↔◌, ℕ, List, ◌∷◌, ◌++◌, Option, refl, ◌∙◌}
+use Rattle.std.specs.Cmp.{IsTotalOrder}
 use Rattle.std.specs.Ordering.{ordering_then}
 use Rattle.std.specs.declared.cmp.Ordering.TheVariants.{Equal}
-use Rattle.version_parts.proofs.Codes.{equal_where_same, then_decided, then_equal, writes_alone, writes_canonical, writes_no_prefix, writes_total}
+use Rattle.version_parts.proofs.Codes.{writes_alone, writes_canonical, writes_no_prefix, writes_total}
+use Rattle.version_parts.specs.OrderLaws.{equal_where_same, then_decided, then_equal}
 use Rattle.version_parts.specs.Lists.{bytes_cmp}
 use Rattle.version_parts.specs.MChunk.{PlainMChunk}
 use Rattle.version_parts.specs.PartKey.{PartKey}
@@ -16,7 +17,7 @@ use Rattle.versions.specs.Key.{Key, key_of_semver, key_of_version, precedence, s
 use Rattle.versions.specs.KeyBytes.{key_bytes}
 use Rattle.versions.specs.Mess.{PlainSep}
 use Rattle.versions.specs.SemVer.{PlainSemVer}
-use Rattle.versions.specs.SemVerOrder.{semver_cmp}
+use Rattle.versions.specs.SemVerLaws.{semver_total}
 use Rattle.versions.specs.Tail.{Tail, sections_cmp, tail_cmp}
 use Rattle.versions.specs.Version.{PlainVersion}
 
@@ -52,10 +53,6 @@ key_bytes_apart k l x y differ = key_writes.compares k l x y ∙ then_decided (p
 
 pub no_key_begins_another : (k l : Key) (x y : List ℕ) → key_bytes k ++ x ≡ key_bytes l ++ y → k ≡ l
 no_key_begins_another = writes_no_prefix keys_same key_writes
-
--- the order of strict versions is that of their keys
-pub semver_total : IsTotalOrder semver_cmp
-semver_total = subst IsTotalOrder (λ i a b. precedence_of_semvers a b i) (on_total key_of_semver precedence_total)
 
 -- metadata and the signs between sections have no part in a key
 pub semver_metadata : (v : PlainSemVer) (meta : Option (List ℕ)) → key_of_semver (record v { meta = meta }) ≡ key_of_semver v

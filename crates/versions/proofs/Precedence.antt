@@ -1,8 +1,9 @@
 -- Precedence tells all keys apart, and the bytes of keys compare as the keys do.
 use Rattle.std.specs.FinMap.{IsAntisymmetric, nat_cmp-IsAntisymmetric}
-use Rattle.version_parts.proofs.Codes.{then_first, then_second, writes_on, writes_then}
+use Rattle.version_parts.proofs.Codes.{writes_on, writes_then}
 use Rattle.version_parts.proofs.NumberBytes.{number_writes}
 use Rattle.version_parts.proofs.PartKey.{list_writes, lists_same}
+use Rattle.version_parts.specs.OrderLaws.{then_first, then_second}
 use Rattle.version_parts.specs.Codes.{Writes}
 use Rattle.versions.proofs.Tail.{tail_writes, tails_same}
 use Rattle.versions.specs.Key.{Key, precedence}

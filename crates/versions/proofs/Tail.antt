@@ -5,7 +5,8 @@ use Rattle.std.specs.Option.{option_cmp}
 use Rattle.std.specs.Ordering.{ordering_then}
 use Rattle.version_parts.proofs.Codes.{writes_slice}
 use Rattle.version_parts.proofs.PartKey.{list_writes, lists_same}
-use Rattle.version_parts.proofs.ReleaseOrder.{release_writes, releases_same}
+use Rattle.version_parts.proofs.ReleaseOrder.{release_writes}
+use Rattle.version_parts.specs.ReleaseLaws.{releases_same}
 use Rattle.version_parts.specs.Codes.{Writes, list_bytes}
 use Rattle.version_parts.specs.Lists.{bytes_cmp}
 use Rattle.version_parts.specs.PartKey.{PartKey, list_cmp}

@@ -2,6 +2,8 @@ pub mod Key
 pub mod KeyBytes
 pub mod Mess
 pub mod SemVer
+pub mod SemVerLaws
+pub mod SemVerMatch
 pub mod SemVerOrder
 pub mod Tail
 pub mod Texts

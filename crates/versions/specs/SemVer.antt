@@ -1,6 +1,8 @@
 -- Strict versions (SemVer 2.0, sections 2, 9 and 10).
 use Rattle.std.specs.Prelude.{◌≡◌, ℕ, List, [], ◌∷◌, ◌++◌, Option, Some, None, length, ◌==◌, if◌then◌else◌, ◌⊎◌, IsSome}
 use Rattle.std.specs.Fmt.{decimal}
+use Rattle.std.specs.Hash as fed
+use Rattle.std.specs.Hash.{HashWrites}
 use Rattle.std.specs.Option.{option_map}
 use Rattle.std.specs.String.{string_bytes}
 use Rattle.version_parts.specs.Bytes.{dot, hyphen, plus}
@@ -9,7 +11,7 @@ use Rattle.version_parts.specs.Front.{◌>>=◌, Front, behind, optional}
 use Rattle.version_parts.specs.Grammar.{SpellsOptional}
 use Rattle.version_parts.specs.Metadata.{SpellsMetadata, meta_front}
 use Rattle.version_parts.specs.Numeral.{SpellsNumeral, unsigned_front}
-use Rattle.version_parts.specs.Release.{SpellsRelease, plain_release, release_front, release_text}
+use Rattle.version_parts.specs.Release.{SpellsRelease, plain_release, release_fed, release_front, release_text}
 use Rattle.versions.specs.declared.semver.Pieces.{Pieces}
 use Rattle.versions.specs.declared.semver.SemVer.{SemVer}
 
@@ -87,3 +89,7 @@ semver_text v = decimal v.major ++ dot ∷ (decimal v.minor ++ dot ∷ (decimal 
 -- a version with a release or metadata owns memory
 abbrev pub SemVerOwns : PlainSemVer → Type 0
 SemVerOwns v = IsSome v.pre_rel ⊎ IsSome v.meta
+
+-- what a hash is fed with: the three numbers and the release, without the metadata
+abbrev pub semver_fed : PlainSemVer → HashWrites
+semver_fed v = fed.u32 v.major ++ (fed.u32 v.minor ++ (fed.u32 v.patch ++ fed.option release_fed v.pre_rel))

@@ -1,14 +1,23 @@
 //! Strict versions.
 
-ghost use Rattle.std.specs.Prelude.{◌≡◌, string_bytes, IfOk, IfSome, IsSome, OnErr, Some};
+ghost use Rattle.std.specs.Prelude.{◌≡◌, ◌↔◌, refl, string_bytes, IfOk, IfSome, IsSome, IsTrue, None, OnErr, Some};
+ghost use Rattle.std.specs.Cmp.{eq_by_cmp_equiv, on_equiv, on_per, on_total, partial_equiv_from_equiv, po};
 ghost use Rattle.std.specs.Option.{option_map};
+ghost use Rattle.std.specs.Ordering.{as_partial_cmp, eq_by_cmp, on};
 ghost use Rattle.version_parts.specs.Front.{optional, Reads};
 ghost use Rattle.version_parts.specs.Metadata.{meta_front};
 ghost use Rattle.version_parts.specs.Release.{plain_release, release_front};
-ghost use Rattle.versions.specs.SemVer.{plain_semver, plain_pieces, semver_front, semver_of, semver_text, SemVerOwns, PlainSemVer, SpellsSemVer};
+ghost use Rattle.version_parts.specs.Lists.{none_last_cmp};
+ghost use Rattle.version_parts.specs.ReleaseOrder.{release_cmp};
+ghost use Rattle.versions.specs.SemVerLaws.{fed_alike, semver_total};
+ghost use Rattle.versions.specs.SemVerMatch.{numbers, MatchesCaret, MatchesTilde};
+ghost use Rattle.versions.specs.SemVerOrder.{semver_cmp};
+ghost use Rattle.versions.specs.SemVer.{plain_semver, semver_fed, plain_pieces, semver_front, semver_of, semver_text, SemVerOwns, PlainSemVer, SpellsSemVer};
 
 use std::alloc::{AllocError, Global};
+use std::cmp::Ordering;
 use std::fmt;
+use std::hash::{Hash, Hasher};
 use version_parts::scan::ReleasePiece;
 use version_parts::{Release, scan};
 
@@ -75,6 +84,120 @@ impl fmt::Display for SemVer {
             write!(f, "+{meta}")?;
         }
         Ok(())
+    }
+}
+
+impl SemVer {
+    /// Whether `~self` asks for `other`: equal major and minor, and a patch that is not less. Pre-releases are not
+    /// looked at. Takes no memory.
+    pub fn matches_tilde(&self, other: &SemVer) -> bool
+        ensures { IsTrue result ↔ MatchesTilde (numbers (plain_semver self.now)) (numbers (plain_semver other.now)) }
+    {
+        self.major == other.major && self.minor == other.minor && self.patch <= other.patch
+    }
+
+    /// Whether `^self` asks for `other`: the first of the three numbers that is not 0 in both is equal, and what
+    /// stands behind it is not less. Pre-releases are not looked at. Takes no memory.
+    pub fn matches_caret(&self, other: &SemVer) -> bool
+        ensures { IsTrue result ↔ MatchesCaret (numbers (plain_semver self.now)) (numbers (plain_semver other.now)) }
+    {
+        if self.major == 0 && other.major == 0 {
+            if self.minor == 0 && other.minor == 0 {
+                return self.patch == other.patch;
+            }
+            return self.minor == other.minor && self.patch <= other.patch;
+        }
+        self.major == other.major && (self.minor, self.patch) <= (other.minor, other.patch)
+    }
+}
+
+/// `0.0.0`.
+impl Default for SemVer {
+    ghost is_default = { λ v. plain_semver v ≡ record { major = 0; minor = 0; patch = 0; pre_rel = None; meta = None } };
+
+    fn default() -> SemVer {
+        SemVer {
+            major: 0,
+            minor: 0,
+            patch: 0,
+            pre_rel: None,
+            meta: None,
+        }
+    }
+}
+
+/// Equal in every field but `meta`.
+impl PartialEq for SemVer {
+    ghost eq = { on plain_semver (eq_by_cmp semver_cmp) };
+
+    ghost laws = { on_per plain_semver (partial_equiv_from_equiv (eq_by_cmp_equiv semver_total)) };
+
+    fn eq(&self, other: &SemVer) -> bool {
+        self.cmp(other).is_eq()
+    }
+}
+
+impl Eq for SemVer {
+    ghost laws = { on_equiv plain_semver (eq_by_cmp_equiv semver_total) };
+}
+
+/// Feeds every field but `meta`.
+impl Hash for SemVer {
+    ghost hash_input = { λ v. semver_fed (plain_semver v) };
+
+    ghost respects_eq = { λ a b tied. fed_alike (plain_semver a) (plain_semver b) tied };
+
+    fn hash<H: Hasher>(&self, state: &mut H) {
+        self.major.hash(state);
+        self.minor.hash(state);
+        self.patch.hash(state);
+        self.pre_rel.hash(state);
+    }
+}
+
+/// Major, minor and patch by value, then a pre-release below none, then chunk by chunk (SemVer 2.0, section 11).
+/// Metadata is not looked at. Takes no memory.
+impl Ord for SemVer {
+    ghost cmp = { on plain_semver semver_cmp };
+
+    ghost total = { on_total plain_semver semver_total };
+
+    ghost matches_partial_cmp = { λ a b. refl };
+
+    ghost matches_eq = { λ a b. refl };
+
+    fn cmp(&self, other: &SemVer) -> Ordering {
+        let numbers = self
+            .major
+            .cmp(&other.major)
+            .then(self.minor.cmp(&other.minor));
+        let numbers = numbers.then(self.patch.cmp(&other.patch));
+        match numbers {
+            Ordering::Equal => compare_pre_releases(&self.pre_rel, &other.pre_rel),
+            _ => numbers,
+        }
+    }
+}
+
+impl PartialOrd for SemVer {
+    ghost partial_cmp = { as_partial_cmp (on plain_semver semver_cmp) };
+
+    ghost laws = { po (on_total plain_semver semver_total) (λ a b. refl) };
+
+    fn partial_cmp(&self, other: &SemVer) -> Option<Ordering> {
+        Some(self.cmp(other))
+    }
+}
+
+// A pre-release is below none (SemVer 2.0, section 11).
+fn compare_pre_releases(a: &Option<Release>, b: &Option<Release>) -> Ordering
+    ensures { result ≡ none_last_cmp release_cmp (option_map plain_release a.now) (option_map plain_release b.now) }
+{
+    match (a, b) {
+        (Some(a), Some(b)) => a.cmp(b),
+        (Some(_), None) => Ordering::Less,
+        (None, Some(_)) => Ordering::Greater,
+        (None, None) => Ordering::Equal,
     }
 }
 

@@ -1,0 +1,76 @@
+-- Laws of orders in general: what follows from their being total, or from their telling different values apart.
+use Rattle.std.proofs.Common.{◌≡◌, ◌↔◌, Option, Some, None, true, refl, ap, subst}
+use Rattle.std.specs.Cmp.{Equal-is, IsTotalOrder, back_total, tied_itself}
+use Rattle.std.specs.Cmp.Lexicographic.{options_total}
+use Rattle.std.specs.FinMap.{IsAntisymmetric, nat_cmp-IsAntisymmetric, slice_cmp-IsAntisymmetric}
+use Rattle.std.specs.Option.{option_cmp}
+use Rattle.std.specs.Ordering.{eq_by_cmp, flip_args, ordering_then}
+use Rattle.std.specs.declared.cmp.Ordering.{Ordering}
+use Rattle.std.specs.declared.cmp.Ordering.TheVariants.{Less, Equal, Greater}
+use Rattle.version_parts.specs.Lists.{bytes_cmp, none_last_cmp}
+
+-- ---- one order and then another
+
+pub then_assoc : (a b c : Ordering) → ordering_then (ordering_then a b) c ≡ ordering_then a (ordering_then b c)
+then_assoc Less b c = refl
+then_assoc Equal b c = refl
+then_assoc Greater b c = refl
+
+pub then_equal : (a : Ordering) → ordering_then a Equal ≡ a
+then_equal Less = refl
+then_equal Equal = refl
+then_equal Greater = refl
+
+-- what is not Equal decides, whatever follows
+pub then_decided : (a b c : Ordering) → ¬ (a ≡ Equal) → ordering_then a b ≡ ordering_then a c
+then_decided Less b c h = refl
+then_decided Equal b c h = absurd (h refl)
+then_decided Greater b c h = refl
+
+pub then_first : (a b : Ordering) → ordering_then a b ≡ Equal → a ≡ Equal
+then_first Less b e = cc e
+then_first Equal b e = refl
+then_first Greater b e = cc e
+
+pub then_second : (a b : Ordering) → ordering_then a b ≡ Equal → b ≡ Equal
+then_second Less b e = cc e
+then_second Equal b e = e
+then_second Greater b e = cc e
+
+-- ---- orders that are Equal only of one and the same value
+
+pub options_same : {A : Type 0} {R : A → A → Ordering} → IsAntisymmetric R → IsAntisymmetric (option_cmp R)
+options_same same None None e = refl
+options_same same None (Some b) e = cc e
+options_same same (Some a) None e = cc e
+options_same same (Some a) (Some b) e = ap Some (same a b e)
+
+pub none_last_same : {A : Type 0} {R : A → A → Ordering} → IsAntisymmetric R → IsAntisymmetric (none_last_cmp R)
+none_last_same same None None e = refl
+none_last_same same None (Some b) e = cc e
+none_last_same same (Some a) None e = cc e
+none_last_same same (Some a) (Some b) e = ap Some (same a b e)
+
+pub bytes_same : IsAntisymmetric bytes_cmp
+bytes_same = slice_cmp-IsAntisymmetric nat_cmp-IsAntisymmetric
+
+-- ---- what a tie says
+
+-- values that an order ties are the same, where it tells different ones apart
+pub same_where_tied : {A : Type 0} {R : A → A → Ordering} → IsAntisymmetric R → {a b : A} → eq_by_cmp R a b ≡ true → a ≡ b
+same_where_tied {R = R} same {a} {b} tied = same a b ((Equal-is (R a b)).0 tied)
+
+-- an order is Equal exactly of one and the same value
+pub equal_where_same : {A : Type 0} {R : A → A → Ordering} → IsTotalOrder R → IsAntisymmetric R → (a b : A) → (R a b ≡ Equal) ↔ (a ≡ b)
+equal_where_same {R = R} total same a b = (same a b, λ e. subst (λ c. R a c ≡ Equal) e (tied_itself total a))
+
+-- ---- none above every value
+
+none_last-turned : {A : Type 0} (R : A → A → Ordering) (a b : Option A) → flip_args (option_cmp (flip_args R)) a b ≡ none_last_cmp R a b
+none_last-turned R None None = refl
+none_last-turned R None (Some b) = refl
+none_last-turned R (Some a) None = refl
+none_last-turned R (Some a) (Some b) = refl
+
+pub none_last_total : {A : Type 0} {R : A → A → Ordering} → IsTotalOrder R → IsTotalOrder (none_last_cmp R)
+none_last_total {R = R} total = subst IsTotalOrder (λ i a b. none_last-turned R a b i) (back_total (options_total (back_total total)))
