@@ -2,4 +2,6 @@
 #![tactic(auto)]
 
 #[cfg(test)]
+mod order;
+#[cfg(test)]
 mod strict;

@@ -13,8 +13,8 @@ use Rattle.version_parts.proofs.Worked.{worked_bytes, worked_order}
 use Rattle.version_parts.specs.OrderLaws.{equal_where_same}
 use Rattle.version_parts.specs.Chunk.{PlainChunk}
 use Rattle.version_parts.specs.PartKey.{PartKey, list_cmp, part_cmp}
-use Rattle.version_parts.specs.ReleaseLaws.{release_total, releases_same}
-use Rattle.version_parts.specs.ReleaseOrder.{release_cmp}
+use Rattle.version_parts.specs.ReleaseLaws.{chunk_total, chunks_same, release_total, releases_same}
+use Rattle.version_parts.specs.ReleaseOrder.{chunk_cmp, release_cmp}
 use Rattle.version_parts.specs.Split.{Split, split_cmp}
 
 pub split_total : IsTotalOrder split_cmp
@@ -34,6 +34,9 @@ list_total = writes_total list_writes
 
 pub list_equal : (xs ys : List PartKey) → (list_cmp xs ys ≡ Equal) ↔ (xs ≡ ys)
 list_equal = equal_where_same list_total lists_same
+
+pub chunk_equal : (a b : PlainChunk) → (chunk_cmp a b ≡ Equal) ↔ (a ≡ b)
+chunk_equal = equal_where_same chunk_total chunks_same
 
 pub release_equal : (a b : List PlainChunk) → (release_cmp a b ≡ Equal) ↔ (a ≡ b)
 release_equal = equal_where_same release_total releases_same
@@ -59,6 +62,8 @@ pub ruleset laws = (
   list_total,
   list_equal,
   list_writes,
+  chunk_total,
+  chunk_equal,
   release_total,
   release_equal,
   release_writes,

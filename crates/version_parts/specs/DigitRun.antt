@@ -3,11 +3,11 @@ use Rattle.std.specs.Prelude.{ℕ, List, [], ◌∷◌, drop, Bool, false, ◌&&
 use Rattle.std.specs.Char.{is_ascii_digit}
 use Rattle.std.specs.List.{list_all, prefix_len, take_while}
 use Rattle.std.specs.Str.Parse.{digits_value}
+use Rattle.version_parts.specs.Front.{begins}
 
 -- whether a text begins with a digit
 abbrev pub starts_with_digit : List ℕ → Bool
-starts_with_digit [] = false
-starts_with_digit (byte ∷ rest) = is_ascii_digit byte
+starts_with_digit = begins is_ascii_digit
 
 -- whether a text is a run of digits: one or more, and nothing else
 abbrev pub is_digits : List ℕ → Bool

@@ -17,7 +17,8 @@ use Rattle.versions.specs.Key.{Key, key_of_semver, key_of_version, precedence, s
 use Rattle.versions.specs.KeyBytes.{key_bytes}
 use Rattle.versions.specs.Mess.{PlainSep}
 use Rattle.versions.specs.SemVer.{PlainSemVer}
-use Rattle.versions.specs.SemVerLaws.{semver_total}
+use Rattle.versions.specs.SemVerOrder.{SameButMetadata, semver_cmp}
+use Rattle.versions.specs.SemVerLaws.{same_tied, semver_total, tied_same}
 use Rattle.versions.specs.Tail.{Tail, sections_cmp, tail_cmp}
 use Rattle.versions.specs.Version.{PlainVersion}
 
@@ -54,6 +55,9 @@ key_bytes_apart k l x y differ = key_writes.compares k l x y ∙ then_decided (p
 pub no_key_begins_another : (k l : Key) (x y : List ℕ) → key_bytes k ++ x ≡ key_bytes l ++ y → k ≡ l
 no_key_begins_another = writes_no_prefix keys_same key_writes
 
+pub semver_equal : (a b : PlainSemVer) → (semver_cmp a b ≡ Equal) ↔ SameButMetadata a b
+semver_equal a b = (tied_same a b, same_tied a b)
+
 -- metadata and the signs between sections have no part in a key
 pub semver_metadata : (v : PlainSemVer) (meta : Option (List ℕ)) → key_of_semver (record v { meta = meta }) ≡ key_of_semver v
 semver_metadata v meta = refl
@@ -81,6 +85,7 @@ pub ruleset laws = (
   no_key_begins_another,
   precedence_of_semvers,
   semver_total,
+  semver_equal,
   keys_are_bytes,
   versions_are_bytes,
   semver_metadata,

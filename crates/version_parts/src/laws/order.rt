@@ -15,7 +15,7 @@ ghost use Rattle.version_parts.specs.DigitRun.{is_digits, starts_with_digit};
 ghost use Rattle.version_parts.specs.Lists.{bytes_cmp};
 ghost use Rattle.version_parts.specs.NumberBytes.{length_bytes, number_bytes};
 ghost use Rattle.version_parts.specs.PartKey.{Number, PartKey, Word, list_cmp, part_bytes, part_cmp, part_key, parts_bytes, suffix_of};
-ghost use Rattle.version_parts.specs.ReleaseOrder.{release_bytes, release_cmp};
+ghost use Rattle.version_parts.specs.ReleaseOrder.{chunk_cmp, release_bytes, release_cmp};
 ghost use Rattle.version_parts.specs.Split.{Split, split_bytes, split_cmp, split_of};
 ghost use Rattle.version_parts.specs.TextBytes.{text_bytes};
 ghost use Rattle.version_parts.specs.Worked.{WorkedBytes, WorkedOrder};
@@ -58,6 +58,12 @@ fn list_order()
     ensures total { IsTotalOrder list_cmp }
     ensures same { (xs ys : List PartKey) → (list_cmp xs ys ≡ Equal) ↔ (xs ≡ ys) }
     ensures bytes { Writes list_cmp parts_bytes }
+{}
+
+/// The order of chunks is total and Equal exactly of the same chunk.
+fn chunk_order()
+    ensures total { IsTotalOrder chunk_cmp }
+    ensures same { (a b : PlainChunk) → (chunk_cmp a b ≡ Equal) ↔ (a ≡ b) }
 {}
 
 /// The order of releases is total and Equal exactly of the same release, and the bytes compare as it does.

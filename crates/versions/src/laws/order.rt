@@ -14,7 +14,7 @@ ghost use Rattle.versions.specs.Key.{Key, key_of, key_of_semver, key_of_version,
 ghost use Rattle.versions.specs.KeyBytes.{key_bytes};
 ghost use Rattle.versions.specs.Mess.{PlainSep};
 ghost use Rattle.versions.specs.SemVer.{PlainSemVer};
-ghost use Rattle.versions.specs.SemVerOrder.{semver_cmp};
+ghost use Rattle.versions.specs.SemVerOrder.{semver_cmp, SameButMetadata};
 ghost use Rattle.versions.specs.Tail.{Tail, section_bytes, sections_cmp, tail_bytes, tail_cmp};
 ghost use Rattle.versions.specs.Texts.{key_text, texts_of};
 ghost use Rattle.versions.specs.Version.{PlainVersion};
@@ -53,11 +53,18 @@ fn key_bytes_order()
     ensures no_prefix { (k l : Key) (x y : List ℕ) → key_bytes k ++ x ≡ key_bytes l ++ y → k ≡ l }
 {}
 
-/// On two strict versions precedence is the order of strict versions, which so is total too.
-fn precedence_of_strict_versions()
-    ensures same { (a b : PlainSemVer) → precedence (key_of_semver a) (key_of_semver b) ≡ semver_cmp a b }
+/// The order of strict versions is total, and Equal exactly of versions that are the same but for their metadata.
+fn strict_order()
     ensures total { IsTotalOrder semver_cmp }
-{}
+    ensures same { (a b : PlainSemVer) → (semver_cmp a b ≡ Equal) ↔ SameButMetadata a b }
+{
+}
+
+/// On two strict versions precedence is the order of strict versions.
+fn precedence_of_strict_versions()
+    ensures { (a b : PlainSemVer) → precedence (key_of_semver a) (key_of_semver b) ≡ semver_cmp a b }
+{
+}
 
 /// Every byte of a key is below 256 where the bytes of its texts are, and so where those of the version's texts are.
 fn key_bytes_below_256()

@@ -1,0 +1,149 @@
+//! The order of strict versions, their equality and hash, and what a tilde or a caret asks for.
+
+use std::cmp::Ordering;
+use std::collections::{BTreeMap, HashMap};
+use std::hash::{DefaultHasher, Hash, Hasher};
+use std::test::Fail;
+use versions::{Chunk, Release, SemVer};
+
+#[test]
+fn tilde_and_caret(rt: HostRuntime) -> Result<(), Fail> {
+    for (wanted, version, tilde, caret) in [
+        ("1.1.1", "1.1.3", true, true),
+        ("1.1.1", "1.2.0", false, true),
+        ("0.3.1", "0.3.5", true, true),
+        ("0.3.1", "0.4.0", false, false),
+        ("0.0.3", "0.0.4", true, false),
+        ("1.2.3", "1.2.3-a", true, true),
+        ("1.2.3", "2.2.3", false, false),
+        ("1.2.3", "1.2.2", false, false),
+        ("0.2.3", "1.2.3", false, false),
+    ] {
+        let wanted = strict(&rt, wanted)?;
+        let version = strict(&rt, version)?;
+        assert_eq!(rt;
+            wanted.matches_tilde(&version),
+            tilde,
+            "~{wanted} {version}"
+        );
+        assert_eq!(rt;
+            wanted.matches_caret(&version),
+            caret,
+            "^{wanted} {version}"
+        );
+    }
+    Ok(())
+}
+
+#[test]
+fn each_is_below_the_next(rt: HostRuntime) -> Result<(), Fail> {
+    let texts = [
+        "1.0.0-alpha",
+        "1.0.0-alpha.1",
+        "1.0.0-alpha.beta",
+        "1.0.0-beta",
+        "1.0.0-beta.2",
+        "1.0.0-beta.11",
+        "1.0.0-rc.1",
+        "1.0.0",
+        "1.0.1-a",
+        "1.1.0",
+        "2.0.0",
+    ];
+    for (at, lower) in texts.iter().enumerate() {
+        for (place, upper) in texts.iter().enumerate() {
+            let wanted = at.cmp(&place);
+            let lower = strict(&rt, lower)?;
+            let upper = strict(&rt, upper)?;
+            assert_eq!(rt; lower.cmp(&upper), wanted, "{lower} {upper}");
+            assert_eq!(rt; lower.partial_cmp(&upper), Some(wanted));
+            assert_eq!(rt; lower == upper, wanted == Ordering::Equal);
+        }
+    }
+    Ok(())
+}
+
+#[test]
+fn an_empty_pre_release_is_the_lowest(rt: HostRuntime) -> Result<(), Fail> {
+    let mut empty = strict(&rt, "1.2.3")?;
+    empty.pre_rel = Some(Release(Vec::new(rt.alloc())));
+    let zero = strict(&rt, "1.2.3-0")?;
+    let bare = strict(&rt, "1.2.3")?;
+    assert!(rt; empty < zero);
+    assert!(rt; zero < bare);
+    assert!(rt; empty < bare);
+    Ok(())
+}
+
+#[test]
+fn metadata_is_not_looked_at(rt: HostRuntime) -> Result<(), Fail> {
+    let a = strict(&rt, "1.0.0+a")?;
+    let b = strict(&rt, "1.0.0+b")?;
+    assert!(rt; a == b);
+    assert_eq!(rt; a.cmp(&b), Ordering::Equal);
+    assert_eq!(rt; hash_of(&a), hash_of(&b));
+    assert_eq!(rt; a.to_string(rt.alloc())?.as_str(), "1.0.0+a");
+    assert_eq!(rt; b.to_string(rt.alloc())?.as_str(), "1.0.0+b");
+    Ok(())
+}
+
+#[test]
+fn maps_find_what_was_put_in(rt: HostRuntime) -> Result<(), Fail> {
+    let mut ordered = BTreeMap::new(rt.alloc());
+    let mut hashed = HashMap::new(rt.alloc());
+    for (at, text) in ["1.0.0", "1.0.0-rc.1", "0.9.12"].iter().enumerate() {
+        ordered.insert(strict(&rt, text)?, at)?;
+        hashed.insert(strict(&rt, text)?, at)?;
+    }
+    let wanted = strict(&rt, "1.0.0-rc.1+build")?;
+    assert_eq!(rt; ordered.get(&wanted), Some(&1));
+    assert_eq!(rt; hashed.get(&wanted), Some(&1));
+    let absent = strict(&rt, "1.0.0-rc.2")?;
+    assert_eq!(rt; ordered.get(&absent), None);
+    assert_eq!(rt; hashed.get(&absent), None);
+    Ok(())
+}
+
+#[test]
+fn unequal_values_hash_apart(rt: HostRuntime) -> Result<(), Fail> {
+    let one = String::from_str(rt.alloc(), "1")?;
+    assert_ne!(rt; hash_of(&Chunk::Numeric(1)), hash_of(&Chunk::Alphanum(one)));
+    assert_ne!(rt; hash_of(&Chunk::Numeric(1)), hash_of(&Chunk::Numeric(2)));
+    let short = release(&rt, "-a")?;
+    let long = release(&rt, "-a.b")?;
+    assert_ne!(rt; hash_of(&short), hash_of(&long));
+    let texts = ["1.0.0", "2.0.0", "1.1.0", "1.0.1", "1.0.0-a", "1.0.0-b"];
+    for (at, one) in texts.iter().enumerate() {
+        for (place, other) in texts.iter().enumerate() {
+            if at != place {
+                let one = strict(&rt, one)?;
+                let other = strict(&rt, other)?;
+                assert_ne!(rt; hash_of(&one), hash_of(&other), "{one} {other}");
+            }
+        }
+    }
+    Ok(())
+}
+
+#[test]
+fn the_default_is_zero(rt: HostRuntime) -> Result<(), Fail> {
+    let version = SemVer::default();
+    assert_eq!(rt; version.to_string(rt.alloc())?.as_str(), "0.0.0");
+    Ok(())
+}
+
+fn strict(rt: &HostRuntime, text: &str) -> Result<SemVer, Fail> {
+    let version = SemVer::new(rt.alloc(), text)?;
+    Ok(version.ok_or("no strict version")?)
+}
+
+fn release(rt: &HostRuntime, text: &str) -> Result<Release, Fail> {
+    let (release, _) = Release::parse(rt.alloc(), text)?.ok_or("no release")?;
+    Ok(release)
+}
+
+fn hash_of<T: Hash>(value: &T) -> u64 {
+    let mut state = DefaultHasher::new();
+    value.hash(&mut state);
+    state.finish()
+}
