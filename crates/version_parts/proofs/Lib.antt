@@ -1,3 +1,4 @@
+pub mod Ascii
 pub mod ChunkReading
 pub mod Codes
 pub mod DigitRun

@@ -13,16 +13,16 @@ use Rattle.version_parts.specs.Class.{contains}
 use Rattle.version_parts.specs.declared.scan.Class.{Class}
 use Rattle.version_parts.specs.declared.scan.Class.TheVariants.{Digit, Alphanumeric, Identifier, Metadata}
 
-digit_ascii : (b : ℕ) → is_ascii_digit b ≡ true → b < 128
+pub digit_ascii : (b : ℕ) → is_ascii_digit b ≡ true → b < 128
 digit_ascii b h = grind (arith, nat_tests)
 
 alphanumeric_ascii : (b : ℕ) → is_ascii_alphanumeric b ≡ true → b < 128
 alphanumeric_ascii b h = grind (arith, nat_tests)
 
-identifier_ascii : (b : ℕ) → is_identifier_byte b ≡ true → b < 128
+pub identifier_ascii : (b : ℕ) → is_identifier_byte b ≡ true → b < 128
 identifier_ascii b h = grind (arith, nat_tests)
 
-metadata_ascii : (b : ℕ) → is_metadata_byte b ≡ true → b < 128
+pub metadata_ascii : (b : ℕ) → is_metadata_byte b ≡ true → b < 128
 metadata_ascii b h = grind (arith, nat_tests)
 
 -- a class has bytes of ASCII alone

@@ -1,8 +1,10 @@
 -- Strict versions: their front reads what is spelled and nothing else, and they print as they are spelled.
-use Rattle.std.proofs.Common.{◌≡◌, ◌==◌, ℕ, Bool, false, List, [], ◌∷◌, ◌++◌, length, Option, Some, None, refl, sym, ap, subst, ◌∙◌, inl, inr, append-nil, append_assoc}
-use Rattle.std.proofs.lemmas.Bool.{cases_Bool, eqb-true}
+use Rattle.std.proofs.Common.{◌≡◌, IsSome, arith, ◌==◌, ℕ, Bool, false, List, [], ◌∷◌, ◌++◌, length, Option, Some, None, refl, sym, ap, subst, ◌∙◌, inl, inr, append-nil, append_assoc}
+use Rattle.std.proofs.lemmas.Bool.{cases_Bool, eqb-true, false≢true}
 use Rattle.std.proofs.lemmas.List.{nil_from_length}
+use Rattle.std.proofs.lemmas.Str.{IsAscii-append, IsUtf8-from_ascii}
 use Rattle.std.specs.Char.{is_ascii_digit}
+use Rattle.std.specs.Str.{IsAscii, IsUtf8}
 use Rattle.version_parts.specs.Bytes.{dot, hyphen, is_identifier_byte, is_metadata_byte, plus}
 use Rattle.version_parts.specs.Chunk.{chunk_front}
 use Rattle.version_parts.specs.Front.{begins, behind, dotted_front, optional, run_front}
@@ -11,6 +13,7 @@ use Rattle.version_parts.specs.Metadata.{SpellsMetadata, meta_front}
 use Rattle.version_parts.specs.Numeral.{unsigned_front}
 use Rattle.version_parts.specs.Reading.{EndsList, EndsRun, IsPrinted, IsSound}
 use Rattle.version_parts.specs.Release.{SpellsRelease, release_front, release_text}
+use Rattle.version_parts.proofs.Ascii.{IsAscii-cons, spelled_metadata_ascii, spelled_numeral_ascii, spelled_optional_ascii, spelled_release_ascii}
 use Rattle.version_parts.proofs.ChunkReading.{metadata_complete, metadata_sound, optional_complete, optional_sound, release_complete, release_printed, release_sound}
 use Rattle.version_parts.proofs.Dotted.{behind-Some, cases_Option}
 use Rattle.version_parts.proofs.NumeralReading.{numeral_printed, unsigned_complete, unsigned_sound}
@@ -156,3 +159,18 @@ whole-Some (Some p) v e = elim (cases_Bool (length p.1 == 0)) [
 pub semver_of-spells : (text : List ℕ) (v : PlainSemVer) → semver_of text ≡ Some v → SpellsSemVer text v
 unfolding semver_of
 semver_of-spells text v e = semver_whole text v (whole-Some _ v e)
+
+pub semver_ascii : (text : List ℕ) (v : PlainSemVer) → SpellsSemVer text v → IsAscii text
+semver_ascii text v s =
+    let pre_rel = spelled_optional_ascii hyphen SpellsRelease (omega arith) spelled_release_ascii s.pre_rel v.pre_rel s.pre_rel_is in
+    let meta = spelled_optional_ascii plus SpellsMetadata (omega arith) spelled_metadata_ascii s.meta v.meta s.meta_is in
+    let patch = IsAscii-append s.patch _ (spelled_numeral_ascii s.patch v.patch s.patch_is) (IsAscii-append s.pre_rel s.meta pre_rel meta) in
+    let minor = IsAscii-append s.minor _ (spelled_numeral_ascii s.minor v.minor s.minor_is) (IsAscii-cons dot _ (omega arith) patch) in
+    rw s.whole (IsAscii-append s.major _ (spelled_numeral_ascii s.major v.major s.major_is) (IsAscii-cons dot _ (omega arith) minor))
+
+-- a text that spells a version is UTF-8
+pub semver_of-IsUtf8 : (text : List ℕ) → IsSome (semver_of text) → IsUtf8 text
+semver_of-IsUtf8 text some = elim (cases_Option (semver_of text)) [
+  | inl none ↦ absurd (false≢true (rw none at some))
+  | inr one ↦ IsUtf8-from_ascii text (semver_ascii text one.0 (semver_of-spells text one.0 one.1))
+]

@@ -1,4 +1,4 @@
-use Rattle.versions.proofs.SemVerReading.{semver_complete, semver_of-Some, semver_of-spells, semver_printed, semver_sound, semver_unique, semver_whole}
+use Rattle.versions.proofs.SemVerReading.{semver_ascii, semver_complete, semver_of-Some, semver_of-spells, semver_printed, semver_sound, semver_unique, semver_whole}
 use Rattle.versions.proofs.laws.grammar.strict_versions.Goals as goal
 
 pub returns : goal.returns
@@ -7,5 +7,6 @@ returns c = record {
   sound = semver_sound;
   only = semver_unique;
   printed = semver_printed;
+  ascii = semver_ascii;
   answer = λ text v. (semver_of-spells text v, semver_of-Some text v);
 }

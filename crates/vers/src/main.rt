@@ -1,0 +1,44 @@
+//! The program `vers`: reads version lines from standard input, and writes to standard output what a command says
+//! of them. docs/PROGRAM.md has its rules.
+#![tactic(auto)]
+
+ghost use Rattle.std.specs.Prelude.{◌≡◌, MatchResult};
+ghost use Rattle.std.specs.Process.{exit_status};
+ghost use Rattle.version_lines.specs.Fault.{status_of};
+
+use std::env;
+use std::env::Env;
+use std::process::ExitCode;
+use version_lines::{Fault, run};
+
+fn main(rt: HostRuntime) -> ExitCode {
+    let outcome = match words(&rt) {
+        Some(words) => run(
+            rt.alloc(),
+            words.as_slice(),
+            &mut rt.stdin(),
+            &mut rt.stdout(),
+        ),
+        None => Err(Fault::Usage),
+    };
+    ending(&rt, outcome)
+}
+
+// The words after the program's name, where the system gives them.
+fn words<R: Env + AllocGlobal>(rt: &R) -> Option<Vec<String>> {
+    env::args(rt).ok()?.skip(1).collect(rt.alloc()).ok()
+}
+
+// How the program ends: a fault is printed, and gives its status. That it can't be printed changes nothing.
+fn ending(rt: &impl Eprint, outcome: Result<(), Fault>) -> ExitCode
+    ensures { MatchResult outcome
+        (λ _. exit_status result ≡ 0) (λ fault. exit_status result ≡ status_of fault) }
+{
+    match outcome {
+        Ok(()) => ExitCode::SUCCESS,
+        Err(fault) => {
+            let _ = eprintln!(rt; "{fault}");
+            ExitCode::from(fault.status())
+        }
+    }
+}

@@ -1,0 +1,12 @@
+-- Of the output for the whole input, what waits in the buffer and the output for the lines to come are left.
+use Rattle.std.proofs.Common.{◌++◌, length}
+use Rattle.version_lines.specs.Output.{AppendsUpTo}
+use Rattle.version_lines.specs.Program.{ideal_output, lines_of}
+use Rattle.version_lines.proofs.ideal.write_ideal.Given as goal
+
+abbrev pub invariant-loop-rest : goal.invariant-loop-rest
+invariant-loop-rest g l = AppendsUpTo (g.W.Write.contents l.initial.writer) (g.W.Write.contents l.writer)
+    (l.buffer.items ++ ideal_output (lines_of l.rest)) (ideal_output (lines_of l.input))
+
+abbrev pub decreases-loop-rest : goal.decreases-loop-rest
+decreases-loop-rest g l = length l.rest

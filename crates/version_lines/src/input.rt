@@ -1,0 +1,39 @@
+//! Reading the whole input.
+ghost use Rattle.std.specs.Prelude.{◌≡◌, vec_len, OnOk, IfOk, IfErr};
+ghost use Rattle.std.specs.Io.KnownBytes.{Consumes, IsAtEnd};
+ghost use Rattle.version_lines.specs.Fault.{ComesOfReading};
+
+use crate::faults::Fault;
+use std::alloc::{AllocError, Global};
+use std::io::Read;
+
+/// How many bytes one call of `read` may give.
+const PIECE: usize = 64 * 1024;
+
+/// So many bytes that are 0.
+fn zeros(alloc: Global, count: usize) -> Result<Vec<u8>, AllocError>
+    ensures { IfOk result (λ zeros. vec_len zeros ≡ count) }
+{
+    vec![in alloc; 0; count]
+}
+
+/// Everything that the reader has left. A call of `read` that fails ends it, an interrupted one too.
+pub fn read_all<R: Read>(alloc: Global, reader: &mut R) -> Result<Vec<u8>, Fault>
+    ensures bytes { IfOk result (λ input.
+        Consumes (R.remaining reader.old) (R.remaining reader.new) input.items) }
+    ensures end { OnOk result (IsAtEnd (R.remaining reader.new)) }
+    ensures faults { IfErr result ComesOfReading }
+{
+    let mut piece = zeros(alloc, PIECE)?;
+    let mut input = Vec::new(alloc);
+    for _ in 0..u64::MAX {
+        let Ok(given) = reader.read(piece.as_mut_slice()) else {
+            return Err(Fault::Read);
+        };
+        if given == 0 {
+            return Ok(input);
+        }
+        input.extend_from_slice(&piece[..given])?;
+    }
+    Err(Fault::Read)
+}
