@@ -4,4 +4,6 @@
 #[cfg(test)]
 mod order;
 #[cfg(test)]
+mod program;
+#[cfg(test)]
 mod strict;

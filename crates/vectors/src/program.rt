@@ -1,0 +1,256 @@
+//! The program: what it reads and writes, and how it ends.
+
+use std::alloc::{AllocError, Global};
+use std::io;
+use std::io::{Error, ErrorKind, Read, Write};
+use std::test::Fail;
+use version_lines::{Fault, run};
+
+#[test]
+fn faults_say_their_texts_and_statuses(rt: HostRuntime) -> Result<(), Fail> {
+    let not_version = Fault::NotVersion(String::from_str(rt.alloc(), "1..2")?);
+    let not_requirement = Fault::NotRequirement(String::from_str(rt.alloc(), ">=1.0,")?);
+    let usage = "usage: vers ideal, show, sort, cmp A B, key V, match R";
+    for (fault, text, status) in [
+        (Fault::Usage, usage, 2),
+        (not_version, "not a version: 1..2", 1),
+        (not_requirement, "not a requirement: >=1.0,", 1),
+        (Fault::BadLine(120), "line 120 is not a version", 1),
+        (Fault::Memory, "no memory", 3),
+        (Fault::Read, "read failed", 3),
+        (Fault::Write, "write failed", 3),
+    ] {
+        assert_eq!(rt; fault.to_string(rt.alloc())?.as_str(), text);
+        assert_eq!(rt; fault.status(), status, "{text}");
+    }
+    Ok(())
+}
+
+#[test]
+fn no_words_and_ideal_say_which_lines_are_strict(rt: HostRuntime) -> Result<(), Fail> {
+    let input = b"1.2.3\n\n1.2\n1.0.0-x-y-z.-\n";
+    let wanted = b"ideal 1.2.3\nnone\nnone\nideal 1.0.0-x-y-z.-\n";
+    assert_eq!(rt; written(&rt, &[], input)?.as_slice(), wanted.as_slice());
+    assert_eq!(rt;
+        written(&rt, &["ideal"], input)?.as_slice(),
+        wanted.as_slice()
+    );
+    Ok(())
+}
+
+#[test]
+fn lines_end_at_line_feeds_alone(rt: HostRuntime) -> Result<(), Fail> {
+    for (input, wanted) in [
+        (b"".as_slice(), b"".as_slice()),
+        (b"\n", b"none\n"),
+        (b"\n\n", b"none\nnone\n"),
+        (b"1.2.3", b"ideal 1.2.3\n"),
+        (b"1.2\n1.2.3", b"none\nideal 1.2.3\n"),
+        (b"1.2.3\r\n", b"none\n"),
+        (b"1.2.3 \n", b"none\n"),
+        (b"1.2.3\x00\n", b"none\n"),
+    ] {
+        assert_eq!(rt; written(&rt, &["ideal"], input)?.as_slice(), wanted);
+    }
+    Ok(())
+}
+
+#[test]
+fn a_line_that_is_not_utf8_is_no_version(rt: HostRuntime) -> Result<(), Fail> {
+    let input = b"1.2.3\n\xff\xfe\n1.2.3-\xc3\xa9\n1.2.3+\xc3\n4.5.6\n";
+    let wanted = b"ideal 1.2.3\nnone\nnone\nnone\nideal 4.5.6\n";
+    assert_eq!(rt; written(&rt, &[], input)?.as_slice(), wanted.as_slice());
+    Ok(())
+}
+
+#[test]
+fn a_line_may_be_longer_than_the_buffer(rt: HostRuntime) -> Result<(), Fail> {
+    let mut input = Vec::new(rt.alloc());
+    input.extend_from_slice(b"1.2.3-a")?;
+    for _ in 0..70000 {
+        input.extend_from_slice(b"bc")?;
+    }
+    input.extend_from_slice(b"\n1.2\n")?;
+    let mut wanted = Vec::from_slice(rt.alloc(), b"ideal ")?;
+    wanted.extend_from_slice(&input[..input.len() - 4])?;
+    wanted.extend_from_slice(b"none\n")?;
+    assert_eq!(rt;
+        written(&rt, &[], input.as_slice())?.as_slice(),
+        wanted.as_slice()
+    );
+    Ok(())
+}
+
+#[test]
+fn other_words_are_a_fault_before_anything_is_read(rt: HostRuntime) -> Result<(), Fail> {
+    for words in [
+        ["idea"].as_slice(),
+        &["Ideal"],
+        &["ideal "],
+        &[""],
+        &["show"],
+        &["sort"],
+        &["ideal", "ideal"],
+        &["cmp", "1", "2"],
+    ] {
+        let mut reader = Giver::of(b"1.2.3\n", usize::MAX);
+        let mut writer = Taker::new(rt.alloc(), usize::MAX);
+        let outcome = run(
+            rt.alloc(),
+            owned(&rt, words)?.as_slice(),
+            &mut reader,
+            &mut writer,
+        );
+        assert_eq!(rt; outcome, Err(Fault::Usage));
+        assert_eq!(rt; reader.calls, 0);
+        assert_eq!(rt; writer.calls, 0);
+    }
+    Ok(())
+}
+
+#[test]
+fn a_failed_read_writes_nothing(rt: HostRuntime) -> Result<(), Fail> {
+    for kind in [ErrorKind::Other, ErrorKind::Interrupted] {
+        for step in [1, 2, 100] {
+            let mut reader = Giver::of(b"1.2.3\n1.2\n", step);
+            reader.fault = Some(kind);
+            let mut writer = Taker::new(rt.alloc(), usize::MAX);
+            let outcome = run(rt.alloc(), &[], &mut reader, &mut writer);
+            assert_eq!(rt; outcome, Err(Fault::Read));
+            assert_eq!(rt; reader.input.len(), 0);
+            assert_eq!(rt; writer.calls, 0);
+        }
+    }
+    Ok(())
+}
+
+#[test]
+fn a_failed_write_leaves_a_proper_beginning(rt: HostRuntime) -> Result<(), Fail> {
+    for kind in [None, Some(ErrorKind::Other), Some(ErrorKind::Interrupted)] {
+        for (calls, wanted) in [(0, b"".as_slice()), (1, b"i"), (10, b"ideal 1.2.")] {
+            let mut reader = b"1.2.3\n1.2\n".as_slice();
+            let mut writer = Taker::new(rt.alloc(), 1);
+            writer.ends = Some((calls, kind));
+            let outcome = run(rt.alloc(), &[], &mut reader, &mut writer);
+            assert_eq!(rt; outcome, Err(Fault::Write));
+            assert_eq!(rt; writer.taken.as_slice(), wanted);
+            assert_eq!(rt; writer.calls, calls + 1);
+        }
+    }
+    Ok(())
+}
+
+#[test]
+fn pieces_of_one_byte_change_nothing(rt: HostRuntime) -> Result<(), Fail> {
+    let mut reader = Giver::of(b"1.2.3\n1.2\n\n1.2.3+a", 1);
+    let mut writer = Taker::new(rt.alloc(), 1);
+    let outcome = run(rt.alloc(), &[], &mut reader, &mut writer);
+    assert_eq!(rt; outcome, Ok(()));
+    let wanted = b"ideal 1.2.3\nnone\nnone\nideal 1.2.3+a\n";
+    assert_eq!(rt; writer.taken.as_slice(), wanted.as_slice());
+    Ok(())
+}
+
+#[test]
+fn without_output_a_broken_writer_is_no_fault(rt: HostRuntime) -> Result<(), Fail> {
+    let mut reader = b"".as_slice();
+    let mut writer = Taker::new(rt.alloc(), 1);
+    writer.ends = Some((0, Some(ErrorKind::Other)));
+    let outcome = run(rt.alloc(), &[], &mut reader, &mut writer);
+    assert_eq!(rt; outcome, Ok(()));
+    Ok(())
+}
+
+// Gives its input in pieces of at most `step` bytes, and then fails, where a fault is set.
+#[derive(Drop)]
+struct Giver<'a> {
+    input: &'a [u8],
+    step: usize,
+    fault: Option<ErrorKind>,
+    calls: usize,
+}
+
+impl<'a> Giver<'a> {
+    fn of(input: &'a [u8], step: usize) -> Giver<'a> {
+        Giver {
+            input,
+            step,
+            fault: None,
+            calls: 0,
+        }
+    }
+}
+
+impl<'a> Read for Giver<'a> {
+    fn read(&mut self, buf: &mut [u8]) -> io::Result<usize> {
+        self.calls = self.calls.saturating_add(1);
+        if let (true, Some(kind)) = (self.input.is_empty(), self.fault) {
+            return Err(Error::from(kind));
+        }
+        let count = buf.len().min(self.input.len()).min(self.step);
+        buf[..count].copy_from_slice(&self.input[..count]);
+        self.input = &self.input[count..];
+        Ok(count)
+    }
+}
+
+// Takes at most `step` bytes at a call. After as many calls as `ends` says it takes none, or fails.
+#[derive(Drop)]
+struct Taker {
+    taken: Vec<u8>,
+    step: usize,
+    ends: Option<(usize, Option<ErrorKind>)>,
+    calls: usize,
+}
+
+impl Taker {
+    fn new(alloc: Global, step: usize) -> Taker {
+        Taker {
+            taken: Vec::new(alloc),
+            step,
+            ends: None,
+            calls: 0,
+        }
+    }
+}
+
+impl Write for Taker {
+    fn write(&mut self, buf: &[u8]) -> io::Result<usize> {
+        let before = self.calls;
+        self.calls = self.calls.saturating_add(1);
+        if let Some((calls, kind)) = self.ends {
+            if before >= calls {
+                return match kind {
+                    Some(kind) => Err(Error::from(kind)),
+                    None => Ok(0),
+                };
+            }
+        }
+        let count = buf.len().min(self.step);
+        self.taken.extend_from_slice(&buf[..count])?;
+        Ok(count)
+    }
+
+    fn flush(&mut self) -> io::Result<()> {
+        Ok(())
+    }
+}
+
+// The words as a program gets them.
+fn owned(rt: &HostRuntime, words: &[&str]) -> Result<Vec<String>, AllocError> {
+    let mut owned = Vec::new(rt.alloc());
+    for word in words {
+        owned.push(String::from_str(rt.alloc(), word)?)?;
+    }
+    Ok(owned)
+}
+
+// What a run that succeeds writes.
+fn written(rt: &HostRuntime, words: &[&str], input: &[u8]) -> Result<Vec<u8>, Fail> {
+    let mut reader = input;
+    let mut writer = Vec::new(rt.alloc());
+    let words = owned(rt, words)?;
+    let outcome = run(rt.alloc(), words.as_slice(), &mut reader, &mut writer);
+    outcome.ok().ok_or("a fault")?;
+    Ok(writer)
+}
