@@ -1,5 +1,5 @@
 -- What is spelled is ASCII.
-use Rattle.std.proofs.Common.{◌≡◌, ℕ, suc, zero, ◌<◌, Bool, true, List, [], ◌∷◌, ◌++◌, Option, Some, None, arith}
+use Rattle.std.proofs.Common.{◌≡◌, ℕ, suc, zero, ◌<◌, Bool, true, List, [], ◌∷◌, Option, Some, None, arith}
 use Rattle.std.proofs.lemmas.Str.{IsAscii-append}
 use Rattle.std.specs.Char.{is_ascii_digit}
 use Rattle.std.specs.Cmp.{first_so, second_so}
@@ -37,7 +37,7 @@ spelled_release_ascii text [] s = absurd s
 spelled_release_ascii text (x ∷ []) s = spelled_chunk_ascii text x s
 spelled_release_ascii text (x ∷ y ∷ xs) s =
     rw s.2 (IsAscii-append s.0 (dot ∷ s.1) (spelled_chunk_ascii s.0 x s.3)
-        (IsAscii-cons dot s.1 (omega arith) (spelled_release_ascii s.1 (y ∷ xs) s.4)))
+    (IsAscii-cons dot s.1 (omega arith) (spelled_release_ascii s.1 (y ∷ xs) s.4)))
 
 pub spelled_metadata_ascii : (text meta : List ℕ) → SpellsMetadata text meta → IsAscii text
 spelled_metadata_ascii text meta s = rw s.0 (all_ascii _ metadata_ascii meta s.1)

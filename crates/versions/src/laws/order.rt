@@ -57,14 +57,12 @@ fn key_bytes_order()
 fn strict_order()
     ensures total { IsTotalOrder semver_cmp }
     ensures same { (a b : PlainSemVer) → (semver_cmp a b ≡ Equal) ↔ SameButMetadata a b }
-{
-}
+{}
 
 /// On two strict versions precedence is the order of strict versions.
 fn precedence_of_strict_versions()
     ensures { (a b : PlainSemVer) → precedence (key_of_semver a) (key_of_semver b) ≡ semver_cmp a b }
-{
-}
+{}
 
 /// Every byte of a key is below 256 where the bytes of its texts are, and so where those of the version's texts are.
 fn key_bytes_below_256()
