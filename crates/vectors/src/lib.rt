@@ -2,8 +2,16 @@
 #![tactic(auto)]
 
 #[cfg(test)]
+mod general;
+#[cfg(test)]
+mod messy;
+#[cfg(test)]
 mod order;
 #[cfg(test)]
 mod program;
 #[cfg(test)]
+mod streams;
+#[cfg(test)]
 mod strict;
+#[cfg(test)]
+mod versioning;

@@ -132,17 +132,17 @@ fn the_default_is_zero(rt: HostRuntime) -> Result<(), Fail> {
     Ok(())
 }
 
-fn strict(rt: &HostRuntime, text: &str) -> Result<SemVer, Fail> {
+pub(crate) fn strict(rt: &HostRuntime, text: &str) -> Result<SemVer, Fail> {
     let version = SemVer::new(rt.alloc(), text)?;
     Ok(version.ok_or("no strict version")?)
 }
 
-fn release(rt: &HostRuntime, text: &str) -> Result<Release, Fail> {
+pub(crate) fn release(rt: &HostRuntime, text: &str) -> Result<Release, Fail> {
     let (release, _) = Release::parse(rt.alloc(), text)?.ok_or("no release")?;
     Ok(release)
 }
 
-fn hash_of<T: Hash>(value: &T) -> u64 {
+pub(crate) fn hash_of<T: Hash>(value: &T) -> u64 {
     let mut state = DefaultHasher::new();
     value.hash(&mut state);
     state.finish()

@@ -88,9 +88,9 @@ fn other_words_are_a_fault_before_anything_is_read(rt: HostRuntime) -> Result<()
         &["Ideal"],
         &["ideal "],
         &[""],
-        &["show"],
-        &["sort"],
+        &["shown"],
         &["ideal", "ideal"],
+        &["ideal", "show"],
         &["cmp", "1", "2"],
     ] {
         let mut reader = Giver::of(b"1.2.3\n", usize::MAX);

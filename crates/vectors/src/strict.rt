@@ -178,6 +178,6 @@ fn hand_built_values_print_as_they_are(rt: HostRuntime) -> Result<(), Fail> {
 }
 
 // What a value prints.
-fn printed(rt: &HostRuntime, value: &impl Display) -> Result<String, AllocError> {
+pub(crate) fn printed(rt: &HostRuntime, value: &impl Display) -> Result<String, AllocError> {
     value.to_string(rt.alloc())
 }

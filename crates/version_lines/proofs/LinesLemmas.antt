@@ -1,9 +1,8 @@
 -- The first line of some bytes, and the lines after it.
-use Rattle.std.proofs.Common.{◌≡◌, ℕ, zero, suc, ◌<◌, ◌≤◌, ◌+◌, ◌-◌, Bool, true, List, [], ◌∷◌, ◌++◌, length, take, drop, get_or, is_some, append-nil, ap, ◌∙◌, sym, arith, nat_eq, add-one}
+use Rattle.std.proofs.Common.{◌≡◌, ℕ, zero, suc, ◌<◌, ◌≤◌, ◌+◌, ◌-◌, true, List, [], ◌∷◌, ◌++◌, length, take, drop, get_or, append-nil, ap, ◌∙◌, sym, arith, nat_eq, add-one}
 use Rattle.std.proofs.lemmas.Bool.{false_from_ne_true}
 use Rattle.std.proofs.lemmas.List.{take_rest}
-use Rattle.version_lines.specs.Program.{line_feed, lines_of, before_lines, ideal_answer, ideal_output}
-use Rattle.versions.specs.SemVer.{semver_of}
+use Rattle.version_lines.specs.Lines.{line_feed, lines_of, before_lines, lines_output}
 
 -- the byte at a place is a line feed
 abbrev pub IsLineFeedAt : List ℕ → ℕ → Type 0
@@ -37,12 +36,13 @@ lines_of-last (byte ∷ next ∷ bytes) some none =
     lines_of-byte byte (next ∷ bytes) (none 0 (omega arith) (omega arith))
     ∙ ap (before_lines byte) (lines_of-last (next ∷ bytes) (omega arith) (λ j least below. none (suc j) (omega arith) (omega arith)))
 
--- the output for some bytes is the answer for their first line, and then the output for what follows it
-pub ideal_output-first : (text line after : List ℕ) (strict : Bool) → lines_of text ≡ line ∷ lines_of after → strict ≡ is_some (semver_of line)
-    → ideal_output (lines_of text) ≡ ideal_answer strict line ++ ideal_output (lines_of after)
-ideal_output-first text line after strict first judged =
-    ap ideal_output first ∙ ap (λ (s : Bool). ideal_answer s line ++ ideal_output (lines_of after)) (sym judged)
+-- the output for some bytes is that for their first line, and then that for what follows it
+pub lines_output-first : (line_output : List ℕ → List ℕ) (text line after answer : List ℕ) → lines_of text ≡ line ∷ lines_of after → answer ≡ line_output line
+    → lines_output line_output (lines_of text) ≡ answer ++ lines_output line_output (lines_of after)
+lines_output-first line_output text line after answer first answered =
+    ap (lines_output line_output) first ∙ ap (λ (a : List ℕ). a ++ lines_output line_output (lines_of after)) (sym answered)
 
 -- nothing is written for nothing
-pub ideal_output-nil : (text waiting : List ℕ) → text ≡ [] → waiting ++ ideal_output (lines_of text) ≡ waiting
-ideal_output-nil text waiting nothing = ap (λ (t : List ℕ). waiting ++ ideal_output (lines_of t)) nothing ∙ append-nil waiting
+pub lines_output-nil : (line_output : List ℕ → List ℕ) (text waiting : List ℕ) → text ≡ [] → waiting ++ lines_output line_output (lines_of text) ≡ waiting
+lines_output-nil line_output text waiting nothing =
+    ap (λ (t : List ℕ). waiting ++ lines_output line_output (lines_of t)) nothing ∙ append-nil waiting

@@ -32,5 +32,5 @@ abbrev pub ComesOfWriting : Fault → Type 0
 ComesOfWriting fault = (fault ≡ Memory) ⊎ (fault ≡ Write)
 
 -- the faults that a run can end in so far: those that judge a version, a requirement or a line don't come
-abbrev pub ComesOfIdeal : Fault → Type 0
-ComesOfIdeal fault = (fault ≡ Usage) ⊎ (fault ≡ Memory) ⊎ (fault ≡ Read) ⊎ (fault ≡ Write)
+abbrev pub ComesOfLines : Fault → Type 0
+ComesOfLines fault = (fault ≡ Usage) ⊎ (fault ≡ Memory) ⊎ (fault ≡ Read) ⊎ (fault ≡ Write)

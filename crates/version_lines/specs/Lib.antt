@@ -1,3 +1,5 @@
+pub mod Answer
 pub mod Fault
+pub mod Lines
 pub mod Output
 pub mod Program

@@ -5,6 +5,8 @@ ghost use Rattle.std.specs.Prelude.{◌≡◌, map, string_bytes};
 pub enum Command {
     /// For each line, whether it is a strict version.
     Ideal,
+    /// For each line, which kind of version it is.
+    Show,
 }
 
 impl Command {
@@ -17,6 +19,7 @@ impl Command {
         match words {
             [] => Some(Command::Ideal),
             [word] if word.as_str() == "ideal" => Some(Command::Ideal),
+            [word] if word.as_str() == "show" => Some(Command::Show),
             _ => None,
         }
     }

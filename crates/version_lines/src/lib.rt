@@ -2,12 +2,15 @@
 //! docs/PROGRAM.md has its rules.
 #![tactic(auto)]
 
+mod answer;
 mod command;
 mod faults;
 mod ideal;
 mod input;
+mod lines;
 mod output;
 mod program;
+mod show;
 
 pub use faults::Fault;
 pub use program::run;

@@ -1,6 +1,7 @@
 //! Writing through a buffer.
-ghost use Rattle.std.specs.Prelude.{◌≡◌, [], ◌++◌, IfOk, OnOk, OnErr, IfErr};
+ghost use Rattle.std.specs.Prelude.{◌≡◌, ◌+◌, ◌<◌, [], ◌++◌, length, vec_capacity, vec_len, IfOk, OnOk, OnErr, IfErr};
 ghost use Rattle.std.specs.Io.KnownBytes.{Appends};
+ghost use Rattle.version_lines.specs.Lines.{labelled_line};
 ghost use Rattle.version_lines.specs.Output.{AppendsProperBeginning, AppendsUpTo};
 
 use crate::faults::Fault;
@@ -55,4 +56,38 @@ pub fn put<W: Write>(writer: &mut W, buffer: &mut Vec<u8>, bytes: &[u8]) -> Resu
     }
     buffer.extend_from_slice(bytes).unwrap();
     Ok(())
+}
+
+/// Adds a label, a line and a line feed to the bytes that wait in the buffer.
+pub fn put_line<W: Write>(
+    writer: &mut W,
+    buffer: &mut Vec<u8>,
+    label: &[u8],
+    line: &[u8],
+) -> Result<(), Fault>
+    ensures ok { OnOk result (AppendsUpTo (W.contents writer.old) (W.contents writer.new)
+        buffer.new.items (buffer.old.items ++ labelled_line label.now line.now)) }
+    ensures err { OnErr result (AppendsProperBeginning (W.contents writer.old)
+        (W.contents writer.new) (buffer.old.items ++ labelled_line label.now line.now)) }
+    ensures fault { IfErr result (λ fault. fault ≡ Fault.Write) }
+{
+    let room = buffer.capacity() - buffer.len();
+    if line.len() < room && label.len() < room - line.len() {
+        add_line(buffer, label, line);
+        return Ok(());
+    }
+    put(writer, buffer, label)?;
+    put(writer, buffer, line)?;
+    put(writer, buffer, b"\n")
+}
+
+/// Adds a label, a line and a line feed, for which there is room.
+#[inline(always)]
+fn add_line(buffer: &mut Vec<u8>, label: &[u8], line: &[u8])
+    requires { vec_len buffer.old + length label.now + length line.now < vec_capacity buffer.old }
+    ensures { buffer.new.items ≡ buffer.old.items ++ labelled_line label.now line.now }
+{
+    buffer.extend_from_slice(label).unwrap();
+    buffer.extend_from_slice(line).unwrap();
+    buffer.push_reserved(b'\n');
 }

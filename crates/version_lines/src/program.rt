@@ -1,20 +1,23 @@
 //! A run of the program, over any reader and any writer.
 ghost use Rattle.std.specs.Prelude.{◌↔◌, ◌⊎◌, map, string_bytes, IsNone, OnOk, IfErr, IfSome, IsErrOf};
 ghost use Rattle.std.specs.Io.KnownBytes.{Appends, IsAtEnd, Keeps};
-ghost use Rattle.version_lines.specs.Fault.{ComesOfIdeal};
+ghost use Rattle.version_lines.specs.Fault.{ComesOfLines};
 ghost use Rattle.version_lines.specs.Output.{AppendsBeginning, AppendsProperBeginning};
 ghost use Rattle.version_lines.specs.Program.{command_of, output_of};
 
 use crate::command::Command;
 use crate::faults::Fault;
-use crate::ideal::write_ideal;
+use crate::ideal::Ideal;
 use crate::input::read_all;
+use crate::lines::write_lines;
+use crate::show::Show;
 use std::alloc::Global;
 use std::io::{Read, Write};
 
 /// Reads the whole input, and writes what the command that the words name says of its lines.
 ///
-/// The words are none or `ideal`, and else the answer is [`Fault::Usage`], before anything is read.
+/// The words are none, `ideal` or `show`, and else the answer is [`Fault::Usage`], before anything is
+/// read.
 /// The input is read to its end before anything is written, so after [`Fault::Read`] nothing was
 /// written. After [`Fault::Memory`] a beginning of the output was written, and after
 /// [`Fault::Write`] a beginning that isn't all of it.
@@ -58,13 +61,14 @@ pub fn run<R: Read, W: Write>(
         (output_of (map string_bytes words.now) input)) }
 
     // No word or line is refused for what it says.
-    ensures faults { IfErr result ComesOfIdeal }
+    ensures faults { IfErr result ComesOfLines }
 {
     let Some(command) = Command::from_words(words) else {
         return Err(Fault::Usage);
     };
     let input = read_all(alloc, reader)?;
     match command {
-        Command::Ideal => write_ideal(alloc, input.as_slice(), writer),
+        Command::Ideal => write_lines(alloc, &Ideal, input.as_slice(), writer),
+        Command::Show => write_lines(alloc, &Show, input.as_slice(), writer),
     }
 }

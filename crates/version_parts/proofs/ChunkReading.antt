@@ -1,109 +1,122 @@
 -- Chunks, releases and metadata: each front reads what is spelled, and nothing else.
-use Rattle.std.proofs.Common.{◌≡◌, ◌==◌, ℕ, ◌<◌, true, false, List, [], ◌∷◌, ◌++◌, length, drop, Option, Some, None, refl, sym, ap, ◌∙◌, inl, inr}
+use Rattle.std.proofs.Common.{◌≡◌, ◌==◌, ℕ, Bool, true, false, List, [], ◌∷◌, ◌++◌, drop, map, Option, Some, None, refl, sym, ap, ◌∙◌, inl, inr}
 use Rattle.std.proofs.lemmas.Bool.{cases_Bool}
 use Rattle.std.proofs.lemmas.List.{drop_at, take-append-drop, take_at}
-use Rattle.std.specs.Char.{is_ascii_digit}
+use Rattle.std.specs.Char.{is_ascii_alphanumeric, is_ascii_digit}
 use Rattle.std.specs.Cmp.{first_so, nat_eq_equiv, second_so}
-use Rattle.std.specs.List.{list_all, prefix_len, take_while}
+use Rattle.std.specs.List.{join_with_byte, list_all, prefix_len, take_while}
 use Rattle.version_parts.specs.Bytes.{dot, is_identifier_byte, is_metadata_byte}
-use Rattle.version_parts.specs.Chunk.{PlainChunk, Numeric, Alphanum, SpellsChunk, chunk_front, chunk_text}
-use Rattle.version_parts.specs.Front.{Front, begins, behind, dotted_front, further, map_value, optional, run_front}
+use Rattle.version_parts.specs.Chunk.{PlainChunk, Numeric, Alphanum, SpellsChunk, SpellsChunkOf, SpellsPart, chunk_front, chunk_front_of, chunk_text, part_front}
+use Rattle.version_parts.specs.Front.{Front, begins, behind, dotted_front, map_value, optional, run_front}
 use Rattle.version_parts.specs.Grammar.{SpellsDotted, SpellsOptional}
 use Rattle.version_parts.specs.Metadata.{SpellsMetadata}
 use Rattle.version_parts.specs.Numeral.{unsigned_front}
 use Rattle.version_parts.specs.Reading.{EndsList, EndsRun, IsComplete, IsPrinted, IsSound}
 use Rattle.version_parts.specs.Release.{SpellsRelease, release_text}
-use Rattle.version_parts.proofs.Dotted.{behind-Some, behind_dot_shrinks, cases_Option, dotted_complete, dotted_sound, further-None, further-next}
+use Rattle.version_parts.proofs.Dotted.{behind-Some, cases_Option, dotted_complete, dotted_sound}
 use Rattle.version_parts.proofs.NumeralReading.{numeral_printed, unsigned_complete, unsigned_sound}
 use Rattle.version_parts.proofs.RunFronts.{list_all-take_while, prefix_len-append, reads_run, run_front-reads}
 
+-- the tests of the two kinds of run pass digits
 digit_identifier : (b : ℕ) → is_ascii_digit b ≡ true → is_identifier_byte b ≡ true
 digit_identifier b h = rw h refl
 
-digits_identifier : (text : List ℕ) → list_all is_ascii_digit text ≡ true → list_all is_identifier_byte text ≡ true
-digits_identifier [] h = refl
-digits_identifier (b ∷ text) h = rw (digit_identifier b (first_so _ _ h)) (digits_identifier text (second_so _ _ h))
+pub digit_alphanumeric : (b : ℕ) → is_ascii_digit b ≡ true → is_ascii_alphanumeric b ≡ true
+digit_alphanumeric b h = rw h refl
 
-ends_numeral : (rest : List ℕ) → EndsRun is_identifier_byte rest → EndsRun is_ascii_digit rest
-ends_numeral [] e = refl
-ends_numeral (b ∷ rest) e = elim (cases_Bool (is_ascii_digit b)) [
-  | inl digit ↦ cc (digit_identifier b digit, e)
-  | inr other ↦ other
-]
+-- chunks whose runs are of bytes that pass a test, which digits pass
+module _ (test : ℕ → Bool) (digits_pass : (b : ℕ) → is_ascii_digit b ≡ true → test b ≡ true) where
+  pub all_pass : (text : List ℕ) → list_all is_ascii_digit text ≡ true → list_all test text ≡ true
+  all_pass [] h = refl
+  all_pass (b ∷ text) h = rw (digits_pass b (first_so _ _ h)) (all_pass text (second_so _ _ h))
 
--- what the front gives, where the run is all digits and where it isn't
-chunk-digits : (text : List ℕ) → list_all is_ascii_digit (take_while is_identifier_byte text) ≡ true → chunk_front text ≡ map_value Numeric (unsigned_front text)
-unfolding chunk_front
-chunk-digits text h = rw h refl
+  ends_numeral : (rest : List ℕ) → EndsRun test rest → EndsRun is_ascii_digit rest
+  ends_numeral [] e = refl
+  ends_numeral (b ∷ rest) e = elim (cases_Bool (is_ascii_digit b)) [
+    | inl digit ↦ cc (digits_pass b digit, e)
+    | inr other ↦ other
+  ]
 
-chunk-run : (text : List ℕ) → list_all is_ascii_digit (take_while is_identifier_byte text) ≡ false
-    → chunk_front text ≡ Some (Alphanum (take_while is_identifier_byte text), drop (prefix_len is_identifier_byte text) text)
-unfolding chunk_front
-chunk-run text h = rw h refl
+  -- what the front gives, where the run is all digits and where it isn't
+  chunk-digits : (text : List ℕ) → list_all is_ascii_digit (take_while test text) ≡ true → chunk_front_of test text ≡ map_value Numeric (unsigned_front text)
+  unfolding chunk_front_of
+  chunk-digits text h = rw h refl
+
+  chunk-run : (text : List ℕ) → list_all is_ascii_digit (take_while test text) ≡ false
+      → chunk_front_of test text ≡ Some (Alphanum (take_while test text), drop (prefix_len test text) text)
+  unfolding chunk_front_of
+  chunk-run text h = rw h refl
+
+  pub chunk_sound_of : IsSound (SpellsChunkOf test) (chunk_front_of test)
+  chunk_sound_of text x rest e = elim (cases_Bool (list_all is_ascii_digit (take_while test text))) [
+    | inl digits ↦ elim (cases_Option (unsigned_front text)) [
+      | inl none ↦ cc (rw (chunk-digits text digits, none) at e)
+      | inr one ↦
+          let same : (Numeric one.0.0, one.0.1) ≡ (x, rest) = cc (rw (chunk-digits text digits, one.1) at e) in
+          let value : Numeric one.0.0 ≡ x = ap (λ (p : PlainChunk × List ℕ). p.0) same in
+          let left : one.0.1 ≡ rest = ap (λ (p : PlainChunk × List ℕ). p.1) same in
+          let read = unsigned_sound text one.0.0 one.0.1 one.1 in
+          (read.0, read.1 ∙ ap (λ (l : List ℕ). read.0 ++ l) left, rw (← value) read.2)
+    ]
+    | inr run ↦
+        let same : (Alphanum (take_while test text), drop (prefix_len test text) text) ≡ (x, rest) = cc (rw (chunk-run text run) at e) in
+        let value : Alphanum (take_while test text) ≡ x = ap (λ (p : PlainChunk × List ℕ). p.0) same in
+        let left : drop (prefix_len test text) text ≡ rest = ap (λ (p : PlainChunk × List ℕ). p.1) same in (
+          take_while test text,
+          rw (← left) (sym (take-append-drop (prefix_len test text) text)),
+          rw (← value) (refl, list_all-take_while test text, run),
+        )
+  ]
+
+  whole_run : (run rest : List ℕ) → list_all test run ≡ true → EndsRun test rest → (take_while test (run ++ rest) ≡ run) × (drop (prefix_len test (run ++ rest)) (run ++ rest) ≡ rest)
+  whole_run run rest all ends =
+      let len = prefix_len-append test run rest all ends in
+      (rw len (take_at run rest _ refl), rw len (drop_at run rest _ refl))
+
+  pub chunk_complete_of : IsComplete (SpellsChunkOf test) (EndsRun test) (chunk_front_of test)
+  chunk_complete_of piece (Numeric n) rest s ends =
+      let run = whole_run piece rest (all_pass piece s.digits) ends in
+      let digits : list_all is_ascii_digit (take_while test (piece ++ rest)) ≡ true = rw run.0 s.digits in
+      rw (chunk-digits (piece ++ rest) digits, unsigned_complete piece n rest s (ends_numeral rest ends)) refl
+  chunk_complete_of piece (Alphanum text) rest s ends =
+      let all : list_all test piece ≡ true = rw s.0 s.1 in
+      let run = whole_run piece rest all ends in
+      let other : list_all is_ascii_digit (take_while test (piece ++ rest)) ≡ false = rw (run.0, s.0) s.2 in
+      rw (chunk-run (piece ++ rest) other, run.0, run.1, s.0) refl
+
+  pub chunk_printed_of : IsPrinted (SpellsChunkOf test) chunk_text
+  chunk_printed_of text (Numeric n) s = numeral_printed text n s
+  chunk_printed_of text (Alphanum run) s = sym s.0
 
 pub chunk_sound : IsSound SpellsChunk chunk_front
-chunk_sound text x rest e = elim (cases_Bool (list_all is_ascii_digit (take_while is_identifier_byte text))) [
-  | inl digits ↦ elim (cases_Option (unsigned_front text)) [
-    | inl none ↦ cc (rw (chunk-digits text digits, none) at e)
-    | inr one ↦
-        let same : (Numeric one.0.0, one.0.1) ≡ (x, rest) = cc (rw (chunk-digits text digits, one.1) at e) in
-        let value : Numeric one.0.0 ≡ x = ap (λ (p : PlainChunk × List ℕ). p.0) same in
-        let left : one.0.1 ≡ rest = ap (λ (p : PlainChunk × List ℕ). p.1) same in
-        let read = unsigned_sound text one.0.0 one.0.1 one.1 in
-        (read.0, read.1 ∙ ap (λ (l : List ℕ). read.0 ++ l) left, rw (← value) read.2)
-  ]
-  | inr run ↦
-      let same : (Alphanum (take_while is_identifier_byte text), drop (prefix_len is_identifier_byte text) text) ≡ (x, rest) = cc (rw (chunk-run text run) at e) in
-      let value : Alphanum (take_while is_identifier_byte text) ≡ x = ap (λ (p : PlainChunk × List ℕ). p.0) same in
-      let left : drop (prefix_len is_identifier_byte text) text ≡ rest = ap (λ (p : PlainChunk × List ℕ). p.1) same in (
-        take_while is_identifier_byte text,
-        rw (← left) (sym (take-append-drop (prefix_len is_identifier_byte text) text)),
-        rw (← value) (refl, list_all-take_while is_identifier_byte text, run),
-      )
-]
-
-whole_run : (run rest : List ℕ) → list_all is_identifier_byte run ≡ true → EndsRun is_identifier_byte rest → (take_while is_identifier_byte (run ++ rest) ≡ run) × (drop (prefix_len is_identifier_byte (run ++ rest)) (run ++ rest) ≡ rest)
-whole_run run rest all ends =
-    let len = prefix_len-append is_identifier_byte run rest all ends in
-    (rw len (take_at run rest _ refl), rw len (drop_at run rest _ refl))
+chunk_sound = chunk_sound_of is_identifier_byte digit_identifier
 
 pub chunk_complete : IsComplete SpellsChunk (EndsRun is_identifier_byte) chunk_front
-chunk_complete piece (Numeric n) rest s ends =
-    let run = whole_run piece rest (digits_identifier piece s.digits) ends in
-    let digits : list_all is_ascii_digit (take_while is_identifier_byte (piece ++ rest)) ≡ true = rw run.0 s.digits in
-    rw (chunk-digits (piece ++ rest) digits, unsigned_complete piece n rest s (ends_numeral rest ends)) refl
-chunk_complete piece (Alphanum text) rest s ends =
-    let all : list_all is_identifier_byte piece ≡ true = rw s.0 s.1 in
-    let run = whole_run piece rest all ends in
-    let other : list_all is_ascii_digit (take_while is_identifier_byte (piece ++ rest)) ≡ false = rw (run.0, s.0) s.2 in
-    rw (chunk-run (piece ++ rest) other, run.0, run.1, s.0) refl
+chunk_complete = chunk_complete_of is_identifier_byte digit_identifier
 
--- the steps of a loop over the further chunks of a release
-pub next_chunk_shrinks : (text : List ℕ) (x : PlainChunk) (rest : List ℕ) → behind dot chunk_front text ≡ Some (x, rest) → length rest < length text
-next_chunk_shrinks = behind_dot_shrinks SpellsChunk chunk_front chunk_sound
+pub chunk_printed : IsPrinted SpellsChunk chunk_text
+chunk_printed = chunk_printed_of is_identifier_byte digit_identifier
 
-pub next_chunk : (text : List ℕ) (x : PlainChunk) (rest : List ℕ) → behind dot chunk_front text ≡ Some (x, rest)
-    → further chunk_front (length text) text ≡ (x ∷ (further chunk_front (length rest) rest).0, (further chunk_front (length rest) rest).1)
-next_chunk = further-next SpellsChunk chunk_front chunk_sound
+pub part_sound : IsSound SpellsPart part_front
+part_sound = chunk_sound_of is_ascii_alphanumeric digit_alphanumeric
 
-pub no_next_chunk : (text : List ℕ) → behind dot chunk_front text ≡ None → further chunk_front (length text) text ≡ ([], text)
-no_next_chunk text = further-None SpellsChunk chunk_front text (length text)
+pub part_complete : IsComplete SpellsPart (EndsRun is_ascii_alphanumeric) part_front
+part_complete = chunk_complete_of is_ascii_alphanumeric digit_alphanumeric
 
--- what a list has, where its first element is read
-pub listed : (text : List ℕ) (x : PlainChunk) (rest : List ℕ) → chunk_front text ≡ Some (x, rest)
-    → dotted_front chunk_front text ≡ Some (x ∷ (further chunk_front (length rest) rest).0, (further chunk_front (length rest) rest).1)
-unfolding dotted_front
-listed text x rest e = rw e refl
-
-pub unlisted : (text : List ℕ) → chunk_front text ≡ None → dotted_front chunk_front text ≡ None
-unfolding dotted_front
-unlisted text e = rw e refl
+pub part_printed : IsPrinted SpellsPart chunk_text
+part_printed = chunk_printed_of is_ascii_alphanumeric digit_alphanumeric
 
 pub release_sound : IsSound SpellsRelease (dotted_front chunk_front)
 release_sound = dotted_sound SpellsChunk chunk_front chunk_sound
 
 pub release_complete : IsComplete SpellsRelease (EndsList (EndsRun is_identifier_byte)) (dotted_front chunk_front)
 release_complete = dotted_complete SpellsChunk chunk_front (EndsRun is_identifier_byte) chunk_complete (λ text. refl)
+
+pub parts_sound : IsSound (SpellsDotted SpellsPart) (dotted_front part_front)
+parts_sound = dotted_sound SpellsPart part_front part_sound
+
+pub parts_complete : IsComplete (SpellsDotted SpellsPart) (EndsList (EndsRun is_ascii_alphanumeric)) (dotted_front part_front)
+parts_complete = dotted_complete SpellsPart part_front (EndsRun is_ascii_alphanumeric) part_complete (λ text. refl)
 
 pub metadata_sound : IsSound SpellsMetadata (run_front is_metadata_byte)
 metadata_sound text meta rest e =
@@ -114,16 +127,20 @@ pub metadata_complete : IsComplete SpellsMetadata (EndsRun is_metadata_byte) (ru
 metadata_complete piece meta rest s ends =
     rw s.0 (run_front-reads is_metadata_byte meta rest s.1 s.2 ends)
 
-pub chunk_printed : IsPrinted SpellsChunk chunk_text
-chunk_printed text (Numeric n) s = numeral_printed text n s
-chunk_printed text (Alphanum run) s = sym s.0
+-- a list prints its elements joined by dots
+pub dotted_printed : {X : Type 0} (Spells : List ℕ → X → Type 0) (text_of : X → List ℕ) → IsPrinted Spells text_of
+    → IsPrinted (SpellsDotted Spells) (λ xs. join_with_byte dot (map text_of xs))
+unfolding SpellsDotted
+dotted_printed Spells text_of printed text [] s = absurd s
+dotted_printed Spells text_of printed text (x ∷ []) s = printed text x s
+dotted_printed Spells text_of printed text (x ∷ y ∷ xs) s =
+    rw s.2 (rw (printed s.0 x s.3) (ap (λ (l : List ℕ). s.0 ++ dot ∷ l) (dotted_printed Spells text_of printed s.1 (y ∷ xs) s.4)))
 
 pub release_printed : IsPrinted SpellsRelease release_text
-unfolding SpellsDotted
-release_printed text [] s = absurd s
-release_printed text (x ∷ []) s = chunk_printed text x s
-release_printed text (x ∷ y ∷ xs) s =
-    rw s.2 (rw (chunk_printed s.0 x s.3) (ap (λ (l : List ℕ). s.0 ++ dot ∷ l) (release_printed s.1 (y ∷ xs) s.4)))
+release_printed = dotted_printed SpellsChunk chunk_text chunk_printed
+
+pub parts_printed : IsPrinted (SpellsDotted SpellsPart) release_text
+parts_printed = dotted_printed SpellsPart chunk_text part_printed
 
 -- a piece behind a byte, that may be absent
 module _ {X : Type 0} (mark : ℕ) (Spells : List ℕ → X → Type 0) (front : Front X) where

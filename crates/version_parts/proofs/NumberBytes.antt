@@ -76,7 +76,7 @@ length_writes = record {
 
 -- ---- digits
 
-abbrev digit_bytes : ℕ → List ℕ
+abbrev pub digit_bytes : ℕ → List ℕ
 digit_bytes n = map digit_char (digits_of 10 n)
 
 abbrev digit_count : ℕ → ℕ
@@ -88,7 +88,7 @@ digit_char-cmp a b h k =
     (along (48 + a) (48 + b) a b (ranks a b) (λ l. omega arith) (λ l. omega arith) (λ l. omega arith))
 
 -- the last digit of a number stands behind those of its tenth
-digit_bytes_step : (n : ℕ) (x : List ℕ) → 0 < n → digit_bytes n ++ x ≡ digit_bytes (n / 10) ++ (digit_char (n % 10) ∷ x)
+pub digit_bytes_step : (n : ℕ) (x : List ℕ) → 0 < n → digit_bytes n ++ x ≡ digit_bytes (n / 10) ++ (digit_char (n % 10) ∷ x)
 digit_bytes_step n x h =
     ap (λ ds. map digit_char ds ++ x) (digits_of_step 10 n (lit≤ tt) h)
     ∙ ap (λ ds. ds ++ x) (map-append digit_char (digits_of 10 (n / 10)) ((n % 10) ∷ []))
@@ -179,6 +179,13 @@ length_bytes-long n =
     let left : (255 + n) % 255 ≡ n % 255 = omega arith in
     rw (once_more, left) refl
 
+-- ---- the bytes of a number, by the text of its digits
+
+pub number_bytes-digits : (n : ℕ) (text : List ℕ) → digit_bytes n ≡ text → number_bytes n ≡ length_bytes (length text) ++ text
+number_bytes-digits n text same =
+    let counts : digit_count n ≡ length text = sym (length-map (digits_of 10 n) digit_char) ∙ ap length same in
+    λ i. length_bytes (counts i) ++ same i
+
 -- ---- the bytes of a number that fits a machine's, by what `decimal` writes
 
 pub number_bytes-zero : number_bytes 0 ≡ 0 ∷ []
@@ -187,8 +194,7 @@ number_bytes-zero = refl
 pub number_bytes-decimal : (n : ℕ) → 0 < n → n < 2 ^ 64 → number_bytes n ≡ length_bytes (length (decimal n)) ++ decimal n
 number_bytes-decimal n some small =
     let same : digit_bytes n ≡ decimal n = same_digits (digits_of 10 n) (all_below_base_digits_of 10 n (lit≤ tt)) ∙ sym (decimal-digits_of n some small) in
-    let counts : digit_count n ≡ length (decimal n) = sym (length-map (digits_of 10 n) digit_char) ∙ ap length same in
-    λ i. length_bytes (counts i) ++ same i
+    number_bytes-digits n (decimal n) same
   where
     same_digits : (ds : List ℕ) → AllBelowBase 10 ds → map digit_char ds ≡ map (λ d. 48 + d) ds
     same_digits [] h = refl

@@ -11,19 +11,10 @@ use Rattle.version_parts.specs.Numeral.{HasNoLeadingZero, SpellsNumeral, unsigne
 use Rattle.version_parts.specs.Reading.{EndsRun, IsComplete, IsPrinted, IsSound}
 use Rattle.version_parts.proofs.Dotted.{cases_Option}
 use Rattle.version_parts.proofs.Numerals.{digits_model}
-use Rattle.version_parts.proofs.RunFronts.{reads_run, run_front-reads}
+use Rattle.version_parts.proofs.RunFronts.{after_mark-Some, reads_run, run_front-reads}
 
 zero_numeral : SpellsNumeral (48 ∷ []) 0
 zero_numeral = record { digits = refl; canonical = tt; value = refl; fits = omega arith }
-
-after_zero : (text tail : List ℕ) → after_mark 48 text ≡ Some tail → text ≡ 48 ∷ tail
-after_zero [] tail e = cc e
-after_zero (b ∷ text) tail e = elim (cases_Bool (b == 48)) [
-  | inl same ↦
-      let rest : text ≡ tail = cc (rw same at e) in
-      rw (eqb-true b 48 same, rest) refl
-  | inr other ↦ cc (rw other at e)
-]
 
 no_leading_zero : (run rest : List ℕ) → after_mark 48 (run ++ rest) ≡ None → 0 < length run → HasNoLeadingZero run
 no_leading_zero [] rest e some = absurd (omega arith)
@@ -67,7 +58,7 @@ unsigned_sound text n rest e = elim (cases_Option (after_mark 48 text)) [
       let same : (0, begun.0) ≡ (n, rest) = cc (rw (unsigned-zero text begun.0 begun.1) at e) in
       let value : 0 ≡ n = ap (λ (p : ℕ × List ℕ). p.0) same in
       let left : begun.0 ≡ rest = ap (λ (p : ℕ × List ℕ). p.1) same in
-      (48 ∷ [], after_zero text begun.0 begun.1 ∙ ap (λ (l : List ℕ). 48 ∷ l) left, rw (← value) zero_numeral)
+      (48 ∷ [], after_mark-Some 48 text begun.0 begun.1 ∙ ap (λ (l : List ℕ). 48 ∷ l) left, rw (← value) zero_numeral)
 ]
 
 -- a numeral that begins with 0 is 0

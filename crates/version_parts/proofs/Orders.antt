@@ -13,6 +13,9 @@ use Rattle.version_parts.proofs.Worked.{worked_bytes, worked_order}
 use Rattle.version_parts.specs.OrderLaws.{equal_where_same}
 use Rattle.version_parts.specs.Chunk.{PlainChunk}
 use Rattle.version_parts.specs.PartKey.{PartKey, list_cmp, part_cmp}
+use Rattle.version_parts.specs.Last.{PlainLast}
+use Rattle.version_parts.specs.LastLaws.{last_total, lasts_same}
+use Rattle.version_parts.specs.LastOrder.{last_plain_cmp}
 use Rattle.version_parts.specs.ReleaseLaws.{chunk_total, chunks_same, release_total, releases_same}
 use Rattle.version_parts.specs.ReleaseOrder.{chunk_cmp, release_cmp}
 use Rattle.version_parts.specs.Split.{Split, split_cmp}
@@ -34,6 +37,9 @@ list_total = writes_total list_writes
 
 pub list_equal : (xs ys : List PartKey) → (list_cmp xs ys ≡ Equal) ↔ (xs ≡ ys)
 list_equal = equal_where_same list_total lists_same
+
+pub last_equal : (a b : PlainLast) → (last_plain_cmp a b ≡ Equal) ↔ (a ≡ b)
+last_equal = equal_where_same last_total lasts_same
 
 pub chunk_equal : (a b : PlainChunk) → (chunk_cmp a b ≡ Equal) ↔ (a ≡ b)
 chunk_equal = equal_where_same chunk_total chunks_same
@@ -62,6 +68,8 @@ pub ruleset laws = (
   list_total,
   list_equal,
   list_writes,
+  last_total,
+  last_equal,
   chunk_total,
   chunk_equal,
   release_total,

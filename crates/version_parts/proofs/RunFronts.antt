@@ -1,10 +1,20 @@
 -- What the front of a run reads, and that it reads each run that ends.
 use Rattle.std.proofs.Common.{◌≡◌, ◌≢◌, ◌==◌, ℕ, ◌<◌, Bool, true, false, List, [], ◌∷◌, ◌++◌, length, drop, Some, refl, sym, ap, ◌∙◌, arith, inl, inr, one-add}
-use Rattle.std.proofs.lemmas.Bool.{cases_Bool, eqb-false, ne_eqb}
+use Rattle.std.proofs.lemmas.Bool.{cases_Bool, eqb-false, eqb-true, ne_eqb}
 use Rattle.std.proofs.lemmas.List.{drop_at, take-append-drop, take_at}
 use Rattle.std.specs.Cmp.{first_so, second_so}
 use Rattle.std.specs.List.{list_all, prefix_len, take_while}
-use Rattle.version_parts.specs.Front.{begins, run_front, unless_empty}
+use Rattle.version_parts.specs.Front.{after_mark, begins, run_front, unless_empty}
+
+-- what stands behind a byte, where the text begins with it
+pub after_mark-Some : (mark : ℕ) (text tail : List ℕ) → after_mark mark text ≡ Some tail → text ≡ mark ∷ tail
+after_mark-Some mark [] tail e = cc e
+after_mark-Some mark (b ∷ text) tail e = elim (cases_Bool (b == mark)) [
+  | inl same ↦
+      let rest : text ≡ tail = cc (rw same at e) in
+      rw (eqb-true b mark same, rest) refl
+  | inr other ↦ cc (rw other at e)
+]
 
 -- the run and the rest that a front of a run gives
 pub record ReadsRun (test : ℕ → Bool) (text run rest : List ℕ) : Type 0 where
@@ -23,7 +33,7 @@ list_all-take_while test (b ∷ text) = elim (cases_Bool (test b)) [
   | inr fails ↦ rw fails refl
 ]
 
-begins-drop : (test : ℕ → Bool) (text : List ℕ) → begins test (drop (prefix_len test text) text) ≡ false
+pub begins-drop : (test : ℕ → Bool) (text : List ℕ) → begins test (drop (prefix_len test text) text) ≡ false
 begins-drop test [] = refl
 begins-drop test (b ∷ text) = elim (cases_Bool (test b)) [
   | inl passes ↦ rw (take_while-cons test b text passes).1 (begins-drop test text)

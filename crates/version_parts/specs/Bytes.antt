@@ -11,6 +11,15 @@ hyphen = 45
 abbrev pub dot : ℕ
 dot = 46
 
+abbrev pub colon : ℕ
+colon = 58
+
+abbrev pub underscore : ℕ
+underscore = 95
+
+abbrev pub tilde : ℕ
+tilde = 126
+
 -- a letter, a digit or a hyphen: what the identifiers of a release are made of (SemVer 2.0, section 9)
 abbrev pub is_identifier_byte : ℕ → Bool
 is_identifier_byte b = is_ascii_alphanumeric b || b == hyphen

@@ -1,18 +1,19 @@
--- Chunks of a release: a numeral, or a nonempty run of letters, digits and hyphens that isn't all digits
--- (SemVer 2.0, section 9).
-use Rattle.std.specs.Prelude.{◌≡◌, ◌++◌, ℕ, List, Some, true, false, drop, if◌then◌else◌}
-use Rattle.std.specs.Char.{is_ascii_digit}
+-- Chunks: a numeral, or a nonempty run of letters and digits that isn't all digits. In a release the run may have
+-- hyphens too (SemVer 2.0, section 9); in a general version, where chunks are also called parts, it has none.
+use Rattle.std.specs.Prelude.{◌≡◌, ◌++◌, ℕ, Bool, List, [], ◌∷◌, Option, Some, None, true, false, drop, if◌then◌else◌}
+use Rattle.std.specs.Char.{is_ascii_alphabetic, is_ascii_alphanumeric, is_ascii_digit}
 use Rattle.std.specs.Fmt.{decimal}
 use Rattle.std.specs.Hash as fed
 use Rattle.std.specs.Hash.{HashWrites}
 use Rattle.std.specs.List.{list_all, prefix_len, take_while}
+use Rattle.std.specs.Option.{option_map}
 use Rattle.std.specs.String.{string_bytes}
-use Rattle.version_parts.specs.declared.Chunk.{Chunk}
-use Rattle.version_parts.specs.declared.Chunk.TheVariants as owned
-use Rattle.version_parts.specs.declared.scan.ChunkPiece.{ChunkPiece}
-use Rattle.version_parts.specs.declared.scan.ChunkPiece.TheVariants as lent
+use Rattle.version_parts.specs.declared.chunk.Chunk.{Chunk}
+use Rattle.version_parts.specs.declared.chunk.Chunk.TheVariants as owned
+use Rattle.version_parts.specs.declared.chunk.ChunkPiece.{ChunkPiece}
+use Rattle.version_parts.specs.declared.chunk.ChunkPiece.TheVariants as lent
 use Rattle.version_parts.specs.Bytes.{is_identifier_byte}
-use Rattle.version_parts.specs.Front.{Front, map_value}
+use Rattle.version_parts.specs.Front.{◌>>=◌, Front, map_value}
 use Rattle.version_parts.specs.Numeral.{SpellsNumeral, unsigned_front}
 
 -- a chunk, apart from where its text lies
@@ -30,16 +31,32 @@ abbrev pub plain_piece : ChunkPiece → PlainChunk
 plain_piece (lent.Numeric n) = Numeric n
 plain_piece (lent.Alphanum text) = Alphanum text.now
 
--- the text spells the chunk
-abbrev pub SpellsChunk : List ℕ → PlainChunk → Type 0
-SpellsChunk text (Numeric n) = SpellsNumeral text n
-SpellsChunk text (Alphanum run) = (text ≡ run) × (list_all is_identifier_byte run ≡ true) × (list_all is_ascii_digit run ≡ false)
+-- the text spells the chunk, whose runs are of bytes that pass the test
+abbrev pub SpellsChunkOf : (ℕ → Bool) → List ℕ → PlainChunk → Type 0
+SpellsChunkOf test text (Numeric n) = SpellsNumeral text n
+SpellsChunkOf test text (Alphanum run) = (text ≡ run) × (list_all test run ≡ true) × (list_all is_ascii_digit run ≡ false)
 
--- the longest run of letters, digits and hyphens; where it is all digits, a number is read from the same place
-unfoldable pub chunk_front : Front PlainChunk
-chunk_front text = if list_all is_ascii_digit (take_while is_identifier_byte text)
+-- the text spells a chunk of a release
+abbrev pub SpellsChunk : List ℕ → PlainChunk → Type 0
+SpellsChunk = SpellsChunkOf is_identifier_byte
+
+-- the text spells a part of a general version: without hyphens
+abbrev pub SpellsPart : List ℕ → PlainChunk → Type 0
+SpellsPart = SpellsChunkOf is_ascii_alphanumeric
+
+-- the longest run of bytes that pass the test; where it is all digits, a number is read from the same place
+unfoldable pub chunk_front_of : (ℕ → Bool) → Front PlainChunk
+chunk_front_of test text = if list_all is_ascii_digit (take_while test text)
     then map_value Numeric (unsigned_front text)
-    else Some (Alphanum (take_while is_identifier_byte text), drop (prefix_len is_identifier_byte text) text)
+    else Some (Alphanum (take_while test text), drop (prefix_len test text) text)
+
+-- a chunk of a release: the run is of letters, digits and hyphens
+abbrev pub chunk_front : Front PlainChunk
+chunk_front = chunk_front_of is_identifier_byte
+
+-- a part of a general version: the run is of letters and digits
+abbrev pub part_front : Front PlainChunk
+part_front = chunk_front_of is_ascii_alphanumeric
 
 -- the printed text: the number in decimal, or the text
 abbrev pub chunk_text : PlainChunk → List ℕ
@@ -55,3 +72,27 @@ ChunkOwns (Alphanum text) = Unit {0}
 abbrev pub chunk_fed : PlainChunk → HashWrites
 chunk_fed (Numeric n) = fed.u8 0 ++ fed.u32 n
 chunk_fed (Alphanum text) = fed.u8 1 ++ fed.str text
+
+-- the number of a number
+abbrev pub number_of : PlainChunk → Option ℕ
+number_of (Numeric n) = Some n
+number_of (Alphanum text) = None
+
+-- the number at the front of a text
+abbrev pub front_number : List ℕ → Option ℕ
+front_number text = option_map (λ p. p.0) (unsigned_front text)
+
+-- the number of a number, or the one that a text begins with
+abbrev pub lenient_digits : PlainChunk → Option ℕ
+lenient_digits (Numeric n) = Some n
+lenient_digits (Alphanum text) = front_number text
+
+-- what stands behind the letter that a text begins with
+abbrev pub after_letter : List ℕ → Option (List ℕ)
+after_letter [] = None
+after_letter (b ∷ text) = if is_ascii_alphabetic b then Some text else None
+
+-- the number of a number, or the one behind the one letter that a text begins with
+abbrev pub digits_behind_letter : PlainChunk → Option ℕ
+digits_behind_letter (Numeric n) = Some n
+digits_behind_letter (Alphanum text) = after_letter text >>= front_number

@@ -1,5 +1,5 @@
 -- Codes: ways to write values as bytes, so that the bytes compare as the values do.
-use Rattle.std.specs.Prelude.{◌≡◌, ℕ, List, ◌++◌, Option}
+use Rattle.std.specs.Prelude.{◌≡◌, ℕ, List, ◌++◌, map, Option, Some}
 use Rattle.std.specs.List.{flat_map}
 use Rattle.std.specs.Ordering.{ordering_then}
 use Rattle.std.specs.declared.cmp.Ordering.{Ordering}
@@ -13,3 +13,7 @@ pub record Writes {A : Type 0} (R : A → A → Ordering) (code : A → List ℕ
 -- the bytes of a list: those of each item, then those of the end
 abbrev pub list_bytes : {A : Type 0} → (Option A → List ℕ) → List A → List ℕ
 list_bytes code xs = flat_map code (with_end xs)
+
+-- the bytes of each item of a list, without those of its end
+abbrev pub items_bytes : {A : Type 0} → (Option A → List ℕ) → List A → List ℕ
+items_bytes code xs = flat_map code (map Some xs)

@@ -1,5 +1,5 @@
 -- Fronts: what a reader reads at the front of a text, and the rest that it leaves; or nothing.
-use Rattle.std.specs.Prelude.{◌≡◌, Bool, false, ℕ, zero, suc, List, [], ◌∷◌, length, drop, Option, Some, None, Result, Ok, Err, IsSomeAnd, ◌==◌, if◌then◌else◌}
+use Rattle.std.specs.Prelude.{◌≡◌, Bool, false, ℕ, zero, suc, List, [], ◌∷◌, length, drop, Option, Some, None, Result, Ok, Err, IsSomeAnd, ◌==◌, ◌≤◌, if◌then◌else◌}
 use Rattle.std.specs.List.{prefix_len, take_while}
 use Rattle.std.specs.Option.{option_map, option_and_then, option_map_or}
 use Rattle.std.specs.declared.alloc.AllocError.{AllocError}
@@ -40,14 +40,22 @@ after_mark mark (b ∷ text) = if b == mark then Some text else None
 abbrev pub behind : {X : Type 0} → ℕ → Front X → Front X
 behind mark front text = after_mark mark text >>= front
 
+-- the value that a front reads, where it leaves no rest
+abbrev pub whole : {X : Type 0} → Option (X × List ℕ) → Option X
+whole read = read >>= λ p. if length p.1 == 0 then Some p.0 else None
+
 -- a piece that may be absent; one that can't be read is absent, and nothing of it is consumed
 unfoldable pub optional : {X : Type 0} → Front X → List ℕ → Option X × List ℕ
 optional front text = option_map_or (λ p. (Some p.0, p.1)) (front text) (None, text)
 
+-- items one behind another, as long as they can be read, and n at most
+unfoldable pub repeated : {X : Type 0} → Front X → ℕ → List ℕ → List X × List ℕ
+repeated front zero text = ([], text)
+repeated front (suc n) text = option_map_or (λ p. (p.0 ∷ (repeated front n p.1).0, (repeated front n p.1).1)) (front text) ([], text)
+
 -- further elements, each behind a dot, as long as they can be read, and n at most
-unfoldable pub further : {X : Type 0} → Front X → ℕ → List ℕ → List X × List ℕ
-further front zero text = ([], text)
-further front (suc n) text = option_map_or (λ p. (p.0 ∷ (further front n p.1).0, (further front n p.1).1)) (behind dot front text) ([], text)
+abbrev pub further : {X : Type 0} → Front X → ℕ → List ℕ → List X × List ℕ
+further front = repeated (behind dot front)
 
 -- one element or more, joined by dots; it stops before a dot behind which no element can be read
 unfoldable pub dotted_front : {X : Type 0} → Front X → Front (List X)
@@ -55,6 +63,14 @@ dotted_front front text = do
   first ← front text
   let others = further front (length first.1) first.1
   Some (first.0 ∷ others.0, others.1)
+
+-- the elements of the list at the front of a text, where there is one
+abbrev pub elements_at : {X : Type 0} → Front X → List ℕ → List X
+elements_at front text = option_map_or (λ p. p.0) (dotted_front front text) []
+
+-- what a front leaves is no longer than the text
+abbrev pub Consumes : {X : Type 0} → Front X → Type 0
+Consumes {X} front = (text : List ℕ) (x : X) (rest : List ℕ) → front text ≡ Some (x, rest) → length rest ≤ length text
 
 -- What a reader answered, seen by view: what the front gives. It wants memory only where the front gives a value
 -- that owns some.

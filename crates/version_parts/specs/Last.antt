@@ -1,7 +1,21 @@
 -- The last part of a general version: a number, a release candidate such as `3rc1`, a post-release such as `3p2`,
 -- or any other text.
-use Rattle.std.specs.Prelude.{ℕ, List, ◌++◌}
+use Rattle.std.specs.Prelude.{◌≡◌, ◌<◌, ◌==◌, ℕ, List, length, ◌++◌, Option, Some, None, true, if◌then◌else◌, unwrap_or}
+use Rattle.std.specs.Char.{is_ascii_alphabetic}
 use Rattle.std.specs.Fmt.{decimal}
+use Rattle.std.specs.Hash as fed
+use Rattle.std.specs.Hash.{HashWrites}
+use Rattle.std.specs.List.{list_all}
+use Rattle.std.specs.Option.{option_map}
+use Rattle.std.specs.String.{string_bytes}
+use Rattle.version_parts.specs.declared.last.Last.{Last}
+use Rattle.version_parts.specs.declared.last.Last.TheVariants as owned
+use Rattle.version_parts.specs.declared.last.LastPiece.{LastPiece}
+use Rattle.version_parts.specs.declared.last.LastPiece.TheVariants as lent
+use Rattle.version_parts.specs.Chunk.{PlainChunk}
+use Rattle.version_parts.specs.Chunk as chunk
+use Rattle.version_parts.specs.Front.{◌>>=◌, run_front, whole}
+use Rattle.version_parts.specs.Numeral.{SpellsNumeral, unsigned_front}
 
 -- a last part, apart from where its text lies
 pub data PlainLast : Type 0 where
@@ -10,9 +24,87 @@ pub data PlainLast : Type 0 where
   Post : ℕ → List ℕ → PlainLast
   Alphanum : List ℕ → PlainLast
 
+-- the last part that a value holds
+abbrev pub plain_last : Last → PlainLast
+plain_last (owned.Numeric n) = Numeric n
+plain_last (owned.Rc a text b) = Rc a (string_bytes text) b
+plain_last (owned.Post a text) = Post a (string_bytes text)
+plain_last (owned.Alphanum text) = Alphanum (string_bytes text)
+
+-- the last part that was scanned
+abbrev pub plain_last_piece : LastPiece → PlainLast
+plain_last_piece (lent.Numeric n) = Numeric n
+plain_last_piece (lent.Rc a text b) = Rc a text.now b
+plain_last_piece (lent.Post a text) = Post a text.now
+plain_last_piece (lent.Alphanum text) = Alphanum text.now
+
+-- one letter or more, and nothing else
+abbrev pub IsLetters : List ℕ → Type 0
+IsLetters text = (list_all is_ascii_alphabetic text ≡ true) × (0 < length text)
+
+-- the text is a numeral, letters and a numeral
+abbrev pub SpellsRc : List ℕ → ℕ → List ℕ → ℕ → Type 0
+SpellsRc text a letters b = (first last : List ℕ) × (text ≡ first ++ (letters ++ last)) × SpellsNumeral first a × IsLetters letters × SpellsNumeral last b
+
+-- the text is a numeral and letters
+abbrev pub SpellsPost : List ℕ → ℕ → List ℕ → Type 0
+SpellsPost text a letters = (first : List ℕ) × (text ≡ first ++ letters) × SpellsNumeral first a × IsLetters letters
+
+-- the text is neither
+pub record IsOther (text : List ℕ) : Type 0 where
+  pub not_rc : (a : ℕ) (letters : List ℕ) (b : ℕ) → ¬ (SpellsRc text a letters b)
+  pub not_post : (a : ℕ) (letters : List ℕ) → ¬ (SpellsPost text a letters)
+
+-- a part that stands last is this last part: a number is itself, and a text is taken apart where it is a numeral and
+-- letters, with or without a numeral behind them
+abbrev pub IsLastOf : PlainChunk → PlainLast → Type 0
+IsLastOf (chunk.Numeric n) (Numeric m) = n ≡ m
+IsLastOf (chunk.Alphanum text) (Rc a letters b) = SpellsRc text a letters b
+IsLastOf (chunk.Alphanum text) (Post a letters) = SpellsPost text a letters
+IsLastOf (chunk.Alphanum text) (Alphanum same) = (text ≡ same) × IsOther text
+IsLastOf (chunk.Numeric n) _ = ⊥
+IsLastOf (chunk.Alphanum text) (Numeric m) = ⊥
+
+-- a numeral and letters, read from the front, and then nothing or a numeral
+unfoldable pub numbered_last : List ℕ → Option PlainLast
+numbered_last text = do
+  number ← unsigned_front text
+  letters ← run_front is_ascii_alphabetic number.1
+  if length letters.1 == 0 then Some (Post number.0 letters.0) else option_map (Rc number.0 letters.0) (whole (unsigned_front letters.1))
+
+-- the last part that a part is
+abbrev pub last_of : PlainChunk → PlainLast
+last_of (chunk.Numeric n) = Numeric n
+last_of (chunk.Alphanum text) = unwrap_or (numbered_last text) (Alphanum text)
+
 -- the printed text: numbers in decimal and texts as they are, without anything between
 abbrev pub last_text : PlainLast → List ℕ
 last_text (Numeric n) = decimal n
 last_text (Rc a text b) = decimal a ++ text ++ decimal b
 last_text (Post a text) = decimal a ++ text
 last_text (Alphanum text) = text
+
+-- a last part that is taken apart
+abbrev pub IsNumbered : PlainLast → Type 0
+IsNumbered (Rc a text b) = Unit {0}
+IsNumbered (Post a text) = Unit {0}
+IsNumbered _ = ⊥
+
+-- a last part with a text owns memory
+abbrev pub LastOwns : PlainLast → Type 0
+LastOwns (Numeric n) = ⊥
+LastOwns _ = Unit {0}
+
+-- the first number of a last part, if it begins with one
+abbrev pub first_number : PlainLast → Option ℕ
+first_number (Numeric n) = Some n
+first_number (Rc a text b) = Some a
+first_number (Post a text) = Some a
+first_number (Alphanum text) = None
+
+-- what a hash is fed with: which variant it is, and what that holds
+abbrev pub last_fed : PlainLast → HashWrites
+last_fed (Numeric n) = fed.u8 0 ++ fed.u32 n
+last_fed (Rc a text b) = fed.u8 1 ++ (fed.u32 a ++ (fed.str text ++ fed.u32 b))
+last_fed (Post a text) = fed.u8 2 ++ (fed.u32 a ++ fed.str text)
+last_fed (Alphanum text) = fed.u8 3 ++ fed.str text

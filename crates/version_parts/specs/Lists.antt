@@ -1,5 +1,6 @@
 -- Orders of lists and of options, made from an order of the items.
 use Rattle.std.specs.Prelude.{ℕ, List, [], ◌∷◌, ◌++◌, map, Option, Some, None}
+use Rattle.std.specs.Option.{option_map_or}
 use Rattle.std.specs.Ordering.{nat_cmp, on}
 use Rattle.std.specs.declared.cmp.Ordering.{Ordering}
 use Rattle.std.specs.declared.cmp.Ordering.TheVariants.{Less, Equal, Greater}
@@ -16,6 +17,11 @@ with_end xs = map Some xs ++ None ∷ []
 -- two lists, under an order that ranks the end among the items: the first place where they differ decides
 abbrev pub ended_cmp : {A : Type 0} → (Option A → Option A → Ordering) → List A → List A → Ordering
 ended_cmp R = on with_end (slice_cmp R)
+
+-- the items before the last one, and the last one
+abbrev pub split_last : {A : Type 0} → List A → Option (List A × A)
+split_last [] = None
+split_last (x ∷ xs) = Some (option_map_or (λ p. (x ∷ p.0, p.1)) (split_last xs) ([], x))
 
 -- two options: none is above every value
 abbrev pub none_last_cmp : {A : Type 0} → (A → A → Ordering) → Option A → Option A → Ordering

@@ -7,9 +7,18 @@ use Rattle.version_parts.specs.Front.{Front, begins}
 abbrev pub IsSound : {X : Type 0} → (List ℕ → X → Type 0) → Front X → Type 0
 IsSound {X} Spells front = (text : List ℕ) (x : X) (rest : List ℕ) → front text ≡ Some (x, rest) → (piece : List ℕ) × (text ≡ piece ++ rest) × Spells piece x
 
+-- the same, where what follows is so
+abbrev pub IsSoundBefore : {X : Type 0} → (List ℕ → Type 0) → (List ℕ → X → Type 0) → Front X → Type 0
+IsSoundBefore {X} Follows Spells front = (text : List ℕ) (x : X) (rest : List ℕ) → front text ≡ Some (x, rest) → Follows rest
+    → (piece : List ℕ) × (text ≡ piece ++ rest) × Spells piece x
+
 -- what prints a value prints the text that spells it
 abbrev pub IsPrinted : {X : Type 0} → (List ℕ → X → Type 0) → (X → List ℕ) → Type 0
 IsPrinted {X} Spells text_of = (text : List ℕ) (x : X) → Spells text x → text_of x ≡ text
+
+-- what is read prints the text up to the rest
+abbrev pub IsKept : {X : Type 0} → (X → List ℕ) → Front X → Type 0
+IsKept {X} text_of front = (text : List ℕ) (x : X) (rest : List ℕ) → front text ≡ Some (x, rest) → text ≡ text_of x ++ rest
 
 -- what follows doesn't go on with a run of the bytes that pass the test
 abbrev pub EndsRun : (ℕ → Bool) → List ℕ → Type 0

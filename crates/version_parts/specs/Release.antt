@@ -1,10 +1,9 @@
 -- Releases: one chunk or more, joined by dots (SemVer 2.0, section 9).
-use Rattle.std.specs.Prelude.{ℕ, List, [], map}
+use Rattle.std.specs.Prelude.{ℕ, List, map}
 use Rattle.std.specs.Hash as fed
 use Rattle.std.specs.Hash.{HashWrites}
 use Rattle.std.specs.List.{join_with_byte}
-use Rattle.std.specs.Option.{option_map_or}
-use Rattle.version_parts.specs.declared.Release.{Release}
+use Rattle.version_parts.specs.declared.release.Release.{Release}
 use Rattle.version_parts.specs.Bytes.{dot, hyphen}
 use Rattle.version_parts.specs.Chunk.{PlainChunk, SpellsChunk, chunk_fed, chunk_front, chunk_text, plain_chunk}
 use Rattle.version_parts.specs.Front.{Front, behind, dotted_front}
@@ -21,10 +20,6 @@ SpellsRelease = SpellsDotted SpellsChunk
 -- a hyphen, and the chunks behind it
 abbrev pub release_front : Front (List PlainChunk)
 release_front = behind hyphen (dotted_front chunk_front)
-
--- the chunks at the front of a text, where there are any
-abbrev pub chunks_at : List ℕ → List PlainChunk
-chunks_at text = option_map_or (λ p. p.0) (dotted_front chunk_front text) []
 
 -- the printed text: the chunks joined by dots
 abbrev pub release_text : List PlainChunk → List ℕ

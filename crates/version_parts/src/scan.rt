@@ -1,26 +1,26 @@
 //! Scans: what a reader reads, as pieces of its input, without memory. The crate of the kinds stands on them.
 
-ghost use Rattle.std.specs.Prelude.{◌≡◌, ◌≤◌, ◌<◌, ◌^◌, ◌+◌, ℕ, List, drop, length, true, IfOk, IsSome, OnErr, SomeIff};
+ghost use Rattle.std.specs.Prelude.{◌≡◌, ◌<◌, ◌^◌, ◌++◌, ◌∷◌, [], List, drop, length, map, take, true, IfOk, IfSome, OnErr, Some, SomeIff};
 ghost use Rattle.std.specs.Option.{option_map};
 ghost use Rattle.std.specs.Char.{is_ascii_digit};
 ghost use Rattle.std.specs.List.{list_all, prefix_len, take_while};
 ghost use Rattle.std.specs.Str.Parse.{digits_value};
 ghost use Rattle.version_parts.specs.Bytes.{dot};
-ghost use Rattle.version_parts.specs.Chunk.{chunk_front, plain_chunk, plain_piece, ChunkOwns, PlainChunk};
 ghost use Rattle.version_parts.specs.Class.{contains};
-ghost use Rattle.version_parts.specs.Front.{after_mark, behind, dotted_front, further, run_front};
+ghost use Rattle.version_parts.specs.Front.{after_mark, behind, dotted_front, elements_at, run_front, Consumes, Front, Reads};
+ghost use Rattle.version_parts.specs.Lists.{split_last};
 ghost use Rattle.version_parts.specs.Metadata.{meta_front};
 ghost use Rattle.version_parts.specs.Numeral.{unsigned_front};
-ghost use Rattle.version_parts.specs.Release.{chunks_at, plain_release, release_front};
+ghost use Rattle.version_parts.specs.Sep.{plain_sep, sep_front};
 
-use crate::{Chunk, Release};
+use crate::sep::Sep;
 use std::alloc::{AllocError, Global};
-use std::marker::Model;
 
 /// A class of bytes that a run is made of.
 #[derive(Clone, Copy)]
 pub(crate) enum Class {
     Digit,
+    Letter,
     Alphanumeric,
     Identifier,
     Metadata,
@@ -33,6 +33,7 @@ impl Class {
     {
         match self {
             Class::Digit => byte.is_ascii_digit(),
+            Class::Letter => byte.is_ascii_alphabetic(),
             Class::Alphanumeric => byte.is_ascii_alphanumeric(),
             Class::Identifier => byte.is_ascii_alphanumeric() || byte == b'-',
             Class::Metadata => byte.is_ascii_alphanumeric() || byte == b'-' || byte == b'.',
@@ -42,7 +43,7 @@ impl Class {
 
 // How long the longest run of a class at the front of a text is.
 #[inline(always)]
-fn run_len(bytes: &[u8], class: Class) -> usize
+pub(crate) fn run_len(bytes: &[u8], class: Class) -> usize
     ensures { result ≡ prefix_len (contains class) bytes.now }
 {
     for (n, byte) in bytes.iter().enumerate() {
@@ -55,7 +56,7 @@ fn run_len(bytes: &[u8], class: Class) -> usize
 
 // The longest run of a class at the front of a text, which may be empty, and the rest.
 #[inline(always)]
-fn split_run(i: &str, class: Class) -> (&str, &str)
+pub(crate) fn split_run(i: &str, class: Class) -> (&str, &str)
     ensures run { result.0.now ≡ take_while (contains class) i.now }
     ensures rest { result.1.now ≡ drop (prefix_len (contains class) i.now) i.now }
 {
@@ -64,7 +65,7 @@ fn split_run(i: &str, class: Class) -> (&str, &str)
 
 // Whether a text has nothing but digits.
 #[inline(always)]
-fn is_all_digits(text: &str) -> bool
+pub(crate) fn is_all_digits(text: &str) -> bool
     ensures { result ≡ list_all is_ascii_digit text.now }
 {
     text.as_bytes().iter().all(|byte| byte.is_ascii_digit())
@@ -108,7 +109,7 @@ pub fn unsigned(i: &str) -> Option<(u32, &str)>
 }
 
 // The value of a run of digits, if it is below 2 ^ 32.
-fn value_of(digits: &str) -> Option<u32>
+pub(crate) fn value_of(digits: &str) -> Option<u32>
     requires some { 0 < length digits.now }
     requires all { list_all is_ascii_digit digits.now ≡ true }
     ensures { SomeIff result (digits_value 10 digits.now < 2 ^ 32) (digits_value 10 digits.now) }
@@ -123,102 +124,101 @@ pub fn metadata(i: &str) -> Option<(&str, &str)>
     nonempty_run(after_mark(i, b'+')?, Class::Metadata)
 }
 
-/// A chunk that was scanned, with its text still in the input.
+/// The sign at the front of a text, and the rest. Takes no memory.
+pub fn sign(i: &str) -> Option<(Sep, &str)>
+    ensures { option_map (λ r. (plain_sep r.0, r.1.now)) result ≡ sep_front i.now }
+{
+    match i.as_bytes() {
+        [first, ..] => Some((Sep::of(*first)?, i.split_at(1).1)),
+        _ => None,
+    }
+}
+
+/// A kind of element that a dotted list is made of.
+pub trait Element {
+    /// What an element is built into.
+    type Item: Drop;
+
+    // An element apart from where its text lies, its front, and which elements own memory.
+    ghost Plain: { Type 0 };
+
+    ghost plain: { Self.Item → Plain };
+
+    ghost front: { Front Plain };
+
+    ghost owns: { Plain → Type 0 };
+
+    /// What stands behind the element at the front of a text. Takes no memory.
+    fn skip(i: &str) -> Option<&str>
+        ensures { option_map (λ r. r.now) result ≡ option_map (λ p. p.1) (front i.now) };
+
+    /// The element at the front of a text, and the rest. None takes no memory; the error is that there is no memory
+    /// for an element that owns some.
+    fn read(alloc: Global, i: &str) -> Result<Option<(Self::Item, &str)>, AllocError>
+        ensures { Reads plain owns result (front i.now) };
+
+    // What is left is no longer than the text.
+    ghost consumes: { Consumes front };
+}
+
+/// A dotted list that was scanned, with its elements still in the input.
 #[derive(Clone, Copy)]
-pub enum ChunkPiece<'a> {
-    Numeric(u32),
-    Alphanum(&'a str),
+pub struct Dotted<'a> {
+    /// The text from the first element on.
+    pub text: &'a str,
+    /// How many elements are read there.
+    pub count: usize,
+    /// The text from the last of them on.
+    pub last: &'a str,
 }
 
-impl<'a> ChunkPiece<'a> {
-    /// The chunk at the front of a text, and the rest. Takes no memory.
-    #[tactic(auto, unfolding(crate::specs::Chunk::chunk_front))]
-    pub fn scan(i: &'a str) -> Option<(ChunkPiece<'a>, &'a str)>
-        ensures { option_map (λ r. (plain_piece r.0, r.1.now)) result ≡ chunk_front i.now }
+impl<'a> Dotted<'a> {
+    /// The dotted list of one element or more at the front of a text, and the rest. It stops before a dot behind
+    /// which no element can be read. Takes no memory.
+    pub fn scan<E: Element>(i: &'a str) -> Option<(Dotted<'a>, &'a str)>
+        ensures elements { option_map (λ r. (elements_at E.front r.0.text.now, r.1.now)) result ≡ dotted_front E.front i.now }
+        ensures counted { IfSome result (λ r. r.0.count ≡ length (elements_at E.front r.0.text.now)) }
+        ensures last { IfSome result (λ r. (parts : List E.Plain × E.Plain)
+            × (split_last (elements_at E.front r.0.text.now) ≡ Some parts) × (E.front r.0.last.now ≡ Some (parts.1, r.1.now))) }
     {
-        let (run, rest) = split_run(i, Class::Identifier);
-        if !is_all_digits(run) {
-            return Some((ChunkPiece::Alphanum(run), rest));
-        }
-        let (number, rest) = unsigned(i)?;
-        Some((ChunkPiece::Numeric(number), rest))
-    }
-
-    /// The chunk with a text of its own. A number takes no memory.
-    pub fn build(self, alloc: Global) -> Result<Chunk, AllocError>
-        ensures ok { IfOk result (λ chunk. plain_chunk chunk ≡ plain_piece self.entry) }
-        ensures err { OnErr result (ChunkOwns (plain_piece self.entry)) }
-    {
-        match self {
-            ChunkPiece::Numeric(number) => Ok(Chunk::Numeric(number)),
-            ChunkPiece::Alphanum(text) => Ok(Chunk::Alphanum(String::from_str(alloc, text)?)),
-        }
-    }
-}
-
-/// A release that was scanned, with its chunks still in the input.
-#[derive(Drop)]
-pub struct ReleasePiece<'a> {
-    // The text from the first chunk on, and how many chunks are read there.
-    text: &'a str,
-    count: usize,
-}
-
-impl<'a> Model for ReleasePiece<'a> {
-    ghost Value = { List PlainChunk };
-
-    ghost view = { λ r. chunks_at r.text.now };
-
-    ghost invariant = { λ r. IsSome (dotted_front chunk_front r.text.now) × (r.count ≡ length (chunks_at r.text.now)) };
-}
-
-impl<'a> ReleasePiece<'a> {
-    /// The release at the front of a text, and the rest. Takes no memory.
-    pub fn scan(i: &'a str) -> Option<(ReleasePiece<'a>, &'a str)>
-        ensures { option_map (λ r. (r.0, r.1.now)) result ≡ release_front i.now }
-    {
-        let text = after_mark(i, b'-')?;
-        let (_, after) = ChunkPiece::scan(text)?;
-        let (others, rest) = skip_further(after);
-        let count = others + 1;
-        Some((ReleasePiece { text, count }, rest))
-    }
-
-    /// The release with chunks of its own.
-    pub fn build(self, alloc: Global) -> Result<Release, AllocError>
-        ensures { IfOk result (λ release. plain_release release ≡ self.entry) }
-    {
-        let mut chunks = Vec::with_capacity(alloc, self.count)?;
-        let Some((first, mut rest)) = ChunkPiece::scan(self.text) else {
-            unreachable!()
-        };
-        chunks.push(first.build(alloc)?)?;
-        while let Some((piece, after)) = scan_further(rest) {
-            chunks.push(piece.build(alloc)?)?;
+        let mut rest = E::skip(i)?;
+        let mut count = 1;
+        let mut last = i;
+        while let Some((next, after)) = skip_further::<E>(rest) {
+            count += 1;
+            last = next;
             rest = after;
         }
-        Ok(Release(chunks))
+        let text = i;
+        Some((Dotted { text, count, last }, rest))
+    }
+
+    /// The first `count` of the elements, in a list of that capacity.
+    pub fn build<E: Element>(self, alloc: Global, count: usize) -> Result<Vec<E::Item>, AllocError>
+        ensures ok { IfOk result (λ items. map E.plain items.items ≡ take count (elements_at E.front self.entry.text.now)) }
+        ensures err { OnErr result (0 < count) }
+    {
+        let mut items = Vec::with_capacity(alloc, count)?;
+        let mut text = self.text;
+        while items.len() < count {
+            let Some((item, rest)) = E::read(alloc, text)? else {
+                return Ok(items);
+            };
+            items.push(item)?;
+            let Some(next) = after_mark(rest, b'.') else {
+                return Ok(items);
+            };
+            text = next;
+        }
+        Ok(items)
     }
 }
 
-// The chunk behind a dot at the front of a text, and the rest.
-fn scan_further(i: &str) -> Option<(ChunkPiece<'_>, &str)>
-    ensures { option_map (λ r. (plain_piece r.0, r.1.now)) result ≡ behind dot chunk_front i.now }
+// The text from the element behind a dot on, and what stands behind that element.
+fn skip_further<E: Element>(i: &str) -> Option<(&str, &str)>
+    ensures next { IfSome result (λ r. after_mark dot i.now ≡ Some r.0.now) }
+    ensures after { option_map (λ r. r.1.now) result ≡ option_map (λ p. p.1) (behind dot E.front i.now) }
 {
-    ChunkPiece::scan(after_mark(i, b'.')?)
-}
-
-// How many further chunks are at the front of a text, each behind a dot, and the rest.
-fn skip_further(i: &str) -> (usize, &str)
-    ensures count { result.0 ≡ length (further chunk_front (length i.now) i.now).0 }
-    ensures rest { result.1.now ≡ (further chunk_front (length i.now) i.now).1 }
-    ensures fits { result.0 + length result.1.now ≤ length i.now }
-{
-    let mut rest = i;
-    let mut count = 0;
-    while let Some((_, after)) = scan_further(rest) {
-        rest = after;
-        count += 1;
-    }
-    (count, rest)
+    let next = after_mark(i, b'.')?;
+    Some((next, E::skip(next)?))
 }

@@ -15,12 +15,17 @@ use Rattle.versions.proofs.Texts.{keys_are_bytes, versions_are_bytes}
 use Rattle.versions.proofs.Worked.{worked_keys}
 use Rattle.versions.specs.Key.{Key, key_of_semver, key_of_version, precedence, sections_tail}
 use Rattle.versions.specs.KeyBytes.{key_bytes}
-use Rattle.versions.specs.Mess.{PlainSep}
+use Rattle.versions.specs.Mess.{PlainMess, PlainSep, mess_plain_cmp}
+use Rattle.versions.specs.MessLaws.{mess_total, messes_same}
+use Rattle.versions.specs.Versioning.{PlainVersioning, Ideal, General, Complex, SameVersioning, versioning_plain_cmp}
+use Rattle.versions.specs.VersioningLaws.{versioning_plain_total}
 use Rattle.versions.specs.SemVer.{PlainSemVer}
 use Rattle.versions.specs.SemVerOrder.{SameButMetadata, semver_cmp}
 use Rattle.versions.specs.SemVerLaws.{same_tied, semver_total, tied_same}
 use Rattle.versions.specs.Tail.{Tail, sections_cmp, tail_cmp}
 use Rattle.versions.specs.Version.{PlainVersion}
+use Rattle.versions.specs.VersionLaws.{version_plain_total, versions_same}
+use Rattle.versions.specs.VersionOrder.{version_plain_cmp}
 
 pub sections_total : IsTotalOrder sections_cmp
 sections_total = writes_total sections_writes
@@ -55,6 +60,23 @@ key_bytes_apart k l x y differ = key_writes.compares k l x y ∙ then_decided (p
 pub no_key_begins_another : (k l : Key) (x y : List ℕ) → key_bytes k ++ x ≡ key_bytes l ++ y → k ≡ l
 no_key_begins_another = writes_no_prefix keys_same key_writes
 
+pub version_equal : (a b : PlainVersion) → (version_plain_cmp a b ≡ Equal) ↔ (a ≡ b)
+version_equal = equal_where_same version_plain_total versions_same
+
+pub mess_equal : (a b : PlainMess) → (mess_plain_cmp a b ≡ Equal) ↔ (a ≡ b)
+mess_equal = equal_where_same mess_total messes_same
+
+pub versioning_equal : (a b : PlainVersioning) → (versioning_plain_cmp a b ≡ Equal) ↔ SameVersioning a b
+versioning_equal (Ideal a) (Ideal b) = (tied_same a b, same_tied a b)
+versioning_equal (General a) (General b) = version_equal a b
+versioning_equal (Complex a) (Complex b) = mess_equal a b
+versioning_equal (Ideal a) (General b) = (λ e. cc e, λ s. absurd s)
+versioning_equal (Ideal a) (Complex b) = (λ e. cc e, λ s. absurd s)
+versioning_equal (General a) (Ideal b) = (λ e. cc e, λ s. absurd s)
+versioning_equal (General a) (Complex b) = (λ e. cc e, λ s. absurd s)
+versioning_equal (Complex a) (Ideal b) = (λ e. cc e, λ s. absurd s)
+versioning_equal (Complex a) (General b) = (λ e. cc e, λ s. absurd s)
+
 pub semver_equal : (a b : PlainSemVer) → (semver_cmp a b ≡ Equal) ↔ SameButMetadata a b
 semver_equal a b = (tied_same a b, same_tied a b)
 
@@ -84,6 +106,12 @@ pub ruleset laws = (
   key_bytes_apart,
   no_key_begins_another,
   precedence_of_semvers,
+  version_plain_total,
+  version_equal,
+  mess_total,
+  mess_equal,
+  versioning_plain_total,
+  versioning_equal,
   semver_total,
   semver_equal,
   keys_are_bytes,

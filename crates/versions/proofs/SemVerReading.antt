@@ -1,8 +1,6 @@
 -- Strict versions: their front reads what is spelled and nothing else, and they print as they are spelled.
-use Rattle.std.proofs.Common.{◌≡◌, IsSome, arith, ◌==◌, ℕ, Bool, false, List, [], ◌∷◌, ◌++◌, length, Option, Some, None, refl, sym, ap, subst, ◌∙◌, inl, inr, append-nil, append_assoc}
-use Rattle.std.proofs.lemmas.Bool.{cases_Bool, eqb-true, false≢true}
-use Rattle.std.proofs.lemmas.List.{nil_from_length}
-use Rattle.std.proofs.lemmas.Str.{IsAscii-append, IsUtf8-from_ascii}
+use Rattle.std.proofs.Common.{◌≡◌, IsSome, arith, ◌==◌, ℕ, Bool, false, List, [], ◌∷◌, ◌++◌, Option, Some, None, refl, sym, ap, subst, ◌∙◌, inl, inr, append-nil, append_assoc}
+use Rattle.std.proofs.lemmas.Str.{IsAscii-append}
 use Rattle.std.specs.Char.{is_ascii_digit}
 use Rattle.std.specs.Str.{IsAscii, IsUtf8}
 use Rattle.version_parts.specs.Bytes.{dot, hyphen, is_identifier_byte, is_metadata_byte, plus}
@@ -17,7 +15,8 @@ use Rattle.version_parts.proofs.Ascii.{IsAscii-cons, spelled_metadata_ascii, spe
 use Rattle.version_parts.proofs.ChunkReading.{metadata_complete, metadata_sound, optional_complete, optional_sound, release_complete, release_printed, release_sound}
 use Rattle.version_parts.proofs.Dotted.{behind-Some, cases_Option}
 use Rattle.version_parts.proofs.NumeralReading.{numeral_printed, unsigned_complete, unsigned_sound}
-use Rattle.versions.specs.SemVer.{PlainSemVer, SpellsSemVer, optional_text, semver_front, semver_of, semver_text, whole}
+use Rattle.version_parts.proofs.WholeReading.{read_whole, spelled_once, spelled_utf8, whole_read, whole_spelled}
+use Rattle.versions.specs.SemVer.{PlainSemVer, SpellsSemVer, optional_text, plain_semver, semver_front, semver_of, semver_text}
 
 -- what the front gives behind three numbers
 semver_front-Some : (text : List ℕ) (major minor patch : ℕ × List ℕ) → unsigned_front text ≡ Some major → behind dot unsigned_front major.1 ≡ Some minor
@@ -91,7 +90,7 @@ semver_sound text v rest e =
     subst (λ (p : PlainSemVer × List ℕ). (x : List ℕ) × (text ≡ x ++ p.1) × SpellsSemVer x p.0) same (piece, in_pieces, spelled)
 
 -- what stands behind an optional piece begins with its mark, or is what follows it
-optional_begins : {X : Type 0} (mark : ℕ) (Spells : List ℕ → X → Type 0) (test : ℕ → Bool) (piece : List ℕ) (o : Option X) (rest : List ℕ)
+pub optional_begins : {X : Type 0} (mark : ℕ) (Spells : List ℕ → X → Type 0) (test : ℕ → Bool) (piece : List ℕ) (o : Option X) (rest : List ℕ)
     → SpellsOptional mark Spells piece o → test mark ≡ false → begins test rest ≡ false → begins test (piece ++ rest) ≡ false
 unfolding SpellsOptional
 optional_begins mark Spells test piece None rest s other ends = rw s ends
@@ -119,17 +118,13 @@ semver_complete text v s =
 
 -- a text spells one version at most
 pub semver_unique : (text : List ℕ) (v w : PlainSemVer) → SpellsSemVer text v → SpellsSemVer text w → v ≡ w
-semver_unique text v w s t =
-    let same : (v, []) ≡ (w, []) = cc (sym (semver_complete text v s) ∙ semver_complete text w t) in
-    ap (λ (p : PlainSemVer × List ℕ). p.0) same
+semver_unique = spelled_once SpellsSemVer semver_front semver_sound semver_complete
 
 -- a front without rest is the whole text
 pub semver_whole : (text : List ℕ) (v : PlainSemVer) → semver_front text ≡ Some (v, []) → SpellsSemVer text v
-semver_whole text v e =
-    let read = semver_sound text v [] e in
-    subst (λ (t : List ℕ). SpellsSemVer t v) (sym (read.1 ∙ append-nil read.0)) read.2
+semver_whole = whole_spelled SpellsSemVer semver_front semver_sound semver_complete
 
-optional_printed : {X : Type 0} (mark : ℕ) (Spells : List ℕ → X → Type 0) (text_of : X → List ℕ) → IsPrinted Spells text_of
+pub optional_printed : {X : Type 0} (mark : ℕ) (Spells : List ℕ → X → Type 0) (text_of : X → List ℕ) → IsPrinted Spells text_of
     → (text : List ℕ) (o : Option X) → SpellsOptional mark Spells text o → optional_text mark text_of o ≡ text
 unfolding SpellsOptional
 optional_printed mark Spells text_of printed text None s = sym s
@@ -144,21 +139,11 @@ semver_printed text v s =
 -- the version that the whole text spells
 pub semver_of-Some : (text : List ℕ) (v : PlainSemVer) → SpellsSemVer text v → semver_of text ≡ Some v
 unfolding semver_of
-semver_of-Some text v s = rw (semver_complete text v s) refl
-
-whole-Some : (o : Option (PlainSemVer × List ℕ)) (v : PlainSemVer) → whole o ≡ Some v → o ≡ Some (v, [])
-whole-Some None v e = cc e
-whole-Some (Some p) v e = elim (cases_Bool (length p.1 == 0)) [
-  | inl done ↦
-      let none : p.1 ≡ [] = nil_from_length p.1 (eqb-true _ _ done) in
-      let value : p.0 ≡ v = cc (rw done at e) in
-      ap (λ (q : PlainSemVer × List ℕ). Some q) (λ i. (value i, none i))
-  | inr more ↦ cc (rw more at e)
-]
+semver_of-Some = whole_read SpellsSemVer semver_front semver_sound semver_complete
 
 pub semver_of-spells : (text : List ℕ) (v : PlainSemVer) → semver_of text ≡ Some v → SpellsSemVer text v
 unfolding semver_of
-semver_of-spells text v e = semver_whole text v (whole-Some _ v e)
+semver_of-spells = read_whole SpellsSemVer semver_front semver_sound semver_complete
 
 pub semver_ascii : (text : List ℕ) (v : PlainSemVer) → SpellsSemVer text v → IsAscii text
 semver_ascii text v s =
@@ -170,7 +155,4 @@ semver_ascii text v s =
 
 -- a text that spells a version is UTF-8
 pub semver_of-IsUtf8 : (text : List ℕ) → IsSome (semver_of text) → IsUtf8 text
-semver_of-IsUtf8 text some = elim (cases_Option (semver_of text)) [
-  | inl none ↦ absurd (false≢true (rw none at some))
-  | inr one ↦ IsUtf8-from_ascii text (semver_ascii text one.0 (semver_of-spells text one.0 one.1))
-]
+semver_of-IsUtf8 = spelled_utf8 plain_semver SpellsSemVer semver_of semver_of-spells semver_of-Some semver_ascii

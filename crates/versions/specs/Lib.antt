@@ -1,6 +1,9 @@
+pub mod Conversions
+pub mod Errors
 pub mod Key
 pub mod KeyBytes
 pub mod Mess
+pub mod MessLaws
 pub mod SemVer
 pub mod SemVerLaws
 pub mod SemVerMatch
@@ -8,5 +11,8 @@ pub mod SemVerOrder
 pub mod Tail
 pub mod Texts
 pub mod Version
+pub mod VersionLaws
+pub mod VersionOrder
 pub mod Versioning
+pub mod VersioningLaws
 pub mod Worked

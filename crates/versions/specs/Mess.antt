@@ -1,12 +1,147 @@
 -- Messy versions, such as `1.0_2:r3`: sections of chunks with signs between them.
-use Rattle.std.specs.Prelude.{List}
-use Rattle.version_parts.specs.MChunk.{PlainMChunk}
+use Rattle.std.specs.Prelude.{◌≡◌, ◌++◌, ℕ, List, [], ◌∷◌, Option, Some, Vec, map, length, slice_get}
+use Rattle.std.specs.Cmp.Lexicographic.{slice_cmp}
+use Rattle.std.specs.Hash as fed
+use Rattle.std.specs.Hash.{HashWrites}
+use Rattle.std.specs.List.{flat_map, join_with_byte}
+use Rattle.std.specs.Option.{option_map_or}
+use Rattle.std.specs.Ordering.{on, then_cmp}
+use Rattle.std.specs.declared.alloc.Global.{Global}
+use Rattle.std.specs.declared.cmp.Ordering.{Ordering}
+use Rattle.version_parts.specs.declared.mchunk.MChunk.{MChunk}
+use Rattle.version_parts.specs.declared.sep.Sep.{Sep}
+use Rattle.version_parts.specs.Bytes.{dot}
+use Rattle.version_parts.specs.Front.{◌>>=◌, Front, dotted_front, repeated, whole}
+use Rattle.version_parts.specs.Grammar.{SpellsBehind, SpellsDotted, SpellsEach}
+use Rattle.version_parts.specs.MChunk.{PlainMChunk, SpellsMChunk, digits_number, mchunk_fed, mchunk_front, mchunk_plain_cmp, mchunk_text, plain_mchunk}
+pub use Rattle.version_parts.specs.Sep.{PlainSep, Colon, Hyphen, Plus, Underscore, Tilde}
+use Rattle.version_parts.specs.Sep.{plain_sep, sep_byte, sep_fed, sep_front, sep_plain_cmp}
+use Rattle.versions.specs.declared.mess.Mess.{Mess}
+use Rattle.versions.specs.declared.mess.Mess.TheFolds.{fold-Mess}
+use Rattle.versions.specs.declared.mess.Mess.TheOpen.{Mess-F}
 
--- the sign before a further section
-pub data PlainSep : Type 0 where
-  Colon Hyphen Plus Underscore Tilde : PlainSep
+-- the chunks of a section
+abbrev pub Section : Type 0
+Section = List PlainMChunk
+
+-- a section with the sign before it
+abbrev pub Further : Type 0
+Further = PlainSep × Section
 
 -- a messy version seen flat: its first section, and each further one with the sign before it
 pub record PlainMess : Type 0 where
   pub first : List PlainMChunk
   pub more : List (PlainSep × List PlainMChunk)
+
+-- the section that a list of chunks is
+abbrev pub plain_section : Vec MChunk Global → Section
+plain_section chunks = map plain_mchunk chunks.items
+
+-- the further section that a sign and a list of chunks are
+abbrev pub plain_further : Sep × Vec MChunk Global → Further
+plain_further further = (plain_sep further.0, plain_section further.1)
+
+-- the sections of a version behind a sign
+abbrev pub behind_sign : Sep → PlainMess → List Further
+behind_sign sign m = (plain_sep sign, m.first) ∷ m.more
+
+-- a version, seen flat, from its chunks and from what stands behind them, seen flat
+abbrev pub flat_layer : Mess-F PlainMess → PlainMess
+flat_layer m = record { first = plain_section m.chunks; more = option_map_or (λ next. behind_sign next.0 next.1.value) m.next [] }
+
+-- the version that a value holds
+abbrev pub plain_mess : Mess → PlainMess
+plain_mess = fold-Mess PlainMess flat_layer
+
+-- ---- which text spells which version
+
+-- the text spells a section: chunks joined by dots
+abbrev pub SpellsSection : List ℕ → Section → Type 0
+SpellsSection = SpellsDotted SpellsMChunk
+
+-- the text spells a sign, and a section behind it
+abbrev pub SpellsFurther : List ℕ → Further → Type 0
+SpellsFurther text further = SpellsBehind (sep_byte further.0) SpellsSection text further.1
+
+-- The text spells the version: a section, then further ones, each behind its sign.
+pub record SpellsMess (text : List ℕ) (m : PlainMess) : Type 0 where
+  pub first : List ℕ
+  pub more : List ℕ
+  pub whole_is : text ≡ first ++ more
+  pub first_is : SpellsSection first m.first
+  pub more_is : SpellsEach SpellsFurther more m.more
+
+-- ---- what is read at the front of a text
+
+-- a section
+abbrev pub section_front : Front Section
+section_front = dotted_front mchunk_front
+
+-- a sign and the section behind it
+unfoldable pub further_front : Front Further
+further_front text = do
+  sign ← sep_front text
+  section ← section_front sign.1
+  Some ((sign.0, section.0), section.1)
+
+-- a section, and further ones as long as they can be read; it stops before a sign behind which none can be
+unfoldable pub mess_front : Front PlainMess
+mess_front text = do
+  first ← section_front text
+  let more = repeated further_front (length first.1) first.1
+  Some (record { first = first.0; more = more.0 }, more.1)
+
+-- the messy version that the whole text spells, where it spells one
+unfoldable pub mess_of : List ℕ → Option PlainMess
+mess_of text = whole (mess_front text)
+
+-- ---- the printed text
+
+-- the chunks of a section joined by dots
+abbrev pub joined_section : Section → List ℕ
+joined_section chunks = join_with_byte dot (map mchunk_text chunks)
+
+-- a sign and the section behind it
+abbrev pub further_text : Further → List ℕ
+further_text further = sep_byte further.0 ∷ joined_section further.1
+
+-- the printed text: the first section, and each further one behind its sign
+abbrev pub mess_text : PlainMess → List ℕ
+mess_text m = joined_section m.first ++ flat_map further_text m.more
+
+-- ---- numbers
+
+-- the first section that no colon follows
+abbrev pub behind_colons : Section → List Further → Section
+behind_colons first ((Colon, section) ∷ more) = behind_colons section more
+behind_colons first more = first
+
+-- the number of the chunk at a place of that section, if it is digits
+abbrev pub nth_number : PlainMess → ℕ → Option ℕ
+nth_number m at = slice_get (behind_colons m.first m.more) at >>= digits_number
+
+-- ---- the plain order and the hash
+
+-- two sections: chunk by chunk, the shorter first where one begins the other
+abbrev pub section_plain_cmp : Section → Section → Ordering
+section_plain_cmp = slice_cmp mchunk_plain_cmp
+
+-- two further sections: by their signs, then by what stands behind them
+abbrev pub further_plain_cmp : Further → Further → Ordering
+further_plain_cmp = then_cmp (on (λ (f : Further). f.0) sep_plain_cmp) (on (λ (f : Further). f.1) section_plain_cmp)
+
+-- two versions, field by field: the first sections, then the further ones, fewer first
+abbrev pub mess_plain_cmp : PlainMess → PlainMess → Ordering
+mess_plain_cmp = then_cmp (on (λ (m : PlainMess). m.first) section_plain_cmp) (on (λ (m : PlainMess). m.more) (slice_cmp further_plain_cmp))
+
+-- what a hash is fed with for a section: how many chunks there are, and each of them
+abbrev pub section_fed : Section → HashWrites
+section_fed = fed.slice mchunk_fed
+
+-- for a further section: that it follows, its sign, and its chunks
+abbrev pub further_fed : Further → HashWrites
+further_fed further = fed.u8 1 ++ (sep_fed further.0 ++ section_fed further.1)
+
+-- for a version: the first section, each further one, and that none follows
+abbrev pub mess_fed : PlainMess → HashWrites
+mess_fed m = section_fed m.first ++ (flat_map further_fed m.more ++ fed.u8 0)

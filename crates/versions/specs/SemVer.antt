@@ -1,5 +1,5 @@
 -- Strict versions (SemVer 2.0, sections 2, 9 and 10).
-use Rattle.std.specs.Prelude.{◌≡◌, ℕ, List, [], ◌∷◌, ◌++◌, Option, Some, None, length, ◌==◌, if◌then◌else◌, ◌⊎◌, IsSome}
+use Rattle.std.specs.Prelude.{◌≡◌, ℕ, List, [], ◌∷◌, ◌++◌, Option, Some, None, ◌⊎◌, IsSome}
 use Rattle.std.specs.Fmt.{decimal}
 use Rattle.std.specs.Hash as fed
 use Rattle.std.specs.Hash.{HashWrites}
@@ -7,7 +7,7 @@ use Rattle.std.specs.Option.{option_map}
 use Rattle.std.specs.String.{string_bytes}
 use Rattle.version_parts.specs.Bytes.{dot, hyphen, plus}
 use Rattle.version_parts.specs.Chunk.{PlainChunk}
-use Rattle.version_parts.specs.Front.{◌>>=◌, Front, behind, optional}
+use Rattle.version_parts.specs.Front.{◌>>=◌, Front, behind, optional, whole}
 use Rattle.version_parts.specs.Grammar.{SpellsOptional}
 use Rattle.version_parts.specs.Metadata.{SpellsMetadata, meta_front}
 use Rattle.version_parts.specs.Numeral.{SpellsNumeral, unsigned_front}
@@ -67,10 +67,6 @@ semver_front text = do
   let pre_rel = optional release_front patch.1
   let meta = optional meta_front pre_rel.1
   Some (record { major = major.0; minor = minor.0; patch = patch.0; pre_rel = pre_rel.0; meta = meta.0 }, meta.1)
-
--- the value that a front reads, where it leaves no rest
-abbrev pub whole : {X : Type 0} → Option (X × List ℕ) → Option X
-whole read = read >>= λ p. if length p.1 == 0 then Some p.0 else None
 
 -- the strict version that the whole text spells, where it spells one
 unfoldable pub semver_of : List ℕ → Option PlainSemVer

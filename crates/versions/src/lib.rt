@@ -1,10 +1,24 @@
 //! Version numbers, read, printed and ordered.
 //!
 //! A strict version (`SemVer`) is `major.minor.patch` with a pre-release and build metadata, as in `1.2.3-rc.1+x86`.
+//! A general version (`Version`) is what most packages carry: parts joined by dots, perhaps with an epoch before them,
+//! a release and metadata, as in `1:2.0rc1-3`. A messy version (`Mess`) is whatever else is made of letters, digits and
+//! single signs, as `10.2+0.93+1-1`. A `Versioning` is the first of these that fits.
 #![tactic(auto)]
 
+mod conversions;
+mod errors;
 mod laws;
+mod mess;
+mod pieces;
+mod reading;
 mod semver;
+mod version;
+mod versioning;
 
+pub use errors::{Error, ReadError};
+pub use mess::Mess;
 pub use semver::SemVer;
-pub use version_parts::{Chunk, Release, parsers};
+pub use version::Version;
+pub use version_parts::{Chunk, Chunks, Last, MChunk, Release, Sep, parsers};
+pub use versioning::Versioning;

@@ -1,25 +1,33 @@
 //! Strict versions.
 
-ghost use Rattle.std.specs.Prelude.{◌≡◌, ◌↔◌, refl, string_bytes, IfOk, IfSome, IsSome, IsTrue, None, OnErr, Some};
+ghost use Rattle.std.specs.Prelude.{◌≡◌, ◌↔◌, refl, string_bytes, IfOk, IfSome, IsSomeAnd, IsTrue, None, OnErr, Some};
 ghost use Rattle.std.specs.Cmp.{eq_by_cmp_equiv, on_equiv, on_per, on_total, partial_equiv_from_equiv, po};
-ghost use Rattle.std.specs.Option.{option_map};
+ghost use Rattle.std.specs.Option.{is_some, option_map};
 ghost use Rattle.std.specs.Ordering.{as_partial_cmp, eq_by_cmp, on};
 ghost use Rattle.version_parts.specs.Front.{optional, Reads};
 ghost use Rattle.version_parts.specs.Metadata.{meta_front};
 ghost use Rattle.version_parts.specs.Release.{plain_release, release_front};
 ghost use Rattle.version_parts.specs.Lists.{none_last_cmp};
 ghost use Rattle.version_parts.specs.ReleaseOrder.{release_cmp};
+ghost use Rattle.versions.specs.Conversions.{version_of_semver};
+ghost use Rattle.versions.specs.Errors.{IllegalSemver, ReadsOr};
 ghost use Rattle.versions.specs.SemVerLaws.{fed_alike, semver_total};
 ghost use Rattle.versions.specs.SemVerMatch.{numbers, MatchesCaret, MatchesTilde};
 ghost use Rattle.versions.specs.SemVerOrder.{semver_cmp};
+ghost use Rattle.versions.specs.Version.{plain_version};
 ghost use Rattle.versions.specs.SemVer.{plain_semver, semver_fed, plain_pieces, semver_front, semver_of, semver_text, SemVerOwns, PlainSemVer, SpellsSemVer};
 
+use crate::errors::{Error, ReadError};
+use crate::pieces::{
+    build_release, copy_meta, copy_release, copy_text, optional_meta, optional_release,
+};
+use crate::reading::or_illegal;
+use crate::version::Version;
 use std::alloc::{AllocError, Global};
 use std::cmp::Ordering;
 use std::fmt;
 use std::hash::{Hash, Hasher};
-use version_parts::scan::ReleasePiece;
-use version_parts::{Release, scan};
+use version_parts::{Chunk, Chunks, Last, Release, ReleasePiece, scan};
 
 /// A strict version: `major.minor.patch`, then perhaps a pre-release, then perhaps build metadata, as
 /// `1.2.3-rc.1+x86` (SemVer 2.0, sections 2, 9 and 10). The numbers are below 2^32.
@@ -52,10 +60,26 @@ impl SemVer {
         // The same as an equation.
         ensures exact { IfOk result (λ o. option_map plain_semver o ≡ semver_of s.now) }
     {
-        match Pieces::scan_whole(s) {
-            Some(pieces) => Ok(Some(pieces.build(alloc)?)),
-            None => Ok(None),
+        read_whole(alloc, s)
+    }
+
+    /// Whether the whole text spells a strict version, so that `new` would give one. Takes no memory.
+    #[tactic(auto, unfolding(crate::specs::SemVer::semver_of))]
+    pub fn is_spelled_by(s: &str) -> bool
+        ensures { result ≡ is_some (semver_of s.now) }
+    {
+        match Pieces::scan(s) {
+            Some((_, rest)) => rest.is_empty(),
+            None => false,
         }
+    }
+
+    /// The strict version that the whole text spells; else `Illegal`, with `IllegalSemver` and the whole text in it.
+    /// `Memory` comes where there is no memory for the version or for that text.
+    pub fn from_str(alloc: Global, s: &str) -> Result<SemVer, ReadError>
+        ensures { ReadsOr plain_semver SemVerOwns (IllegalSemver s.now) result (semver_of s.now) }
+    {
+        or_illegal(alloc, read_whole(alloc, s)?, s, Error::IllegalSemver)
     }
 
     /// The strict version at the front of a text, and the rest: three numbers joined by dots, then a release and
@@ -68,6 +92,38 @@ impl SemVer {
             return Ok(None);
         };
         Ok(Some((pieces.build(alloc)?, rest)))
+    }
+
+    /// The general version with the same numbers, release and metadata: the first two numbers are its chunks, the
+    /// third its last part. The error is that there is no memory for it.
+    pub fn to_version(&self, alloc: Global) -> Result<Version, AllocError>
+        ensures { IfOk result (λ v. plain_version v ≡ version_of_semver (plain_semver self.now)) }
+    {
+        let mut chunks = Vec::with_capacity(alloc, 2)?;
+        chunks.push(Chunk::Numeric(self.major))?;
+        chunks.push(Chunk::Numeric(self.minor))?;
+        Ok(Version {
+            epoch: None,
+            chunks: Chunks(chunks),
+            last: Last::Numeric(self.patch),
+            release: copy_release(alloc, &self.pre_rel)?,
+            meta: copy_meta(alloc, &self.meta)?,
+        })
+    }
+
+    /// A copy, with the same in every field, metadata included. Three plain numbers take no memory; the error is that
+    /// there is no memory for more.
+    pub fn clone(&self, alloc: Global) -> Result<SemVer, AllocError>
+        ensures ok { IfOk result (λ copy. plain_semver copy ≡ plain_semver self.now) }
+        ensures err { OnErr result (SemVerOwns (plain_semver self.now)) }
+    {
+        Ok(SemVer {
+            major: self.major,
+            minor: self.minor,
+            patch: self.patch,
+            pre_rel: copy_release(alloc, &self.pre_rel)?,
+            meta: copy_meta(alloc, &self.meta)?,
+        })
     }
 }
 
@@ -201,6 +257,18 @@ fn compare_pre_releases(a: &Option<Release>, b: &Option<Release>) -> Ordering
     }
 }
 
+// The strict version that the whole text spells.
+#[tactic(auto, unfolding(crate::specs::SemVer::semver_of))]
+fn read_whole(alloc: Global, s: &str) -> Result<Option<SemVer>, AllocError>
+    ensures ok { IfOk result (λ o. option_map plain_semver o ≡ semver_of s.now) }
+    ensures err { OnErr result (IsSomeAnd (semver_of s.now) SemVerOwns) }
+{
+    match Pieces::scan(s) {
+        Some((pieces, rest)) if rest.is_empty() => Ok(Some(pieces.build(alloc)?)),
+        _ => Ok(None),
+    }
+}
+
 // A strict version that was scanned, with its texts still in the input.
 #[derive(Drop)]
 struct Pieces<'a> {
@@ -232,15 +300,6 @@ impl<'a> Pieces<'a> {
         Some((pieces, rest))
     }
 
-    // The strict version that the whole text spells.
-    #[tactic(auto, unfolding(crate::specs::SemVer::semver_of))]
-    fn scan_whole(s: &'a str) -> Option<Pieces<'a>>
-        ensures { option_map plain_pieces result ≡ semver_of s.now }
-    {
-        let (pieces, rest) = Pieces::scan(s)?;
-        if rest.is_empty() { Some(pieces) } else { None }
-    }
-
     // The version with texts of its own.
     fn build(self, alloc: Global) -> Result<SemVer, AllocError>
         ensures ok { IfOk result (λ v. plain_semver v ≡ plain_pieces self.entry) }
@@ -262,52 +321,5 @@ impl<'a> Pieces<'a> {
             pre_rel,
             meta,
         })
-    }
-}
-
-// The release at the front of a text, if there is one, and the rest.
-#[tactic(auto, unfolding(version_parts::specs::Front::optional))]
-fn optional_release(i: &str) -> (Option<ReleasePiece<'_>>, &str)
-    ensures { (result.0, result.1.now) ≡ optional release_front i.now }
-{
-    match ReleasePiece::scan(i) {
-        Some((piece, rest)) => (Some(piece), rest),
-        None => (None, i),
-    }
-}
-
-// The metadata at the front of a text, if there is any, and the rest.
-#[tactic(auto, unfolding(version_parts::specs::Front::optional))]
-fn optional_meta(i: &str) -> (Option<&str>, &str)
-    ensures { (option_map (λ text. text.now) result.0, result.1.now) ≡ optional meta_front i.now }
-{
-    match scan::metadata(i) {
-        Some((text, rest)) => (Some(text), rest),
-        None => (None, i),
-    }
-}
-
-// The chunks of a release, if there is one.
-fn build_release(
-    alloc: Global,
-    piece: Option<ReleasePiece<'_>>,
-) -> Result<Option<Release>, AllocError>
-    ensures ok { IfOk result (λ release. option_map plain_release release ≡ piece.entry) }
-    ensures err { OnErr result (IsSome piece.entry) }
-{
-    match piece {
-        Some(piece) => Ok(Some(piece.build(alloc)?)),
-        None => Ok(None),
-    }
-}
-
-// A copy of a text, if there is one.
-fn copy_text(alloc: Global, text: Option<&str>) -> Result<Option<String>, AllocError>
-    ensures ok { IfOk result (λ copy. option_map string_bytes copy ≡ option_map (λ text. text.now) text.entry) }
-    ensures err { OnErr result (IsSome text.entry) }
-{
-    match text {
-        Some(text) => Ok(Some(String::from_str(alloc, text)?)),
-        None => Ok(None),
     }
 }

@@ -1,13 +1,17 @@
 //! Laws of the grammars: what a front reads is spelled so, what is spelled is read, and a value prints its text.
 
-ghost use Rattle.std.specs.Char.{is_ascii_digit};
+ghost use Rattle.std.specs.Prelude.{◌≡◌, ◌↔◌};
+ghost use Rattle.std.specs.Char.{is_ascii_alphanumeric, is_ascii_digit};
 ghost use Rattle.std.specs.Fmt.{decimal};
+ghost use Rattle.version_parts.specs.Body.{body_front, body_text, SpellsBody};
 ghost use Rattle.version_parts.specs.Bytes.{is_identifier_byte, is_metadata_byte};
-ghost use Rattle.version_parts.specs.Chunk.{chunk_front, chunk_text, SpellsChunk};
+ghost use Rattle.version_parts.specs.Chunk.{chunk_front, chunk_text, part_front, PlainChunk, SpellsChunk, SpellsPart};
 ghost use Rattle.version_parts.specs.Front.{dotted_front, run_front};
+ghost use Rattle.version_parts.specs.Last.{last_of, last_text, IsLastOf, PlainLast};
+ghost use Rattle.version_parts.specs.MChunk.{mchunk_front, mchunk_text, EndsChunk, SpellsMChunk};
 ghost use Rattle.version_parts.specs.Metadata.{SpellsMetadata};
 ghost use Rattle.version_parts.specs.Numeral.{unsigned_front, SpellsNumeral};
-ghost use Rattle.version_parts.specs.Reading.{EndsList, EndsRun, IsComplete, IsPrinted, IsSound};
+ghost use Rattle.version_parts.specs.Reading.{EndsList, EndsRun, IsComplete, IsKept, IsPrinted, IsSound, IsSoundBefore};
 ghost use Rattle.version_parts.specs.Release.{release_text, SpellsRelease};
 
 /// A number is read as numerals are spelled, and prints as its numeral.
@@ -24,11 +28,40 @@ fn chunks()
     ensures printed { IsPrinted SpellsChunk chunk_text }
 {}
 
+/// A part of a general version is read as parts are spelled, and prints as its text.
+fn parts()
+    ensures sound { IsSound SpellsPart part_front }
+    ensures complete { IsComplete SpellsPart (EndsRun is_ascii_alphanumeric) part_front }
+    ensures printed { IsPrinted SpellsPart chunk_text }
+{}
+
+/// Of a part that stands last one thing alone is made, and it prints what the part does.
+fn last_parts()
+    ensures rule { (part : PlainChunk) (last : PlainLast) → (last_of part ≡ last) ↔ IsLastOf part last }
+    ensures printed { (part : PlainChunk) → last_text (last_of part) ≡ chunk_text part }
+{}
+
+/// The body of a general version is read as bodies are spelled, and prints as its text.
+fn bodies()
+    ensures sound { IsSound SpellsBody body_front }
+    ensures complete { IsComplete SpellsBody (EndsList (EndsRun is_ascii_alphanumeric)) body_front }
+    ensures printed { IsPrinted SpellsBody body_text }
+{}
+
 /// A release is read behind its hyphen as releases are spelled, and prints as its text.
 fn releases()
     ensures sound { IsSound SpellsRelease (dotted_front chunk_front) }
     ensures complete { IsComplete SpellsRelease (EndsList (EndsRun is_identifier_byte)) (dotted_front chunk_front) }
     ensures printed { IsPrinted SpellsRelease release_text }
+{}
+
+/// A messy chunk is read as messy chunks are spelled, where a dot, a sign or the end follows it, and prints as its text;
+/// whatever follows, it prints what was read.
+fn messy_chunks()
+    ensures sound { IsSoundBefore EndsChunk SpellsMChunk mchunk_front }
+    ensures complete { IsComplete SpellsMChunk EndsChunk mchunk_front }
+    ensures printed { IsPrinted SpellsMChunk mchunk_text }
+    ensures kept { IsKept mchunk_text mchunk_front }
 {}
 
 /// Build metadata is read behind its plus as it is spelled.

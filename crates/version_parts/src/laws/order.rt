@@ -12,6 +12,8 @@ ghost use Rattle.std.specs.declared.cmp.Ordering.TheVariants.{Equal};
 ghost use Rattle.version_parts.specs.Chunk.{PlainChunk};
 ghost use Rattle.version_parts.specs.Codes.{Writes};
 ghost use Rattle.version_parts.specs.DigitRun.{is_digits, starts_with_digit};
+ghost use Rattle.version_parts.specs.Last.{PlainLast};
+ghost use Rattle.version_parts.specs.LastOrder.{last_plain_cmp};
 ghost use Rattle.version_parts.specs.Lists.{bytes_cmp};
 ghost use Rattle.version_parts.specs.NumberBytes.{length_bytes, number_bytes};
 ghost use Rattle.version_parts.specs.PartKey.{Number, PartKey, Word, list_cmp, part_bytes, part_cmp, part_key, parts_bytes, suffix_of};
@@ -64,6 +66,12 @@ fn list_order()
 fn chunk_order()
     ensures total { IsTotalOrder chunk_cmp }
     ensures same { (a b : PlainChunk) → (chunk_cmp a b ≡ Equal) ↔ (a ≡ b) }
+{}
+
+/// The plain order of last parts is total and Equal exactly of the same last part.
+fn last_order()
+    ensures total { IsTotalOrder last_plain_cmp }
+    ensures same { (a b : PlainLast) → (last_plain_cmp a b ≡ Equal) ↔ (a ≡ b) }
 {}
 
 /// The order of releases is total and Equal exactly of the same release, and the bytes compare as it does.

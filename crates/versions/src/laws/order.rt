@@ -12,13 +12,14 @@ ghost use Rattle.version_parts.specs.PartKey.{PartKey};
 ghost use Rattle.version_parts.specs.Texts.{AreBytes};
 ghost use Rattle.versions.specs.Key.{Key, key_of, key_of_semver, key_of_version, precedence, sections_tail};
 ghost use Rattle.versions.specs.KeyBytes.{key_bytes};
-ghost use Rattle.versions.specs.Mess.{PlainSep};
+ghost use Rattle.versions.specs.Mess.{mess_plain_cmp, PlainMess, PlainSep};
 ghost use Rattle.versions.specs.SemVer.{PlainSemVer};
 ghost use Rattle.versions.specs.SemVerOrder.{semver_cmp, SameButMetadata};
 ghost use Rattle.versions.specs.Tail.{Tail, section_bytes, sections_cmp, tail_bytes, tail_cmp};
 ghost use Rattle.versions.specs.Texts.{key_text, texts_of};
 ghost use Rattle.versions.specs.Version.{PlainVersion};
-ghost use Rattle.versions.specs.Versioning.{PlainVersioning};
+ghost use Rattle.versions.specs.VersionOrder.{version_plain_cmp};
+ghost use Rattle.versions.specs.Versioning.{versioning_plain_cmp, PlainVersioning, SameVersioning};
 ghost use Rattle.versions.specs.Worked.{WorkedKeys};
 
 /// The order of messy sections is total and Equal exactly of the same sections, and the bytes compare as it does.
@@ -57,6 +58,17 @@ fn key_bytes_order()
 fn strict_order()
     ensures total { IsTotalOrder semver_cmp }
     ensures same { (a b : PlainSemVer) → (semver_cmp a b ≡ Equal) ↔ SameButMetadata a b }
+{}
+
+/// The plain orders of general and of messy versions are total, and Equal exactly of the same version; so is that of
+/// versions of any kind, but that of strict versions it leaves out the metadata.
+fn plain_orders()
+    ensures general { IsTotalOrder version_plain_cmp }
+    ensures same_general { (a b : PlainVersion) → (version_plain_cmp a b ≡ Equal) ↔ (a ≡ b) }
+    ensures messy { IsTotalOrder mess_plain_cmp }
+    ensures same_messy { (a b : PlainMess) → (mess_plain_cmp a b ≡ Equal) ↔ (a ≡ b) }
+    ensures any { IsTotalOrder versioning_plain_cmp }
+    ensures same_any { (a b : PlainVersioning) → (versioning_plain_cmp a b ≡ Equal) ↔ SameVersioning a b }
 {}
 
 /// On two strict versions precedence is the order of strict versions.

@@ -1,0 +1,243 @@
+//! Messy versions and their chunks: what is read, what is not, what is printed, and that depth is no matter.
+
+use crate::order::hash_of;
+use crate::strict::printed;
+use std::alloc::{AllocError, Global};
+use std::fmt::Debug;
+use std::process::Abort;
+use std::test::Fail;
+use versions::{MChunk, Mess, SemVer, Sep, Version};
+
+#[test]
+fn chunks_are_what_follows_them_says(rt: HostRuntime) -> Result<(), Fail> {
+    for (text, wanted, wanted_rest) in [
+        ("123 ", "Plain(\"123\")", " "),
+        ("123.", "Digits(123, \"123\")", "."),
+        ("123~", "Digits(123, \"123\")", "~"),
+        ("1", "Digits(1, \"1\")", ""),
+        ("01", "Digits(1, \"01\")", ""),
+        ("987", "Digits(987, \"987\")", ""),
+        ("0034", "Digits(34, \"0034\")", ""),
+        ("r1", "Rev(1, \"r1\")", ""),
+        ("r01", "Rev(1, \"r01\")", ""),
+        ("r987", "Rev(987, \"r987\")", ""),
+        ("abcd", "Plain(\"abcd\")", ""),
+        ("1r3", "Plain(\"1r3\")", ""),
+        ("alpha0", "Plain(\"alpha0\")", ""),
+        ("4294967295", "Digits(4294967295, \"4294967295\")", ""),
+        ("4294967296", "Plain(\"4294967296\")", ""),
+    ] {
+        let (chunk, rest) = MChunk::parse(rt.alloc(), text)?.ok_or("no chunk")?;
+        assert_eq!(rt; shown(&rt, &chunk)?.as_str(), wanted, "{text}");
+        assert_eq!(rt; rest, wanted_rest, "{text}");
+        assert_eq!(rt; printed(&rt, &chunk)?.as_str(), chunk.text());
+        assert_eq!(rt; chunk.clone(rt.alloc())?, chunk);
+    }
+    assert!(rt; MChunk::parse(rt.alloc(), "")?.is_none());
+    assert!(rt; MChunk::parse(rt.alloc(), ".1")?.is_none());
+    Ok(())
+}
+
+#[test]
+fn fronts_stop_where_nothing_further_can_be_read(rt: HostRuntime) -> Result<(), Fail> {
+    for (text, wanted, wanted_rest) in [
+        ("1.2 ", "[Digits(1, \"1\"), Plain(\"2\")]", " "),
+        ("1.2-", "[Digits(1, \"1\"), Digits(2, \"2\")]", "-"),
+        ("1..2", "[Digits(1, \"1\")]", "..2"),
+        ("1:", "[Digits(1, \"1\")]", ":"),
+    ] {
+        let (mess, rest) = Mess::parse(rt.alloc(), text)?.ok_or("not read")?;
+        assert_eq!(rt; shown(&rt, &mess.chunks)?.as_str(), wanted, "{text}");
+        assert!(rt; mess.next.is_none(), "{text}");
+        assert_eq!(rt; rest, wanted_rest, "{text}");
+    }
+    Ok(())
+}
+
+#[test]
+fn other_texts_are_one_plain_chunk(rt: HostRuntime) -> Result<(), Fail> {
+    for (text, wanted) in [
+        ("r4294967296", "[Plain(\"r4294967296\")]"),
+        ("r", "[Plain(\"r\")]"),
+        ("R2", "[Plain(\"R2\")]"),
+    ] {
+        let mess = messy(&rt, text)?;
+        assert_eq!(rt; shown(&rt, &mess.chunks)?.as_str(), wanted);
+        assert!(rt; mess.next.is_none());
+    }
+    Ok(())
+}
+
+#[test]
+fn sections_stand_behind_their_signs(rt: HostRuntime) -> Result<(), Fail> {
+    let mess = messy(&rt, "2:10.2+r3-a~0_1")?;
+    assert_eq!(rt;
+        shown(&rt, &mess)?.as_str(),
+        "Mess { chunks: [Digits(2, \"2\")], next: Some((Colon, \
+         Mess { chunks: [Digits(10, \"10\"), Digits(2, \"2\")], next: Some((Plus, \
+         Mess { chunks: [Rev(3, \"r3\")], next: Some((Hyphen, \
+         Mess { chunks: [Plain(\"a\")], next: Some((Tilde, \
+         Mess { chunks: [Digits(0, \"0\")], next: Some((Underscore, \
+         Mess { chunks: [Digits(1, \"1\")], next: None })) })) })) })) })) }"
+    );
+    Ok(())
+}
+
+#[test]
+fn nth_skips_what_colons_follow(rt: HostRuntime) -> Result<(), Fail> {
+    for (text, at, wanted) in [
+        ("1:2:3.4", 0, Some(3)),
+        ("1:2:3.4", 1, Some(4)),
+        ("1:2:3.4", 2, None),
+        ("0:1.6a.0+2014+m872b87e73dfb-1", 0, Some(1)),
+        ("1.6a.0+2014+m872b87e73dfb-1", 0, Some(1)),
+        ("1.6a.0+2014+m872b87e73dfb-1", 1, None),
+        ("1.6a.0+2014+m872b87e73dfb-1", 2, Some(0)),
+        ("r1", 0, None),
+    ] {
+        assert_eq!(rt; messy(&rt, text)?.nth(at), wanted, "{text} {at}");
+    }
+    Ok(())
+}
+
+#[test]
+fn messy_versions_print_what_was_read(rt: HostRuntime) -> Result<(), Fail> {
+    for text in [
+        "10.2+0.93+1-1",
+        "003.03-3",
+        "002.000-7",
+        "20.26.1_0-2",
+        "1.6.0a+2014+m872b87e73dfb-1",
+        "0.17.0+r8+gc41db5f1-1",
+        "0.17.0+r157+g584760cf-1",
+        "1.002.3+r003",
+        "1.3.00.16851-1",
+        "5.2.458699.0906-1",
+        "12.0.0-3ubuntu1~20.04.5",
+        "20.0026.1_0-2+0.93",
+        "1.2.3.4_123_abc+101a",
+    ] {
+        let mess = messy(&rt, text)?;
+        assert_eq!(rt; printed(&rt, &mess)?.as_str(), text);
+        assert!(rt; !is_strict_or_general(&rt, text)?);
+    }
+    Ok(())
+}
+
+#[test]
+fn other_texts_are_no_messy_version(rt: HostRuntime) -> Result<(), Fail> {
+    for text in [
+        "",
+        "003.03-3 ",
+        "1.0.0-x-y-z.-",
+        "1..2",
+        "1--2",
+        ":1",
+        "1+",
+        ".1",
+        "é",
+    ] {
+        assert!(rt; Mess::new(rt.alloc(), text)?.is_none(), "{text}");
+    }
+    Ok(())
+}
+
+#[test]
+fn no_chunks_is_the_default(rt: HostRuntime) -> Result<(), Fail> {
+    let mess = Mess::default_in(rt.alloc());
+    assert_eq!(rt; printed(&rt, &mess)?.as_str(), "");
+    assert_eq!(rt; mess.nth(0), None);
+    assert_eq!(rt; mess.clone(rt.alloc())?, mess);
+    Ok(())
+}
+
+#[test]
+fn unequal_values_hash_apart(rt: HostRuntime) -> Result<(), Fail> {
+    let texts = [
+        "1", "01", "r1", "1.1", "1:1", "1-1", "1+1", "1_1", "1~1", "1_1_1", "1_1_2",
+    ];
+    for (at, text) in texts.iter().enumerate() {
+        for (place, other) in texts.iter().enumerate() {
+            let mess = messy(&rt, text)?;
+            let other = messy(&rt, other)?;
+            assert_eq!(rt; mess == other, at == place, "{mess} {other}");
+            assert_eq!(rt;
+                hash_of(&mess) == hash_of(&other),
+                at == place,
+                "{mess} {other}"
+            );
+        }
+    }
+    assert_ne!(rt; hash_of(&Sep::Colon), hash_of(&Sep::Tilde));
+    Ok(())
+}
+
+#[test]
+fn signs_print_and_compare(rt: HostRuntime) -> Result<(), Fail> {
+    let signs = [
+        Sep::Colon,
+        Sep::Hyphen,
+        Sep::Plus,
+        Sep::Underscore,
+        Sep::Tilde,
+    ];
+    for (sign, wanted) in signs.iter().zip([":", "-", "+", "_", "~"]) {
+        assert_eq!(rt; printed(&rt, sign)?.as_str(), wanted);
+        assert_eq!(rt; sign.clone()?, *sign);
+    }
+    assert_ne!(rt; Sep::Plus, Sep::Underscore);
+    Ok(())
+}
+
+#[test]
+fn a_million_sections(rt: HostRuntime) -> Result<(), Fail> {
+    goes_deep(&rt, rt.alloc(), "_1", 999_999)
+}
+
+#[test]
+fn a_million_colons(rt: HostRuntime) -> Result<(), Fail> {
+    goes_deep(&rt, rt.alloc(), ":1", 999_999)
+}
+
+#[test]
+fn ten_megabytes_of_chunks(rt: HostRuntime) -> Result<(), Fail> {
+    goes_deep(&rt, rt.alloc(), ".1", 5_000_000)
+}
+
+// Reads `1` with so many further ones behind it, and goes along them by each call.
+fn goes_deep(rt: &impl Abort, alloc: Global, further: &str, count: u32) -> Result<(), Fail> {
+    let mut text = String::from_str(alloc, "1")?;
+    for _ in 0..count {
+        text.push_str(further)?;
+    }
+    let mess = Mess::new(alloc, text.as_str())?.ok_or("not read")?;
+    assert!(rt; mess.to_string(alloc)?.as_str() == text.as_str());
+    assert_eq!(rt; mess.nth(0), Some(1));
+    let copy = mess.clone(alloc)?;
+    assert!(rt; copy == mess);
+    assert_eq!(rt; hash_of(&copy), hash_of(&mess));
+    text.push_str(further)?;
+    let longer = Mess::new(alloc, text.as_str())?.ok_or("not read")?;
+    assert!(rt; longer != mess);
+    assert_ne!(rt; hash_of(&longer), hash_of(&mess));
+    text.push_str(" ")?;
+    let (front, rest) = Mess::parse(alloc, text.as_str())?.ok_or("not read")?;
+    assert!(rt; front != longer);
+    assert_eq!(rt; rest, " ");
+    Ok(())
+}
+
+// The messy version that a text spells.
+fn messy(rt: &HostRuntime, text: &str) -> Result<Mess, Fail> {
+    Ok(Mess::new(rt.alloc(), text)?.ok_or("not read")?)
+}
+
+// Whether a text spells a strict version or a general one.
+fn is_strict_or_general(rt: &HostRuntime, text: &str) -> Result<bool, AllocError> {
+    Ok(SemVer::new(rt.alloc(), text)?.is_some() || Version::new(rt.alloc(), text)?.is_some())
+}
+
+// A value as `Debug` writes it.
+fn shown(rt: &HostRuntime, value: &impl Debug) -> Result<String, AllocError> {
+    format!(in rt.alloc(); "{value:?}")
+}

@@ -1,0 +1,25 @@
+-- The lines of an input, and an output that answers each of them for itself.
+use Rattle.std.specs.Prelude.{ℕ, List, [], ◌∷◌, ◌++◌, if◌then◌else◌, ◌==◌}
+use Rattle.std.specs.List.{flat_map}
+
+-- the byte that ends a line
+abbrev pub line_feed : ℕ
+line_feed = 10
+
+-- a byte in front of the first of some lines, or as a line of its own where there is none
+abbrev pub before_lines : ℕ → List (List ℕ) → List (List ℕ)
+before_lines byte [] = (byte ∷ []) ∷ []
+before_lines byte (line ∷ lines) = (byte ∷ line) ∷ lines
+
+-- the lines of some bytes: a line feed ends a line and is no part of it, and bytes after the last one are a line too
+abbrev pub lines_of : List ℕ → List (List ℕ)
+lines_of [] = []
+lines_of (byte ∷ bytes) = if byte == line_feed then [] ∷ lines_of bytes else before_lines byte (lines_of bytes)
+
+-- a label, a line, and the line feed that ends it
+abbrev pub labelled_line : List ℕ → List ℕ → List ℕ
+labelled_line label line = label ++ (line ++ line_feed ∷ [])
+
+-- what a command writes for some lines, by what it writes for one
+abbrev pub lines_output : (List ℕ → List ℕ) → List (List ℕ) → List ℕ
+lines_output line_output lines = flat_map line_output lines

@@ -1,0 +1,83 @@
+//! Commands that answer each line of the input for itself.
+ghost use Rattle.std.specs.Prelude.{◌≡◌, ℕ, ◌<◌, List, ◌∷◌, ◌++◌, length, IfOk, OnOk, OnErr, IfErr, IsErrOf};
+ghost use Rattle.std.specs.Io.KnownBytes.{Appends};
+ghost use Rattle.version_lines.specs.Answer.{answer_text};
+ghost use Rattle.version_lines.specs.Fault.{ComesOfWriting};
+ghost use Rattle.version_lines.specs.Lines.{lines_of, lines_output};
+ghost use Rattle.version_lines.specs.Output.{AppendsBeginning, AppendsProperBeginning, AppendsUpTo};
+
+use crate::answer::Answer;
+use crate::faults::Fault;
+use crate::output::{make_buffer, put, put_line, write_whole};
+use memchr::memchr;
+use std::alloc::{AllocError, Global};
+use std::io::Write;
+
+/// A command that answers each line for itself.
+pub trait LineCommand {
+    // What it writes for a line.
+    ghost line_output: { Self → List ℕ → List ℕ };
+
+    /// The answer for a line. The error is that there is no memory to judge it.
+    fn answer(&self, alloc: Global, line: &[u8]) -> Result<Answer, AllocError>
+        ensures { IfOk result (λ answer. answer_text answer line.now ≡ line_output self.now line.now) };
+}
+
+/// Writes the answer for each line of the input.
+pub fn write_lines<C: LineCommand, W: Write>(
+    alloc: Global,
+    command: &C,
+    input: &[u8],
+    writer: &mut W,
+) -> Result<(), Fault>
+    ensures ok { OnOk result (Appends (W.contents writer.old) (W.contents writer.new)
+        (lines_output (C.line_output command.now) (lines_of input.now))) }
+    ensures memory { IsErrOf result Fault.Memory →
+        AppendsBeginning (W.contents writer.old) (W.contents writer.new)
+        (lines_output (C.line_output command.now) (lines_of input.now)) }
+    ensures write { IsErrOf result Fault.Write →
+        AppendsProperBeginning (W.contents writer.old) (W.contents writer.new)
+        (lines_output (C.line_output command.now) (lines_of input.now)) }
+    ensures faults { IfErr result ComesOfWriting }
+{
+    let mut buffer = make_buffer(alloc)?;
+    let mut rest = input;
+    while !rest.is_empty() {
+        let (line, after) = split_line(rest);
+        let answer = command.answer(alloc, line)?;
+        put_answer(answer, line, writer, &mut buffer)?;
+        rest = after;
+    }
+    write_whole(writer, buffer.as_slice())
+}
+
+/// The first line, and what follows the line feed that ends it.
+fn split_line(text: &[u8]) -> (&[u8], &[u8])
+    requires { 0 < length text.now }
+    ensures lines { lines_of text.now ≡ result.0.now ∷ lines_of result.1.now }
+    ensures shorter { length result.1.now < length text.now }
+{
+    match memchr(b'\n', text) {
+        Some(end) => (&text[..end], &text[end + 1..]),
+        None => (text, &[]),
+    }
+}
+
+/// Adds the answer for a line to what waits in the buffer.
+fn put_answer<W: Write>(
+    answer: Answer,
+    line: &[u8],
+    writer: &mut W,
+    buffer: &mut Vec<u8>,
+) -> Result<(), Fault>
+    ensures ok { OnOk result (AppendsUpTo (W.contents writer.old) (W.contents writer.new)
+        buffer.new.items (buffer.old.items ++ answer_text answer line.now)) }
+    ensures err { OnErr result (AppendsProperBeginning (W.contents writer.old)
+        (W.contents writer.new) (buffer.old.items ++ answer_text answer line.now)) }
+    ensures fault { IfErr result (λ fault. fault ≡ Fault.Write) }
+{
+    match answer {
+        Answer::Labelled(label) => put_line(writer, buffer, label.text(), line),
+        Answer::NoVersion => put(writer, buffer, b"none\n"),
+    }
+}

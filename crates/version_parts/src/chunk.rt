@@ -1,0 +1,298 @@
+//! Chunks: what stands between the dots of a release or of a general version.
+
+ghost use Rattle.std.specs.Prelude.{◌≡◌, refl, Some, IfOk, OnErr};
+ghost use Rattle.std.specs.Char.{is_ascii_alphanumeric};
+ghost use Rattle.std.specs.Option.{option_map};
+ghost use Rattle.std.proofs.Common.{ap};
+ghost use Rattle.std.specs.Cmp.{eq_by_cmp_equiv, on_equiv, on_per, partial_equiv_from_equiv};
+ghost use Rattle.std.specs.Ordering.{eq_by_cmp, on};
+ghost use Rattle.version_parts.specs.Bytes.{is_identifier_byte};
+ghost use Rattle.version_parts.specs.Chunk.{after_letter, chunk_fed, chunk_front, chunk_front_of, chunk_text, digits_behind_letter, lenient_digits, number_of, part_front, plain_chunk, plain_piece, ChunkOwns, PlainChunk};
+ghost use Rattle.version_parts.specs.Class.{contains};
+ghost use Rattle.version_parts.specs.Front.{Reads};
+ghost use Rattle.version_parts.specs.FrontLaws.{chunk_consumes};
+ghost use Rattle.version_parts.specs.Numeral.{unsigned_front};
+ghost use Rattle.version_parts.specs.OrderLaws.{same_where_tied};
+ghost use Rattle.version_parts.specs.ReleaseLaws.{chunk_total, chunks_same};
+ghost use Rattle.version_parts.specs.ReleaseOrder.{chunk_cmp};
+
+use crate::key::PartText;
+use crate::lists::ListItem;
+use crate::scan::{Class, Element, is_all_digits, split_run, unsigned};
+use std::alloc::{AllocError, Global};
+use std::cmp::Ordering;
+use std::fmt;
+use std::hash::{Hash, Hasher};
+
+/// One piece between dots, as `rc` and `1` of the release `-rc.1` (SemVer 2.0, section 9), or as `1` and `2a` of the
+/// general version `1.2a.3`.
+#[derive(Debug, Drop)]
+pub enum Chunk {
+    /// A number without leading zeros.
+    Numeric(u32),
+    /// A text that is not all digits: letters, digits and, in a release, hyphens.
+    Alphanum(String),
+}
+
+impl Chunk {
+    /// The chunk of a release at the front of a text, and the rest: the longest run of letters, digits and hyphens
+    /// is `Alphanum`; where it is all digits, a number is read from the same place. None and `Numeric` take no
+    /// memory; the text of an `Alphanum` is copied, and the error is that there is no memory for it.
+    pub fn parse(alloc: Global, i: &str) -> Result<Option<(Chunk, &str)>, AllocError>
+        ensures { Reads plain_chunk ChunkOwns result (chunk_front i.now) }
+    {
+        read_chunk(alloc, i, Class::Identifier)
+    }
+
+    /// The part of a general version at the front of a text, and the rest: as [`Chunk::parse`], with a run of
+    /// letters and digits alone.
+    pub fn parse_without_hyphens(
+        alloc: Global,
+        i: &str,
+    ) -> Result<Option<(Chunk, &str)>, AllocError>
+        ensures { Reads plain_chunk ChunkOwns result (part_front i.now) }
+    {
+        read_chunk(alloc, i, Class::Alphanumeric)
+    }
+
+    /// The number of a `Numeric`. Takes no memory.
+    pub fn single_digit(&self) -> Option<u32>
+        ensures { result ≡ number_of (plain_chunk self.now) }
+    {
+        match self {
+            Chunk::Numeric(number) => Some(*number),
+            Chunk::Alphanum(_) => None,
+        }
+    }
+
+    /// The number of a `Numeric`, or the one that an `Alphanum` begins with, as [`unsigned`](crate::parsers::unsigned)
+    /// reads it. Takes no memory.
+    pub fn single_digit_lenient(&self) -> Option<u32>
+        ensures { result ≡ lenient_digits (plain_chunk self.now) }
+    {
+        match self {
+            Chunk::Numeric(number) => Some(*number),
+            Chunk::Alphanum(text) => front_number(text.as_str()),
+        }
+    }
+
+    /// The number of a `Numeric`, or the one that stands in an `Alphanum` behind exactly one leading letter, as 23 in
+    /// `r23`. Takes no memory.
+    pub fn single_digit_lenient_post(&self) -> Option<u32>
+        ensures { result ≡ digits_behind_letter (plain_chunk self.now) }
+    {
+        match self {
+            Chunk::Numeric(number) => Some(*number),
+            Chunk::Alphanum(text) => front_number(after_letter(text.as_str())?),
+        }
+    }
+
+    /// The printed text, byte after byte. Takes no memory.
+    pub fn part_text(&self) -> PartText<'_>
+        ensures { result ≡ chunk_text (plain_chunk self.now) }
+    {
+        match self {
+            Chunk::Numeric(number) => PartText::number(*number),
+            Chunk::Alphanum(text) => PartText::text(text.as_str()),
+        }
+    }
+
+    /// A copy. A number takes no memory; the error is that there is no memory for a text.
+    pub fn clone(&self, alloc: Global) -> Result<Chunk, AllocError>
+        ensures ok { IfOk result (λ copy. plain_chunk copy ≡ plain_chunk self.now) }
+        ensures err { OnErr result (ChunkOwns (plain_chunk self.now)) }
+    {
+        match self {
+            Chunk::Numeric(number) => Ok(Chunk::Numeric(*number)),
+            Chunk::Alphanum(text) => Ok(Chunk::Alphanum(String::from_str(alloc, text.as_str())?)),
+        }
+    }
+}
+
+// The number at the front of a text.
+fn front_number(text: &str) -> Option<u32>
+    ensures { result ≡ option_map (λ p. p.0) (unsigned_front text.now) }
+{
+    let (number, _) = unsigned(text)?;
+    Some(number)
+}
+
+impl fmt::Display for Chunk {
+    ghost output = { λ chunk. Some (chunk_text (plain_chunk chunk)) };
+
+    fn fmt<W: fmt::Write>(&self, f: &mut fmt::Formatter<W>) -> fmt::Result {
+        match self {
+            Chunk::Numeric(number) => write!(f, "{number}"),
+            Chunk::Alphanum(text) => f.write_str(text.as_str()),
+        }
+    }
+}
+
+impl PartialEq for Chunk {
+    ghost eq = { on plain_chunk (eq_by_cmp chunk_cmp) };
+
+    ghost laws = { on_per plain_chunk (partial_equiv_from_equiv (eq_by_cmp_equiv chunk_total)) };
+
+    fn eq(&self, other: &Chunk) -> bool {
+        compare_chunks(self, other).is_eq()
+    }
+}
+
+impl Eq for Chunk {
+    ghost laws = { on_equiv plain_chunk (eq_by_cmp_equiv chunk_total) };
+}
+
+impl Hash for Chunk {
+    ghost hash_input = { λ chunk. chunk_fed (plain_chunk chunk) };
+
+    ghost respects_eq = { λ a b tied. ap chunk_fed (same_where_tied chunks_same tied) };
+
+    fn hash<H: Hasher>(&self, state: &mut H) {
+        match self {
+            Chunk::Numeric(number) => {
+                state.write_u8(0);
+                number.hash(state);
+            }
+            Chunk::Alphanum(text) => {
+                state.write_u8(1);
+                text.as_str().hash(state);
+            }
+        }
+    }
+}
+
+// The order of chunks within a release: numbers by value and below texts, texts by bytes (SemVer 2.0, section 11).
+fn compare_chunks(a: &Chunk, b: &Chunk) -> Ordering
+    ensures { result ≡ chunk_cmp (plain_chunk a.now) (plain_chunk b.now) }
+{
+    match (a, b) {
+        (Chunk::Numeric(a), Chunk::Numeric(b)) => a.cmp(b),
+        (Chunk::Numeric(_), Chunk::Alphanum(_)) => Ordering::Less,
+        (Chunk::Alphanum(_), Chunk::Numeric(_)) => Ordering::Greater,
+        (Chunk::Alphanum(a), Chunk::Alphanum(b)) => a.as_str().cmp(b.as_str()),
+    }
+}
+
+// The chunk at the front of a text whose runs are of the class, and the rest.
+fn read_chunk(alloc: Global, i: &str, class: Class) -> Result<Option<(Chunk, &str)>, AllocError>
+    ensures { Reads plain_chunk ChunkOwns result (chunk_front_of (contains class) i.now) }
+{
+    let Some((piece, rest)) = ChunkPiece::scan(i, class) else {
+        return Ok(None);
+    };
+    Ok(Some((piece.build(alloc)?, rest)))
+}
+
+// What stands behind the letter that a text begins with.
+fn after_letter(text: &str) -> Option<&str>
+    ensures { option_map (λ r. r.now) result ≡ after_letter text.now }
+{
+    match text.as_bytes() {
+        [first, ..] if first.is_ascii_alphabetic() => Some(text.split_at(1).1),
+        _ => None,
+    }
+}
+
+// A chunk that was scanned, with its text still in the input.
+#[derive(Clone, Copy)]
+pub(crate) enum ChunkPiece<'a> {
+    Numeric(u32),
+    Alphanum(&'a str),
+}
+
+impl<'a> ChunkPiece<'a> {
+    // The chunk at the front of a text whose runs are of the class, and the rest. Takes no memory.
+    #[tactic(auto, unfolding(crate::specs::Chunk::chunk_front_of))]
+    #[inline(always)]
+    pub(crate) fn scan(i: &'a str, class: Class) -> Option<(ChunkPiece<'a>, &'a str)>
+        ensures { option_map (λ r. (plain_piece r.0, r.1.now)) result ≡ chunk_front_of (contains class) i.now }
+    {
+        let (run, rest) = split_run(i, class);
+        if !is_all_digits(run) {
+            return Some((ChunkPiece::Alphanum(run), rest));
+        }
+        let (number, rest) = unsigned(i)?;
+        Some((ChunkPiece::Numeric(number), rest))
+    }
+
+    // The chunk with a text of its own. A number takes no memory.
+    pub(crate) fn build(self, alloc: Global) -> Result<Chunk, AllocError>
+        ensures ok { IfOk result (λ chunk. plain_chunk chunk ≡ plain_piece self.entry) }
+        ensures err { OnErr result (ChunkOwns (plain_piece self.entry)) }
+    {
+        match self {
+            ChunkPiece::Numeric(number) => Ok(Chunk::Numeric(number)),
+            ChunkPiece::Alphanum(text) => Ok(Chunk::Alphanum(String::from_str(alloc, text)?)),
+        }
+    }
+}
+
+impl ListItem for Chunk {
+    ghost Plain = { PlainChunk };
+
+    ghost plain = { plain_chunk };
+
+    ghost text = { chunk_text };
+
+    ghost plain_cmp = { chunk_cmp };
+
+    ghost prints = { λ chunk. refl };
+
+    fn copy(&self, alloc: Global) -> Result<Chunk, AllocError> {
+        self.clone(alloc)
+    }
+
+    fn compare(&self, other: &Chunk) -> Ordering {
+        compare_chunks(self, other)
+    }
+}
+
+/// The chunks of a release, as the elements of a dotted list.
+pub struct ReleaseChunk;
+
+impl Element for ReleaseChunk {
+    type Item = Chunk;
+
+    ghost Plain = { PlainChunk };
+
+    ghost plain = { plain_chunk };
+
+    ghost front = { chunk_front };
+
+    ghost owns = { ChunkOwns };
+
+    ghost consumes = { chunk_consumes is_identifier_byte };
+
+    fn skip(i: &str) -> Option<&str> {
+        Some(ChunkPiece::scan(i, Class::Identifier)?.1)
+    }
+
+    fn read(alloc: Global, i: &str) -> Result<Option<(Chunk, &str)>, AllocError> {
+        Chunk::parse(alloc, i)
+    }
+}
+
+/// The parts of a general version, as the elements of a dotted list.
+pub struct Part;
+
+impl Element for Part {
+    type Item = Chunk;
+
+    ghost Plain = { PlainChunk };
+
+    ghost plain = { plain_chunk };
+
+    ghost front = { part_front };
+
+    ghost owns = { ChunkOwns };
+
+    ghost consumes = { chunk_consumes is_ascii_alphanumeric };
+
+    fn skip(i: &str) -> Option<&str> {
+        Some(ChunkPiece::scan(i, Class::Alphanumeric)?.1)
+    }
+
+    fn read(alloc: Global, i: &str) -> Result<Option<(Chunk, &str)>, AllocError> {
+        Chunk::parse_without_hyphens(alloc, i)
+    }
+}

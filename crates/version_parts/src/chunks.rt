@@ -1,0 +1,131 @@
+//! The chunks of a general version, and its body: the chunks with the last part behind them.
+
+ghost use Rattle.std.specs.Prelude.{◌≡◌, ◌<◌, ◌-◌, [], length, take, IfOk, OnErr, Some};
+ghost use Rattle.std.proofs.Common.{ap};
+ghost use Rattle.std.specs.Cmp.{eq_by_cmp_equiv, on_equiv, on_per, partial_equiv_from_equiv};
+ghost use Rattle.std.specs.Option.{option_map};
+ghost use Rattle.std.specs.Ordering.{eq_by_cmp, on};
+ghost use Rattle.version_parts.specs.Body.{body_front, chunks_front, plain_chunks, BodyOwns};
+ghost use Rattle.version_parts.specs.Front.{Reads};
+ghost use Rattle.version_parts.specs.Last.{plain_last};
+ghost use Rattle.version_parts.specs.OrderLaws.{same_where_tied};
+ghost use Rattle.version_parts.specs.Release.{release_fed, release_text};
+ghost use Rattle.version_parts.specs.ReleaseLaws.{release_total, releases_same};
+ghost use Rattle.version_parts.specs.ReleaseOrder.{release_cmp};
+
+use crate::chunk::{Chunk, Part};
+use crate::last::{Last, LastPiece};
+use crate::lists::{compare_lists, copy_list, write_dotted};
+use crate::scan::Dotted;
+use std::alloc::{AllocError, Global};
+use std::fmt;
+use std::hash::{Hash, Hasher};
+use std::marker::Model;
+
+/// The chunks of a general version, before its last part.
+#[derive(Debug, Drop)]
+pub struct Chunks(pub Vec<Chunk>);
+
+impl Chunks {
+    /// The parts at the front of a text, and the rest: one or more, joined by dots. The list stops before a dot
+    /// behind which no part can be read. None takes no memory; the error is that there is no memory for the parts.
+    pub fn parse(alloc: Global, i: &str) -> Result<Option<(Chunks, &str)>, AllocError>
+        ensures { Reads plain_chunks (λ _. Unit {0}) result (chunks_front i.now) }
+    {
+        let Some((list, rest)) = Dotted::scan::<Part>(i) else {
+            return Ok(None);
+        };
+        Ok(Some((Chunks(list.build::<Part>(alloc, list.count)?), rest)))
+    }
+
+    /// No chunks. Takes no memory.
+    pub fn default_in(alloc: Global) -> Chunks
+        ensures { plain_chunks result ≡ [] }
+    {
+        Chunks(Vec::new(alloc))
+    }
+
+    /// A copy. The error is that there is no memory for it.
+    pub fn clone(&self, alloc: Global) -> Result<Chunks, AllocError>
+        ensures { IfOk result (λ copy. plain_chunks copy ≡ plain_chunks self.now) }
+    {
+        Ok(Chunks(copy_list(alloc, self.0.as_slice())?))
+    }
+}
+
+impl fmt::Display for Chunks {
+    ghost output = { λ chunks. Some (release_text (plain_chunks chunks)) };
+
+    fn fmt<W: fmt::Write>(&self, f: &mut fmt::Formatter<W>) -> fmt::Result {
+        write_dotted(self.0.as_slice(), f)
+    }
+}
+
+/// Equal chunk by chunk.
+impl PartialEq for Chunks {
+    ghost eq = { on plain_chunks (eq_by_cmp release_cmp) };
+
+    ghost laws = { on_per plain_chunks (partial_equiv_from_equiv (eq_by_cmp_equiv release_total)) };
+
+    fn eq(&self, other: &Chunks) -> bool {
+        compare_lists(self.0.as_slice(), other.0.as_slice()).is_eq()
+    }
+}
+
+impl Eq for Chunks {
+    ghost laws = { on_equiv plain_chunks (eq_by_cmp_equiv release_total) };
+}
+
+impl Hash for Chunks {
+    ghost hash_input = { λ chunks. release_fed (plain_chunks chunks) };
+
+    ghost respects_eq = { λ a b tied. ap release_fed (same_where_tied releases_same tied) };
+
+    fn hash<H: Hasher>(&self, state: &mut H) {
+        self.0.hash(state);
+    }
+}
+
+/// The body of a general version that was scanned, with its texts still in the input.
+#[derive(Drop)]
+pub struct BodyPiece<'a> {
+    list: Dotted<'a>,
+    last: LastPiece<'a>,
+}
+
+impl<'a> Model for BodyPiece<'a> {
+    ghost use Rattle.std.specs.Prelude.{◌≡◌, ◌<◌, ◌-◌, length, take};
+    ghost use Rattle.version_parts.specs.Body.{PlainBody};
+
+    ghost Value = { PlainBody };
+
+    ghost use Rattle.version_parts.specs.Chunk.{part_front};
+    ghost use Rattle.version_parts.specs.Front.{elements_at};
+    ghost use Rattle.version_parts.specs.Last.{plain_last_piece};
+
+    ghost view = { λ b. (take (b.list.count - 1) (elements_at part_front b.list.text.now), plain_last_piece b.last) };
+
+    ghost invariant = { λ b. (0 < b.list.count) × (b.list.count ≡ length (elements_at part_front b.list.text.now)) };
+}
+
+impl<'a> BodyPiece<'a> {
+    /// The body at the front of a text, and the rest. Takes no memory.
+    pub fn scan(i: &'a str) -> Option<(BodyPiece<'a>, &'a str)>
+        ensures { option_map (λ r. (r.0, r.1.now)) result ≡ body_front i.now }
+    {
+        let (list, rest) = Dotted::scan::<Part>(i)?;
+        let (last, _) = LastPiece::scan(list.last)?;
+        Some((BodyPiece { list, last }, rest))
+    }
+
+    /// The body with texts of its own. A number alone takes no memory; the error is that there is no memory for more.
+    pub fn build(self, alloc: Global) -> Result<(Chunks, Last), AllocError>
+        ensures ok { IfOk result (λ body. (plain_chunks body.0, plain_last body.1) ≡ self.entry) }
+        ensures err { OnErr result (BodyOwns self.entry) }
+    {
+        let BodyPiece { list, last } = self;
+        let chunks = list.build::<Part>(alloc, list.count - 1)?;
+        let last = last.build(alloc)?;
+        Ok((Chunks(chunks), last))
+    }
+}

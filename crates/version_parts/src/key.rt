@@ -1,0 +1,11 @@
+//! Streams of the bytes by which parts, lists of parts and releases compare. None of them takes memory.
+
+mod compare;
+mod list;
+mod piece;
+mod text;
+
+pub use compare::{compare_bytes, compare_part_lists, compare_parts};
+pub use list::{AsPart, Code, ListBytes, Parts};
+pub use piece::PieceBytes;
+pub use text::PartText;

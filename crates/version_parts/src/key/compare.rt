@@ -1,0 +1,53 @@
+//! Two streams of bytes compared.
+
+ghost use Rattle.std.specs.Prelude.{◌≡◌, List, ℕ, Some, map};
+ghost use Rattle.std.specs.Iterator.{AlwaysYields, IsFinite};
+ghost use Rattle.version_parts.specs.Chunk.{plain_chunk};
+ghost use Rattle.version_parts.specs.Compare.{ComparesBytes};
+ghost use Rattle.version_parts.specs.Lists.{bytes_cmp};
+ghost use Rattle.version_parts.specs.PartKey.{chunk_parts, list_cmp, part_cmp, part_key};
+
+use crate::chunk::Chunk;
+use crate::key::{ListBytes, PartText, PieceBytes};
+use std::cmp::Ordering;
+
+/// How two streams of bytes compare: by the first byte at which they differ; where one ends before that, it is below
+/// the other. Bytes are taken from both in turn, from `a` first, and none behind that place, so that a caller can go
+/// on with what is left. `a` has to end, `b` may go on for ever. Takes no memory.
+pub fn compare_bytes<A: Iterator<Item = u8>, B: Iterator<Item = u8>>(
+    a: &mut A,
+    b: &mut B,
+) -> Ordering
+    requires can_a { A.can_next a.old }
+    requires can_b { B.can_next b.old }
+    requires ends { IsFinite (A.remaining a.old) }
+    ensures taken { ComparesBytes A.next_gives B.next_gives a.old b.old result a.new b.new }
+    ensures yielded { (xs ys : List ℕ) → AlwaysYields A.next_gives (λ x. x) a.old xs → AlwaysYields B.next_gives (λ y. y) b.old ys → result ≡ bytes_cmp xs ys }
+{
+    while let Some(x) = a.next() {
+        let Some(y) = b.next() else {
+            return Ordering::Greater;
+        };
+        if x != y {
+            return x.cmp(&y);
+        }
+    }
+    match b.next() {
+        Some(_) => Ordering::Less,
+        None => Ordering::Equal,
+    }
+}
+
+/// How two parts compare, by their printed texts. Takes no memory.
+pub fn compare_parts(a: PartText<'_>, b: PartText<'_>) -> Ordering
+    ensures { result ≡ part_cmp (Some (part_key a.entry)) (Some (part_key b.entry)) }
+{
+    compare_bytes(&mut PieceBytes::part(a), &mut PieceBytes::part(b))
+}
+
+/// How two lists of chunks compare as lists of parts. Takes no memory.
+pub fn compare_part_lists(a: &[Chunk], b: &[Chunk]) -> Ordering
+    ensures { result ≡ list_cmp (chunk_parts (map plain_chunk a.now)) (chunk_parts (map plain_chunk b.now)) }
+{
+    compare_bytes(&mut ListBytes::parts(a), &mut ListBytes::parts(b))
+}

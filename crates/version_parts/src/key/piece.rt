@@ -1,0 +1,323 @@
+//! The bytes of one piece of a key: of a part, of a number or of a text.
+
+ghost use Rattle.std.specs.Prelude.{◌≡◌, ◌∷◌, ◌++◌, [], List, ℕ, Some, None, IfNone, IfSome};
+ghost use Rattle.std.specs.Char.{is_ascii_digit};
+ghost use Rattle.std.specs.Iterator.{item_count, YieldsFirst};
+ghost use Rattle.std.specs.List.{take_while};
+ghost use Rattle.std.specs.Option.{option_to_list};
+ghost use Rattle.std.specs.Str.Parse.{digits_value};
+ghost use Rattle.version_parts.specs.Chunk.{plain_chunk};
+ghost use Rattle.version_parts.specs.DigitRun.{starts_with_digit};
+ghost use Rattle.version_parts.specs.NumberBytes.{length_bytes, number_bytes};
+ghost use Rattle.version_parts.specs.PartKey.{part_bytes, part_key};
+ghost use Rattle.version_parts.specs.Pieces.{behind_bytes, counted_bytes, place_bytes, run_bytes, step_bytes};
+ghost use Rattle.version_parts.specs.ReleaseOrder.{chunk_bytes};
+ghost use Rattle.version_parts.specs.TextBytes.{text_byte, text_bytes};
+
+use crate::chunk::Chunk;
+use crate::key::PartText;
+use std::marker::Model;
+
+// What is read behind a number.
+#[derive(Clone, Copy)]
+enum Behind {
+    // The suffix of a part.
+    Suffix,
+    // A text.
+    Text,
+    // Nothing: what stands there doesn't count.
+    Nothing,
+}
+
+// Where a stream is: what the text that is left is read as.
+#[derive(Clone, Copy)]
+enum Place {
+    // A part.
+    Part,
+    // A text to be split before its first digit.
+    Split,
+    // The number of a split and the text behind it, if there is one.
+    Numbered,
+    // A number, with the length of its digits in front.
+    Number(Behind),
+    // A number, from what is left of that length on.
+    Length(usize, Behind),
+    // A number, from a digit on.
+    Digit(Behind),
+    // What is read behind a number.
+    Rest(Behind),
+}
+
+// A byte that is given out, the one that has to follow it, and where the stream is behind the two.
+#[derive(Clone, Copy)]
+struct Step {
+    byte: u8,
+    then: Option<u8>,
+    place: Place,
+}
+
+impl Step {
+    // One byte.
+    fn to(byte: u8, place: Place) -> Step
+        ensures { result ≡ record { byte = byte; then = None; place = place } }
+    {
+        Step {
+            byte,
+            then: None,
+            place,
+        }
+    }
+
+    // A byte of a text: each of 0 and 1 is written in two.
+    fn text_byte(byte: u8, place: Place) -> Step
+        ensures { (rest : List ℕ) → step_bytes result rest ≡ text_byte (Some byte) ++ place_bytes place rest }
+    {
+        if byte > 1 {
+            return Step::to(byte, place);
+        }
+        Step {
+            byte: 1,
+            then: Some(byte + 1),
+            place,
+        }
+    }
+}
+
+impl Place {
+    // The next byte of a text that is read so, if there is one.
+    #[tactic(auto, unfolding(crate::specs::Pieces::place_bytes))]
+    fn step(self, text: &mut PartText<'_>) -> Option<Step>
+        ensures some { IfSome result (λ step. place_bytes self text.old ≡ step_bytes step text.new) }
+        ensures none { IfNone result ((place_bytes self text.old ≡ []) × (place_bytes self text.new ≡ [])) }
+    {
+        match self {
+            Place::Part => Some(part_step(text)),
+            Place::Split => Some(split_step(text)),
+            Place::Numbered => Some(numbered_step(text)),
+            Place::Number(behind) => Some(number_step(behind, text)),
+            Place::Length(left, behind) => Some(length_step(left, behind, text)),
+            Place::Digit(behind) => {
+                let digit = text.next()?;
+                Some(Step::to(digit, within_run(behind, text)))
+            }
+            Place::Rest(behind) => rest_step(behind, text),
+        }
+    }
+}
+
+// Whether a text begins with a digit.
+fn starts_with_digit(text: &PartText<'_>) -> bool
+    ensures { result ≡ starts_with_digit text.now }
+{
+    match text.first() {
+        Some(byte) => byte.is_ascii_digit(),
+        None => false,
+    }
+}
+
+#[tactic(auto, using(crate::proofs::PieceBytes::part_steps))]
+fn part_step(text: &PartText<'_>) -> Step
+    ensures { place_bytes Place.Part text.now ≡ step_bytes result text.now }
+{
+    if starts_with_digit(text) {
+        Step::to(3, Place::Number(Behind::Suffix))
+    } else {
+        Step::to(1, Place::Split)
+    }
+}
+
+#[tactic(auto, using(crate::proofs::PieceBytes::split_steps))]
+fn split_step(text: &mut PartText<'_>) -> Step
+    ensures { place_bytes Place.Split text.old ≡ step_bytes result text.new }
+{
+    if starts_with_digit(text) {
+        return Step::to(0, Place::Numbered);
+    }
+    match text.next() {
+        Some(byte) => Step::text_byte(byte, Place::Split),
+        None => Step::to(0, Place::Numbered),
+    }
+}
+
+#[tactic(auto, using(crate::proofs::PieceBytes::numbered_steps))]
+fn numbered_step(text: &PartText<'_>) -> Step
+    ensures { place_bytes Place.Numbered text.now ≡ step_bytes result text.now }
+{
+    if starts_with_digit(text) {
+        Step::to(1, Place::Number(Behind::Text))
+    } else {
+        Step::to(0, Place::Rest(Behind::Nothing))
+    }
+}
+
+// A number has no zeros in front, and its digits are counted once.
+#[tactic(auto, using(crate::proofs::PieceBytes::number_counted))]
+fn number_step(behind: Behind, text: &mut PartText<'_>) -> Step
+    ensures { place_bytes (Place.Number behind) text.old ≡ step_bytes result text.new }
+{
+    text.skip_zeros();
+    length_step(text.digit_count(), behind, text)
+}
+
+#[tactic(auto, using(crate::proofs::PieceBytes::length_steps))]
+fn length_step(left: usize, behind: Behind, text: &PartText<'_>) -> Step
+    ensures { place_bytes (Place.Length left behind) text.now ≡ step_bytes result text.now }
+{
+    if left < 255 {
+        return Step::to(left as u8, within_run(behind, text));
+    }
+    Step::to(255, Place::Length(left - 255, behind))
+}
+
+// Where a stream is within a run of digits: at the next one, or behind the run.
+#[tactic(auto, using(crate::proofs::PieceBytes::run_steps))]
+fn within_run(behind: Behind, text: &PartText<'_>) -> Place
+    ensures { place_bytes result text.now ≡ run_bytes behind text.now }
+{
+    if starts_with_digit(text) {
+        Place::Digit(behind)
+    } else {
+        Place::Rest(behind)
+    }
+}
+
+#[tactic(auto, unfolding(crate::specs::Pieces::behind_bytes))]
+fn rest_step(behind: Behind, text: &mut PartText<'_>) -> Option<Step>
+    ensures some { IfSome result (λ step. behind_bytes behind text.old ≡ step_bytes step text.new) }
+    ensures none { IfNone result ((behind_bytes behind text.old ≡ []) × (behind_bytes behind text.new ≡ [])) }
+{
+    match behind {
+        Behind::Suffix => Some(suffix_step(text)),
+        Behind::Text => Some(text_step(text)),
+        Behind::Nothing => None,
+    }
+}
+
+#[tactic(auto, using(crate::proofs::PieceBytes::suffix_steps))]
+fn suffix_step(text: &PartText<'_>) -> Step
+    ensures { behind_bytes Behind.Suffix text.now ≡ step_bytes result text.now }
+{
+    match text.first() {
+        Some(_) => Step::to(1, Place::Split),
+        None => Step::to(2, Place::Rest(Behind::Nothing)),
+    }
+}
+
+#[tactic(auto, using(crate::proofs::PieceBytes::text_steps))]
+fn text_step(text: &mut PartText<'_>) -> Step
+    ensures { behind_bytes Behind.Text text.old ≡ step_bytes result text.new }
+{
+    match text.next() {
+        Some(byte) => Step::text_byte(byte, Place::Rest(Behind::Text)),
+        None => Step::to(0, Place::Rest(Behind::Nothing)),
+    }
+}
+
+/// The bytes of a part, of a number or of a text, seen as those that are still to come. It takes no memory; a run of
+/// digits is counted once, so that all bytes together take time that grows with the text.
+#[derive(Drop)]
+pub struct PieceBytes<'a> {
+    text: PartText<'a>,
+    ready: Option<u8>,
+    place: Place,
+}
+
+impl<'a> Model for PieceBytes<'a> {
+    ghost use Rattle.std.specs.Prelude.{List, ℕ, ◌++◌};
+    ghost use Rattle.std.specs.Option.{option_to_list};
+
+    ghost Value = { List ℕ };
+
+    ghost use Rattle.version_parts.specs.Pieces.{place_bytes};
+
+    ghost view = { λ piece. option_to_list piece.ready ++ place_bytes piece.place piece.text };
+}
+
+impl<'a> PieceBytes<'a> {
+    /// No byte.
+    #[tactic(auto, unfolding(crate::specs::Pieces::place_bytes, crate::specs::Pieces::behind_bytes))]
+    pub fn none() -> PieceBytes<'a>
+        ensures { result ≡ [] }
+    {
+        PieceBytes::at(None, Place::Rest(Behind::Nothing), PartText::text(""))
+    }
+
+    /// The bytes of a part, by its printed text.
+    #[tactic(auto, unfolding(crate::specs::Pieces::place_bytes))]
+    pub fn part(text: PartText<'a>) -> PieceBytes<'a>
+        ensures { result ≡ part_bytes (Some (part_key text.entry)) }
+    {
+        PieceBytes::at(None, Place::Part, text)
+    }
+
+    /// The bytes of a number: how many digits it has, and these.
+    #[tactic(auto, using(crate::proofs::PieceBytes::alone))]
+    pub fn number(number: u32) -> PieceBytes<'a>
+        ensures { result ≡ number_bytes number }
+    {
+        PieceBytes::at(
+            None,
+            Place::Number(Behind::Nothing),
+            PartText::number(number),
+        )
+    }
+
+    /// The bytes of the number that the digits at the front of a text write. They may be any number of digits.
+    #[tactic(auto, using(crate::proofs::PieceBytes::alone))]
+    pub fn digits(text: &'a str) -> PieceBytes<'a>
+        ensures { result ≡ number_bytes (digits_value 10 (take_while is_ascii_digit text.now)) }
+    {
+        PieceBytes::at(None, Place::Number(Behind::Nothing), PartText::text(text))
+    }
+
+    /// The bytes of a text.
+    #[tactic(auto, using(crate::proofs::PieceBytes::alone))]
+    pub fn text(text: &'a str) -> PieceBytes<'a>
+        ensures { result ≡ text_bytes text.now }
+    {
+        PieceBytes::at(None, Place::Rest(Behind::Text), PartText::text(text))
+    }
+
+    /// The bytes of a chunk of a release.
+    #[tactic(auto, using(crate::proofs::PieceBytes::alone))]
+    pub fn chunk(chunk: &'a Chunk) -> PieceBytes<'a>
+        ensures { result ≡ chunk_bytes (Some (plain_chunk chunk.now)) }
+    {
+        match chunk {
+            Chunk::Numeric(number) => PieceBytes::at(
+                Some(2),
+                Place::Number(Behind::Nothing),
+                PartText::number(*number),
+            ),
+            Chunk::Alphanum(text) => PieceBytes::at(
+                Some(3),
+                Place::Rest(Behind::Text),
+                PartText::text(text.as_str()),
+            ),
+        }
+    }
+
+    fn at(ready: Option<u8>, place: Place, text: PartText<'a>) -> PieceBytes<'a>
+        ensures { result ≡ option_to_list ready ++ place_bytes place text.entry }
+    {
+        PieceBytes { text, ready, place }
+    }
+}
+
+impl<'a> Iterator for PieceBytes<'a> {
+    type Item = u8;
+
+    ghost next_gives = { YieldsFirst (λ piece. piece) };
+
+    ghost remaining = { item_count (λ piece. piece) };
+
+    fn next(&mut self) -> Option<u8> {
+        if let Some(byte) = self.ready.take() {
+            return Some(byte);
+        }
+        let step = self.place.step(&mut self.text)?;
+        self.ready = step.then;
+        self.place = step.place;
+        Some(step.byte)
+    }
+}

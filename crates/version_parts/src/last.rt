@@ -1,0 +1,253 @@
+//! The last part of a general version, which is taken apart: `3`, `3rc1`, `3p` or any other text.
+
+ghost use Rattle.std.specs.Prelude.{◌≡◌, refl, IfErr, IfOk, IfSome, OnErr, Some};
+ghost use Rattle.std.proofs.Common.{ap};
+ghost use Rattle.std.specs.Cmp.{eq_by_cmp_equiv, on_equiv, on_per, partial_equiv_from_equiv};
+ghost use Rattle.std.specs.Option.{option_map};
+ghost use Rattle.std.specs.Ordering.{eq_by_cmp, on};
+ghost use Rattle.version_parts.specs.Chunk.{part_front, plain_chunk, plain_piece};
+ghost use Rattle.version_parts.specs.Front.{map_value};
+ghost use Rattle.version_parts.specs.Last as plain;
+ghost use Rattle.version_parts.specs.Last.{first_number, last_fed, last_of, last_text, numbered_last, plain_last, plain_last_piece, IsNumbered, LastOwns, PlainLast};
+ghost use Rattle.version_parts.specs.LastLaws.{last_total, lasts_same};
+ghost use Rattle.version_parts.specs.LastOrder.{last_plain_cmp, last_rank};
+ghost use Rattle.version_parts.specs.OrderLaws.{same_where_tied};
+
+use crate::chunk::{Chunk, ChunkPiece};
+use crate::lists::ListItem;
+use crate::scan::{Class, nonempty_run, unsigned};
+use std::alloc::{AllocError, Global};
+use std::cmp::Ordering;
+use std::fmt;
+use std::hash::{Hash, Hasher};
+
+/// The last part of a general version.
+#[derive(Debug, Drop)]
+pub enum Last {
+    /// A number without leading zeros.
+    Numeric(u32),
+    /// A number, letters and a number, as the release candidate `3rc1`.
+    Rc(u32, String, u32),
+    /// A number and letters, as `3p`.
+    Post(u32, String),
+    /// Any other text.
+    Alphanum(String),
+}
+
+impl Last {
+    /// The last part that a part is: a number is itself, and a text that is a number and letters, with or without a
+    /// number behind them, is taken apart. Only that takes memory; where there is none, the error holds the very
+    /// chunk that was given.
+    pub fn from_chunk(alloc: Global, chunk: Chunk) -> Result<Last, (Chunk, AllocError)>
+        ensures ok { IfOk result (λ last. plain_last last ≡ last_of (plain_chunk chunk)) }
+        ensures same { IfErr result (λ refused. refused.0 ≡ chunk) }
+        ensures err { OnErr result (IsNumbered (last_of (plain_chunk chunk))) }
+    {
+        let text = match chunk {
+            Chunk::Numeric(number) => return Ok(Last::Numeric(number)),
+            Chunk::Alphanum(text) => text,
+        };
+        let built = match LastPiece::numbered(text.as_str()) {
+            Some(piece) => piece.build(alloc),
+            None => return Ok(Last::Alphanum(text)),
+        };
+        match built {
+            Ok(last) => Ok(last),
+            Err(refused) => Err((Chunk::Alphanum(text), refused)),
+        }
+    }
+
+    /// A copy. A number takes no memory; the error is that there is no memory for a text.
+    pub fn clone(&self, alloc: Global) -> Result<Last, AllocError>
+        ensures ok { IfOk result (λ copy. plain_last copy ≡ plain_last self.now) }
+        ensures err { OnErr result (LastOwns (plain_last self.now)) }
+    {
+        self.lent().build(alloc)
+    }
+
+    /// The number that it begins with: that of `Numeric`, the first of `Rc`, or that of `Post`. Takes no memory.
+    pub fn first_number(&self) -> Option<u32>
+        ensures { result ≡ first_number (plain_last self.now) }
+    {
+        match self {
+            Last::Numeric(number) | Last::Rc(number, _, _) | Last::Post(number, _) => Some(*number),
+            Last::Alphanum(_) => None,
+        }
+    }
+
+    // The same with its text lent.
+    fn lent(&self) -> LastPiece<'_>
+        ensures { plain_last_piece result ≡ plain_last self.now }
+    {
+        match self {
+            Last::Numeric(number) => LastPiece::Numeric(*number),
+            Last::Rc(first, text, second) => LastPiece::Rc(*first, text.as_str(), *second),
+            Last::Post(number, text) => LastPiece::Post(*number, text.as_str()),
+            Last::Alphanum(text) => LastPiece::Alphanum(text.as_str()),
+        }
+    }
+}
+
+/// `0`.
+impl Default for Last {
+    ghost is_default = { λ last. plain_last last ≡ plain.Numeric 0 };
+
+    fn default() -> Last {
+        Last::Numeric(0)
+    }
+}
+
+impl fmt::Display for Last {
+    ghost output = { λ last. Some (last_text (plain_last last)) };
+
+    fn fmt<W: fmt::Write>(&self, f: &mut fmt::Formatter<W>) -> fmt::Result {
+        match self {
+            Last::Numeric(number) => write!(f, "{number}"),
+            Last::Rc(first, text, second) => write!(f, "{first}{text}{second}"),
+            Last::Post(number, text) => write!(f, "{number}{text}"),
+            Last::Alphanum(text) => f.write_str(text.as_str()),
+        }
+    }
+}
+
+/// Equal in every field.
+impl PartialEq for Last {
+    ghost eq = { on plain_last (eq_by_cmp last_plain_cmp) };
+
+    ghost laws = { on_per plain_last (partial_equiv_from_equiv (eq_by_cmp_equiv last_total)) };
+
+    fn eq(&self, other: &Last) -> bool {
+        self.compare(other).is_eq()
+    }
+}
+
+impl Eq for Last {
+    ghost laws = { on_equiv plain_last (eq_by_cmp_equiv last_total) };
+}
+
+impl Hash for Last {
+    ghost hash_input = { λ last. last_fed (plain_last last) };
+
+    ghost respects_eq = { λ a b tied. ap last_fed (same_where_tied lasts_same tied) };
+
+    fn hash<H: Hasher>(&self, state: &mut H) {
+        state.write_u8(self.rank());
+        match self {
+            Last::Numeric(number) => number.hash(state),
+            Last::Rc(first, text, second) => {
+                first.hash(state);
+                text.as_str().hash(state);
+                second.hash(state);
+            }
+            Last::Post(number, text) => {
+                number.hash(state);
+                text.as_str().hash(state);
+            }
+            Last::Alphanum(text) => text.as_str().hash(state),
+        }
+    }
+}
+
+impl Last {
+    // The place of the variant among the four.
+    fn rank(&self) -> u8
+        ensures { result ≡ last_rank (plain_last self.now) }
+    {
+        match self {
+            Last::Numeric(_) => 0,
+            Last::Rc(_, _, _) => 1,
+            Last::Post(_, _) => 2,
+            Last::Alphanum(_) => 3,
+        }
+    }
+}
+
+impl ListItem for Last {
+    ghost Plain = { PlainLast };
+
+    ghost plain = { plain_last };
+
+    ghost text = { last_text };
+
+    ghost plain_cmp = { last_plain_cmp };
+
+    ghost prints = { λ last. refl };
+
+    fn copy(&self, alloc: Global) -> Result<Last, AllocError> {
+        self.clone(alloc)
+    }
+
+    /// Variants and fields in the order of their declaration.
+    fn compare(&self, other: &Last) -> Ordering {
+        match (self, other) {
+            (Last::Numeric(a), Last::Numeric(b)) => a.cmp(b),
+            (Last::Rc(a, s, b), Last::Rc(c, t, d)) => {
+                let texts = s.as_str().cmp(t.as_str());
+                a.cmp(c).then(texts).then(b.cmp(d))
+            }
+            (Last::Post(a, s), Last::Post(c, t)) => a.cmp(c).then(s.as_str().cmp(t.as_str())),
+            (Last::Alphanum(s), Last::Alphanum(t)) => s.as_str().cmp(t.as_str()),
+            (a, b) => a.rank().cmp(&b.rank()),
+        }
+    }
+}
+
+/// A last part that was scanned, with its text still in the input.
+#[derive(Clone, Copy)]
+pub enum LastPiece<'a> {
+    Numeric(u32),
+    Rc(u32, &'a str, u32),
+    Post(u32, &'a str),
+    Alphanum(&'a str),
+}
+
+impl<'a> LastPiece<'a> {
+    /// The last part that the part at the front of a text is, and the rest. Takes no memory.
+    pub fn scan(i: &'a str) -> Option<(LastPiece<'a>, &'a str)>
+        ensures { option_map (λ r. (plain_last_piece r.0, r.1.now)) result ≡ map_value last_of (part_front i.now) }
+    {
+        let (part, rest) = ChunkPiece::scan(i, Class::Alphanumeric)?;
+        let last = match part {
+            ChunkPiece::Numeric(number) => LastPiece::Numeric(number),
+            ChunkPiece::Alphanum(text) => {
+                LastPiece::numbered(text).unwrap_or(LastPiece::Alphanum(text))
+            }
+        };
+        Some((last, rest))
+    }
+
+    // A text that is a number and letters, with or without a number behind them.
+    #[tactic(auto, unfolding(crate::specs::Last::numbered_last))]
+    fn numbered(text: &'a str) -> Option<LastPiece<'a>>
+        ensures value { option_map plain_last_piece result ≡ numbered_last text.now }
+        ensures numbered { IfSome result (λ piece. IsNumbered (plain_last_piece piece)) }
+    {
+        let (number, rest) = unsigned(text)?;
+        let (letters, rest) = nonempty_run(rest, Class::Letter)?;
+        if rest.is_empty() {
+            return Some(LastPiece::Post(number, letters));
+        }
+        let (last, rest) = unsigned(rest)?;
+        if rest.is_empty() {
+            Some(LastPiece::Rc(number, letters, last))
+        } else {
+            None
+        }
+    }
+
+    /// The last part with a text of its own. A number takes no memory; the error is that there is no memory for the
+    /// text.
+    pub fn build(self, alloc: Global) -> Result<Last, AllocError>
+        ensures ok { IfOk result (λ last. plain_last last ≡ plain_last_piece self.entry) }
+        ensures err { OnErr result (LastOwns (plain_last_piece self.entry)) }
+    {
+        match self {
+            LastPiece::Numeric(number) => Ok(Last::Numeric(number)),
+            LastPiece::Rc(first, text, second) => {
+                Ok(Last::Rc(first, String::from_str(alloc, text)?, second))
+            }
+            LastPiece::Post(number, text) => Ok(Last::Post(number, String::from_str(alloc, text)?)),
+            LastPiece::Alphanum(text) => Ok(Last::Alphanum(String::from_str(alloc, text)?)),
+        }
+    }
+}

@@ -1,0 +1,80 @@
+//! Lists of the elements of dotted lists: printed, copied and compared, whatever their elements are.
+
+ghost use Rattle.std.specs.Prelude.{◌≡◌, ℕ, List, map, IfOk, Some};
+ghost use Rattle.std.specs.Cmp.Lexicographic.{slice_cmp};
+ghost use Rattle.std.specs.Fmt.{WritesOnOk};
+ghost use Rattle.std.specs.List.{join_with_byte};
+ghost use Rattle.std.specs.declared.cmp.Ordering.{Ordering};
+ghost use Rattle.version_parts.specs.Bytes.{dot};
+
+use std::alloc::{AllocError, Global};
+use std::cmp::Ordering;
+use std::fmt;
+use std::fmt::Display;
+
+/// What may stand in a list: it prints a text, and can be copied and compared.
+pub trait ListItem: Display + Drop {
+    // The item apart from where its text lies, its printed text, and how two compare.
+    ghost Plain: { Type 0 };
+
+    ghost plain: { Self → Plain };
+
+    ghost text: { Plain → List ℕ };
+
+    ghost plain_cmp: { Plain → Plain → Ordering };
+
+    /// A copy. The error is that there is no memory for it.
+    fn copy(&self, alloc: Global) -> Result<Self, AllocError>
+    where
+        Self: Sized,
+        ensures { IfOk result (λ copy. plain copy ≡ plain self.now) };
+
+    /// How two items compare, field by field. Takes no memory.
+    fn compare(&self, other: &Self) -> Ordering
+        ensures { result ≡ plain_cmp (plain self.now) (plain other.now) };
+
+    // An item prints its text.
+    ghost prints: { (item : Self) → Self.output item ≡ Some (text (plain item)) };
+}
+
+/// Writes the items with dots between them.
+pub fn write_dotted<T: ListItem, W: fmt::Write>(
+    items: &[T],
+    f: &mut fmt::Formatter<W>,
+) -> fmt::Result
+    ensures { WritesOnOk W.write_str_gives f.old result
+        (join_with_byte dot (map T.text (map T.plain items.now))) f.new }
+{
+    let Some((first, others)) = items.split_first() else {
+        return Ok(());
+    };
+    write!(f, "{first}")?;
+    for item in others {
+        write!(f, ".{item}")?;
+    }
+    Ok(())
+}
+
+/// A copy of the items, in a list made at its exact length. The error is that there is no memory for it.
+pub fn copy_list<T: ListItem>(alloc: Global, items: &[T]) -> Result<Vec<T>, AllocError>
+    ensures { IfOk result (λ copy. map T.plain copy.items ≡ map T.plain items.now) }
+{
+    let mut copy = Vec::with_capacity(alloc, items.len())?;
+    for item in items {
+        copy.push(item.copy(alloc)?)?;
+    }
+    Ok(copy)
+}
+
+/// Item by item, the shorter first where one list begins the other. Takes no memory.
+pub fn compare_lists<T: ListItem>(a: &[T], b: &[T]) -> Ordering
+    ensures { result ≡ slice_cmp T.plain_cmp (map T.plain a.now) (map T.plain b.now) }
+{
+    'items: for at in 0..a.len().min(b.len()) {
+        let ordering = a[at].compare(&b[at]);
+        if ordering != Ordering::Equal {
+            return ordering;
+        }
+    }
+    a.len().cmp(&b.len())
+}

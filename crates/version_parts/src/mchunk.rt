@@ -1,0 +1,244 @@
+//! Chunks of a messy version: what stands between its dots and signs.
+
+ghost use Rattle.std.specs.Prelude.{◌≡◌, ◌<◌, refl, string_bytes, IfOk, Some};
+ghost use Rattle.std.specs.Option.{option_map};
+ghost use Rattle.std.proofs.Common.{ap};
+ghost use Rattle.std.specs.Cmp.{eq_by_cmp_equiv, on_equiv, on_per, partial_equiv_from_equiv};
+ghost use Rattle.std.specs.Ordering.{eq_by_cmp, on};
+ghost use Rattle.version_parts.specs.Front.{Reads};
+ghost use Rattle.version_parts.specs.FrontLaws.{mchunk_consumes};
+ghost use Rattle.version_parts.specs.MChunk.{chunk_before, digits_number, ends_chunk, mchunk_fed, mchunk_front, mchunk_plain_cmp, mchunk_rank, mchunk_text, mchunk_value, plain_mchunk, value_of_digits, value_of_revision, variant_of, PlainMChunk};
+ghost use Rattle.version_parts.specs.MChunkLaws.{mchunk_total, mchunks_same};
+ghost use Rattle.version_parts.specs.OrderLaws.{same_where_tied};
+
+use crate::lists::ListItem;
+use crate::scan::{Class, Element, after_mark, is_all_digits, nonempty_run, value_of};
+use crate::sep::Sep;
+use std::alloc::{AllocError, Global};
+use std::cmp::Ordering;
+use std::fmt;
+use std::hash::{Hash, Hasher};
+
+/// One piece between the dots and signs of a messy version, as `1`, `6a` and `r3` of `1.6a+r3`: letters and digits.
+#[derive(Debug, Drop)]
+pub enum MChunk {
+    /// Digits, perhaps with zeros before them, of a value below 2^32, and their text.
+    Digits(u32, String),
+    /// A revision: the letter `r` and such digits behind it, their value, and the whole text.
+    Rev(u32, String),
+    /// Any other text.
+    Plain(String),
+}
+
+impl MChunk {
+    /// The messy chunk at the front of a text, and the rest: the longest run of letters and digits. Where neither the
+    /// end nor a dot nor a sign follows it, it is `Plain`, whatever it has. None takes no memory; otherwise the text is
+    /// copied, and the error is that there is no memory for it.
+    #[tactic(auto, unfolding(crate::specs::MChunk::mchunk_front))]
+    pub fn parse(alloc: Global, i: &str) -> Result<Option<(MChunk, &str)>, AllocError>
+        ensures { Reads plain_mchunk (λ _. Unit {0}) result (mchunk_front i.now) }
+    {
+        let Some((run, rest)) = nonempty_run(i, Class::Alphanumeric) else {
+            return Ok(None);
+        };
+        let text = String::from_str(alloc, run)?;
+        let chunk = MChunk::before(rest, text);
+        Ok(Some((chunk, rest)))
+    }
+
+    // The chunk that a run is, before what follows it.
+    fn before(rest: &str, run: String) -> MChunk
+        ensures { plain_mchunk result ≡ chunk_before (string_bytes run, rest.now) }
+    {
+        if ends_chunk(rest) {
+            MChunk::of(run)
+        } else {
+            MChunk::Plain(run)
+        }
+    }
+
+    // The chunk that a run of letters and digits is.
+    #[tactic(auto, unfolding(crate::specs::MChunk::variant_of))]
+    fn of(run: String) -> MChunk
+        ensures { plain_mchunk result ≡ variant_of (string_bytes run) }
+    {
+        if let Some(value) = value_of_digits(run.as_str()) {
+            return MChunk::Digits(value, run);
+        }
+        match value_of_revision(run.as_str()) {
+            Some(value) => MChunk::Rev(value, run),
+            None => MChunk::Plain(run),
+        }
+    }
+
+    /// The text that was read, and that is printed.
+    pub fn text(&self) -> &str
+        ensures { result.now ≡ mchunk_text (plain_mchunk self.now) }
+    {
+        match self {
+            MChunk::Digits(_, text) => text.as_str(),
+            MChunk::Rev(_, text) => text.as_str(),
+            MChunk::Plain(text) => text.as_str(),
+        }
+    }
+
+    /// The number of `Digits`. Takes no memory.
+    pub fn number(&self) -> Option<u32>
+        ensures { result ≡ digits_number (plain_mchunk self.now) }
+    {
+        match self {
+            MChunk::Digits(value, _) => Some(*value),
+            _ => None,
+        }
+    }
+
+    /// A copy. The error is that there is no memory for it.
+    pub fn clone(&self, alloc: Global) -> Result<MChunk, AllocError>
+        ensures { IfOk result (λ copy. plain_mchunk copy ≡ plain_mchunk self.now) }
+    {
+        let copy = String::from_str(alloc, self.text())?;
+        match self {
+            MChunk::Digits(value, _) => Ok(MChunk::Digits(*value, copy)),
+            MChunk::Rev(value, _) => Ok(MChunk::Rev(*value, copy)),
+            MChunk::Plain(_) => Ok(MChunk::Plain(copy)),
+        }
+    }
+
+    // The place of the kind among the kinds, as they are declared.
+    fn rank(&self) -> u8
+        ensures { result ≡ mchunk_rank (plain_mchunk self.now) }
+    {
+        match self {
+            MChunk::Digits(..) => 0,
+            MChunk::Rev(..) => 1,
+            MChunk::Plain(_) => 2,
+        }
+    }
+
+    // The value that stands beside the text, none being 0.
+    fn value(&self) -> u32
+        ensures { result ≡ mchunk_value (plain_mchunk self.now) }
+    {
+        match self {
+            MChunk::Digits(value, _) => *value,
+            MChunk::Rev(value, _) => *value,
+            MChunk::Plain(_) => 0,
+        }
+    }
+
+    // How two chunks compare, field by field.
+    fn compare_plain(&self, other: &MChunk) -> Ordering
+        ensures { result ≡ mchunk_plain_cmp (plain_mchunk self.now) (plain_mchunk other.now) }
+    {
+        let kinds = self.rank().cmp(&other.rank());
+        let values = kinds.then(self.value().cmp(&other.value()));
+        values.then(self.text().cmp(other.text()))
+    }
+}
+
+// Whether what follows a run is a dot, a sign or the end.
+fn ends_chunk(rest: &str) -> bool
+    ensures { result ≡ ends_chunk rest.now }
+{
+    match rest.as_bytes() {
+        [first, ..] => *first == b'.' || Sep::of(*first).is_some(),
+        _ => true,
+    }
+}
+
+// The value of a text of digits, if it is below 2 ^ 32.
+fn value_of_digits(text: &str) -> Option<u32>
+    ensures { result ≡ value_of_digits text.now }
+{
+    if text.is_empty() || !is_all_digits(text) {
+        return None;
+    }
+    value_of(text)
+}
+
+// The value of the digits behind an r.
+fn value_of_revision(text: &str) -> Option<u32>
+    ensures { result ≡ value_of_revision text.now }
+{
+    value_of_digits(after_mark(text, b'r')?)
+}
+
+impl fmt::Display for MChunk {
+    ghost output = { λ chunk. Some (mchunk_text (plain_mchunk chunk)) };
+
+    fn fmt<W: fmt::Write>(&self, f: &mut fmt::Formatter<W>) -> fmt::Result {
+        f.write_str(self.text())
+    }
+}
+
+impl PartialEq for MChunk {
+    ghost eq = { on plain_mchunk (eq_by_cmp mchunk_plain_cmp) };
+
+    ghost laws = { on_per plain_mchunk (partial_equiv_from_equiv (eq_by_cmp_equiv mchunk_total)) };
+
+    fn eq(&self, other: &MChunk) -> bool {
+        self.compare_plain(other).is_eq()
+    }
+}
+
+impl Eq for MChunk {
+    ghost laws = { on_equiv plain_mchunk (eq_by_cmp_equiv mchunk_total) };
+}
+
+impl Hash for MChunk {
+    ghost hash_input = { λ chunk. mchunk_fed (plain_mchunk chunk) };
+
+    ghost respects_eq = { λ a b tied. ap mchunk_fed (same_where_tied mchunks_same tied) };
+
+    fn hash<H: Hasher>(&self, state: &mut H) {
+        state.write_u8(self.rank());
+        self.value().hash(state);
+        self.text().hash(state);
+    }
+}
+
+impl ListItem for MChunk {
+    ghost Plain = { PlainMChunk };
+
+    ghost plain = { plain_mchunk };
+
+    ghost text = { mchunk_text };
+
+    ghost plain_cmp = { mchunk_plain_cmp };
+
+    ghost prints = { λ chunk. refl };
+
+    fn copy(&self, alloc: Global) -> Result<MChunk, AllocError> {
+        self.clone(alloc)
+    }
+
+    fn compare(&self, other: &MChunk) -> Ordering {
+        self.compare_plain(other)
+    }
+}
+
+/// The chunks of a messy version, as the elements of a dotted list.
+pub struct MessyChunk;
+
+impl Element for MessyChunk {
+    type Item = MChunk;
+
+    ghost Plain = { PlainMChunk };
+
+    ghost plain = { plain_mchunk };
+
+    ghost front = { mchunk_front };
+
+    ghost owns = { λ _. Unit {0} };
+
+    ghost consumes = { mchunk_consumes };
+
+    #[tactic(auto, unfolding(crate::specs::MChunk::mchunk_front))]
+    fn skip(i: &str) -> Option<&str> {
+        Some(nonempty_run(i, Class::Alphanumeric)?.1)
+    }
+
+    fn read(alloc: Global, i: &str) -> Result<Option<(MChunk, &str)>, AllocError> {
+        MChunk::parse(alloc, i)
+    }
+}

@@ -1,0 +1,145 @@
+//! Releases: chunks behind a hyphen, as `-rc.1`.
+
+ghost use Rattle.std.specs.Prelude.{◌≡◌, refl, length, IfOk, List, Some};
+ghost use Rattle.std.proofs.Common.{ap};
+ghost use Rattle.std.specs.Cmp.{eq_by_cmp_equiv, on_equiv, on_per, on_total, partial_equiv_from_equiv, po};
+ghost use Rattle.std.specs.Option.{option_map};
+ghost use Rattle.std.specs.Ordering.{as_partial_cmp, eq_by_cmp, on};
+ghost use Rattle.version_parts.specs.Chunk.{chunk_front, PlainChunk};
+ghost use Rattle.version_parts.specs.Front.{elements_at, Reads};
+ghost use Rattle.version_parts.specs.OrderLaws.{same_where_tied};
+ghost use Rattle.version_parts.specs.Release.{plain_release, release_fed, release_front, release_text};
+ghost use Rattle.version_parts.specs.ReleaseLaws.{release_total, releases_same};
+ghost use Rattle.version_parts.specs.ReleaseOrder.{release_bytes, release_cmp};
+
+use crate::chunk::{Chunk, ReleaseChunk};
+use crate::key::ListBytes;
+use crate::lists::{compare_lists, copy_list, write_dotted};
+use crate::scan::{Dotted, after_mark};
+use std::alloc::{AllocError, Global};
+use std::cmp::Ordering;
+use std::fmt;
+use std::hash::{Hash, Hasher};
+use std::marker::Model;
+
+/// The chunks of a pre-release or a release, behind its hyphen.
+#[derive(Debug, Drop)]
+pub struct Release(pub Vec<Chunk>);
+
+impl Release {
+    /// The release at the front of a text, and the rest: a hyphen, then chunks joined by dots. The list stops
+    /// before a dot behind which no chunk can be read. None takes no memory; the error is that there is no memory
+    /// for the chunks.
+    pub fn parse(alloc: Global, i: &str) -> Result<Option<(Release, &str)>, AllocError>
+        ensures { Reads plain_release (λ _. Unit {0}) result (release_front i.now) }
+    {
+        let Some((piece, rest)) = ReleasePiece::scan(i) else {
+            return Ok(None);
+        };
+        Ok(Some((piece.build(alloc)?, rest)))
+    }
+
+    /// The bytes by which releases compare, of its chunks and of its end. Takes no memory.
+    pub fn bytes(&self) -> ListBytes<'_, ReleaseChunk>
+        ensures { result ≡ release_bytes (plain_release self.now) }
+    {
+        ListBytes::of(self.0.as_slice())
+    }
+
+    /// A copy. The error is that there is no memory for it.
+    pub fn clone(&self, alloc: Global) -> Result<Release, AllocError>
+        ensures { IfOk result (λ copy. plain_release copy ≡ plain_release self.now) }
+    {
+        Ok(Release(copy_list(alloc, self.0.as_slice())?))
+    }
+}
+
+impl fmt::Display for Release {
+    ghost output = { λ release. Some (release_text (plain_release release)) };
+
+    fn fmt<W: fmt::Write>(&self, f: &mut fmt::Formatter<W>) -> fmt::Result {
+        write_dotted(self.0.as_slice(), f)
+    }
+}
+
+impl PartialEq for Release {
+    ghost eq = { on plain_release (eq_by_cmp release_cmp) };
+
+    ghost laws = { on_per plain_release (partial_equiv_from_equiv (eq_by_cmp_equiv release_total)) };
+
+    fn eq(&self, other: &Release) -> bool {
+        self.cmp(other).is_eq()
+    }
+}
+
+impl Eq for Release {
+    ghost laws = { on_equiv plain_release (eq_by_cmp_equiv release_total) };
+}
+
+impl Hash for Release {
+    ghost hash_input = { λ release. release_fed (plain_release release) };
+
+    ghost respects_eq = { λ a b tied. ap release_fed (same_where_tied releases_same tied) };
+
+    fn hash<H: Hasher>(&self, state: &mut H) {
+        self.0.hash(state);
+    }
+}
+
+/// Chunk by chunk: numbers by value and below texts, texts by bytes, and the release that ends first below the
+/// other (SemVer 2.0, section 11). Takes no memory.
+impl Ord for Release {
+    ghost cmp = { on plain_release release_cmp };
+
+    ghost total = { on_total plain_release release_total };
+
+    ghost matches_partial_cmp = { λ a b. refl };
+
+    ghost matches_eq = { λ a b. refl };
+
+    fn cmp(&self, other: &Release) -> Ordering {
+        compare_lists(self.0.as_slice(), other.0.as_slice())
+    }
+}
+
+impl PartialOrd for Release {
+    ghost partial_cmp = { as_partial_cmp (on plain_release release_cmp) };
+
+    ghost laws = { po (on_total plain_release release_total) (λ a b. refl) };
+
+    fn partial_cmp(&self, other: &Release) -> Option<Ordering> {
+        Some(self.cmp(other))
+    }
+}
+
+/// A release that was scanned, with its chunks still in the input.
+#[derive(Drop)]
+pub struct ReleasePiece<'a> {
+    list: Dotted<'a>,
+}
+
+impl<'a> Model for ReleasePiece<'a> {
+    ghost Value = { List PlainChunk };
+
+    ghost view = { λ r. elements_at chunk_front r.list.text.now };
+
+    ghost invariant = { λ r. r.list.count ≡ length (elements_at chunk_front r.list.text.now) };
+}
+
+impl<'a> ReleasePiece<'a> {
+    /// The release at the front of a text, and the rest. Takes no memory.
+    pub fn scan(i: &'a str) -> Option<(ReleasePiece<'a>, &'a str)>
+        ensures { option_map (λ r. (r.0, r.1.now)) result ≡ release_front i.now }
+    {
+        let (list, rest) = Dotted::scan::<ReleaseChunk>(after_mark(i, b'-')?)?;
+        Some((ReleasePiece { list }, rest))
+    }
+
+    /// The release with chunks of its own. The error is that there is no memory for them.
+    pub fn build(self, alloc: Global) -> Result<Release, AllocError>
+        ensures { IfOk result (λ release. plain_release release ≡ self.entry) }
+    {
+        let count = self.list.count;
+        Ok(Release(self.list.build::<ReleaseChunk>(alloc, count)?))
+    }
+}

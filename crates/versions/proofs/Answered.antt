@@ -1,0 +1,7 @@
+-- What a reader answered.
+use Rattle.std.proofs.Common.{Result, Ok, Err, OnErr}
+
+-- a fact that holds anyway holds on an error
+pub on_err : {T E : Type 0} (r : Result T E) (P : Type 0) → P → OnErr r P
+on_err (Ok x) P p = tt
+on_err (Err e) P p = p

@@ -1,0 +1,78 @@
+-- How a reader goes over a messy version, section by section.
+use Rattle.std.proofs.Common.{◌≡◌, ◌∙◌, ◌<◌, ℕ, List, [], ◌∷◌, ◌++◌, length, Option, Some, None, Result, Ok, Err, IsSomeAnd, inl, inr, refl, sym, ap, append-nil, append_assoc}
+use Rattle.std.specs.Borrow.{Bor}
+use Rattle.std.specs.Option.{option_map}
+use Rattle.std.specs.Result.{IsErr}
+use Rattle.std.specs.declared.alloc.AllocError.{AllocError}
+use Rattle.version_parts.specs.Front.{Reads, repeated}
+use Rattle.version_parts.proofs.DottedScan.{nothing_before, read_before}
+use Rattle.version_parts.proofs.Repeated.{cases_Option, repeated-None, repeated-next}
+use Rattle.versions.specs.Mess.{Further, PlainMess, Section, further_front, mess_front, plain_mess, section_front}
+use Rattle.versions.specs.declared.mess.Mess.{Mess}
+use Rattle.versions.proofs.MessReading.{further_shrinks, mess_front-None, mess_front-Some}
+
+-- the further sections of a text, and what is left behind them
+abbrev pub all_further : List ℕ → List Further × List ℕ
+all_further text = repeated further_front (length text) text
+
+-- the same behind those that are read so far
+abbrev pub and_further : List Further → List ℕ → List Further × List ℕ
+and_further sofar text = (sofar ++ (all_further text).0, (all_further text).1)
+
+-- ---- what is left
+
+-- behind the first section
+pub left_first : (text behind : List ℕ) → Some behind ≡ option_map (λ p. p.1) (section_front text) → Some (all_further behind).1 ≡ option_map (λ p. p.1) (mess_front text)
+left_first text behind e =
+    let first = read_before (section_front text) behind e in
+    rw (mess_front-Some text first.0 behind first.1) refl
+
+pub left_none : (text : List ℕ) → None ≡ option_map (λ p. p.1) (section_front text) → None ≡ option_map (λ p. p.1) (mess_front text)
+left_none text e = rw (mess_front-None text (nothing_before _ e)) refl
+
+-- behind a further section
+pub left_next : (text after : List ℕ) → Some after ≡ option_map (λ p. p.1) (further_front text) → (all_further text).1 ≡ (all_further after).1
+left_next text after e =
+    let one = read_before (further_front text) after e in
+    rw (repeated-next further_front further_shrinks text one.0 after one.1) refl
+
+pub left_shorter : (text after : List ℕ) → Some after ≡ option_map (λ p. p.1) (further_front text) → length after < length text
+left_shorter text after e =
+    let one = read_before (further_front text) after e in
+    further_shrinks text one.0 after one.1
+
+pub left_last : (text : List ℕ) → None ≡ option_map (λ p. p.1) (further_front text) → (all_further text).1 ≡ text
+left_last text e = rw (repeated-None further_front text (length text) (nothing_before _ e)) refl
+
+-- ---- what is read
+
+pub read_next : (sofar : List Further) (text : List ℕ) (one : Further) (after : List ℕ) → further_front text ≡ Some (one, after)
+    → and_further (sofar ++ one ∷ []) after ≡ and_further sofar text
+read_next sofar text one after e = rw (repeated-next further_front further_shrinks text one after e, append_assoc) refl
+
+pub read_last : (sofar : List Further) (text : List ℕ) → further_front text ≡ None → and_further sofar text ≡ (sofar, text)
+read_last sofar text e = rw (repeated-None further_front text (length text) e, append-nil) refl
+
+-- a version whose first section and further ones are read
+pub mess_read : (text : List ℕ) (first : Section) (behind : List ℕ) (further : List Further × List ℕ) (m : PlainMess) → Some (first, behind) ≡ section_front text
+    → further ≡ all_further behind → m.first ≡ first → m.more ≡ further.0 → Some (m, further.1) ≡ mess_front text
+mess_read text first behind further m read rest first_is more_is =
+    let more : m.more ≡ (all_further behind).0 = more_is ∙ ap (λ (p : List Further × List ℕ). p.0) rest in
+    let left : further.1 ≡ (all_further behind).1 = ap (λ (p : List Further × List ℕ). p.1) rest in
+    let value : m ≡ record { first = first; more = (all_further behind).0 } = λ i. record { first = first_is i; more = more i } in
+    ap (λ (p : PlainMess × List ℕ). Some p) (λ i. (value i, left i)) ∙ sym (mess_front-Some text first behind (sym read))
+
+-- memory is wanted only where a first section is read
+pub wants_memory : (text : List ℕ) → IsSomeAnd (section_front text) (λ r. Unit {0}) → IsSomeAnd (mess_front text) (λ r. Unit {0})
+wants_memory text some = elim (cases_Option (section_front text)) [
+  | inl none ↦ absurd (rw none at some)
+  | inr one ↦ rw (mess_front-Some text one.0.0 one.0.1 one.1) tt
+]
+
+pub first_some : {X : Type 0} (o : Option (X × List ℕ)) (p : X × List ℕ) → Some p ≡ o → IsSomeAnd o (λ r. Unit {0})
+first_some o p e = rw (← e) tt
+
+pub reads_err : (r : Result (Option (Mess × Bor (List ℕ))) AllocError) (front : Option (PlainMess × List ℕ)) → IsErr r → IsSomeAnd front (λ r. Unit {0})
+    → Reads plain_mess (λ m. Unit {0}) r front
+reads_err (Ok answer) front err some = cc err
+reads_err (Err e) front err some = some

@@ -1,0 +1,141 @@
+//! Strict and general versions as messy ones.
+
+ghost use Rattle.std.specs.Prelude.{◌≡◌, ◌∷◌, [], ◌++◌, map, string_bytes, IfOk};
+ghost use Rattle.std.specs.Fmt.{decimal};
+ghost use Rattle.std.specs.Option.{option_map};
+ghost use Rattle.version_parts.specs.Body.{plain_chunks};
+ghost use Rattle.version_parts.specs.Chunk.{plain_chunk};
+ghost use Rattle.version_parts.specs.Last.{plain_last};
+ghost use Rattle.version_parts.specs.MChunk.{plain_mchunk, Plain};
+ghost use Rattle.version_parts.specs.Release.{plain_release};
+ghost use Rattle.versions.specs.Conversions.{behind_epoch, body_section, digits_of_number, mchunk_of, mchunk_of_last, mess_of_semver, mess_of_version, meta_section, release_section};
+ghost use Rattle.versions.specs.Mess.{mess_text, plain_further, plain_mess, plain_section};
+ghost use Rattle.versions.specs.SemVer.{plain_semver, semver_text};
+ghost use Rattle.versions.specs.Version.{plain_version, version_text};
+
+use crate::mess::{Mess, link};
+use crate::semver::SemVer;
+use crate::version::Version;
+use std::alloc::{AllocError, Global};
+use version_parts::{Chunk, Last, MChunk, Release, Sep};
+
+impl SemVer {
+    /// The messy version that prints the same: the three numbers as digits, the release behind a hyphen, the metadata
+    /// as one text behind a plus. The error is that there is no memory for it.
+    pub fn to_mess(&self, alloc: Global) -> Result<Mess, AllocError>
+        ensures fields { IfOk result (λ m. plain_mess m ≡ mess_of_semver (plain_semver self.now)) }
+        ensures printed { IfOk result (λ m. mess_text (plain_mess m) ≡ semver_text (plain_semver self.now)) }
+    {
+        convert_strict(alloc, self)
+    }
+}
+
+impl Version {
+    /// The messy version that prints the same: an epoch as a section of its own before a colon, the chunks and the last
+    /// part, the release behind a hyphen, the metadata as one text behind a plus. A number is digits, anything else its
+    /// printed text. The error is that there is no memory for it.
+    pub fn to_mess(&self, alloc: Global) -> Result<Mess, AllocError>
+        ensures fields { IfOk result (λ m. plain_mess m ≡ mess_of_version (plain_version self.now)) }
+        ensures printed { IfOk result (λ m. mess_text (plain_mess m) ≡ version_text (plain_version self.now)) }
+    {
+        convert_general(alloc, self)
+    }
+}
+
+fn convert_strict(alloc: Global, v: &SemVer) -> Result<Mess, AllocError>
+    ensures { IfOk result (λ m. plain_mess m ≡ mess_of_semver (plain_semver v.now)) }
+{
+    let mut body = Vec::with_capacity(alloc, 3)?;
+    body.push(digits(alloc, v.major)?)?;
+    body.push(digits(alloc, v.minor)?)?;
+    body.push(digits(alloc, v.patch)?)?;
+    join(alloc, None, body, &v.pre_rel, &v.meta)
+}
+
+fn convert_general(alloc: Global, v: &Version) -> Result<Mess, AllocError>
+    ensures { IfOk result (λ m. plain_mess m ≡ mess_of_version (plain_version v.now)) }
+{
+    let chunks = v.chunks.0.as_slice();
+    let mut body = chunk_section(alloc, chunks, chunks.len().saturating_add(1))?;
+    body.push(last_chunk(alloc, &v.last)?)?;
+    join(alloc, v.epoch, body, &v.release, &v.meta)
+}
+
+// The body with the epoch before it, and the release and the metadata behind it.
+fn join(
+    alloc: Global,
+    epoch: Option<u32>,
+    body: Vec<MChunk>,
+    release: &Option<Release>,
+    meta: &Option<String>,
+) -> Result<Mess, AllocError>
+    ensures { IfOk result (λ m. plain_mess m ≡ behind_epoch epoch (plain_section body)
+        (release_section (option_map plain_release release.now) ++ meta_section (option_map string_bytes meta.now))) }
+{
+    let mut more = Vec::with_capacity(alloc, 3)?;
+    let first = match epoch {
+        None => body,
+        Some(epoch) => {
+            more.push((Sep::Colon, body))?;
+            alone(alloc, digits(alloc, epoch)?)?
+        }
+    };
+    if let Some(release) = release {
+        let chunks = release.0.as_slice();
+        more.push((Sep::Hyphen, chunk_section(alloc, chunks, chunks.len())?))?;
+    }
+    if let Some(meta) = meta {
+        let text = String::from_str(alloc, meta.as_str())?;
+        more.push((Sep::Plus, alone(alloc, MChunk::Plain(text))?))?;
+    }
+    link(alloc, first, more)
+}
+
+// A section of one chunk.
+fn alone(alloc: Global, chunk: MChunk) -> Result<Vec<MChunk>, AllocError>
+    ensures { IfOk result (λ section. plain_section section ≡ plain_mchunk chunk ∷ []) }
+{
+    let mut section = Vec::with_capacity(alloc, 1)?;
+    section.push(chunk)?;
+    Ok(section)
+}
+
+// A section of chunks, in a list of that capacity.
+fn chunk_section(
+    alloc: Global,
+    chunks: &[Chunk],
+    capacity: usize,
+) -> Result<Vec<MChunk>, AllocError>
+    ensures { IfOk result (λ section. plain_section section ≡ map mchunk_of (map plain_chunk chunks.now)) }
+{
+    let mut section = Vec::with_capacity(alloc, capacity)?;
+    for chunk in chunks {
+        section.push(messy_chunk(alloc, chunk)?)?;
+    }
+    Ok(section)
+}
+
+fn messy_chunk(alloc: Global, chunk: &Chunk) -> Result<MChunk, AllocError>
+    ensures { IfOk result (λ messy. plain_mchunk messy ≡ mchunk_of (plain_chunk chunk.now)) }
+{
+    match chunk {
+        Chunk::Numeric(number) => digits(alloc, *number),
+        Chunk::Alphanum(text) => Ok(MChunk::Plain(String::from_str(alloc, text.as_str())?)),
+    }
+}
+
+fn last_chunk(alloc: Global, last: &Last) -> Result<MChunk, AllocError>
+    ensures { IfOk result (λ messy. plain_mchunk messy ≡ mchunk_of_last (plain_last last.now)) }
+{
+    match last {
+        Last::Numeric(number) => digits(alloc, *number),
+        _ => Ok(MChunk::Plain(last.to_string(alloc)?)),
+    }
+}
+
+// A number as digits.
+fn digits(alloc: Global, number: u32) -> Result<MChunk, AllocError>
+    ensures { IfOk result (λ messy. plain_mchunk messy ≡ digits_of_number number) }
+{
+    Ok(MChunk::Digits(number, number.to_string(alloc)?))
+}

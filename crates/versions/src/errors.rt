@@ -1,0 +1,95 @@
+//! Why a text is not read.
+
+ghost use Rattle.std.specs.Prelude.{◌≡◌, string_bytes, IfErr, IfNone, IfOk, IsErrAnd, IsSome, MatchOption, Ok, Some};
+
+use std::alloc::{AllocError, Global};
+use std::fmt;
+
+/// A text that spells no value of the type that was asked for. Each variant holds the whole text.
+#[derive(Debug, Drop, thiserror::Error)]
+pub enum Error {
+    /// No strict version.
+    IllegalSemver(String),
+    /// No general version.
+    IllegalVersion(String),
+    /// No messy version.
+    IllegalMess(String),
+    /// No version of any kind.
+    IllegalVersioning(String),
+    /// No requirement, or no list of requirements.
+    IllegalOp(String),
+}
+
+impl Error {
+    ghost use Rattle.versions.specs.Errors.{plain_error};
+
+    /// A copy. The error is that there is no memory for it.
+    pub fn clone(&self, alloc: Global) -> Result<Error, AllocError>
+        ensures { IfOk result (λ copy. plain_error copy ≡ plain_error self.now) }
+    {
+        match self {
+            Error::IllegalSemver(text) => Ok(Error::IllegalSemver(copy_of(alloc, text)?)),
+            Error::IllegalVersion(text) => Ok(Error::IllegalVersion(copy_of(alloc, text)?)),
+            Error::IllegalMess(text) => Ok(Error::IllegalMess(copy_of(alloc, text)?)),
+            Error::IllegalVersioning(text) => Ok(Error::IllegalVersioning(copy_of(alloc, text)?)),
+            Error::IllegalOp(text) => Ok(Error::IllegalOp(copy_of(alloc, text)?)),
+        }
+    }
+}
+
+fn copy_of(alloc: Global, text: &String) -> Result<String, AllocError>
+    ensures { IfOk result (λ copy. string_bytes copy ≡ string_bytes text.now) }
+{
+    String::from_str(alloc, text.as_str())
+}
+
+impl fmt::Display for Error {
+    ghost use Rattle.std.specs.Prelude.{Some};
+    ghost use Rattle.versions.specs.Errors.{error_text, plain_error};
+
+    ghost output = { λ e. Some (error_text (plain_error e)) };
+
+    fn fmt<W: fmt::Write>(&self, f: &mut fmt::Formatter<W>) -> fmt::Result {
+        match self {
+            Error::IllegalSemver(text) => write!(f, "Illegal SemVer: {text}"),
+            Error::IllegalVersion(text) => write!(f, "Illegal Version: {text}"),
+            Error::IllegalMess(text) => write!(f, "Illegal Mess: {text}"),
+            Error::IllegalVersioning(text) => write!(f, "Illegal Versioning: {text}"),
+            Error::IllegalOp(text) => write!(f, "Illegal Op: {text}"),
+        }
+    }
+}
+
+/// Why a call named `from_str` gives no value.
+#[derive(Debug, Drop, thiserror::Error)]
+pub enum ReadError {
+    /// The text spells no value.
+    Illegal(Error),
+    /// A request for memory was refused, for the value or for the text in the error.
+    Memory(AllocError),
+}
+
+impl fmt::Display for ReadError {
+    ghost use Rattle.std.specs.Prelude.{Some};
+    ghost use Rattle.versions.specs.Errors.{read_error_text};
+
+    ghost output = { λ e. Some (read_error_text e) };
+
+    fn fmt<W: fmt::Write>(&self, f: &mut fmt::Formatter<W>) -> fmt::Result {
+        match self {
+            ReadError::Illegal(error) => write!(f, "{error}"),
+            ReadError::Memory(_) => write!(f, "no memory"),
+        }
+    }
+}
+
+impl From<AllocError> for ReadError {
+    ghost use Rattle.std.specs.Prelude.{◌≡◌};
+    ghost use Rattle.versions.specs.declared.errors.ReadError.TheVariants.{Memory};
+
+    ghost from_gives = { λ refused e. e ≡ Memory refused };
+
+    fn from(refused: AllocError) -> ReadError {
+        ReadError::Memory(refused)
+    }
+}

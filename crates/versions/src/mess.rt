@@ -1,0 +1,306 @@
+//! Messy versions. However many sections there are, every call goes along them by a loop.
+
+ghost use Rattle.std.specs.Prelude.{◌≡◌, [], Some, IfOk, IfSome, OnErr, length, map};
+ghost use Rattle.std.specs.Option.{is_some, option_map};
+ghost use Rattle.std.proofs.Common.{ap};
+ghost use Rattle.std.specs.Cmp.{eq_by_cmp_equiv, on_equiv, on_per, partial_equiv_from_equiv};
+ghost use Rattle.std.specs.Ordering.{eq_by_cmp, on};
+ghost use Rattle.version_parts.specs.Front.{repeated, Reads};
+ghost use Rattle.version_parts.specs.OrderLaws.{same_where_tied};
+ghost use Rattle.versions.specs.Errors.{IllegalMess, ReadsOr};
+ghost use Rattle.versions.specs.Mess.{behind_colons, further_front, mess_fed, mess_front, mess_of, mess_plain_cmp, mess_text, nth_number, plain_further, plain_mess, plain_section, section_front, PlainMess, SpellsMess};
+ghost use Rattle.versions.specs.MessLaws.{mess_total, messes_same};
+
+use crate::errors::{Error, ReadError};
+use crate::reading::or_illegal;
+use std::alloc::{AllocError, Global};
+use std::cmp::Ordering;
+use std::fmt;
+use std::hash::{Hash, Hasher};
+use version_parts::lists::{compare_lists, copy_list, write_dotted};
+use version_parts::scan::{self, Dotted};
+use version_parts::{MChunk, MessyChunk, Sep};
+
+/// A messy version: chunks joined by dots, then perhaps a sign and a further messy version, as `1.6a+2014+m872b-1`
+/// or `2:10.2`.
+#[derive(Debug)]
+pub struct Mess {
+    /// The chunks of the first section. There is at least one where it was read.
+    pub chunks: Vec<MChunk>,
+    /// What follows the first section.
+    pub next: Option<(Sep, Box<Mess>)>,
+}
+
+impl Mess {
+    /// The messy version that the whole text spells, or None where it spells none. None takes no memory; otherwise the
+    /// chunks are copied, and the error is that there is no memory for them.
+    pub fn new(alloc: Global, s: &str) -> Result<Option<Mess>, AllocError>
+        // What is read is spelled so, and prints the text again.
+        ensures spelled { IfOk result (λ o. IfSome o (λ m. SpellsMess s.now (plain_mess m))) }
+        ensures printed { IfOk result (λ o. IfSome o (λ m. mess_text (plain_mess m) ≡ s.now)) }
+
+        // What is spelled is read. So None comes exactly where nothing is spelled.
+        ensures read { (m : PlainMess) → SpellsMess s.now m → IfOk result (λ o. option_map plain_mess o ≡ Some m) }
+
+        // Memory is wanted only where the text spells a version, since each has chunks.
+        ensures memory { OnErr result ((m : PlainMess) × SpellsMess s.now m) }
+
+        // The same as an equation.
+        ensures exact { IfOk result (λ o. option_map plain_mess o ≡ mess_of s.now) }
+    {
+        if !Mess::is_spelled_by(s) {
+            return Ok(None);
+        }
+        match Mess::parse(alloc, s)? {
+            Some((mess, _)) => Ok(Some(mess)),
+            None => Ok(None),
+        }
+    }
+
+    /// Whether the whole text spells a messy version, so that `new` would give one. Takes no memory.
+    #[tactic(auto, unfolding(crate::specs::Mess::mess_of))]
+    pub fn is_spelled_by(s: &str) -> bool
+        ensures { result ≡ is_some (mess_of s.now) }
+    {
+        match skip(s) {
+            Some(rest) => rest.is_empty(),
+            None => false,
+        }
+    }
+
+    /// The messy version that the whole text spells; else `Illegal`, with `IllegalMess` and the whole text in it.
+    /// `Memory` comes where there is no memory for the version or for that text.
+    pub fn from_str(alloc: Global, s: &str) -> Result<Mess, ReadError>
+        ensures { ReadsOr plain_mess (λ _. Unit {0}) (IllegalMess s.now) result (mess_of s.now) }
+    {
+        or_illegal(alloc, Mess::new(alloc, s)?, s, Error::IllegalMess)
+    }
+
+    /// The messy version at the front of a text, and the rest: chunks joined by dots, then, as long as a sign and
+    /// chunks behind it can be read, these too. It stops before a dot or a sign behind which no chunk can be read. None
+    /// takes no memory; otherwise the chunks are copied, and the error is that there is no memory for them.
+    pub fn parse(alloc: Global, i: &str) -> Result<Option<(Mess, &str)>, AllocError>
+        ensures { Reads plain_mess (λ _. Unit {0}) result (mess_front i.now) }
+    {
+        let Some((first, behind)) = read_section(alloc, i)? else {
+            return Ok(None);
+        };
+        let (more, rest) = read_all_further(alloc, behind)?;
+        Ok(Some((link(alloc, first, more)?, rest)))
+    }
+
+    /// The number of the chunk at `x` in the first section that no colon follows, if it is `Digits`. So an epoch is
+    /// skipped. Takes no memory.
+    pub fn nth(&self, x: usize) -> Option<u32>
+        ensures { result ≡ nth_number (plain_mess self.now) x }
+    {
+        skip_colons(self).chunks.get(x)?.number()
+    }
+
+    /// A copy. The error is that there is no memory for it.
+    pub fn clone(&self, alloc: Global) -> Result<Mess, AllocError>
+        ensures { IfOk result (λ copy. plain_mess copy ≡ plain_mess self.now) }
+    {
+        let first = copy_list(alloc, self.chunks.as_slice())?;
+        let mut more = Vec::new(alloc);
+        let mut current = self;
+        while let Some((sign, section)) = &current.next {
+            let chunks = copy_list(alloc, section.chunks.as_slice())?;
+            more.push((*sign, chunks))?;
+            current = section;
+        }
+        link(alloc, first, more)
+    }
+
+    /// The version without chunks and with nothing behind them. Takes no memory.
+    pub fn default_in(alloc: Global) -> Mess
+        ensures { plain_mess result ≡ record { first = []; more = [] } }
+    {
+        Mess {
+            chunks: Vec::new(alloc),
+            next: None,
+        }
+    }
+
+    // How two versions compare, field by field.
+    fn compare_plain(&self, other: &Mess) -> Ordering
+        ensures { result ≡ mess_plain_cmp (plain_mess self.now) (plain_mess other.now) }
+    {
+        let mut a = self;
+        let mut b = other;
+        'sections: loop {
+            let sections = compare_lists(a.chunks.as_slice(), b.chunks.as_slice());
+            if sections != Ordering::Equal {
+                return sections;
+            }
+            match (&a.next, &b.next) {
+                (Some((sign, after)), Some((other_sign, other_after))) => {
+                    let signs = sign.compare_plain(*other_sign);
+                    if signs != Ordering::Equal {
+                        return signs;
+                    }
+                    a = after;
+                    b = other_after;
+                }
+                (Some(_), None) => return Ordering::Greater,
+                (None, Some(_)) => return Ordering::Less,
+                (None, None) => return Ordering::Equal,
+            }
+        }
+    }
+}
+
+impl Drop for Mess {
+    fn drop(mut self) {
+        loop {
+            let Mess { chunks: _, next } = self;
+            match next {
+                None => return,
+                Some((_, section)) => self = Box::into_inner(section),
+            }
+        }
+    }
+}
+
+impl fmt::Display for Mess {
+    ghost output = { λ m. Some (mess_text (plain_mess m)) };
+
+    fn fmt<W: fmt::Write>(&self, f: &mut fmt::Formatter<W>) -> fmt::Result {
+        write_dotted(self.chunks.as_slice(), f)?;
+        let mut current = self;
+        while let Some((sign, section)) = &current.next {
+            write!(f, "{sign}")?;
+            write_dotted(section.chunks.as_slice(), f)?;
+            current = section;
+        }
+        Ok(())
+    }
+}
+
+/// Equal in every field of every section.
+impl PartialEq for Mess {
+    ghost eq = { on plain_mess (eq_by_cmp mess_plain_cmp) };
+
+    ghost laws = { on_per plain_mess (partial_equiv_from_equiv (eq_by_cmp_equiv mess_total)) };
+
+    fn eq(&self, other: &Mess) -> bool {
+        self.compare_plain(other).is_eq()
+    }
+}
+
+impl Eq for Mess {
+    ghost laws = { on_equiv plain_mess (eq_by_cmp_equiv mess_total) };
+}
+
+/// Feeds the chunks, then whether more follows, then the sign and what is behind it.
+impl Hash for Mess {
+    ghost hash_input = { λ m. mess_fed (plain_mess m) };
+
+    ghost respects_eq = { λ a b tied. ap mess_fed (same_where_tied messes_same tied) };
+
+    fn hash<H: Hasher>(&self, state: &mut H) {
+        self.chunks.hash(state);
+        let mut current = self;
+        while let Some((sign, section)) = &current.next {
+            state.write_u8(1);
+            sign.hash(state);
+            section.chunks.hash(state);
+            current = section;
+        }
+        state.write_u8(0);
+    }
+}
+
+// The version from the first section that no colon follows on.
+fn skip_colons(mess: &Mess) -> &Mess
+    ensures { (plain_mess result.now).first ≡ behind_colons (plain_mess mess.now).first (plain_mess mess.now).more }
+{
+    let mut current = mess;
+    while let Some((sign, section)) = &current.next {
+        match sign {
+            Sep::Colon => current = section,
+            _ => return current,
+        }
+    }
+    current
+}
+
+// The version of a first section and further ones. It is built from its end.
+pub(crate) fn link(
+    alloc: Global,
+    chunks: Vec<MChunk>,
+    mut more: Vec<(Sep, Vec<MChunk>)>,
+) -> Result<Mess, AllocError>
+    ensures first { IfOk result (λ m. (plain_mess m).first ≡ plain_section chunks) }
+    ensures more { IfOk result (λ m. (plain_mess m).more ≡ map plain_further more.items) }
+{
+    let mut next = None;
+    while let Some((sign, chunks)) = more.pop() {
+        next = Some((sign, Box::new(alloc, Mess { chunks, next })?));
+    }
+    Ok(Mess { chunks, next })
+}
+
+// What stands behind the messy version at the front of a text.
+fn skip(i: &str) -> Option<&str>
+    ensures { option_map (λ r. r.now) result ≡ option_map (λ p. p.1) (mess_front i.now) }
+{
+    let mut rest = skip_section(i)?;
+    while let Some(after) = skip_further(rest) {
+        rest = after;
+    }
+    Some(rest)
+}
+
+// What stands behind the section at the front of a text.
+fn skip_section(i: &str) -> Option<&str>
+    ensures { option_map (λ r. r.now) result ≡ option_map (λ p. p.1) (section_front i.now) }
+{
+    Some(Dotted::scan::<MessyChunk>(i)?.1)
+}
+
+// What stands behind the sign and the section at the front of a text.
+#[tactic(auto, unfolding(crate::specs::Mess::further_front))]
+fn skip_further(i: &str) -> Option<&str>
+    ensures { option_map (λ r. r.now) result ≡ option_map (λ p. p.1) (further_front i.now) }
+{
+    let (_, behind) = scan::sign(i)?;
+    skip_section(behind)
+}
+
+// The section at the front of a text, with chunks of its own, and the rest.
+fn read_section(alloc: Global, i: &str) -> Result<Option<(Vec<MChunk>, &str)>, AllocError>
+    ensures { Reads plain_section (λ _. Unit {0}) result (section_front i.now) }
+{
+    let Some((list, rest)) = Dotted::scan::<MessyChunk>(i) else {
+        return Ok(None);
+    };
+    Ok(Some((list.build::<MessyChunk>(alloc, list.count)?, rest)))
+}
+
+// The sign and the section at the front of a text, and the rest.
+#[tactic(auto, unfolding(crate::specs::Mess::further_front))]
+fn read_further(alloc: Global, i: &str) -> Result<Option<((Sep, Vec<MChunk>), &str)>, AllocError>
+    ensures { Reads plain_further (λ _. Unit {0}) result (further_front i.now) }
+{
+    let Some((sign, behind)) = scan::sign(i) else {
+        return Ok(None);
+    };
+    let Some((chunks, rest)) = read_section(alloc, behind)? else {
+        return Ok(None);
+    };
+    Ok(Some(((sign, chunks), rest)))
+}
+
+// All further sections at the front of a text, and the rest.
+fn read_all_further(alloc: Global, i: &str) -> Result<(Vec<(Sep, Vec<MChunk>)>, &str), AllocError>
+    ensures { IfOk result (λ r. (map plain_further r.0.items, r.1.now) ≡ repeated further_front (length i.now) i.now) }
+{
+    let mut more = Vec::new(alloc);
+    let mut rest = i;
+    while let Some((further, after)) = read_further(alloc, rest)? {
+        more.push(further)?;
+        rest = after;
+    }
+    Ok((more, rest))
+}

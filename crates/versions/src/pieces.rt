@@ -1,0 +1,82 @@
+//! What strict and general versions share: a release and metadata, each of which may be absent.
+
+ghost use Rattle.std.specs.Prelude.{◌≡◌, string_bytes, IfOk, IsSome, OnErr};
+ghost use Rattle.std.specs.Option.{option_map};
+ghost use Rattle.version_parts.specs.Front.{optional};
+ghost use Rattle.version_parts.specs.Metadata.{meta_front};
+ghost use Rattle.version_parts.specs.Release.{plain_release, release_front};
+
+use std::alloc::{AllocError, Global};
+use version_parts::{Release, ReleasePiece, scan};
+
+// The release at the front of a text, if there is one, and the rest.
+#[tactic(auto, unfolding(version_parts::specs::Front::optional))]
+pub(crate) fn optional_release(i: &str) -> (Option<ReleasePiece<'_>>, &str)
+    ensures { (result.0, result.1.now) ≡ optional release_front i.now }
+{
+    match ReleasePiece::scan(i) {
+        Some((piece, rest)) => (Some(piece), rest),
+        None => (None, i),
+    }
+}
+
+// The metadata at the front of a text, if there is any, and the rest.
+#[tactic(auto, unfolding(version_parts::specs::Front::optional))]
+pub(crate) fn optional_meta(i: &str) -> (Option<&str>, &str)
+    ensures { (option_map (λ text. text.now) result.0, result.1.now) ≡ optional meta_front i.now }
+{
+    match scan::metadata(i) {
+        Some((text, rest)) => (Some(text), rest),
+        None => (None, i),
+    }
+}
+
+// The chunks of a release, if there is one.
+pub(crate) fn build_release(
+    alloc: Global,
+    piece: Option<ReleasePiece<'_>>,
+) -> Result<Option<Release>, AllocError>
+    ensures ok { IfOk result (λ release. option_map plain_release release ≡ piece.entry) }
+    ensures err { OnErr result (IsSome piece.entry) }
+{
+    match piece {
+        Some(piece) => Ok(Some(piece.build(alloc)?)),
+        None => Ok(None),
+    }
+}
+
+// A copy of a text, if there is one.
+pub(crate) fn copy_text(alloc: Global, text: Option<&str>) -> Result<Option<String>, AllocError>
+    ensures ok { IfOk result (λ copy. option_map string_bytes copy ≡ option_map (λ text. text.now) text.entry) }
+    ensures err { OnErr result (IsSome text.entry) }
+{
+    match text {
+        Some(text) => Ok(Some(String::from_str(alloc, text)?)),
+        None => Ok(None),
+    }
+}
+
+// A copy of a release, if there is one.
+pub(crate) fn copy_release(
+    alloc: Global,
+    release: &Option<Release>,
+) -> Result<Option<Release>, AllocError>
+    ensures ok { IfOk result (λ copy. option_map plain_release copy ≡ option_map plain_release release.now) }
+    ensures err { OnErr result (IsSome release.now) }
+{
+    match release {
+        Some(release) => Ok(Some(release.clone(alloc)?)),
+        None => Ok(None),
+    }
+}
+
+// A copy of metadata, if there is any.
+pub(crate) fn copy_meta(alloc: Global, meta: &Option<String>) -> Result<Option<String>, AllocError>
+    ensures ok { IfOk result (λ copy. option_map string_bytes copy ≡ option_map string_bytes meta.now) }
+    ensures err { OnErr result (IsSome meta.now) }
+{
+    match meta {
+        Some(meta) => Ok(Some(String::from_str(alloc, meta.as_str())?)),
+        None => Ok(None),
+    }
+}

@@ -1,0 +1,282 @@
+//! General versions.
+
+ghost use Rattle.std.specs.Prelude.{◌≡◌, string_bytes, IfOk, IfSome, IsSome, IsSomeAnd, None, OnErr, Some, []};
+ghost use Rattle.std.proofs.Common.{ap};
+ghost use Rattle.std.specs.Cmp.{eq_by_cmp_equiv, on_equiv, on_per, partial_equiv_from_equiv};
+ghost use Rattle.std.specs.Option.{is_some, option_map};
+ghost use Rattle.std.specs.Ordering.{eq_by_cmp, on};
+ghost use Rattle.version_parts.specs.Front.{optional, Reads};
+ghost use Rattle.version_parts.specs.Last as plain;
+ghost use Rattle.version_parts.specs.OrderLaws.{same_where_tied};
+ghost use Rattle.versions.specs.Errors.{IllegalVersion, ReadsOr};
+ghost use Rattle.versions.specs.Version.{epoch_front, plain_pieces, plain_version, version_fed, version_front, version_nth, version_of, version_text, PlainVersion, SpellsVersion, VersionOwns};
+ghost use Rattle.versions.specs.VersionLaws.{version_plain_total, versions_same};
+ghost use Rattle.versions.specs.VersionOrder.{version_plain_cmp};
+
+use crate::errors::{Error, ReadError};
+use crate::pieces::{
+    build_release, copy_meta, copy_release, copy_text, optional_meta, optional_release,
+};
+use crate::reading::or_illegal;
+use std::alloc::{AllocError, Global};
+use std::cmp::Ordering;
+use std::fmt;
+use std::hash::{Hash, Hasher};
+use version_parts::lists::{ListItem, compare_lists};
+use version_parts::{BodyPiece, Chunks, Last, Release, ReleasePiece, scan};
+
+/// A general version: perhaps a number and a colon, then parts joined by dots, then perhaps a release, then perhaps
+/// metadata, as `1:2.0rc1-3`. It is what most packages carry. The numbers are below 2^32.
+#[derive(Debug, Drop)]
+pub struct Version {
+    /// The number before the colon, which outranks all others. None counts as 0.
+    pub epoch: Option<u32>,
+    /// All parts but the last.
+    pub chunks: Chunks,
+    /// The last part, taken apart.
+    pub last: Last,
+    /// What stands behind the hyphen. It has at least one chunk where it was read.
+    pub release: Option<Release>,
+    /// What stands behind the plus.
+    pub meta: Option<String>,
+}
+
+impl Version {
+    /// The general version that the whole text spells, or None where it spells none. None takes no memory, nor does a
+    /// number alone or behind an epoch; otherwise the texts and the chunks are copied, and the error is that there is
+    /// no memory for them.
+    pub fn new(alloc: Global, s: &str) -> Result<Option<Version>, AllocError>
+        // What is read is spelled so, and prints the text again.
+        ensures spelled { IfOk result (λ o. IfSome o (λ v. SpellsVersion s.now (plain_version v))) }
+        ensures printed { IfOk result (λ o. IfSome o (λ v. version_text (plain_version v) ≡ s.now)) }
+
+        // What is spelled is read. So None comes exactly where nothing is spelled.
+        ensures read { (v : PlainVersion) → SpellsVersion s.now v → IfOk result (λ o. option_map plain_version o ≡ Some v) }
+
+        // Memory is wanted only where the text spells a version that owns some.
+        ensures memory { OnErr result ((v : PlainVersion) × SpellsVersion s.now v × VersionOwns v) }
+
+        // The same as an equation.
+        ensures exact { IfOk result (λ o. option_map plain_version o ≡ version_of s.now) }
+    {
+        read_whole(alloc, s)
+    }
+
+    /// Whether the whole text spells a general version, so that `new` would give one. Takes no memory.
+    #[tactic(auto, unfolding(crate::specs::Version::version_of))]
+    pub fn is_spelled_by(s: &str) -> bool
+        ensures { result ≡ is_some (version_of s.now) }
+    {
+        match Pieces::scan(s) {
+            Some((_, rest)) => rest.is_empty(),
+            None => false,
+        }
+    }
+
+    /// The general version that the whole text spells; else `Illegal`, with `IllegalVersion` and the whole text in it.
+    /// `Memory` comes where there is no memory for the version or for that text.
+    pub fn from_str(alloc: Global, s: &str) -> Result<Version, ReadError>
+        ensures { ReadsOr plain_version VersionOwns (IllegalVersion s.now) result (version_of s.now) }
+    {
+        or_illegal(alloc, read_whole(alloc, s)?, s, Error::IllegalVersion)
+    }
+
+    /// The general version at the front of a text, and the rest: a number and a colon if both can be read, then parts
+    /// joined by dots, then a release and metadata as far as they can be read. Behind an epoch there is no way back:
+    /// `1:` is None. None takes no memory, nor does a number alone or behind an epoch; otherwise the texts and the
+    /// chunks are copied, and the error is that there is no memory for them.
+    pub fn parse(alloc: Global, i: &str) -> Result<Option<(Version, &str)>, AllocError>
+        ensures { Reads plain_version VersionOwns result (version_front i.now) }
+    {
+        let Some((pieces, rest)) = Pieces::scan(i) else {
+            return Ok(None);
+        };
+        Ok(Some((pieces.build(alloc)?, rest)))
+    }
+
+    /// No epoch, no chunks, the last part `0`, and nothing else. Takes no memory.
+    pub fn default_in(alloc: Global) -> Version
+        ensures { plain_version result ≡ record { epoch = None; chunks = []; last = plain.Numeric 0; release = None; meta = None } }
+    {
+        Version {
+            epoch: None,
+            chunks: Chunks::default_in(alloc),
+            last: Last::default(),
+            release: None,
+            meta: None,
+        }
+    }
+
+    /// A copy, with the same in every field. The error is that there is no memory for it.
+    pub fn clone(&self, alloc: Global) -> Result<Version, AllocError>
+        ensures { IfOk result (λ copy. plain_version copy ≡ plain_version self.now) }
+    {
+        Ok(Version {
+            epoch: self.epoch,
+            chunks: self.chunks.clone(alloc)?,
+            last: self.last.clone(alloc)?,
+            release: copy_release(alloc, &self.release)?,
+            meta: copy_meta(alloc, &self.meta)?,
+        })
+    }
+
+    /// The number at a place of the chunks, counted from 0, and behind them that of the last part: None where the
+    /// chunk is no number, where the last part doesn't begin with one, and past the end. Takes no memory.
+    pub fn nth(&self, n: usize) -> Option<u32>
+        ensures { result ≡ version_nth (plain_version self.now) n }
+    {
+        if n == self.chunks.0.len() {
+            return self.last.first_number();
+        }
+        self.chunks.0.get(n)?.single_digit()
+    }
+}
+
+impl fmt::Display for Version {
+    ghost output = { λ v. Some (version_text (plain_version v)) };
+
+    fn fmt<W: fmt::Write>(&self, f: &mut fmt::Formatter<W>) -> fmt::Result {
+        if let Some(epoch) = self.epoch {
+            write!(f, "{epoch}:")?;
+        }
+        if !self.chunks.0.is_empty() {
+            let chunks = &self.chunks;
+            write!(f, "{chunks}.")?;
+        }
+        let last = &self.last;
+        write!(f, "{last}")?;
+        if let Some(release) = &self.release {
+            write!(f, "-{release}")?;
+        }
+        if let Some(meta) = &self.meta {
+            write!(f, "+{meta}")?;
+        }
+        Ok(())
+    }
+}
+
+/// Equal in every field.
+impl PartialEq for Version {
+    ghost eq = { on plain_version (eq_by_cmp version_plain_cmp) };
+
+    ghost laws = { on_per plain_version (partial_equiv_from_equiv (eq_by_cmp_equiv version_plain_total)) };
+
+    fn eq(&self, other: &Version) -> bool {
+        compare_plain(self, other).is_eq()
+    }
+}
+
+impl Eq for Version {
+    ghost laws = { on_equiv plain_version (eq_by_cmp_equiv version_plain_total) };
+}
+
+/// Feeds every field.
+impl Hash for Version {
+    ghost hash_input = { λ v. version_fed (plain_version v) };
+
+    ghost respects_eq = { λ a b tied. ap version_fed (same_where_tied versions_same tied) };
+
+    fn hash<H: Hasher>(&self, state: &mut H) {
+        self.epoch.hash(state);
+        self.chunks.hash(state);
+        self.last.hash(state);
+        self.release.hash(state);
+        self.meta.hash(state);
+    }
+}
+
+// Fields in the order of their declaration, none before some.
+fn compare_plain(a: &Version, b: &Version) -> Ordering
+    ensures { result ≡ version_plain_cmp (plain_version a.now) (plain_version b.now) }
+{
+    a.epoch
+        .cmp(&b.epoch)
+        .then_with(|| compare_lists(a.chunks.0.as_slice(), b.chunks.0.as_slice()))
+        .then_with(|| a.last.compare(&b.last))
+        .then_with(|| a.release.cmp(&b.release))
+        .then_with(|| a.meta.cmp(&b.meta))
+}
+
+// The general version that the whole text spells.
+#[tactic(auto, unfolding(crate::specs::Version::version_of))]
+fn read_whole(alloc: Global, s: &str) -> Result<Option<Version>, AllocError>
+    ensures ok { IfOk result (λ o. option_map plain_version o ≡ version_of s.now) }
+    ensures err { OnErr result (IsSomeAnd (version_of s.now) VersionOwns) }
+{
+    match Pieces::scan(s) {
+        Some((pieces, rest)) if rest.is_empty() => Ok(Some(pieces.build(alloc)?)),
+        _ => Ok(None),
+    }
+}
+
+// A general version that was scanned, with its texts still in the input.
+#[derive(Drop)]
+struct Pieces<'a> {
+    epoch: Option<u32>,
+    body: BodyPiece<'a>,
+    release: Option<ReleasePiece<'a>>,
+    meta: Option<&'a str>,
+}
+
+impl<'a> Pieces<'a> {
+    // The general version at the front of a text, and the rest.
+    #[tactic(auto, unfolding(crate::specs::Version::version_front))]
+    fn scan(i: &'a str) -> Option<(Pieces<'a>, &'a str)>
+        ensures { option_map (λ r. (plain_pieces r.0, r.1.now)) result ≡ version_front i.now }
+    {
+        let (epoch, rest) = optional_epoch(i);
+        let (body, rest) = BodyPiece::scan(rest)?;
+        let (release, rest) = optional_release(rest);
+        let (meta, rest) = optional_meta(rest);
+        let pieces = Pieces {
+            epoch,
+            body,
+            release,
+            meta,
+        };
+        Some((pieces, rest))
+    }
+
+    // The version with texts of its own.
+    fn build(self, alloc: Global) -> Result<Version, AllocError>
+        ensures ok { IfOk result (λ v. plain_version v ≡ plain_pieces self.entry) }
+        ensures err { OnErr result (VersionOwns (plain_pieces self.entry)) }
+    {
+        let Pieces {
+            epoch,
+            body,
+            release,
+            meta,
+        } = self;
+        let (chunks, last) = body.build(alloc)?;
+        let release = build_release(alloc, release)?;
+        let meta = copy_text(alloc, meta)?;
+        Ok(Version {
+            epoch,
+            chunks,
+            last,
+            release,
+            meta,
+        })
+    }
+}
+
+// The epoch at the front of a text, if there is one, and the rest.
+#[tactic(auto, unfolding(version_parts::specs::Front::optional))]
+fn optional_epoch(i: &str) -> (Option<u32>, &str)
+    ensures { (result.0, result.1.now) ≡ optional epoch_front i.now }
+{
+    match scan_epoch(i) {
+        Some((epoch, rest)) => (Some(epoch), rest),
+        None => (None, i),
+    }
+}
+
+// The number and the colon at the front of a text, and the rest.
+#[tactic(auto, unfolding(crate::specs::Version::epoch_front))]
+fn scan_epoch(i: &str) -> Option<(u32, &str)>
+    ensures { option_map (λ r. (r.0, r.1.now)) result ≡ epoch_front i.now }
+{
+    let (number, rest) = scan::unsigned(i)?;
+    Some((number, scan::after_mark(rest, b':')?))
+}

@@ -1,0 +1,220 @@
+//! Versions of any kind.
+
+ghost use Rattle.std.specs.Prelude.{◌≡◌, refl, IfOk, IfSome, IsSomeAnd, None, OnErr, Some};
+ghost use Rattle.std.specs.Cmp.{eq_by_cmp_equiv, on_equiv, on_per, partial_equiv_from_equiv};
+ghost use Rattle.std.specs.Option.{option_map};
+ghost use Rattle.std.specs.Ordering.{eq_by_cmp, on};
+ghost use Rattle.version_parts.specs.Front.{Reads};
+ghost use Rattle.versions.specs.Errors.{IllegalVersioning, ReadsOr};
+ghost use Rattle.versions.specs.SemVer.{plain_semver};
+ghost use Rattle.versions.specs.SemVerOrder.{semver_cmp};
+ghost use Rattle.versions.specs.Versioning.{is_complex, is_general, is_ideal, kind_rank, plain_versioning, semver_nth, versioning_fed, versioning_front, versioning_nth, versioning_of, versioning_plain_cmp, versioning_text, PlainVersioning, SpellsVersioning, VersioningOwns};
+ghost use Rattle.versions.specs.Versioning as plain;
+ghost use Rattle.versions.specs.VersioningLaws.{versioning_plain_total, versions_fed_alike};
+
+use crate::errors::{Error, ReadError};
+use crate::mess::Mess;
+use crate::reading::or_illegal;
+use crate::semver::SemVer;
+use crate::version::Version;
+use std::alloc::{AllocError, Global};
+use std::cmp::Ordering;
+use std::fmt;
+use std::hash::{Hash, Hasher};
+
+/// A version of the first kind that fits its text.
+#[derive(Debug, Drop)]
+pub enum Versioning {
+    /// A strict version, as `1.2.3-rc.1`.
+    Ideal(SemVer),
+    /// A general version, as `1:2.0rc1-3`.
+    General(Version),
+    /// A messy version, as `10.2+0.93+1-1`.
+    Complex(Mess),
+}
+
+impl Versioning {
+    /// The version that the whole text spells: of the first of the strict, general and messy kinds whose grammar holds
+    /// it, or None where none does. The kind is found without memory, and that kind alone is built. None takes no
+    /// memory, nor do three plain numbers; otherwise the error is that there is no memory for what is read.
+    pub fn new(alloc: Global, s: &str) -> Result<Option<Versioning>, AllocError>
+        // What is read is spelled so, and prints the text again.
+        ensures spelled { IfOk result (λ o. IfSome o (λ v. SpellsVersioning s.now (plain_versioning v))) }
+        ensures printed { IfOk result (λ o. IfSome o (λ v. versioning_text (plain_versioning v) ≡ s.now)) }
+
+        // What is spelled is read. So None comes exactly where nothing is spelled.
+        ensures read { (v : PlainVersioning) → SpellsVersioning s.now v → IfOk result (λ o. option_map plain_versioning o ≡ Some v) }
+
+        // Memory is wanted only where the text spells a version that owns some.
+        ensures memory { OnErr result ((v : PlainVersioning) × SpellsVersioning s.now v × VersioningOwns v) }
+
+        // The same as an equation.
+        ensures exact { IfOk result (λ o. option_map plain_versioning o ≡ versioning_of s.now) }
+    {
+        read_whole(alloc, s)
+    }
+
+    /// The version that the whole text spells; else `Illegal`, with `IllegalVersioning` and the whole text in it.
+    /// `Memory` comes where there is no memory for the version or for that text.
+    pub fn from_str(alloc: Global, s: &str) -> Result<Versioning, ReadError>
+        ensures { ReadsOr plain_versioning VersioningOwns (IllegalVersioning s.now) result (versioning_of s.now) }
+    {
+        or_illegal(alloc, read_whole(alloc, s)?, s, Error::IllegalVersioning)
+    }
+
+    /// The version at the front of a text, and the rest: by the first of the strict, general and messy kinds whose
+    /// front reads anything. So `1.2.3.4` is the strict 1.2.3, with the rest `.4`. None takes no memory, nor do three
+    /// plain numbers; otherwise the error is that there is no memory for what is read.
+    pub fn parse(alloc: Global, i: &str) -> Result<Option<(Versioning, &str)>, AllocError>
+        ensures { Reads plain_versioning VersioningOwns result (versioning_front i.now) }
+    {
+        if let Some((ideal, rest)) = SemVer::parse(alloc, i)? {
+            return Ok(Some((Versioning::Ideal(ideal), rest)));
+        }
+        if let Some((general, rest)) = Version::parse(alloc, i)? {
+            return Ok(Some((Versioning::General(general), rest)));
+        }
+        match Mess::parse(alloc, i)? {
+            Some((complex, rest)) => Ok(Some((Versioning::Complex(complex), rest))),
+            None => Ok(None),
+        }
+    }
+
+    /// A copy, with the same in every field, metadata included. The error is that there is no memory for it.
+    pub fn clone(&self, alloc: Global) -> Result<Versioning, AllocError>
+        ensures { IfOk result (λ copy. plain_versioning copy ≡ plain_versioning self.now) }
+    {
+        match self {
+            Versioning::Ideal(ideal) => Ok(Versioning::Ideal(ideal.clone(alloc)?)),
+            Versioning::General(general) => Ok(Versioning::General(general.clone(alloc)?)),
+            Versioning::Complex(complex) => Ok(Versioning::Complex(complex.clone(alloc)?)),
+        }
+    }
+
+    /// Whether it is a strict version. Takes no memory.
+    pub fn is_ideal(&self) -> bool
+        ensures { result ≡ is_ideal (plain_versioning self.now) }
+    {
+        matches!(self, Versioning::Ideal(_))
+    }
+
+    /// Whether it is a general version. Takes no memory.
+    pub fn is_general(&self) -> bool
+        ensures { result ≡ is_general (plain_versioning self.now) }
+    {
+        matches!(self, Versioning::General(_))
+    }
+
+    /// Whether it is a messy version. Takes no memory.
+    pub fn is_complex(&self) -> bool
+        ensures { result ≡ is_complex (plain_versioning self.now) }
+    {
+        matches!(self, Versioning::Complex(_))
+    }
+
+    /// The number at a place, counted from 0: major, minor and patch of a strict version, and of the other kinds what
+    /// their `nth` gives. Takes no memory.
+    pub fn nth(&self, n: usize) -> Option<u32>
+        ensures { result ≡ versioning_nth (plain_versioning self.now) n }
+    {
+        match self {
+            Versioning::Ideal(ideal) => nth_of_three(ideal, n),
+            Versioning::General(general) => general.nth(n),
+            Versioning::Complex(complex) => complex.nth(n),
+        }
+    }
+}
+
+// Major, minor and patch at 0, 1 and 2.
+fn nth_of_three(ideal: &SemVer, n: usize) -> Option<u32>
+    ensures { result ≡ semver_nth (plain_semver ideal.now) n }
+{
+    match n {
+        0 => Some(ideal.major),
+        1 => Some(ideal.minor),
+        2 => Some(ideal.patch),
+        _ => None,
+    }
+}
+
+// The version that the whole text spells, by the first kind that holds it.
+fn read_whole(alloc: Global, s: &str) -> Result<Option<Versioning>, AllocError>
+    ensures ok { IfOk result (λ o. option_map plain_versioning o ≡ versioning_of s.now) }
+    ensures err { OnErr result (IsSomeAnd (versioning_of s.now) VersioningOwns) }
+{
+    if let Some(ideal) = SemVer::new(alloc, s)? {
+        return Ok(Some(Versioning::Ideal(ideal)));
+    }
+    if let Some(general) = Version::new(alloc, s)? {
+        return Ok(Some(Versioning::General(general)));
+    }
+    match Mess::new(alloc, s)? {
+        Some(complex) => Ok(Some(Versioning::Complex(complex))),
+        None => Ok(None),
+    }
+}
+
+/// The strict version `0.0.0`.
+impl Default for Versioning {
+    ghost is_default = { λ v. plain_versioning v ≡ plain.Ideal (record { major = 0; minor = 0; patch = 0; pre_rel = None; meta = None }) };
+
+    fn default() -> Versioning {
+        Versioning::Ideal(SemVer::default())
+    }
+}
+
+impl fmt::Display for Versioning {
+    ghost output = { λ v. Some (versioning_text (plain_versioning v)) };
+
+    fn fmt<W: fmt::Write>(&self, f: &mut fmt::Formatter<W>) -> fmt::Result {
+        match self {
+            Versioning::Ideal(ideal) => write!(f, "{ideal}"),
+            Versioning::General(general) => write!(f, "{general}"),
+            Versioning::Complex(complex) => write!(f, "{complex}"),
+        }
+    }
+}
+
+/// Of one kind, and equal as that kind is: in every field, but for the metadata of strict versions.
+impl PartialEq for Versioning {
+    ghost eq = { on plain_versioning (eq_by_cmp versioning_plain_cmp) };
+
+    ghost laws = { on_per plain_versioning (partial_equiv_from_equiv (eq_by_cmp_equiv versioning_plain_total)) };
+
+    fn eq(&self, other: &Versioning) -> bool {
+        match (self, other) {
+            (Versioning::Ideal(a), Versioning::Ideal(b)) => a == b,
+            (Versioning::General(a), Versioning::General(b)) => a == b,
+            (Versioning::Complex(a), Versioning::Complex(b)) => a == b,
+            _ => false,
+        }
+    }
+}
+
+impl Eq for Versioning {
+    ghost laws = { on_equiv plain_versioning (eq_by_cmp_equiv versioning_plain_total) };
+}
+
+/// Feeds the kind, and what it feeds.
+impl Hash for Versioning {
+    ghost hash_input = { λ v. versioning_fed (plain_versioning v) };
+
+    ghost respects_eq = { λ a b tied. versions_fed_alike (plain_versioning a) (plain_versioning b) tied };
+
+    fn hash<H: Hasher>(&self, state: &mut H) {
+        match self {
+            Versioning::Ideal(ideal) => {
+                state.write_u8(0);
+                ideal.hash(state);
+            }
+            Versioning::General(general) => {
+                state.write_u8(1);
+                general.hash(state);
+            }
+            Versioning::Complex(complex) => {
+                state.write_u8(2);
+                complex.hash(state);
+            }
+        }
+    }
+}
