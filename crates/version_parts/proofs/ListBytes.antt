@@ -5,7 +5,9 @@ use Rattle.version_parts.proofs.PartKey.{part_key-decimal}
 use Rattle.version_parts.specs.declared.chunk.Chunk.{Chunk}
 use Rattle.version_parts.specs.Chunk.{chunk_text, plain_chunk}
 use Rattle.version_parts.specs.Codes.{items_bytes, list_bytes}
-use Rattle.version_parts.specs.PartKey.{Number, PartKey, chunk_parts, part_bytes, part_key, parts_bytes}
+use Rattle.version_parts.specs.declared.mchunk.MChunk.{MChunk}
+use Rattle.version_parts.specs.MChunk.{mchunk_text, plain_mchunk}
+use Rattle.version_parts.specs.PartKey.{Number, PartKey, chunk_parts, part_bytes, part_key, parts_bytes, section_parts}
 
 -- the part that a chunk is
 abbrev pub key_of_chunk : Chunk → PartKey
@@ -17,6 +19,17 @@ chunk_parts-map (chunk ∷ chunks) = ap (λ (l : List PartKey). key_of_chunk chu
 
 pub parts_written : (chunks : List Chunk) → list_bytes part_bytes (map key_of_chunk chunks) ≡ parts_bytes (chunk_parts (map plain_chunk chunks))
 parts_written chunks = ap parts_bytes (chunk_parts-map chunks)
+
+-- the part that a messy chunk is
+abbrev pub key_of_mchunk : MChunk → PartKey
+key_of_mchunk chunk = part_key (mchunk_text (plain_mchunk chunk))
+
+section_parts-map : (chunks : List MChunk) → map key_of_mchunk chunks ≡ section_parts (map plain_mchunk chunks)
+section_parts-map [] = refl
+section_parts-map (chunk ∷ chunks) = ap (λ (l : List PartKey). key_of_mchunk chunk ∷ l) (section_parts-map chunks)
+
+pub section_written : (chunks : List MChunk) → list_bytes part_bytes (map key_of_mchunk chunks) ≡ parts_bytes (section_parts (map plain_mchunk chunks))
+section_written chunks = ap parts_bytes (section_parts-map chunks)
 
 last_written : (keys : List PartKey) (last : PartKey) → items_bytes part_bytes keys ++ (part_bytes (Some last) ++ part_bytes None) ≡ parts_bytes (keys ++ last ∷ [])
 last_written [] last = ap (λ (l : List ℕ). part_bytes (Some last) ++ l) (sym (append-nil (part_bytes None)))

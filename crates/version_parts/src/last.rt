@@ -14,6 +14,7 @@ ghost use Rattle.version_parts.specs.LastOrder.{last_plain_cmp, last_rank};
 ghost use Rattle.version_parts.specs.OrderLaws.{same_where_tied};
 
 use crate::chunk::{Chunk, ChunkPiece};
+use crate::key::PartText;
 use crate::lists::ListItem;
 use crate::scan::{Class, nonempty_run, unsigned};
 use std::alloc::{AllocError, Global};
@@ -72,6 +73,18 @@ impl Last {
         match self {
             Last::Numeric(number) | Last::Rc(number, _, _) | Last::Post(number, _) => Some(*number),
             Last::Alphanum(_) => None,
+        }
+    }
+
+    /// The printed text, byte after byte. Takes no memory.
+    pub fn part_text(&self) -> PartText<'_>
+        ensures { result ≡ last_text (plain_last self.now) }
+    {
+        match self {
+            Last::Numeric(number) => PartText::number(*number),
+            Last::Rc(first, text, second) => PartText::between(*first, text.as_str(), *second),
+            Last::Post(number, text) => PartText::numbered(*number, text.as_str()),
+            Last::Alphanum(text) => PartText::text(text.as_str()),
         }
     }
 

@@ -5,11 +5,13 @@ ghost use Rattle.std.specs.Iterator.{item_count, YieldsFirst};
 ghost use Rattle.version_parts.specs.Chunk.{plain_chunk, chunk_text, PlainChunk};
 ghost use Rattle.version_parts.specs.Codes.{items_bytes, list_bytes};
 ghost use Rattle.version_parts.specs.KeyLaws.{chunk_begins, part_begins};
-ghost use Rattle.version_parts.specs.PartKey.{chunk_parts, part_bytes, part_key, parts_bytes, Number, PartKey};
+ghost use Rattle.version_parts.specs.MChunk.{mchunk_text, plain_mchunk};
+ghost use Rattle.version_parts.specs.PartKey.{chunk_parts, part_bytes, part_key, parts_bytes, section_parts, Number, PartKey};
 ghost use Rattle.version_parts.specs.ReleaseOrder.{chunk_bytes};
 
 use crate::chunk::{Chunk, ReleaseChunk};
 use crate::key::{PartText, PieceBytes};
+use crate::mchunk::MChunk;
 use std::marker::{Model, PhantomData};
 use std::slice;
 
@@ -53,6 +55,18 @@ impl<'a, C: Code> Model for ListBytes<'a, C> {
 }
 
 impl<'a, C: Code> ListBytes<'a, C> {
+    /// No byte, not even of an end.
+    pub fn none() -> ListBytes<'a, C>
+        ensures { result ≡ [] }
+    {
+        ListBytes {
+            piece: PieceBytes::none(),
+            items: &[],
+            last: PieceBytes::none(),
+            ended: true,
+        }
+    }
+
     /// The bytes of the items and of the end of their list.
     pub fn of(items: &'a [C::Item]) -> ListBytes<'a, C>
         ensures { result ≡ list_bytes C.bytes (map C.key items.now) }
@@ -129,6 +143,14 @@ impl AsPart for Chunk {
     }
 }
 
+impl AsPart for MChunk {
+    ghost part = { λ chunk. part_key (mchunk_text (plain_mchunk chunk)) };
+
+    fn text(&self) -> PartText<'_> {
+        PartText::text(self.text())
+    }
+}
+
 /// A plain number.
 impl AsPart for u32 {
     ghost part = { λ number. Number number None };
@@ -200,6 +222,16 @@ impl<'a> ListBytes<'a, Parts<Chunk>> {
         ensures { result ≡ parts_bytes (chunk_parts (map plain_chunk chunks.now) ++ part_key last.entry ∷ []) }
     {
         ListBytes::with_last(chunks, PieceBytes::part(last))
+    }
+}
+
+impl<'a> ListBytes<'a, Parts<MChunk>> {
+    /// The bytes of the chunks of a messy section, as a list of parts.
+    #[tactic(auto, using(crate::proofs::ListBytes::section_written))]
+    pub fn section(chunks: &'a [MChunk]) -> ListBytes<'a, Parts<MChunk>>
+        ensures { result ≡ parts_bytes (section_parts (map plain_mchunk chunks.now)) }
+    {
+        ListBytes::of(chunks)
     }
 }
 
