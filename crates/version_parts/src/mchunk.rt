@@ -5,6 +5,7 @@ ghost use Rattle.std.specs.Option.{option_map};
 ghost use Rattle.std.proofs.Common.{ap};
 ghost use Rattle.std.specs.Cmp.{eq_by_cmp_equiv, on_equiv, on_per, partial_equiv_from_equiv};
 ghost use Rattle.std.specs.Ordering.{eq_by_cmp, on};
+ghost use Rattle.version_parts.specs.DigitRun.{is_digits};
 ghost use Rattle.version_parts.specs.Front.{Reads};
 ghost use Rattle.version_parts.specs.FrontLaws.{mchunk_consumes};
 ghost use Rattle.version_parts.specs.MChunk.{chunk_before, digits_number, ends_chunk, mchunk_fed, mchunk_front, mchunk_plain_cmp, mchunk_rank, mchunk_text, mchunk_value, plain_mchunk, value_of_digits, value_of_revision, variant_of, PlainMChunk};
@@ -90,6 +91,14 @@ impl MChunk {
             MChunk::Digits(value, _) => Some(*value),
             _ => None,
         }
+    }
+
+    /// Whether its text is digits and nothing else, of any value. Takes no memory.
+    pub fn is_digits(&self) -> bool
+        ensures { result ≡ is_digits (mchunk_text (plain_mchunk self.now)) }
+    {
+        let text = self.text();
+        !text.is_empty() && is_all_digits(text)
     }
 
     /// A copy. The error is that there is no memory for it.
