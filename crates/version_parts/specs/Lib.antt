@@ -20,6 +20,7 @@ pub mod NumberBytes
 pub mod Numeral
 pub mod OrderLaws
 pub mod PartKey
+pub mod PartLaws
 pub mod Pieces
 pub mod Reading
 pub mod Release
