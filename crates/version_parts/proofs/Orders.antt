@@ -1,8 +1,6 @@
--- The laws that the contracts of `src/laws/order.rt` state, and for each order what follows from its code.
+-- The laws that the contracts of `src/laws/order.rt` state.
 use Rattle.std.proofs.Common.{◌≡◌, ◌↔◌, List, Option}
-use Rattle.std.specs.Cmp.{IsTotalOrder}
 use Rattle.std.specs.declared.cmp.Ordering.TheVariants.{Equal}
-use Rattle.version_parts.proofs.Codes.{writes_total}
 use Rattle.version_parts.proofs.DigitRun.{split_of-digits, split_of-no_digit}
 use Rattle.version_parts.proofs.NumberBytes.{length_bytes-long, length_bytes-short, number_bytes-decimal, number_bytes-zero, number_writes}
 use Rattle.version_parts.proofs.PartKey.{list_writes, lists_same, part_key-decimal, part_key-digits, part_key-word, part_writes, parts_same}
@@ -10,36 +8,41 @@ use Rattle.version_parts.proofs.ReleaseOrder.{release_writes}
 use Rattle.version_parts.proofs.Split.{split_writes, splits_same}
 use Rattle.version_parts.proofs.TextBytes.{text_writes}
 use Rattle.version_parts.proofs.Worked.{worked_bytes, worked_order}
-use Rattle.version_parts.specs.OrderLaws.{equal_where_same}
+use Rattle.version_parts.specs.OrderLaws.{equal_where_same, then_same}
 use Rattle.version_parts.specs.Chunk.{PlainChunk}
 use Rattle.version_parts.specs.PartKey.{PartKey, list_cmp, part_cmp}
+use Rattle.version_parts.specs.PartLaws.{list_total, part_total, split_total}
 use Rattle.version_parts.specs.Last.{PlainLast}
 use Rattle.version_parts.specs.LastLaws.{last_total, lasts_same}
 use Rattle.version_parts.specs.LastOrder.{last_plain_cmp}
+use Rattle.version_parts.specs.MChunk.{PlainMChunk}
+use Rattle.version_parts.specs.MChunkLaws.{mchunks_same}
+use Rattle.version_parts.specs.PartOrder.{chunks_cmp, last_cmp, mchunk_cmp}
+use Rattle.version_parts.specs.PartOrderLaws.{chunks_cmp_total, last_cmp_total, mchunk_cmp_total}
 use Rattle.version_parts.specs.ReleaseLaws.{chunk_total, chunks_same, release_total, releases_same}
 use Rattle.version_parts.specs.ReleaseOrder.{chunk_cmp, release_cmp}
 use Rattle.version_parts.specs.Split.{Split, split_cmp}
 
-pub split_total : IsTotalOrder split_cmp
-split_total = writes_total split_writes
-
 pub split_equal : (v w : Split) → (split_cmp v w ≡ Equal) ↔ (v ≡ w)
 split_equal = equal_where_same split_total splits_same
-
-pub part_total : IsTotalOrder part_cmp
-part_total = writes_total part_writes
 
 pub part_equal : (a b : Option PartKey) → (part_cmp a b ≡ Equal) ↔ (a ≡ b)
 part_equal = equal_where_same part_total parts_same
 
-pub list_total : IsTotalOrder list_cmp
-list_total = writes_total list_writes
-
 pub list_equal : (xs ys : List PartKey) → (list_cmp xs ys ≡ Equal) ↔ (xs ≡ ys)
 list_equal = equal_where_same list_total lists_same
 
-pub last_equal : (a b : PlainLast) → (last_plain_cmp a b ≡ Equal) ↔ (a ≡ b)
-last_equal = equal_where_same last_total lasts_same
+pub chunks_equal : (a b : List PlainChunk) → (chunks_cmp a b ≡ Equal) ↔ (a ≡ b)
+chunks_equal = equal_where_same chunks_cmp_total (then_same _ releases_same)
+
+pub last_equal : (a b : PlainLast) → (last_cmp a b ≡ Equal) ↔ (a ≡ b)
+last_equal = equal_where_same last_cmp_total (then_same _ lasts_same)
+
+pub mchunk_equal : (a b : PlainMChunk) → (mchunk_cmp a b ≡ Equal) ↔ (a ≡ b)
+mchunk_equal = equal_where_same mchunk_cmp_total (then_same _ mchunks_same)
+
+pub last_plain_equal : (a b : PlainLast) → (last_plain_cmp a b ≡ Equal) ↔ (a ≡ b)
+last_plain_equal = equal_where_same last_total lasts_same
 
 pub chunk_equal : (a b : PlainChunk) → (chunk_cmp a b ≡ Equal) ↔ (a ≡ b)
 chunk_equal = equal_where_same chunk_total chunks_same
@@ -68,8 +71,14 @@ pub ruleset laws = (
   list_total,
   list_equal,
   list_writes,
-  last_total,
+  chunks_cmp_total,
+  chunks_equal,
+  last_cmp_total,
   last_equal,
+  mchunk_cmp_total,
+  mchunk_equal,
+  last_total,
+  last_plain_equal,
   chunk_total,
   chunk_equal,
   release_total,

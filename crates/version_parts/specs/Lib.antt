@@ -20,6 +20,9 @@ pub mod NumberBytes
 pub mod Numeral
 pub mod OrderLaws
 pub mod PartKey
+pub mod PartLaws
+pub mod PartOrder
+pub mod PartOrderLaws
 pub mod Pieces
 pub mod Reading
 pub mod Release

@@ -4,7 +4,7 @@ use Rattle.std.specs.Cmp.{Equal-is, IsTotalOrder, back_total, tied_itself}
 use Rattle.std.specs.Cmp.Lexicographic.{options_total}
 use Rattle.std.specs.FinMap.{IsAntisymmetric, nat_cmp-IsAntisymmetric, slice_cmp-IsAntisymmetric}
 use Rattle.std.specs.Option.{option_cmp}
-use Rattle.std.specs.Ordering.{eq_by_cmp, flip_args, ordering_then}
+use Rattle.std.specs.Ordering.{eq_by_cmp, flip_args, is_eq, ordering_then, then_cmp}
 use Rattle.std.specs.declared.cmp.Ordering.{Ordering}
 use Rattle.std.specs.declared.cmp.Ordering.TheVariants.{Less, Equal, Greater}
 use Rattle.version_parts.specs.Lists.{bytes_cmp, none_last_cmp}
@@ -54,6 +54,9 @@ none_last_same same (Some a) (Some b) e = ap Some (same a b e)
 pub bytes_same : IsAntisymmetric bytes_cmp
 bytes_same = slice_cmp-IsAntisymmetric nat_cmp-IsAntisymmetric
 
+pub then_same : {A : Type 0} (R : A → A → Ordering) {S : A → A → Ordering} → IsAntisymmetric S → IsAntisymmetric (then_cmp R S)
+then_same R same a b tied = same a b (then_second _ _ tied)
+
 -- ---- what a tie says
 
 -- values that an order ties are the same, where it tells different ones apart
@@ -63,6 +66,27 @@ same_where_tied {R = R} same {a} {b} tied = same a b ((Equal-is (R a b)).0 tied)
 -- an order is Equal exactly of one and the same value
 pub equal_where_same : {A : Type 0} {R : A → A → Ordering} → IsTotalOrder R → IsAntisymmetric R → (a b : A) → (R a b ≡ Equal) ↔ (a ≡ b)
 equal_where_same {R = R} total same a b = (same a b, λ e. subst (λ c. R a c ≡ Equal) e (tied_itself total a))
+
+-- ---- an order, and where it ties another
+
+-- the two together tie what the second does, where that ties nothing that the first doesn't
+pub ties_behind : {A : Type 0} {R S : A → A → Ordering} → ((a b : A) → S a b ≡ Equal → R a b ≡ Equal)
+    → (a b : A) → eq_by_cmp S a b ≡ eq_by_cmp (then_cmp R S) a b
+ties_behind {R = R} {S} tied a b = level (R a b) (S a b) (tied a b)
+  where
+    level : (r s : Ordering) → (s ≡ Equal → r ≡ Equal) → is_eq s ≡ is_eq (ordering_then r s)
+    level Less Less e = refl
+    level Less Equal e = cc (e refl)
+    level Less Greater e = refl
+    level Equal s e = refl
+    level Greater Less e = refl
+    level Greater Equal e = cc (e refl)
+    level Greater Greater e = refl
+
+-- so does a total order and then one that tells different values apart
+pub ties_same : {A : Type 0} {R S : A → A → Ordering} → IsTotalOrder R → IsAntisymmetric S
+    → (a b : A) → eq_by_cmp S a b ≡ eq_by_cmp (then_cmp R S) a b
+ties_same {R = R} total same = ties_behind (λ a b tied. rw (same a b tied) (tied_itself total b))
 
 -- ---- none above every value
 

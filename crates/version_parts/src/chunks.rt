@@ -1,23 +1,27 @@
 //! The chunks of a general version, and its body: the chunks with the last part behind them.
 
-ghost use Rattle.std.specs.Prelude.{◌≡◌, ◌<◌, ◌-◌, [], length, take, IfOk, OnErr, Some};
+ghost use Rattle.std.specs.Prelude.{◌≡◌, ◌<◌, ◌-◌, [], refl, length, take, IfOk, OnErr, Some};
 ghost use Rattle.std.proofs.Common.{ap};
-ghost use Rattle.std.specs.Cmp.{eq_by_cmp_equiv, on_equiv, on_per, partial_equiv_from_equiv};
+ghost use Rattle.std.specs.Cmp.{eq_by_cmp_equiv, on_equiv, on_per, on_total, partial_equiv_from_equiv, po};
 ghost use Rattle.std.specs.Option.{option_map};
-ghost use Rattle.std.specs.Ordering.{eq_by_cmp, on};
+ghost use Rattle.std.specs.Ordering.{as_partial_cmp, eq_by_cmp, on};
 ghost use Rattle.version_parts.specs.Body.{body_front, chunks_front, plain_chunks, BodyOwns};
 ghost use Rattle.version_parts.specs.Front.{Reads};
 ghost use Rattle.version_parts.specs.Last.{plain_last};
 ghost use Rattle.version_parts.specs.OrderLaws.{same_where_tied};
+ghost use Rattle.version_parts.specs.PartOrder.{chunks_cmp};
+ghost use Rattle.version_parts.specs.PartOrderLaws.{chunks_cmp_ties, chunks_cmp_total};
 ghost use Rattle.version_parts.specs.Release.{release_fed, release_text};
 ghost use Rattle.version_parts.specs.ReleaseLaws.{release_total, releases_same};
 ghost use Rattle.version_parts.specs.ReleaseOrder.{release_cmp};
 
 use crate::chunk::{Chunk, Part};
+use crate::key::compare_part_lists;
 use crate::last::{Last, LastPiece};
 use crate::lists::{compare_lists, copy_list, write_dotted};
 use crate::scan::Dotted;
 use std::alloc::{AllocError, Global};
+use std::cmp::Ordering;
 use std::fmt;
 use std::hash::{Hash, Hasher};
 use std::marker::Model;
@@ -83,6 +87,33 @@ impl Hash for Chunks {
 
     fn hash<H: Hasher>(&self, state: &mut H) {
         self.0.hash(state);
+    }
+}
+
+/// By their parts as lists of parts, the end of a list above words and below numbers, then chunk by chunk. Takes no
+/// memory.
+impl Ord for Chunks {
+    ghost cmp = { on plain_chunks chunks_cmp };
+
+    ghost total = { on_total plain_chunks chunks_cmp_total };
+
+    ghost matches_partial_cmp = { λ a b. refl };
+
+    ghost matches_eq = { λ a b. chunks_cmp_ties (plain_chunks a) (plain_chunks b) };
+
+    fn cmp(&self, other: &Chunks) -> Ordering {
+        let (a, b) = (self.0.as_slice(), other.0.as_slice());
+        compare_part_lists(a, b).then_with(|| compare_lists(a, b))
+    }
+}
+
+impl PartialOrd for Chunks {
+    ghost partial_cmp = { as_partial_cmp (on plain_chunks chunks_cmp) };
+
+    ghost laws = { po (on_total plain_chunks chunks_cmp_total) (λ a b. chunks_cmp_ties (plain_chunks a) (plain_chunks b)) };
+
+    fn partial_cmp(&self, other: &Chunks) -> Option<Ordering> {
+        Some(self.cmp(other))
     }
 }
 

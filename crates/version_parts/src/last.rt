@@ -2,9 +2,9 @@
 
 ghost use Rattle.std.specs.Prelude.{◌≡◌, refl, IfErr, IfOk, IfSome, OnErr, Some};
 ghost use Rattle.std.proofs.Common.{ap};
-ghost use Rattle.std.specs.Cmp.{eq_by_cmp_equiv, on_equiv, on_per, partial_equiv_from_equiv};
+ghost use Rattle.std.specs.Cmp.{eq_by_cmp_equiv, on_equiv, on_per, on_total, partial_equiv_from_equiv, po};
 ghost use Rattle.std.specs.Option.{option_map};
-ghost use Rattle.std.specs.Ordering.{eq_by_cmp, on};
+ghost use Rattle.std.specs.Ordering.{as_partial_cmp, eq_by_cmp, on};
 ghost use Rattle.version_parts.specs.Chunk.{part_front, plain_chunk, plain_piece};
 ghost use Rattle.version_parts.specs.Front.{map_value};
 ghost use Rattle.version_parts.specs.Last as plain;
@@ -12,9 +12,11 @@ ghost use Rattle.version_parts.specs.Last.{first_number, last_fed, last_of, last
 ghost use Rattle.version_parts.specs.LastLaws.{last_total, lasts_same};
 ghost use Rattle.version_parts.specs.LastOrder.{last_plain_cmp, last_rank};
 ghost use Rattle.version_parts.specs.OrderLaws.{same_where_tied};
+ghost use Rattle.version_parts.specs.PartOrder.{last_cmp};
+ghost use Rattle.version_parts.specs.PartOrderLaws.{last_cmp_ties, last_cmp_total};
 
 use crate::chunk::{Chunk, ChunkPiece};
-use crate::key::PartText;
+use crate::key::{PartText, compare_parts};
 use crate::lists::ListItem;
 use crate::scan::{Class, nonempty_run, unsigned};
 use std::alloc::{AllocError, Global};
@@ -158,6 +160,31 @@ impl Hash for Last {
             }
             Last::Alphanum(text) => text.as_str().hash(state),
         }
+    }
+}
+
+/// By their printed texts as parts, then field by field. Takes no memory.
+impl Ord for Last {
+    ghost cmp = { on plain_last last_cmp };
+
+    ghost total = { on_total plain_last last_cmp_total };
+
+    ghost matches_partial_cmp = { λ a b. refl };
+
+    ghost matches_eq = { λ a b. last_cmp_ties (plain_last a) (plain_last b) };
+
+    fn cmp(&self, other: &Last) -> Ordering {
+        compare_parts(self.part_text(), other.part_text()).then_with(|| self.compare(other))
+    }
+}
+
+impl PartialOrd for Last {
+    ghost partial_cmp = { as_partial_cmp (on plain_last last_cmp) };
+
+    ghost laws = { po (on_total plain_last last_cmp_total) (λ a b. last_cmp_ties (plain_last a) (plain_last b)) };
+
+    fn partial_cmp(&self, other: &Last) -> Option<Ordering> {
+        Some(self.cmp(other))
     }
 }
 

@@ -3,15 +3,18 @@
 ghost use Rattle.std.specs.Prelude.{◌≡◌, ◌<◌, refl, string_bytes, IfOk, Some};
 ghost use Rattle.std.specs.Option.{option_map};
 ghost use Rattle.std.proofs.Common.{ap};
-ghost use Rattle.std.specs.Cmp.{eq_by_cmp_equiv, on_equiv, on_per, partial_equiv_from_equiv};
-ghost use Rattle.std.specs.Ordering.{eq_by_cmp, on};
+ghost use Rattle.std.specs.Cmp.{eq_by_cmp_equiv, on_equiv, on_per, on_total, partial_equiv_from_equiv, po};
+ghost use Rattle.std.specs.Ordering.{as_partial_cmp, eq_by_cmp, on};
 ghost use Rattle.version_parts.specs.DigitRun.{is_digits};
 ghost use Rattle.version_parts.specs.Front.{Reads};
 ghost use Rattle.version_parts.specs.FrontLaws.{mchunk_consumes};
 ghost use Rattle.version_parts.specs.MChunk.{chunk_before, digits_number, ends_chunk, mchunk_fed, mchunk_front, mchunk_plain_cmp, mchunk_rank, mchunk_text, mchunk_value, plain_mchunk, value_of_digits, value_of_revision, variant_of, PlainMChunk};
 ghost use Rattle.version_parts.specs.MChunkLaws.{mchunk_total, mchunks_same};
 ghost use Rattle.version_parts.specs.OrderLaws.{same_where_tied};
+ghost use Rattle.version_parts.specs.PartOrder.{mchunk_cmp};
+ghost use Rattle.version_parts.specs.PartOrderLaws.{mchunk_cmp_ties, mchunk_cmp_total};
 
+use crate::key::{PartText, compare_parts};
 use crate::lists::ListItem;
 use crate::scan::{Class, Element, after_mark, is_all_digits, nonempty_run, value_of};
 use crate::sep::Sep;
@@ -203,6 +206,32 @@ impl Hash for MChunk {
         state.write_u8(self.rank());
         self.value().hash(state);
         self.text().hash(state);
+    }
+}
+
+/// By their texts as parts, then field by field. Takes no memory.
+impl Ord for MChunk {
+    ghost cmp = { on plain_mchunk mchunk_cmp };
+
+    ghost total = { on_total plain_mchunk mchunk_cmp_total };
+
+    ghost matches_partial_cmp = { λ a b. refl };
+
+    ghost matches_eq = { λ a b. mchunk_cmp_ties (plain_mchunk a) (plain_mchunk b) };
+
+    fn cmp(&self, other: &MChunk) -> Ordering {
+        let (a, b) = (PartText::text(self.text()), PartText::text(other.text()));
+        compare_parts(a, b).then_with(|| self.compare_plain(other))
+    }
+}
+
+impl PartialOrd for MChunk {
+    ghost partial_cmp = { as_partial_cmp (on plain_mchunk mchunk_cmp) };
+
+    ghost laws = { po (on_total plain_mchunk mchunk_cmp_total) (λ a b. mchunk_cmp_ties (plain_mchunk a) (plain_mchunk b)) };
+
+    fn partial_cmp(&self, other: &MChunk) -> Option<Ordering> {
+        Some(self.cmp(other))
     }
 }
 

@@ -15,8 +15,10 @@ ghost use Rattle.version_parts.specs.DigitRun.{is_digits, starts_with_digit};
 ghost use Rattle.version_parts.specs.Last.{PlainLast};
 ghost use Rattle.version_parts.specs.LastOrder.{last_plain_cmp};
 ghost use Rattle.version_parts.specs.Lists.{bytes_cmp};
+ghost use Rattle.version_parts.specs.MChunk.{PlainMChunk};
 ghost use Rattle.version_parts.specs.NumberBytes.{length_bytes, number_bytes};
 ghost use Rattle.version_parts.specs.PartKey.{Number, PartKey, Word, list_cmp, part_bytes, part_cmp, part_key, parts_bytes, suffix_of};
+ghost use Rattle.version_parts.specs.PartOrder.{chunks_cmp, last_cmp, mchunk_cmp};
 ghost use Rattle.version_parts.specs.ReleaseOrder.{chunk_cmp, release_bytes, release_cmp};
 ghost use Rattle.version_parts.specs.Split.{Split, split_bytes, split_cmp, split_of};
 ghost use Rattle.version_parts.specs.TextBytes.{text_bytes};
@@ -68,8 +70,26 @@ fn chunk_order()
     ensures same { (a b : PlainChunk) → (chunk_cmp a b ≡ Equal) ↔ (a ≡ b) }
 {}
 
-/// The plain order of last parts is total and Equal exactly of the same last part.
+/// The order of the chunks of general versions is total and Equal exactly of the same chunks.
+fn chunks_order()
+    ensures total { IsTotalOrder chunks_cmp }
+    ensures same { (a b : List PlainChunk) → (chunks_cmp a b ≡ Equal) ↔ (a ≡ b) }
+{}
+
+/// The order of last parts is total and Equal exactly of the same last part.
 fn last_order()
+    ensures total { IsTotalOrder last_cmp }
+    ensures same { (a b : PlainLast) → (last_cmp a b ≡ Equal) ↔ (a ≡ b) }
+{}
+
+/// The order of messy chunks is total and Equal exactly of the same chunk.
+fn mchunk_order()
+    ensures total { IsTotalOrder mchunk_cmp }
+    ensures same { (a b : PlainMChunk) → (mchunk_cmp a b ≡ Equal) ↔ (a ≡ b) }
+{}
+
+/// The plain order of last parts is total and Equal exactly of the same last part.
+fn last_plain_order()
     ensures total { IsTotalOrder last_plain_cmp }
     ensures same { (a b : PlainLast) → (last_plain_cmp a b ≡ Equal) ↔ (a ≡ b) }
 {}

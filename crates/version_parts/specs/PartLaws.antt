@@ -1,0 +1,58 @@
+-- The laws of the orders of parts and of lists of parts, which the impls of `Ord` cite.
+use Rattle.std.proofs.Common.{◌≡◌, ℕ, List, Option, Some, None, refl, subst}
+use Rattle.std.specs.Cmp.{IsTotalOrder, nat_cmp_total, on_total, then_total}
+use Rattle.std.specs.Cmp.Lexicographic.{lists_total, nat_list_cmp_total, options_total}
+use Rattle.std.specs.Option.{option_cmp}
+use Rattle.std.specs.Ordering.{nat_cmp, on, then_cmp}
+use Rattle.version_parts.specs.Lists.{none_last_cmp, with_end}
+use Rattle.version_parts.specs.OrderLaws.{none_last_total, then_equal}
+use Rattle.version_parts.specs.PartKey.{PartKey, Word, Number, list_cmp, part_cmp}
+use Rattle.version_parts.specs.Split.{Split, numbered_cmp, split_cmp}
+
+numbered_total : IsTotalOrder numbered_cmp
+numbered_total = then_total (on_total (λ (n : ℕ × List ℕ). n.0) nat_cmp_total) (on_total (λ (n : ℕ × List ℕ). n.1) nat_list_cmp_total)
+
+pub split_total : IsTotalOrder split_cmp
+split_total = then_total (on_total (λ (s : Split). s.before) nat_list_cmp_total) (on_total (λ (s : Split). s.number) (options_total numbered_total))
+
+-- a part, or the end of a list, as its rank, its word, its number and its suffix
+rank : Option PartKey → ℕ
+rank (Some (Word w)) = 0
+rank None = 1
+rank (Some (Number n suffix)) = 2
+
+word : Option PartKey → Option Split
+word (Some (Word w)) = Some w
+word None = None
+word (Some (Number n suffix)) = None
+
+number : Option PartKey → ℕ
+number (Some (Word w)) = 0
+number None = 0
+number (Some (Number n suffix)) = n
+
+suffix : Option PartKey → Option Split
+suffix (Some (Word w)) = None
+suffix None = None
+suffix (Some (Number n s)) = s
+
+in_turn : (a b : Option PartKey)
+    → then_cmp (on rank nat_cmp) (then_cmp (on word (option_cmp split_cmp)) (then_cmp (on number nat_cmp) (on suffix (none_last_cmp split_cmp)))) a b ≡ part_cmp a b
+unfolding rank word number suffix
+in_turn (Some (Word v)) (Some (Word w)) = then_equal (split_cmp v w)
+in_turn (Some (Number m s)) (Some (Number n t)) = refl
+in_turn (Some (Word v)) None = refl
+in_turn (Some (Word v)) (Some (Number n t)) = refl
+in_turn None (Some (Word w)) = refl
+in_turn None None = refl
+in_turn None (Some (Number n t)) = refl
+in_turn (Some (Number m s)) (Some (Word w)) = refl
+in_turn (Some (Number m s)) None = refl
+
+pub part_total : IsTotalOrder part_cmp
+part_total = subst IsTotalOrder (λ i a b. in_turn a b i)
+    (then_total (on_total rank nat_cmp_total) (then_total (on_total word (options_total split_total))
+    (then_total (on_total number nat_cmp_total) (on_total suffix (none_last_total split_total)))))
+
+pub list_total : IsTotalOrder list_cmp
+list_total = on_total with_end (lists_total part_total)
