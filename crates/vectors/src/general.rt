@@ -204,7 +204,7 @@ fn general(rt: &HostRuntime, text: &str) -> Result<Version, Fail> {
     Ok(version.ok_or("no general version")?)
 }
 
-fn numbers(rt: &HostRuntime, numbers: &[u32]) -> Result<Vec<Chunk>, AllocError> {
+pub(crate) fn numbers(rt: &HostRuntime, numbers: &[u32]) -> Result<Vec<Chunk>, AllocError> {
     let mut chunks = Vec::new(rt.alloc());
     for number in numbers {
         chunks.push(Chunk::Numeric(*number))?;
@@ -212,6 +212,6 @@ fn numbers(rt: &HostRuntime, numbers: &[u32]) -> Result<Vec<Chunk>, AllocError> 
     Ok(chunks)
 }
 
-fn text(rt: &HostRuntime, text: &str) -> Result<String, AllocError> {
+pub(crate) fn text(rt: &HostRuntime, text: &str) -> Result<String, AllocError> {
     String::from_str(rt.alloc(), text)
 }

@@ -1,10 +1,13 @@
-//! The order of strict versions, their equality and hash, and what a tilde or a caret asks for.
+//! The orders of strict versions and of parts, equality and hash of strict versions, and what a tilde or a caret asks
+//! for.
 
+use crate::general::{numbers, text};
+use std::alloc::AllocError;
 use std::cmp::Ordering;
 use std::collections::{BTreeMap, HashMap};
 use std::hash::{DefaultHasher, Hash, Hasher};
 use std::test::Fail;
-use versions::{Chunk, Release, SemVer};
+use versions::{Chunk, Chunks, Last, MChunk, Release, SemVer};
 
 #[test]
 fn tilde_and_caret(rt: HostRuntime) -> Result<(), Fail> {
@@ -76,6 +79,53 @@ fn an_empty_pre_release_is_the_lowest(rt: HostRuntime) -> Result<(), Fail> {
 }
 
 #[test]
+fn chunks_compare_as_parts(rt: HostRuntime) -> Result<(), Fail> {
+    let none = Chunks::default_in(rt.alloc());
+    let zero = Chunks(numbers(&rt, &[0])?);
+    let word = Chunks(alone(&rt, "a")?);
+    assert_eq!(rt; none.cmp(&zero), Ordering::Less);
+    assert_eq!(rt; none.cmp(&word), Ordering::Greater);
+    // One part, so that the fields decide.
+    let number = Chunks(numbers(&rt, &[1])?);
+    let digits = Chunks(alone(&rt, "1")?);
+    assert_eq!(rt; number.cmp(&digits), Ordering::Less);
+    assert_eq!(rt; number.partial_cmp(&digits), Some(Ordering::Less));
+    Ok(())
+}
+
+#[test]
+fn last_parts_compare_as_parts(rt: HostRuntime) -> Result<(), Fail> {
+    let candidate = Last::Rc(0, text(&rt, "rc")?, 1);
+    assert_eq!(rt; candidate.cmp(&Last::Numeric(0)), Ordering::Less);
+    let alpha = Last::Post(7, text(&rt, "alpha")?);
+    assert_eq!(rt; alpha.cmp(&Last::Numeric(7)), Ordering::Less);
+    let fifth = Last::Rc(1, text(&rt, "rc")?, 5);
+    let bare = Last::Post(1, text(&rt, "rc")?);
+    assert_eq!(rt; fifth.cmp(&bare), Ordering::Greater);
+    // One part, so that the fields decide.
+    let pieces = Last::Rc(1, text(&rt, "0")?, 2);
+    assert_eq!(rt; Last::Numeric(102).cmp(&pieces), Ordering::Less);
+    assert_eq!(rt;
+        pieces.partial_cmp(&Last::Numeric(102)),
+        Some(Ordering::Greater)
+    );
+    Ok(())
+}
+
+#[test]
+fn messy_chunks_compare_as_parts(rt: HostRuntime) -> Result<(), Fail> {
+    let nine = MChunk::Digits(9, text(&rt, "9")?);
+    let ten = MChunk::Digits(10, text(&rt, "10")?);
+    assert_eq!(rt; nine.cmp(&ten), Ordering::Less);
+    // One part, so that the fields decide.
+    let short = MChunk::Digits(1, text(&rt, "1")?);
+    let long = MChunk::Digits(1, text(&rt, "01")?);
+    assert_eq!(rt; short.cmp(&long), Ordering::Greater);
+    assert_eq!(rt; long.partial_cmp(&short), Some(Ordering::Less));
+    Ok(())
+}
+
+#[test]
 fn metadata_is_not_looked_at(rt: HostRuntime) -> Result<(), Fail> {
     let a = strict(&rt, "1.0.0+a")?;
     let b = strict(&rt, "1.0.0+b")?;
@@ -135,6 +185,12 @@ fn the_default_is_zero(rt: HostRuntime) -> Result<(), Fail> {
 pub(crate) fn strict(rt: &HostRuntime, text: &str) -> Result<SemVer, Fail> {
     let version = SemVer::new(rt.alloc(), text)?;
     Ok(version.ok_or("no strict version")?)
+}
+
+fn alone(rt: &HostRuntime, chunk: &str) -> Result<Vec<Chunk>, AllocError> {
+    let mut chunks = Vec::new(rt.alloc());
+    chunks.push(Chunk::Alphanum(text(rt, chunk)?))?;
+    Ok(chunks)
 }
 
 pub(crate) fn release(rt: &HostRuntime, text: &str) -> Result<Release, Fail> {

@@ -67,9 +67,9 @@ same_where_tied {R = R} same {a} {b} tied = same a b ((Equal-is (R a b)).0 tied)
 pub equal_where_same : {A : Type 0} {R : A → A → Ordering} → IsTotalOrder R → IsAntisymmetric R → (a b : A) → (R a b ≡ Equal) ↔ (a ≡ b)
 equal_where_same {R = R} total same a b = (same a b, λ e. subst (λ c. R a c ≡ Equal) e (tied_itself total a))
 
--- ---- an order, and where it ties another
+-- ---- an order, and another where it ties
 
--- the two together tie what the second does, where that ties nothing that the first doesn't
+-- the two together tie what the second ties, where the first ties all that
 pub ties_behind : {A : Type 0} {R S : A → A → Ordering} → ((a b : A) → S a b ≡ Equal → R a b ≡ Equal)
     → (a b : A) → eq_by_cmp S a b ≡ eq_by_cmp (then_cmp R S) a b
 ties_behind {R = R} {S} tied a b = level (R a b) (S a b) (tied a b)
@@ -83,7 +83,7 @@ ties_behind {R = R} {S} tied a b = level (R a b) (S a b) (tied a b)
     level Greater Equal e = cc (e refl)
     level Greater Greater e = refl
 
--- so does a total order and then one that tells different values apart
+-- as it does where the first is total, and the second tells different values apart
 pub ties_same : {A : Type 0} {R S : A → A → Ordering} → IsTotalOrder R → IsAntisymmetric S
     → (a b : A) → eq_by_cmp S a b ≡ eq_by_cmp (then_cmp R S) a b
 ties_same {R = R} total same = ties_behind (λ a b tied. rw (same a b tied) (tied_itself total b))

@@ -90,8 +90,7 @@ impl Hash for Chunks {
     }
 }
 
-/// By their parts as lists of parts, the end of a list above words and below numbers, then chunk by chunk. Takes no
-/// memory.
+/// As lists of parts, whose end is above words and below numbers, then chunk by chunk. Takes no memory.
 impl Ord for Chunks {
     ghost cmp = { on plain_chunks chunks_cmp };
 
