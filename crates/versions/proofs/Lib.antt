@@ -1,4 +1,5 @@
 pub mod Answered
+pub mod Epoch
 pub mod Flat
 pub mod FromText
 pub mod Items
@@ -11,6 +12,7 @@ pub mod Orders
 pub mod Precedence
 pub mod SemVerOrder
 pub mod SemVerReading
+pub mod SortKey
 pub mod Tail
 pub mod Texts
 pub mod VersionReading

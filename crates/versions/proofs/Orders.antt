@@ -1,9 +1,8 @@
 -- The laws that the contracts of `src/laws/order.rt` state, as they follow from the codes.
 use Rattle.std.proofs.Common.{◌≡◌, ◌↔◌, ℕ, List, ◌∷◌, ◌++◌, Option, refl, ◌∙◌}
-use Rattle.std.specs.Cmp.{IsTotalOrder}
 use Rattle.std.specs.Ordering.{ordering_then}
 use Rattle.std.specs.declared.cmp.Ordering.TheVariants.{Equal}
-use Rattle.version_parts.proofs.Codes.{writes_alone, writes_canonical, writes_no_prefix, writes_total}
+use Rattle.version_parts.proofs.Codes.{writes_alone, writes_canonical, writes_no_prefix}
 use Rattle.version_parts.specs.OrderLaws.{equal_where_same, then_decided, then_equal}
 use Rattle.version_parts.specs.Lists.{bytes_cmp}
 use Rattle.version_parts.specs.MChunk.{PlainMChunk}
@@ -15,6 +14,7 @@ use Rattle.versions.proofs.Texts.{keys_are_bytes, versions_are_bytes}
 use Rattle.versions.proofs.Worked.{worked_keys}
 use Rattle.versions.specs.Key.{Key, key_of_semver, key_of_version, precedence, sections_tail}
 use Rattle.versions.specs.KeyBytes.{key_bytes}
+use Rattle.versions.specs.KeyLaws.{precedence_total, sections_total, tail_total}
 use Rattle.versions.specs.Mess.{PlainMess, PlainSep, mess_plain_cmp}
 use Rattle.versions.specs.MessLaws.{mess_total, messes_same}
 use Rattle.versions.specs.Versioning.{PlainVersioning, Ideal, General, Complex, SameVersioning, versioning_plain_cmp}
@@ -27,20 +27,11 @@ use Rattle.versions.specs.Version.{PlainVersion}
 use Rattle.versions.specs.VersionLaws.{version_plain_total, versions_same}
 use Rattle.versions.specs.VersionOrder.{version_plain_cmp}
 
-pub sections_total : IsTotalOrder sections_cmp
-sections_total = writes_total sections_writes
-
 pub sections_equal : (a b : List (List PartKey)) → (sections_cmp a b ≡ Equal) ↔ (a ≡ b)
 sections_equal = equal_where_same sections_total sections_same
 
-pub tail_total : IsTotalOrder tail_cmp
-tail_total = writes_total tail_writes
-
 pub tail_equal : (a b : Tail) → (tail_cmp a b ≡ Equal) ↔ (a ≡ b)
 tail_equal = equal_where_same tail_total tails_same
-
-pub precedence_total : IsTotalOrder precedence
-precedence_total = writes_total key_writes
 
 pub precedence_equal : (k l : Key) → (precedence k l ≡ Equal) ↔ (k ≡ l)
 precedence_equal = equal_where_same precedence_total keys_same

@@ -2,8 +2,12 @@ pub mod Conversions
 pub mod Errors
 pub mod Key
 pub mod KeyBytes
+pub mod KeyLaws
+pub mod KeyStream
 pub mod Mess
 pub mod MessLaws
+pub mod Orders
+pub mod OrdersLaws
 pub mod SemVer
 pub mod SemVerLaws
 pub mod SemVerMatch

@@ -8,6 +8,7 @@
 
 mod conversions;
 mod errors;
+pub mod key;
 mod laws;
 mod mess;
 mod pieces;

@@ -1,17 +1,20 @@
 //! Messy versions. However many sections there are, every call goes along them by a loop.
 
-ghost use Rattle.std.specs.Prelude.{◌≡◌, [], Some, IfOk, IfSome, OnErr, length, map};
+ghost use Rattle.std.specs.Prelude.{◌≡◌, refl, [], Some, IfOk, IfSome, OnErr, length, map};
 ghost use Rattle.std.specs.Option.{is_some, option_map};
 ghost use Rattle.std.proofs.Common.{ap};
-ghost use Rattle.std.specs.Cmp.{eq_by_cmp_equiv, on_equiv, on_per, partial_equiv_from_equiv};
-ghost use Rattle.std.specs.Ordering.{eq_by_cmp, on};
+ghost use Rattle.std.specs.Cmp.{eq_by_cmp_equiv, on_equiv, on_per, on_total, partial_equiv_from_equiv, po};
+ghost use Rattle.std.specs.Ordering.{as_partial_cmp, eq_by_cmp, on};
 ghost use Rattle.version_parts.specs.Front.{repeated, Reads};
 ghost use Rattle.version_parts.specs.OrderLaws.{same_where_tied};
 ghost use Rattle.versions.specs.Errors.{IllegalMess, ReadsOr};
 ghost use Rattle.versions.specs.Mess.{behind_colons, further_front, mess_fed, mess_front, mess_of, mess_plain_cmp, mess_text, nth_number, plain_further, plain_mess, plain_section, section_front, PlainMess, SpellsMess};
 ghost use Rattle.versions.specs.MessLaws.{mess_total, messes_same};
+ghost use Rattle.versions.specs.Orders.{mess_cmp};
+ghost use Rattle.versions.specs.OrdersLaws.{mess_cmp_ties, mess_cmp_total};
 
 use crate::errors::{Error, ReadError};
+use crate::key::{KeyBytes, compare_keys};
 use crate::reading::or_illegal;
 use std::alloc::{AllocError, Global};
 use std::cmp::Ordering;
@@ -123,7 +126,7 @@ impl Mess {
     }
 
     // How two versions compare, field by field.
-    fn compare_plain(&self, other: &Mess) -> Ordering
+    pub(crate) fn compare_plain(&self, other: &Mess) -> Ordering
         ensures { result ≡ mess_plain_cmp (plain_mess self.now) (plain_mess other.now) }
     {
         let mut a = self;
@@ -190,6 +193,33 @@ impl PartialEq for Mess {
 
 impl Eq for Mess {
     ghost laws = { on_equiv plain_mess (eq_by_cmp_equiv mess_total) };
+}
+
+/// By their keys, and where those tie, field by field, section by section. Takes no memory.
+impl Ord for Mess {
+    ghost cmp = { on plain_mess mess_cmp };
+
+    ghost total = { on_total plain_mess mess_cmp_total };
+
+    ghost matches_partial_cmp = { λ a b. refl };
+
+    ghost matches_eq = { λ a b. mess_cmp_ties (plain_mess a) (plain_mess b) };
+
+    #[tactic(auto, using(crate::proofs::Orders::key_bytes_alone))]
+    fn cmp(&self, other: &Mess) -> Ordering {
+        compare_keys(KeyBytes::of_mess(self), KeyBytes::of_mess(other))
+            .then_with(|| self.compare_plain(other))
+    }
+}
+
+impl PartialOrd for Mess {
+    ghost partial_cmp = { as_partial_cmp (on plain_mess mess_cmp) };
+
+    ghost laws = { po (on_total plain_mess mess_cmp_total) (λ a b. mess_cmp_ties (plain_mess a) (plain_mess b)) };
+
+    fn partial_cmp(&self, other: &Mess) -> Option<Ordering> {
+        Some(self.cmp(other))
+    }
 }
 
 /// Feeds the chunks, then whether more follows, then the sign and what is behind it.

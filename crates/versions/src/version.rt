@@ -1,19 +1,23 @@
 //! General versions.
 
-ghost use Rattle.std.specs.Prelude.{◌≡◌, string_bytes, IfOk, IfSome, IsSome, IsSomeAnd, None, OnErr, Some, []};
+ghost use Rattle.std.specs.Prelude.{◌≡◌, refl, string_bytes, IfOk, IfSome, IsSome, IsSomeAnd, None, OnErr, Some, []};
 ghost use Rattle.std.proofs.Common.{ap};
-ghost use Rattle.std.specs.Cmp.{eq_by_cmp_equiv, on_equiv, on_per, partial_equiv_from_equiv};
+ghost use Rattle.std.specs.Cmp.{eq_by_cmp_equiv, on_equiv, on_per, on_total, partial_equiv_from_equiv, po};
 ghost use Rattle.std.specs.Option.{is_some, option_map};
-ghost use Rattle.std.specs.Ordering.{eq_by_cmp, on};
+ghost use Rattle.std.specs.Ordering.{as_partial_cmp, eq_by_cmp, on};
 ghost use Rattle.version_parts.specs.Front.{optional, Reads};
 ghost use Rattle.version_parts.specs.Last as plain;
 ghost use Rattle.version_parts.specs.OrderLaws.{same_where_tied};
 ghost use Rattle.versions.specs.Errors.{IllegalVersion, ReadsOr};
+ghost use Rattle.versions.specs.Key.{key_of_version, precedence};
+ghost use Rattle.versions.specs.Orders.{version_cmp};
+ghost use Rattle.versions.specs.OrdersLaws.{version_cmp_ties, version_cmp_total};
 ghost use Rattle.versions.specs.Version.{epoch_front, plain_pieces, plain_version, version_fed, version_front, version_nth, version_of, version_text, PlainVersion, SpellsVersion, VersionOwns};
 ghost use Rattle.versions.specs.VersionLaws.{version_plain_total, versions_same};
 ghost use Rattle.versions.specs.VersionOrder.{version_plain_cmp};
 
 use crate::errors::{Error, ReadError};
+use crate::key::{KeyBytes, compare_keys};
 use crate::pieces::{
     build_release, copy_meta, copy_release, copy_text, optional_meta, optional_release,
 };
@@ -130,6 +134,26 @@ impl Version {
         }
         self.chunks.0.get(n)?.single_digit()
     }
+
+    // How the keys of two versions compare.
+    #[tactic(auto, using(crate::proofs::Orders::key_bytes_alone))]
+    fn compare_keys(&self, other: &Version) -> Ordering
+        ensures { result ≡ precedence (key_of_version (plain_version self.now)) (key_of_version (plain_version other.now)) }
+    {
+        compare_keys(KeyBytes::of_version(self), KeyBytes::of_version(other))
+    }
+
+    // How two versions compare field by field, none before some.
+    pub(crate) fn compare_plain(&self, other: &Version) -> Ordering
+        ensures { result ≡ version_plain_cmp (plain_version self.now) (plain_version other.now) }
+    {
+        self.epoch
+            .cmp(&other.epoch)
+            .then_with(|| compare_lists(self.chunks.0.as_slice(), other.chunks.0.as_slice()))
+            .then_with(|| self.last.compare(&other.last))
+            .then_with(|| self.release.cmp(&other.release))
+            .then_with(|| self.meta.cmp(&other.meta))
+    }
 }
 
 impl fmt::Display for Version {
@@ -162,12 +186,38 @@ impl PartialEq for Version {
     ghost laws = { on_per plain_version (partial_equiv_from_equiv (eq_by_cmp_equiv version_plain_total)) };
 
     fn eq(&self, other: &Version) -> bool {
-        compare_plain(self, other).is_eq()
+        self.compare_plain(other).is_eq()
     }
 }
 
 impl Eq for Version {
     ghost laws = { on_equiv plain_version (eq_by_cmp_equiv version_plain_total) };
+}
+
+/// By their keys, and where those tie, field by field, none before some. Takes no memory.
+impl Ord for Version {
+    ghost cmp = { on plain_version version_cmp };
+
+    ghost total = { on_total plain_version version_cmp_total };
+
+    ghost matches_partial_cmp = { λ a b. refl };
+
+    ghost matches_eq = { λ a b. version_cmp_ties (plain_version a) (plain_version b) };
+
+    fn cmp(&self, other: &Version) -> Ordering {
+        self.compare_keys(other)
+            .then_with(|| self.compare_plain(other))
+    }
+}
+
+impl PartialOrd for Version {
+    ghost partial_cmp = { as_partial_cmp (on plain_version version_cmp) };
+
+    ghost laws = { po (on_total plain_version version_cmp_total) (λ a b. version_cmp_ties (plain_version a) (plain_version b)) };
+
+    fn partial_cmp(&self, other: &Version) -> Option<Ordering> {
+        Some(self.cmp(other))
+    }
 }
 
 /// Feeds every field.
@@ -183,18 +233,6 @@ impl Hash for Version {
         self.release.hash(state);
         self.meta.hash(state);
     }
-}
-
-// Fields in the order of their declaration, none before some.
-fn compare_plain(a: &Version, b: &Version) -> Ordering
-    ensures { result ≡ version_plain_cmp (plain_version a.now) (plain_version b.now) }
-{
-    a.epoch
-        .cmp(&b.epoch)
-        .then_with(|| compare_lists(a.chunks.0.as_slice(), b.chunks.0.as_slice()))
-        .then_with(|| a.last.compare(&b.last))
-        .then_with(|| a.release.cmp(&b.release))
-        .then_with(|| a.meta.cmp(&b.meta))
 }
 
 // The general version that the whole text spells.

@@ -1,18 +1,25 @@
 //! Versions of any kind.
 
-ghost use Rattle.std.specs.Prelude.{◌≡◌, refl, IfOk, IfSome, IsSomeAnd, None, OnErr, Some};
-ghost use Rattle.std.specs.Cmp.{eq_by_cmp_equiv, on_equiv, on_per, partial_equiv_from_equiv};
+ghost use Rattle.std.specs.Prelude.{◌≡◌, ◌++◌, List, ℕ, refl, IfOk, IfSome, IsSomeAnd, None, OnErr, Some};
+ghost use Rattle.std.specs.Cmp.{eq_by_cmp_equiv, on_equiv, on_per, on_total, partial_equiv_from_equiv, po, IsTotalOrder};
 ghost use Rattle.std.specs.Option.{option_map};
-ghost use Rattle.std.specs.Ordering.{eq_by_cmp, on};
+ghost use Rattle.std.specs.Ordering.{as_partial_cmp, eq_by_cmp, on};
+ghost use Rattle.std.specs.declared.cmp.Ordering.TheVariants.{Equal};
 ghost use Rattle.version_parts.specs.Front.{Reads};
+ghost use Rattle.version_parts.specs.Lists.{bytes_cmp};
 ghost use Rattle.versions.specs.Errors.{IllegalVersioning, ReadsOr};
-ghost use Rattle.versions.specs.SemVer.{plain_semver};
+ghost use Rattle.versions.specs.Key.{key_of, precedence, Key};
+ghost use Rattle.versions.specs.KeyBytes.{key_bytes};
+ghost use Rattle.versions.specs.Orders.{versioning_cmp};
+ghost use Rattle.versions.specs.OrdersLaws.{versioning_cmp_ties, versioning_cmp_total};
+ghost use Rattle.versions.specs.SemVer.{plain_semver, PlainSemVer};
 ghost use Rattle.versions.specs.SemVerOrder.{semver_cmp};
 ghost use Rattle.versions.specs.Versioning.{is_complex, is_general, is_ideal, kind_rank, plain_versioning, semver_nth, versioning_fed, versioning_front, versioning_nth, versioning_of, versioning_plain_cmp, versioning_text, PlainVersioning, SpellsVersioning, VersioningOwns};
 ghost use Rattle.versions.specs.Versioning as plain;
 ghost use Rattle.versions.specs.VersioningLaws.{versioning_plain_total, versions_fed_alike};
 
 use crate::errors::{Error, ReadError};
+use crate::key::{KeyBytes, compare_keys};
 use crate::mess::Mess;
 use crate::reading::or_illegal;
 use crate::semver::SemVer;
@@ -123,6 +130,65 @@ impl Versioning {
             Versioning::Complex(complex) => complex.nth(n),
         }
     }
+
+    /// How two versions compare in the one order of all versions, by their keys (docs/ORDER.md). `Ord` breaks its ties.
+    /// Takes no memory.
+    #[tactic(auto, using(crate::proofs::Orders::laws))]
+    pub fn precedence(&self, other: &Versioning) -> Ordering
+        ensures keys { result ≡ precedence (key_of (plain_versioning self.now)) (key_of (plain_versioning other.now)) }
+
+        // That order is total and transitive, and reversed by swapping, over all keys; on strict versions it is theirs.
+        ensures total { IsTotalOrder precedence }
+        ensures strict { (a b : PlainSemVer) → precedence (key_of (plain.Ideal a)) (key_of (plain.Ideal b)) ≡ semver_cmp a b }
+    {
+        compare_keys(self.key_bytes(), other.key_bytes())
+    }
+
+    /// The bytes of its key, one after another, which order as precedence does. Takes no memory.
+    pub fn key_bytes(&self) -> KeyBytes<'_>
+        ensures { result ≡ key_bytes (key_of (plain_versioning self.now)) }
+    {
+        KeyBytes::of(self)
+    }
+
+    /// The bytes of its key in a list, for a database or a sort that knows nothing of versions: two such lists compare
+    /// byte by byte, the shorter first where one begins the other, as the versions do in precedence. The error is that
+    /// there is no memory for them.
+    #[tactic(auto, using(crate::proofs::Orders::laws))]
+    pub fn sort_key(&self, alloc: Global) -> Result<Vec<u8>, AllocError>
+        ensures bytes { IfOk result (λ key. key.items ≡ key_bytes (key_of (plain_versioning self.now))) }
+
+        // Against the bytes of any key they compare as precedence does, and where that isn't Equal it stays so
+        // whatever bytes follow the two.
+        ensures ordered { IfOk result (λ key. (k : Key) → bytes_cmp key.items (key_bytes k) ≡ precedence (key_of (plain_versioning self.now)) k) }
+        ensures followed { IfOk result (λ key. (k : Key) (x y : List ℕ) → ¬ (precedence (key_of (plain_versioning self.now)) k ≡ Equal)
+            → bytes_cmp (key.items ++ x) (key_bytes k ++ y) ≡ precedence (key_of (plain_versioning self.now)) k) }
+    {
+        self.key_bytes().into_vec(alloc)
+    }
+
+    // How two versions compare by their kinds, and then field by field.
+    fn compare_plain(&self, other: &Versioning) -> Ordering
+        ensures { result ≡ versioning_plain_cmp (plain_versioning self.now) (plain_versioning other.now) }
+    {
+        match (self, other) {
+            (Versioning::Ideal(a), Versioning::Ideal(b)) => a.cmp(b),
+            (Versioning::General(a), Versioning::General(b)) => a.compare_plain(b),
+            (Versioning::Complex(a), Versioning::Complex(b)) => a.compare_plain(b),
+            (a, b) => a.rank().cmp(&b.rank()),
+        }
+    }
+
+    // The place of its kind among the three.
+    fn rank(&self) -> u8
+        ensures { result ≡ kind_rank (plain_versioning self.now) }
+    {
+        match self {
+            Versioning::Ideal(_) => 0,
+            Versioning::General(_) => 1,
+            Versioning::Complex(_) => 2,
+        }
+    }
 }
 
 // Major, minor and patch at 0, 1 and 2.
@@ -193,6 +259,33 @@ impl PartialEq for Versioning {
 
 impl Eq for Versioning {
     ghost laws = { on_equiv plain_versioning (eq_by_cmp_equiv versioning_plain_total) };
+}
+
+/// By precedence; where that ties, the strict before the general and that before the messy, and of one kind field by
+/// field, but for the metadata of strict versions. Takes no memory.
+impl Ord for Versioning {
+    ghost cmp = { on plain_versioning versioning_cmp };
+
+    ghost total = { on_total plain_versioning versioning_cmp_total };
+
+    ghost matches_partial_cmp = { λ a b. refl };
+
+    ghost matches_eq = { λ a b. versioning_cmp_ties (plain_versioning a) (plain_versioning b) };
+
+    fn cmp(&self, other: &Versioning) -> Ordering {
+        self.precedence(other)
+            .then_with(|| self.compare_plain(other))
+    }
+}
+
+impl PartialOrd for Versioning {
+    ghost partial_cmp = { as_partial_cmp (on plain_versioning versioning_cmp) };
+
+    ghost laws = { po (on_total plain_versioning versioning_cmp_total) (λ a b. versioning_cmp_ties (plain_versioning a) (plain_versioning b)) };
+
+    fn partial_cmp(&self, other: &Versioning) -> Option<Ordering> {
+        Some(self.cmp(other))
+    }
 }
 
 /// Feeds the kind, and what it feeds.

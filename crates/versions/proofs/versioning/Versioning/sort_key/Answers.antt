@@ -1,0 +1,7 @@
+use Rattle.versions.proofs.SortKey.{stays_apart}
+use Rattle.versions.proofs.versioning.Versioning.sort_key.Goals as goal
+use Rattle.versions.specs.Key.{key_of}
+use Rattle.versions.specs.Versioning.{plain_versioning}
+
+pub returns-clause-followed : goal.returns-clause-followed
+returns-clause-followed c = stays_apart c.into_vec.result (key_of (plain_versioning c.args.self.now)) (rw c.key_bytes.ensures at c.into_vec.ensures)

@@ -1,0 +1,20 @@
+-- The orders of versions: by their keys, and where those tie, field by field.
+use Rattle.std.specs.Ordering.{on, then_cmp}
+use Rattle.std.specs.declared.cmp.Ordering.{Ordering}
+use Rattle.versions.specs.Key.{key_of, key_of_mess, key_of_version, precedence}
+use Rattle.versions.specs.Mess.{PlainMess, mess_plain_cmp}
+use Rattle.versions.specs.Version.{PlainVersion}
+use Rattle.versions.specs.VersionOrder.{version_plain_cmp}
+use Rattle.versions.specs.Versioning.{PlainVersioning, versioning_plain_cmp}
+
+-- two general versions
+abbrev pub version_cmp : PlainVersion → PlainVersion → Ordering
+version_cmp = then_cmp (on key_of_version precedence) version_plain_cmp
+
+-- two messy versions
+abbrev pub mess_cmp : PlainMess → PlainMess → Ordering
+mess_cmp = then_cmp (on key_of_mess precedence) mess_plain_cmp
+
+-- two versions of any kind: where the keys tie, the strict before the general and that before the messy
+abbrev pub versioning_cmp : PlainVersioning → PlainVersioning → Ordering
+versioning_cmp = then_cmp (on key_of precedence) versioning_plain_cmp
