@@ -3,6 +3,7 @@ pub mod Epoch
 pub mod Flat
 pub mod FromText
 pub mod Items
+pub mod KeyConversion
 pub mod MessConversion
 pub mod MessFed
 pub mod MessReading

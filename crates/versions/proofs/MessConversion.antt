@@ -1,5 +1,5 @@
 -- A conversion to a messy version prints as the version does.
-use Rattle.std.proofs.Common.{◌≡◌, ◌∙◌, List, ℕ, [], ◌∷◌, ◌++◌, map, Option, Some, None, Result, Ok, Err, IfOk, refl, sym, ap, append_assoc, append-nil}
+use Rattle.std.proofs.Common.{◌≡◌, ◌∙◌, List, ℕ, [], ◌∷◌, ◌++◌, map, Option, Some, None, refl, sym, ap, append_assoc, append-nil}
 use Rattle.std.specs.Fmt.{decimal}
 use Rattle.std.specs.List.{flat_map}
 use Rattle.version_parts.specs.Body.{body_text}
@@ -11,8 +11,7 @@ use Rattle.version_parts.specs.Last.{PlainLast, last_text}
 use Rattle.version_parts.specs.MChunk.{mchunk_text}
 use Rattle.version_parts.specs.Release.{release_text}
 use Rattle.versions.specs.Conversions.{behind_epoch, body_section, mchunk_of, mchunk_of_last, mess_of_semver, mess_of_version, meta_section, release_section, version_of_semver}
-use Rattle.versions.specs.Mess.{PlainMess, further_text, joined_section, mess_text, plain_mess}
-use Rattle.versions.specs.declared.mess.Mess.{Mess}
+use Rattle.versions.specs.Mess.{further_text, joined_section, mess_text}
 use Rattle.versions.specs.SemVer.{PlainSemVer, optional_text, semver_text}
 use Rattle.versions.specs.Version.{PlainVersion, epoch_text, version_text}
 
@@ -63,8 +62,3 @@ version_of_semver_printed v = simp append_assoc
 
 pub mess_of_semver_printed : (v : PlainSemVer) → mess_text (mess_of_semver v) ≡ semver_text v
 mess_of_semver_printed v = mess_of_version_printed (version_of_semver v) ∙ version_of_semver_printed v
-
--- what is this version prints as it does
-pub printed_along : {E : Type 0} (r : Result Mess E) (m : PlainMess) (text : List ℕ) → IfOk r (λ x. plain_mess x ≡ m) → mess_text m ≡ text → IfOk r (λ x. mess_text (plain_mess x) ≡ text)
-printed_along (Ok x) m text e printed = ap mess_text e ∙ printed
-printed_along (Err x) m text e printed = tt

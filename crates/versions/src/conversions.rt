@@ -1,31 +1,50 @@
-//! Strict and general versions as messy ones.
+//! Versions as ones of a more lenient kind.
 
-ghost use Rattle.std.specs.Prelude.{◌≡◌, ◌∷◌, [], ◌++◌, map, string_bytes, IfOk};
+ghost use Rattle.std.specs.Prelude.{◌≡◌, ◌<◌, ◌^◌, ◌∷◌, [], ◌++◌, ◌||◌, if◌then◌else◌, map, string_bytes, IfOk, IfSome};
 ghost use Rattle.std.specs.Fmt.{decimal};
-ghost use Rattle.std.specs.Option.{option_map};
+ghost use Rattle.std.specs.Option.{is_some, option_map};
+ghost use Rattle.std.specs.declared.cmp.Ordering.TheVariants.{Equal, Less};
 ghost use Rattle.version_parts.specs.Body.{plain_chunks};
 ghost use Rattle.version_parts.specs.Chunk.{plain_chunk};
 ghost use Rattle.version_parts.specs.Last.{plain_last};
 ghost use Rattle.version_parts.specs.MChunk.{plain_mchunk, Plain};
 ghost use Rattle.version_parts.specs.Release.{plain_release};
-ghost use Rattle.versions.specs.Conversions.{behind_epoch, body_section, digits_of_number, mchunk_of, mchunk_of_last, mess_of_semver, mess_of_version, meta_section, release_section};
+ghost use Rattle.versions.specs.Conversions.{behind_epoch, body_section, digits_of_number, mchunk_of, mchunk_of_last, mess_of_semver, mess_of_version, meta_section, release_section, version_of_semver};
+ghost use Rattle.versions.specs.Key.{key_of_mess, key_of_semver, key_of_version, precedence};
 ghost use Rattle.versions.specs.Mess.{mess_text, plain_further, plain_mess, plain_section};
 ghost use Rattle.versions.specs.SemVer.{plain_semver, semver_text};
 ghost use Rattle.versions.specs.Version.{plain_version, version_text};
 
 use crate::mess::{Mess, link};
+use crate::pieces::{copy_meta, copy_release};
 use crate::semver::SemVer;
 use crate::version::Version;
 use std::alloc::{AllocError, Global};
-use version_parts::{Chunk, Last, MChunk, Release, Sep};
+use version_parts::{Chunk, Chunks, Last, MChunk, Release, Sep};
 
 impl SemVer {
+    /// The general version with the same numbers, release and metadata: the first two numbers are its chunks, the
+    /// third its last part. The error is that there is no memory for it.
+    pub fn to_version(&self, alloc: Global) -> Result<Version, AllocError>
+        ensures fields { IfOk result (λ v. plain_version v ≡ version_of_semver (plain_semver self.now)) }
+        // In precedence it is Equal to this one without a pre-release, and else above it.
+        ensures precedence { IfOk result (λ v. precedence (key_of_semver (plain_semver self.now)) (key_of_version (plain_version v))
+            ≡ (if is_some (plain_semver self.now).pre_rel then Less else Equal)) }
+    {
+        numbers_fit(self);
+        widen(alloc, self)
+    }
+
     /// The messy version that prints the same: the three numbers as digits, the release behind a hyphen, the metadata
     /// as one text behind a plus. The error is that there is no memory for it.
     pub fn to_mess(&self, alloc: Global) -> Result<Mess, AllocError>
         ensures fields { IfOk result (λ m. plain_mess m ≡ mess_of_semver (plain_semver self.now)) }
         ensures printed { IfOk result (λ m. mess_text (plain_mess m) ≡ semver_text (plain_semver self.now)) }
+        // In precedence it is Equal to this one without a pre-release and metadata, and else above it.
+        ensures precedence { IfOk result (λ m. precedence (key_of_semver (plain_semver self.now)) (key_of_mess (plain_mess m))
+            ≡ (if is_some (plain_semver self.now).pre_rel || is_some (plain_semver self.now).meta then Less else Equal)) }
     {
+        numbers_fit(self);
         convert_strict(alloc, self)
     }
 }
@@ -37,9 +56,29 @@ impl Version {
     pub fn to_mess(&self, alloc: Global) -> Result<Mess, AllocError>
         ensures fields { IfOk result (λ m. plain_mess m ≡ mess_of_version (plain_version self.now)) }
         ensures printed { IfOk result (λ m. mess_text (plain_mess m) ≡ version_text (plain_version self.now)) }
+        // In precedence it is Equal to this one without a release and metadata, and else above it.
+        ensures precedence { IfOk result (λ m. precedence (key_of_version (plain_version self.now)) (key_of_mess (plain_mess m))
+            ≡ (if is_some (plain_version self.now).release || is_some (plain_version self.now).meta then Less else Equal)) }
     {
+        epoch_fits(self);
         convert_general(alloc, self)
     }
+}
+
+// A strict version as a general one.
+fn widen(alloc: Global, v: &SemVer) -> Result<Version, AllocError>
+    ensures { IfOk result (λ general. plain_version general ≡ version_of_semver (plain_semver v.now)) }
+{
+    let mut chunks = Vec::with_capacity(alloc, 2)?;
+    chunks.push(Chunk::Numeric(v.major))?;
+    chunks.push(Chunk::Numeric(v.minor))?;
+    Ok(Version {
+        epoch: None,
+        chunks: Chunks(chunks),
+        last: Last::Numeric(v.patch),
+        release: copy_release(alloc, &v.pre_rel)?,
+        meta: copy_meta(alloc, &v.meta)?,
+    })
 }
 
 fn convert_strict(alloc: Global, v: &SemVer) -> Result<Mess, AllocError>
@@ -139,3 +178,24 @@ fn digits(alloc: Global, number: u32) -> Result<MChunk, AllocError>
 {
     Ok(MChunk::Digits(number, number.to_string(alloc)?))
 }
+
+// What the laws of keys ask of a version's numbers: that they are below 2 ^ 32.
+fn numbers_fit(v: &SemVer)
+    ensures { (v.now.major < 2 ^ 32) × (v.now.minor < 2 ^ 32) × (v.now.patch < 2 ^ 32) }
+{
+    fits(v.major);
+    fits(v.minor);
+    fits(v.patch);
+}
+
+fn epoch_fits(v: &Version)
+    ensures { IfSome v.now.epoch (λ epoch. epoch < 2 ^ 32) }
+{
+    if let Some(epoch) = v.epoch {
+        fits(epoch);
+    }
+}
+
+fn fits(number: u32)
+    ensures { number < 2 ^ 32 }
+{}

@@ -9,12 +9,10 @@ ghost use Rattle.version_parts.specs.Metadata.{meta_front};
 ghost use Rattle.version_parts.specs.Release.{plain_release, release_front};
 ghost use Rattle.version_parts.specs.Lists.{none_last_cmp};
 ghost use Rattle.version_parts.specs.ReleaseOrder.{release_cmp};
-ghost use Rattle.versions.specs.Conversions.{version_of_semver};
 ghost use Rattle.versions.specs.Errors.{IllegalSemver, ReadsOr};
 ghost use Rattle.versions.specs.SemVerLaws.{fed_alike, semver_total};
 ghost use Rattle.versions.specs.SemVerMatch.{numbers, MatchesCaret, MatchesTilde};
 ghost use Rattle.versions.specs.SemVerOrder.{semver_cmp};
-ghost use Rattle.versions.specs.Version.{plain_version};
 ghost use Rattle.versions.specs.SemVer.{plain_semver, semver_fed, plain_pieces, semver_front, semver_of, semver_text, SemVerOwns, PlainSemVer, SpellsSemVer};
 
 use crate::errors::{Error, ReadError};
@@ -92,23 +90,6 @@ impl SemVer {
             return Ok(None);
         };
         Ok(Some((pieces.build(alloc)?, rest)))
-    }
-
-    /// The general version with the same numbers, release and metadata: the first two numbers are its chunks, the
-    /// third its last part. The error is that there is no memory for it.
-    pub fn to_version(&self, alloc: Global) -> Result<Version, AllocError>
-        ensures { IfOk result (λ v. plain_version v ≡ version_of_semver (plain_semver self.now)) }
-    {
-        let mut chunks = Vec::with_capacity(alloc, 2)?;
-        chunks.push(Chunk::Numeric(self.major))?;
-        chunks.push(Chunk::Numeric(self.minor))?;
-        Ok(Version {
-            epoch: None,
-            chunks: Chunks(chunks),
-            last: Last::Numeric(self.patch),
-            release: copy_release(alloc, &self.pre_rel)?,
-            meta: copy_meta(alloc, &self.meta)?,
-        })
     }
 
     /// A copy, with the same in every field, metadata included. Three plain numbers take no memory; the error is that
