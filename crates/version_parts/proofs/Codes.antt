@@ -84,10 +84,6 @@ writes_alone {R = R} {code} w a b =
     let e : bytes_cmp (code a ++ []) (code b ++ []) ≡ ordering_then (R a b) Equal = w.compares a b [] [] in
     rw (append-nil (code a), append-nil (code b)) at e ∙ then_equal (R a b)
 
--- the order is total, as that of the bytes is
-pub writes_total : {A : Type 0} {R : A → A → Ordering} {code : A → List ℕ} → Writes R code → IsTotalOrder R
-writes_total {A} {R} {code} w = subst IsTotalOrder (λ i a b. writes_alone w a b i) (on_total code nat_list_cmp_total)
-
 -- no code begins a different one
 pub writes_no_prefix : {A : Type 0} {R : A → A → Ordering} {code : A → List ℕ} → IsAntisymmetric R → Writes R code
     → (a b : A) (x y : List ℕ) → code a ++ x ≡ code b ++ y → a ≡ b

@@ -1,9 +1,9 @@
 -- The laws that the contracts of `src/laws/order.rt` state, as they follow from the codes.
 use Rattle.std.proofs.Common.{◌≡◌, ◌↔◌, ℕ, List, ◌∷◌, ◌++◌, Option, refl, ◌∙◌}
-use Rattle.std.specs.Ordering.{ordering_then}
+use Rattle.std.specs.Ordering.{on, ordering_then}
 use Rattle.std.specs.declared.cmp.Ordering.TheVariants.{Equal}
 use Rattle.version_parts.proofs.Codes.{writes_alone, writes_canonical, writes_no_prefix}
-use Rattle.version_parts.specs.OrderLaws.{equal_where_same, then_decided, then_equal}
+use Rattle.version_parts.specs.OrderLaws.{equal_where_same, then_decided, then_equal, then_same, then_second}
 use Rattle.version_parts.specs.Lists.{bytes_cmp}
 use Rattle.version_parts.specs.MChunk.{PlainMChunk}
 use Rattle.version_parts.specs.PartKey.{PartKey}
@@ -12,11 +12,13 @@ use Rattle.versions.proofs.SemVerOrder.{precedence_of_semvers}
 use Rattle.versions.proofs.Tail.{sections_same, sections_writes, tail_writes, tails_same}
 use Rattle.versions.proofs.Texts.{keys_are_bytes, versions_are_bytes}
 use Rattle.versions.proofs.Worked.{worked_keys}
-use Rattle.versions.specs.Key.{Key, key_of_semver, key_of_version, precedence, sections_tail}
+use Rattle.versions.specs.Key.{Key, key_of, key_of_mess, key_of_semver, key_of_version, precedence, sections_tail}
 use Rattle.versions.specs.KeyBytes.{key_bytes}
 use Rattle.versions.specs.KeyLaws.{precedence_total, sections_total, tail_total}
 use Rattle.versions.specs.Mess.{PlainMess, PlainSep, mess_plain_cmp}
 use Rattle.versions.specs.MessLaws.{mess_total, messes_same}
+use Rattle.versions.specs.Orders.{mess_cmp, version_cmp, versioning_cmp}
+use Rattle.versions.specs.OrdersLaws.{keys_tied, mess_cmp_total, version_cmp_total, versioning_cmp_total}
 use Rattle.versions.specs.Versioning.{PlainVersioning, Ideal, General, Complex, SameVersioning, versioning_plain_cmp}
 use Rattle.versions.specs.VersioningLaws.{versioning_plain_total}
 use Rattle.versions.specs.SemVer.{PlainSemVer}
@@ -68,6 +70,22 @@ versioning_equal (General a) (Complex b) = (λ e. cc e, λ s. absurd s)
 versioning_equal (Complex a) (Ideal b) = (λ e. cc e, λ s. absurd s)
 versioning_equal (Complex a) (General b) = (λ e. cc e, λ s. absurd s)
 
+-- ---- the orders by keys, and then field by field
+
+pub version_cmp_equal : (a b : PlainVersion) → (version_cmp a b ≡ Equal) ↔ (a ≡ b)
+version_cmp_equal = equal_where_same version_cmp_total (then_same (on key_of_version precedence) versions_same)
+
+pub mess_cmp_equal : (a b : PlainMess) → (mess_cmp a b ≡ Equal) ↔ (a ≡ b)
+mess_cmp_equal = equal_where_same mess_cmp_total (then_same (on key_of_mess precedence) messes_same)
+
+pub versioning_cmp_equal : (a b : PlainVersioning) → (versioning_cmp a b ≡ Equal) ↔ SameVersioning a b
+versioning_cmp_equal a b =
+    (λ tied. (versioning_equal a b).0 (then_second _ _ tied),
+    λ same. let tied = (versioning_equal a b).1 same in rw (keys_tied a b tied, tied) refl)
+
+pub versioning_cmp_refines : (a b : PlainVersioning) → ¬ (precedence (key_of a) (key_of b) ≡ Equal) → versioning_cmp a b ≡ precedence (key_of a) (key_of b)
+versioning_cmp_refines a b differ = then_decided _ (versioning_plain_cmp a b) Equal differ ∙ then_equal _
+
 pub semver_equal : (a b : PlainSemVer) → (semver_cmp a b ≡ Equal) ↔ SameButMetadata a b
 semver_equal a b = (tied_same a b, same_tied a b)
 
@@ -103,6 +121,13 @@ pub ruleset laws = (
   mess_equal,
   versioning_plain_total,
   versioning_equal,
+  version_cmp_total,
+  version_cmp_equal,
+  mess_cmp_total,
+  mess_cmp_equal,
+  versioning_cmp_total,
+  versioning_cmp_equal,
+  versioning_cmp_refines,
   semver_total,
   semver_equal,
   keys_are_bytes,

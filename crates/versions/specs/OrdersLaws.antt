@@ -32,7 +32,7 @@ pub versioning_cmp_total : IsTotalOrder versioning_cmp
 versioning_cmp_total = then_total (on_total key_of precedence_total) versioning_plain_total
 
 -- versions whose fields tie have one key, metadata having no part in it
-keys_tied : (a b : PlainVersioning) → versioning_plain_cmp a b ≡ Equal → precedence (key_of a) (key_of b) ≡ Equal
+pub keys_tied : (a b : PlainVersioning) → versioning_plain_cmp a b ≡ Equal → precedence (key_of a) (key_of b) ≡ Equal
 keys_tied (Ideal a) (Ideal b) tied =
     let same = tied_same a b tied in
     rw (same.major, same.minor, same.patch, same.pre_rel) (tied_itself precedence_total (key_of (Ideal b)))

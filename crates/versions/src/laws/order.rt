@@ -13,6 +13,7 @@ ghost use Rattle.version_parts.specs.Texts.{AreBytes};
 ghost use Rattle.versions.specs.Key.{Key, key_of, key_of_semver, key_of_version, precedence, sections_tail};
 ghost use Rattle.versions.specs.KeyBytes.{key_bytes};
 ghost use Rattle.versions.specs.Mess.{mess_plain_cmp, PlainMess, PlainSep};
+ghost use Rattle.versions.specs.Orders.{mess_cmp, version_cmp, versioning_cmp};
 ghost use Rattle.versions.specs.SemVer.{PlainSemVer};
 ghost use Rattle.versions.specs.SemVerOrder.{semver_cmp, SameButMetadata};
 ghost use Rattle.versions.specs.Tail.{Tail, section_bytes, sections_cmp, tail_bytes, tail_cmp};
@@ -69,6 +70,18 @@ fn plain_orders()
     ensures same_messy { (a b : PlainMess) → (mess_plain_cmp a b ≡ Equal) ↔ (a ≡ b) }
     ensures any { IsTotalOrder versioning_plain_cmp }
     ensures same_any { (a b : PlainVersioning) → (versioning_plain_cmp a b ≡ Equal) ↔ SameVersioning a b }
+{}
+
+/// The orders of general, of messy and of any versions, by their keys and then field by field, are total and Equal
+/// exactly of the same version, but that of any versions leaves out the metadata of strict ones. It refines precedence.
+fn version_orders()
+    ensures general { IsTotalOrder version_cmp }
+    ensures same_general { (a b : PlainVersion) → (version_cmp a b ≡ Equal) ↔ (a ≡ b) }
+    ensures messy { IsTotalOrder mess_cmp }
+    ensures same_messy { (a b : PlainMess) → (mess_cmp a b ≡ Equal) ↔ (a ≡ b) }
+    ensures any { IsTotalOrder versioning_cmp }
+    ensures same_any { (a b : PlainVersioning) → (versioning_cmp a b ≡ Equal) ↔ SameVersioning a b }
+    ensures refines { (a b : PlainVersioning) → ¬ (precedence (key_of a) (key_of b) ≡ Equal) → versioning_cmp a b ≡ precedence (key_of a) (key_of b) }
 {}
 
 /// On two strict versions precedence is the order of strict versions.
