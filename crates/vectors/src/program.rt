@@ -91,7 +91,12 @@ fn other_words_are_a_fault_before_anything_is_read(rt: HostRuntime) -> Result<()
         &["shown"],
         &["ideal", "ideal"],
         &["ideal", "show"],
-        &["cmp", "1", "2"],
+        &["sort", "1"],
+        &["cmp"],
+        &["cmp", "1"],
+        &["cmp", "1", "2", "3"],
+        &["key"],
+        &["key", "1", "2"],
     ] {
         let mut reader = Giver::of(b"1.2.3\n", usize::MAX);
         let mut writer = Taker::new(rt.alloc(), usize::MAX);
@@ -105,6 +110,109 @@ fn other_words_are_a_fault_before_anything_is_read(rt: HostRuntime) -> Result<()
         assert_eq!(rt; reader.calls, 0);
         assert_eq!(rt; writer.calls, 0);
     }
+    Ok(())
+}
+
+#[test]
+fn cmp_says_how_two_versions_stand(rt: HostRuntime) -> Result<(), Fail> {
+    for (first, second, wanted) in [
+        ("1.6.0", "1.6.0a+2014+m872b87e73dfb-1", b">\n"),
+        ("1.6.0a+2014+m872b87e73dfb-1", "1.6.0", b"<\n"),
+        ("1.0.0+a", "1.0.0+b", b"=\n"),
+    ] {
+        let words = ["cmp", first, second];
+        assert_eq!(rt; written(&rt, &words, b"")?.as_slice(), wanted.as_slice());
+    }
+    Ok(())
+}
+
+#[test]
+fn key_writes_the_sort_key_in_hexadecimal(rt: HostRuntime) -> Result<(), Fail> {
+    let wanted = b"000301310203013202030133020202\n";
+    assert_eq!(rt;
+        written(&rt, &["key", "1.2.3"], b"")?.as_slice(),
+        wanted.as_slice()
+    );
+    Ok(())
+}
+
+#[test]
+fn the_first_word_that_is_no_version_is_told_before_anything_is_read(
+    rt: HostRuntime,
+) -> Result<(), Fail> {
+    for (words, wanted) in [
+        (["cmp", "1", "."].as_slice(), "."),
+        (&["cmp", "..", "."], ".."),
+        (&["key", "1..2"], "1..2"),
+    ] {
+        let mut reader = Giver::of(b"1.2.3\n", usize::MAX);
+        let mut writer = Taker::new(rt.alloc(), usize::MAX);
+        let outcome = run(
+            rt.alloc(),
+            owned(&rt, words)?.as_slice(),
+            &mut reader,
+            &mut writer,
+        );
+        let wanted = Fault::NotVersion(String::from_str(rt.alloc(), wanted)?);
+        assert_eq!(rt; outcome, Err(wanted));
+        assert_eq!(rt; reader.calls, 0);
+        assert_eq!(rt; writer.calls, 0);
+    }
+    Ok(())
+}
+
+#[test]
+fn sort_puts_lines_in_order_and_leaves_equal_ones_as_they_stood(
+    rt: HostRuntime,
+) -> Result<(), Fail> {
+    for (input, wanted) in [
+        (
+            b"1.2.3.0\n1.2.3.git\n1.2.3\n".as_slice(),
+            b"1.2.3.git\n1.2.3\n1.2.3.0\n".as_slice(),
+        ),
+        (b"1.0.0+b\n1.0.0+a\n0.9.0", b"0.9.0\n1.0.0+b\n1.0.0+a\n"),
+        (b"1\n1\n", b"1\n1\n"),
+        (b"", b""),
+    ] {
+        assert_eq!(rt; written(&rt, &["sort"], input)?.as_slice(), wanted);
+    }
+    Ok(())
+}
+
+#[test]
+fn sort_tells_the_first_line_that_is_no_version_and_writes_nothing(
+    rt: HostRuntime,
+) -> Result<(), Fail> {
+    let words = owned(&rt, &["sort"])?;
+    for (input, number) in [
+        (b"1\n1 2".as_slice(), 2),
+        (b"\n1\n\n", 1),
+        (b"1\n2\n3\xff\n\n", 3),
+    ] {
+        let mut reader = input;
+        let mut writer = Taker::new(rt.alloc(), usize::MAX);
+        let outcome = run(rt.alloc(), words.as_slice(), &mut reader, &mut writer);
+        assert_eq!(rt; outcome, Err(Fault::BadLine(number)));
+        assert_eq!(rt; writer.calls, 0);
+    }
+    Ok(())
+}
+
+#[test]
+fn sort_with_a_reader_or_a_writer_that_fails(rt: HostRuntime) -> Result<(), Fail> {
+    let words = owned(&rt, &["sort"])?;
+    let mut reader = Giver::of(b"1 2\n", 1);
+    reader.fault = Some(ErrorKind::Other);
+    let mut writer = Taker::new(rt.alloc(), usize::MAX);
+    let outcome = run(rt.alloc(), words.as_slice(), &mut reader, &mut writer);
+    assert_eq!(rt; outcome, Err(Fault::Read));
+    assert_eq!(rt; writer.calls, 0);
+    let mut reader = b"2\n1\n".as_slice();
+    let mut writer = Taker::new(rt.alloc(), 1);
+    writer.ends = Some((3, None));
+    let outcome = run(rt.alloc(), words.as_slice(), &mut reader, &mut writer);
+    assert_eq!(rt; outcome, Err(Fault::Write));
+    assert_eq!(rt; writer.taken.as_slice(), b"1\n2".as_slice());
     Ok(())
 }
 

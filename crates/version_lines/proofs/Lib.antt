@@ -1,2 +1,5 @@
+mod EntryLemmas
 mod LinesLemmas
 mod OutputLemmas
+mod RunLemmas
+mod SortingLemmas

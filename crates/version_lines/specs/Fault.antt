@@ -1,5 +1,5 @@
 -- What a fault prints, and the status that it ends the program with.
-use Rattle.std.specs.Prelude.{◌≡◌, ◌⊎◌, ℕ, List, ◌++◌, codes, decimal, string_bytes}
+use Rattle.std.specs.Prelude.{◌≡◌, ◌⊎◌, ⊤, ℕ, List, ◌++◌, Option, Some, codes, decimal, string_bytes}
 use Rattle.version_lines.specs.declared.faults.Fault.{Fault}
 use Rattle.version_lines.specs.declared.faults.Fault.TheVariants.{Usage, NotVersion, NotRequirement, BadLine, Memory, Read, Write}
 
@@ -31,6 +31,14 @@ ComesOfReading fault = (fault ≡ Memory) ⊎ (fault ≡ Read)
 abbrev pub ComesOfWriting : Fault → Type 0
 ComesOfWriting fault = (fault ≡ Memory) ⊎ (fault ≡ Write)
 
--- the faults that a run can end in so far: those that judge a version, a requirement or a line don't come
-abbrev pub ComesOfLines : Fault → Type 0
-ComesOfLines fault = (fault ≡ Usage) ⊎ (fault ≡ Memory) ⊎ (fault ≡ Read) ⊎ (fault ≡ Write)
+-- the faults that judging words can end in, the first bad one of which is this
+abbrev pub ComesOfWords : Option (List ℕ) → Fault → Type 0
+ComesOfWords bad_word Memory = ⊤
+ComesOfWords bad_word (NotVersion text) = bad_word ≡ Some (string_bytes text)
+ComesOfWords bad_word fault = ⊥
+
+-- the faults that judging lines can end in, the first bad one of which has this number
+abbrev pub ComesOfLines : Option ℕ → Fault → Type 0
+ComesOfLines bad_line Memory = ⊤
+ComesOfLines bad_line (BadLine number) = bad_line ≡ Some number
+ComesOfLines bad_line fault = ⊥

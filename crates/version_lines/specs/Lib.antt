@@ -1,5 +1,11 @@
 pub mod Answer
+pub mod Command
+pub mod Comparison
+pub mod Entry
 pub mod Fault
 pub mod Lines
 pub mod Output
 pub mod Program
+pub mod Run
+pub mod Sort
+pub mod Sorting

@@ -1,15 +1,17 @@
--- What the program answers: the command that its words name, and the output as a function of the words and the input.
-use Rattle.std.specs.Prelude.{ℕ, List, [], ◌∷◌, Option, None, Some, is_some, codes, if◌then◌else◌}
-use Rattle.std.specs.Option.{option_map_or}
-use Rattle.std.specs.Str.{bytes_eq}
+-- What the program writes for its words and an input.
+use Rattle.std.specs.Prelude.{ℕ, List, Option, None, Some, is_some, if◌then◌else◌}
+use Rattle.std.specs.Option.{option_and_then, option_map}
 use Rattle.version_lines.specs.Answer.{answer_text}
+use Rattle.version_lines.specs.Command.{PlainCommand, Cmp, Key, OfInput, command_of}
+use Rattle.version_lines.specs.Comparison.{cmp_output, key_output}
 use Rattle.version_lines.specs.Lines.{lines_of, lines_output}
+use Rattle.version_lines.specs.Sort.{sort_output}
 use Rattle.version_lines.specs.declared.answer.Answer.{Answer}
 use Rattle.version_lines.specs.declared.answer.Label.{Label}
 use Rattle.version_lines.specs.declared.answer.Answer.TheVariants.{Labelled, NoVersion}
 use Rattle.version_lines.specs.declared.answer.Label.TheVariants as label
-use Rattle.version_lines.specs.declared.command.Command.{Command}
-use Rattle.version_lines.specs.declared.command.Command.TheVariants as command
+use Rattle.version_lines.specs.declared.command.InputCommand.{InputCommand}
+use Rattle.version_lines.specs.declared.command.InputCommand.TheVariants as command
 use Rattle.versions.specs.SemVer.{semver_of}
 use Rattle.versions.specs.Versioning.{PlainVersioning, Ideal, General, Complex, versioning_of}
 
@@ -32,17 +34,18 @@ show_answer (Some v) = Labelled (label_of v)
 abbrev pub show_line : List ℕ → List ℕ
 show_line line = answer_text (show_answer (versioning_of line)) line
 
--- the command that the words name, where they name one: `ideal`, also where there are none, or `show`
-abbrev pub command_of : List (List ℕ) → Option Command
-command_of [] = Some command.Ideal
-command_of (word ∷ []) = if bytes_eq word (codes "ideal") then Some command.Ideal else (if bytes_eq word (codes "show") then Some command.Show else None)
-command_of (word ∷ second ∷ more) = None
+-- what a command that reads the input writes for it
+abbrev pub input_output : InputCommand → List ℕ → List ℕ
+input_output command.Ideal input = lines_output ideal_line (lines_of input)
+input_output command.Show input = lines_output show_line (lines_of input)
+input_output command.Sort input = sort_output input
 
--- what a command writes for an input
-abbrev pub command_output : List ℕ → Command → List ℕ
-command_output input command.Ideal = lines_output ideal_line (lines_of input)
-command_output input command.Show = lines_output show_line (lines_of input)
+-- what a command writes, where the input is known or isn't read
+abbrev pub command_output : Option (List ℕ) → PlainCommand → Option (List ℕ)
+command_output input (Cmp a b) = Some (cmp_output a b)
+command_output input (Key version) = Some (key_output version)
+command_output input (OfInput command) = option_map (input_output command) input
 
--- what a run writes for its words and an input; words that name no command get nothing
-abbrev pub output_of : List (List ℕ) → List ℕ → List ℕ
-output_of words input = option_map_or (command_output input) (command_of words) []
+-- what a run writes for its words and an input, where that is known
+abbrev pub output_of : List (List ℕ) → Option (List ℕ) → Option (List ℕ)
+output_of words input = option_and_then (command_output input) (command_of words)

@@ -1,25 +1,57 @@
 //! What the words of a run ask for.
 ghost use Rattle.std.specs.Prelude.{◌≡◌, map, string_bytes};
+ghost use Rattle.std.specs.Option.{option_map};
 
+/// A command, which borrows its words.
 #[derive(Clone, Copy)]
-pub enum Command {
+pub enum Command<'a> {
+    /// How the first version stands to the second.
+    Cmp(&'a str, &'a str),
+    /// The sort key of a version.
+    Key(&'a str),
+    /// What is said of the lines of the input.
+    OfInput(InputCommand),
+}
+
+/// A command that reads the input.
+#[derive(Clone, Copy)]
+pub enum InputCommand {
     /// For each line, whether it is a strict version.
     Ideal,
     /// For each line, which kind of version it is.
     Show,
+    /// The lines in order.
+    Sort,
 }
 
-impl Command {
-    ghost use Rattle.version_lines.specs.Program.{command_of};
+impl Command<'_> {
+    ghost use Rattle.version_lines.specs.Command.{command_of, plain_command};
 
     /// The command that the words name, where they name one.
-    pub fn from_words(words: &[String]) -> Option<Command>
-        ensures { result ≡ command_of (map string_bytes words.now) }
+    pub fn from_words(words: &[String]) -> Option<Command<'_>>
+        ensures { option_map plain_command result ≡ command_of (map string_bytes words.now) }
     {
         match words {
-            [] => Some(Command::Ideal),
-            [word] if word.as_str() == "ideal" => Some(Command::Ideal),
-            [word] if word.as_str() == "show" => Some(Command::Show),
+            [] => Some(Command::OfInput(InputCommand::Ideal)),
+            [name] => Some(Command::OfInput(InputCommand::named(name.as_str())?)),
+            [name, version] if name.as_str() == "key" => Some(Command::Key(version.as_str())),
+            [name, a, b] if name.as_str() == "cmp" => Some(Command::Cmp(a.as_str(), b.as_str())),
+            _ => None,
+        }
+    }
+}
+
+impl InputCommand {
+    ghost use Rattle.version_lines.specs.Command.{input_command_of, OfInput};
+
+    /// The command that a name alone stands for.
+    fn named(name: &str) -> Option<InputCommand>
+        ensures { option_map OfInput result ≡ input_command_of name.now }
+    {
+        match name {
+            "ideal" => Some(InputCommand::Ideal),
+            "show" => Some(InputCommand::Show),
+            "sort" => Some(InputCommand::Sort),
             _ => None,
         }
     }

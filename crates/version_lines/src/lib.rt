@@ -4,13 +4,19 @@
 
 mod answer;
 mod command;
+mod comparison;
+mod entry;
 mod faults;
 mod ideal;
 mod input;
+mod key;
+mod laws;
 mod lines;
 mod output;
 mod program;
 mod show;
+mod sort;
+mod words;
 
 pub use faults::Fault;
 pub use program::run;

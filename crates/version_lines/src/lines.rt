@@ -52,7 +52,7 @@ pub fn write_lines<C: LineCommand, W: Write>(
 }
 
 /// The first line, and what follows the line feed that ends it.
-fn split_line(text: &[u8]) -> (&[u8], &[u8])
+pub fn split_line(text: &[u8]) -> (&[u8], &[u8])
     requires { 0 < length text.now }
     ensures lines { lines_of text.now ≡ result.0.now ∷ lines_of result.1.now }
     ensures shorter { length result.1.now < length text.now }

@@ -1,74 +1,123 @@
 //! A run of the program, over any reader and any writer.
-ghost use Rattle.std.specs.Prelude.{◌↔◌, ◌⊎◌, map, string_bytes, IsNone, OnOk, IfErr, IfSome, IsErrOf};
+ghost use Rattle.std.specs.Prelude.{◌≡◌, ◌↔◌, ◌⊎◌, Some, false, map, string_bytes, IsErr, IsNone, IsTrue, OnOk, IfErr, IfSome, IsErrOf};
 ghost use Rattle.std.specs.Io.KnownBytes.{Appends, IsAtEnd, Keeps};
-ghost use Rattle.version_lines.specs.Fault.{ComesOfLines};
-ghost use Rattle.version_lines.specs.Output.{AppendsBeginning, AppendsProperBeginning};
-ghost use Rattle.version_lines.specs.Program.{command_of, output_of};
+ghost use Rattle.version_lines.specs.Command.{command_of, plain_command, reads_input, OfInput};
+ghost use Rattle.version_lines.specs.Program.{command_output, input_output, output_of};
+ghost use Rattle.version_lines.specs.Run.{ask_for_input, ComesOf, ComesOfCommand, GrowsAt, IsServable, IsServed};
 
-use crate::command::Command;
+use crate::command::{Command, InputCommand};
+use crate::comparison::comparison;
 use crate::faults::Fault;
 use crate::ideal::Ideal;
 use crate::input::read_all;
+use crate::key::key_line;
 use crate::lines::write_lines;
+use crate::output::write_whole;
 use crate::show::Show;
+use crate::sort::write_sorted;
 use std::alloc::Global;
 use std::io::{Read, Write};
 
-/// Reads the whole input, and writes what the command that the words name says of its lines.
+/// Does what the words ask for: `ideal`, `show` and `sort` read the whole input and write what they say of its lines,
+/// and no words are `ideal`; `cmp A B` and `key V` write what they say of versions, and read nothing.
 ///
-/// The words are none, `ideal` or `show`, and else the answer is [`Fault::Usage`], before anything is
-/// read.
-/// The input is read to its end before anything is written, so after [`Fault::Read`] nothing was
-/// written. After [`Fault::Memory`] a beginning of the output was written, and after
-/// [`Fault::Write`] a beginning that isn't all of it.
+/// Words that are no command are [`Fault::Usage`], and of the words that have to be versions the first that isn't one
+/// is [`Fault::NotVersion`], with a copy of it, both before anything is read. The input is read to its end before
+/// anything is written. `sort` wants each line to be a version, and judges all of them before it writes; the first that
+/// isn't one is [`Fault::BadLine`], with its number, counted from 1. So after these faults and after [`Fault::Read`]
+/// nothing was written. After [`Fault::Memory`] a beginning of the output was written, and after [`Fault::Write`] a
+/// beginning that isn't all of it.
 ///
 /// A call of `read` or `write` that fails isn't tried again, an interrupted one neither; a `write`
 /// that takes nothing has failed. `read` may give bytes 18446744073709551615 times, and is
 /// [`Fault::Read`] where that isn't the whole input. Nothing is flushed.
 ///
-/// It takes memory for the whole input, for two buffers of 64 KiB, and for one version at a time.
+/// It takes memory for the whole input, for two buffers of 64 KiB, and for one version at a time. `sort` takes it for
+/// the version and the sort key of every line, and for a list of them that it sorts with as much again; `cmp` for two
+/// versions; `key` for a version, its sort key and the line; and a word that is told for its copy.
 pub fn run<R: Read, W: Write>(
     alloc: Global,
     words: &[String],
     reader: &mut R,
     writer: &mut W,
 ) -> Result<(), Fault>
-    // At the end all was read, and the whole output was written and nothing else.
-    ensures read { OnOk result (IsAtEnd (R.remaining reader.new)) }
-    ensures written { OnOk result (IfSome (R.remaining reader.old) (λ input.
-        Appends (W.contents writer.old) (W.contents writer.new)
-        (output_of (map string_bytes words.now) input))) }
+    // At the end all of the input was read, where the words ask for it, and the whole output was written and nothing
+    // else.
+    ensures read { IsTrue (ask_for_input (map string_bytes words.now)) →
+        OnOk result (IsAtEnd (R.remaining reader.new)) }
+    ensures written { OnOk result (IfSome (output_of (map string_bytes words.now) (R.remaining reader.old))
+        (Appends (W.contents writer.old) (W.contents writer.new))) }
 
-    // The words are judged before anything is read, and all is read before anything is written.
+    // The words are judged before anything is read, and before anything is written all was read, where the words ask
+    // for it, and judged.
     ensures usage { IsErrOf result Fault.Usage ↔ IsNone (command_of (map string_bytes words.now)) }
-    ensures words_first { IsErrOf result Fault.Usage →
+    ensures unread { ask_for_input (map string_bytes words.now) ≡ false →
         Keeps (R.remaining reader.old) (R.remaining reader.new) }
-    ensures reads_first { Keeps (W.contents writer.old) (W.contents writer.new)
-        ⊎ IsAtEnd (R.remaining reader.new) }
+    ensures reads_first { IsTrue (ask_for_input (map string_bytes words.now)) →
+        Keeps (W.contents writer.old) (W.contents writer.new) ⊎ IsAtEnd (R.remaining reader.new) }
+    ensures judges_first { IsServed (map string_bytes words.now) (R.remaining reader.old)
+        ⊎ (IsErr result × Keeps (W.contents writer.old) (W.contents writer.new)) }
 
-    // What was written at a fault.
-    ensures nothing_at_usage { IsErrOf result Fault.Usage →
-        Keeps (W.contents writer.old) (W.contents writer.new) }
-    ensures nothing_at_read { IsErrOf result Fault.Read →
-        Keeps (W.contents writer.old) (W.contents writer.new) }
-    ensures beginning_at_memory { IsErrOf result Fault.Memory →
-        IfSome (R.remaining reader.old) (λ input.
-        AppendsBeginning (W.contents writer.old) (W.contents writer.new)
-        (output_of (map string_bytes words.now) input)) }
-    ensures proper_beginning_at_write { IsErrOf result Fault.Write →
-        IfSome (R.remaining reader.old) (λ input.
-        AppendsProperBeginning (W.contents writer.old) (W.contents writer.new)
-        (output_of (map string_bytes words.now) input)) }
-
-    // No word or line is refused for what it says.
-    ensures faults { IfErr result ComesOfLines }
+    // What was written at a fault, and what the fault comes of.
+    ensures at_fault { IfErr result (GrowsAt (W.contents writer.old) (W.contents writer.new)
+        (output_of (map string_bytes words.now) (R.remaining reader.old))) }
+    ensures faults { IfErr result (ComesOf (map string_bytes words.now) (R.remaining reader.old)) }
 {
-    let Some(command) = Command::from_words(words) else {
-        return Err(Fault::Usage);
-    };
-    let input = read_all(alloc, reader)?;
+    match Command::from_words(words) {
+        Some(command) => serve(alloc, command, reader, writer),
+        None => Err(Fault::Usage),
+    }
+}
+
+/// The run of a command.
+fn serve<R: Read, W: Write>(
+    alloc: Global,
+    command: Command<'_>,
+    reader: &mut R,
+    writer: &mut W,
+) -> Result<(), Fault>
+    ensures read { IsTrue (reads_input (plain_command command.entry)) →
+        OnOk result (IsAtEnd (R.remaining reader.new)) }
+    ensures written { OnOk result (IfSome (command_output (R.remaining reader.old) (plain_command command.entry))
+        (Appends (W.contents writer.old) (W.contents writer.new))) }
+    ensures unread { reads_input (plain_command command.entry) ≡ false →
+        Keeps (R.remaining reader.old) (R.remaining reader.new) }
+    ensures reads_first { IsTrue (reads_input (plain_command command.entry)) →
+        Keeps (W.contents writer.old) (W.contents writer.new) ⊎ IsAtEnd (R.remaining reader.new) }
+    ensures judges_first { IsServable (R.remaining reader.old) (plain_command command.entry)
+        ⊎ (IsErr result × Keeps (W.contents writer.old) (W.contents writer.new)) }
+    ensures at_fault { IfErr result (GrowsAt (W.contents writer.old) (W.contents writer.new)
+        (command_output (R.remaining reader.old) (plain_command command.entry))) }
+    ensures faults { IfErr result (ComesOfCommand (R.remaining reader.old) (plain_command command.entry)) }
+{
     match command {
-        Command::Ideal => write_lines(alloc, &Ideal, input.as_slice(), writer),
-        Command::Show => write_lines(alloc, &Show, input.as_slice(), writer),
+        Command::Cmp(first, second) => write_whole(writer, comparison(alloc, first, second)?),
+        Command::Key(version) => write_whole(writer, key_line(alloc, version)?.as_bytes()),
+        Command::OfInput(command) => {
+            let input = read_all(alloc, reader)?;
+            answer_input(alloc, command, input.as_slice(), writer)
+        }
+    }
+}
+
+/// Writes what a command says of the lines of an input.
+fn answer_input<W: Write>(
+    alloc: Global,
+    command: InputCommand,
+    input: &[u8],
+    writer: &mut W,
+) -> Result<(), Fault>
+    ensures written { OnOk result
+        (Appends (W.contents writer.old) (W.contents writer.new) (input_output command input.now)) }
+    ensures judges_first { IsServable (Some input.now) (OfInput command)
+        ⊎ (IsErr result × Keeps (W.contents writer.old) (W.contents writer.new)) }
+    ensures at_fault { IfErr result (GrowsAt (W.contents writer.old) (W.contents writer.new)
+        (Some (input_output command input.now))) }
+    ensures faults { IfErr result (ComesOfCommand (Some input.now) (OfInput command)) }
+{
+    match command {
+        InputCommand::Ideal => write_lines(alloc, &Ideal, input, writer),
+        InputCommand::Show => write_lines(alloc, &Show, input, writer),
+        InputCommand::Sort => write_sorted(alloc, input, writer),
     }
 }

@@ -1,0 +1,100 @@
+-- Lines with their versions: they are no bad lines, and they compare as their lines do.
+use Rattle.std.proofs.Common.{◌≡◌, ℕ, ◌+◌, ◌<◌, Bool, true, false, not, cond, nat_lt, List, [], ◌∷◌, ◌++◌, length, map, drop, get_or, Option, Some, None, is_some, refl, sym, ap, ◌∙◌, arith, add-one, append-nil, append_assoc, length-append}
+use Rattle.std.specs.Cmp.{IsStrictWeakOrder, IsTotalOrder}
+use Rattle.std.specs.Cmp.Lexicographic.{options_total, slice_cmp}
+use Rattle.std.specs.List.{All, prefix_len}
+use Rattle.std.specs.Ordering.{is_lt, nat_cmp, on, ordering_then, then_cmp}
+use Rattle.std.specs.declared.cmp.Ordering.{Ordering}
+use Rattle.std.specs.declared.cmp.Ordering.TheVariants.{Less, Equal, Greater}
+use Rattle.std.proofs.Math.Seq.{drop-cons}
+use Rattle.std.proofs.lemmas.Bool.{le-ltb, lt-ltb}
+use Rattle.std.proofs.lemmas.Cmp.{nat_list_cmp_total, on_total, then_total}
+use Rattle.std.proofs.lemmas.List.{length-map, map-append}
+use Rattle.std.proofs.lemmas.List.Elements.{All-head, All-tail}
+use Rattle.std.proofs.lemmas.List.Sorted.{ranks_by}
+use Rattle.version_lines.specs.Entry.{entry_cmp, entry_line, IsRead}
+use Rattle.version_lines.specs.Lines.{lines_of, lines_output}
+use Rattle.version_lines.specs.Sort.{bad_line, is_bad, line_cmp, sort_output, whole_line}
+use Rattle.version_lines.specs.Sorting.{in_order}
+use Rattle.version_lines.specs.declared.entry.Entry.{Entry}
+use Rattle.versions.proofs.Orders.{key_bytes_alone}
+use Rattle.versions.specs.Key.{key_of, precedence}
+use Rattle.versions.specs.OrdersLaws.{versioning_cmp_total}
+use Rattle.versions.specs.Versioning.{PlainVersioning, plain_versioning, versioning_of, versioning_plain_cmp}
+use Rattle.version_lines.proofs.SortingLemmas.{AreAlike, in_order-map}
+
+-- the line of an entry is a version
+good_line : (entry : Entry) → IsRead entry → is_bad (entry_line entry) ≡ false
+good_line entry read = rw read.0 refl
+
+-- the lines of entries are no bad lines
+good_lines : (entries : List Entry) (more : List (List ℕ)) → All IsRead entries
+    → prefix_len (λ line. not (is_bad line)) (map entry_line entries ++ more) ≡ length entries + prefix_len (λ line. not (is_bad line)) more
+good_lines [] more read = omega arith
+good_lines (entry ∷ entries) more read =
+    let here = good_line entry (All-head IsRead entry entries read) in
+    let others = good_lines entries more (All-tail IsRead entry entries read) in
+    rw here (omega (arith, others))
+
+-- a line behind those of entries is the first bad one, where it is one
+pub bad_line-behind : (entries : List Entry) (line : List ℕ) (more : List (List ℕ)) → All IsRead entries → is_bad line ≡ true
+    → bad_line (map entry_line entries ++ line ∷ more) ≡ Some (length entries + 1)
+bad_line-behind entries line more read bad =
+    let place : prefix_len (λ l. not (is_bad l)) (map entry_line entries ++ line ∷ more) ≡ length entries = good_lines entries (line ∷ more) read ∙ rw bad (omega arith) in
+    let inside : nat_lt (length entries) (length (map entry_line entries ++ line ∷ more)) ≡ true =
+    lt-ltb _ _ (omega (arith, length-append (map entry_line entries) (line ∷ more), length-map entries entry_line)) in
+    rw (place, inside) refl
+
+-- there is none among the lines of entries
+pub bad_line-none : (entries : List Entry) → All IsRead entries → bad_line (map entry_line entries) ≡ None
+bad_line-none entries read =
+    let place : prefix_len (λ l. not (is_bad l)) (map entry_line entries) ≡ length entries =
+    ap (prefix_len (λ l. not (is_bad l))) (sym (append-nil (map entry_line entries))) ∙ good_lines entries [] read ∙ omega arith in
+    let outside : nat_lt (length entries) (length (map entry_line entries)) ≡ false =
+    le-ltb _ _ (omega (arith, length-map entries entry_line)) in
+    rw (place, outside) refl
+
+-- one more entry, whose line was the next
+pub lines_of-entries : (lines : List (List ℕ)) (entries after : List Entry) (entry : Entry) (rest more : List (List ℕ)) (line : List ℕ)
+    → lines ≡ map entry_line entries ++ rest → rest ≡ line ∷ more → entry_line entry ≡ line → after ≡ entries ++ entry ∷ []
+    → lines ≡ map entry_line after ++ more
+lines_of-entries lines entries after entry rest more line so_far next same added =
+    let both : map entry_line after ≡ map entry_line entries ++ line ∷ [] = ap (map entry_line) added ∙ map-append entry_line entries (entry ∷ []) ∙ ap (λ l. map entry_line entries ++ l ∷ []) same in
+    so_far ∙ ap (λ l. map entry_line entries ++ l) next ∙ sym (append_assoc (map entry_line entries) (line ∷ []) more) ∙ ap (λ l. l ++ more) (sym both)
+
+-- the orders of lines and of entries are total
+
+pub line_total : IsTotalOrder line_cmp
+line_total = on_total versioning_of (options_total versioning_cmp_total)
+
+pub line_ranks : IsStrictWeakOrder (λ a b. is_lt (line_cmp a b))
+line_ranks = ranks_by line_total (λ (line : List ℕ). line)
+
+pub entry_ranks : IsStrictWeakOrder (λ a b. is_lt (entry_cmp a b))
+entry_ranks =
+    ranks_by (then_total (on_total (λ (entry : Entry). entry.key.items) nat_list_cmp_total) (on_total (λ (entry : Entry). plain_versioning entry.version) versioning_cmp_total)) (λ (entry : Entry). entry)
+
+-- what was decided first needs no second look
+then_same : (first second : Ordering) → ordering_then first (ordering_then first second) ≡ ordering_then first second
+then_same Less second = refl
+then_same Equal second = refl
+then_same Greater second = refl
+
+pub entries_alike : AreAlike IsRead entry_line entry_cmp line_cmp
+entries_alike a b a_read b_read =
+    rw (a_read.0, b_read.0, a_read.1, b_read.1, key_bytes_alone (key_of (plain_versioning a.version)) (key_of (plain_versioning b.version)))
+    (then_same (precedence (key_of (plain_versioning a.version)) (key_of (plain_versioning b.version))) (versioning_plain_cmp (plain_versioning a.version) (plain_versioning b.version)))
+
+-- the output for the entries from a place on is the line of the one there, and then the output for those behind it
+pub lines_output-entry : (entries : List Entry) (i : ℕ) (entry : Entry) (line : List ℕ) → i < length entries → entry ≡ get_or entries i entry → line ≡ entry_line entry
+    → lines_output whole_line (map entry_line (drop i entries)) ≡ whole_line line ++ lines_output whole_line (map entry_line (drop (i + 1) entries))
+lines_output-entry entries i entry line inside here same =
+    ap (λ es. lines_output whole_line (map entry_line es)) (drop-cons entries i entry inside)
+    ∙ rw (add-one i, ← here, same) refl
+
+-- the lines of entries that were put in order are the lines in order
+pub sort_output-entries : (input : List ℕ) (entries ordered : List Entry) → map entry_line entries ≡ lines_of input → All IsRead entries → ordered ≡ in_order entry_cmp entries
+    → lines_output whole_line (map entry_line ordered) ≡ sort_output input
+sort_output-entries input entries ordered lines read sorted =
+    ap (λ es. lines_output whole_line (map entry_line es)) sorted
+    ∙ ap (lines_output whole_line) (in_order-map IsRead entry_line entry_cmp line_cmp entries_alike entries read ∙ ap (in_order line_cmp) lines)

@@ -1,0 +1,41 @@
+-- What the words of a run ask for.
+use Rattle.std.specs.Prelude.{ℕ, Bool, true, false, List, [], ◌∷◌, Option, None, Some, codes, if◌then◌else◌}
+use Rattle.std.specs.Option.{option_map_or}
+use Rattle.std.specs.Str.{bytes_eq}
+use Rattle.version_lines.specs.declared.command.Command.{Command}
+use Rattle.version_lines.specs.declared.command.Command.TheVariants as owned
+use Rattle.version_lines.specs.declared.command.InputCommand.{InputCommand}
+use Rattle.version_lines.specs.declared.command.InputCommand.TheVariants.{Ideal, Show, Sort}
+
+-- a command with its words
+pub data PlainCommand : Type 0 where
+  Cmp : List ℕ → List ℕ → PlainCommand
+  Key : List ℕ → PlainCommand
+  OfInput : InputCommand → PlainCommand
+
+-- the command that a value holds
+abbrev pub plain_command : Command → PlainCommand
+plain_command (owned.Cmp a b) = Cmp a.now b.now
+plain_command (owned.Key version) = Key version.now
+plain_command (owned.OfInput command) = OfInput command
+
+-- the command that a name alone stands for
+abbrev pub input_command_of : List ℕ → Option PlainCommand
+input_command_of name =
+    if bytes_eq name (codes "ideal") then Some (OfInput Ideal)
+    else (if bytes_eq name (codes "show") then Some (OfInput Show)
+    else (if bytes_eq name (codes "sort") then Some (OfInput Sort) else None))
+
+-- the command that the words name, where they name one; no words are `ideal`
+abbrev pub command_of : List (List ℕ) → Option PlainCommand
+command_of [] = Some (OfInput Ideal)
+command_of (name ∷ []) = input_command_of name
+command_of (name ∷ version ∷ []) = if bytes_eq name (codes "key") then Some (Key version) else None
+command_of (name ∷ a ∷ b ∷ []) = if bytes_eq name (codes "cmp") then Some (Cmp a b) else None
+command_of (name ∷ a ∷ b ∷ c ∷ more) = None
+
+-- whether a command reads the input, all but `cmp` and `key` do
+abbrev pub reads_input : PlainCommand → Bool
+reads_input (Cmp a b) = false
+reads_input (Key version) = false
+reads_input (OfInput command) = true

@@ -1,0 +1,63 @@
+-- How a run ends: what it takes to be done, which fault comes of what, and what was written by then.
+use Rattle.std.specs.Prelude.{◌≡◌, ⊤, ℕ, Bool, false, List, Option, None, Some, string_bytes, IfSome, IsSome, IsTrue, MatchOption}
+use Rattle.std.specs.Option.{IsSomeAnd, option_map_or, option_or}
+use Rattle.std.specs.Io.KnownBytes.{Keeps}
+use Rattle.version_lines.specs.Command.{PlainCommand, Cmp, Key, OfInput, command_of, reads_input}
+use Rattle.version_lines.specs.Lines.{lines_of}
+use Rattle.version_lines.specs.Output.{AppendsBeginning, AppendsProperBeginning}
+use Rattle.version_lines.specs.Sort.{bad_line}
+use Rattle.version_lines.specs.declared.faults.Fault.{Fault}
+use Rattle.version_lines.specs.declared.faults.Fault.TheVariants.{Usage, NotVersion, NotRequirement, BadLine, Memory, Read, Write}
+use Rattle.version_lines.specs.declared.command.InputCommand.TheVariants.{Ideal, Show, Sort}
+use Rattle.versions.specs.Versioning.{versioning_of}
+
+-- the word, where it is no version
+abbrev pub unless_version : List ℕ → Option (List ℕ)
+unless_version word = option_map_or (λ _. None) (versioning_of word) (Some word)
+
+-- the first word that has to be a version and isn't
+abbrev pub bad_word : PlainCommand → Option (List ℕ)
+bad_word (Cmp a b) = option_or (unless_version a) (unless_version b)
+bad_word (Key version) = unless_version version
+bad_word (OfInput command) = None
+
+-- the number of the first line that has to be a version and isn't: only `sort` wants versions
+abbrev pub bad_line_for : PlainCommand → List ℕ → Option ℕ
+bad_line_for (OfInput Sort) input = bad_line (lines_of input)
+bad_line_for command input = None
+
+-- no word, and no line of an input that is known, has to be a version and isn't
+abbrev pub IsServable : Option (List ℕ) → PlainCommand → Type 0
+IsServable input command = (bad_word command ≡ None) × IfSome input (λ i. bad_line_for command i ≡ None)
+
+-- when a fault comes of a command and an input, where that is known
+abbrev pub ComesOfCommand : Option (List ℕ) → PlainCommand → Fault → Type 0
+ComesOfCommand input command Usage = ⊥
+ComesOfCommand input command (NotVersion text) = bad_word command ≡ Some (string_bytes text)
+ComesOfCommand input command (NotRequirement text) = ⊥
+ComesOfCommand input command (BadLine number) = (command ≡ OfInput Sort) × IfSome input (λ i. bad_line_for command i ≡ Some number)
+ComesOfCommand input command Memory = ⊤
+ComesOfCommand input command Read = IsTrue (reads_input command)
+ComesOfCommand input command Write = IsServable input command
+
+-- known bytes grow by what is written at a fault, of an output where that is known
+abbrev pub GrowsAt : Option (List ℕ) → Option (List ℕ) → Option (List ℕ) → Fault → Type 0
+GrowsAt old new output Usage = Keeps old new
+GrowsAt old new output (NotVersion text) = Keeps old new
+GrowsAt old new output (NotRequirement text) = Keeps old new
+GrowsAt old new output (BadLine number) = Keeps old new
+GrowsAt old new output Memory = IfSome output (AppendsBeginning old new)
+GrowsAt old new output Read = Keeps old new
+GrowsAt old new output Write = IfSome output (AppendsProperBeginning old new)
+
+-- whether the words name a command that reads the input
+abbrev pub ask_for_input : List (List ℕ) → Bool
+ask_for_input words = option_map_or reads_input (command_of words) false
+
+-- the words name a command, and nothing that has to be a version isn't one
+abbrev pub IsServed : List (List ℕ) → Option (List ℕ) → Type 0
+IsServed words input = IsSomeAnd (command_of words) (IsServable input)
+
+-- when a fault comes of the words and an input, where that is known: words that name no command come to `Usage`
+abbrev pub ComesOf : List (List ℕ) → Option (List ℕ) → Fault → Type 0
+ComesOf words input fault = MatchOption (command_of words) (fault ≡ Usage) (λ command. ComesOfCommand input command fault)
