@@ -70,10 +70,6 @@ line_total = on_total versioning_of (options_total versioning_cmp_total)
 pub line_ranks : IsStrictWeakOrder (λ a b. is_lt (line_cmp a b))
 line_ranks = ranks_by line_total (λ (line : List ℕ). line)
 
-pub entry_ranks : IsStrictWeakOrder (λ a b. is_lt (entry_cmp a b))
-entry_ranks =
-    ranks_by (then_total (on_total (λ (entry : Entry). entry.key.items) nat_list_cmp_total) (on_total (λ (entry : Entry). plain_versioning entry.version) versioning_cmp_total)) (λ (entry : Entry). entry)
-
 -- what was decided first needs no second look
 then_same : (first second : Ordering) → ordering_then first (ordering_then first second) ≡ ordering_then first second
 then_same Less second = refl
@@ -84,17 +80,3 @@ pub entries_alike : AreAlike IsRead entry_line entry_cmp line_cmp
 entries_alike a b a_read b_read =
     rw (a_read.0, b_read.0, a_read.1, b_read.1, key_bytes_alone (key_of (plain_versioning a.version)) (key_of (plain_versioning b.version)))
     (then_same (precedence (key_of (plain_versioning a.version)) (key_of (plain_versioning b.version))) (versioning_plain_cmp (plain_versioning a.version) (plain_versioning b.version)))
-
--- the output for the entries from a place on is the line of the one there, and then the output for those behind it
-pub lines_output-entry : (entries : List Entry) (i : ℕ) (entry : Entry) (line : List ℕ) → i < length entries → entry ≡ get_or entries i entry → line ≡ entry_line entry
-    → lines_output whole_line (map entry_line (drop i entries)) ≡ whole_line line ++ lines_output whole_line (map entry_line (drop (i + 1) entries))
-lines_output-entry entries i entry line inside here same =
-    ap (λ es. lines_output whole_line (map entry_line es)) (drop-cons entries i entry inside)
-    ∙ rw (add-one i, ← here, same) refl
-
--- the lines of entries that were put in order are the lines in order
-pub sort_output-entries : (input : List ℕ) (entries ordered : List Entry) → map entry_line entries ≡ lines_of input → All IsRead entries → ordered ≡ in_order entry_cmp entries
-    → lines_output whole_line (map entry_line ordered) ≡ sort_output input
-sort_output-entries input entries ordered lines read sorted =
-    ap (λ es. lines_output whole_line (map entry_line es)) sorted
-    ∙ ap (lines_output whole_line) (in_order-map IsRead entry_line entry_cmp line_cmp entries_alike entries read ∙ ap (in_order line_cmp) lines)

@@ -3,9 +3,11 @@ pub mod Command
 pub mod Comparison
 pub mod Entry
 pub mod Fault
+pub mod Head
 pub mod Lines
 pub mod Output
 pub mod Program
+pub mod Ranked
 pub mod Run
 pub mod Sort
 pub mod Sorting

@@ -44,6 +44,13 @@ impl<'a> Entry<'a> {
         }
     }
 
+    /// The sort key.
+    pub fn key(&self) -> &[u8]
+        ensures { result.now ≡ self.now.key.items }
+    {
+        self.key.as_slice()
+    }
+
     /// The line.
     pub fn line(&self) -> &'a [u8]
         ensures { result.now ≡ entry_line self.now }

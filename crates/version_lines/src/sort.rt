@@ -8,13 +8,15 @@ ghost use Rattle.version_lines.specs.Command.{OfInput};
 ghost use Rattle.version_lines.specs.Run.{ComesOfCommand, GrowsAt};
 ghost use Rattle.version_lines.specs.Sort.{bad_line, sort_output, whole_line};
 ghost use Rattle.version_lines.specs.Sorting.{in_order};
-ghost use Rattle.version_lines.specs.Entry.{entry_cmp, entry_line, IsRead};
+ghost use Rattle.version_lines.specs.Entry.{entry_line, IsRead};
+ghost use Rattle.version_lines.specs.Ranked.{ranked_cmp, ranked_entry, ranked_line, HasHeads};
 
 use crate::command::InputCommand;
 use crate::entry::Entry;
 use crate::faults::Fault;
 use crate::lines::split_line;
 use crate::output::{make_buffer, put_line, write_whole};
+use crate::ranked::Ranked;
 use std::alloc::{AllocError, Global};
 use std::io::Write;
 
@@ -28,9 +30,10 @@ pub fn write_sorted<W: Write>(alloc: Global, input: &[u8], writer: &mut W) -> Re
         (GrowsAt (W.contents writer.old) (W.contents writer.new) (Some (sort_output input.now))) }
     ensures faults { IfErr result (ComesOfCommand (Some input.now) (OfInput InputCommand.Sort)) }
 {
-    let mut entries = read_entries(alloc, input)?;
-    sort_entries(&mut entries)?;
-    write_entries(alloc, entries.as_slice(), writer)
+    let entries = read_entries(alloc, input)?;
+    let mut ranked = rank(alloc, entries.as_slice())?;
+    sort_ranked(&mut ranked)?;
+    write_ranked(alloc, ranked.as_slice(), writer)
 }
 
 /// The lines with their versions, or the fault that tells the first that has none.
@@ -60,28 +63,36 @@ fn add<'a>(entries: &mut Vec<Entry<'a>>, entry: Entry<'a>) -> Result<(), AllocEr
     Ok(())
 }
 
-/// Puts the lines in order.
-fn sort_entries(entries: &mut Vec<Entry<'_>>) -> Result<(), AllocError>
-    ensures { OnOk result (entries.new.items ≡ in_order entry_cmp entries.old.items) }
+/// The lines with the first bytes of their keys, as they stand.
+fn rank<'a>(alloc: Global, entries: &'a [Entry<'a>]) -> Result<Vec<Ranked<'a>>, AllocError>
+    ensures entries { IfOk result (λ ranked. map ranked_entry ranked.items ≡ entries.now) }
+    ensures heads { IfOk result (λ ranked. All HasHeads ranked.items) }
 {
-    entries.sort_by(Entry::compare)
+    let mut ranked = Vec::with_capacity(alloc, entries.len())?;
+    for entry in entries {
+        ranked.push(Ranked::of(entry))?;
+    }
+    Ok(ranked)
+}
+
+/// Puts the lines in order.
+fn sort_ranked(ranked: &mut Vec<Ranked<'_>>) -> Result<(), AllocError>
+    ensures { OnOk result (ranked.new.items ≡ in_order ranked_cmp ranked.old.items) }
+{
+    ranked.sort_by(Ranked::compare)
 }
 
 /// Writes the lines as they stand.
-fn write_entries<W: Write>(
-    alloc: Global,
-    entries: &[Entry<'_>],
-    writer: &mut W,
-) -> Result<(), Fault>
+fn write_ranked<W: Write>(alloc: Global, ranked: &[Ranked<'_>], writer: &mut W) -> Result<(), Fault>
     ensures written { OnOk result (Appends (W.contents writer.old) (W.contents writer.new)
-        (lines_output whole_line (map entry_line entries.now))) }
+        (lines_output whole_line (map ranked_line ranked.now))) }
     ensures at_fault { IfErr result (GrowsAt (W.contents writer.old) (W.contents writer.new)
-        (Some (lines_output whole_line (map entry_line entries.now)))) }
+        (Some (lines_output whole_line (map ranked_line ranked.now)))) }
     ensures faults { IfErr result ComesOfWriting }
 {
     let mut buffer = make_buffer(alloc)?;
-    for entry in entries {
-        put_line(writer, &mut buffer, b"", entry.line())?;
+    for line in ranked {
+        put_line(writer, &mut buffer, b"", line.line())?;
     }
     write_whole(writer, buffer.as_slice())
 }
