@@ -99,12 +99,23 @@ impl<'a> KeyBytes<'a> {
         }
     }
 
-    // The bytes in a list. The error is that there is no memory for it.
-    pub(crate) fn into_vec(mut self, alloc: Global) -> Result<Vec<u8>, AllocError>
+    // The bytes in a list, piece by piece. The error is that there is no memory for it.
+    pub(crate) fn into_vec(self, alloc: Global) -> Result<Vec<u8>, AllocError>
         ensures { IfOk result (λ list. list.items ≡ self.entry) }
     {
+        let KeyBytes {
+            mut epoch,
+            mut body,
+            mut tail,
+        } = self;
         let mut list = Vec::with_capacity(alloc, CAPACITY)?;
-        while let Some(byte) = self.next() {
+        while let Some(byte) = epoch.next() {
+            list.push(byte)?;
+        }
+        while let Some(byte) = body.next() {
+            list.push(byte)?;
+        }
+        while let Some(byte) = tail.next() {
             list.push(byte)?;
         }
         Ok(list)
