@@ -1,27 +1,24 @@
 -- Lines with their versions: they are no bad lines, and they compare as their lines do.
-use Rattle.std.proofs.Common.{◌≡◌, ℕ, ◌+◌, ◌<◌, Bool, true, false, not, cond, nat_lt, List, [], ◌∷◌, ◌++◌, length, map, drop, get_or, Option, Some, None, is_some, refl, sym, ap, ◌∙◌, arith, add-one, append-nil, append_assoc, length-append}
+use Rattle.std.proofs.Common.{◌≡◌, ℕ, ◌+◌, true, false, not, nat_lt, List, [], ◌∷◌, ◌++◌, length, map, Some, None, refl, sym, ap, ◌∙◌, arith, append-nil, append_assoc, length-append}
 use Rattle.std.specs.Cmp.{IsStrictWeakOrder, IsTotalOrder}
-use Rattle.std.specs.Cmp.Lexicographic.{options_total, slice_cmp}
+use Rattle.std.specs.Cmp.Lexicographic.{options_total}
 use Rattle.std.specs.List.{All, prefix_len}
-use Rattle.std.specs.Ordering.{is_lt, nat_cmp, on, ordering_then, then_cmp}
+use Rattle.std.specs.Ordering.{is_lt, ordering_then}
 use Rattle.std.specs.declared.cmp.Ordering.{Ordering}
 use Rattle.std.specs.declared.cmp.Ordering.TheVariants.{Less, Equal, Greater}
-use Rattle.std.proofs.Math.Seq.{drop-cons}
 use Rattle.std.proofs.lemmas.Bool.{le-ltb, lt-ltb}
-use Rattle.std.proofs.lemmas.Cmp.{nat_list_cmp_total, on_total, then_total}
+use Rattle.std.proofs.lemmas.Cmp.{on_total}
 use Rattle.std.proofs.lemmas.List.{length-map, map-append}
 use Rattle.std.proofs.lemmas.List.Elements.{All-head, All-tail}
 use Rattle.std.proofs.lemmas.List.Sorted.{ranks_by}
 use Rattle.version_lines.specs.Entry.{entry_cmp, entry_line, IsRead}
-use Rattle.version_lines.specs.Lines.{lines_of, lines_output}
-use Rattle.version_lines.specs.Sort.{bad_line, is_bad, line_cmp, sort_output, whole_line}
-use Rattle.version_lines.specs.Sorting.{in_order}
+use Rattle.version_lines.specs.Sort.{bad_line, is_bad, line_cmp}
 use Rattle.version_lines.specs.declared.entry.Entry.{Entry}
 use Rattle.versions.proofs.Orders.{key_bytes_alone}
 use Rattle.versions.specs.Key.{key_of, precedence}
 use Rattle.versions.specs.OrdersLaws.{versioning_cmp_total}
-use Rattle.versions.specs.Versioning.{PlainVersioning, plain_versioning, versioning_of, versioning_plain_cmp}
-use Rattle.version_lines.proofs.SortingLemmas.{AreAlike, in_order-map}
+use Rattle.versions.specs.Versioning.{plain_versioning, versioning_of, versioning_plain_cmp}
+use Rattle.version_lines.proofs.SortingLemmas.{AreAlike}
 
 -- the line of an entry is a version
 good_line : (entry : Entry) → IsRead entry → is_bad (entry_line entry) ≡ false

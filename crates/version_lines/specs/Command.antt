@@ -1,6 +1,5 @@
 -- What the words of a run ask for.
 use Rattle.std.specs.Prelude.{ℕ, Bool, true, false, List, [], ◌∷◌, Option, None, Some, codes, if◌then◌else◌}
-use Rattle.std.specs.Option.{option_map_or}
 use Rattle.std.specs.Str.{bytes_eq}
 use Rattle.version_lines.specs.declared.command.Command.{Command}
 use Rattle.version_lines.specs.declared.command.Command.TheVariants as owned

@@ -1,5 +1,5 @@
 -- How a run ends: what it takes to be done, which fault comes of what, and what was written by then.
-use Rattle.std.specs.Prelude.{◌≡◌, ⊤, ℕ, Bool, false, List, Option, None, Some, string_bytes, IfSome, IsSome, IsTrue, MatchOption}
+use Rattle.std.specs.Prelude.{◌≡◌, ⊤, ℕ, Bool, false, List, Option, None, Some, string_bytes, IfSome, IsTrue, MatchOption}
 use Rattle.std.specs.Option.{IsSomeAnd, option_map_or, option_or}
 use Rattle.std.specs.Io.KnownBytes.{Keeps}
 use Rattle.version_lines.specs.Command.{PlainCommand, Cmp, Key, OfInput, command_of, reads_input}
@@ -8,7 +8,7 @@ use Rattle.version_lines.specs.Output.{AppendsBeginning, AppendsProperBeginning}
 use Rattle.version_lines.specs.Sort.{bad_line}
 use Rattle.version_lines.specs.declared.faults.Fault.{Fault}
 use Rattle.version_lines.specs.declared.faults.Fault.TheVariants.{Usage, NotVersion, NotRequirement, BadLine, Memory, Read, Write}
-use Rattle.version_lines.specs.declared.command.InputCommand.TheVariants.{Ideal, Show, Sort}
+use Rattle.version_lines.specs.declared.command.InputCommand.TheVariants.{Sort}
 use Rattle.versions.specs.Versioning.{versioning_of}
 
 -- the word, where it is no version

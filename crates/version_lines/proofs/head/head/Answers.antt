@@ -1,4 +1,4 @@
-use Rattle.std.proofs.Common.{◌<◌, ℕ, ap, arith, ◌∙◌}
+use Rattle.std.proofs.Common.{◌<◌, ℕ, arith}
 use Rattle.std.proofs.lemmas.List.Elements.{All-from_get_or}
 use Rattle.version_lines.proofs.HeadLemmas.{head-from_bytes}
 use Rattle.version_lines.proofs.head.head.Goals as goal

@@ -1,4 +1,4 @@
-use Rattle.std.proofs.Common.{◌≡◌, None, Some, inl, rules, refl, ap, sym, ◌∙◌}
+use Rattle.std.proofs.Common.{Some, inl, rules, refl, ap, sym, ◌∙◌}
 use Rattle.std.proofs.lemmas.Result.{IfErr-weaker}
 use Rattle.version_lines.specs.Command.{OfInput}
 use Rattle.version_lines.specs.Fault.{ComesOfLines}
