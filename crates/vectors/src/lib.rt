@@ -8,7 +8,11 @@ mod messy;
 #[cfg(test)]
 mod order;
 #[cfg(test)]
+mod precedence;
+#[cfg(test)]
 mod program;
+#[cfg(test)]
+mod sort_keys;
 #[cfg(test)]
 mod streams;
 #[cfg(test)]

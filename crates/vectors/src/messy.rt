@@ -228,7 +228,7 @@ fn goes_deep(rt: &impl Abort, alloc: Global, further: &str, count: u32) -> Resul
 }
 
 // The messy version that a text spells.
-fn messy(rt: &HostRuntime, text: &str) -> Result<Mess, Fail> {
+pub(crate) fn messy(rt: &impl AllocGlobal, text: &str) -> Result<Mess, Fail> {
     Ok(Mess::new(rt.alloc(), text)?.ok_or("not read")?)
 }
 

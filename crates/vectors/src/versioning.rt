@@ -221,12 +221,12 @@ fn what_is_read_without_memory(rt: HostRuntime) -> Result<(), Fail> {
     Ok(())
 }
 
-fn any(rt: &HostRuntime, text: &str) -> Result<Versioning, Fail> {
+pub(crate) fn any(rt: &impl AllocGlobal, text: &str) -> Result<Versioning, Fail> {
     let version = Versioning::new(rt.alloc(), text)?;
     Ok(version.ok_or("no version")?)
 }
 
-fn general(rt: &HostRuntime, text: &str) -> Result<Version, Fail> {
+pub(crate) fn general(rt: &impl AllocGlobal, text: &str) -> Result<Version, Fail> {
     let version = Version::new(rt.alloc(), text)?;
     Ok(version.ok_or("no general version")?)
 }
