@@ -79,9 +79,10 @@ pub mess_cmp_equal : (a b : PlainMess) → (mess_cmp a b ≡ Equal) ↔ (a ≡ b
 mess_cmp_equal = equal_where_same mess_cmp_total (then_same (on key_of_mess precedence) messes_same)
 
 pub versioning_cmp_equal : (a b : PlainVersioning) → (versioning_cmp a b ≡ Equal) ↔ SameVersioning a b
-versioning_cmp_equal a b =
-    (λ tied. (versioning_equal a b).0 (then_second _ _ tied),
-    λ same. let tied = (versioning_equal a b).1 same in rw (keys_tied a b tied, tied) refl)
+versioning_cmp_equal a b = (
+  λ tied. (versioning_equal a b).0 (then_second _ _ tied),
+  λ same. let tied = (versioning_equal a b).1 same in rw (keys_tied a b tied, tied) refl,
+)
 
 pub versioning_cmp_refines : (a b : PlainVersioning) → ¬ (precedence (key_of a) (key_of b) ≡ Equal) → versioning_cmp a b ≡ precedence (key_of a) (key_of b)
 versioning_cmp_refines a b differ = then_decided _ (versioning_plain_cmp a b) Equal differ ∙ then_equal _

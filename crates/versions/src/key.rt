@@ -20,8 +20,6 @@ mod body;
 mod sections;
 mod tail;
 
-pub use version_parts::key::compare_bytes;
-
 use crate::mess::Mess;
 use crate::semver::SemVer;
 use crate::version::Version;
@@ -32,6 +30,7 @@ use std::cmp::Ordering;
 use std::marker::Model;
 use tail::TailBytes;
 use version_parts::key::PieceBytes;
+pub use version_parts::key::compare_bytes;
 use version_parts::{MChunk, Sep};
 
 // How many bytes of a key are made room for at first: as many as three numbers and a short pre-release need.

@@ -207,8 +207,9 @@ impl Ord for Mess {
 
     #[tactic(auto, using(crate::proofs::Orders::key_bytes_alone))]
     fn cmp(&self, other: &Mess) -> Ordering {
-        compare_keys(KeyBytes::of_mess(self), KeyBytes::of_mess(other))
-            .then_with(|| self.compare_plain(other))
+        compare_keys(KeyBytes::of_mess(self), KeyBytes::of_mess(other)).then_with(
+            || self.compare_plain(other),
+        )
     }
 }
 

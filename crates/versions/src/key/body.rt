@@ -46,10 +46,7 @@ impl<'a> BodyBytes<'a> {
     pub fn parts(chunks: &'a Chunks, last: &'a Last) -> BodyBytes<'a>
         ensures { result ≡ parts_bytes (chunk_parts (plain_chunks chunks.now) ++ part_key (last_text (plain_last last.now)) ∷ []) }
     {
-        BodyBytes(Body::Chunks(ListBytes::parts_with_last(
-            chunks.0.as_slice(),
-            last.part_text(),
-        )))
+        BodyBytes(Body::Chunks(ListBytes::parts_with_last(chunks.0.as_slice(), last.part_text())))
     }
 
     /// The bytes of the chunks of the first section of a messy version.
