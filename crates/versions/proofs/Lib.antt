@@ -16,6 +16,7 @@ pub mod SemVerReading
 pub mod SortKey
 pub mod Tail
 pub mod Texts
+pub mod VersionMatch
 pub mod VersionReading
 pub mod VersioningReading
 pub mod Widening

@@ -1,3 +1,4 @@
+pub mod BodyParts
 pub mod Conversions
 pub mod Errors
 pub mod Key
@@ -16,6 +17,7 @@ pub mod Tail
 pub mod Texts
 pub mod Version
 pub mod VersionLaws
+pub mod VersionMatch
 pub mod VersionOrder
 pub mod Versioning
 pub mod VersioningLaws

@@ -11,6 +11,7 @@ mod errors;
 pub mod key;
 mod laws;
 mod mess;
+mod parts;
 mod pieces;
 mod reading;
 mod semver;
