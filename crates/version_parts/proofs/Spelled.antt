@@ -6,10 +6,12 @@ use Rattle.std.specs.List.{list_all}
 use Rattle.version_parts.specs.Body.{PlainBody, SpellsBody}
 use Rattle.version_parts.specs.Bytes.{dot, is_identifier_byte, is_metadata_byte}
 use Rattle.version_parts.specs.Chunk.{Numeric, Alphanum, PlainChunk, SpellsChunk, SpellsChunkOf, SpellsPart}
-use Rattle.version_parts.specs.Grammar.{SpellsDotted, SpellsOptional}
+use Rattle.version_parts.specs.Grammar.{SpellsDotted, SpellsEach, SpellsOptional}
+use Rattle.version_parts.specs.MChunk.{PlainMChunk, SpellsMChunk}
 use Rattle.version_parts.specs.Metadata.{SpellsMetadata}
 use Rattle.version_parts.specs.Numeral.{SpellsNumeral}
 use Rattle.version_parts.specs.Release.{SpellsRelease}
+use Rattle.version_parts.proofs.MChunkReading.{spelled_run}
 
 -- what passes one test passes a weaker one
 pub all_weaker : (p q : ℕ → Bool) → ((b : ℕ) → p b ≡ true → q b ≡ true) → (text : List ℕ) → list_all p text ≡ true → list_all q text ≡ true
@@ -56,3 +58,12 @@ module _ (Holds : List ℕ → Type 0) (nothing : Holds []) (together : (a b : L
   unfolding SpellsOptional
   of_optional mark Spells marked each text None s = rw s nothing
   of_optional mark Spells marked each text (Some x) s = rw s.1 (together (mark ∷ []) s.0 marked (each s.0 x s.2))
+
+  pub of_each : {X : Type 0} (Spells : List ℕ → X → Type 0) → ((text : List ℕ) (x : X) → Spells text x → Holds text)
+      → (text : List ℕ) (xs : List X) → SpellsEach Spells text xs → Holds text
+  unfolding SpellsEach
+  of_each Spells each text [] s = rw s nothing
+  of_each Spells each text (x ∷ xs) s = rw s.2 (together s.0 s.1 (each s.0 x s.3) (of_each Spells each s.1 xs s.4))
+
+  pub of_mchunk : (text : List ℕ) (x : PlainMChunk) → SpellsMChunk text x → Holds text
+  of_mchunk text x s = run text (all_weaker is_ascii_alphanumeric is_metadata_byte alphanumeric_byte text (spelled_run text x s))

@@ -1,4 +1,5 @@
 pub mod Answered
+pub mod Convex
 pub mod Epoch
 pub mod Flat
 pub mod FromText
@@ -9,11 +10,15 @@ pub mod MessFed
 pub mod MessReading
 pub mod MessScan
 pub mod MessText
+pub mod OpReading
 pub mod Orders
 pub mod Precedence
+pub mod RequirementReading
+pub mod RequirementsReading
 pub mod SemVerOrder
 pub mod SemVerReading
 pub mod SortKey
+pub mod Spelled
 pub mod Tail
 pub mod Texts
 pub mod VersionMatch

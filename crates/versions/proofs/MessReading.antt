@@ -10,12 +10,13 @@ use Rattle.version_parts.specs.Grammar.{SpellsBehind, SpellsDotted, SpellsEach}
 use Rattle.version_parts.specs.MChunk.{EndsChunk, PlainMChunk, SpellsMChunk, mchunk_front, mchunk_text}
 use Rattle.version_parts.specs.Reading.{EndsList, IsComplete, IsKept, IsPrinted, IsSoundBefore}
 use Rattle.version_parts.specs.Sep.{PlainSep, sep_byte, sep_front}
-use Rattle.version_parts.proofs.Ascii.{IsAscii-cons, spelled_each_ascii, spelled_list_ascii, spelled_mchunk_ascii}
+use Rattle.version_parts.proofs.Ascii.{IsAscii-nil, metadata_run_ascii, sign_ascii}
 use Rattle.version_parts.proofs.ChunkReading.{dotted_printed}
 use Rattle.version_parts.proofs.Dotted.{dotted_sound_before}
-use Rattle.version_parts.proofs.MChunkReading.{mchunk_kept, mchunk_sound, section_complete, section_consumes, section_printed, sep_byte_ascii, sep_front-Some, sep_of_byte, sign_ends}
+use Rattle.version_parts.proofs.MChunkReading.{mchunk_kept, mchunk_sound, section_complete, section_consumes, section_printed, sep_front-Some, sep_of_byte, sign_ends}
 use Rattle.version_parts.proofs.Repeated.{Shrinks, cases_Option, each_ends, each_printed, repeated-reads, repeated_follows, repeated_sound}
 use Rattle.versions.specs.Mess.{Further, PlainMess, Section, SpellsFurther, SpellsMess, further_front, further_text, joined_section, mess_front, mess_of, mess_text, section_front}
+use Rattle.versions.proofs.Spelled.{of_mess}
 use Rattle.version_parts.proofs.WholeReading.{whole-Some, whole-is}
 
 -- ---- a sign and the section behind it
@@ -65,10 +66,6 @@ further_ends piece further text s = rw s.1 (sign_ends further.0 (s.0 ++ text))
 
 further_printed : IsPrinted SpellsFurther further_text
 further_printed text further s = rw s.1 (ap (λ (l : List ℕ). sep_byte further.0 ∷ l) (section_printed s.0 further.1 s.2))
-
-further_ascii : (text : List ℕ) (further : Further) → SpellsFurther text further → IsAscii text
-further_ascii text further s =
-    rw s.1 (IsAscii-cons (sep_byte further.0) s.0 (sep_byte_ascii further.0) (spelled_list_ascii SpellsMChunk spelled_mchunk_ascii s.0 further.1 s.2))
 
 -- ---- all of a version
 
@@ -171,9 +168,7 @@ mess_printed text m s =
     rw (section_printed s.first m.first s.first_is, each_printed SpellsFurther further_text further_printed s.more m.more s.more_is) (sym s.whole_is)
 
 pub mess_ascii : (text : List ℕ) (m : PlainMess) → SpellsMess text m → IsAscii text
-mess_ascii text m s =
-    rw s.whole_is (IsAscii-append s.first s.more (spelled_list_ascii SpellsMChunk spelled_mchunk_ascii s.first m.first s.first_is)
-    (spelled_each_ascii SpellsFurther further_ascii s.more m.more s.more_is))
+mess_ascii = of_mess IsAscii IsAscii-nil IsAscii-append metadata_run_ascii sign_ascii
 
 -- the version that the whole text spells
 pub mess_of-Some : (text : List ℕ) (m : PlainMess) → SpellsMess text m → mess_of text ≡ Some m

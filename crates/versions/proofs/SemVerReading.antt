@@ -1,5 +1,5 @@
 -- Strict versions: their front reads what is spelled and nothing else, and they print as they are spelled.
-use Rattle.std.proofs.Common.{◌≡◌, IsSome, arith, ◌==◌, ℕ, Bool, false, List, [], ◌∷◌, ◌++◌, Option, Some, None, refl, sym, ap, subst, ◌∙◌, inl, inr, append-nil, append_assoc}
+use Rattle.std.proofs.Common.{◌≡◌, IsSome, ◌==◌, ℕ, Bool, false, List, [], ◌∷◌, ◌++◌, Option, Some, None, refl, sym, ap, subst, ◌∙◌, inl, inr, append-nil, append_assoc}
 use Rattle.std.proofs.lemmas.Str.{IsAscii-append}
 use Rattle.std.specs.Char.{is_ascii_digit}
 use Rattle.std.specs.Str.{IsAscii, IsUtf8}
@@ -11,12 +11,13 @@ use Rattle.version_parts.specs.Metadata.{SpellsMetadata, meta_front}
 use Rattle.version_parts.specs.Numeral.{unsigned_front}
 use Rattle.version_parts.specs.Reading.{EndsList, EndsRun, IsPrinted, IsSound}
 use Rattle.version_parts.specs.Release.{SpellsRelease, release_front, release_text}
-use Rattle.version_parts.proofs.Ascii.{IsAscii-cons, spelled_metadata_ascii, spelled_numeral_ascii, spelled_optional_ascii, spelled_release_ascii}
+use Rattle.version_parts.proofs.Ascii.{IsAscii-nil, metadata_run_ascii, sign_ascii}
 use Rattle.version_parts.proofs.ChunkReading.{metadata_complete, metadata_sound, optional_complete, optional_sound, release_complete, release_printed, release_sound}
 use Rattle.version_parts.proofs.Dotted.{behind-Some, cases_Option}
 use Rattle.version_parts.proofs.NumeralReading.{numeral_printed, unsigned_complete, unsigned_sound}
 use Rattle.version_parts.proofs.WholeReading.{read_whole, spelled_once, spelled_utf8, whole_read, whole_spelled}
 use Rattle.versions.specs.SemVer.{PlainSemVer, SpellsSemVer, optional_text, plain_semver, semver_front, semver_of, semver_text}
+use Rattle.versions.proofs.Spelled.{of_semver}
 
 -- what the front gives behind three numbers
 semver_front-Some : (text : List ℕ) (major minor patch : ℕ × List ℕ) → unsigned_front text ≡ Some major → behind dot unsigned_front major.1 ≡ Some minor
@@ -146,12 +147,7 @@ unfolding semver_of
 semver_of-spells = read_whole SpellsSemVer semver_front semver_sound semver_complete
 
 pub semver_ascii : (text : List ℕ) (v : PlainSemVer) → SpellsSemVer text v → IsAscii text
-semver_ascii text v s =
-    let pre_rel = spelled_optional_ascii hyphen SpellsRelease (omega arith) spelled_release_ascii s.pre_rel v.pre_rel s.pre_rel_is in
-    let meta = spelled_optional_ascii plus SpellsMetadata (omega arith) spelled_metadata_ascii s.meta v.meta s.meta_is in
-    let patch = IsAscii-append s.patch _ (spelled_numeral_ascii s.patch v.patch s.patch_is) (IsAscii-append s.pre_rel s.meta pre_rel meta) in
-    let minor = IsAscii-append s.minor _ (spelled_numeral_ascii s.minor v.minor s.minor_is) (IsAscii-cons dot _ (omega arith) patch) in
-    rw s.whole (IsAscii-append s.major _ (spelled_numeral_ascii s.major v.major s.major_is) (IsAscii-cons dot _ (omega arith) minor))
+semver_ascii = of_semver IsAscii IsAscii-nil IsAscii-append metadata_run_ascii sign_ascii
 
 -- a text that spells a version is UTF-8
 pub semver_of-IsUtf8 : (text : List ℕ) → IsSome (semver_of text) → IsUtf8 text

@@ -15,7 +15,7 @@ use Rattle.version_parts.specs.Metadata.{SpellsMetadata, meta_front}
 use Rattle.version_parts.specs.Numeral.{unsigned_front}
 use Rattle.version_parts.specs.Reading.{EndsList, EndsRun, IsPrinted, IsSound}
 use Rattle.version_parts.specs.Release.{SpellsRelease, release_front, release_text}
-use Rattle.version_parts.proofs.Ascii.{IsAscii-cons, IsAscii-nil, spelled_body_ascii, spelled_metadata_ascii, spelled_numeral_ascii, spelled_optional_ascii, spelled_release_ascii}
+use Rattle.version_parts.proofs.Ascii.{IsAscii-nil, metadata_run_ascii, sign_ascii}
 use Rattle.version_parts.proofs.BodyReading.{body_complete, body_printed, body_sound}
 use Rattle.version_parts.proofs.ChunkReading.{metadata_complete, metadata_sound, optional_complete, optional_sound, release_complete, release_printed, release_sound}
 use Rattle.version_parts.proofs.Dotted.{cases_Option}
@@ -24,6 +24,7 @@ use Rattle.version_parts.proofs.Spelled.{all_weaker, of_body, of_metadata, of_op
 use Rattle.version_parts.proofs.WholeReading.{read_whole, spelled_once, spelled_utf8, whole_read, whole_spelled}
 use Rattle.versions.specs.Version.{PlainVersion, SpellsEpoch, SpellsVersion, epoch_front, epoch_text, plain_version, version_front, version_of, version_text}
 use Rattle.versions.proofs.SemVerReading.{optional_begins, optional_printed}
+use Rattle.versions.proofs.Spelled.{of_version}
 
 -- what the front gives behind a body
 version_front-Some : (text : List ℕ) (epoch : Option ℕ × List ℕ) (body : PlainBody × List ℕ) → optional epoch_front text ≡ epoch → body_front epoch.1 ≡ Some body
@@ -227,18 +228,8 @@ version_printed text v s =
     let meta = optional_printed plus SpellsMetadata (λ t. t) (λ t x h. sym h.0) s.meta v.meta s.meta_is in
     rw (epoch_printed s.epoch v.epoch s.epoch_is, body_printed s.body (v.chunks, v.last) s.body_is, release, meta) (sym s.whole)
 
-epoch_ascii : (text : List ℕ) (o : Option ℕ) → SpellsEpoch text o → IsAscii text
-unfolding SpellsEpoch
-epoch_ascii text None s = rw s IsAscii-nil
-epoch_ascii text (Some n) s = rw s.1 (IsAscii-append s.0 (colon ∷ []) (spelled_numeral_ascii s.0 n s.2) (IsAscii-cons colon [] (omega arith) IsAscii-nil))
-
 pub version_ascii : (text : List ℕ) (v : PlainVersion) → SpellsVersion text v → IsAscii text
-version_ascii text v s =
-    let release = spelled_optional_ascii hyphen SpellsRelease (omega arith) spelled_release_ascii s.release v.release s.release_is in
-    let meta = spelled_optional_ascii plus SpellsMetadata (omega arith) spelled_metadata_ascii s.meta v.meta s.meta_is in
-    let tail = IsAscii-append s.release s.meta release meta in
-    let body = IsAscii-append s.body _ (spelled_body_ascii s.body (v.chunks, v.last) s.body_is) tail in
-    rw s.whole (IsAscii-append s.epoch _ (epoch_ascii s.epoch v.epoch s.epoch_is) body)
+version_ascii = of_version IsAscii IsAscii-nil IsAscii-append metadata_run_ascii sign_ascii
 
 -- a text that spells a version is UTF-8
 pub version_of-IsUtf8 : (text : List ℕ) → IsSome (version_of text) → IsUtf8 text

@@ -5,10 +5,14 @@ pub mod Key
 pub mod KeyBytes
 pub mod KeyLaws
 pub mod KeyStream
+pub mod Matching
 pub mod Mess
 pub mod MessLaws
+pub mod Op
 pub mod Orders
 pub mod OrdersLaws
+pub mod Requirement
+pub mod Requirements
 pub mod SemVer
 pub mod SemVerLaws
 pub mod SemVerMatch

@@ -2,7 +2,7 @@
 
 ghost use Rattle.std.specs.Prelude.{◌≡◌, ◌++◌, List, ℕ, refl, IfOk, IfSome, IsSomeAnd, None, OnErr, Some};
 ghost use Rattle.std.specs.Cmp.{eq_by_cmp_equiv, on_equiv, on_per, on_total, partial_equiv_from_equiv, po, IsTotalOrder};
-ghost use Rattle.std.specs.Option.{option_map};
+ghost use Rattle.std.specs.Option.{is_some, option_map};
 ghost use Rattle.std.specs.Ordering.{as_partial_cmp, eq_by_cmp, on};
 ghost use Rattle.std.specs.declared.cmp.Ordering.TheVariants.{Equal};
 ghost use Rattle.version_parts.specs.Front.{Reads};
@@ -59,6 +59,13 @@ impl Versioning {
         ensures exact { IfOk result (λ o. option_map plain_versioning o ≡ versioning_of s.now) }
     {
         read_whole(alloc, s)
+    }
+
+    /// Whether the whole text spells a version of any kind, so that `new` would give one. Takes no memory.
+    pub fn is_spelled_by(s: &str) -> bool
+        ensures { result ≡ is_some (versioning_of s.now) }
+    {
+        SemVer::is_spelled_by(s) || Version::is_spelled_by(s) || Mess::is_spelled_by(s)
     }
 
     /// The version that the whole text spells; else `Illegal`, with `IllegalVersioning` and the whole text in it.

@@ -1,0 +1,10 @@
+use Rattle.std.proofs.Common.{take}
+use Rattle.std.specs.List.{All}
+use Rattle.versions.specs.Matching.{Matches}
+use Rattle.versions.specs.Requirement.{plain_requirement}
+use Rattle.versions.specs.Versioning.{plain_versioning}
+use Rattle.versions.proofs.requirements.Requirements.matches.Given as goal
+
+-- the members so far ask for the version
+abbrev pub invariant-loop-requirement : goal.invariant-loop-requirement
+invariant-loop-requirement l = All (λ r. Matches (plain_requirement r) (plain_versioning l.version)) (take l.requirement-index l.requirement-items)

@@ -1,0 +1,35 @@
+-- Lists of requirements.
+use Rattle.std.specs.Prelude.{◌≡◌, ℕ, ◌<◌, eqb, List, [], ◌∷◌, length, map, Option, Some}
+use Rattle.std.specs.List.{AllZip, join_with_byte, slice_split}
+use Rattle.std.specs.Option.{option_map}
+use Rattle.version_parts.specs.Front.{◌>>=◌}
+use Rattle.versions.specs.declared.requirements.Requirements.{Requirements}
+use Rattle.versions.specs.Requirement.{PlainRequirement, SpellsRequirement, plain_requirement, requirement_of, requirement_text}
+
+-- the byte between the members of a list
+abbrev pub comma : ℕ
+comma = 44
+
+-- the requirements of a list
+abbrev pub plain_requirements : Requirements → List PlainRequirement
+plain_requirements list = map plain_requirement list.0.items
+
+-- The text spells the list: one text or more, joined by single commas, each of which spells its member.
+pub record SpellsRequirements (text : List ℕ) (list : List PlainRequirement) : Type 0 where
+  pub members : List (List ℕ)
+  pub whole : text ≡ join_with_byte comma members
+  pub members_are : AllZip SpellsRequirement members list
+  pub some : 0 < length list
+
+-- the printed text: the members joined by commas
+abbrev pub requirements_text : List PlainRequirement → List ℕ
+requirements_text list = join_with_byte comma (map requirement_text list)
+
+-- what some readings give, where each gives something
+abbrev pub every : {X : Type 0} → List (Option X) → Option (List X)
+every [] = Some []
+every (reading ∷ readings) = reading >>= λ x. option_map (λ xs. x ∷ xs) (every readings)
+
+-- the list that the whole text spells: cut at its commas, each piece spells a member
+abbrev pub requirements_of : List ℕ → Option (List PlainRequirement)
+requirements_of text = every (map requirement_of (slice_split (λ b. eqb b comma) text))

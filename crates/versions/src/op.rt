@@ -1,0 +1,89 @@
+//! The operators of requirements.
+
+ghost use Rattle.std.specs.Prelude.{◌≡◌, Some};
+ghost use Rattle.std.specs.Option.{option_map};
+ghost use Rattle.versions.specs.Op.{after_word, op_front, op_text};
+
+use std::fmt;
+use version_parts::scan::after_mark;
+
+/// What a requirement asks of a version, against its own.
+#[derive(Clone, Copy, Debug, PartialEq, Eq, Hash)]
+pub enum Op {
+    /// `=`: the same version, by `==`.
+    Exact,
+    /// `>`: one above it in precedence.
+    Greater,
+    /// `>=`: one not below it in precedence.
+    GreaterEq,
+    /// `<`: one below it in precedence.
+    Less,
+    /// `<=`: one not above it in precedence.
+    LessEq,
+    /// `~`: one of the same kind, whose last part may be above.
+    Tilde,
+    /// `^`: one of the same kind, whose parts behind the first that is not 0 may be above.
+    Caret,
+    /// `*`: any.
+    Wildcard,
+}
+
+// The operators in the order in which they are tried: of two that begin alike, the longer first.
+const TRIED: [Op; 8] = [
+    Op::Exact,
+    Op::GreaterEq,
+    Op::Greater,
+    Op::LessEq,
+    Op::Less,
+    Op::Tilde,
+    Op::Caret,
+    Op::Wildcard,
+];
+
+impl Op {
+    // The operator at the front of a text, and the rest.
+    #[tactic(auto, unfolding(crate::specs::Op::op_front))]
+    pub(crate) fn scan(i: &str) -> Option<(Op, &str)>
+        ensures { option_map (λ r. (r.0, r.1.now)) result ≡ op_front i.now }
+    {
+        for op in TRIED {
+            if let Some(rest) = op.strip(i) {
+                return Some((op, rest));
+            }
+        }
+        None
+    }
+
+    // What stands behind the operator, where a text begins with it.
+    fn strip(self, i: &str) -> Option<&str>
+        ensures { option_map (λ r. r.now) result ≡ after_word (op_text self) i.now }
+    {
+        match self {
+            Op::Exact => after_mark(i, b'='),
+            Op::Greater => after_mark(i, b'>'),
+            Op::GreaterEq => after_mark(after_mark(i, b'>')?, b'='),
+            Op::Less => after_mark(i, b'<'),
+            Op::LessEq => after_mark(after_mark(i, b'<')?, b'='),
+            Op::Tilde => after_mark(i, b'~'),
+            Op::Caret => after_mark(i, b'^'),
+            Op::Wildcard => after_mark(i, b'*'),
+        }
+    }
+}
+
+impl fmt::Display for Op {
+    ghost output = { λ op. Some (op_text op) };
+
+    fn fmt<W: fmt::Write>(&self, f: &mut fmt::Formatter<W>) -> fmt::Result {
+        f.write_str(match self {
+            Op::Exact => "=",
+            Op::Greater => ">",
+            Op::GreaterEq => ">=",
+            Op::Less => "<",
+            Op::LessEq => "<=",
+            Op::Tilde => "~",
+            Op::Caret => "^",
+            Op::Wildcard => "*",
+        })
+    }
+}
