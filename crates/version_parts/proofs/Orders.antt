@@ -3,15 +3,15 @@ use Rattle.std.proofs.Common.{◌≡◌, ◌↔◌, List, Option}
 use Rattle.std.specs.declared.cmp.Ordering.TheVariants.{Equal}
 use Rattle.version_parts.proofs.DigitRun.{split_of-digits, split_of-no_digit}
 use Rattle.version_parts.proofs.NumberBytes.{length_bytes-long, length_bytes-short, number_bytes-decimal, number_bytes-zero, number_writes}
-use Rattle.version_parts.proofs.PartKey.{list_writes, lists_same, part_key-decimal, part_key-digits, part_key-word, part_writes, parts_same}
+use Rattle.version_parts.proofs.PartKey.{list_writes, lists_same, part_key-decimal, part_key-digits, part_key-word, part_writes}
 use Rattle.version_parts.proofs.ReleaseOrder.{release_writes}
-use Rattle.version_parts.proofs.Split.{split_writes, splits_same}
+use Rattle.version_parts.proofs.Split.{split_writes}
 use Rattle.version_parts.proofs.TextBytes.{text_writes}
 use Rattle.version_parts.proofs.Worked.{worked_bytes, worked_order}
 use Rattle.version_parts.specs.OrderLaws.{equal_where_same, then_same}
 use Rattle.version_parts.specs.Chunk.{PlainChunk}
 use Rattle.version_parts.specs.PartKey.{PartKey, list_cmp, part_cmp}
-use Rattle.version_parts.specs.PartLaws.{list_total, part_total, split_total}
+use Rattle.version_parts.specs.PartLaws.{list_total, part_total, parts_same, split_total, splits_same}
 use Rattle.version_parts.specs.Last.{PlainLast}
 use Rattle.version_parts.specs.LastLaws.{last_total, lasts_same}
 use Rattle.version_parts.specs.LastOrder.{last_plain_cmp}

@@ -1,20 +1,20 @@
--- The orders of parts and of lists of parts tell all of them apart, and the bytes compare as they do.
+-- The order of lists of parts tells all of them apart, and the bytes of parts and of lists compare as they do.
 use Rattle.std.proofs.Common.{◌≡◌, ℕ, ◌<◌, ◌^◌, List, [], ◌++◌, true, false, Option, Some, None, refl, ap, ◌∙◌}
 use Rattle.std.proofs.lemmas.Fmt.{decimal_is_IsNumeral}
 use Rattle.std.proofs.lemmas.List.{append-nil}
-use Rattle.std.specs.FinMap.{IsAntisymmetric, nat_cmp-IsAntisymmetric}
+use Rattle.std.specs.FinMap.{IsAntisymmetric}
 use Rattle.std.specs.Fmt.{decimal}
 use Rattle.std.specs.Ordering.{nat_cmp, ordering_then}
 use Rattle.std.specs.Str.Parse.{digits_value}
 use Rattle.version_parts.proofs.Codes.{ended_same, in_turn, writes_list}
 use Rattle.version_parts.proofs.DigitRun.{decimal-digits, number_front-digits, number_front-none}
 use Rattle.version_parts.proofs.NumberBytes.{number_writes}
-use Rattle.version_parts.proofs.Split.{split_writes, splits_same}
-use Rattle.version_parts.specs.OrderLaws.{none_last_same, then_first, then_second}
+use Rattle.version_parts.proofs.Split.{split_writes}
 use Rattle.version_parts.specs.Codes.{Writes}
 use Rattle.version_parts.specs.DigitRun.{is_digits, starts_with_digit}
 use Rattle.version_parts.specs.Lists.{bytes_cmp, none_last_cmp}
 use Rattle.version_parts.specs.NumberBytes.{number_bytes}
+use Rattle.version_parts.specs.PartLaws.{parts_same}
 use Rattle.version_parts.specs.PartKey.{PartKey, Word, Number, list_cmp, part_bytes, part_cmp, part_key, parts_bytes, suffix_bytes, suffix_of}
 use Rattle.version_parts.specs.Split.{Split, split_cmp, split_of}
 
@@ -26,20 +26,6 @@ suffix_writes = record { compares = go }
     go None (Some t) x y = refl
     go (Some s) None x y = refl
     go (Some s) (Some t) x y = split_writes.compares s t x y
-
-pub parts_same : IsAntisymmetric part_cmp
-parts_same (Some (Word v)) (Some (Word w)) e = ap (λ s. Some (Word s)) (splits_same v w e)
-parts_same (Some (Word v)) None e = cc e
-parts_same (Some (Word v)) (Some (Number n t)) e = cc e
-parts_same None (Some (Word w)) e = cc e
-parts_same None None e = refl
-parts_same None (Some (Number n t)) e = cc e
-parts_same (Some (Number m s)) (Some (Word w)) e = cc e
-parts_same (Some (Number m s)) None e = cc e
-parts_same (Some (Number m s)) (Some (Number n t)) e =
-    let numbers = nat_cmp-IsAntisymmetric m n (then_first _ _ e) in
-    let suffixes = none_last_same splits_same s t (then_second _ _ e) in
-    λ i. Some (Number (numbers i) (suffixes i))
 
 pub part_writes : Writes part_cmp part_bytes
 part_writes = record { compares = go }

@@ -1,11 +1,12 @@
 -- The laws of the orders of parts and of lists of parts, which the impls of `Ord` cite.
-use Rattle.std.proofs.Common.{◌≡◌, ℕ, List, Option, Some, None, refl, subst}
+use Rattle.std.proofs.Common.{◌≡◌, ℕ, List, Option, Some, None, refl, ap, subst}
 use Rattle.std.specs.Cmp.{IsTotalOrder, nat_cmp_total, on_total, then_total}
 use Rattle.std.specs.Cmp.Lexicographic.{lists_total, nat_list_cmp_total, options_total}
+use Rattle.std.specs.FinMap.{IsAntisymmetric, nat_cmp-IsAntisymmetric}
 use Rattle.std.specs.Option.{option_cmp}
 use Rattle.std.specs.Ordering.{nat_cmp, on, then_cmp}
 use Rattle.version_parts.specs.Lists.{none_last_cmp, with_end}
-use Rattle.version_parts.specs.OrderLaws.{none_last_total, then_equal}
+use Rattle.version_parts.specs.OrderLaws.{bytes_same, none_last_same, none_last_total, options_same, then_equal, then_first, then_second}
 use Rattle.version_parts.specs.PartKey.{PartKey, Word, Number, list_cmp, part_cmp}
 use Rattle.version_parts.specs.Split.{Split, numbered_cmp, split_cmp}
 
@@ -56,3 +57,31 @@ part_total = subst IsTotalOrder (λ i a b. in_turn a b i)
 
 pub list_total : IsTotalOrder list_cmp
 list_total = on_total with_end (lists_total part_total)
+
+-- ---- the orders tell different values apart
+
+numbered_same : IsAntisymmetric numbered_cmp
+numbered_same m n e =
+    let numbers = nat_cmp-IsAntisymmetric m.0 n.0 (then_first _ _ e) in
+    let texts = bytes_same m.1 n.1 (then_second _ _ e) in
+    λ i. (numbers i, texts i)
+
+pub splits_same : IsAntisymmetric split_cmp
+splits_same v w e =
+    let texts = bytes_same v.before w.before (then_first _ _ e) in
+    let numbers = options_same numbered_same v.number w.number (then_second _ _ e) in
+    λ i. record { before = texts i; number = numbers i }
+
+pub parts_same : IsAntisymmetric part_cmp
+parts_same (Some (Word v)) (Some (Word w)) e = ap (λ s. Some (Word s)) (splits_same v w e)
+parts_same (Some (Word v)) None e = cc e
+parts_same (Some (Word v)) (Some (Number n t)) e = cc e
+parts_same None (Some (Word w)) e = cc e
+parts_same None None e = refl
+parts_same None (Some (Number n t)) e = cc e
+parts_same (Some (Number m s)) (Some (Word w)) e = cc e
+parts_same (Some (Number m s)) None e = cc e
+parts_same (Some (Number m s)) (Some (Number n t)) e =
+    let numbers = nat_cmp-IsAntisymmetric m n (then_first _ _ e) in
+    let suffixes = none_last_same splits_same s t (then_second _ _ e) in
+    λ i. Some (Number (numbers i) (suffixes i))

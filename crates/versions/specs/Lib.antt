@@ -6,6 +6,7 @@ pub mod KeyBytes
 pub mod KeyLaws
 pub mod KeyStream
 pub mod Matching
+pub mod MatchingLaws
 pub mod Mess
 pub mod MessLaws
 pub mod Op

@@ -1,0 +1,9 @@
+use Rattle.versions.proofs.RequirementsReading.{requirements_of-Some, requirements_of-spells, requirements_printed, requirements_unique}
+use Rattle.versions.proofs.laws.grammar.requirement_lists.Goals as goal
+
+pub returns : goal.returns
+returns c = record {
+  only = requirements_unique;
+  printed = requirements_printed;
+  answer = λ text list. (requirements_of-spells text list, requirements_of-Some text list);
+}
