@@ -1,6 +1,7 @@
 //! Streams of the bytes by which parts, lists of parts and releases compare. None of them takes memory.
 
 mod compare;
+mod few;
 mod list;
 mod piece;
 mod text;

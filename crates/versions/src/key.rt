@@ -102,21 +102,11 @@ impl<'a> KeyBytes<'a> {
     pub(crate) fn into_vec(self, alloc: Global) -> Result<Vec<u8>, AllocError>
         ensures { IfOk result (λ list. list.items ≡ self.entry) }
     {
-        let KeyBytes {
-            mut epoch,
-            mut body,
-            mut tail,
-        } = self;
+        let KeyBytes { epoch, body, tail } = self;
         let mut list = Vec::with_capacity(alloc, CAPACITY)?;
-        while let Some(byte) = epoch.next() {
-            list.push(byte)?;
-        }
-        while let Some(byte) = body.next() {
-            list.push(byte)?;
-        }
-        while let Some(byte) = tail.next() {
-            list.push(byte)?;
-        }
+        epoch.append_to(&mut list)?;
+        body.append_to(&mut list)?;
+        tail.append_to(&mut list)?;
         Ok(list)
     }
 

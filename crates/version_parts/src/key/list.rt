@@ -1,6 +1,6 @@
 //! The bytes of a list: those of its items in turn, and of its end.
 
-ghost use Rattle.std.specs.Prelude.{◌≡◌, ◌∷◌, ◌++◌, [], List, ℕ, Option, Some, None, map, if◌then◌else◌};
+ghost use Rattle.std.specs.Prelude.{◌≡◌, ◌∷◌, ◌++◌, [], List, ℕ, Option, Some, None, map, if◌then◌else◌, OnOk};
 ghost use Rattle.std.specs.Iterator.{item_count, YieldsFirst};
 ghost use Rattle.version_parts.specs.Chunk.{plain_chunk, chunk_text, PlainChunk};
 ghost use Rattle.version_parts.specs.Codes.{items_bytes, list_bytes};
@@ -12,6 +12,7 @@ ghost use Rattle.version_parts.specs.ReleaseOrder.{chunk_bytes};
 use crate::chunk::{Chunk, ReleaseChunk};
 use crate::key::{PartText, PieceBytes};
 use crate::mchunk::MChunk;
+use std::alloc::AllocError;
 use std::marker::{Model, PhantomData};
 use std::slice;
 
@@ -96,6 +97,37 @@ impl<'a, C: Code> ListBytes<'a, C> {
             ended: false,
         }
     }
+
+    /// Puts the bytes behind those of a list. The error is that there is no memory for them.
+    pub fn append_to(self, list: &mut Vec<u8>) -> Result<(), AllocError>
+        ensures { OnOk result (list.new.items ≡ list.old.items ++ self.entry) }
+    {
+        let ListBytes {
+            piece,
+            items,
+            last,
+            ended,
+        } = self;
+        piece.append_to(list)?;
+        append_items::<C>(items, list)?;
+        last.append_to(list)?;
+        if !ended {
+            list.push(C::end())?;
+        }
+        Ok(())
+    }
+}
+
+// Puts the bytes of items behind those of a list.
+fn append_items<C: Code>(items: &[C::Item], list: &mut Vec<u8>) -> Result<(), AllocError>
+    ensures { OnOk result (list.new.items ≡ list.old.items ++ items_bytes C.bytes (map C.key items.now)) }
+{
+    let mut rest = items;
+    while let Some((first, behind)) = rest.split_first() {
+        C::item(first).append_to(list)?;
+        rest = behind;
+    }
+    Ok(())
 }
 
 impl<'a, C: Code> Iterator for ListBytes<'a, C> {
@@ -130,24 +162,28 @@ pub trait AsPart {
     // The key of the part.
     ghost part: { Self → PartKey };
 
-    /// A text of that part, byte after byte. Takes no memory.
-    fn text(&self) -> PartText<'_>
-        ensures { part_key result ≡ part self.now };
+    /// The bytes of that part.
+    fn piece(&self) -> PieceBytes<'_>
+        ensures { result ≡ part_bytes (Some (part self.now)) };
 }
 
 impl AsPart for Chunk {
     ghost part = { λ chunk. part_key (chunk_text (plain_chunk chunk)) };
 
-    fn text(&self) -> PartText<'_> {
-        self.part_text()
+    #[tactic(auto, using(crate::proofs::ListBytes::plain_number))]
+    fn piece(&self) -> PieceBytes<'_> {
+        match self {
+            Chunk::Numeric(number) => PieceBytes::plain_part(*number),
+            Chunk::Alphanum(text) => PieceBytes::part(PartText::text(text.as_str())),
+        }
     }
 }
 
 impl AsPart for MChunk {
     ghost part = { λ chunk. part_key (mchunk_text (plain_mchunk chunk)) };
 
-    fn text(&self) -> PartText<'_> {
-        PartText::text(self.text())
+    fn piece(&self) -> PieceBytes<'_> {
+        PieceBytes::part(PartText::text(self.text()))
     }
 }
 
@@ -155,9 +191,8 @@ impl AsPart for MChunk {
 impl AsPart for u32 {
     ghost part = { λ number. Number number None };
 
-    #[tactic(auto, using(crate::proofs::ListBytes::plain_number))]
-    fn text(&self) -> PartText<'_> {
-        PartText::number(*self)
+    fn piece(&self) -> PieceBytes<'_> {
+        PieceBytes::plain_part(*self)
     }
 }
 
@@ -178,7 +213,7 @@ impl<T: AsPart> Code for Parts<T> {
     ghost begins = { part_begins };
 
     fn item(item: &T) -> PieceBytes<'_> {
-        PieceBytes::part(item.text())
+        item.piece()
     }
 
     fn end() -> u8 {
@@ -241,8 +276,8 @@ impl<'a> ListBytes<'a, Parts<u32>> {
     pub fn three(first: u32, second: &'a u32, third: u32) -> ListBytes<'a, Parts<u32>>
         ensures { result ≡ parts_bytes (Number first None ∷ Number second.now None ∷ Number third None ∷ []) }
     {
-        let first = PieceBytes::part(PartText::number(first));
-        let third = PieceBytes::part(PartText::number(third));
+        let first = PieceBytes::plain_part(first);
+        let third = PieceBytes::plain_part(third);
         ListBytes::between(first, slice::from_ref(second), third)
     }
 }

@@ -1,6 +1,6 @@
 //! The bytes of the body of a key: a list of parts.
 
-ghost use Rattle.std.specs.Prelude.{◌≡◌, ◌∷◌, ◌++◌, [], List, ℕ};
+ghost use Rattle.std.specs.Prelude.{◌≡◌, ◌∷◌, ◌++◌, [], List, ℕ, OnOk};
 ghost use Rattle.std.specs.Iterator.{item_count, YieldsFirst};
 ghost use Rattle.version_parts.specs.Body.{plain_chunks};
 ghost use Rattle.version_parts.specs.Last.{last_text, plain_last};
@@ -9,6 +9,7 @@ ghost use Rattle.versions.specs.Key.{plain};
 ghost use Rattle.versions.specs.Mess.{plain_mess};
 
 use crate::mess::Mess;
+use std::alloc::AllocError;
 use std::marker::Model;
 use version_parts::key::{ListBytes, Parts};
 use version_parts::{Chunk, Chunks, Last, MChunk};
@@ -54,6 +55,17 @@ impl<'a> BodyBytes<'a> {
         ensures { result ≡ parts_bytes (section_parts (plain_mess mess.now).first) }
     {
         BodyBytes(Body::Section(ListBytes::section(mess.chunks.as_slice())))
+    }
+
+    /// Puts the bytes behind those of a list. The error is that there is no memory for them.
+    pub fn append_to(self, list: &mut Vec<u8>) -> Result<(), AllocError>
+        ensures { OnOk result (list.new.items ≡ list.old.items ++ self.entry) }
+    {
+        match self.0 {
+            Body::Numbers(numbers) => numbers.append_to(list),
+            Body::Chunks(chunks) => chunks.append_to(list),
+            Body::Section(section) => section.append_to(list),
+        }
     }
 }
 

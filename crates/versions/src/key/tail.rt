@@ -1,6 +1,6 @@
 //! The bytes of the tail of a key: what stands behind the body.
 
-ghost use Rattle.std.specs.Prelude.{◌≡◌, ◌∷◌, ◌++◌, [], List, ℕ, Some};
+ghost use Rattle.std.specs.Prelude.{◌≡◌, ◌∷◌, ◌++◌, [], List, ℕ, Some, OnOk};
 ghost use Rattle.std.specs.Iterator.{item_count, YieldsFirst};
 ghost use Rattle.std.specs.Option.{option_map, option_map_or};
 ghost use Rattle.version_parts.specs.Release.{plain_release};
@@ -11,6 +11,7 @@ ghost use Rattle.versions.specs.Tail.{tail_bytes, Bare, PreReleased, Released};
 
 use crate::key::sections::SectionsBytes;
 use crate::mess::Mess;
+use std::alloc::AllocError;
 use std::marker::Model;
 use version_parts::key::ListBytes;
 use version_parts::{Release, ReleaseChunk};
@@ -83,6 +84,21 @@ impl<'a> TailBytes<'a> {
         TailBytes {
             rank: Some(rank),
             held,
+        }
+    }
+
+    /// Puts the bytes behind those of a list. The error is that there is no memory for them.
+    pub fn append_to(self, list: &mut Vec<u8>) -> Result<(), AllocError>
+        ensures { OnOk result (list.new.items ≡ list.old.items ++ self.entry) }
+    {
+        let TailBytes { rank, held } = self;
+        if let Some(rank) = rank {
+            list.push(rank)?;
+        }
+        match held {
+            Held::Nothing => Ok(()),
+            Held::Release(release) => release.append_to(list),
+            Held::Sections(sections) => sections.append_to(list),
         }
     }
 }
