@@ -30,6 +30,7 @@ impl Model for FewBytes {
 
 impl FewBytes {
     /// No byte.
+    #[inline(always)]
     pub(crate) fn none() -> FewBytes
         ensures { result ≡ [] }
     {
@@ -40,6 +41,7 @@ impl FewBytes {
     }
 
     /// One byte.
+    #[inline(always)]
     pub(crate) fn one(byte: u8) -> FewBytes
         ensures { result ≡ byte ∷ [] }
     {
@@ -58,6 +60,7 @@ impl FewBytes {
     }
 
     /// The bytes of a number: how many digits it has, and these.
+    #[inline(always)]
     pub(crate) fn number(number: u32) -> FewBytes
         ensures value { result ≡ number_bytes number }
         ensures short { length result ≤ 11 }
@@ -68,6 +71,7 @@ impl FewBytes {
     }
 
     /// A byte before the others.
+    #[inline(always)]
     pub(crate) fn put(&mut self, byte: u8)
         requires { length self.old < 13 }
         ensures { self.new ≡ byte ∷ self.old }
@@ -78,6 +82,7 @@ impl FewBytes {
 
     /// The bytes of a number before the others.
     #[tactic(auto, using(crate::proofs::FewBytes::number_put))]
+    #[inline(always)]
     pub(crate) fn put_number(&mut self, number: u32)
         requires { length self.old ≤ 1 }
         ensures value { self.new ≡ number_bytes number ++ self.old }
@@ -105,6 +110,7 @@ impl FewBytes {
     }
 
     /// The bytes as a slice.
+    #[inline(always)]
     pub(crate) fn as_slice(&self) -> &[u8]
         ensures value { result.now ≡ self.now }
         ensures short { length result.now ≤ 13 }

@@ -69,6 +69,7 @@ impl<'a, C: Code> ListBytes<'a, C> {
     }
 
     /// The bytes of the items and of the end of their list.
+    #[inline(always)]
     pub fn of(items: &'a [C::Item]) -> ListBytes<'a, C>
         ensures { result ≡ list_bytes C.bytes (map C.key items.now) }
     {
@@ -76,6 +77,7 @@ impl<'a, C: Code> ListBytes<'a, C> {
     }
 
     /// The bytes of the items, then those of one more that stands elsewhere, and of the end of the list.
+    #[inline(always)]
     pub fn with_last(items: &'a [C::Item], last: PieceBytes<'a>) -> ListBytes<'a, C>
         ensures { result ≡ items_bytes C.bytes (map C.key items.now) ++ (last.entry ++ C.bytes None) }
     {
@@ -83,6 +85,7 @@ impl<'a, C: Code> ListBytes<'a, C> {
     }
 
     // The bytes of the items between two that stand elsewhere, and of the end of the list.
+    #[inline(always)]
     fn between(
         first: PieceBytes<'a>,
         items: &'a [C::Item],
@@ -99,6 +102,7 @@ impl<'a, C: Code> ListBytes<'a, C> {
     }
 
     /// Puts the bytes behind those of a list. The error is that there is no memory for them.
+    #[inline(always)]
     pub fn append_to(self, list: &mut Vec<u8>) -> Result<(), AllocError>
         ensures { OnOk result (list.new.items ≡ list.old.items ++ self.entry) }
     {
@@ -119,6 +123,7 @@ impl<'a, C: Code> ListBytes<'a, C> {
 }
 
 // Puts the bytes of items behind those of a list.
+#[inline(always)]
 fn append_items<C: Code>(items: &[C::Item], list: &mut Vec<u8>) -> Result<(), AllocError>
     ensures { OnOk result (list.new.items ≡ list.old.items ++ items_bytes C.bytes (map C.key items.now)) }
 {
@@ -273,6 +278,7 @@ impl<'a> ListBytes<'a, Parts<MChunk>> {
 impl<'a> ListBytes<'a, Parts<u32>> {
     /// The bytes of three plain numbers, as a list of parts.
     #[tactic(auto, using(crate::proofs::ListBytes::three_written))]
+    #[inline(always)]
     pub fn three(first: u32, second: &'a u32, third: u32) -> ListBytes<'a, Parts<u32>>
         ensures { result ≡ parts_bytes (Number first None ∷ Number second.now None ∷ Number third None ∷ []) }
     {

@@ -237,6 +237,7 @@ impl<'a> Model for PieceBytes<'a> {
 
 impl<'a> PieceBytes<'a> {
     /// No byte.
+    #[inline(always)]
     pub fn none() -> PieceBytes<'a>
         ensures { result ≡ [] }
     {
@@ -252,6 +253,7 @@ impl<'a> PieceBytes<'a> {
     }
 
     /// The bytes of a plain number as a part.
+    #[inline(always)]
     pub fn plain_part(number: u32) -> PieceBytes<'a>
         ensures { result ≡ part_bytes (Some (Number number None)) }
     {
@@ -263,6 +265,7 @@ impl<'a> PieceBytes<'a> {
     }
 
     /// The bytes of a number: how many digits it has, and these.
+    #[inline(always)]
     pub fn number(number: u32) -> PieceBytes<'a>
         ensures { result ≡ number_bytes number }
     {
@@ -295,6 +298,7 @@ impl<'a> PieceBytes<'a> {
 
     /// The bytes of a chunk of a release.
     #[tactic(auto, using(crate::proofs::PieceBytes::alone))]
+    #[inline(always)]
     pub fn chunk(chunk: &'a Chunk) -> PieceBytes<'a>
         ensures { result ≡ chunk_bytes (Some (plain_chunk chunk.now)) }
     {
@@ -312,6 +316,7 @@ impl<'a> PieceBytes<'a> {
     }
 
     // Bytes that are ready, and those of a text that is read so.
+    #[inline(always)]
     fn at(ready: FewBytes, place: Place, text: PartText<'a>) -> PieceBytes<'a>
         ensures { result ≡ ready ++ place_bytes place text.entry }
     {
@@ -320,6 +325,7 @@ impl<'a> PieceBytes<'a> {
 
     // Bytes that are ready, and no more.
     #[tactic(auto, unfolding(crate::specs::Pieces::place_bytes, crate::specs::Pieces::behind_bytes))]
+    #[inline(always)]
     fn made(ready: FewBytes) -> PieceBytes<'a>
         ensures { result ≡ ready }
     {
@@ -327,6 +333,7 @@ impl<'a> PieceBytes<'a> {
     }
 
     /// Puts the bytes behind those of a list. The error is that there is no memory for them.
+    #[inline(always)]
     pub fn append_to(mut self, list: &mut Vec<u8>) -> Result<(), AllocError>
         ensures { OnOk result (list.new.items ≡ list.old.items ++ self.entry) }
     {

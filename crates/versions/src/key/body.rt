@@ -37,6 +37,7 @@ impl<'a> Model for BodyBytes<'a> {
 
 impl<'a> BodyBytes<'a> {
     /// The bytes of three plain numbers.
+    #[inline(always)]
     pub fn numbers(major: u32, minor: &'a u32, patch: u32) -> BodyBytes<'a>
         ensures { result ≡ parts_bytes (plain major ∷ plain minor.now ∷ plain patch ∷ []) }
     {
@@ -44,6 +45,7 @@ impl<'a> BodyBytes<'a> {
     }
 
     /// The bytes of chunks and of the last part behind them.
+    #[inline(always)]
     pub fn parts(chunks: &'a Chunks, last: &'a Last) -> BodyBytes<'a>
         ensures { result ≡ parts_bytes (chunk_parts (plain_chunks chunks.now) ++ part_key (last_text (plain_last last.now)) ∷ []) }
     {
@@ -51,6 +53,7 @@ impl<'a> BodyBytes<'a> {
     }
 
     /// The bytes of the chunks of the first section of a messy version.
+    #[inline(always)]
     pub fn section(mess: &'a Mess) -> BodyBytes<'a>
         ensures { result ≡ parts_bytes (section_parts (plain_mess mess.now).first) }
     {
@@ -58,6 +61,7 @@ impl<'a> BodyBytes<'a> {
     }
 
     /// Puts the bytes behind those of a list. The error is that there is no memory for them.
+    #[inline(always)]
     pub fn append_to(self, list: &mut Vec<u8>) -> Result<(), AllocError>
         ensures { OnOk result (list.new.items ≡ list.old.items ++ self.entry) }
     {

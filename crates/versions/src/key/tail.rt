@@ -43,6 +43,7 @@ impl<'a> Model for TailBytes<'a> {
 
 impl<'a> TailBytes<'a> {
     /// The bytes of a strict pre-release, or of nothing.
+    #[inline(always)]
     pub fn pre_release(pre_rel: &'a Option<Release>) -> TailBytes<'a>
         ensures { result ≡ tail_bytes (option_map_or PreReleased (option_map plain_release pre_rel.now) Bare) }
     {
@@ -53,6 +54,7 @@ impl<'a> TailBytes<'a> {
     }
 
     /// The bytes of a general release, or of nothing.
+    #[inline(always)]
     pub fn release(release: &'a Option<Release>) -> TailBytes<'a>
         ensures { result ≡ tail_bytes (option_map_or Released (option_map plain_release release.now) Bare) }
     {
@@ -63,6 +65,7 @@ impl<'a> TailBytes<'a> {
     }
 
     /// The bytes of the further sections of a messy version, or of nothing.
+    #[inline(always)]
     pub fn sections(mess: &'a Mess) -> TailBytes<'a>
         ensures { result ≡ tail_bytes (sections_tail (plain_mess mess.now).more) }
     {
@@ -72,12 +75,14 @@ impl<'a> TailBytes<'a> {
         }
     }
 
+    #[inline(always)]
     fn bare() -> TailBytes<'a>
         ensures { result ≡ tail_bytes Bare }
     {
         TailBytes::of(2, Held::Nothing)
     }
 
+    #[inline(always)]
     fn of(rank: u8, held: Held<'a>) -> TailBytes<'a>
         ensures { result ≡ rank ∷ held_left held.entry }
     {
@@ -88,6 +93,7 @@ impl<'a> TailBytes<'a> {
     }
 
     /// Puts the bytes behind those of a list. The error is that there is no memory for them.
+    #[inline(always)]
     pub fn append_to(self, list: &mut Vec<u8>) -> Result<(), AllocError>
         ensures { OnOk result (list.new.items ≡ list.old.items ++ self.entry) }
     {
