@@ -9,8 +9,8 @@ use Rattle.version_parts.proofs.NumberBytes.{length_bytes-short, number_bytes-de
 pub ten_digits : (n : ℕ) → n < 2 ^ 32 → length (decimal n) ≤ 10
 ten_digits n small = length-decimal-le 10 n (omega arith) (omega arith) (omega arith)
 
--- behind at most three bytes of thirteen there is room for them
-pub room : (n at : ℕ) (bytes : List ℕ) → n < 2 ^ 32 → length bytes ≡ 13 → length (drop at bytes) ≤ 3 → length (decimal n) ≤ at
+-- before at most three bytes of fourteen there is room for them
+pub room : (n at : ℕ) (bytes : List ℕ) → n < 2 ^ 32 → length bytes ≡ 14 → length (drop at bytes) ≤ 3 → length (decimal n) ≤ at
 room n at bytes small all left = omega (arith, ten_digits n small, length-drop at bytes)
 
 -- it is so many digits, and these

@@ -73,7 +73,7 @@ impl<'a> KeyBytes<'a> {
     {
         KeyBytes {
             epoch: PieceBytes::number(0),
-            body: BodyBytes::numbers(ideal.major, &ideal.minor, ideal.patch),
+            body: BodyBytes::numbers(ideal.major, ideal.minor, ideal.patch),
             tail: TailBytes::pre_release(&ideal.pre_rel),
         }
     }

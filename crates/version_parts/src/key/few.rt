@@ -5,15 +5,14 @@ ghost use Rattle.std.specs.Fmt.{decimal};
 ghost use Rattle.std.specs.Iterator.{item_count, YieldsFirst};
 ghost use Rattle.version_parts.specs.NumberBytes.{number_bytes};
 ghost use Rattle.version_parts.specs.PartKey.{part_bytes, Number};
-ghost use Rattle.version_parts.specs.ReleaseOrder.{chunk_bytes};
 
 use itoa::write_digits;
 use std::marker::Model;
 
-// As many as a plain number has as a part: two marks, how many digits it has, and ten digits.
-const MOST: usize = 13;
+// As many as a plain number has as a part at the end of a list: three marks, how many digits it has, and ten digits.
+const MOST: usize = 14;
 
-/// At most 13 bytes, seen as those that are still to come.
+/// At most 14 bytes, seen as those that are still to come.
 #[derive(Drop)]
 pub(crate) struct FewBytes {
     bytes: [u8; MOST],
@@ -25,7 +24,7 @@ impl Model for FewBytes {
 
     ghost view = { λ few. drop few.at few.bytes };
 
-    ghost invariant = { λ few. few.at ≤ 13 };
+    ghost invariant = { λ few. few.at ≤ 14 };
 }
 
 impl FewBytes {
@@ -70,21 +69,49 @@ impl FewBytes {
         few
     }
 
+    /// A plain number as a part.
+    pub(crate) fn plain_part(number: u32) -> FewBytes
+        ensures { result ≡ part_bytes (Some (Number number None)) }
+    {
+        let mut few = FewBytes::none();
+        few.put_plain_part(number);
+        few
+    }
+
+    /// A plain number as the last part of a list, and the end of that.
+    pub(crate) fn last_plain_part(number: u32) -> FewBytes
+        ensures { result ≡ part_bytes (Some (Number number None)) ++ part_bytes None }
+    {
+        let mut few = FewBytes::one(2);
+        few.put_plain_part(number);
+        few
+    }
+
     /// A byte before the others.
     #[inline(always)]
     pub(crate) fn put(&mut self, byte: u8)
-        requires { length self.old < 13 }
+        requires { length self.old < 14 }
         ensures { self.new ≡ byte ∷ self.old }
     {
         self.at -= 1;
         self.bytes[usize::from(self.at)] = byte;
     }
 
-    /// The bytes of a number before the others.
+    // A plain number as a part before the others.
+    fn put_plain_part(&mut self, number: u32)
+        requires { length self.old ≤ 1 }
+        ensures { self.new ≡ part_bytes (Some (Number number None)) ++ self.old }
+    {
+        self.put(2);
+        self.put_number(number);
+        self.put(3);
+    }
+
+    // The bytes of a number before the others.
     #[tactic(auto, using(crate::proofs::FewBytes::number_put))]
     #[inline(always)]
-    pub(crate) fn put_number(&mut self, number: u32)
-        requires { length self.old ≤ 1 }
+    fn put_number(&mut self, number: u32)
+        requires { length self.old ≤ 2 }
         ensures value { self.new ≡ number_bytes number ++ self.old }
         ensures short { length self.new ≤ 11 + length self.old }
     {
@@ -113,7 +140,7 @@ impl FewBytes {
     #[inline(always)]
     pub(crate) fn as_slice(&self) -> &[u8]
         ensures value { result.now ≡ self.now }
-        ensures short { length result.now ≤ 13 }
+        ensures short { length result.now ≤ 14 }
     {
         &self.bytes[usize::from(self.at)..]
     }

@@ -5,16 +5,17 @@ ghost use Rattle.std.specs.Iterator.{item_count, YieldsFirst};
 ghost use Rattle.version_parts.specs.Chunk.{plain_chunk, chunk_text, PlainChunk};
 ghost use Rattle.version_parts.specs.Codes.{items_bytes, list_bytes};
 ghost use Rattle.version_parts.specs.KeyLaws.{chunk_begins, part_begins};
+ghost use Rattle.version_parts.specs.Last.{last_text, plain_last};
 ghost use Rattle.version_parts.specs.MChunk.{mchunk_text, plain_mchunk};
-ghost use Rattle.version_parts.specs.PartKey.{chunk_parts, part_bytes, part_key, parts_bytes, section_parts, Number, PartKey};
+ghost use Rattle.version_parts.specs.PartKey.{chunk_parts, part_bytes, part_key, parts_bytes, section_parts, PartKey};
 ghost use Rattle.version_parts.specs.ReleaseOrder.{chunk_bytes};
 
 use crate::chunk::{Chunk, ReleaseChunk};
 use crate::key::{PartText, PieceBytes};
+use crate::last::Last;
 use crate::mchunk::MChunk;
 use std::alloc::AllocError;
 use std::marker::{Model, PhantomData};
-use std::slice;
 
 /// A kind of item that lists are written of, byte after byte.
 pub trait Code {
@@ -81,20 +82,8 @@ impl<'a, C: Code> ListBytes<'a, C> {
     pub fn with_last(items: &'a [C::Item], last: PieceBytes<'a>) -> ListBytes<'a, C>
         ensures { result ≡ items_bytes C.bytes (map C.key items.now) ++ (last.entry ++ C.bytes None) }
     {
-        ListBytes::between(PieceBytes::none(), items, last)
-    }
-
-    // The bytes of the items between two that stand elsewhere, and of the end of the list.
-    #[inline(always)]
-    fn between(
-        first: PieceBytes<'a>,
-        items: &'a [C::Item],
-        last: PieceBytes<'a>,
-    ) -> ListBytes<'a, C>
-        ensures { result ≡ first.entry ++ (items_bytes C.bytes (map C.key items.now) ++ (last.entry ++ C.bytes None)) }
-    {
         ListBytes {
-            piece: first,
+            piece: PieceBytes::none(),
             items,
             last,
             ended: false,
@@ -192,12 +181,15 @@ impl AsPart for MChunk {
     }
 }
 
-/// A plain number.
-impl AsPart for u32 {
-    ghost part = { λ number. Number number None };
+impl AsPart for Last {
+    ghost part = { λ last. part_key (last_text (plain_last last)) };
 
+    #[tactic(auto, using(crate::proofs::ListBytes::plain_number))]
     fn piece(&self) -> PieceBytes<'_> {
-        PieceBytes::plain_part(*self)
+        match self {
+            Last::Numeric(number) => PieceBytes::plain_part(*number),
+            _ => PieceBytes::part(self.part_text()),
+        }
     }
 }
 
@@ -272,18 +264,5 @@ impl<'a> ListBytes<'a, Parts<MChunk>> {
         ensures { result ≡ parts_bytes (section_parts (map plain_mchunk chunks.now)) }
     {
         ListBytes::of(chunks)
-    }
-}
-
-impl<'a> ListBytes<'a, Parts<u32>> {
-    /// The bytes of three plain numbers, as a list of parts.
-    #[tactic(auto, using(crate::proofs::ListBytes::three_written))]
-    #[inline(always)]
-    pub fn three(first: u32, second: &'a u32, third: u32) -> ListBytes<'a, Parts<u32>>
-        ensures { result ≡ parts_bytes (Number first None ∷ Number second.now None ∷ Number third None ∷ []) }
-    {
-        let first = PieceBytes::plain_part(first);
-        let third = PieceBytes::plain_part(third);
-        ListBytes::between(first, slice::from_ref(second), third)
     }
 }

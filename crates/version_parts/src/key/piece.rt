@@ -257,11 +257,7 @@ impl<'a> PieceBytes<'a> {
     pub fn plain_part(number: u32) -> PieceBytes<'a>
         ensures { result ≡ part_bytes (Some (Number number None)) }
     {
-        let mut bytes = FewBytes::none();
-        bytes.put(2);
-        bytes.put_number(number);
-        bytes.put(3);
-        PieceBytes::made(bytes)
+        PieceBytes::made(FewBytes::plain_part(number))
     }
 
     /// The bytes of a number: how many digits it has, and these.
