@@ -18,7 +18,6 @@ use Rattle.version_lines.specs.declared.entry.Entry.{Entry}
 use Rattle.versions.proofs.Orders.{key_bytes_alone}
 use Rattle.versions.proofs.SemVerOrder.{precedence_of_semvers}
 use Rattle.versions.specs.Key.{key_of, key_of_semver, precedence}
-use Rattle.versions.specs.Orders.{versioning_cmp}
 use Rattle.versions.specs.OrdersLaws.{versioning_cmp_total}
 use Rattle.versions.specs.Versioning.{Complex, General, Ideal, PlainVersioning, versioning_of, versioning_plain_cmp}
 use Rattle.version_lines.proofs.SortingLemmas.{AreAlike}
@@ -71,29 +70,23 @@ pub line_ranks : IsStrictWeakOrder (λ a b. is_lt (line_cmp a b))
 line_ranks = ranks_by line_total (λ (line : List ℕ). line)
 
 -- what was decided first needs no second look
-then_same : (first second : Ordering) → ordering_then first (ordering_then first second) ≡ ordering_then first second
-then_same Less second = refl
-then_same Equal second = refl
-then_same Greater second = refl
-
--- and what came out Equal needs no third
 then_twice : (first : Ordering) → ordering_then first Equal ≡ ordering_then first first
 then_twice Less = refl
 then_twice Equal = refl
 then_twice Greater = refl
 
 -- where keys tie, what is kept of two versions tells them apart as their fields do
-kept_alike : (a b : PlainVersioning) → ordering_then (precedence (key_of a) (key_of b)) (option_cmp versioning_cmp (kept_of a) (kept_of b))
+kept_alike : (a b : PlainVersioning) → ordering_then (precedence (key_of a) (key_of b)) (option_cmp versioning_plain_cmp (kept_of a) (kept_of b))
     ≡ ordering_then (precedence (key_of a) (key_of b)) (versioning_plain_cmp a b)
 kept_alike (Ideal a) (Ideal b) = then_twice (precedence (key_of_semver a) (key_of_semver b)) ∙ ap (ordering_then (precedence (key_of_semver a) (key_of_semver b))) (precedence_of_semvers a b)
 kept_alike (Ideal a) (General b) = refl
 kept_alike (Ideal a) (Complex b) = refl
 kept_alike (General a) (Ideal b) = refl
-kept_alike (General a) (General b) = then_same (precedence (key_of (General a)) (key_of (General b))) (versioning_plain_cmp (General a) (General b))
-kept_alike (General a) (Complex b) = then_same (precedence (key_of (General a)) (key_of (Complex b))) (versioning_plain_cmp (General a) (Complex b))
+kept_alike (General a) (General b) = refl
+kept_alike (General a) (Complex b) = refl
 kept_alike (Complex a) (Ideal b) = refl
-kept_alike (Complex a) (General b) = then_same (precedence (key_of (Complex a)) (key_of (General b))) (versioning_plain_cmp (Complex a) (General b))
-kept_alike (Complex a) (Complex b) = then_same (precedence (key_of (Complex a)) (key_of (Complex b))) (versioning_plain_cmp (Complex a) (Complex b))
+kept_alike (Complex a) (General b) = refl
+kept_alike (Complex a) (Complex b) = refl
 
 pub entries_alike : AreAlike IsRead entry_line entry_cmp line_cmp
 entries_alike a b (v, (a_line, (a_key, a_kept))) (w, (b_line, (b_key, b_kept))) =

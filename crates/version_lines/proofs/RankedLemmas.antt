@@ -17,8 +17,8 @@ use Rattle.version_lines.specs.Sort.{line_cmp, sort_output, whole_line}
 use Rattle.version_lines.specs.Sorting.{in_order}
 use Rattle.version_lines.specs.declared.entry.Entry.{Entry}
 use Rattle.version_lines.specs.declared.ranked.Ranked.{Ranked}
-use Rattle.versions.specs.Orders.{versioning_cmp}
-use Rattle.versions.specs.OrdersLaws.{versioning_cmp_total}
+use Rattle.versions.specs.Versioning.{versioning_plain_cmp}
+use Rattle.versions.specs.VersioningLaws.{versioning_plain_total}
 use Rattle.version_lines.proofs.EntryLemmas.{entries_alike}
 use Rattle.version_lines.proofs.HeadLemmas.{heads_first}
 use Rattle.version_lines.proofs.SortingLemmas.{AreAlike, in_order-map}
@@ -32,7 +32,7 @@ IsRanked ranked = HasHeads ranked × IsRead (ranked_entry ranked)
 pub ranked_ranks : IsStrictWeakOrder (λ a b. is_lt (ranked_cmp a b))
 ranked_ranks =
     ranks_by (then_total (on_total (λ (ranked : Ranked). ranked.first) nat_cmp_total) (then_total (on_total (λ (ranked : Ranked). ranked.second) nat_cmp_total)
-    (then_total (on_total (λ (ranked : Ranked). (ranked_entry ranked).key.items) nat_list_cmp_total) (on_total (λ (ranked : Ranked). kept_version (ranked_entry ranked)) (options_total versioning_cmp_total)))))
+    (then_total (on_total (λ (ranked : Ranked). (ranked_entry ranked).key.items) nat_list_cmp_total) (on_total (λ (ranked : Ranked). kept_version (ranked_entry ranked)) (options_total versioning_plain_total)))))
     (λ (ranked : Ranked). ranked)
 
 -- and that of the lines
@@ -40,7 +40,7 @@ ranked_ranks =
 ranked_alike : AreAlike IsRanked ranked_line ranked_cmp line_cmp
 ranked_alike a b (a_heads, a_read) (b_heads, b_read) =
     rw (a_heads.first, b_heads.first, a_heads.second, b_heads.second)
-    (heads_first (ranked_entry a).key.items (ranked_entry b).key.items (option_cmp versioning_cmp (kept_version (ranked_entry a)) (kept_version (ranked_entry b))) a_heads.bytes b_heads.bytes
+    (heads_first (ranked_entry a).key.items (ranked_entry b).key.items (option_cmp versioning_plain_cmp (kept_version (ranked_entry a)) (kept_version (ranked_entry b))) a_heads.bytes b_heads.bytes
     ∙ entries_alike (ranked_entry a) (ranked_entry b) a_read b_read)
 
 -- what is ranked was read, where the entries were

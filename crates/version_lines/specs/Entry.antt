@@ -7,8 +7,7 @@ use Rattle.version_lines.specs.declared.entry.Entry.{Entry}
 use Rattle.std.specs.Cmp.Lexicographic.{slice_cmp}
 use Rattle.versions.specs.Key.{key_of}
 use Rattle.versions.specs.KeyBytes.{key_bytes}
-use Rattle.versions.specs.Orders.{versioning_cmp}
-use Rattle.versions.specs.Versioning.{PlainVersioning, is_ideal, plain_versioning, versioning_of}
+use Rattle.versions.specs.Versioning.{PlainVersioning, is_ideal, plain_versioning, versioning_of, versioning_plain_cmp}
 
 -- the line of an entry
 abbrev pub entry_line : Entry → List ℕ
@@ -26,6 +25,6 @@ kept_of version = if is_ideal version then None else Some version
 abbrev pub IsRead : Entry → Type 0
 IsRead entry = (version : PlainVersioning) × ((versioning_of entry.line.now ≡ Some version) × ((entry.key.items ≡ key_bytes (key_of version)) × (kept_version entry ≡ kept_of version)))
 
--- two entries: by their keys, then by the versions that are kept, none before some
+-- two entries: by their keys, then by the versions that are kept, field by field, none before some
 abbrev pub entry_cmp : Entry → Entry → Ordering
-entry_cmp = then_cmp (on (λ (entry : Entry). entry.key.items) (slice_cmp nat_cmp)) (on kept_version (option_cmp versioning_cmp))
+entry_cmp = then_cmp (on (λ (entry : Entry). entry.key.items) (slice_cmp nat_cmp)) (on kept_version (option_cmp versioning_plain_cmp))

@@ -20,7 +20,7 @@ pub struct Entry<'a> {
 
 impl<'a> Entry<'a> {
     ghost use Rattle.version_lines.specs.Entry.{entry_cmp, entry_line, kept_version, IsRead};
-    ghost use Rattle.versions.specs.Orders.{versioning_cmp};
+    ghost use Rattle.versions.specs.Versioning.{versioning_plain_cmp};
     ghost use Rattle.std.specs.Option.{option_cmp};
     ghost use Rattle.version_lines.specs.Sort.{is_bad};
     ghost use Rattle.std.specs.Prelude.{IsTrue, IsSomeAnd};
@@ -41,7 +41,7 @@ impl<'a> Entry<'a> {
         Ok(Some(Entry { line, key, kept }))
     }
 
-    /// By the keys, and where those are the same as the versions compare that are kept.
+    /// By the keys, and where those are the same, by the versions that are kept.
     pub fn compare(&self, other: &Entry<'_>) -> Ordering
         ensures { result ≡ entry_cmp self.now other.now }
     {
@@ -51,12 +51,12 @@ impl<'a> Entry<'a> {
         }
     }
 
-    /// As the versions compare that are kept, none before some.
+    /// As the versions that are kept compare field by field, none before some.
     fn compare_kept(&self, other: &Entry<'_>) -> Ordering
-        ensures { result ≡ option_cmp versioning_cmp (kept_version self.now) (kept_version other.now) }
+        ensures { result ≡ option_cmp versioning_plain_cmp (kept_version self.now) (kept_version other.now) }
     {
         match (&self.kept, &other.kept) {
-            (Some(a), Some(b)) => a.as_ref().cmp(b.as_ref()),
+            (Some(a), Some(b)) => a.compare_plain(b),
             (Some(_), None) => Ordering::Greater,
             (None, Some(_)) => Ordering::Less,
             (None, None) => Ordering::Equal,

@@ -167,8 +167,9 @@ impl Versioning {
         key_list(alloc, self)
     }
 
-    // How two versions compare by their kinds, and then field by field.
-    fn compare_plain(&self, other: &Versioning) -> Ordering
+    /// How two versions compare by their kinds, and then field by field, which breaks the ties of precedence. Takes no
+    /// memory.
+    pub fn compare_plain(&self, other: &Versioning) -> Ordering
         ensures { result ≡ versioning_plain_cmp (plain_versioning self.now) (plain_versioning other.now) }
     {
         match (self, other) {

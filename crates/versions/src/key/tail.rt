@@ -94,14 +94,13 @@ impl<'a> TailBytes<'a> {
 
     /// Puts the bytes behind those of a list. The error is that there is no memory for them.
     #[inline(always)]
-    pub fn append_to(self, list: &mut Vec<u8>) -> Result<(), AllocError>
-        ensures { OnOk result (list.new.items ≡ list.old.items ++ self.entry) }
+    pub fn append_to(&mut self, list: &mut Vec<u8>) -> Result<(), AllocError>
+        ensures { OnOk result (list.new.items ≡ list.old.items ++ self.old) }
     {
-        let TailBytes { rank, held } = self;
-        if let Some(rank) = rank {
+        if let Some(rank) = self.rank {
             list.push(rank)?;
         }
-        match held {
+        match &mut self.held {
             Held::Nothing => Ok(()),
             Held::Release(release) => release.append_to(list),
             Held::Sections(sections) => sections.append_to(list),
