@@ -103,13 +103,14 @@ impl<'a> KeyBytes<'a> {
 
     // The bytes in a list, piece by piece. The error is that there is no memory for it.
     #[inline(always)]
-    fn into_vec(mut self, alloc: Global) -> Result<Vec<u8>, AllocError>
+    fn into_vec(self, alloc: Global) -> Result<Vec<u8>, AllocError>
         ensures { IfOk result (λ list. list.items ≡ self.entry) }
     {
+        let KeyBytes { epoch, body, tail } = self;
         let mut list = Vec::with_capacity(alloc, CAPACITY)?;
-        self.epoch.append_to(&mut list)?;
-        self.body.append_to(&mut list)?;
-        self.tail.append_to(&mut list)?;
+        epoch.append_to(&mut list)?;
+        body.append_to(&mut list)?;
+        tail.append_to(&mut list)?;
         Ok(list)
     }
 

@@ -92,13 +92,19 @@ impl<'a, C: Code> ListBytes<'a, C> {
 
     /// Puts the bytes behind those of a list. The error is that there is no memory for them.
     #[inline(always)]
-    pub fn append_to(&mut self, list: &mut Vec<u8>) -> Result<(), AllocError>
-        ensures { OnOk result (list.new.items ≡ list.old.items ++ self.old) }
+    pub fn append_to(self, list: &mut Vec<u8>) -> Result<(), AllocError>
+        ensures { OnOk result (list.new.items ≡ list.old.items ++ self.entry) }
     {
-        self.piece.append_to(list)?;
-        append_items::<C>(self.items, list)?;
-        self.last.append_to(list)?;
-        if !self.ended {
+        let ListBytes {
+            piece,
+            items,
+            last,
+            ended,
+        } = self;
+        piece.append_to(list)?;
+        append_items::<C>(items, list)?;
+        last.append_to(list)?;
+        if !ended {
             list.push(C::end())?;
         }
         Ok(())

@@ -37,8 +37,8 @@ impl NumbersBytes {
 
     /// Puts the bytes behind those of a list. The error is that there is no memory for them.
     #[inline(always)]
-    pub fn append_to(&self, list: &mut Vec<u8>) -> Result<(), AllocError>
-        ensures { OnOk result (list.new.items ≡ list.old.items ++ self.now) }
+    pub fn append_to(self, list: &mut Vec<u8>) -> Result<(), AllocError>
+        ensures { OnOk result (list.new.items ≡ list.old.items ++ self) }
     {
         list.extend_from_slice(self.first.as_slice())?;
         list.extend_from_slice(self.second.as_slice())?;

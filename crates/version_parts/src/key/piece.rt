@@ -330,8 +330,8 @@ impl<'a> PieceBytes<'a> {
 
     /// Puts the bytes behind those of a list. The error is that there is no memory for them.
     #[inline(always)]
-    pub fn append_to(&mut self, list: &mut Vec<u8>) -> Result<(), AllocError>
-        ensures { OnOk result (list.new.items ≡ list.old.items ++ self.old) }
+    pub fn append_to(mut self, list: &mut Vec<u8>) -> Result<(), AllocError>
+        ensures { OnOk result (list.new.items ≡ list.old.items ++ self.entry) }
     {
         list.extend_from_slice(self.ready.as_slice())?;
         self.ready = FewBytes::none();

@@ -63,10 +63,10 @@ impl<'a> BodyBytes<'a> {
 
     /// Puts the bytes behind those of a list. The error is that there is no memory for them.
     #[inline(always)]
-    pub fn append_to(&mut self, list: &mut Vec<u8>) -> Result<(), AllocError>
-        ensures { OnOk result (list.new.items ≡ list.old.items ++ self.old) }
+    pub fn append_to(self, list: &mut Vec<u8>) -> Result<(), AllocError>
+        ensures { OnOk result (list.new.items ≡ list.old.items ++ self.entry) }
     {
-        match &mut self.0 {
+        match self.0 {
             Body::Numbers(numbers) => numbers.append_to(list),
             Body::Chunks(chunks) => chunks.append_to(list),
             Body::Section(section) => section.append_to(list),

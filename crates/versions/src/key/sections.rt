@@ -43,8 +43,8 @@ impl<'a> SectionsBytes<'a> {
     }
 
     /// Puts the bytes behind those of a list. The error is that there is no memory for them.
-    pub fn append_to(&mut self, list: &mut Vec<u8>) -> Result<(), AllocError>
-        ensures { OnOk result (list.new.items ≡ list.old.items ++ self.old) }
+    pub fn append_to(mut self, list: &mut Vec<u8>) -> Result<(), AllocError>
+        ensures { OnOk result (list.new.items ≡ list.old.items ++ self.entry) }
     {
         while let Some(byte) = self.next() {
             list.push(byte)?;

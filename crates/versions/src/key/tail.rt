@@ -94,13 +94,14 @@ impl<'a> TailBytes<'a> {
 
     /// Puts the bytes behind those of a list. The error is that there is no memory for them.
     #[inline(always)]
-    pub fn append_to(&mut self, list: &mut Vec<u8>) -> Result<(), AllocError>
-        ensures { OnOk result (list.new.items ≡ list.old.items ++ self.old) }
+    pub fn append_to(self, list: &mut Vec<u8>) -> Result<(), AllocError>
+        ensures { OnOk result (list.new.items ≡ list.old.items ++ self.entry) }
     {
-        if let Some(rank) = self.rank {
+        let TailBytes { rank, held } = self;
+        if let Some(rank) = rank {
             list.push(rank)?;
         }
-        match &mut self.held {
+        match held {
             Held::Nothing => Ok(()),
             Held::Release(release) => release.append_to(list),
             Held::Sections(sections) => sections.append_to(list),
