@@ -4,7 +4,7 @@ use std::cmp::Ordering;
 use std::process::Abort;
 use std::test::Fail;
 use version_parts::key::{
-    ListBytes, PartText, PieceBytes, compare_bytes, compare_part_lists, compare_parts,
+    ListBytes, NumbersBytes, PartText, PieceBytes, compare_bytes, compare_part_lists, compare_parts,
 };
 use version_parts::{Chunk, Release};
 
@@ -115,7 +115,7 @@ fn lists_of_parts(rt: HostRuntime) -> Result<(), Fail> {
 
 #[test]
 fn three_numbers(rt: HostRuntime) -> Result<(), Fail> {
-    let bytes: Vec<u8> = ListBytes::three(1, &0, 10).collect(rt.alloc())?;
+    let bytes: Vec<u8> = NumbersBytes::three(1, 0, 10).collect(rt.alloc())?;
     assert_eq!(rt;
         bytes.as_slice(),
         b"\x03\x011\x02\x03\x00\x02\x03\x0210\x02\x02".as_slice()

@@ -3,6 +3,7 @@ use Rattle.std.proofs.Common.{◌≡◌, ℕ, ◌+◌, true, false, not, nat_lt,
 use Rattle.std.specs.Cmp.{IsStrictWeakOrder, IsTotalOrder}
 use Rattle.std.specs.Cmp.Lexicographic.{options_total}
 use Rattle.std.specs.List.{All, prefix_len}
+use Rattle.std.specs.Option.{option_cmp}
 use Rattle.std.specs.Ordering.{is_lt, ordering_then}
 use Rattle.std.specs.declared.cmp.Ordering.{Ordering}
 use Rattle.std.specs.declared.cmp.Ordering.TheVariants.{Less, Equal, Greater}
@@ -11,18 +12,19 @@ use Rattle.std.proofs.lemmas.Cmp.{on_total}
 use Rattle.std.proofs.lemmas.List.{length-map, map-append}
 use Rattle.std.proofs.lemmas.List.Elements.{All-head, All-tail}
 use Rattle.std.proofs.lemmas.List.Sorted.{ranks_by}
-use Rattle.version_lines.specs.Entry.{entry_cmp, entry_line, IsRead}
+use Rattle.version_lines.specs.Entry.{entry_cmp, entry_line, kept_of, IsRead}
 use Rattle.version_lines.specs.Sort.{bad_line, is_bad, line_cmp}
 use Rattle.version_lines.specs.declared.entry.Entry.{Entry}
 use Rattle.versions.proofs.Orders.{key_bytes_alone}
-use Rattle.versions.specs.Key.{key_of, precedence}
+use Rattle.versions.proofs.SemVerOrder.{precedence_of_semvers}
+use Rattle.versions.specs.Key.{key_of, key_of_semver, precedence}
 use Rattle.versions.specs.OrdersLaws.{versioning_cmp_total}
-use Rattle.versions.specs.Versioning.{plain_versioning, versioning_of, versioning_plain_cmp}
+use Rattle.versions.specs.Versioning.{Complex, General, Ideal, PlainVersioning, versioning_of, versioning_plain_cmp}
 use Rattle.version_lines.proofs.SortingLemmas.{AreAlike}
 
 -- the line of an entry is a version
 good_line : (entry : Entry) → IsRead entry → is_bad (entry_line entry) ≡ false
-good_line entry read = rw read.0 refl
+good_line entry read = rw read.1.0 refl
 
 -- the lines of entries are no bad lines
 good_lines : (entries : List Entry) (more : List (List ℕ)) → All IsRead entries
@@ -68,12 +70,24 @@ pub line_ranks : IsStrictWeakOrder (λ a b. is_lt (line_cmp a b))
 line_ranks = ranks_by line_total (λ (line : List ℕ). line)
 
 -- what was decided first needs no second look
-then_same : (first second : Ordering) → ordering_then first (ordering_then first second) ≡ ordering_then first second
-then_same Less second = refl
-then_same Equal second = refl
-then_same Greater second = refl
+then_twice : (first : Ordering) → ordering_then first Equal ≡ ordering_then first first
+then_twice Less = refl
+then_twice Equal = refl
+then_twice Greater = refl
+
+-- where keys tie, what is kept of two versions tells them apart as their fields do
+kept_alike : (a b : PlainVersioning) → ordering_then (precedence (key_of a) (key_of b)) (option_cmp versioning_plain_cmp (kept_of a) (kept_of b))
+    ≡ ordering_then (precedence (key_of a) (key_of b)) (versioning_plain_cmp a b)
+kept_alike (Ideal a) (Ideal b) = then_twice (precedence (key_of_semver a) (key_of_semver b)) ∙ ap (ordering_then (precedence (key_of_semver a) (key_of_semver b))) (precedence_of_semvers a b)
+kept_alike (Ideal a) (General b) = refl
+kept_alike (Ideal a) (Complex b) = refl
+kept_alike (General a) (Ideal b) = refl
+kept_alike (General a) (General b) = refl
+kept_alike (General a) (Complex b) = refl
+kept_alike (Complex a) (Ideal b) = refl
+kept_alike (Complex a) (General b) = refl
+kept_alike (Complex a) (Complex b) = refl
 
 pub entries_alike : AreAlike IsRead entry_line entry_cmp line_cmp
-entries_alike a b a_read b_read =
-    rw (a_read.0, b_read.0, a_read.1, b_read.1, key_bytes_alone (key_of (plain_versioning a.version)) (key_of (plain_versioning b.version)))
-    (then_same (precedence (key_of (plain_versioning a.version)) (key_of (plain_versioning b.version))) (versioning_plain_cmp (plain_versioning a.version) (plain_versioning b.version)))
+entries_alike a b (v, (a_line, (a_key, a_kept))) (w, (b_line, (b_key, b_kept))) =
+    rw (a_line, b_line, a_key, b_key, a_kept, b_kept, key_bytes_alone (key_of v) (key_of w)) (kept_alike v w)

@@ -1,23 +1,24 @@
 -- Lines as they are sorted: they compare as their lines do, and in order they are the lines in order.
 use Rattle.std.proofs.Common.{◌≡◌, ℕ, ◌+◌, ◌<◌, List, [], ◌∷◌, ◌++◌, length, map, drop, take, get_or, refl, sym, ap, ◌∙◌, add-one}
 use Rattle.std.specs.Cmp.{IsStrictWeakOrder, nat_cmp_total}
+use Rattle.std.specs.Cmp.Lexicographic.{options_total}
 use Rattle.std.specs.List.{All}
+use Rattle.std.specs.Option.{option_cmp}
 use Rattle.std.specs.Ordering.{is_lt}
 use Rattle.std.proofs.Math.Seq.{drop-cons}
 use Rattle.std.proofs.lemmas.Cmp.{nat_list_cmp_total, on_total, then_total}
 use Rattle.std.proofs.lemmas.List.{map-append, take_more}
 use Rattle.std.proofs.lemmas.List.Elements.{All-cons, All-head, All-nil, All-tail}
 use Rattle.std.proofs.lemmas.List.Sorted.{ranks_by}
-use Rattle.version_lines.specs.Entry.{entry_line, IsRead}
+use Rattle.version_lines.specs.Entry.{entry_line, kept_version, IsRead}
 use Rattle.version_lines.specs.Lines.{lines_of, lines_output, whole_line}
 use Rattle.version_lines.specs.Ranked.{ranked_cmp, ranked_entry, ranked_line, HasHeads}
 use Rattle.version_lines.specs.Sort.{line_cmp, sort_output}
 use Rattle.version_lines.specs.Sorting.{in_order}
 use Rattle.version_lines.specs.declared.entry.Entry.{Entry}
 use Rattle.version_lines.specs.declared.ranked.Ranked.{Ranked}
-use Rattle.versions.specs.Orders.{versioning_cmp}
-use Rattle.versions.specs.OrdersLaws.{versioning_cmp_total}
-use Rattle.versions.specs.Versioning.{plain_versioning}
+use Rattle.versions.specs.Versioning.{versioning_plain_cmp}
+use Rattle.versions.specs.VersioningLaws.{versioning_plain_total}
 use Rattle.version_lines.proofs.EntryLemmas.{entries_alike}
 use Rattle.version_lines.proofs.HeadLemmas.{heads_first}
 use Rattle.version_lines.proofs.SortingLemmas.{AreAlike, in_order-map}
@@ -31,7 +32,7 @@ IsRanked ranked = HasHeads ranked × IsRead (ranked_entry ranked)
 pub ranked_ranks : IsStrictWeakOrder (λ a b. is_lt (ranked_cmp a b))
 ranked_ranks =
     ranks_by (then_total (on_total (λ (ranked : Ranked). ranked.first) nat_cmp_total) (then_total (on_total (λ (ranked : Ranked). ranked.second) nat_cmp_total)
-    (then_total (on_total (λ (ranked : Ranked). (ranked_entry ranked).key.items) nat_list_cmp_total) (on_total (λ (ranked : Ranked). plain_versioning (ranked_entry ranked).version) versioning_cmp_total))))
+    (then_total (on_total (λ (ranked : Ranked). (ranked_entry ranked).key.items) nat_list_cmp_total) (on_total (λ (ranked : Ranked). kept_version (ranked_entry ranked)) (options_total versioning_plain_total)))))
     (λ (ranked : Ranked). ranked)
 
 -- and that of the lines
@@ -39,7 +40,7 @@ ranked_ranks =
 ranked_alike : AreAlike IsRanked ranked_line ranked_cmp line_cmp
 ranked_alike a b (a_heads, a_read) (b_heads, b_read) =
     rw (a_heads.first, b_heads.first, a_heads.second, b_heads.second)
-    (heads_first (ranked_entry a).key.items (ranked_entry b).key.items (versioning_cmp (plain_versioning (ranked_entry a).version) (plain_versioning (ranked_entry b).version)) a_heads.bytes b_heads.bytes
+    (heads_first (ranked_entry a).key.items (ranked_entry b).key.items (option_cmp versioning_plain_cmp (kept_version (ranked_entry a)) (kept_version (ranked_entry b))) a_heads.bytes b_heads.bytes
     ∙ entries_alike (ranked_entry a) (ranked_entry b) a_read b_read)
 
 -- what is ranked was read, where the entries were

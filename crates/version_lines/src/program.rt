@@ -37,9 +37,9 @@ use std::io::{Read, Write};
 /// [`Fault::Read`] where that isn't the whole input. Nothing is flushed.
 ///
 /// It takes memory for the whole input, for two buffers of 64 KiB, and for one version at a time. `sort` takes it for
-/// the version and the sort key of every line, and for a list of them that it sorts with as much again; `match` for its
-/// requirements; `cmp` for two versions; `key` for a version, its sort key and the line; and a word that is told for its
-/// copy.
+/// the sort key of every line, for each version that isn't strict, and for a list that it sorts with as much again;
+/// `match` for its requirements; `cmp` for two versions; `key` for a version, its sort key and the line; and a word that
+/// is told for its copy.
 pub fn run<R: Read, W: Write>(
     alloc: Global,
     words: &[String],

@@ -7,6 +7,7 @@ pub mod DigitRun
 pub mod Dotted
 pub mod DottedScan
 pub mod Fed
+pub mod FewBytes
 pub mod LastReading
 pub mod ListBytes
 pub mod MChunkReading

@@ -46,10 +46,3 @@ pub plain_number : (n : ℕ) → n < 2 ^ 32 → part_key (decimal n) ≡ Number 
 plain_number n small =
     let fits : n < 2 ^ 64 = omega arith in
     part_key-decimal n fits
-
-pub three_written : (a b c : ℕ) → a < 2 ^ 32 → c < 2 ^ 32
-    → part_bytes (Some (part_key (decimal a))) ++ (items_bytes part_bytes (Number b None ∷ []) ++ (part_bytes (Some (part_key (decimal c))) ++ part_bytes None))
-    ≡ parts_bytes (Number a None ∷ Number b None ∷ Number c None ∷ [])
-three_written a b c small_a small_c =
-    (λ i. part_bytes (Some (plain_number a small_a i)) ++ (items_bytes part_bytes (Number b None ∷ []) ++ (part_bytes (Some (plain_number c small_c i)) ++ part_bytes None)))
-    ∙ ap (λ (l : List ℕ). part_bytes (Some (Number a None)) ++ l) (last_written (Number b None ∷ []) (Number c None))

@@ -1,11 +1,14 @@
 //! Streams of the bytes by which parts, lists of parts and releases compare. None of them takes memory.
 
 mod compare;
+mod few;
 mod list;
+mod numbers;
 mod piece;
 mod text;
 
 pub use compare::{compare_bytes, compare_part_lists, compare_parts};
 pub use list::{AsPart, Code, ListBytes, Parts};
+pub use numbers::NumbersBytes;
 pub use piece::PieceBytes;
 pub use text::PartText;

@@ -67,17 +67,19 @@ impl<'a> KeyBytes<'a> {
     }
 
     // The bytes of the key of a strict version.
+    #[inline(always)]
     pub(crate) fn of_semver(ideal: &'a SemVer) -> KeyBytes<'a>
         ensures { result ≡ key_bytes (key_of_semver (plain_semver ideal.now)) }
     {
         KeyBytes {
             epoch: PieceBytes::number(0),
-            body: BodyBytes::numbers(ideal.major, &ideal.minor, ideal.patch),
+            body: BodyBytes::numbers(ideal.major, ideal.minor, ideal.patch),
             tail: TailBytes::pre_release(&ideal.pre_rel),
         }
     }
 
     // The bytes of the key of a general version.
+    #[inline(always)]
     pub(crate) fn of_version(general: &'a Version) -> KeyBytes<'a>
         ensures { result ≡ key_bytes (key_of_version (plain_version general.now)) }
     {
@@ -89,6 +91,7 @@ impl<'a> KeyBytes<'a> {
     }
 
     // The bytes of the key of a messy version.
+    #[inline(always)]
     pub(crate) fn of_mess(complex: &'a Mess) -> KeyBytes<'a>
         ensures { result ≡ key_bytes (key_of_mess (plain_mess complex.now)) }
     {
@@ -99,28 +102,20 @@ impl<'a> KeyBytes<'a> {
     }
 
     // The bytes in a list, piece by piece. The error is that there is no memory for it.
-    pub(crate) fn into_vec(self, alloc: Global) -> Result<Vec<u8>, AllocError>
+    #[inline(always)]
+    fn into_vec(self, alloc: Global) -> Result<Vec<u8>, AllocError>
         ensures { IfOk result (λ list. list.items ≡ self.entry) }
     {
-        let KeyBytes {
-            mut epoch,
-            mut body,
-            mut tail,
-        } = self;
+        let KeyBytes { epoch, body, tail } = self;
         let mut list = Vec::with_capacity(alloc, CAPACITY)?;
-        while let Some(byte) = epoch.next() {
-            list.push(byte)?;
-        }
-        while let Some(byte) = body.next() {
-            list.push(byte)?;
-        }
-        while let Some(byte) = tail.next() {
-            list.push(byte)?;
-        }
+        epoch.append_to(&mut list)?;
+        body.append_to(&mut list)?;
+        tail.append_to(&mut list)?;
         Ok(list)
     }
 
     // The bytes of an epoch, and of the sections behind it.
+    #[inline(always)]
     fn behind(epoch: PieceBytes<'a>, sections: &'a Mess) -> KeyBytes<'a>
         ensures { (n : ℕ) → epoch.entry ≡ number_bytes n → result ≡ key_bytes (key_of_sections n (plain_mess sections.now).first (plain_mess sections.now).more) }
     {
@@ -170,6 +165,17 @@ impl<'a> Iterator for KeyBytes<'a> {
             return Some(byte);
         }
         self.tail.next()
+    }
+}
+
+// The bytes of the key of a version of any kind, in a list. The error is that there is no memory for it.
+pub(crate) fn key_list(alloc: Global, version: &Versioning) -> Result<Vec<u8>, AllocError>
+    ensures { IfOk result (λ list. list.items ≡ key_bytes (key_of (plain_versioning version.now))) }
+{
+    match version {
+        Versioning::Ideal(ideal) => KeyBytes::of_semver(ideal).into_vec(alloc),
+        Versioning::General(general) => KeyBytes::of_version(general).into_vec(alloc),
+        Versioning::Complex(complex) => KeyBytes::of_mess(complex).into_vec(alloc),
     }
 }
 

@@ -3,7 +3,8 @@
 //! A strict version (`SemVer`) is `major.minor.patch` with a pre-release and build metadata, as in `1.2.3-rc.1+x86`.
 //! A general version (`Version`) is what most packages carry: parts joined by dots, perhaps with an epoch before them,
 //! a release and metadata, as in `1:2.0rc1-3`. A messy version (`Mess`) is whatever else is made of letters, digits and
-//! single signs, as `10.2+0.93+1-1`. A `Versioning` is the first of these that fits.
+//! single signs, as `10.2+0.93+1-1`. A `Versioning` is the first of these that fits. A `Requirement`, as `^1.2.3`, asks
+//! for versions, and a list of them, a `Requirements`, for those that each member asks for.
 #![tactic(auto)]
 
 mod conversions;

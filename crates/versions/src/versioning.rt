@@ -19,7 +19,7 @@ ghost use Rattle.versions.specs.Versioning as plain;
 ghost use Rattle.versions.specs.VersioningLaws.{versioning_plain_total, versions_fed_alike};
 
 use crate::errors::{Error, ReadError};
-use crate::key::{KeyBytes, compare_keys};
+use crate::key::{KeyBytes, compare_keys, key_list};
 use crate::mess::Mess;
 use crate::reading::or_illegal;
 use crate::semver::SemVer;
@@ -171,11 +171,12 @@ impl Versioning {
         ensures followed { IfOk result (λ key. (k : Key) (x y : List ℕ) → ¬ (precedence (key_of (plain_versioning self.now)) k ≡ Equal)
             → bytes_cmp (key.items ++ x) (key_bytes k ++ y) ≡ precedence (key_of (plain_versioning self.now)) k) }
     {
-        self.key_bytes().into_vec(alloc)
+        key_list(alloc, self)
     }
 
-    // How two versions compare by their kinds, and then field by field.
-    fn compare_plain(&self, other: &Versioning) -> Ordering
+    /// How two versions compare by their kinds, and then field by field, which breaks the ties of precedence. Takes no
+    /// memory.
+    pub fn compare_plain(&self, other: &Versioning) -> Ordering
         ensures { result ≡ versioning_plain_cmp (plain_versioning self.now) (plain_versioning other.now) }
     {
         match (self, other) {

@@ -1,19 +1,21 @@
 //! The bytes of a list: those of its items in turn, and of its end.
 
-ghost use Rattle.std.specs.Prelude.{◌≡◌, ◌∷◌, ◌++◌, [], List, ℕ, Option, Some, None, map, if◌then◌else◌};
+ghost use Rattle.std.specs.Prelude.{◌≡◌, ◌∷◌, ◌++◌, [], List, ℕ, Option, Some, None, map, if◌then◌else◌, OnOk};
 ghost use Rattle.std.specs.Iterator.{item_count, YieldsFirst};
 ghost use Rattle.version_parts.specs.Chunk.{plain_chunk, chunk_text, PlainChunk};
 ghost use Rattle.version_parts.specs.Codes.{items_bytes, list_bytes};
 ghost use Rattle.version_parts.specs.KeyLaws.{chunk_begins, part_begins};
+ghost use Rattle.version_parts.specs.Last.{last_text, plain_last};
 ghost use Rattle.version_parts.specs.MChunk.{mchunk_text, plain_mchunk};
-ghost use Rattle.version_parts.specs.PartKey.{chunk_parts, part_bytes, part_key, parts_bytes, section_parts, Number, PartKey};
+ghost use Rattle.version_parts.specs.PartKey.{chunk_parts, part_bytes, part_key, parts_bytes, section_parts, PartKey};
 ghost use Rattle.version_parts.specs.ReleaseOrder.{chunk_bytes};
 
 use crate::chunk::{Chunk, ReleaseChunk};
 use crate::key::{PartText, PieceBytes};
+use crate::last::Last;
 use crate::mchunk::MChunk;
+use std::alloc::AllocError;
 use std::marker::{Model, PhantomData};
-use std::slice;
 
 /// A kind of item that lists are written of, byte after byte.
 pub trait Code {
@@ -68,6 +70,7 @@ impl<'a, C: Code> ListBytes<'a, C> {
     }
 
     /// The bytes of the items and of the end of their list.
+    #[inline(always)]
     pub fn of(items: &'a [C::Item]) -> ListBytes<'a, C>
         ensures { result ≡ list_bytes C.bytes (map C.key items.now) }
     {
@@ -75,27 +78,50 @@ impl<'a, C: Code> ListBytes<'a, C> {
     }
 
     /// The bytes of the items, then those of one more that stands elsewhere, and of the end of the list.
+    #[inline(always)]
     pub fn with_last(items: &'a [C::Item], last: PieceBytes<'a>) -> ListBytes<'a, C>
         ensures { result ≡ items_bytes C.bytes (map C.key items.now) ++ (last.entry ++ C.bytes None) }
     {
-        ListBytes::between(PieceBytes::none(), items, last)
-    }
-
-    // The bytes of the items between two that stand elsewhere, and of the end of the list.
-    fn between(
-        first: PieceBytes<'a>,
-        items: &'a [C::Item],
-        last: PieceBytes<'a>,
-    ) -> ListBytes<'a, C>
-        ensures { result ≡ first.entry ++ (items_bytes C.bytes (map C.key items.now) ++ (last.entry ++ C.bytes None)) }
-    {
         ListBytes {
-            piece: first,
+            piece: PieceBytes::none(),
             items,
             last,
             ended: false,
         }
     }
+
+    /// Puts the bytes behind those of a list. The error is that there is no memory for them.
+    #[inline(always)]
+    pub fn append_to(self, list: &mut Vec<u8>) -> Result<(), AllocError>
+        ensures { OnOk result (list.new.items ≡ list.old.items ++ self.entry) }
+    {
+        let ListBytes {
+            piece,
+            items,
+            last,
+            ended,
+        } = self;
+        piece.append_to(list)?;
+        append_items::<C>(items, list)?;
+        last.append_to(list)?;
+        if !ended {
+            list.push(C::end())?;
+        }
+        Ok(())
+    }
+}
+
+// Puts the bytes of items behind those of a list.
+#[inline(always)]
+fn append_items<C: Code>(items: &[C::Item], list: &mut Vec<u8>) -> Result<(), AllocError>
+    ensures { OnOk result (list.new.items ≡ list.old.items ++ items_bytes C.bytes (map C.key items.now)) }
+{
+    let mut rest = items;
+    while let Some((first, behind)) = rest.split_first() {
+        C::item(first).append_to(list)?;
+        rest = behind;
+    }
+    Ok(())
 }
 
 impl<'a, C: Code> Iterator for ListBytes<'a, C> {
@@ -130,34 +156,40 @@ pub trait AsPart {
     // The key of the part.
     ghost part: { Self → PartKey };
 
-    /// A text of that part, byte after byte. Takes no memory.
-    fn text(&self) -> PartText<'_>
-        ensures { part_key result ≡ part self.now };
+    /// The bytes of that part.
+    fn piece(&self) -> PieceBytes<'_>
+        ensures { result ≡ part_bytes (Some (part self.now)) };
 }
 
 impl AsPart for Chunk {
     ghost part = { λ chunk. part_key (chunk_text (plain_chunk chunk)) };
 
-    fn text(&self) -> PartText<'_> {
-        self.part_text()
+    #[tactic(auto, using(crate::proofs::ListBytes::plain_number))]
+    fn piece(&self) -> PieceBytes<'_> {
+        match self {
+            Chunk::Numeric(number) => PieceBytes::plain_part(*number),
+            Chunk::Alphanum(text) => PieceBytes::part(PartText::text(text.as_str())),
+        }
     }
 }
 
 impl AsPart for MChunk {
     ghost part = { λ chunk. part_key (mchunk_text (plain_mchunk chunk)) };
 
-    fn text(&self) -> PartText<'_> {
-        PartText::text(self.text())
+    fn piece(&self) -> PieceBytes<'_> {
+        PieceBytes::part(PartText::text(self.text()))
     }
 }
 
-/// A plain number.
-impl AsPart for u32 {
-    ghost part = { λ number. Number number None };
+impl AsPart for Last {
+    ghost part = { λ last. part_key (last_text (plain_last last)) };
 
     #[tactic(auto, using(crate::proofs::ListBytes::plain_number))]
-    fn text(&self) -> PartText<'_> {
-        PartText::number(*self)
+    fn piece(&self) -> PieceBytes<'_> {
+        match self {
+            Last::Numeric(number) => PieceBytes::plain_part(*number),
+            _ => PieceBytes::part(self.part_text()),
+        }
     }
 }
 
@@ -178,7 +210,7 @@ impl<T: AsPart> Code for Parts<T> {
     ghost begins = { part_begins };
 
     fn item(item: &T) -> PieceBytes<'_> {
-        PieceBytes::part(item.text())
+        item.piece()
     }
 
     fn end() -> u8 {
@@ -232,17 +264,5 @@ impl<'a> ListBytes<'a, Parts<MChunk>> {
         ensures { result ≡ parts_bytes (section_parts (map plain_mchunk chunks.now)) }
     {
         ListBytes::of(chunks)
-    }
-}
-
-impl<'a> ListBytes<'a, Parts<u32>> {
-    /// The bytes of three plain numbers, as a list of parts.
-    #[tactic(auto, using(crate::proofs::ListBytes::three_written))]
-    pub fn three(first: u32, second: &'a u32, third: u32) -> ListBytes<'a, Parts<u32>>
-        ensures { result ≡ parts_bytes (Number first None ∷ Number second.now None ∷ Number third None ∷ []) }
-    {
-        let first = PieceBytes::part(PartText::number(first));
-        let third = PieceBytes::part(PartText::number(third));
-        ListBytes::between(first, slice::from_ref(second), third)
     }
 }

@@ -1,6 +1,6 @@
 //! The bytes of one piece of a key: of a part, of a number or of a text.
 
-ghost use Rattle.std.specs.Prelude.{◌≡◌, ◌∷◌, ◌++◌, [], List, ℕ, Some, None, IfNone, IfSome};
+ghost use Rattle.std.specs.Prelude.{◌≡◌, ◌∷◌, ◌++◌, [], List, ℕ, Some, None, IfNone, IfSome, OnOk};
 ghost use Rattle.std.specs.Char.{is_ascii_digit};
 ghost use Rattle.std.specs.Iterator.{item_count, YieldsFirst};
 ghost use Rattle.std.specs.List.{take_while};
@@ -9,13 +9,15 @@ ghost use Rattle.std.specs.Str.Parse.{digits_value};
 ghost use Rattle.version_parts.specs.Chunk.{plain_chunk};
 ghost use Rattle.version_parts.specs.DigitRun.{starts_with_digit};
 ghost use Rattle.version_parts.specs.NumberBytes.{length_bytes, number_bytes};
-ghost use Rattle.version_parts.specs.PartKey.{part_bytes, part_key};
+ghost use Rattle.version_parts.specs.PartKey.{part_bytes, part_key, Number};
 ghost use Rattle.version_parts.specs.Pieces.{behind_bytes, counted_bytes, place_bytes, run_bytes, step_bytes};
 ghost use Rattle.version_parts.specs.ReleaseOrder.{chunk_bytes};
 ghost use Rattle.version_parts.specs.TextBytes.{text_byte, text_bytes};
 
 use crate::chunk::Chunk;
 use crate::key::PartText;
+use crate::key::few::FewBytes;
+use std::alloc::AllocError;
 use std::marker::Model;
 
 // What is read behind a number.
@@ -213,33 +215,33 @@ fn text_step(text: &mut PartText<'_>) -> Step
     }
 }
 
-/// The bytes of a part, of a number or of a text, seen as those that are still to come. It takes no memory; a run of
-/// digits is counted once, so that all bytes together take time that grows with the text.
+/// The bytes of a part, of a number or of a text, seen as those that are still to come. A number of 32 bits is made at
+/// once, and waits in a small array. It takes no memory; a run of digits is counted once, so that all bytes together
+/// take time that grows with the text.
 #[derive(Drop)]
 pub struct PieceBytes<'a> {
+    ready: FewBytes,
     text: PartText<'a>,
-    ready: Option<u8>,
     place: Place,
 }
 
 impl<'a> Model for PieceBytes<'a> {
     ghost use Rattle.std.specs.Prelude.{List, ℕ, ◌++◌};
-    ghost use Rattle.std.specs.Option.{option_to_list};
 
     ghost Value = { List ℕ };
 
     ghost use Rattle.version_parts.specs.Pieces.{place_bytes};
 
-    ghost view = { λ piece. option_to_list piece.ready ++ place_bytes piece.place piece.text };
+    ghost view = { λ piece. piece.ready ++ place_bytes piece.place piece.text };
 }
 
 impl<'a> PieceBytes<'a> {
     /// No byte.
-    #[tactic(auto, unfolding(crate::specs::Pieces::place_bytes, crate::specs::Pieces::behind_bytes))]
+    #[inline(always)]
     pub fn none() -> PieceBytes<'a>
         ensures { result ≡ [] }
     {
-        PieceBytes::at(None, Place::Rest(Behind::Nothing), PartText::text(""))
+        PieceBytes::made(FewBytes::none())
     }
 
     /// The bytes of a part, by its printed text.
@@ -247,19 +249,23 @@ impl<'a> PieceBytes<'a> {
     pub fn part(text: PartText<'a>) -> PieceBytes<'a>
         ensures { result ≡ part_bytes (Some (part_key text.entry)) }
     {
-        PieceBytes::at(None, Place::Part, text)
+        PieceBytes::at(FewBytes::none(), Place::Part, text)
+    }
+
+    /// The bytes of a plain number as a part.
+    #[inline(always)]
+    pub fn plain_part(number: u32) -> PieceBytes<'a>
+        ensures { result ≡ part_bytes (Some (Number number None)) }
+    {
+        PieceBytes::made(FewBytes::plain_part(number))
     }
 
     /// The bytes of a number: how many digits it has, and these.
-    #[tactic(auto, using(crate::proofs::PieceBytes::alone))]
+    #[inline(always)]
     pub fn number(number: u32) -> PieceBytes<'a>
         ensures { result ≡ number_bytes number }
     {
-        PieceBytes::at(
-            None,
-            Place::Number(Behind::Nothing),
-            PartText::number(number),
-        )
+        PieceBytes::made(FewBytes::number(number))
     }
 
     /// The bytes of the number that the digits at the front of a text write. They may be any number of digits.
@@ -267,7 +273,11 @@ impl<'a> PieceBytes<'a> {
     pub fn digits(text: &'a str) -> PieceBytes<'a>
         ensures { result ≡ number_bytes (digits_value 10 (take_while is_ascii_digit text.now)) }
     {
-        PieceBytes::at(None, Place::Number(Behind::Nothing), PartText::text(text))
+        PieceBytes::at(
+            FewBytes::none(),
+            Place::Number(Behind::Nothing),
+            PartText::text(text),
+        )
     }
 
     /// The bytes of a text.
@@ -275,32 +285,60 @@ impl<'a> PieceBytes<'a> {
     pub fn text(text: &'a str) -> PieceBytes<'a>
         ensures { result ≡ text_bytes text.now }
     {
-        PieceBytes::at(None, Place::Rest(Behind::Text), PartText::text(text))
+        PieceBytes::at(
+            FewBytes::none(),
+            Place::Rest(Behind::Text),
+            PartText::text(text),
+        )
     }
 
     /// The bytes of a chunk of a release.
     #[tactic(auto, using(crate::proofs::PieceBytes::alone))]
+    #[inline(always)]
     pub fn chunk(chunk: &'a Chunk) -> PieceBytes<'a>
         ensures { result ≡ chunk_bytes (Some (plain_chunk chunk.now)) }
     {
         match chunk {
-            Chunk::Numeric(number) => PieceBytes::at(
-                Some(2),
-                Place::Number(Behind::Nothing),
-                PartText::number(*number),
-            ),
-            Chunk::Alphanum(text) => PieceBytes::at(
-                Some(3),
-                Place::Rest(Behind::Text),
-                PartText::text(text.as_str()),
-            ),
+            Chunk::Numeric(number) => {
+                let mut bytes = FewBytes::number(*number);
+                bytes.put(2);
+                PieceBytes::made(bytes)
+            }
+            Chunk::Alphanum(text) => {
+                let text = PartText::text(text.as_str());
+                PieceBytes::at(FewBytes::one(3), Place::Rest(Behind::Text), text)
+            }
         }
     }
 
-    fn at(ready: Option<u8>, place: Place, text: PartText<'a>) -> PieceBytes<'a>
-        ensures { result ≡ option_to_list ready ++ place_bytes place text.entry }
+    // Bytes that are ready, and those of a text that is read so.
+    #[inline(always)]
+    fn at(ready: FewBytes, place: Place, text: PartText<'a>) -> PieceBytes<'a>
+        ensures { result ≡ ready ++ place_bytes place text.entry }
     {
-        PieceBytes { text, ready, place }
+        PieceBytes { ready, text, place }
+    }
+
+    // Bytes that are ready, and no more.
+    #[tactic(auto, unfolding(crate::specs::Pieces::place_bytes, crate::specs::Pieces::behind_bytes))]
+    #[inline(always)]
+    fn made(ready: FewBytes) -> PieceBytes<'a>
+        ensures { result ≡ ready }
+    {
+        PieceBytes::at(ready, Place::Rest(Behind::Nothing), PartText::text(""))
+    }
+
+    /// Puts the bytes behind those of a list. The error is that there is no memory for them.
+    #[inline(always)]
+    pub fn append_to(mut self, list: &mut Vec<u8>) -> Result<(), AllocError>
+        ensures { OnOk result (list.new.items ≡ list.old.items ++ self.entry) }
+    {
+        list.extend_from_slice(self.ready.as_slice())?;
+        self.ready = FewBytes::none();
+        while let Some(byte) = self.next() {
+            list.push(byte)?;
+        }
+        Ok(())
     }
 }
 
@@ -312,11 +350,13 @@ impl<'a> Iterator for PieceBytes<'a> {
     ghost remaining = { item_count (λ piece. piece) };
 
     fn next(&mut self) -> Option<u8> {
-        if let Some(byte) = self.ready.take() {
+        if let Some(byte) = self.ready.next() {
             return Some(byte);
         }
         let step = self.place.step(&mut self.text)?;
-        self.ready = step.then;
+        if let Some(byte) = step.then {
+            self.ready.put(byte);
+        }
         self.place = step.place;
         Some(step.byte)
     }

@@ -6,77 +6,17 @@ ghost use Rattle.std.specs.Fmt.{decimal};
 ghost use Rattle.std.specs.Iterator.{item_count, YieldsFirst};
 ghost use Rattle.std.specs.List.{prefix_len};
 
+use crate::key::few::FewBytes;
 use crate::scan::{Class, run_len};
-use itoa::write_digits;
 use std::marker::Model;
 
-// How many digits a number has at most.
-const MOST_DIGITS: usize = 10;
-
-// The digits of a number that are still to come.
-#[derive(Drop)]
-struct Digits {
-    buffer: [u8; MOST_DIGITS],
-    at: usize,
-}
-
-impl Model for Digits {
-    ghost Value = { List ℕ };
-
-    ghost view = { λ digits. drop digits.at digits.buffer };
-
-    ghost invariant = { λ digits. digits.at ≤ 10 };
-}
-
-impl Digits {
-    // No digit.
-    fn none() -> Digits
-        ensures { result ≡ [] }
-    {
-        Digits {
-            buffer: [0; MOST_DIGITS],
-            at: MOST_DIGITS,
-        }
-    }
-
-    // A number in decimal.
-    fn of(number: u32) -> Digits
-        ensures { result ≡ decimal number }
-    {
-        let mut buffer = [0; MOST_DIGITS];
-        let at = write_digits(u64::from(number), &mut buffer, MOST_DIGITS);
-        Digits { buffer, at }
-    }
-
-    fn as_slice(&self) -> &[u8]
-        ensures value { result.now ≡ self.now }
-        ensures short { length result.now ≤ 10 }
-    {
-        &self.buffer[self.at..]
-    }
-}
-
-impl Iterator for Digits {
-    type Item = u8;
-
-    ghost next_gives = { YieldsFirst (λ digits. digits) };
-
-    ghost remaining = { item_count (λ digits. digits) };
-
-    fn next(&mut self) -> Option<u8> {
-        let digit = self.as_slice().first().copied()?;
-        self.at += 1;
-        Some(digit)
-    }
-}
-
-/// The printed text of a part, seen as the bytes that are still to come: at most ten digits, a text that lies
-/// elsewhere, and at most ten digits more. It takes no memory.
+/// The printed text of a part, seen as the bytes that are still to come: the digits of a number, a text that lies
+/// elsewhere, and the digits of one more. It takes no memory.
 #[derive(Drop)]
 pub struct PartText<'a> {
-    before: Digits,
+    before: FewBytes,
     text: &'a [u8],
-    behind: Digits,
+    behind: FewBytes,
 }
 
 impl<'a> Model for PartText<'a> {
@@ -91,9 +31,9 @@ impl<'a> PartText<'a> {
         ensures { result ≡ decimal number }
     {
         PartText {
-            before: Digits::of(number),
+            before: FewBytes::decimal(number),
             text: &[],
-            behind: Digits::none(),
+            behind: FewBytes::none(),
         }
     }
 
@@ -102,9 +42,9 @@ impl<'a> PartText<'a> {
         ensures { result ≡ text.now }
     {
         PartText {
-            before: Digits::none(),
+            before: FewBytes::none(),
             text: text.as_bytes(),
-            behind: Digits::none(),
+            behind: FewBytes::none(),
         }
     }
 
@@ -113,9 +53,9 @@ impl<'a> PartText<'a> {
         ensures { result ≡ decimal number ++ text.now }
     {
         PartText {
-            before: Digits::of(number),
+            before: FewBytes::decimal(number),
             text: text.as_bytes(),
-            behind: Digits::none(),
+            behind: FewBytes::none(),
         }
     }
 
@@ -124,9 +64,9 @@ impl<'a> PartText<'a> {
         ensures { result ≡ decimal first ++ text.now ++ decimal second }
     {
         PartText {
-            before: Digits::of(first),
+            before: FewBytes::decimal(first),
             text: text.as_bytes(),
-            behind: Digits::of(second),
+            behind: FewBytes::decimal(second),
         }
     }
 

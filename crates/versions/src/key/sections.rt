@@ -1,12 +1,13 @@
 //! The bytes of the further sections of a messy version.
 
-ghost use Rattle.std.specs.Prelude.{◌≡◌, ◌++◌, [], List, ℕ};
+ghost use Rattle.std.specs.Prelude.{◌≡◌, ◌++◌, [], List, ℕ, OnOk};
 ghost use Rattle.std.specs.Iterator.{item_count, YieldsFirst};
 ghost use Rattle.std.specs.Option.{option_map_or};
 ghost use Rattle.versions.specs.KeyBytes.{further_bytes};
 ghost use Rattle.versions.specs.Mess.{plain_mess};
 
 use crate::mess::Mess;
+use std::alloc::AllocError;
 use std::marker::Model;
 use version_parts::MChunk;
 use version_parts::key::{ListBytes, Parts};
@@ -39,6 +40,16 @@ impl<'a> SectionsBytes<'a> {
             section: ListBytes::none(),
             before: Some(mess),
         }
+    }
+
+    /// Puts the bytes behind those of a list. The error is that there is no memory for them.
+    pub fn append_to(mut self, list: &mut Vec<u8>) -> Result<(), AllocError>
+        ensures { OnOk result (list.new.items ≡ list.old.items ++ self.entry) }
+    {
+        while let Some(byte) = self.next() {
+            list.push(byte)?;
+        }
+        Ok(())
     }
 }
 

@@ -1,6 +1,6 @@
 //! The bytes of the tail of a key: what stands behind the body.
 
-ghost use Rattle.std.specs.Prelude.{◌≡◌, ◌∷◌, ◌++◌, [], List, ℕ, Some};
+ghost use Rattle.std.specs.Prelude.{◌≡◌, ◌∷◌, ◌++◌, [], List, ℕ, Some, OnOk};
 ghost use Rattle.std.specs.Iterator.{item_count, YieldsFirst};
 ghost use Rattle.std.specs.Option.{option_map, option_map_or};
 ghost use Rattle.version_parts.specs.Release.{plain_release};
@@ -11,6 +11,7 @@ ghost use Rattle.versions.specs.Tail.{tail_bytes, Bare, PreReleased, Released};
 
 use crate::key::sections::SectionsBytes;
 use crate::mess::Mess;
+use std::alloc::AllocError;
 use std::marker::Model;
 use version_parts::key::ListBytes;
 use version_parts::{Release, ReleaseChunk};
@@ -42,6 +43,7 @@ impl<'a> Model for TailBytes<'a> {
 
 impl<'a> TailBytes<'a> {
     /// The bytes of a strict pre-release, or of nothing.
+    #[inline(always)]
     pub fn pre_release(pre_rel: &'a Option<Release>) -> TailBytes<'a>
         ensures { result ≡ tail_bytes (option_map_or PreReleased (option_map plain_release pre_rel.now) Bare) }
     {
@@ -52,6 +54,7 @@ impl<'a> TailBytes<'a> {
     }
 
     /// The bytes of a general release, or of nothing.
+    #[inline(always)]
     pub fn release(release: &'a Option<Release>) -> TailBytes<'a>
         ensures { result ≡ tail_bytes (option_map_or Released (option_map plain_release release.now) Bare) }
     {
@@ -62,6 +65,7 @@ impl<'a> TailBytes<'a> {
     }
 
     /// The bytes of the further sections of a messy version, or of nothing.
+    #[inline(always)]
     pub fn sections(mess: &'a Mess) -> TailBytes<'a>
         ensures { result ≡ tail_bytes (sections_tail (plain_mess mess.now).more) }
     {
@@ -71,18 +75,36 @@ impl<'a> TailBytes<'a> {
         }
     }
 
+    #[inline(always)]
     fn bare() -> TailBytes<'a>
         ensures { result ≡ tail_bytes Bare }
     {
         TailBytes::of(2, Held::Nothing)
     }
 
+    #[inline(always)]
     fn of(rank: u8, held: Held<'a>) -> TailBytes<'a>
         ensures { result ≡ rank ∷ held_left held.entry }
     {
         TailBytes {
             rank: Some(rank),
             held,
+        }
+    }
+
+    /// Puts the bytes behind those of a list. The error is that there is no memory for them.
+    #[inline(always)]
+    pub fn append_to(self, list: &mut Vec<u8>) -> Result<(), AllocError>
+        ensures { OnOk result (list.new.items ≡ list.old.items ++ self.entry) }
+    {
+        let TailBytes { rank, held } = self;
+        if let Some(rank) = rank {
+            list.push(rank)?;
+        }
+        match held {
+            Held::Nothing => Ok(()),
+            Held::Release(release) => release.append_to(list),
+            Held::Sections(sections) => sections.append_to(list),
         }
     }
 }

@@ -4,4 +4,4 @@ use Rattle.versions.specs.Key.{key_of}
 use Rattle.versions.specs.Versioning.{plain_versioning}
 
 pub returns-clause-followed : goal.returns-clause-followed
-returns-clause-followed c = stays_apart c.into_vec.result (key_of (plain_versioning c.args.self.now)) (rw c.key_bytes.ensures at c.into_vec.ensures)
+returns-clause-followed c = stays_apart c.key_list.result (key_of (plain_versioning c.args.self.now)) c.key_list.ensures

@@ -1,0 +1,161 @@
+//! The few bytes of a piece that are made at once.
+
+ghost use Rattle.std.specs.Prelude.{◌≡◌, ◌∷◌, ◌++◌, ◌+◌, ◌<◌, ◌≤◌, [], List, ℕ, drop, length, None, Some};
+ghost use Rattle.std.specs.Fmt.{decimal};
+ghost use Rattle.std.specs.Iterator.{item_count, YieldsFirst};
+ghost use Rattle.version_parts.specs.NumberBytes.{number_bytes};
+ghost use Rattle.version_parts.specs.PartKey.{part_bytes, Number};
+
+use itoa::write_digits;
+use std::marker::Model;
+
+// As many as a plain number has as a part at the end of a list: three marks, how many digits it has, and ten digits.
+const MOST: usize = 14;
+
+/// At most 14 bytes, seen as those that are still to come.
+#[derive(Drop)]
+pub(crate) struct FewBytes {
+    bytes: [u8; MOST],
+    at: u8,
+}
+
+impl Model for FewBytes {
+    ghost Value = { List ℕ };
+
+    ghost view = { λ few. drop few.at few.bytes };
+
+    ghost invariant = { λ few. few.at ≤ 14 };
+}
+
+impl FewBytes {
+    /// No byte.
+    #[inline(always)]
+    pub(crate) fn none() -> FewBytes
+        ensures { result ≡ [] }
+    {
+        FewBytes {
+            bytes: [0; MOST],
+            at: MOST as u8,
+        }
+    }
+
+    /// One byte.
+    #[inline(always)]
+    pub(crate) fn one(byte: u8) -> FewBytes
+        ensures { result ≡ byte ∷ [] }
+    {
+        let mut few = FewBytes::none();
+        few.put(byte);
+        few
+    }
+
+    /// A number in decimal.
+    pub(crate) fn decimal(number: u32) -> FewBytes
+        ensures { result ≡ decimal number }
+    {
+        let mut few = FewBytes::none();
+        few.put_decimal(number);
+        few
+    }
+
+    /// The bytes of a number: how many digits it has, and these.
+    #[inline(always)]
+    pub(crate) fn number(number: u32) -> FewBytes
+        ensures value { result ≡ number_bytes number }
+        ensures short { length result ≤ 11 }
+    {
+        let mut few = FewBytes::none();
+        few.put_number(number);
+        few
+    }
+
+    /// A plain number as a part.
+    pub(crate) fn plain_part(number: u32) -> FewBytes
+        ensures { result ≡ part_bytes (Some (Number number None)) }
+    {
+        let mut few = FewBytes::none();
+        few.put_plain_part(number);
+        few
+    }
+
+    /// A plain number as the last part of a list, and the end of that.
+    pub(crate) fn last_plain_part(number: u32) -> FewBytes
+        ensures { result ≡ part_bytes (Some (Number number None)) ++ part_bytes None }
+    {
+        let mut few = FewBytes::one(2);
+        few.put_plain_part(number);
+        few
+    }
+
+    /// A byte before the others.
+    #[inline(always)]
+    pub(crate) fn put(&mut self, byte: u8)
+        requires { length self.old < 14 }
+        ensures { self.new ≡ byte ∷ self.old }
+    {
+        self.at -= 1;
+        self.bytes[usize::from(self.at)] = byte;
+    }
+
+    // A plain number as a part before the others.
+    fn put_plain_part(&mut self, number: u32)
+        requires { length self.old ≤ 1 }
+        ensures { self.new ≡ part_bytes (Some (Number number None)) ++ self.old }
+    {
+        self.put(2);
+        self.put_number(number);
+        self.put(3);
+    }
+
+    // The bytes of a number before the others.
+    #[tactic(auto, using(crate::proofs::FewBytes::number_put))]
+    #[inline(always)]
+    fn put_number(&mut self, number: u32)
+        requires { length self.old ≤ 2 }
+        ensures value { self.new ≡ number_bytes number ++ self.old }
+        ensures short { length self.new ≤ 11 + length self.old }
+    {
+        if number == 0 {
+            self.put(0);
+        } else {
+            let count = self.put_decimal(number);
+            self.put(count);
+        }
+    }
+
+    // A number in decimal before the others. It says how many digits that are.
+    #[tactic(auto, using(crate::proofs::FewBytes::ten_digits))]
+    fn put_decimal(&mut self, number: u32) -> u8
+        requires { length self.old ≤ 3 }
+        ensures value { self.new ≡ decimal number ++ self.old }
+        ensures count { result ≡ length (decimal number) }
+        ensures short { result ≤ 10 }
+    {
+        let end = self.at;
+        self.at = write_digits(u64::from(number), &mut self.bytes, usize::from(end)) as u8;
+        end - self.at
+    }
+
+    /// The bytes as a slice.
+    #[inline(always)]
+    pub(crate) fn as_slice(&self) -> &[u8]
+        ensures value { result.now ≡ self.now }
+        ensures short { length result.now ≤ 14 }
+    {
+        &self.bytes[usize::from(self.at)..]
+    }
+}
+
+impl Iterator for FewBytes {
+    type Item = u8;
+
+    ghost next_gives = { YieldsFirst (λ few. few) };
+
+    ghost remaining = { item_count (λ few. few) };
+
+    fn next(&mut self) -> Option<u8> {
+        let byte = self.as_slice().first().copied()?;
+        self.at += 1;
+        Some(byte)
+    }
+}
