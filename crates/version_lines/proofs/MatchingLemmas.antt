@@ -1,7 +1,18 @@
--- A line is answered by whether something holds, whatever decided it.
-use Rattle.std.proofs.Common.{◌≡◌, ◌⊎◌, inl, inr, refl}
-use Rattle.version_lines.specs.Matching.{line_if}
+-- A line is answered by whether something holds, whatever decided it; and where strict versions alone are asked for, no
+-- other line is answered.
+use Rattle.std.proofs.Common.{◌≡◌, ◌⊎◌, ◌<◌, ℕ, false, List, length, map, get_or, Option, Some, None, is_some, IsTrue, inl, inr, refl, subst, arith}
+use Rattle.std.specs.Option.{option_map, option_or}
+use Rattle.std.proofs.lemmas.List.{get_or-map, length-map}
+use Rattle.version_lines.specs.Matching.{line_if, match_answer}
 use Rattle.version_lines.specs.declared.answer.Answer.TheVariants.{Whole, Nothing}
+use Rattle.versions.specs.declared.requirement.Requirement.{Requirement}
+use Rattle.versions.specs.Matching.{Matches, MatchesAll}
+use Rattle.versions.specs.MatchingLaws.{matches_all_or_not}
+use Rattle.versions.specs.Mess.{PlainMess}
+use Rattle.versions.specs.Requirement.{PlainRequirement, plain_requirement}
+use Rattle.versions.specs.SemVer.{PlainSemVer}
+use Rattle.versions.specs.Version.{PlainVersion}
+use Rattle.versions.specs.Versioning.{PlainVersioning, Ideal, General, Complex, is_ideal}
 
 pub line_if_holds : {Holds : Type 0} (decided : Holds ⊎ ¬ Holds) → Holds → line_if decided ≡ Whole
 line_if_holds (inl known) holds = refl
@@ -10,3 +21,19 @@ line_if_holds (inr known) holds = absurd (known holds)
 pub line_if_fails : {Holds : Type 0} (decided : Holds ⊎ ¬ Holds) → ¬ Holds → line_if decided ≡ Nothing
 line_if_fails (inl known) fails = absurd (fails known)
 line_if_fails (inr known) fails = refl
+
+-- where strict versions alone are asked for, what is none gets nothing
+pub nothing_but_strict : (wanted : List PlainRequirement) → ((v : PlainVersioning) → MatchesAll wanted v → IsTrue (is_ideal v))
+    → (ideal : Option PlainSemVer) (general : Option PlainVersion) (complex : Option PlainMess) → is_some ideal ≡ false
+    → match_answer wanted (option_or (option_map Ideal ideal) (option_or (option_map General general) (option_map Complex complex))) ≡ Nothing
+nothing_but_strict wanted strict (Some v) general complex other = absurd (cc other)
+nothing_but_strict wanted strict None (Some v) complex other = line_if_fails (matches_all_or_not wanted (General v)) (λ all. cc (strict (General v) all))
+nothing_but_strict wanted strict None None (Some m) other = line_if_fails (matches_all_or_not wanted (Complex m)) (λ all. cc (strict (Complex m) all))
+nothing_but_strict wanted strict None None None other = refl
+
+-- what all members ask for is asked for by the one at a place
+pub asked_for_at : (list : List Requirement) (v : PlainVersioning) (n : ℕ) (d : Requirement) → n < length list → MatchesAll (map plain_requirement list) v
+    → Matches (plain_requirement (get_or list n d)) v
+asked_for_at list v n d inside all =
+    subst (λ (r : PlainRequirement). Matches r v) (get_or-map plain_requirement list n d (plain_requirement d) inside)
+    (all n (plain_requirement d) (omega (arith, length-map list plain_requirement)))

@@ -1,14 +1,16 @@
 //! The command `match`: the lines whose versions a list of requirements asks for.
-ghost use Rattle.std.specs.Prelude.{◌≡◌, IfOk, Some};
+ghost use Rattle.std.specs.Prelude.{◌≡◌, IfOk, IsTrue, Some};
 ghost use Rattle.version_lines.specs.Matching.{match_answer};
+ghost use Rattle.versions.specs.Matching.{Matches, MatchesAll};
+ghost use Rattle.versions.specs.Requirement.{plain_requirement};
 ghost use Rattle.versions.specs.Requirements.{plain_requirements};
-ghost use Rattle.versions.specs.Versioning.{plain_versioning, versioning_of};
+ghost use Rattle.versions.specs.Versioning.{is_ideal, plain_versioning, versioning_of, PlainVersioning};
 
 use crate::answer::Answer;
 use crate::lines::LineCommand;
 use std::alloc::{AllocError, Global};
 use std::str;
-use versions::{Requirements, Versioning};
+use versions::{Op, Requirement, Requirements, SemVer, Versioning};
 
 /// Keeps the lines that are versions which the requirements ask for.
 #[derive(Drop)]
@@ -33,6 +35,9 @@ fn answer_for(alloc: Global, wanted: &Requirements, line: &[u8]) -> Result<Answe
     let Ok(text) = str::from_utf8(line) else {
         return Ok(Answer::Nothing);
     };
+    if ask_for_strict_alone(wanted) && !SemVer::is_spelled_by(text) {
+        return Ok(Answer::Nothing);
+    }
     match Versioning::new(alloc, text)? {
         Some(version) => Ok(answer_for_version(wanted, &version)),
         None => Ok(Answer::Nothing),
@@ -48,5 +53,29 @@ fn answer_for_version(wanted: &Requirements, version: &Versioning) -> Answer
         Answer::Whole
     } else {
         Answer::Nothing
+    }
+}
+
+/// Whether one of the requirements asks for strict versions alone, so that together they do. Takes no memory.
+fn ask_for_strict_alone(wanted: &Requirements) -> bool
+    ensures { IsTrue result →
+        (v : PlainVersioning) → MatchesAll (plain_requirements wanted.now) v → IsTrue (is_ideal v) }
+{
+    for requirement in &wanted.0 {
+        if asks_for_strict_alone(requirement) {
+            return true;
+        }
+    }
+    false
+}
+
+/// Whether a requirement is a tilde or a caret of a strict version, which asks for no other.
+fn asks_for_strict_alone(requirement: &Requirement) -> bool
+    ensures { IsTrue result →
+        (v : PlainVersioning) → Matches (plain_requirement requirement.now) v → IsTrue (is_ideal v) }
+{
+    match (requirement.op, &requirement.version) {
+        (Op::Tilde | Op::Caret, Some(Versioning::Ideal(_))) => true,
+        _ => false,
     }
 }
