@@ -105,6 +105,7 @@ fn unequal_lists_hash_apart(rt: HostRuntime) -> Result<(), Fail> {
     Ok(())
 }
 
+// `rt try --test` takes minutes for it, so it wants `--seconds 600`.
 #[test]
 fn a_hundred_thousand_members(rt: HostRuntime) -> Result<(), Fail> {
     let mut text = repeated(&rt, ">=1.2,", 99_999)?;

@@ -75,10 +75,15 @@ fn above_and_below(rt: HostRuntime) -> Result<(), Fail> {
 }
 
 #[test]
-fn at_least_goes_by_precedence(rt: HostRuntime) -> Result<(), Fail> {
+fn above_and_below_go_by_precedence(rt: HostRuntime) -> Result<(), Fail> {
     asks_for(&rt, ">=1.2.3rc1", &["1.2.3"], &[])?;
     asks_for(&rt, ">=1.0", &["0:1.0"], &[])?;
-    asks_for(&rt, "=1.0", &[], &["0:1.0"])
+    asks_for(&rt, "=1.0", &[], &["0:1.0"])?;
+    // Equal in precedence, the first below the second in `Ord`.
+    asks_for(&rt, ">=0:1.0", &["1.0"], &[])?;
+    asks_for(&rt, "<=1.0", &["0:1.0"], &[])?;
+    asks_for(&rt, ">1.0", &[], &["0:1.0"])?;
+    asks_for(&rt, "<0:1.0", &[], &["1.0"])
 }
 
 #[test]
