@@ -1,6 +1,7 @@
 mod EntryLemmas
 mod HeadLemmas
 mod LinesLemmas
+mod MatchingLemmas
 mod OutputLemmas
 mod RankedLemmas
 mod RunLemmas

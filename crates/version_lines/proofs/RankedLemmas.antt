@@ -11,9 +11,9 @@ use Rattle.std.proofs.lemmas.List.{map-append, take_more}
 use Rattle.std.proofs.lemmas.List.Elements.{All-cons, All-head, All-nil, All-tail}
 use Rattle.std.proofs.lemmas.List.Sorted.{ranks_by}
 use Rattle.version_lines.specs.Entry.{entry_line, kept_version, IsRead}
-use Rattle.version_lines.specs.Lines.{lines_of, lines_output}
+use Rattle.version_lines.specs.Lines.{lines_of, lines_output, whole_line}
 use Rattle.version_lines.specs.Ranked.{ranked_cmp, ranked_entry, ranked_line, HasHeads}
-use Rattle.version_lines.specs.Sort.{line_cmp, sort_output, whole_line}
+use Rattle.version_lines.specs.Sort.{line_cmp, sort_output}
 use Rattle.version_lines.specs.Sorting.{in_order}
 use Rattle.version_lines.specs.declared.entry.Entry.{Entry}
 use Rattle.version_lines.specs.declared.ranked.Ranked.{Ranked}

@@ -3,7 +3,7 @@ use Rattle.std.proofs.Common.{◌≡◌, ℕ, List, Option, None, Some, Result, 
 use Rattle.std.proofs.KnownBytes.{Keeps-refl}
 use Rattle.std.proofs.lemmas.Result.{IfErr-weaker}
 use Rattle.version_lines.specs.Command.{PlainCommand, OfInput}
-use Rattle.version_lines.specs.Fault.{ComesOfLines, ComesOfReading, ComesOfWords, ComesOfWriting}
+use Rattle.version_lines.specs.Fault.{ComesOfLines, ComesOfReading, ComesOfRequirements, ComesOfWords, ComesOfWriting}
 use Rattle.version_lines.specs.Lines.{lines_of}
 use Rattle.version_lines.specs.Output.{AppendsBeginning, AppendsProperBeginning}
 use Rattle.version_lines.specs.Run.{ComesOfCommand, GrowsAt, IsServable}
@@ -28,12 +28,15 @@ GrowsAt-unwritten a output Memory other = beginning a output
 GrowsAt-unwritten a output Read other = Keeps-refl a
 GrowsAt-unwritten a output Write other = absurd (other refl)
 
--- the same of a result: refused memory, and the judging of words and of lines
+-- the same of a result: refused memory, and the judging of words, of requirements and of lines
 pub GrowsAt-memory : {T : Type 0} (r : Result T Fault) (a : Option (List ℕ)) (output : List ℕ) → IfErr r (λ fault. fault ≡ Memory) → IfErr r (GrowsAt a a (Some output))
 GrowsAt-memory r a output = IfErr-weaker r _ _ (λ fault refused. GrowsAt-unwritten a (Some output) fault (λ wrote. cc))
 
 pub GrowsAt-words : {T : Type 0} (r : Result T Fault) (a bad : Option (List ℕ)) (output : List ℕ) → IfErr r (ComesOfWords bad) → IfErr r (GrowsAt a a (Some output))
 GrowsAt-words r a bad output = IfErr-weaker r _ _ (λ fault comes. GrowsAt-unwritten a (Some output) fault (λ wrote. subst (ComesOfWords bad) wrote comes))
+
+pub GrowsAt-requirements : {T : Type 0} (r : Result T Fault) (a bad output : Option (List ℕ)) → IfErr r (ComesOfRequirements bad) → IfErr r (GrowsAt a a output)
+GrowsAt-requirements r a bad output = IfErr-weaker r _ _ (λ fault comes. GrowsAt-unwritten a output fault (λ wrote. subst (ComesOfRequirements bad) wrote comes))
 
 pub GrowsAt-lines : {T : Type 0} (r : Result T Fault) (a : Option (List ℕ)) (bad : Option ℕ) (output : List ℕ) → IfErr r (ComesOfLines bad) → IfErr r (GrowsAt a a (Some output))
 GrowsAt-lines r a bad output = IfErr-weaker r _ _ (λ fault comes. GrowsAt-unwritten a (Some output) fault (λ wrote. subst (ComesOfLines bad) wrote comes))
@@ -53,7 +56,7 @@ OnErr-always (Err e) P p = p
 pub ComesOfCommand-lines : (input : List ℕ) (fault : Fault) → ComesOfLines (bad_line (lines_of input)) fault → ComesOfCommand (Some input) (OfInput Sort) fault
 ComesOfCommand-lines input Usage comes = comes
 ComesOfCommand-lines input (NotVersion text) comes = absurd comes
-ComesOfCommand-lines input (NotRequirement text) comes = comes
+ComesOfCommand-lines input (NotRequirement text) comes = absurd comes
 ComesOfCommand-lines input (BadLine number) comes = (refl, comes)
 ComesOfCommand-lines input Memory comes = comes
 ComesOfCommand-lines input Read comes = absurd comes

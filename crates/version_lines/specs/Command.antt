@@ -1,21 +1,24 @@
 -- What the words of a run ask for.
-use Rattle.std.specs.Prelude.{ℕ, Bool, true, false, List, [], ◌∷◌, Option, None, Some, codes, if◌then◌else◌}
+use Rattle.std.specs.Prelude.{ℕ, Bool, true, false, List, [], ◌∷◌, Option, None, Some, codes, is_some, if◌then◌else◌}
 use Rattle.std.specs.Str.{bytes_eq}
 use Rattle.version_lines.specs.declared.command.Command.{Command}
 use Rattle.version_lines.specs.declared.command.Command.TheVariants as owned
 use Rattle.version_lines.specs.declared.command.InputCommand.{InputCommand}
 use Rattle.version_lines.specs.declared.command.InputCommand.TheVariants.{Ideal, Show, Sort}
+use Rattle.versions.specs.Requirements.{requirements_of}
 
 -- a command with its words
 pub data PlainCommand : Type 0 where
   Cmp : List ℕ → List ℕ → PlainCommand
   Key : List ℕ → PlainCommand
+  Match : List ℕ → PlainCommand
   OfInput : InputCommand → PlainCommand
 
 -- the command that a value holds
 abbrev pub plain_command : Command → PlainCommand
 plain_command (owned.Cmp a b) = Cmp a.now b.now
 plain_command (owned.Key version) = Key version.now
+plain_command (owned.Match word) = Match word.now
 plain_command (owned.OfInput command) = OfInput command
 
 -- the command that a name alone stands for
@@ -29,12 +32,15 @@ input_command_of name =
 abbrev pub command_of : List (List ℕ) → Option PlainCommand
 command_of [] = Some (OfInput Ideal)
 command_of (name ∷ []) = input_command_of name
-command_of (name ∷ version ∷ []) = if bytes_eq name (codes "key") then Some (Key version) else None
+command_of (name ∷ word ∷ []) =
+    if bytes_eq name (codes "key") then Some (Key word)
+    else (if bytes_eq name (codes "match") then Some (Match word) else None)
 command_of (name ∷ a ∷ b ∷ []) = if bytes_eq name (codes "cmp") then Some (Cmp a b) else None
 command_of (name ∷ a ∷ b ∷ c ∷ more) = None
 
--- whether a command reads the input, all but `cmp` and `key` do
+-- whether a command reads the input: `cmp` and `key` don't, and `match` does where its word is a list of requirements
 abbrev pub reads_input : PlainCommand → Bool
 reads_input (Cmp a b) = false
 reads_input (Key version) = false
+reads_input (Match word) = is_some (requirements_of word)
 reads_input (OfInput command) = true

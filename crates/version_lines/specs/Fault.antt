@@ -37,6 +37,12 @@ ComesOfWords bad_word Memory = ⊤
 ComesOfWords bad_word (NotVersion text) = bad_word ≡ Some (string_bytes text)
 ComesOfWords bad_word fault = ⊥
 
+-- the faults that judging the word of `match` can end in, where that is this bad one
+abbrev pub ComesOfRequirements : Option (List ℕ) → Fault → Type 0
+ComesOfRequirements bad_requirements Memory = ⊤
+ComesOfRequirements bad_requirements (NotRequirement text) = bad_requirements ≡ Some (string_bytes text)
+ComesOfRequirements bad_requirements fault = ⊥
+
 -- the faults that judging lines can end in, the first bad one of which has this number
 abbrev pub ComesOfLines : Option ℕ → Fault → Type 0
 ComesOfLines bad_line Memory = ⊤

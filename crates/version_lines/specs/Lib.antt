@@ -5,6 +5,7 @@ pub mod Entry
 pub mod Fault
 pub mod Head
 pub mod Lines
+pub mod Matching
 pub mod Output
 pub mod Program
 pub mod Ranked

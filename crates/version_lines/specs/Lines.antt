@@ -16,9 +16,13 @@ abbrev pub lines_of : List ℕ → List (List ℕ)
 lines_of [] = []
 lines_of (byte ∷ bytes) = if byte == line_feed then [] ∷ lines_of bytes else before_lines byte (lines_of bytes)
 
+-- a line with the line feed that ends it
+abbrev pub whole_line : List ℕ → List ℕ
+whole_line line = line ++ line_feed ∷ []
+
 -- a label, a line, and the line feed that ends it
 abbrev pub labelled_line : List ℕ → List ℕ → List ℕ
-labelled_line label line = label ++ (line ++ line_feed ∷ [])
+labelled_line label line = label ++ whole_line line
 
 -- what a command writes for some lines, by what it writes for one
 abbrev pub lines_output : (List ℕ → List ℕ) → List (List ℕ) → List ℕ

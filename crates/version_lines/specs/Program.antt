@@ -2,9 +2,10 @@
 use Rattle.std.specs.Prelude.{ℕ, List, Option, None, Some, is_some, if◌then◌else◌}
 use Rattle.std.specs.Option.{option_and_then, option_map}
 use Rattle.version_lines.specs.Answer.{answer_text}
-use Rattle.version_lines.specs.Command.{PlainCommand, Cmp, Key, OfInput, command_of}
+use Rattle.version_lines.specs.Command.{PlainCommand, Cmp, Key, Match, OfInput, command_of}
 use Rattle.version_lines.specs.Comparison.{cmp_output, key_output}
 use Rattle.version_lines.specs.Lines.{lines_of, lines_output}
+use Rattle.version_lines.specs.Matching.{match_output}
 use Rattle.version_lines.specs.Sort.{sort_output}
 use Rattle.version_lines.specs.declared.answer.Answer.{Answer}
 use Rattle.version_lines.specs.declared.answer.Label.{Label}
@@ -34,7 +35,7 @@ show_answer (Some v) = Labelled (label_of v)
 abbrev pub show_line : List ℕ → List ℕ
 show_line line = answer_text (show_answer (versioning_of line)) line
 
--- what a command that reads the input writes for it
+-- what a command without words writes for an input
 abbrev pub input_output : InputCommand → List ℕ → List ℕ
 input_output command.Ideal input = lines_output ideal_line (lines_of input)
 input_output command.Show input = lines_output show_line (lines_of input)
@@ -44,6 +45,7 @@ input_output command.Sort input = sort_output input
 abbrev pub command_output : Option (List ℕ) → PlainCommand → Option (List ℕ)
 command_output input (Cmp a b) = Some (cmp_output a b)
 command_output input (Key version) = Some (key_output version)
+command_output input (Match word) = option_map (match_output word) input
 command_output input (OfInput command) = option_map (input_output command) input
 
 -- what a run writes for its words and an input, where that is known

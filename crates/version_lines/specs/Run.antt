@@ -2,13 +2,14 @@
 use Rattle.std.specs.Prelude.{◌≡◌, ⊤, ℕ, Bool, false, List, Option, None, Some, string_bytes, IfSome, IsTrue, MatchOption}
 use Rattle.std.specs.Option.{IsSomeAnd, option_map_or, option_or}
 use Rattle.std.specs.Io.KnownBytes.{Keeps}
-use Rattle.version_lines.specs.Command.{PlainCommand, Cmp, Key, OfInput, command_of, reads_input}
+use Rattle.version_lines.specs.Command.{PlainCommand, Cmp, Key, Match, OfInput, command_of, reads_input}
 use Rattle.version_lines.specs.Lines.{lines_of}
 use Rattle.version_lines.specs.Output.{AppendsBeginning, AppendsProperBeginning}
 use Rattle.version_lines.specs.Sort.{bad_line}
 use Rattle.version_lines.specs.declared.faults.Fault.{Fault}
 use Rattle.version_lines.specs.declared.faults.Fault.TheVariants.{Usage, NotVersion, NotRequirement, BadLine, Memory, Read, Write}
 use Rattle.version_lines.specs.declared.command.InputCommand.TheVariants.{Sort}
+use Rattle.versions.specs.Requirements.{requirements_of}
 use Rattle.versions.specs.Versioning.{versioning_of}
 
 -- the word, where it is no version
@@ -19,22 +20,34 @@ unless_version word = option_map_or (λ _. None) (versioning_of word) (Some word
 abbrev pub bad_word : PlainCommand → Option (List ℕ)
 bad_word (Cmp a b) = option_or (unless_version a) (unless_version b)
 bad_word (Key version) = unless_version version
-bad_word (OfInput command) = None
+bad_word command = None
+
+-- the word, where it is no list of requirements
+abbrev pub unless_requirements : List ℕ → Option (List ℕ)
+unless_requirements word = option_map_or (λ _. None) (requirements_of word) (Some word)
+
+-- the word that has to be a list of requirements and isn't: only `match` wants requirements
+abbrev pub bad_requirements : PlainCommand → Option (List ℕ)
+bad_requirements (Match word) = unless_requirements word
+bad_requirements command = None
 
 -- the number of the first line that has to be a version and isn't: only `sort` wants versions
 abbrev pub bad_line_for : PlainCommand → List ℕ → Option ℕ
 bad_line_for (OfInput Sort) input = bad_line (lines_of input)
 bad_line_for command input = None
 
--- no word, and no line of an input that is known, has to be a version and isn't
-abbrev pub IsServable : Option (List ℕ) → PlainCommand → Type 0
-IsServable input command = (bad_word command ≡ None) × IfSome input (λ i. bad_line_for command i ≡ None)
+-- no word has to be a version or a list of requirements and isn't, and no line of an input that is known has to be a
+-- version and isn't
+pub record IsServable (input : Option (List ℕ)) (command : PlainCommand) : Type 0 where
+  pub versions : bad_word command ≡ None
+  pub requirements : bad_requirements command ≡ None
+  pub lines : IfSome input (λ i. bad_line_for command i ≡ None)
 
 -- when a fault comes of a command and an input, where that is known
 abbrev pub ComesOfCommand : Option (List ℕ) → PlainCommand → Fault → Type 0
 ComesOfCommand input command Usage = ⊥
 ComesOfCommand input command (NotVersion text) = bad_word command ≡ Some (string_bytes text)
-ComesOfCommand input command (NotRequirement text) = ⊥
+ComesOfCommand input command (NotRequirement text) = bad_requirements command ≡ Some (string_bytes text)
 ComesOfCommand input command (BadLine number) = (command ≡ OfInput Sort) × IfSome input (λ i. bad_line_for command i ≡ Some number)
 ComesOfCommand input command Memory = ⊤
 ComesOfCommand input command Read = IsTrue (reads_input command)
@@ -54,7 +67,7 @@ GrowsAt old new output Write = IfSome output (AppendsProperBeginning old new)
 abbrev pub ask_for_input : List (List ℕ) → Bool
 ask_for_input words = option_map_or reads_input (command_of words) false
 
--- the words name a command, and nothing that has to be a version isn't one
+-- the words name a command, and nothing that has to be a version or a list of requirements isn't one
 abbrev pub IsServed : List (List ℕ) → Option (List ℕ) → Type 0
 IsServed words input = IsSomeAnd (command_of words) (IsServable input)
 

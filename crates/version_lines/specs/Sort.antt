@@ -1,10 +1,10 @@
 -- What `sort` writes.
-use Rattle.std.specs.Prelude.{ℕ, ◌+◌, Bool, List, [], ◌∷◌, ◌++◌, Option, is_some, not}
+use Rattle.std.specs.Prelude.{ℕ, ◌+◌, Bool, List, Option, is_some, not}
 use Rattle.std.specs.List.{position}
 use Rattle.std.specs.Option.{option_cmp, option_map}
 use Rattle.std.specs.Ordering.{on}
 use Rattle.std.specs.declared.cmp.Ordering.{Ordering}
-use Rattle.version_lines.specs.Lines.{line_feed, lines_of, lines_output}
+use Rattle.version_lines.specs.Lines.{lines_of, lines_output, whole_line}
 use Rattle.version_lines.specs.Sorting.{in_order}
 use Rattle.versions.specs.Orders.{versioning_cmp}
 use Rattle.versions.specs.Versioning.{versioning_of}
@@ -20,10 +20,6 @@ bad_line lines = option_map (λ place. place + 1) (position is_bad lines)
 -- two lines compare as the versions that they spell
 abbrev pub line_cmp : List ℕ → List ℕ → Ordering
 line_cmp = on versioning_of (option_cmp versioning_cmp)
-
--- a line with the line feed that ends it
-abbrev pub whole_line : List ℕ → List ℕ
-whole_line line = line ++ line_feed ∷ []
 
 -- what `sort` writes for an input: its lines in order
 abbrev pub sort_output : List ℕ → List ℕ

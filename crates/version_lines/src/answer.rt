@@ -8,6 +8,10 @@ pub enum Answer {
     Labelled(Label),
     /// `none`, since the line is no version.
     NoVersion,
+    /// The line as it stands.
+    Whole,
+    /// Nothing.
+    Nothing,
 }
 
 /// What a line is.

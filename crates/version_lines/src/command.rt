@@ -9,11 +9,13 @@ pub enum Command<'a> {
     Cmp(&'a str, &'a str),
     /// The sort key of a version.
     Key(&'a str),
+    /// The lines whose versions a list of requirements asks for.
+    Match(&'a str),
     /// What is said of the lines of the input.
     OfInput(InputCommand),
 }
 
-/// A command that reads the input.
+/// A command that has no word, and reads the input.
 #[derive(Clone, Copy)]
 pub enum InputCommand {
     /// For each line, whether it is a strict version.
@@ -35,6 +37,7 @@ impl Command<'_> {
             [] => Some(Command::OfInput(InputCommand::Ideal)),
             [name] => Some(Command::OfInput(InputCommand::named(name.as_str())?)),
             [name, version] if name.as_str() == "key" => Some(Command::Key(version.as_str())),
+            [name, word] if name.as_str() == "match" => Some(Command::Match(word.as_str())),
             [name, a, b] if name.as_str() == "cmp" => Some(Command::Cmp(a.as_str(), b.as_str())),
             _ => None,
         }

@@ -13,6 +13,7 @@ mod input;
 mod key;
 mod laws;
 mod lines;
+mod matching;
 mod output;
 mod program;
 mod ranked;

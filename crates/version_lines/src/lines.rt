@@ -79,5 +79,7 @@ fn put_answer<W: Write>(
     match answer {
         Answer::Labelled(label) => put_line(writer, buffer, label.text(), line),
         Answer::NoVersion => put(writer, buffer, b"none\n"),
+        Answer::Whole => put_line(writer, buffer, b"", line),
+        Answer::Nothing => Ok(()),
     }
 }

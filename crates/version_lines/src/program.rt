@@ -12,21 +12,25 @@ use crate::ideal::Ideal;
 use crate::input::read_all;
 use crate::key::key_line;
 use crate::lines::write_lines;
+use crate::matching::Matching;
 use crate::output::write_whole;
 use crate::show::Show;
 use crate::sort::write_sorted;
+use crate::words::requirements_of;
 use std::alloc::Global;
 use std::io::{Read, Write};
 
-/// Does what the words ask for: `ideal`, `show` and `sort` read the whole input and write what they say of its lines,
-/// and no words are `ideal`; `cmp A B` and `key V` write what they say of versions, and read nothing.
+/// Does what the words ask for: `ideal`, `show`, `sort` and `match R` read the whole input and write what they say of
+/// its lines, and no words are `ideal`; `cmp A B` and `key V` write what they say of versions, and read nothing.
+/// `match R` writes the lines that are versions and that R asks for, as they stand, and leaves out all others.
 ///
-/// Words that are no command are [`Fault::Usage`], and of the words that have to be versions the first that isn't one
-/// is [`Fault::NotVersion`], with a copy of it, both before anything is read. The input is read to its end before
-/// anything is written. `sort` wants each line to be a version, and judges all of them before it writes; the first that
-/// isn't one is [`Fault::BadLine`], with its number, counted from 1. So after these faults and after [`Fault::Read`]
-/// nothing was written. After [`Fault::Memory`] a beginning of the output was written, and after [`Fault::Write`] a
-/// beginning that isn't all of it.
+/// Words that are no command are [`Fault::Usage`], of the words that have to be versions the first that isn't one is
+/// [`Fault::NotVersion`], and an R that is no requirement and no list of them is [`Fault::NotRequirement`], the last two
+/// with a copy of the word, and all before anything is read. The input is read to its end before anything is written.
+/// `sort` wants each line to be a version, and judges all of them before it writes; the first that isn't one is
+/// [`Fault::BadLine`], with its number, counted from 1. So after these faults and after [`Fault::Read`] nothing was
+/// written. After [`Fault::Memory`] a beginning of the output was written, and after [`Fault::Write`] a beginning that
+/// isn't all of it.
 ///
 /// A call of `read` or `write` that fails isn't tried again, an interrupted one neither; a `write`
 /// that takes nothing has failed. `read` may give bytes 18446744073709551615 times, and is
@@ -34,7 +38,8 @@ use std::io::{Read, Write};
 ///
 /// It takes memory for the whole input, for two buffers of 64 KiB, and for one version at a time. `sort` takes it for
 /// the sort key of every line, for each version that isn't strict, and for a list that it sorts with as much again;
-/// `cmp` for two versions; `key` for a version, its sort key and the line; and a word that is told for its copy.
+/// `match` for its requirements; `cmp` for two versions; `key` for a version, its sort key and the line; and a word that
+/// is told for its copy.
 pub fn run<R: Read, W: Write>(
     alloc: Global,
     words: &[String],
@@ -93,6 +98,11 @@ fn serve<R: Read, W: Write>(
     match command {
         Command::Cmp(first, second) => write_whole(writer, comparison(alloc, first, second)?),
         Command::Key(version) => write_whole(writer, key_line(alloc, version)?.as_bytes()),
+        Command::Match(word) => {
+            let wanted = requirements_of(alloc, word)?;
+            let lines = read_all(alloc, reader)?;
+            write_lines(alloc, &Matching { wanted }, lines.as_slice(), writer)
+        }
         Command::OfInput(command) => {
             let input = read_all(alloc, reader)?;
             answer_input(alloc, command, input.as_slice(), writer)

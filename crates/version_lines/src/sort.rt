@@ -3,10 +3,10 @@ ghost use Rattle.std.specs.Prelude.{◌≡◌, ◌⊎◌, [], ◌∷◌, ◌++�
 ghost use Rattle.std.specs.Io.KnownBytes.{Appends, Keeps};
 ghost use Rattle.std.specs.List.{All};
 ghost use Rattle.version_lines.specs.Fault.{ComesOfLines, ComesOfWriting};
-ghost use Rattle.version_lines.specs.Lines.{lines_of, lines_output};
+ghost use Rattle.version_lines.specs.Lines.{lines_of, lines_output, whole_line};
 ghost use Rattle.version_lines.specs.Command.{OfInput};
 ghost use Rattle.version_lines.specs.Run.{ComesOfCommand, GrowsAt};
-ghost use Rattle.version_lines.specs.Sort.{bad_line, sort_output, whole_line};
+ghost use Rattle.version_lines.specs.Sort.{bad_line, sort_output};
 ghost use Rattle.version_lines.specs.Sorting.{in_order};
 ghost use Rattle.version_lines.specs.Entry.{entry_line, IsRead};
 ghost use Rattle.version_lines.specs.Ranked.{ranked_cmp, ranked_entry, ranked_line, HasHeads};

@@ -1,12 +1,13 @@
-//! The versions that words spell.
+//! The versions and the requirements that words spell.
 ghost use Rattle.std.specs.Prelude.{◌≡◌, Some, IfErr, IfOk};
-ghost use Rattle.version_lines.specs.Fault.{ComesOfWords};
-ghost use Rattle.version_lines.specs.Run.{unless_version};
+ghost use Rattle.version_lines.specs.Fault.{ComesOfRequirements, ComesOfWords};
+ghost use Rattle.version_lines.specs.Run.{unless_requirements, unless_version};
+ghost use Rattle.versions.specs.Requirements.{plain_requirements, requirements_of};
 ghost use Rattle.versions.specs.Versioning.{plain_versioning, versioning_of};
 
 use crate::faults::Fault;
 use std::alloc::Global;
-use versions::Versioning;
+use versions::{Requirements, Versioning};
 
 /// The version that a word spells; else the fault that holds a copy of the word.
 pub fn version_of(alloc: Global, word: &str) -> Result<Versioning, Fault>
@@ -16,5 +17,16 @@ pub fn version_of(alloc: Global, word: &str) -> Result<Versioning, Fault>
     match Versioning::new(alloc, word)? {
         Some(version) => Ok(version),
         None => Err(Fault::NotVersion(String::from_str(alloc, word)?)),
+    }
+}
+
+/// The list of requirements that a word spells, of one or more; else the fault that holds a copy of the word.
+pub fn requirements_of(alloc: Global, word: &str) -> Result<Requirements, Fault>
+    ensures ok { IfOk result (λ list. requirements_of word.now ≡ Some (plain_requirements list)) }
+    ensures faults { IfErr result (ComesOfRequirements (unless_requirements word.now)) }
+{
+    match Requirements::new(alloc, word)? {
+        Some(list) => Ok(list),
+        None => Err(Fault::NotRequirement(String::from_str(alloc, word)?)),
     }
 }

@@ -40,4 +40,4 @@ returns-clause-at_fault g c =
 pub returns-clause-faults : goal.returns-clause-faults
 returns-clause-faults g c =
     let none = ap bad_line (sym c.in_ok-entries.ensures.lines) ∙ bad_line-none _ c.in_ok-entries.ensures.read in
-    IfErr-weaker c.write_ranked.result _ _ (λ fault comes. ComesOfCommand-writing (Some c.args.input.now) (OfInput Sort) fault (refl, none) comes) c.write_ranked.ensures.faults
+    IfErr-weaker c.write_ranked.result _ _ (λ fault comes. ComesOfCommand-writing (Some c.args.input.now) (OfInput Sort) fault (record { versions = refl; requirements = refl; lines = none }) comes) c.write_ranked.ensures.faults

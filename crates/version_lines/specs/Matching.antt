@@ -1,0 +1,33 @@
+-- What `match` writes.
+use Rattle.std.proofs.Common.{◌⊎◌, inl, inr, ℕ, List, [], Option, None, Some}
+use Rattle.std.specs.Option.{option_map_or}
+use Rattle.version_lines.specs.Answer.{answer_text}
+use Rattle.version_lines.specs.Lines.{lines_of, lines_output}
+use Rattle.version_lines.specs.declared.answer.Answer.{Answer}
+use Rattle.version_lines.specs.declared.answer.Answer.TheVariants.{Whole, Nothing}
+use Rattle.versions.specs.MatchingLaws.{matches_all_or_not}
+use Rattle.versions.specs.Requirement.{PlainRequirement}
+use Rattle.versions.specs.Requirements.{requirements_of}
+use Rattle.versions.specs.Versioning.{PlainVersioning, versioning_of}
+
+-- the answer by whether something holds: the line, or nothing
+abbrev pub line_if : {Holds : Type 0} → Holds ⊎ ¬ Holds → Answer
+line_if (inl holds) = Whole
+line_if (inr fails) = Nothing
+
+-- the answer for a line that spells this version, or none
+abbrev pub match_answer : List PlainRequirement → Option PlainVersioning → Answer
+match_answer wanted None = Nothing
+match_answer wanted (Some v) = line_if (matches_all_or_not wanted v)
+
+-- what `match` writes for a line
+abbrev pub match_line : List PlainRequirement → List ℕ → List ℕ
+match_line wanted line = answer_text (match_answer wanted (versioning_of line)) line
+
+-- what `match` writes for requirements and an input
+abbrev pub matching_lines : List PlainRequirement → List ℕ → List ℕ
+matching_lines wanted input = lines_output (match_line wanted) (lines_of input)
+
+-- the same for a word, and nothing where that is no list of requirements
+abbrev pub match_output : List ℕ → List ℕ → List ℕ
+match_output word input = option_map_or (λ wanted. matching_lines wanted input) (requirements_of word) []
