@@ -12,6 +12,10 @@ mod precedence;
 #[cfg(test)]
 mod program;
 #[cfg(test)]
+mod requirement_lists;
+#[cfg(test)]
+mod requirements;
+#[cfg(test)]
 mod sort_keys;
 #[cfg(test)]
 mod streams;

@@ -217,6 +217,41 @@ fn sort_with_a_reader_or_a_writer_that_fails(rt: HostRuntime) -> Result<(), Fail
 }
 
 #[test]
+fn match_writes_the_lines_that_are_asked_for(rt: HostRuntime) -> Result<(), Fail> {
+    for (wanted, input, output) in [
+        (
+            "^1.1.1",
+            b"1.1.0\n1.1.2\nx y\n2.0.0\n1.2.0\n".as_slice(),
+            b"1.1.2\n1.2.0\n".as_slice(),
+        ),
+        (
+            ">=1.1.1,<2.0.0",
+            b"1.1.0\n1.1.1\n2.0.0\n2.0.0-rc.1\n1.5\n",
+            b"1.1.1\n2.0.0-rc.1\n1.5\n",
+        ),
+    ] {
+        let words = ["match", wanted];
+        assert_eq!(rt; written(&rt, &words, input)?.as_slice(), output);
+    }
+    Ok(())
+}
+
+#[test]
+fn a_word_that_is_no_requirement_is_told_before_anything_is_read(
+    rt: HostRuntime,
+) -> Result<(), Fail> {
+    let words = owned(&rt, &["match", ">=1.0,"])?;
+    let mut reader = Giver::of(b"1.0\n", 1);
+    let mut writer = Taker::new(rt.alloc(), usize::MAX);
+    let outcome = run(rt.alloc(), words.as_slice(), &mut reader, &mut writer);
+    let wanted = Fault::NotRequirement(String::from_str(rt.alloc(), ">=1.0,")?);
+    assert_eq!(rt; outcome, Err(wanted));
+    assert_eq!(rt; reader.calls, 0);
+    assert_eq!(rt; writer.calls, 0);
+    Ok(())
+}
+
+#[test]
 fn a_failed_read_writes_nothing(rt: HostRuntime) -> Result<(), Fail> {
     for kind in [ErrorKind::Other, ErrorKind::Interrupted] {
         for step in [1, 2, 100] {
