@@ -19,6 +19,7 @@ ghost use Rattle.version_parts.specs.ReleaseOrder.{chunk_cmp};
 use crate::key::PartText;
 use crate::lists::ListItem;
 use crate::scan::{Class, Element, is_all_digits, split_run, unsigned};
+use serde::{Deserialize, Serialize};
 use std::alloc::{AllocError, Global};
 use std::cmp::Ordering;
 use std::fmt;
@@ -26,7 +27,7 @@ use std::hash::{Hash, Hasher};
 
 /// One piece between dots, as `rc` and `1` of the release `-rc.1` (SemVer 2.0, section 9), or as `1` and `2a` of the
 /// general version `1.2a.3`.
-#[derive(Debug, Drop)]
+#[derive(Debug, Drop, Serialize, Deserialize)]
 pub enum Chunk {
     /// A number without leading zeros.
     Numeric(u32),

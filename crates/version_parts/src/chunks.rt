@@ -20,6 +20,7 @@ use crate::key::compare_part_lists;
 use crate::last::{Last, LastPiece};
 use crate::lists::{compare_lists, copy_list, write_dotted};
 use crate::scan::Dotted;
+use serde::{Deserialize, Serialize};
 use std::alloc::{AllocError, Global};
 use std::cmp::Ordering;
 use std::fmt;
@@ -27,7 +28,7 @@ use std::hash::{Hash, Hasher};
 use std::marker::Model;
 
 /// The chunks of a general version, before its last part.
-#[derive(Debug, Drop)]
+#[derive(Debug, Drop, Serialize, Deserialize)]
 pub struct Chunks(pub Vec<Chunk>);
 
 impl Chunks {

@@ -19,13 +19,14 @@ use crate::chunk::{Chunk, ChunkPiece};
 use crate::key::{PartText, compare_parts};
 use crate::lists::ListItem;
 use crate::scan::{Class, nonempty_run, unsigned};
+use serde::{Deserialize, Serialize};
 use std::alloc::{AllocError, Global};
 use std::cmp::Ordering;
 use std::fmt;
 use std::hash::{Hash, Hasher};
 
 /// The last part of a general version.
-#[derive(Debug, Drop)]
+#[derive(Debug, Drop, Serialize, Deserialize)]
 pub enum Last {
     /// A number without leading zeros.
     Numeric(u32),

@@ -18,13 +18,14 @@ use crate::key::{PartText, compare_parts};
 use crate::lists::ListItem;
 use crate::scan::{Class, Element, after_mark, is_all_digits, nonempty_run, value_of};
 use crate::sep::Sep;
+use serde::{Deserialize, Serialize};
 use std::alloc::{AllocError, Global};
 use std::cmp::Ordering;
 use std::fmt;
 use std::hash::{Hash, Hasher};
 
 /// One piece between the dots and signs of a messy version, as `1`, `6a` and `r3` of `1.6a+r3`: letters and digits.
-#[derive(Debug, Drop)]
+#[derive(Debug, Drop, Serialize, Deserialize)]
 pub enum MChunk {
     /// Digits, perhaps with zeros before them, of a value below 2^32, and their text.
     Digits(u32, String),

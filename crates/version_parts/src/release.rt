@@ -16,6 +16,7 @@ use crate::chunk::{Chunk, ReleaseChunk};
 use crate::key::ListBytes;
 use crate::lists::{compare_lists, copy_list, write_dotted};
 use crate::scan::{Dotted, after_mark};
+use serde::{Deserialize, Serialize};
 use std::alloc::{AllocError, Global};
 use std::cmp::Ordering;
 use std::fmt;
@@ -23,7 +24,7 @@ use std::hash::{Hash, Hasher};
 use std::marker::Model;
 
 /// The chunks of a pre-release or a release, behind its hyphen.
-#[derive(Debug, Drop)]
+#[derive(Debug, Drop, Serialize, Deserialize)]
 pub struct Release(pub Vec<Chunk>);
 
 impl Release {

@@ -9,13 +9,14 @@ ghost use Rattle.version_parts.specs.MChunkLaws.{sep_total, seps_same};
 ghost use Rattle.version_parts.specs.OrderLaws.{same_where_tied};
 ghost use Rattle.version_parts.specs.Sep.{plain_sep, sep_byte, sep_fed, sep_of, sep_plain_cmp, sep_rank};
 
+use serde::{Deserialize, Serialize};
 use std::cmp::Ordering;
 use std::fmt;
 use std::hash::{Hash, Hasher};
 
 /// The sign before a further section of a messy version, as the colon of `1:2.0`. A dot is none: it joins the chunks
 /// of one section.
-#[derive(Clone, Copy, Debug)]
+#[derive(Clone, Copy, Debug, Serialize, Deserialize)]
 pub enum Sep {
     Colon,
     Hyphen,

@@ -4,6 +4,7 @@ pub mod Epoch
 pub mod Flat
 pub mod FromText
 pub mod Items
+pub mod JsonReading
 pub mod KeyConversion
 pub mod MessConversion
 pub mod MessFed

@@ -4,6 +4,8 @@ use Rattle.std.specs.Option.{ForSome}
 use Rattle.std.specs.String.{string_bytes}
 use Rattle.versions.specs.declared.errors.Error.{Error}
 use Rattle.versions.specs.declared.errors.Error.TheVariants as owned
+use Rattle.versions.specs.declared.errors.JsonError.{JsonError}
+use Rattle.versions.specs.declared.errors.JsonError.TheVariants as json
 use Rattle.versions.specs.declared.errors.ReadError.{ReadError}
 use Rattle.versions.specs.declared.errors.ReadError.TheVariants.{Illegal, Memory}
 
@@ -31,6 +33,17 @@ error_text (IllegalOp text) = codes "Illegal Op: " ++ text
 abbrev pub read_error_text : ReadError → List ℕ
 read_error_text (Illegal e) = error_text (plain_error e)
 read_error_text (Memory e) = codes "no memory"
+
+-- what went wrong in reading a text, where the text stood in a JSON value
+abbrev pub json_error : ReadError → JsonError
+json_error (Illegal e) = json.Illegal e
+json_error (Memory e) = json.Memory e
+
+-- the printed text of what can go wrong in reading a JSON value
+abbrev pub json_error_text : JsonError → List ℕ
+json_error_text json.NotText = codes "not a JSON string"
+json_error_text (json.Illegal e) = error_text (plain_error e)
+json_error_text (json.Memory e) = codes "no memory"
 
 -- an error that is no want of memory is this one
 abbrev pub IsIllegal : PlainError → ReadError → Type 0

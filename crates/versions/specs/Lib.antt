@@ -1,6 +1,7 @@
 pub mod BodyParts
 pub mod Conversions
 pub mod Errors
+pub mod Json
 pub mod Key
 pub mod KeyBytes
 pub mod KeyLaws

@@ -93,3 +93,43 @@ impl From<AllocError> for ReadError {
         ReadError::Memory(refused)
     }
 }
+
+/// Why a call that reads a JSON value gives no version and no requirement.
+#[derive(Debug, Drop, thiserror::Error)]
+pub enum JsonError {
+    /// The value is no string.
+    NotText,
+    /// The string spells no value.
+    Illegal(Error),
+    /// A request for memory was refused, for the value or for the text in the error.
+    Memory(AllocError),
+}
+
+impl fmt::Display for JsonError {
+    ghost use Rattle.std.specs.Prelude.{Some};
+    ghost use Rattle.versions.specs.Errors.{json_error_text};
+
+    ghost output = { λ e. Some (json_error_text e) };
+
+    fn fmt<W: fmt::Write>(&self, f: &mut fmt::Formatter<W>) -> fmt::Result {
+        match self {
+            JsonError::NotText => write!(f, "not a JSON string"),
+            JsonError::Illegal(error) => write!(f, "{error}"),
+            JsonError::Memory(_) => write!(f, "no memory"),
+        }
+    }
+}
+
+impl From<ReadError> for JsonError {
+    ghost use Rattle.std.specs.Prelude.{◌≡◌};
+    ghost use Rattle.versions.specs.Errors.{json_error};
+
+    ghost from_gives = { λ error e. e ≡ json_error error };
+
+    fn from(error: ReadError) -> JsonError {
+        match error {
+            ReadError::Illegal(illegal) => JsonError::Illegal(illegal),
+            ReadError::Memory(refused) => JsonError::Memory(refused),
+        }
+    }
+}

@@ -9,6 +9,7 @@
 
 mod conversions;
 mod errors;
+mod json;
 pub mod key;
 mod laws;
 mod mess;
@@ -22,7 +23,7 @@ mod semver;
 mod version;
 mod versioning;
 
-pub use errors::{Error, ReadError};
+pub use errors::{Error, JsonError, ReadError};
 pub use mess::Mess;
 pub use op::Op;
 pub use requirement::Requirement;

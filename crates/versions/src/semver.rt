@@ -21,6 +21,7 @@ use crate::pieces::{
 };
 use crate::reading::or_illegal;
 use crate::version::Version;
+use serde::{Deserialize, Serialize};
 use std::alloc::{AllocError, Global};
 use std::cmp::Ordering;
 use std::fmt;
@@ -29,7 +30,7 @@ use version_parts::{Chunk, Chunks, Last, Release, ReleasePiece, scan};
 
 /// A strict version: `major.minor.patch`, then perhaps a pre-release, then perhaps build metadata, as
 /// `1.2.3-rc.1+x86` (SemVer 2.0, sections 2, 9 and 10). The numbers are below 2^32.
-#[derive(Debug, Drop)]
+#[derive(Debug, Drop, Serialize, Deserialize)]
 pub struct SemVer {
     pub major: u32,
     pub minor: u32,

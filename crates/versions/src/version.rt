@@ -26,6 +26,7 @@ use crate::pieces::{
     build_release, copy_meta, copy_release, copy_text, optional_meta, optional_release,
 };
 use crate::reading::or_illegal;
+use serde::{Deserialize, Serialize};
 use std::alloc::{AllocError, Global};
 use std::cmp::Ordering;
 use std::fmt;
@@ -36,7 +37,7 @@ use version_parts::{BodyPiece, Chunks, Last, Release, ReleasePiece, scan};
 
 /// A general version: perhaps a number and a colon, then parts joined by dots, then perhaps a release, then perhaps
 /// metadata, as `1:2.0rc1-3`. It is what most packages carry. The numbers are below 2^32.
-#[derive(Debug, Drop)]
+#[derive(Debug, Drop, Serialize, Deserialize)]
 pub struct Version {
     /// The number before the colon, which outranks all others. None counts as 0.
     pub epoch: Option<u32>,
