@@ -4,6 +4,10 @@
 #[cfg(test)]
 mod general;
 #[cfg(test)]
+mod json;
+#[cfg(test)]
+mod json_forms;
+#[cfg(test)]
 mod messy;
 #[cfg(test)]
 mod order;

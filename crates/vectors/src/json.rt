@@ -1,0 +1,148 @@
+//! Versions and requirements in JSON documents, where each is a string: what is read, what is written, and the errors.
+
+use crate::strict::printed;
+use crate::versioning::any;
+use serde_json::{Value, json};
+use std::alloc::{AllocError, Global};
+use std::process::Abort;
+use std::test::Fail;
+use versions::{Error, JsonError, Op, Requirement, Requirements, Versioning};
+
+#[test]
+fn a_version_is_read_from_a_string_and_written_as_it_was(rt: HostRuntime) -> Result<(), Fail> {
+    for text in ["1.2.3", "1.2.3-rc.1+x86", "1:2.0rc1-3", "10.2+0.93+1-1"] {
+        let value = Value::try_from_str(rt.alloc(), text)?;
+        let version = read(Versioning::deserialize_pretty(rt.alloc(), &value))?;
+        assert!(rt; version == any(&rt, text)?, "{text}");
+        assert!(rt; version.serialize_pretty(rt.alloc())? == value, "{text}");
+    }
+    Ok(())
+}
+
+#[test]
+fn a_requirement_is_read_from_a_string_and_written_as_it_was(
+    rt: HostRuntime,
+) -> Result<(), Fail> {
+    let value = Value::try_from_str(rt.alloc(), ">=1.2.3")?;
+    let requirement = read(Requirement::deserialize(rt.alloc(), &value))?;
+    assert_eq!(rt; requirement.op, Op::GreaterEq);
+    assert!(rt; requirement.version == Some(any(&rt, "1.2.3")?));
+    assert!(rt; requirement.serialize(rt.alloc())? == value);
+    Ok(())
+}
+
+#[test]
+fn a_list_is_read_from_a_string_and_written_as_it_was(rt: HostRuntime) -> Result<(), Fail> {
+    for (text, count) in [("*", 1), (">=1.1.1,<2.0.0", 2)] {
+        let value = Value::try_from_str(rt.alloc(), text)?;
+        let list = read(Requirements::deserialize(rt.alloc(), &value))?;
+        assert_eq!(rt; list.0.len(), count);
+        assert!(rt; list.serialize(rt.alloc())? == value, "{text}");
+    }
+    Ok(())
+}
+
+#[test]
+fn what_is_no_string_is_not_text(rt: HostRuntime) -> Result<(), Fail> {
+    for text in ["null", "true", "1", "[]", "{}", "[\"1.2.3\"]"] {
+        let value = Value::from_str(rt.alloc(), text)?;
+        for kind in KINDS {
+            let answer = refusal(rt.alloc(), kind, &value);
+            assert!(rt; matches!(answer, Some(JsonError::NotText)), "{text}");
+        }
+    }
+    Ok(())
+}
+
+#[test]
+fn other_strings_are_illegal(rt: HostRuntime) -> Result<(), Fail> {
+    for (kind, text) in [
+        (Kind::Version, "1 2"),
+        (Kind::Version, ""),
+        (Kind::Requirement, ">=1.0,<2.0"),
+        (Kind::Requirement, ""),
+        (Kind::List, ""),
+        (Kind::List, ">=1.0,"),
+    ] {
+        let value = Value::try_from_str(rt.alloc(), text)?;
+        let Some(JsonError::Illegal(error)) = refusal(rt.alloc(), kind, &value) else {
+            return Err(Fail::new("no illegal text"));
+        };
+        let told = match (kind, &error) {
+            (Kind::Version, Error::IllegalVersioning(told)) => Some(told.as_str()),
+            (Kind::Requirement | Kind::List, Error::IllegalOp(told)) => Some(told.as_str()),
+            _ => None,
+        };
+        assert_eq!(rt; told, Some(text));
+    }
+    Ok(())
+}
+
+#[test]
+fn each_error_says_its_text(rt: HostRuntime) -> Result<(), Fail> {
+    let illegal = Error::IllegalVersioning(String::from_str(rt.alloc(), "1 2")?);
+    for (error, text) in [
+        (JsonError::NotText, "not a JSON string"),
+        (JsonError::Illegal(illegal), "Illegal Versioning: 1 2"),
+        (JsonError::Memory(AllocError), "no memory"),
+    ] {
+        assert_eq!(rt; printed(&rt, &error)?.as_str(), text);
+    }
+    Ok(())
+}
+
+#[test]
+fn any_text_of_a_version_built_by_hand_comes_back(rt: HostRuntime) -> Result<(), Fail> {
+    let hostile = "a\0\"\\é";
+    let mut version = any(&rt, "1.2.3")?;
+    if let Versioning::Ideal(ideal) = &mut version {
+        ideal.meta = Some(String::from_str(rt.alloc(), hostile)?);
+    }
+    let document = version.serialize_pretty(rt.alloc())?.to_string(rt.alloc())?;
+    assert_eq!(rt; document.as_str(), "\"1.2.3+a\\u0000\\\"\\\\é\"");
+    let value = Value::from_str(rt.alloc(), document.as_str())?;
+    assert_eq!(rt; value.as_str(), Some("1.2.3+a\0\"\\é"));
+    Ok(())
+}
+
+#[test]
+fn a_version_stands_in_a_document(rt: HostRuntime) -> Result<(), Fail> {
+    let document = Value::from_str(rt.alloc(), "{\"name\":\"left\",\"version\":\"1.2.3\"}")?;
+    let Some(value) = document.get("version") else {
+        return Err(Fail::new("no member"));
+    };
+    let mut version = read(Versioning::deserialize_pretty(rt.alloc(), value))?;
+    if let Versioning::Ideal(ideal) = &mut version {
+        ideal.patch = 4;
+    }
+    let version = version.serialize_pretty(rt.alloc())?;
+    let document = json!(in rt.alloc(); {"name": "left", "version": version})?;
+    assert_eq!(rt;
+        document.to_string(rt.alloc())?.as_str(),
+        "{\"name\":\"left\",\"version\":\"1.2.4\"}"
+    );
+    Ok(())
+}
+
+// What a JSON value is read as.
+#[derive(Clone, Copy)]
+enum Kind {
+    Version,
+    Requirement,
+    List,
+}
+
+const KINDS: [Kind; 3] = [Kind::Version, Kind::Requirement, Kind::List];
+
+// Why a JSON value is not read as one of a kind.
+fn refusal(alloc: Global, kind: Kind, value: &Value) -> Option<JsonError> {
+    match kind {
+        Kind::Version => Versioning::deserialize_pretty(alloc, value).err(),
+        Kind::Requirement => Requirement::deserialize(alloc, value).err(),
+        Kind::List => Requirements::deserialize(alloc, value).err(),
+    }
+}
+
+fn read<T: Drop>(answer: Result<T, JsonError>) -> Result<T, Fail> {
+    answer.map_err(Fail::new)
+}
