@@ -20,9 +20,7 @@ fn a_version_is_read_from_a_string_and_written_as_it_was(rt: HostRuntime) -> Res
 }
 
 #[test]
-fn a_requirement_is_read_from_a_string_and_written_as_it_was(
-    rt: HostRuntime,
-) -> Result<(), Fail> {
+fn a_requirement_is_read_from_a_string_and_written_as_it_was(rt: HostRuntime) -> Result<(), Fail> {
     let value = Value::try_from_str(rt.alloc(), ">=1.2.3")?;
     let requirement = read(Requirement::deserialize(rt.alloc(), &value))?;
     assert_eq!(rt; requirement.op, Op::GreaterEq);
@@ -44,7 +42,7 @@ fn a_list_is_read_from_a_string_and_written_as_it_was(rt: HostRuntime) -> Result
 
 #[test]
 fn what_is_no_string_is_not_text(rt: HostRuntime) -> Result<(), Fail> {
-    for text in ["null", "true", "1", "[]", "{}", "[\"1.2.3\"]"] {
+    for text in ["null", "true", "1", "[]", "{}", r#"["1.2.3"]"#] {
         let value = Value::from_str(rt.alloc(), text)?;
         for kind in KINDS {
             let answer = refusal(rt.alloc(), kind, &value);
@@ -107,7 +105,7 @@ fn any_text_of_a_version_built_by_hand_comes_back(rt: HostRuntime) -> Result<(),
 
 #[test]
 fn a_version_stands_in_a_document(rt: HostRuntime) -> Result<(), Fail> {
-    let document = Value::from_str(rt.alloc(), "{\"name\":\"left\",\"version\":\"1.2.3\"}")?;
+    let document = Value::from_str(rt.alloc(), r#"{"name":"left","version":"1.2.3"}"#)?;
     let Some(value) = document.get("version") else {
         return Err(Fail::new("no member"));
     };
@@ -119,7 +117,7 @@ fn a_version_stands_in_a_document(rt: HostRuntime) -> Result<(), Fail> {
     let document = json!(in rt.alloc(); {"name": "left", "version": version})?;
     assert_eq!(rt;
         document.to_string(rt.alloc())?.as_str(),
-        "{\"name\":\"left\",\"version\":\"1.2.4\"}"
+        r#"{"name":"left","version":"1.2.4"}"#
     );
     Ok(())
 }

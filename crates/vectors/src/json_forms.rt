@@ -4,42 +4,58 @@ use crate::general::{numbers, text};
 use crate::order::strict;
 use crate::versioning::general;
 use serde::{DeserializeOwned, Serialize};
+use serde_json::Value;
 use std::process::Abort;
 use std::test::Fail;
 use versions::{Chunk, Chunks, Last, MChunk, Release, SemVer, Sep, Version};
 
 #[test]
 fn chunks_and_lists_of_them(rt: HostRuntime) -> Result<(), Fail> {
-    comes_back(&rt, &Chunk::Numeric(4294967295), "{\"Numeric\":4294967295}")?;
-    comes_back(&rt, &Chunk::Alphanum(text(&rt, "rc-1")?), "{\"Alphanum\":\"rc-1\"}")?;
-    comes_back(&rt, &Chunks(numbers(&rt, &[1, 2])?), "[{\"Numeric\":1},{\"Numeric\":2}]")?;
+    comes_back(
+        &rt,
+        &Chunk::Numeric(4294967295),
+        r#"{"Numeric":4294967295}"#,
+    )?;
+    comes_back(
+        &rt,
+        &Chunk::Alphanum(text(&rt, "rc-1")?),
+        r#"{"Alphanum":"rc-1"}"#,
+    )?;
+    comes_back(
+        &rt,
+        &Chunks(numbers(&rt, &[1, 2])?),
+        r#"[{"Numeric":1},{"Numeric":2}]"#,
+    )?;
     comes_back(&rt, &Release(numbers(&rt, &[])?), "[]")?;
-    comes_back(&rt, &Release(numbers(&rt, &[3])?), "[{\"Numeric\":3}]")
+    comes_back(&rt, &Release(numbers(&rt, &[3])?), r#"[{"Numeric":3}]"#)
 }
 
 #[test]
 fn last_parts_messy_chunks_and_signs(rt: HostRuntime) -> Result<(), Fail> {
     for (last, text) in [
-        (Last::Numeric(3), "{\"Numeric\":3}"),
-        (Last::Rc(0, text(&rt, "rc")?, 1), "{\"Rc\":[0,\"rc\",1]}"),
-        (Last::Post(2, text(&rt, "a")?), "{\"Post\":[2,\"a\"]}"),
-        (Last::Alphanum(text(&rt, "git")?), "{\"Alphanum\":\"git\"}"),
+        (Last::Numeric(3), r#"{"Numeric":3}"#),
+        (Last::Rc(0, text(&rt, "rc")?, 1), r#"{"Rc":[0,"rc",1]}"#),
+        (Last::Post(2, text(&rt, "a")?), r#"{"Post":[2,"a"]}"#),
+        (Last::Alphanum(text(&rt, "git")?), r#"{"Alphanum":"git"}"#),
     ] {
         comes_back(&rt, &last, text)?;
     }
     for (chunk, text) in [
-        (MChunk::Digits(7, text(&rt, "007")?), "{\"Digits\":[7,\"007\"]}"),
-        (MChunk::Rev(1, text(&rt, "r1")?), "{\"Rev\":[1,\"r1\"]}"),
-        (MChunk::Plain(text(&rt, "a\"\\")?), "{\"Plain\":\"a\\\"\\\\\"}"),
+        (
+            MChunk::Digits(7, text(&rt, "007")?),
+            r#"{"Digits":[7,"007"]}"#,
+        ),
+        (MChunk::Rev(1, text(&rt, "r1")?), r#"{"Rev":[1,"r1"]}"#),
+        (MChunk::Plain(text(&rt, r#"a"\"#)?), r#"{"Plain":"a\"\\"}"#),
     ] {
         comes_back(&rt, &chunk, text)?;
     }
     for (sign, text) in [
-        (Sep::Colon, "\"Colon\""),
-        (Sep::Hyphen, "\"Hyphen\""),
-        (Sep::Plus, "\"Plus\""),
-        (Sep::Underscore, "\"Underscore\""),
-        (Sep::Tilde, "\"Tilde\""),
+        (Sep::Colon, r#""Colon""#),
+        (Sep::Hyphen, r#""Hyphen""#),
+        (Sep::Plus, r#""Plus""#),
+        (Sep::Underscore, r#""Underscore""#),
+        (Sep::Tilde, r#""Tilde""#),
     ] {
         comes_back(&rt, &sign, text)?;
     }
@@ -51,9 +67,9 @@ fn strict_versions(rt: HostRuntime) -> Result<(), Fail> {
     comes_back(
         &rt,
         &strict(&rt, "1.2.3")?,
-        "{\"major\":1,\"minor\":2,\"patch\":3,\"pre_rel\":null,\"meta\":null}",
+        r#"{"major":1,"minor":2,"patch":3,"pre_rel":null,"meta":null}"#,
     )?;
-    let form = "{\"major\":1,\"minor\":2,\"patch\":3,\"pre_rel\":[{\"Alphanum\":\"rc\"}],\"meta\":\"x86\"}";
+    let form = r#"{"major":1,"minor":2,"patch":3,"pre_rel":[{"Alphanum":"rc"}],"meta":"x86"}"#;
     comes_back(&rt, &strict(&rt, "1.2.3-rc+x86")?, form)?;
     // `==` leaves metadata out.
     let read: SemVer = serde_json::from_str(rt.alloc(), form)?;
@@ -66,28 +82,34 @@ fn general_versions(rt: HostRuntime) -> Result<(), Fail> {
     comes_back(
         &rt,
         &general(&rt, "1")?,
-        "{\"epoch\":null,\"chunks\":[],\"last\":{\"Numeric\":1},\"release\":null,\"meta\":null}",
+        r#"{"epoch":null,"chunks":[],"last":{"Numeric":1},"release":null,"meta":null}"#,
     )?;
     comes_back(
         &rt,
         &general(&rt, "1:2.0rc1-3+x")?,
-        "{\"epoch\":1,\"chunks\":[{\"Numeric\":2}],\"last\":{\"Rc\":[0,\"rc\",1]},\"release\":[{\"Numeric\":3}],\"meta\":\"x\"}",
+        r#"{"epoch":1,"chunks":[{"Numeric":2}],"last":{"Rc":[0,"rc",1]},"release":[{"Numeric":3}],"meta":"x"}"#,
     )
 }
 
 #[test]
 fn other_documents_are_errors(rt: HostRuntime) -> Result<(), Fail> {
-    is_refused::<Chunk>(&rt, "{\"Number\":1}")?;
-    is_refused::<Chunk>(&rt, "{\"Numeric\":4294967296}")?;
-    is_refused::<Chunk>(&rt, "{\"Numeric\":-1}")?;
-    is_refused::<Chunks>(&rt, "[{\"Numeric\":1},{\"Alphanum\":2}]")?;
-    is_refused::<Release>(&rt, "\"1\"")?;
-    is_refused::<Last>(&rt, "{\"Rc\":[0,\"rc\"]}")?;
-    is_refused::<MChunk>(&rt, "{\"Digits\":[4294967296,\"x\"]}")?;
-    is_refused::<Sep>(&rt, "\"Comma\"")?;
-    is_refused::<SemVer>(&rt, "{\"major\":1,\"minor\":2,\"pre_rel\":null,\"meta\":null}")?;
-    is_refused::<SemVer>(&rt, "{\"major\":1,\"minor\":2,\"patch\":4294967296}")?;
-    is_refused::<Version>(&rt, "{\"epoch\":null,\"chunks\":[{\"Alphanum\":\"a\"}]}")
+    is_refused::<Chunk>(&rt, r#"{"Number":1}"#)?;
+    is_refused::<Chunk>(&rt, r#"{"Numeric":4294967296}"#)?;
+    is_refused::<Chunk>(&rt, r#"{"Numeric":-1}"#)?;
+    is_refused::<Chunks>(&rt, r#"[{"Numeric":1},{"Alphanum":2}]"#)?;
+    is_refused::<Release>(&rt, r#""1""#)?;
+    is_refused::<Last>(&rt, r#"{"Rc":[0,"rc"]}"#)?;
+    is_refused::<MChunk>(&rt, r#"{"Digits":[4294967296,"x"]}"#)?;
+    is_refused::<Sep>(&rt, r#""Comma""#)?;
+    is_refused::<SemVer>(&rt, r#"{"major":1,"minor":2,"pre_rel":null,"meta":null}"#)?;
+    is_refused::<SemVer>(
+        &rt,
+        r#"{"major":1,"minor":2,"patch":4294967296,"pre_rel":null,"meta":null}"#,
+    )?;
+    is_refused::<Version>(
+        &rt,
+        r#"{"epoch":null,"chunks":[{"Alphanum":"a"}],"release":null,"meta":null}"#,
+    )
 }
 
 // A value is written as this text, and the text read as that value.
@@ -98,7 +120,7 @@ fn comes_back<T: Serialize + DeserializeOwned + PartialEq + Drop>(
 ) -> Result<(), Fail> {
     let written = serde_json::to_string(rt.alloc(), value)?;
     assert_eq!(rt; written.as_str(), form);
-    let read: T = serde_json::from_value(rt.alloc(), serde_json::to_value(rt.alloc(), value)?)?;
+    let read: T = serde_json::from_value(rt.alloc(), Value::from_str(rt.alloc(), form)?)?;
     assert!(rt; read == *value, "{form}");
     Ok(())
 }
@@ -108,8 +130,7 @@ fn is_refused<T: DeserializeOwned + Drop>(
     rt: &(impl Abort + AllocGlobal),
     form: &str,
 ) -> Result<(), Fail> {
-    let value = serde_json::Value::from_str(rt.alloc(), form)?;
-    let read: Result<T, serde_json::Error> = serde_json::from_value(rt.alloc(), value);
+    let read = serde_json::from_value::<T>(rt.alloc(), Value::from_str(rt.alloc(), form)?);
     assert!(rt; read.is_err(), "{form}");
     Ok(())
 }
