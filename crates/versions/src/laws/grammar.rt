@@ -1,17 +1,15 @@
 //! Laws of the grammars: what a front reads is spelled so, what is spelled is read, and a value prints its text.
 
-ghost use Rattle.std.specs.Prelude.{◌≡◌, ◌↔◌, ◌⊎◌, [], List, Some, ℕ};
+ghost use Rattle.std.specs.Prelude.{◌≡◌, ◌↔◌, [], List, Some, ℕ};
 ghost use Rattle.std.specs.Str.{IsAscii};
 ghost use Rattle.version_parts.specs.MChunk.{EndsChunk};
 ghost use Rattle.version_parts.specs.Reading.{IsKept, IsPrinted, IsSound, IsSoundBefore};
 ghost use Rattle.versions.specs.Conversions.{version_of_semver};
-ghost use Rattle.versions.specs.Matching.{MatchesAll};
 ghost use Rattle.versions.specs.Mess.{mess_front, mess_of, mess_text, PlainMess, SpellsMess};
 ghost use Rattle.versions.specs.Requirement.{requirement_of, requirement_text, PlainRequirement, SpellsRequirement};
 ghost use Rattle.versions.specs.Requirements.{requirements_of, requirements_text, SpellsRequirements};
 ghost use Rattle.versions.specs.SemVer.{semver_front, semver_of, semver_text, PlainSemVer, SpellsSemVer};
 ghost use Rattle.versions.specs.Version.{version_front, version_of, version_text, PlainVersion, SpellsVersion};
-ghost use Rattle.versions.specs.Versioning.{PlainVersioning};
 
 /// A front without rest is the whole grammar; what is read is spelled so, with any rest; a text spells one version
 /// at most, which prints it; and only ASCII is spelled.
@@ -63,9 +61,4 @@ fn requirement_lists()
     ensures only { (text : List ℕ) (list others : List PlainRequirement) → SpellsRequirements text list → SpellsRequirements text others → list ≡ others }
     ensures printed { IsPrinted SpellsRequirements requirements_text }
     ensures answer { (text : List ℕ) (list : List PlainRequirement) → (requirements_of text ≡ Some list) ↔ SpellsRequirements text list }
-{}
-
-/// Whether a list of requirements asks for a version can be told of every list and every version.
-fn requirements_told()
-    ensures { (list : List PlainRequirement) (v : PlainVersioning) → MatchesAll list v ⊎ (¬ (MatchesAll list v)) }
 {}
