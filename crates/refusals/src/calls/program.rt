@@ -1,7 +1,9 @@
-//! Runs of the program, command by command, and with words or lines that it refuses.
+//! Runs of the program, command by command, and with words or lines that it refuses; and copies of faults.
 
 use crate::table::Table;
+use std::alloc::{AllocError, Global};
 use std::io;
+use version_lines::Fault;
 
 pub fn make_all(table: &mut Table<'_>) -> io::Result<()> {
     answer_lines(table)?;
@@ -10,7 +12,14 @@ pub fn make_all(table: &mut Table<'_>) -> io::Result<()> {
     table.runs("run", &["cmp", "1", "."], b"", b"")?;
     table.runs("run", &["key", "1..2"], b"", b"")?;
     table.runs("run", &["match", ">=1.0,"], b"", b"")?;
-    table.runs("run, without memory", &["ideal", "ideal"], b"", b"")
+    table.runs("run, without memory", &["ideal", "ideal"], b"", b"")?;
+    table.borrows("Fault::clone", "1", not_version, |fault, _| fault.clone())?;
+    table.borrows(
+        "Fault::clone",
+        "2",
+        not_requirement,
+        |fault, _| fault.clone(),
+    )
 }
 
 fn answer_lines(table: &mut Table<'_>) -> io::Result<()> {
@@ -44,4 +53,12 @@ fn answer_words(table: &mut Table<'_>) -> io::Result<()> {
         b"",
         b"000301310203013202030133020202\n",
     )
+}
+
+fn not_version(alloc: Global, text: &str) -> Result<Option<Fault>, AllocError> {
+    Ok(Some(Fault::NotVersion(String::from_str(alloc, text)?)))
+}
+
+fn not_requirement(alloc: Global, text: &str) -> Result<Option<Fault>, AllocError> {
+    Ok(Some(Fault::NotRequirement(String::from_str(alloc, text)?)))
 }
