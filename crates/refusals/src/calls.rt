@@ -1,4 +1,5 @@
-//! The table of calls, a row for each, by what they read or borrow.
+//! The table of calls, by what they read or borrow. A further call is a row here, and at the same place its line in
+//! the file `stdout`.
 
 mod any;
 mod general;
