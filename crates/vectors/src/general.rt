@@ -1,6 +1,6 @@
 //! General versions and their parts: what is read, what is not, what is printed, and what is copied.
 
-use crate::order::{hash_of, release, strict};
+use crate::order::hash_of;
 use crate::strict::printed;
 use std::alloc::AllocError;
 use std::test::Fail;
@@ -89,20 +89,6 @@ fn the_last_part_is_taken_apart(rt: HostRuntime) -> Result<(), Fail> {
     Ok(())
 }
 
-// Each request for memory fails in turn in `tests/refused_memory`, which looks for the line that is printed here.
-#[test]
-fn refused_memory_gives_the_chunk_back(rt: HostRuntime) -> Result<(), Fail> {
-    for part in ["1rc2", "7b"] {
-        let chunk = Chunk::Alphanum(text(&rt, part)?);
-        let wanted = Chunk::Alphanum(text(&rt, part)?);
-        if let Err((chunk, _)) = Last::from_chunk(rt.alloc(), chunk) {
-            assert_eq!(rt; chunk, wanted);
-            println!(rt; "{chunk} came back")?;
-        }
-    }
-    Ok(())
-}
-
 #[test]
 fn digits_of_a_chunk(rt: HostRuntime) -> Result<(), Fail> {
     assert_eq!(rt; Chunk::Numeric(1).single_digit(), Some(1));
@@ -132,28 +118,6 @@ fn empty_pieces_print_their_marks(rt: HostRuntime) -> Result<(), Fail> {
     version.release = Some(Release(Vec::new(rt.alloc())));
     version.meta = Some(String::new(rt.alloc()));
     assert_eq!(rt; printed(&rt, &version)?.as_str(), "0:0-+");
-    Ok(())
-}
-
-#[test]
-fn readers_and_copies_succeed_with_ample_memory(rt: HostRuntime) -> Result<(), Fail> {
-    let (chunk, rest) = Chunk::parse_without_hyphens(rt.alloc(), "a1-b")?.ok_or("not read")?;
-    assert_eq!(rt; chunk, Chunk::Alphanum(text(&rt, "a1")?));
-    assert_eq!(rt; rest, "-b");
-    assert_eq!(rt; chunk.clone(rt.alloc())?, chunk);
-    let (chunks, rest) = Chunks::parse(rt.alloc(), "1.a..2")?.ok_or("not read")?;
-    assert_eq!(rt; printed(&rt, &chunks)?.as_str(), "1.a");
-    assert_eq!(rt; rest, "..2");
-    assert_eq!(rt; chunks.clone(rt.alloc())?, chunks);
-    let release = release(&rt, "-rc.1")?;
-    assert_eq!(rt; release.clone(rt.alloc())?, release);
-    let strict = strict(&rt, "1.2.3-rc.1+x86")?.clone(rt.alloc())?;
-    assert_eq!(rt; printed(&rt, &strict)?.as_str(), "1.2.3-rc.1+x86");
-    for text in ["1:2.a.3rc4-5+six", "7b", "x", "0"] {
-        let version = general(&rt, text)?;
-        assert_eq!(rt; version.clone(rt.alloc())?, version);
-        assert_eq!(rt; version.last.clone(rt.alloc())?, version.last);
-    }
     Ok(())
 }
 

@@ -193,7 +193,7 @@ fn alone(rt: &HostRuntime, chunk: &str) -> Result<Vec<Chunk>, AllocError> {
     Ok(chunks)
 }
 
-pub(crate) fn release(rt: &HostRuntime, text: &str) -> Result<Release, Fail> {
+fn release(rt: &HostRuntime, text: &str) -> Result<Release, Fail> {
     let (release, _) = Release::parse(rt.alloc(), text)?.ok_or("no release")?;
     Ok(release)
 }

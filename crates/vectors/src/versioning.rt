@@ -206,21 +206,6 @@ fn the_default_is_zero(rt: HostRuntime) -> Result<(), Fail> {
     Ok(())
 }
 
-// The first request for memory is refused in `tests/refused_memory`, which looks for the lines that are printed here.
-#[test]
-fn what_is_read_without_memory(rt: HostRuntime) -> Result<(), Fail> {
-    for text in ["", "1.2.3 ", "1..2", "1.2.3-a_!", "4294967295.0.0"] {
-        match Versioning::new(rt.alloc(), text)? {
-            Some(version) => println!(rt; "'{text}' is {version}")?,
-            None => println!(rt; "'{text}' is none")?,
-        }
-    }
-    if Versioning::new(rt.alloc(), "1.2").is_err() {
-        println!(rt; "'1.2' wants memory")?;
-    }
-    Ok(())
-}
-
 pub(crate) fn any(rt: &impl AllocGlobal, text: &str) -> Result<Versioning, Fail> {
     let version = Versioning::new(rt.alloc(), text)?;
     Ok(version.ok_or("no version")?)

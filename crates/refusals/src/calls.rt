@@ -1,0 +1,23 @@
+//! The table of calls, by what they read or borrow. A further call is a row here, and at the same place its line in
+//! the file `stdout`.
+
+mod any;
+mod general;
+mod messy;
+mod parts;
+mod program;
+mod requirements;
+mod strict;
+
+use crate::table::Table;
+use std::io;
+
+pub fn make_all(table: &mut Table<'_>) -> io::Result<()> {
+    parts::make_all(table)?;
+    strict::make_all(table)?;
+    general::make_all(table)?;
+    messy::make_all(table)?;
+    any::make_all(table)?;
+    requirements::make_all(table)?;
+    program::make_all(table)
+}
