@@ -3,6 +3,7 @@
 
 mod any;
 mod general;
+mod json;
 mod messy;
 mod parts;
 mod program;
@@ -19,5 +20,6 @@ pub fn make_all(table: &mut Table<'_>) -> io::Result<()> {
     messy::make_all(table)?;
     any::make_all(table)?;
     requirements::make_all(table)?;
+    json::make_all(table)?;
     program::make_all(table)
 }

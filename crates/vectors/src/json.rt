@@ -2,7 +2,7 @@
 
 use crate::strict::printed;
 use crate::versioning::any;
-use serde_json::{Value, json};
+use serde_json::Value;
 use std::alloc::{AllocError, Global};
 use std::process::Abort;
 use std::test::Fail;
@@ -105,19 +105,16 @@ fn any_text_of_a_version_built_by_hand_comes_back(rt: HostRuntime) -> Result<(),
 
 #[test]
 fn a_version_stands_in_a_document(rt: HostRuntime) -> Result<(), Fail> {
-    let document = Value::from_str(rt.alloc(), r#"{"name":"left","version":"1.2.3"}"#)?;
-    let Some(value) = document.get("version") else {
-        return Err(Fail::new("no member"));
-    };
-    let mut version = read(Versioning::deserialize_pretty(rt.alloc(), value))?;
-    if let Versioning::Ideal(ideal) = &mut version {
-        ideal.patch = 4;
+    let text = r#"{"name":"left","version":"1.2.3"}"#;
+    let mut document = Value::from_str(rt.alloc(), text)?;
+    if let Some(value) = document.get_mut("version") {
+        let version = read(Versioning::deserialize_pretty(rt.alloc(), value))?;
+        assert!(rt; version < any(&rt, "1.10.0")?);
+        *value = any(&rt, "1.10.0")?.serialize_pretty(rt.alloc())?;
     }
-    let version = version.serialize_pretty(rt.alloc())?;
-    let document = json!(in rt.alloc(); {"name": "left", "version": version})?;
     assert_eq!(rt;
         document.to_string(rt.alloc())?.as_str(),
-        r#"{"name":"left","version":"1.2.4"}"#
+        r#"{"name":"left","version":"1.10.0"}"#
     );
     Ok(())
 }

@@ -1,4 +1,5 @@
-//! The forms that serde derives of the types that hold no version of any kind: their JSON texts, and what is refused.
+//! The forms that serde derives of strict and general versions and of the parts of all versions: their JSON texts, and
+//! what is refused.
 
 use crate::general::{numbers, text};
 use crate::order::strict;

@@ -1,0 +1,109 @@
+//! Versions and requirements in JSON documents, and a derived form.
+
+use crate::table::Table;
+use serde_json::{Category, Value};
+use std::alloc::{AllocError, Global};
+use std::io;
+use versions::{Requirement, Requirements, SemVer, Versioning};
+
+const VERSION: &str = "1:2.a.7b-5.b+six";
+
+const REQUIREMENT: &str = ">=1:2.a.7b";
+
+const LIST: &str = ">=1.1.1-a,~2.b,*";
+
+pub fn make_all(table: &mut Table<'_>) -> io::Result<()> {
+    write(table)?;
+    read_versions(table)?;
+    read_requirements(table)?;
+    read_forms(table)
+}
+
+fn write(table: &mut Table<'_>) -> io::Result<()> {
+    table.borrows(
+        "Versioning::serialize_pretty",
+        VERSION,
+        Versioning::new,
+        Versioning::serialize_pretty,
+    )?;
+    table.borrows(
+        "Requirement::serialize",
+        REQUIREMENT,
+        Requirement::new,
+        Requirement::serialize,
+    )?;
+    table.borrows(
+        "Requirements::serialize",
+        LIST,
+        Requirements::new,
+        Requirements::serialize,
+    )
+}
+
+fn read_versions(table: &mut Table<'_>) -> io::Result<()> {
+    for text in [VERSION, "1 2"] {
+        table.borrows(
+            "Versioning::deserialize_pretty",
+            text,
+            string,
+            |value, alloc| Versioning::deserialize_pretty(alloc, value),
+        )?;
+    }
+    for text in ["1", "[\"1.2\"]"] {
+        table.borrows(
+            "Versioning::deserialize_pretty, without memory",
+            text,
+            document,
+            |value, alloc| Versioning::deserialize_pretty(alloc, value),
+        )?;
+    }
+    Ok(())
+}
+
+fn read_requirements(table: &mut Table<'_>) -> io::Result<()> {
+    for text in [REQUIREMENT, LIST] {
+        table.borrows(
+            "Requirement::deserialize",
+            text,
+            string,
+            |value, alloc| Requirement::deserialize(alloc, value),
+        )?;
+    }
+    for text in [LIST, ""] {
+        table.borrows(
+            "Requirements::deserialize",
+            text,
+            string,
+            |value, alloc| Requirements::deserialize(alloc, value),
+        )?;
+    }
+    Ok(())
+}
+
+// The last two are no strict version: a chunk of no kind behind others, and a number above the largest.
+fn read_forms(table: &mut Table<'_>) -> io::Result<()> {
+    for text in [
+        "{\"major\":1,\"minor\":2,\"patch\":3,\"pre_rel\":[{\"Alphanum\":\"rc\"}],\"meta\":\"x\"}",
+        "{\"meta\":\"x\",\"pre_rel\":[{\"Alphanum\":\"rc\"},{\"Number\":1}]}",
+        "{\"meta\":\"x\",\"pre_rel\":[{\"Alphanum\":\"rc\"}],\"major\":4294967296}",
+    ] {
+        table.reads("the form of a SemVer", text, strict_form)?;
+    }
+    Ok(())
+}
+
+fn string(alloc: Global, text: &str) -> Result<Option<Value>, AllocError> {
+    Ok(Some(Value::try_from_str(alloc, text)?))
+}
+
+fn document(alloc: Global, text: &str) -> Result<Option<Value>, AllocError> {
+    match Value::from_str(alloc, text) {
+        Ok(value) => Ok(Some(value)),
+        Err(error) if error.classify() == Category::Memory => Err(AllocError),
+        Err(_) => Ok(None),
+    }
+}
+
+fn strict_form(alloc: Global, text: &str) -> Result<SemVer, Category> {
+    serde_json::from_str(alloc, text).map_err(|error| error.classify())
+}
