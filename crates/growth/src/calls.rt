@@ -1,0 +1,81 @@
+//! The calls that are timed, and a round of them.
+
+use std::hash::{DefaultHasher, Hash, Hasher};
+use std::io;
+use std::io::ErrorKind;
+use std::time::{CpuClock, Duration};
+use versions::Versioning;
+
+/// How many calls are timed.
+pub const COUNT: usize = 8;
+
+/// What they do with a version, in the order of their times.
+pub const NAMES: [&str; COUNT] = [
+    "read",
+    "printed",
+    "keyed",
+    "cloned",
+    "precedence",
+    "cmp",
+    "hashed",
+    "dropped",
+];
+
+/// What each call takes on that text, one after the other. All results are looked at, so that no call can be left out;
+/// a wrong one is an error.
+pub fn times(rt: &HostRuntime, text: &str) -> io::Result<[Duration; COUNT]> {
+    let mut watch = Watch::start(rt)?;
+    let version = Versioning::new(rt.alloc(), text)?.ok_or(ErrorKind::InvalidInput)?;
+    let read = watch.lap(rt)?;
+    let text_again = version.to_string(rt.alloc())?;
+    let printed = watch.lap(rt)?;
+    let key = version.sort_key(rt.alloc())?;
+    let keyed = watch.lap(rt)?;
+    let copy = version.clone(rt.alloc())?;
+    let cloned = watch.lap(rt)?;
+    let tie = version.precedence(&copy).is_eq();
+    let precedence = watch.lap(rt)?;
+    let same = version.cmp(&copy).is_eq();
+    let cmp = watch.lap(rt)?;
+    let hash = hash_of(&version);
+    let hashed = watch.lap(rt)?;
+
+    let right = text_again.as_str() == text && !key.is_empty() && tie && same;
+    if !right || hash != hash_of(&copy) {
+        return Err(ErrorKind::InvalidData.into());
+    }
+
+    watch.lap(rt)?;
+    drop(copy);
+    let dropped = watch.lap(rt)?;
+    Ok([
+        read, printed, keyed, cloned, precedence, cmp, hashed, dropped,
+    ])
+}
+
+// The time of the processor since it was last looked at, to which other work on the machine adds little.
+#[derive(Drop)]
+struct Watch {
+    last: Duration,
+}
+
+impl Watch {
+    fn start(clock: &impl CpuClock) -> io::Result<Watch> {
+        Ok(Watch {
+            last: clock.thread_cpu_time()?,
+        })
+    }
+
+    fn lap(&mut self, clock: &impl CpuClock) -> io::Result<Duration> {
+        let now = clock.thread_cpu_time()?;
+        let taken = now.saturating_sub(self.last);
+        self.last = now;
+        Ok(taken)
+    }
+}
+
+fn hash_of(version: &Versioning) -> u64 {
+    let mut state = DefaultHasher::new();
+    version.hash(&mut state);
+    state.finish()
+}

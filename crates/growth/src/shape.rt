@@ -1,0 +1,47 @@
+//! Shapes of long versions.
+
+use std::alloc::{AllocError, Global};
+
+/// What a long version is made of.
+#[derive(Clone, Copy)]
+pub enum Shape {
+    /// `1_1_1_1`: sections of a messy version, each inside the one before it.
+    Signs,
+    /// `aaaa`: one part of a general version.
+    Letters,
+    /// `1.1.1.1`: parts of a general version.
+    Dots,
+    /// `1.2.3+aaaa`: metadata of a strict version.
+    Metadata,
+}
+
+impl Shape {
+    /// The shape of that name.
+    pub fn named(name: &str) -> Option<Shape> {
+        match name {
+            "signs" => Some(Shape::Signs),
+            "letters" => Some(Shape::Letters),
+            "dots" => Some(Shape::Dots),
+            "metadata" => Some(Shape::Metadata),
+            _ => None,
+        }
+    }
+
+    /// A version of this shape, of as many bytes or one more.
+    pub fn text(self, alloc: Global, bytes: usize) -> Result<String, AllocError> {
+        let (front, further) = match self {
+            Shape::Signs => ("1", "_1"),
+            Shape::Letters => ("a", "a"),
+            Shape::Dots => ("1", ".1"),
+            Shape::Metadata => ("1.2.3+a", "a"),
+        };
+        let mut text = String::from_str(alloc, front)?;
+        for _ in 0..bytes {
+            if text.len() >= bytes {
+                break;
+            }
+            text.push_str(further)?;
+        }
+        Ok(text)
+    }
+}
