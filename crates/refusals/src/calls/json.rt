@@ -69,7 +69,7 @@ fn read_requirements(table: &mut Table<'_>) -> io::Result<()> {
             |value, alloc| Requirement::deserialize(alloc, value),
         )?;
     }
-    for text in [LIST, ""] {
+    for text in [LIST, ">=1.0,"] {
         table.borrows(
             "Requirements::deserialize",
             text,
