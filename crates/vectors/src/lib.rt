@@ -22,4 +22,6 @@ mod streams;
 #[cfg(test)]
 mod strict;
 #[cfg(test)]
+mod values;
+#[cfg(test)]
 mod versioning;

@@ -169,6 +169,9 @@ fn unequal_values_hash_apart(rt: HostRuntime) -> Result<(), Fail> {
         }
     }
     assert_ne!(rt; hash_of(&Sep::Colon), hash_of(&Sep::Tilde));
+    let digits = MChunk::Digits(1, String::from_str(rt.alloc(), "1")?);
+    let plain = MChunk::Plain(String::from_str(rt.alloc(), "1")?);
+    assert_ne!(rt; hash_of(&digits), hash_of(&plain));
     Ok(())
 }
 

@@ -1,5 +1,6 @@
 //! The program: what it reads and writes, and how it ends.
 
+use crate::order::hash_of;
 use std::alloc::{AllocError, Global};
 use std::io;
 use std::io::{Error, ErrorKind, Read, Write};
@@ -23,6 +24,7 @@ fn faults_say_their_texts_and_statuses(rt: HostRuntime) -> Result<(), Fail> {
         assert_eq!(rt; fault.to_string(rt.alloc())?.as_str(), text);
         assert_eq!(rt; fault.status(), status, "{text}");
     }
+    assert_ne!(rt; hash_of(&Fault::Read), hash_of(&Fault::Write));
     Ok(())
 }
 

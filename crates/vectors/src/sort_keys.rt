@@ -10,122 +10,27 @@ use std::test::Fail;
 use versions::key::compare_bytes;
 use versions::{Last, Version, Versioning};
 
-#[test]
-fn strict_and_general_keys(rt: HostRuntime) -> Result<(), Fail> {
-    for (text, wanted) in [
-        (
-            "1.2.3",
-            [
-                0x00, 0x03, 0x01, 0x31, 0x02, 0x03, 0x01, 0x32, 0x02, 0x03, 0x01, 0x33, 0x02, 0x02,
-                0x02,
-            ]
-            .as_slice(),
-        ),
-        (
-            "1.2.3-r1+git",
-            &[
-                0x00, 0x03, 0x01, 0x31, 0x02, 0x03, 0x01, 0x32, 0x02, 0x03, 0x01, 0x33, 0x02, 0x02,
-                0x01, 0x03, 0x72, 0x31, 0x00, 0x01,
-            ],
-        ),
-        (
-            "1:2.0-3",
-            &[
-                0x01, 0x31, 0x03, 0x01, 0x32, 0x02, 0x03, 0x00, 0x02, 0x02, 0x03, 0x02, 0x01, 0x33,
-                0x01,
-            ],
-        ),
-        (
-            "1.0rc1",
-            &[
-                0x00, 0x03, 0x01, 0x31, 0x02, 0x03, 0x00, 0x01, 0x72, 0x63, 0x00, 0x01, 0x01, 0x31,
-                0x00, 0x02, 0x02,
-            ],
-        ),
-        (
-            "2.a1.0",
-            &[
-                0x00, 0x03, 0x01, 0x32, 0x02, 0x01, 0x61, 0x00, 0x01, 0x01, 0x31, 0x00, 0x03, 0x00,
-                0x02, 0x02, 0x02,
-            ],
-        ),
-        ("9", &[0x00, 0x03, 0x01, 0x39, 0x02, 0x02, 0x02]),
-        ("10", &[0x00, 0x03, 0x02, 0x31, 0x30, 0x02, 0x02, 0x02]),
-    ] {
-        key(&rt, &any(&rt, text)?, wanted)?;
-    }
-    Ok(())
-}
+// Texts, and the keys of the versions of the first kind that they spell.
+const ROWS: &str = "\
+1.2.3 | 00 03 01 31 02 03 01 32 02 03 01 33 02 02 02
+1.0rc1 | 00 03 01 31 02 03 00 01 72 63 00 01 01 31 00 02 02
+2.a1.0 | 00 03 01 32 02 01 61 00 01 01 31 00 03 00 02 02 02
+9 | 00 03 01 39 02 02 02
+10 | 00 03 02 31 30 02 02 02
+1_2 | 00 03 01 31 02 02 04 02 03 01 32 02 02 01
+1.2:3 | 00 03 01 31 02 03 01 32 02 02 04 02 03 01 33 02 02 01
+r1:2 | 00 01 72 00 01 01 31 00 02 04 02 03 01 32 02 02 01";
 
 #[test]
-fn messy_keys(rt: HostRuntime) -> Result<(), Fail> {
-    for (text, wanted) in [
-        (
-            "1.0_2",
-            [
-                0x00, 0x03, 0x01, 0x31, 0x02, 0x03, 0x00, 0x02, 0x02, 0x04, 0x02, 0x03, 0x01, 0x32,
-                0x02, 0x02, 0x01,
-            ]
-            .as_slice(),
-        ),
-        (
-            "0:1.0_2",
-            &[
-                0x00, 0x03, 0x01, 0x31, 0x02, 0x03, 0x00, 0x02, 0x02, 0x04, 0x02, 0x03, 0x01, 0x32,
-                0x02, 0x02, 0x01,
-            ],
-        ),
-        (
-            "1:2:3",
-            &[
-                0x01, 0x31, 0x03, 0x01, 0x32, 0x02, 0x02, 0x04, 0x02, 0x03, 0x01, 0x33, 0x02, 0x02,
-                0x01,
-            ],
-        ),
-        (
-            "1-2+3",
-            &[
-                0x00, 0x03, 0x01, 0x31, 0x02, 0x02, 0x04, 0x02, 0x03, 0x01, 0x32, 0x02, 0x02, 0x02,
-                0x03, 0x01, 0x33, 0x02, 0x02, 0x01,
-            ],
-        ),
-        (
-            "1_2",
-            &[
-                0x00, 0x03, 0x01, 0x31, 0x02, 0x02, 0x04, 0x02, 0x03, 0x01, 0x32, 0x02, 0x02, 0x01,
-            ],
-        ),
-        (
-            "1.2:3",
-            &[
-                0x00, 0x03, 0x01, 0x31, 0x02, 0x03, 0x01, 0x32, 0x02, 0x02, 0x04, 0x02, 0x03, 0x01,
-                0x33, 0x02, 0x02, 0x01,
-            ],
-        ),
-        (
-            "r1:2",
-            &[
-                0x00, 0x01, 0x72, 0x00, 0x01, 0x01, 0x31, 0x00, 0x02, 0x04, 0x02, 0x03, 0x01, 0x32,
-                0x02, 0x02, 0x01,
-            ],
-        ),
-    ] {
-        key(&rt, &Versioning::Complex(messy(&rt, text)?), wanted)?;
+fn keys_of_what_is_read(rt: HostRuntime) -> Result<(), Fail> {
+    for row in ROWS.lines() {
+        let (text, wanted) = row.split_once(" | ").ok_or("no key")?;
+        key(&rt, &any(&rt, text)?, bytes(&rt, wanted)?.as_slice())?;
     }
-    Ok(())
-}
-
-#[test]
-fn one_part_of_three_variants(rt: HostRuntime) -> Result<(), Fail> {
-    let wanted = [0x00, 0x03, 0x03, 0x31, 0x30, 0x32, 0x02, 0x02, 0x02];
-    for last in [
-        Last::Rc(1, text(&rt, "0")?, 2),
-        Last::Numeric(102),
-        Last::Alphanum(text(&rt, "102")?),
-    ] {
-        key(&rt, &alone(&rt, last), wanted.as_slice())?;
-    }
-    Ok(())
+    // Read as a messy version, though it is a general one.
+    let mess = Versioning::Complex(messy(&rt, "1-2+3")?);
+    let wanted = "00 03 01 31 02 02 04 02 03 01 32 02 02 02 03 01 33 02 02 01";
+    key(&rt, &mess, bytes(&rt, wanted)?.as_slice())
 }
 
 #[test]
@@ -178,7 +83,11 @@ fn ten_megabytes_of_digits(rt: HostRuntime) -> Result<(), Fail> {
 }
 
 // The bytes of a version's key, in a list and one after another.
-fn key(rt: &(impl Abort + AllocGlobal), version: &Versioning, wanted: &[u8]) -> Result<(), Fail> {
+pub(crate) fn key(
+    rt: &(impl Abort + AllocGlobal),
+    version: &Versioning,
+    wanted: &[u8],
+) -> Result<(), Fail> {
     assert_eq!(rt;
         version.sort_key(rt.alloc())?.as_slice(),
         wanted,
@@ -190,6 +99,15 @@ fn key(rt: &(impl Abort + AllocGlobal), version: &Versioning, wanted: &[u8]) -> 
     }
     assert_eq!(rt; bytes.as_slice(), wanted, "{version}");
     Ok(())
+}
+
+// The bytes that a text has in hexadecimal, a blank between each two.
+pub(crate) fn bytes(rt: &impl AllocGlobal, hexadecimal: &str) -> Result<Vec<u8>, Fail> {
+    let mut bytes = Vec::new(rt.alloc());
+    for byte in hexadecimal.split(' ') {
+        bytes.push(u8::from_str_radix(byte, 16)?)?;
+    }
+    Ok(bytes)
 }
 
 // The first version is below the second in precedence and in `Ord`, and so are their keys.
@@ -212,7 +130,7 @@ fn are_ordered(
 }
 
 // A general version of a last part alone.
-fn alone(rt: &HostRuntime, last: Last) -> Versioning {
+pub(crate) fn alone(rt: &HostRuntime, last: Last) -> Versioning {
     let mut version = Version::default_in(rt.alloc());
     version.last = last;
     Versioning::General(version)

@@ -151,7 +151,10 @@ fn each_error_says_its_text(rt: HostRuntime) -> Result<(), Fail> {
 
 #[test]
 fn metadata_of_strict_versions_is_not_compared(rt: HostRuntime) -> Result<(), Fail> {
-    assert_eq!(rt; any(&rt, "1.2.3+a")?, any(&rt, "1.2.3+b")?);
+    let a = any(&rt, "1.2.3+a")?;
+    let b = any(&rt, "1.2.3+b")?;
+    assert_eq!(rt; a, b);
+    assert_eq!(rt; hash_of(&a), hash_of(&b));
     assert_ne!(rt; any(&rt, "1.2+a")?, any(&rt, "1.2+b")?);
     let copy = any(&rt, "1.2.3+a")?.clone(rt.alloc())?;
     assert_eq!(rt; printed(&rt, &copy)?.as_str(), "1.2.3+a");
