@@ -2,7 +2,11 @@
 #![tactic(auto)]
 
 #[cfg(test)]
+mod devices;
+#[cfg(test)]
 mod general;
+#[cfg(test)]
+mod lengths;
 #[cfg(test)]
 mod messy;
 #[cfg(test)]

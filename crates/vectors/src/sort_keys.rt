@@ -1,9 +1,9 @@
-//! The bytes of the keys of versions, one after another and in a list, and versions of great length.
+//! The bytes of the keys of versions, one after another and in a list.
 
 use crate::general::text;
 use crate::messy::messy;
+use crate::order::hash_of;
 use crate::versioning::any;
-use std::alloc::AllocError;
 use std::cmp::Ordering;
 use std::process::Abort;
 use std::test::Fail;
@@ -43,45 +43,6 @@ fn words_of_control_characters(rt: HostRuntime) -> Result<(), Fail> {
     Ok(())
 }
 
-#[test]
-fn three_thousand_nines(rt: HostRuntime) -> Result<(), Fail> {
-    let nines = repeated(&rt, "9", 3000, "")?;
-    let mut wanted = Vec::from_slice(rt.alloc(), &[0x00, 0x03])?;
-    for _ in 0..11 {
-        wanted.push(0xFF)?;
-    }
-    wanted.push(0xC3)?;
-    for _ in 0..3000 {
-        wanted.push(0x39)?;
-    }
-    wanted.extend_from_slice(&[0x02, 0x02, 0x02])?;
-    key(&rt, &any(&rt, nines.as_str())?, wanted.as_slice())?;
-    key(&rt, &alone(&rt, Last::Alphanum(nines)), wanted.as_slice())
-}
-
-#[test]
-fn three_thousand_zeros_and_a_one(rt: HostRuntime) -> Result<(), Fail> {
-    let long = any(&rt, repeated(&rt, "0", 3000, "1")?.as_str())?;
-    let wanted = [0x00, 0x03, 0x01, 0x31, 0x02, 0x02, 0x02];
-    key(&rt, &long, wanted.as_slice())?;
-    assert_eq!(rt; long.precedence(&any(&rt, "1")?), Ordering::Equal);
-    Ok(())
-}
-
-#[test]
-fn a_million_sections(rt: HostRuntime) -> Result<(), Fail> {
-    let lower = any(&rt, repeated(&rt, "1_", 999_999, "1")?.as_str())?;
-    let upper = any(&rt, repeated(&rt, "1_", 999_999, "2")?.as_str())?;
-    are_ordered(&rt, &lower, &upper)
-}
-
-#[test]
-fn ten_megabytes_of_digits(rt: HostRuntime) -> Result<(), Fail> {
-    let lower = any(&rt, repeated(&rt, "9", 9_999_999, "8")?.as_str())?;
-    let upper = any(&rt, repeated(&rt, "9", 9_999_999, "9")?.as_str())?;
-    are_ordered(&rt, &lower, &upper)
-}
-
 // The bytes of a version's key, in a list and one after another.
 pub(crate) fn key(
     rt: &(impl Abort + AllocGlobal),
@@ -110,8 +71,8 @@ pub(crate) fn bytes(rt: &impl AllocGlobal, hexadecimal: &str) -> Result<Vec<u8>,
     Ok(bytes)
 }
 
-// The first version is below the second in precedence and in `Ord`, and so are their keys.
-fn are_ordered(
+// The first version is below the second in precedence and in `Ord`, and so are their keys; and they hash apart.
+pub(crate) fn are_ordered(
     rt: &(impl Abort + AllocGlobal),
     lower: &Versioning,
     upper: &Versioning,
@@ -120,6 +81,8 @@ fn are_ordered(
     assert_eq!(rt; upper.precedence(lower), Ordering::Greater);
     assert_eq!(rt; lower.cmp(upper), Ordering::Less);
     assert_eq!(rt; upper.cmp(lower), Ordering::Greater);
+    assert!(rt; lower != upper);
+    assert_ne!(rt; hash_of(lower), hash_of(upper));
     let lower = lower.sort_key(rt.alloc())?;
     let upper = upper.sort_key(rt.alloc())?;
     assert!(rt; lower.as_slice() < upper.as_slice());
@@ -134,14 +97,4 @@ pub(crate) fn alone(rt: &HostRuntime, last: Last) -> Versioning {
     let mut version = Version::default_in(rt.alloc());
     version.last = last;
     Versioning::General(version)
-}
-
-// A text so many times, and an end behind it.
-fn repeated(rt: &HostRuntime, text: &str, count: u32, end: &str) -> Result<String, AllocError> {
-    let mut long = String::new(rt.alloc());
-    for _ in 0..count {
-        long.push_str(text)?;
-    }
-    long.push_str(end)?;
-    Ok(long)
 }

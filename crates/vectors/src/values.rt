@@ -5,7 +5,7 @@ use crate::messy::messy;
 use crate::order::{hash_of, strict};
 use crate::sort_keys::{alone, bytes, key};
 use crate::versioning::any;
-use std::alloc::AllocError;
+use std::alloc::{AllocError, Global};
 use std::cmp::Ordering;
 use std::process::Abort;
 use std::test::Fail;
@@ -71,6 +71,17 @@ fn any_three_stand_in_one_order(rt: HostRuntime) -> Result<(), Fail> {
                 follows(&rt, a.cmp(b), b.cmp(c), a.cmp(c));
             }
         }
+    }
+    Ok(())
+}
+
+#[test]
+fn metadata_of_strict_versions_is_not_looked_at(rt: HostRuntime) -> Result<(), Fail> {
+    for (one, other, equal) in [("1.2.3+a", "1.2.3+b", true), ("1.2+a", "1.2+b", false)] {
+        let one = any(&rt, one)?;
+        let other = any(&rt, other)?;
+        assert_eq!(rt; one == other, equal, "{one} {other}");
+        are_compared(&rt, &one, &other)?;
     }
     Ok(())
 }
@@ -149,13 +160,18 @@ fn section(rt: &HostRuntime, chunk: MChunk) -> Result<Mess, AllocError> {
 // A version prints a text, and so does the messy version that it is converted to.
 fn prints(rt: &(impl Abort + AllocGlobal), version: &Versioning, wanted: &str) -> Result<(), Fail> {
     assert_eq!(rt; version.to_string(rt.alloc())?.as_str(), wanted);
-    let mess = match version {
-        Versioning::Ideal(ideal) => ideal.to_mess(rt.alloc())?,
-        Versioning::General(general) => general.to_mess(rt.alloc())?,
-        Versioning::Complex(complex) => complex.clone(rt.alloc())?,
-    };
+    let mess = as_messy(rt.alloc(), version)?;
     assert_eq!(rt; mess.to_string(rt.alloc())?.as_str(), wanted);
     Ok(())
+}
+
+// The messy version of one that isn't, or a copy.
+pub(crate) fn as_messy(alloc: Global, version: &Versioning) -> Result<Mess, AllocError> {
+    match version {
+        Versioning::Ideal(ideal) => ideal.to_mess(alloc),
+        Versioning::General(general) => general.to_mess(alloc),
+        Versioning::Complex(complex) => complex.clone(alloc),
+    }
 }
 
 // Swapping two versions reverses both orders, precedence is the order of the bytes of the keys, `Ord` ties only equal
