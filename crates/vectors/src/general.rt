@@ -1,8 +1,6 @@
 //! General versions and their parts: what is read, what is not, what is printed, and what is copied.
 
-use crate::order::hash_of;
-use crate::strict::printed;
-use std::alloc::AllocError;
+use crate::given::{general, hash_of, numbers, printed, text};
 use std::test::Fail;
 use versions::{Chunk, Chunks, Last, Release, SemVer, Version};
 
@@ -143,39 +141,4 @@ fn unequal_values_hash_apart(rt: HostRuntime) -> Result<(), Fail> {
         }
     }
     Ok(())
-}
-
-// Two million parts. `rt try --test` takes minutes for it, so it wants `--seconds 600`.
-#[test]
-fn ten_megabytes_are_read_printed_copied_and_compared(rt: HostRuntime) -> Result<(), Fail> {
-    let mut long = String::with_capacity(rt.alloc(), 10_000_000)?;
-    for _ in 0..1_000_000 {
-        long.push_str("1.abcdef2.")?;
-    }
-    long.push_str("3")?;
-    let version = general(&rt, long.as_str())?;
-    assert_eq!(rt; version.chunks.0.len(), 2_000_000);
-    assert!(rt; printed(&rt, &version)? == long);
-    let mut copy = version.clone(rt.alloc())?;
-    assert!(rt; copy == version);
-    copy.last = Last::Numeric(4);
-    assert!(rt; copy != version);
-    Ok(())
-}
-
-fn general(rt: &HostRuntime, text: &str) -> Result<Version, Fail> {
-    let version = Version::new(rt.alloc(), text)?;
-    Ok(version.ok_or("no general version")?)
-}
-
-pub(crate) fn numbers(rt: &HostRuntime, numbers: &[u32]) -> Result<Vec<Chunk>, AllocError> {
-    let mut chunks = Vec::new(rt.alloc());
-    for number in numbers {
-        chunks.push(Chunk::Numeric(*number))?;
-    }
-    Ok(chunks)
-}
-
-pub(crate) fn text(rt: &HostRuntime, text: &str) -> Result<String, AllocError> {
-    String::from_str(rt.alloc(), text)
 }

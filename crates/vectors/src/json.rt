@@ -1,10 +1,8 @@
 //! Versions and requirements in JSON documents, where each is a string: what is read, what is written, and the errors.
 
-use crate::strict::printed;
-use crate::versioning::any;
+use crate::given::{any, printed};
 use serde_json::Value;
 use std::alloc::{AllocError, Global};
-use std::process::Abort;
 use std::test::Fail;
 use versions::{Error, JsonError, Op, Requirement, Requirements, Versioning};
 

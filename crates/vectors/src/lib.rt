@@ -1,8 +1,9 @@
-//! Tests that cross crates: worked rows, and what no contract says.
+//! Tests of versions and their parts: worked rows, and what no contract says.
 #![tactic(auto)]
 
 #[cfg(test)]
 mod general;
+pub mod given;
 #[cfg(test)]
 mod json;
 #[cfg(test)]
@@ -13,8 +14,6 @@ mod messy;
 mod order;
 #[cfg(test)]
 mod precedence;
-#[cfg(test)]
-mod program;
 #[cfg(test)]
 mod requirement_lists;
 #[cfg(test)]

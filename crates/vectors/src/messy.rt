@@ -1,10 +1,8 @@
-//! Messy versions and their chunks: what is read, what is not, what is printed, and that depth is no matter.
+//! Messy versions and their chunks: what is read, what is not, and what is printed.
 
-use crate::order::hash_of;
-use crate::strict::printed;
-use std::alloc::{AllocError, Global};
+use crate::given::{hash_of, messy, printed};
+use std::alloc::AllocError;
 use std::fmt::Debug;
-use std::process::Abort;
 use std::test::Fail;
 use versions::{MChunk, Mess, SemVer, Sep, Version};
 
@@ -169,6 +167,9 @@ fn unequal_values_hash_apart(rt: HostRuntime) -> Result<(), Fail> {
         }
     }
     assert_ne!(rt; hash_of(&Sep::Colon), hash_of(&Sep::Tilde));
+    let digits = MChunk::Digits(1, String::from_str(rt.alloc(), "1")?);
+    let plain = MChunk::Plain(String::from_str(rt.alloc(), "1")?);
+    assert_ne!(rt; hash_of(&digits), hash_of(&plain));
     Ok(())
 }
 
@@ -187,49 +188,6 @@ fn signs_print_and_compare(rt: HostRuntime) -> Result<(), Fail> {
     }
     assert_ne!(rt; Sep::Plus, Sep::Underscore);
     Ok(())
-}
-
-#[test]
-fn a_million_sections(rt: HostRuntime) -> Result<(), Fail> {
-    goes_deep(&rt, rt.alloc(), "_1", 999_999)
-}
-
-#[test]
-fn a_million_colons(rt: HostRuntime) -> Result<(), Fail> {
-    goes_deep(&rt, rt.alloc(), ":1", 999_999)
-}
-
-#[test]
-fn ten_megabytes_of_chunks(rt: HostRuntime) -> Result<(), Fail> {
-    goes_deep(&rt, rt.alloc(), ".1", 5_000_000)
-}
-
-// Reads `1` with so many further ones behind it, and goes along them by each call.
-fn goes_deep(rt: &impl Abort, alloc: Global, further: &str, count: u32) -> Result<(), Fail> {
-    let mut text = String::from_str(alloc, "1")?;
-    for _ in 0..count {
-        text.push_str(further)?;
-    }
-    let mess = Mess::new(alloc, text.as_str())?.ok_or("not read")?;
-    assert!(rt; mess.to_string(alloc)?.as_str() == text.as_str());
-    assert_eq!(rt; mess.nth(0), Some(1));
-    let copy = mess.clone(alloc)?;
-    assert!(rt; copy == mess);
-    assert_eq!(rt; hash_of(&copy), hash_of(&mess));
-    text.push_str(further)?;
-    let longer = Mess::new(alloc, text.as_str())?.ok_or("not read")?;
-    assert!(rt; longer != mess);
-    assert_ne!(rt; hash_of(&longer), hash_of(&mess));
-    text.push_str(" ")?;
-    let (front, rest) = Mess::parse(alloc, text.as_str())?.ok_or("not read")?;
-    assert!(rt; front != longer);
-    assert_eq!(rt; rest, " ");
-    Ok(())
-}
-
-// The messy version that a text spells.
-pub(crate) fn messy(rt: &impl AllocGlobal, text: &str) -> Result<Mess, Fail> {
-    Ok(Mess::new(rt.alloc(), text)?.ok_or("not read")?)
 }
 
 // Whether a text spells a strict version or a general one.

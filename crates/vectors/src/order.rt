@@ -1,11 +1,10 @@
 //! The orders of strict versions and of parts, equality and hash of strict versions, and what a tilde or a caret asks
 //! for.
 
-use crate::general::{numbers, text};
+use crate::given::{hash_of, numbers, strict, text};
 use std::alloc::AllocError;
 use std::cmp::Ordering;
 use std::collections::{BTreeMap, HashMap};
-use std::hash::{DefaultHasher, Hash, Hasher};
 use std::test::Fail;
 use versions::{Chunk, Chunks, Last, MChunk, Release, SemVer};
 
@@ -182,11 +181,6 @@ fn the_default_is_zero(rt: HostRuntime) -> Result<(), Fail> {
     Ok(())
 }
 
-pub(crate) fn strict(rt: &HostRuntime, text: &str) -> Result<SemVer, Fail> {
-    let version = SemVer::new(rt.alloc(), text)?;
-    Ok(version.ok_or("no strict version")?)
-}
-
 fn alone(rt: &HostRuntime, chunk: &str) -> Result<Vec<Chunk>, AllocError> {
     let mut chunks = Vec::new(rt.alloc());
     chunks.push(Chunk::Alphanum(text(rt, chunk)?))?;
@@ -196,10 +190,4 @@ fn alone(rt: &HostRuntime, chunk: &str) -> Result<Vec<Chunk>, AllocError> {
 fn release(rt: &HostRuntime, text: &str) -> Result<Release, Fail> {
     let (release, _) = Release::parse(rt.alloc(), text)?.ok_or("no release")?;
     Ok(release)
-}
-
-pub(crate) fn hash_of<T: Hash>(value: &T) -> u64 {
-    let mut state = DefaultHasher::new();
-    value.hash(&mut state);
-    state.finish()
 }

@@ -1,8 +1,6 @@
 //! Precedence, and the orders of general, messy and any versions: rows that increase, ties, and what conversions do.
 
-use crate::messy::messy;
-use crate::order::strict;
-use crate::versioning::{any, general};
+use crate::given::{any, general, messy, strict};
 use std::cmp::Ordering;
 use std::fmt::Display;
 use std::process::Abort;

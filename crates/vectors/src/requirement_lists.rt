@@ -1,10 +1,7 @@
 //! Lists of requirements: which versions they ask for, what is read, what is not, and what is printed.
 
-use crate::order::hash_of;
+use crate::given::{any, hash_of, printed, repeated};
 use crate::requirements::{requirement, whole_of_op};
-use crate::strict::printed;
-use crate::versioning::any;
-use std::alloc::AllocError;
 use std::process::Abort;
 use std::test::Fail;
 use versions::Requirements;
@@ -108,8 +105,7 @@ fn unequal_lists_hash_apart(rt: HostRuntime) -> Result<(), Fail> {
 // `rt try --test` takes minutes for it, so it wants `--seconds 600`.
 #[test]
 fn a_hundred_thousand_members(rt: HostRuntime) -> Result<(), Fail> {
-    let mut text = repeated(&rt, ">=1.2,", 99_999)?;
-    text.push_str("<2.0.0")?;
+    let mut text = repeated(&rt, ">=1.2,", 99_999, "<2.0.0")?;
     let list = list(&rt, text.as_str())?;
     assert_eq!(rt; list.0.len(), 100_000);
     assert!(rt; printed(&rt, &list)? == text);
@@ -141,13 +137,4 @@ fn asks_for(
         assert!(rt; !list.matches(&any(rt, version)?), "{version}");
     }
     Ok(())
-}
-
-// A text so many times.
-fn repeated(rt: &HostRuntime, text: &str, count: u32) -> Result<String, AllocError> {
-    let mut long = String::new(rt.alloc());
-    for _ in 0..count {
-        long.push_str(text)?;
-    }
-    Ok(long)
 }

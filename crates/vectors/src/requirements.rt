@@ -1,8 +1,6 @@
 //! Requirements and their operators: which versions they ask for, what is read, what is not, and what is printed.
 
-use crate::order::{hash_of, strict};
-use crate::strict::printed;
-use crate::versioning::any;
+use crate::given::{any, hash_of, printed, strict};
 use std::process::Abort;
 use std::test::Fail;
 use versions::{Error, Op, ReadError, Requirement, Versioning};

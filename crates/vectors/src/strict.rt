@@ -1,7 +1,6 @@
 //! Strict versions and their parts: what is read, what is not, and what is printed.
 
-use std::alloc::AllocError;
-use std::fmt::Display;
+use crate::given::printed;
 use std::test::Fail;
 use versions::parsers::{alphanums, hyphenated_alphanums, meta, unsigned};
 use versions::{Chunk, Release, SemVer};
@@ -175,9 +174,4 @@ fn hand_built_values_print_as_they_are(rt: HostRuntime) -> Result<(), Fail> {
     };
     assert_eq!(rt; printed(&rt, &bare)?.as_str(), "1.2.3-");
     Ok(())
-}
-
-// What a value prints.
-pub(crate) fn printed(rt: &HostRuntime, value: &impl Display) -> Result<String, AllocError> {
-    value.to_string(rt.alloc())
 }

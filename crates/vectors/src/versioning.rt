@@ -1,7 +1,6 @@
 //! Versions of any kind, conversions between kinds, and why a text is not read.
 
-use crate::order::{hash_of, strict};
-use crate::strict::printed;
+use crate::given::{any, general, hash_of, kind_of, printed, strict, text};
 use std::alloc::{AllocError, Global};
 use std::process::Abort;
 use std::test::Fail;
@@ -150,15 +149,6 @@ fn each_error_says_its_text(rt: HostRuntime) -> Result<(), Fail> {
 }
 
 #[test]
-fn metadata_of_strict_versions_is_not_compared(rt: HostRuntime) -> Result<(), Fail> {
-    assert_eq!(rt; any(&rt, "1.2.3+a")?, any(&rt, "1.2.3+b")?);
-    assert_ne!(rt; any(&rt, "1.2+a")?, any(&rt, "1.2+b")?);
-    let copy = any(&rt, "1.2.3+a")?.clone(rt.alloc())?;
-    assert_eq!(rt; printed(&rt, &copy)?.as_str(), "1.2.3+a");
-    Ok(())
-}
-
-#[test]
 fn unequal_versions_hash_apart(rt: HostRuntime) -> Result<(), Fail> {
     let texts = ["1.2.3", "1.2.4", "1.2", "1.2.3.4", "1.2_3", "01.2.3"];
     for (at, one) in texts.iter().enumerate() {
@@ -206,16 +196,6 @@ fn the_default_is_zero(rt: HostRuntime) -> Result<(), Fail> {
     Ok(())
 }
 
-pub(crate) fn any(rt: &impl AllocGlobal, text: &str) -> Result<Versioning, Fail> {
-    let version = Versioning::new(rt.alloc(), text)?;
-    Ok(version.ok_or("no version")?)
-}
-
-pub(crate) fn general(rt: &impl AllocGlobal, text: &str) -> Result<Version, Fail> {
-    let version = Version::new(rt.alloc(), text)?;
-    Ok(version.ok_or("no general version")?)
-}
-
 // A text is of the kind and no other, and prints and is copied the same.
 fn is_of_kind(rt: &impl Abort, alloc: Global, text: &str, kind: &str) -> Result<(), Fail> {
     let version = Versioning::new(alloc, text)?.ok_or("no version")?;
@@ -226,14 +206,6 @@ fn is_of_kind(rt: &impl Abort, alloc: Global, text: &str, kind: &str) -> Result<
     assert_eq!(rt; version.to_string(alloc)?.as_str(), text);
     assert_eq!(rt; version.clone(alloc)?, version);
     Ok(())
-}
-
-fn kind_of(version: &Versioning) -> &'static str {
-    match version {
-        Versioning::Ideal(_) => "ideal",
-        Versioning::General(_) => "general",
-        Versioning::Complex(_) => "complex",
-    }
 }
 
 // The text in the error of a strict version.
@@ -254,8 +226,4 @@ fn refusal<T: Drop>(rt: &HostRuntime, answer: Result<T, ReadError>) -> Result<St
 
 fn said(_: ReadError) -> &'static str {
     "not read"
-}
-
-fn text(rt: &HostRuntime, text: &str) -> Result<String, AllocError> {
-    String::from_str(rt.alloc(), text)
 }

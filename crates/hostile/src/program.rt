@@ -1,9 +1,8 @@
 //! The program: what it reads and writes, and how it ends.
 
-use std::alloc::{AllocError, Global};
-use std::io;
-use std::io::{Error, ErrorKind, Read, Write};
+use crate::devices::{Giver, Taker, owned};
 use std::test::Fail;
+use vectors::given::hash_of;
 use version_lines::{Fault, run};
 
 #[test]
@@ -23,6 +22,7 @@ fn faults_say_their_texts_and_statuses(rt: HostRuntime) -> Result<(), Fail> {
         assert_eq!(rt; fault.to_string(rt.alloc())?.as_str(), text);
         assert_eq!(rt; fault.status(), status, "{text}");
     }
+    assert_ne!(rt; hash_of(&Fault::Read), hash_of(&Fault::Write));
     Ok(())
 }
 
@@ -199,24 +199,6 @@ fn sort_tells_the_first_line_that_is_no_version_and_writes_nothing(
 }
 
 #[test]
-fn sort_with_a_reader_or_a_writer_that_fails(rt: HostRuntime) -> Result<(), Fail> {
-    let words = owned(&rt, &["sort"])?;
-    let mut reader = Giver::of(b"1 2\n", 1);
-    reader.fault = Some(ErrorKind::Other);
-    let mut writer = Taker::new(rt.alloc(), usize::MAX);
-    let outcome = run(rt.alloc(), words.as_slice(), &mut reader, &mut writer);
-    assert_eq!(rt; outcome, Err(Fault::Read));
-    assert_eq!(rt; writer.calls, 0);
-    let mut reader = b"2\n1\n".as_slice();
-    let mut writer = Taker::new(rt.alloc(), 1);
-    writer.ends = Some((3, None));
-    let outcome = run(rt.alloc(), words.as_slice(), &mut reader, &mut writer);
-    assert_eq!(rt; outcome, Err(Fault::Write));
-    assert_eq!(rt; writer.taken.as_slice(), b"1\n2".as_slice());
-    Ok(())
-}
-
-#[test]
 fn match_writes_the_lines_that_are_asked_for(rt: HostRuntime) -> Result<(), Fail> {
     for (wanted, input, output) in [
         (
@@ -249,143 +231,6 @@ fn a_word_that_is_no_requirement_is_told_before_anything_is_read(
     assert_eq!(rt; reader.calls, 0);
     assert_eq!(rt; writer.calls, 0);
     Ok(())
-}
-
-#[test]
-fn a_failed_read_writes_nothing(rt: HostRuntime) -> Result<(), Fail> {
-    for kind in [ErrorKind::Other, ErrorKind::Interrupted] {
-        for step in [1, 2, 100] {
-            let mut reader = Giver::of(b"1.2.3\n1.2\n", step);
-            reader.fault = Some(kind);
-            let mut writer = Taker::new(rt.alloc(), usize::MAX);
-            let outcome = run(rt.alloc(), &[], &mut reader, &mut writer);
-            assert_eq!(rt; outcome, Err(Fault::Read));
-            assert_eq!(rt; reader.input.len(), 0);
-            assert_eq!(rt; writer.calls, 0);
-        }
-    }
-    Ok(())
-}
-
-#[test]
-fn a_failed_write_leaves_a_proper_beginning(rt: HostRuntime) -> Result<(), Fail> {
-    for kind in [None, Some(ErrorKind::Other), Some(ErrorKind::Interrupted)] {
-        for (calls, wanted) in [(0, b"".as_slice()), (1, b"i"), (10, b"ideal 1.2.")] {
-            let mut reader = b"1.2.3\n1.2\n".as_slice();
-            let mut writer = Taker::new(rt.alloc(), 1);
-            writer.ends = Some((calls, kind));
-            let outcome = run(rt.alloc(), &[], &mut reader, &mut writer);
-            assert_eq!(rt; outcome, Err(Fault::Write));
-            assert_eq!(rt; writer.taken.as_slice(), wanted);
-            assert_eq!(rt; writer.calls, calls + 1);
-        }
-    }
-    Ok(())
-}
-
-#[test]
-fn pieces_of_one_byte_change_nothing(rt: HostRuntime) -> Result<(), Fail> {
-    let mut reader = Giver::of(b"1.2.3\n1.2\n\n1.2.3+a", 1);
-    let mut writer = Taker::new(rt.alloc(), 1);
-    let outcome = run(rt.alloc(), &[], &mut reader, &mut writer);
-    assert_eq!(rt; outcome, Ok(()));
-    let wanted = b"ideal 1.2.3\nnone\nnone\nideal 1.2.3+a\n";
-    assert_eq!(rt; writer.taken.as_slice(), wanted.as_slice());
-    Ok(())
-}
-
-#[test]
-fn without_output_a_broken_writer_is_no_fault(rt: HostRuntime) -> Result<(), Fail> {
-    let mut reader = b"".as_slice();
-    let mut writer = Taker::new(rt.alloc(), 1);
-    writer.ends = Some((0, Some(ErrorKind::Other)));
-    let outcome = run(rt.alloc(), &[], &mut reader, &mut writer);
-    assert_eq!(rt; outcome, Ok(()));
-    Ok(())
-}
-
-// Gives its input in pieces of at most `step` bytes, and then fails, where a fault is set.
-#[derive(Drop)]
-struct Giver<'a> {
-    input: &'a [u8],
-    step: usize,
-    fault: Option<ErrorKind>,
-    calls: usize,
-}
-
-impl<'a> Giver<'a> {
-    fn of(input: &'a [u8], step: usize) -> Giver<'a> {
-        Giver {
-            input,
-            step,
-            fault: None,
-            calls: 0,
-        }
-    }
-}
-
-impl<'a> Read for Giver<'a> {
-    fn read(&mut self, buf: &mut [u8]) -> io::Result<usize> {
-        self.calls = self.calls.saturating_add(1);
-        if let (true, Some(kind)) = (self.input.is_empty(), self.fault) {
-            return Err(Error::from(kind));
-        }
-        let count = buf.len().min(self.input.len()).min(self.step);
-        buf[..count].copy_from_slice(&self.input[..count]);
-        self.input = &self.input[count..];
-        Ok(count)
-    }
-}
-
-// Takes at most `step` bytes at a call. After as many calls as `ends` says it takes none, or fails.
-#[derive(Drop)]
-struct Taker {
-    taken: Vec<u8>,
-    step: usize,
-    ends: Option<(usize, Option<ErrorKind>)>,
-    calls: usize,
-}
-
-impl Taker {
-    fn new(alloc: Global, step: usize) -> Taker {
-        Taker {
-            taken: Vec::new(alloc),
-            step,
-            ends: None,
-            calls: 0,
-        }
-    }
-}
-
-impl Write for Taker {
-    fn write(&mut self, buf: &[u8]) -> io::Result<usize> {
-        let before = self.calls;
-        self.calls = self.calls.saturating_add(1);
-        if let Some((calls, kind)) = self.ends {
-            if before >= calls {
-                return match kind {
-                    Some(kind) => Err(Error::from(kind)),
-                    None => Ok(0),
-                };
-            }
-        }
-        let count = buf.len().min(self.step);
-        self.taken.extend_from_slice(&buf[..count])?;
-        Ok(count)
-    }
-
-    fn flush(&mut self) -> io::Result<()> {
-        Ok(())
-    }
-}
-
-// The words as a program gets them.
-fn owned(rt: &HostRuntime, words: &[&str]) -> Result<Vec<String>, AllocError> {
-    let mut owned = Vec::new(rt.alloc());
-    for word in words {
-        owned.push(String::from_str(rt.alloc(), word)?)?;
-    }
-    Ok(owned)
 }
 
 // What a run that succeeds writes.
