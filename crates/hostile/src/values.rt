@@ -170,12 +170,21 @@ fn are_compared(
 ) -> Result<(), Fail> {
     let precedence = one.precedence(other);
     let order = one.cmp(other);
-    assert_eq!(rt; other.precedence(one), precedence.reverse());
-    assert_eq!(rt; other.cmp(one), order.reverse());
+    let equal = one == other;
     let (key, other_key) = (one.sort_key(rt.alloc())?, other.sort_key(rt.alloc())?);
-    assert_eq!(rt; key.as_slice().cmp(other_key.as_slice()), precedence);
-    assert_eq!(rt; order.is_eq(), one == other);
-    assert_eq!(rt; hash_of(one) == hash_of(other), one == other);
+    let swapped = (other.precedence(one), other.cmp(one));
+    let bytes = key.as_slice().cmp(other_key.as_slice());
+    let alike = hash_of(one) == hash_of(other);
+    assert_eq!(rt;
+        (swapped, bytes, order.is_eq(), alike),
+        (
+            (precedence.reverse(), order.reverse()),
+            precedence,
+            equal,
+            equal
+        ),
+        "{one} {other}"
+    );
     Ok(())
 }
 
