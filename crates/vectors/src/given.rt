@@ -1,10 +1,8 @@
 //! What tests are given: texts, the values that texts spell, and ways to look at a value.
 
 use std::alloc::{AllocError, Global};
-use std::cmp::Ordering;
 use std::fmt::Display;
 use std::hash::{DefaultHasher, Hash, Hasher};
-use std::process::Abort;
 use std::test::Fail;
 use versions::key::compare_bytes;
 use versions::{Chunk, Last, Mess, SemVer, Version, Versioning};
@@ -100,42 +98,48 @@ pub fn hash_of<T: Hash>(value: &T) -> u64 {
     state.finish()
 }
 
-/// The bytes of a version's key, in a list and one after another.
-pub fn key(
-    rt: &(impl Abort + AllocGlobal),
-    version: &Versioning,
-    wanted: &[u8],
-) -> Result<(), Fail> {
-    assert_eq!(rt;
-        version.sort_key(rt.alloc())?.as_slice(),
-        wanted,
-        "{version}"
-    );
+/// Fails where the bytes of a version's key are others, in a list or one after another.
+pub fn key(rt: &impl AllocGlobal, version: &Versioning, wanted: &[u8]) -> Result<(), Fail> {
+    let list = version.sort_key(rt.alloc())?;
     let mut bytes = Vec::new(rt.alloc());
     for byte in version.key_bytes() {
         bytes.push(byte)?;
     }
-    assert_eq!(rt; bytes.as_slice(), wanted, "{version}");
-    Ok(())
+    holds(
+        list.as_slice() == wanted,
+        format_args!("the key of {version} in a list"),
+    )?;
+    holds(
+        bytes.as_slice() == wanted,
+        format_args!("the key of {version} byte by byte"),
+    )
 }
 
-/// The first version is below the second in precedence and in `Ord`, and so are their keys; and they hash apart.
+/// Fails where the first version isn't below the second in precedence and in `Ord`, as their keys are, or hashes alike.
 pub fn are_ordered(
-    rt: &(impl Abort + AllocGlobal),
+    rt: &impl AllocGlobal,
     lower: &Versioning,
     upper: &Versioning,
 ) -> Result<(), Fail> {
-    assert_eq!(rt; lower.precedence(upper), Ordering::Less);
-    assert_eq!(rt; upper.precedence(lower), Ordering::Greater);
-    assert_eq!(rt; lower.cmp(upper), Ordering::Less);
-    assert_eq!(rt; upper.cmp(lower), Ordering::Greater);
-    assert!(rt; lower != upper);
-    assert_ne!(rt; hash_of(lower), hash_of(upper));
+    holds(lower.precedence(upper).is_lt(), "precedence")?;
+    holds(upper.precedence(lower).is_gt(), "precedence, swapped")?;
+    holds(lower.cmp(upper).is_lt(), "`Ord`")?;
+    holds(upper.cmp(lower).is_gt(), "`Ord`, swapped")?;
+    holds(lower != upper, "`==`")?;
+    holds(hash_of(lower) != hash_of(upper), "the hash")?;
     let lower = lower.sort_key(rt.alloc())?;
     let upper = upper.sort_key(rt.alloc())?;
-    assert!(rt; lower.as_slice() < upper.as_slice());
+    holds(lower.as_slice() < upper.as_slice(), "the order of the keys")?;
     let mut lower = lower.iter().copied();
     let mut upper = upper.iter().copied();
-    assert_eq!(rt; compare_bytes(&mut lower, &mut upper), Ordering::Less);
-    Ok(())
+    let answer = compare_bytes(&mut lower, &mut upper);
+    holds(answer.is_lt(), "the order of their bytes")
+}
+
+// Fails where a fact doesn't hold, and says of what it is.
+fn holds(fact: bool, of: impl Display + Drop) -> Result<(), Fail> {
+    match fact {
+        true => Ok(()),
+        false => Err(Fail::new(of)),
+    }
 }
