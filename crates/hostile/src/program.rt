@@ -1,6 +1,7 @@
 //! The program: what it reads and writes, and how it ends.
 
 use crate::devices::{Giver, Taker, owned};
+use std::process::Abort;
 use std::test::Fail;
 use vectors::given::hash_of;
 use version_lines::{Fault, run};
@@ -98,17 +99,7 @@ fn other_words_are_a_fault_before_anything_is_read(rt: HostRuntime) -> Result<()
         &["key"],
         &["key", "1", "2"],
     ] {
-        let mut reader = Giver::of(b"1.2.3\n", usize::MAX);
-        let mut writer = Taker::new(rt.alloc(), usize::MAX);
-        let outcome = run(
-            rt.alloc(),
-            owned(&rt, words)?.as_slice(),
-            &mut reader,
-            &mut writer,
-        );
-        assert_eq!(rt; outcome, Err(Fault::Usage));
-        assert_eq!(rt; reader.calls, 0);
-        assert_eq!(rt; writer.calls, 0);
+        ends_unread(&rt, words, Fault::Usage)?;
     }
     Ok(())
 }
@@ -145,18 +136,8 @@ fn the_first_word_that_is_no_version_is_told_before_anything_is_read(
         (&["cmp", "..", "."], ".."),
         (&["key", "1..2"], "1..2"),
     ] {
-        let mut reader = Giver::of(b"1.2.3\n", usize::MAX);
-        let mut writer = Taker::new(rt.alloc(), usize::MAX);
-        let outcome = run(
-            rt.alloc(),
-            owned(&rt, words)?.as_slice(),
-            &mut reader,
-            &mut writer,
-        );
         let wanted = Fault::NotVersion(String::from_str(rt.alloc(), wanted)?);
-        assert_eq!(rt; outcome, Err(wanted));
-        assert_eq!(rt; reader.calls, 0);
-        assert_eq!(rt; writer.calls, 0);
+        ends_unread(&rt, words, wanted)?;
     }
     Ok(())
 }
@@ -222,11 +203,16 @@ fn match_writes_the_lines_that_are_asked_for(rt: HostRuntime) -> Result<(), Fail
 fn a_word_that_is_no_requirement_is_told_before_anything_is_read(
     rt: HostRuntime,
 ) -> Result<(), Fail> {
-    let words = owned(&rt, &["match", ">=1.0,"])?;
-    let mut reader = Giver::of(b"1.0\n", 1);
+    let wanted = Fault::NotRequirement(String::from_str(rt.alloc(), ">=1.0,")?);
+    ends_unread(&rt, &["match", ">=1.0,"], wanted)
+}
+
+// A run that ends in the fault before it reads or writes anything.
+fn ends_unread(rt: &(impl Abort + AllocGlobal), words: &[&str], wanted: Fault) -> Result<(), Fail> {
+    let words = owned(rt, words)?;
+    let mut reader = Giver::of(b"1.2.3\n", usize::MAX);
     let mut writer = Taker::new(rt.alloc(), usize::MAX);
     let outcome = run(rt.alloc(), words.as_slice(), &mut reader, &mut writer);
-    let wanted = Fault::NotRequirement(String::from_str(rt.alloc(), ">=1.0,")?);
     assert_eq!(rt; outcome, Err(wanted));
     assert_eq!(rt; reader.calls, 0);
     assert_eq!(rt; writer.calls, 0);

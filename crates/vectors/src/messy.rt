@@ -1,6 +1,6 @@
 //! Messy versions and their chunks: what is read, what is not, and what is printed.
 
-use crate::given::{hash_of, messy, printed};
+use crate::given::{hash_of, messy, printed, text};
 use std::alloc::AllocError;
 use std::fmt::Debug;
 use std::test::Fail;
@@ -54,14 +54,14 @@ fn fronts_stop_where_nothing_further_can_be_read(rt: HostRuntime) -> Result<(), 
 
 #[test]
 fn other_texts_are_one_plain_chunk(rt: HostRuntime) -> Result<(), Fail> {
-    for (text, wanted) in [
-        ("r4294967296", "[Plain(\"r4294967296\")]"),
-        ("r", "[Plain(\"r\")]"),
-        ("R2", "[Plain(\"R2\")]"),
-    ] {
-        let mess = messy(&rt, text)?;
-        assert_eq!(rt; shown(&rt, &mess.chunks)?.as_str(), wanted);
+    for whole in ["r4294967296", "r", "R2"] {
+        let wanted = MChunk::Plain(text(&rt, whole)?);
+        let mess = messy(&rt, whole)?;
         assert!(rt; mess.next.is_none());
+        let [chunk] = mess.chunks.as_slice() else {
+            return Err(Fail::new("not one chunk"));
+        };
+        assert_eq!(rt; *chunk, wanted);
     }
     Ok(())
 }
