@@ -5,15 +5,18 @@ use std::io;
 use std::io::ErrorKind;
 use std::time::{CpuClock, Duration};
 use versions::Versioning;
+use versions::key::{KeyBytes, compare_bytes};
 
 /// How many calls are timed.
-pub const COUNT: usize = 8;
+pub const COUNT: usize = 10;
 
-/// What they do with a version, in the order of their times.
+/// What they do with a version or with its text, in the order of their times.
 pub const NAMES: [&str; COUNT] = [
     "read",
     "printed",
     "keyed",
+    "spelled_key",
+    "appended_key",
     "cloned",
     "precedence",
     "cmp",
@@ -31,6 +34,13 @@ pub fn times(rt: &HostRuntime, text: &str) -> io::Result<[Duration; COUNT]> {
     let printed = watch.lap(rt)?;
     let key = version.sort_key(rt.alloc())?;
     let keyed = watch.lap(rt)?;
+    let mut spelled = KeyBytes::spelled_by(text).ok_or(ErrorKind::InvalidInput)?;
+    let from_text = compare_bytes(&mut spelled, &mut key.iter().copied()).is_eq();
+    let spelled_key = watch.lap(rt)?;
+    let mut block = Vec::new(rt.alloc());
+    let spelled = KeyBytes::spelled_by(text).ok_or(ErrorKind::InvalidInput)?;
+    spelled.append_to(&mut block)?;
+    let appended_key = watch.lap(rt)?;
     let copy = version.clone(rt.alloc())?;
     let cloned = watch.lap(rt)?;
     let tie = version.precedence(&copy).is_eq();
@@ -40,7 +50,7 @@ pub fn times(rt: &HostRuntime, text: &str) -> io::Result<[Duration; COUNT]> {
     let hash = hash_of(&version);
     let hashed = watch.lap(rt)?;
 
-    let right = text_again.as_str() == text && !key.is_empty() && tie && same;
+    let right = text_again.as_str() == text && from_text && block == key && tie && same;
     if !right || hash != hash_of(&copy) {
         return Err(ErrorKind::InvalidData.into());
     }
@@ -49,7 +59,16 @@ pub fn times(rt: &HostRuntime, text: &str) -> io::Result<[Duration; COUNT]> {
     drop(copy);
     let dropped = watch.lap(rt)?;
     Ok([
-        read, printed, keyed, cloned, precedence, cmp, hashed, dropped,
+        read,
+        printed,
+        keyed,
+        spelled_key,
+        appended_key,
+        cloned,
+        precedence,
+        cmp,
+        hashed,
+        dropped,
     ])
 }
 

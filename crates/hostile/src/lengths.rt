@@ -2,12 +2,13 @@
 //! loop, so the stack that a program has is enough. `rt try --test` takes more than a hundred times as long for them as
 //! `rt test`, so it doesn't end for the longest.
 
+use given::{alone, any, are_ordered, as_messy, hash_of, key, kind_of, repeated};
 use std::alloc::AllocError;
 use std::cmp::Ordering;
+use std::fmt::{self, Write};
 use std::process::Abort;
 use std::test::Fail;
-use vectors::given::{alone, any, are_ordered, as_messy, hash_of, key, kind_of, repeated};
-use versions::key::compare_bytes;
+use versions::key::{KeyBytes, compare_bytes};
 use versions::{Last, MChunk, Mess, Versioning};
 
 #[test]
@@ -70,6 +71,28 @@ fn a_million_sections(rt: HostRuntime) -> Result<(), Fail> {
 }
 
 #[test]
+fn a_million_sections_by_debug(rt: HostRuntime) -> Result<(), Fail> {
+    let version = any(&rt, repeated(&rt, "1_", 999_999, "1")?.as_str())?;
+    let section = "Mess { chunks: [Digits(1, \"1\")], next: Some((Underscore, ";
+    let last = "Mess { chunks: [Digits(1, \"1\")], next: None }";
+    let mut wanted = String::from_str(rt.alloc(), "Complex(")?;
+    wanted.push_str(repeated(&rt, section, 999_999, last)?.as_str())?;
+    wanted.push_str(repeated(&rt, ")) }", 999_999, ")")?.as_str())?;
+    assert!(rt; format!(in rt.alloc(); "{version:?}")? == wanted);
+    Ok(())
+}
+
+// The whole would be 78 terabytes, blanks for the most part.
+#[test]
+fn a_million_sections_by_pretty_debug(rt: HostRuntime) -> Result<(), Fail> {
+    let version = any(&rt, repeated(&rt, "1_", 999_999, "1")?.as_str())?;
+    let mut page = Page { room: 10_000_000 };
+    assert!(rt; write!(page, "{version:#?}").is_err());
+    assert_eq!(rt; page.room, 0);
+    Ok(())
+}
+
+#[test]
 fn a_million_colons(rt: HostRuntime) -> Result<(), Fail> {
     differ_at_the_end(&rt, "1:", 999_999, "complex")
 }
@@ -103,7 +126,19 @@ fn ten_megabytes_of_metadata(rt: HostRuntime) -> Result<(), Fail> {
         return Err("not ideal".into());
     };
     let general = Versioning::General(ideal.to_version(rt.alloc())?);
-    goes_through(&rt, &general, text.as_str())
+    goes_through(&rt, &general, text.as_str())?;
+    spells_none(&rt, "1.2.3+", "a", 9_999_993, " ")
+}
+
+#[test]
+fn ten_megabytes_that_spell_none(rt: HostRuntime) -> Result<(), Fail> {
+    for (text, count) in [("1_", 1_000_000), ("1:", 1_000_000), ("1.", 5_000_000)] {
+        spells_none(&rt, "", text, count, "")?;
+    }
+    for text in ["9", "a"] {
+        spells_none(&rt, "", text, 9_999_999, " ")?;
+    }
+    Ok(())
 }
 
 // A text so many times and then `1` is a version of the kind, and below the one that ends in `2`.
@@ -129,6 +164,7 @@ fn read(rt: &(impl Abort + AllocGlobal), text: &str, kind: &str) -> Result<Versi
     let version = any(rt, text)?;
     assert_eq!(rt; kind_of(&version), kind);
     goes_through(rt, &version, text)?;
+    spells_key(rt, text, &version)?;
     if !version.is_complex() {
         let mess = Versioning::Complex(as_messy(rt.alloc(), &version)?);
         goes_through(rt, &mess, text)?;
@@ -158,6 +194,37 @@ fn goes_through(
     Ok(())
 }
 
+// The bytes read off a text are those of the key of the version that it spells.
+fn spells_key(
+    rt: &(impl Abort + AllocGlobal),
+    text: &str,
+    version: &Versioning,
+) -> Result<(), Fail> {
+    let mut list = Vec::new(rt.alloc());
+    let spelled = KeyBytes::spelled_by(text).ok_or("no key")?;
+    spelled.append_to(&mut list)?;
+    assert!(rt; list == version.sort_key(rt.alloc())?);
+    let mut spelled = KeyBytes::spelled_by(text).ok_or("no key")?;
+    let answer = compare_bytes(&mut spelled, &mut version.key_bytes());
+    assert_eq!(rt; answer, Ordering::Equal);
+    Ok(())
+}
+
+// A text that is so long spells no version, and has no key.
+fn spells_none(
+    rt: &(impl Abort + AllocGlobal),
+    front: &str,
+    text: &str,
+    count: u32,
+    end: &str,
+) -> Result<(), Fail> {
+    let mut long = String::from_str(rt.alloc(), front)?;
+    long.push_str(repeated(rt, text, count, end)?.as_str())?;
+    assert!(rt; Versioning::new(rt.alloc(), long.as_str())?.is_none());
+    assert!(rt; KeyBytes::spelled_by(long.as_str()).is_none());
+    Ok(())
+}
+
 // The chunk that a messy version is.
 fn only_chunk(version: &Versioning) -> Option<&MChunk> {
     match version {
@@ -174,4 +241,18 @@ fn ten_to(rt: &HostRuntime, zeros: u32) -> Result<String, AllocError> {
     let mut text = String::from_str(rt.alloc(), "1")?;
     text.push_str(repeated(rt, "0", zeros, "")?.as_str())?;
     Ok(text)
+}
+
+// A writer that has room for so many bytes more, and fails where that is filled.
+#[derive(Drop)]
+struct Page {
+    room: usize,
+}
+
+impl fmt::Write for Page {
+    fn write_str(&mut self, s: &str) -> fmt::Result {
+        let fits = s.len() <= self.room;
+        self.room = self.room.saturating_sub(s.len());
+        if fits { Ok(()) } else { Err(fmt::Error) }
+    }
 }

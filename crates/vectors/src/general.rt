@@ -1,6 +1,6 @@
 //! General versions and their parts: what is read, what is not, what is printed, and what is copied.
 
-use crate::given::{general, hash_of, numbers, printed, text};
+use given::{general, hash_of, numbers, printed, text};
 use std::test::Fail;
 use versions::{Chunk, Chunks, Last, Release, SemVer, Version};
 
@@ -34,25 +34,26 @@ fn a_front_leaves_what_it_cannot_read(rt: HostRuntime) -> Result<(), Fail> {
     Ok(())
 }
 
+const GENERAL_VERSIONS: &str = "\
+1
+1.2
+1.0rc0
+1.0rc1
+1.1rc1
+44.0.2403.157-1
+0.25-2
+8.u51-1
+21-2
+7.1p1-1
+20150826-1
+1:0.10.16-3
+8.64.0.81-1
+1:3.20-1
+1:2.3.4";
+
 #[test]
 fn general_versions_print_what_was_read(rt: HostRuntime) -> Result<(), Fail> {
-    for text in [
-        "1",
-        "1.2",
-        "1.0rc0",
-        "1.0rc1",
-        "1.1rc1",
-        "44.0.2403.157-1",
-        "0.25-2",
-        "8.u51-1",
-        "21-2",
-        "7.1p1-1",
-        "20150826-1",
-        "1:0.10.16-3",
-        "8.64.0.81-1",
-        "1:3.20-1",
-        "1:2.3.4",
-    ] {
+    for text in GENERAL_VERSIONS.lines() {
         assert!(rt; SemVer::new(rt.alloc(), text)?.is_none());
         let version = general(&rt, text)?;
         assert_eq!(rt; printed(&rt, &version)?.as_str(), text);

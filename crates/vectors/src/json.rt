@@ -1,6 +1,6 @@
 //! Versions and requirements in JSON documents, where each is a string: what is read, what is written, and the errors.
 
-use crate::given::{any, printed};
+use given::{any, printed};
 use serde_json::Value;
 use std::alloc::{AllocError, Global};
 use std::test::Fail;

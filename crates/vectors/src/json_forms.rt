@@ -1,7 +1,7 @@
 //! The forms that serde derives of strict and general versions and of the parts of all versions: their JSON texts, and
 //! what is refused.
 
-use crate::given::{general, numbers, strict, text};
+use given::{general, numbers, strict, text};
 use serde::{DeserializeOwned, Serialize};
 use serde_json::Value;
 use std::process::Abort;

@@ -1,6 +1,6 @@
 //! Strict versions and their parts: what is read, what is not, and what is printed.
 
-use crate::given::printed;
+use given::printed;
 use std::test::Fail;
 use versions::parsers::{alphanums, hyphenated_alphanums, meta, unsigned};
 use versions::{Chunk, Release, SemVer};
@@ -65,30 +65,31 @@ fn releases_stop_before_a_dot_that_leads_nowhere(rt: HostRuntime) -> Result<(), 
     Ok(())
 }
 
+const STRICT_VERSIONS: &str = "\
+0.1.0
+1.2.3
+1.2.3-1
+1.2.3-alpha
+1.2.3-alpha.2
+1.2.3+a1b2c3.1
+1.2.3-alpha.2+a1b2c3.1
+1.0.0-x-y-z.-
+1.0.0-alpha+001
+1.0.0+21AF26D3---117B344092BD
+0.4.8-1
+7.42.13-4
+2.1.16102-2
+2.2.1-b05
+1.11.0+20200830-1
+1.2.3+..
+1.2.2-0a
+1.2.2-00a
+1.2.3-r1+git
+4294967295.0.0";
+
 #[test]
 fn strict_versions_print_what_was_read(rt: HostRuntime) -> Result<(), Fail> {
-    for text in [
-        "0.1.0",
-        "1.2.3",
-        "1.2.3-1",
-        "1.2.3-alpha",
-        "1.2.3-alpha.2",
-        "1.2.3+a1b2c3.1",
-        "1.2.3-alpha.2+a1b2c3.1",
-        "1.0.0-x-y-z.-",
-        "1.0.0-alpha+001",
-        "1.0.0+21AF26D3---117B344092BD",
-        "0.4.8-1",
-        "7.42.13-4",
-        "2.1.16102-2",
-        "2.2.1-b05",
-        "1.11.0+20200830-1",
-        "1.2.3+..",
-        "1.2.2-0a",
-        "1.2.2-00a",
-        "1.2.3-r1+git",
-        "4294967295.0.0",
-    ] {
+    for text in STRICT_VERSIONS.lines() {
         let version = SemVer::new(rt.alloc(), text)?.ok_or("not read")?;
         assert_eq!(rt; printed(&rt, &version)?.as_str(), text);
     }

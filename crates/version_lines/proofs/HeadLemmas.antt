@@ -79,11 +79,11 @@ turned : (xs ys : List ℕ) → cmp ys xs ≡ Less → cmp xs ys ≡ Greater
 turned xs ys less = nat_list_cmp_total.antisymm xs ys ∙ ap ordering_reverse less
 
 -- two heads, that of the first eight bytes and that of the eight behind them, may be looked at before the lists are
-pub heads_first : (xs ys : List ℕ) (rest : Ordering) → AreBytes xs → AreBytes ys
-    → ordering_then (nat_cmp (head_number xs) (head_number ys)) (ordering_then (nat_cmp (head_number (drop 8 xs)) (head_number (drop 8 ys))) (ordering_then (cmp xs ys) rest))
-    ≡ ordering_then (cmp xs ys) rest
+pub heads_first : (xs ys : List ℕ) → AreBytes xs → AreBytes ys
+    → ordering_then (nat_cmp (head_number xs) (head_number ys)) (ordering_then (nat_cmp (head_number (drop 8 xs)) (head_number (drop 8 ys))) (cmp xs ys))
+    ≡ cmp xs ys
 unfolding head_number
-heads_first xs ys rest xs_bytes ys_bytes =
+heads_first xs ys xs_bytes ys_bytes =
     let one = number_from 0 8 xs in
     let other = number_from 0 8 ys in
     let behind_one = number_from 0 8 (drop 8 xs) in

@@ -1,8 +1,10 @@
 mod EntryLemmas
 mod HeadLemmas
+mod KeyLemmas
 mod LinesLemmas
 mod MatchingLemmas
 mod OutputLemmas
-mod RankedLemmas
 mod RunLemmas
 mod SortingLemmas
+mod TieLemmas
+mod TiedLemmas

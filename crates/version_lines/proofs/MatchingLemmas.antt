@@ -1,12 +1,12 @@
 -- A line is answered by whether something holds, whatever decided it; and where strict versions alone are asked for, no
 -- other line is answered.
-use Rattle.std.proofs.Common.{◌≡◌, ◌⊎◌, ◌<◌, ℕ, false, List, length, map, get_or, Option, Some, None, is_some, IsTrue, inl, inr, refl, subst, arith}
+use Rattle.std.proofs.Common.{◌≡◌, ◌≢◌, ◌⊎◌, ◌<◌, ℕ, Bool, true, false, List, length, map, get_or, Option, Some, None, is_some, IsTrue, inl, inr, refl, subst, arith}
 use Rattle.std.specs.Option.{option_map, option_or}
 use Rattle.std.proofs.lemmas.List.{get_or-map, length-map}
 use Rattle.version_lines.specs.Matching.{line_if, match_answer}
 use Rattle.version_lines.specs.declared.answer.Answer.TheVariants.{Whole, Nothing}
 use Rattle.versions.specs.declared.requirement.Requirement.{Requirement}
-use Rattle.versions.specs.Matching.{Matches, MatchesAll}
+use Rattle.versions.specs.Matching.{AnswersFor, Matches, MatchesAll}
 use Rattle.versions.specs.MatchingLaws.{matches_all_or_not}
 use Rattle.versions.specs.Mess.{PlainMess}
 use Rattle.versions.specs.Requirement.{PlainRequirement, plain_requirement}
@@ -37,3 +37,18 @@ pub asked_for_at : (list : List Requirement) (v : PlainVersioning) (n : ℕ) (d 
 asked_for_at list v n d inside all =
     subst (λ (r : PlainRequirement). Matches r v) (get_or-map plain_requirement list n d (plain_requirement d) inside)
     (all n (plain_requirement d) (omega (arith, length-map list plain_requirement)))
+
+-- a line that is asked for is answered whole, and any other gets nothing
+
+pub answered_whole : (wanted : List PlainRequirement) (spelled : Option PlainVersioning) → AnswersFor (MatchesAll wanted) (Some true) spelled → match_answer wanted spelled ≡ Whole
+answered_whole wanted None asked = absurd asked
+answered_whole wanted (Some v) asked = line_if_holds (matches_all_or_not wanted v) (asked.0 refl)
+
+pub answered_nothing : (wanted : List PlainRequirement) (answer : Option Bool) (spelled : Option PlainVersioning) → AnswersFor (MatchesAll wanted) answer spelled → answer ≢ Some true
+    → match_answer wanted spelled ≡ Nothing
+answered_nothing wanted answer None asked other = refl
+answered_nothing wanted None (Some v) asked other = absurd asked
+answered_nothing wanted (Some true) (Some v) asked other = absurd (other refl)
+answered_nothing wanted (Some false) (Some v) asked other = line_if_fails (matches_all_or_not wanted v) (λ all. cc (asked.1 all))
+
+pub ruleset answered = (answered_whole, answered_nothing)

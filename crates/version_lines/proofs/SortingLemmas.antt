@@ -11,17 +11,17 @@ use Rattle.std.proofs.lemmas.List.Sorted.{All-permutation, IsPermutation-cons, I
 use Rattle.version_lines.specs.Sorting.{put_in_order, in_order}
 
 -- no element is below x
-abbrev AtLeast : {X : Type 0} → (X → X → Bool) → X → List X → Type 0
+abbrev pub AtLeast : {X : Type 0} → (X → X → Bool) → X → List X → Type 0
 AtLeast lt x [] = Unit {0}
 AtLeast lt x (y ∷ ys) = (lt y x ≡ false) × AtLeast lt x ys
 
 -- no element is below one before it
-abbrev Rises : {X : Type 0} → (X → X → Bool) → List X → Type 0
+abbrev pub Rises : {X : Type 0} → (X → X → Bool) → List X → Type 0
 Rises lt [] = Unit {0}
 Rises lt (x ∷ xs) = AtLeast lt x xs × Rises lt xs
 
 -- the test of an order
-abbrev below : {X : Type 0} → (X → X → Ordering) → X → X → Bool
+abbrev pub below : {X : Type 0} → (X → X → Ordering) → X → X → Bool
 below cmp x y = is_lt (cmp x y)
 
 -- the list in order has the same elements
@@ -40,7 +40,7 @@ in_order-permutes cmp (x ∷ xs) =
     IsPermutation-trans _ _ _ (IsPermutation-cons x _ _ (in_order-permutes cmp xs)) (put-permutes cmp x (in_order cmp xs))
 
 -- by whether a test passes
-by_test : {P : Type 0} (b : Bool) → (b ≡ true → P) → (b ≡ false → P) → P
+pub by_test : {P : Type 0} (b : Bool) → (b ≡ true → P) → (b ≡ false → P) → P
 by_test true passes fails = passes refl
 by_test false passes fails = fails refl
 
@@ -93,7 +93,7 @@ in_order-stable cmp order (x ∷ xs) z =
 
 -- the list in order rises
 
-at_least-put : {X : Type 0} (cmp : X → X → Ordering) (z x : X) (xs : List X) → below cmp x z ≡ false → AtLeast (below cmp) z xs → AtLeast (below cmp) z (put_in_order cmp x xs)
+pub at_least-put : {X : Type 0} (cmp : X → X → Ordering) (z x : X) (xs : List X) → below cmp x z ≡ false → AtLeast (below cmp) z xs → AtLeast (below cmp) z (put_in_order cmp x xs)
 at_least-put cmp z x [] first others = (first, tt)
 at_least-put {X} cmp z x (y ∷ ys) first others =
     by_test (below cmp y x)
@@ -112,7 +112,7 @@ put-rises cmp order x (y ∷ ys) (first, up) =
     (λ before. rw before (at_least-put cmp y x ys (order.one_way y x before) first, put-rises cmp order x ys up))
     (λ other. rw other ((other, at_least-chain cmp order x y ys other first), (first, up)))
 
-in_order-rises : {X : Type 0} (cmp : X → X → Ordering) → IsStrictWeakOrder (below cmp) → (xs : List X) → Rises (below cmp) (in_order cmp xs)
+pub in_order-rises : {X : Type 0} (cmp : X → X → Ordering) → IsStrictWeakOrder (below cmp) → (xs : List X) → Rises (below cmp) (in_order cmp xs)
 in_order-rises cmp order [] = tt
 in_order-rises cmp order (x ∷ xs) = put-rises cmp order x (in_order cmp xs) (in_order-rises cmp order xs)
 
@@ -129,7 +129,7 @@ at_least_from_get : {X : Type 0} (cmp : X → X → Ordering) (x : X) (xs : List
 at_least_from_get cmp x [] each = tt
 at_least_from_get cmp x (y ∷ ys) each = (each 0 (omega arith), at_least_from_get cmp x ys (λ k inside. each (suc k) (omega arith)))
 
-rises_from_sorted : {X : Type 0} (cmp : X → X → Ordering) → IsStrictWeakOrder (below cmp) → (xs : List X) → IsSortedBy (below cmp) xs → Rises (below cmp) xs
+pub rises_from_sorted : {X : Type 0} (cmp : X → X → Ordering) → IsStrictWeakOrder (below cmp) → (xs : List X) → IsSortedBy (below cmp) xs → Rises (below cmp) xs
 rises_from_sorted cmp order [] sorted = tt
 rises_from_sorted cmp order (x ∷ xs) sorted = (
   at_least_from_get cmp x xs (λ k inside. sorted_far (below cmp) order (x ∷ xs) sorted 0 (suc k) x (omega arith) (omega arith)),

@@ -1,30 +1,39 @@
--- A line with its version, as it is sorted.
-use Rattle.std.specs.Prelude.{◌≡◌, ℕ, List, Option, None, Some, if◌then◌else◌}
-use Rattle.std.specs.Option.{option_cmp, option_map}
+-- A line as it is sorted, and where its key lies.
+use Rattle.std.specs.Prelude.{◌≡◌, ◌<◌, ◌≤◌, ◌+◌, ℕ, false, List, drop, length, take}
+use Rattle.std.specs.Cmp.Lexicographic.{slice_cmp}
+use Rattle.std.specs.List.{All}
 use Rattle.std.specs.Ordering.{nat_cmp, on, then_cmp}
 use Rattle.std.specs.declared.cmp.Ordering.{Ordering}
+use Rattle.version_lines.specs.Head.{head_number}
+use Rattle.version_lines.specs.Sort.{is_bad}
+use Rattle.version_lines.specs.Spelled.{line_key, line_tie_cmp}
 use Rattle.version_lines.specs.declared.entry.Entry.{Entry}
-use Rattle.std.specs.Cmp.Lexicographic.{slice_cmp}
-use Rattle.versions.specs.Key.{key_of}
-use Rattle.versions.specs.KeyBytes.{key_bytes}
-use Rattle.versions.specs.Versioning.{PlainVersioning, is_ideal, plain_versioning, versioning_of, versioning_plain_cmp}
 
 -- the line of an entry
 abbrev pub entry_line : Entry → List ℕ
 entry_line entry = entry.line.now
 
--- the version that is kept, if there is one
-abbrev pub kept_version : Entry → Option PlainVersioning
-kept_version entry = option_map (λ kept. plain_versioning kept.value) entry.kept
+-- what lies at its place, of all keys
+abbrev pub entry_key : List ℕ → Entry → List ℕ
+entry_key keys entry = take entry.length (drop entry.start keys)
 
--- what is kept of a version: nothing of a strict one
-abbrev pub kept_of : PlainVersioning → Option PlainVersioning
-kept_of version = if is_ideal version then None else Some version
+-- the line is a version, its key lies at its place, and its two numbers are those of the key's first bytes
+pub record IsRead (keys : List ℕ) (entry : Entry) : Type 0 where
+  pub good : is_bad (entry_line entry) ≡ false
+  pub within : entry.start + entry.length ≤ length keys
+  pub key : entry_key keys entry ≡ line_key (entry_line entry)
+  pub bytes : All (λ byte. byte < 256) (line_key (entry_line entry))
+  pub first : entry.first ≡ head_number (line_key (entry_line entry))
+  pub second : entry.second ≡ head_number (drop 8 (line_key (entry_line entry)))
 
--- the key and what is kept are those of the version of the line
-abbrev pub IsRead : Entry → Type 0
-IsRead entry = (version : PlainVersioning) × ((versioning_of entry.line.now ≡ Some version) × ((entry.key.items ≡ key_bytes (key_of version)) × (kept_version entry ≡ kept_of version)))
+-- by the second number, then by the key
+abbrev pub behind_cmp : List ℕ → Entry → Entry → Ordering
+behind_cmp keys = then_cmp (on (λ (entry : Entry). entry.second) nat_cmp) (on (entry_key keys) (slice_cmp nat_cmp))
 
--- two entries: by their keys, then by the versions that are kept, field by field, none before some
-abbrev pub entry_cmp : Entry → Entry → Ordering
-entry_cmp = then_cmp (on (λ (entry : Entry). entry.key.items) (slice_cmp nat_cmp)) (on kept_version (option_cmp versioning_plain_cmp))
+-- by the first number, then by the second, then by the key
+abbrev pub entry_cmp : List ℕ → Entry → Entry → Ordering
+entry_cmp keys = then_cmp (on (λ (entry : Entry). entry.first) nat_cmp) (behind_cmp keys)
+
+-- by what breaks ties of keys
+abbrev pub tie_cmp : Entry → Entry → Ordering
+tie_cmp = on entry_line line_tie_cmp

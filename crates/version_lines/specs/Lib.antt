@@ -8,7 +8,8 @@ pub mod Lines
 pub mod Matching
 pub mod Output
 pub mod Program
-pub mod Ranked
 pub mod Run
 pub mod Sort
 pub mod Sorting
+pub mod Spelled
+pub mod Tied

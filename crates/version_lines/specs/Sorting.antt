@@ -1,5 +1,6 @@
 -- A list in order.
-use Rattle.std.specs.Prelude.{List, [], ◌∷◌, if◌then◌else◌}
+use Rattle.std.specs.List.{prefix_len}
+use Rattle.std.specs.Prelude.{ℕ, ◌+◌, List, [], ◌∷◌, if◌then◌else◌, not}
 use Rattle.std.specs.Ordering.{is_lt}
 use Rattle.std.specs.declared.cmp.Ordering.{Ordering}
 
@@ -12,3 +13,8 @@ put_in_order cmp x (y ∷ ys) = if is_lt (cmp y x) then y ∷ put_in_order cmp x
 abbrev pub in_order : {X : Type 0} → (X → X → Ordering) → List X → List X
 in_order cmp [] = []
 in_order cmp (x ∷ xs) = put_in_order cmp x (in_order cmp xs)
+
+-- how many elements from the first on there are that it isn't below: in a list in order, those that tie with it
+abbrev pub run_length : {X : Type 0} → (X → X → Ordering) → List X → ℕ
+run_length cmp [] = 0
+run_length cmp (x ∷ xs) = 1 + prefix_len (λ y. not (is_lt (cmp x y))) xs

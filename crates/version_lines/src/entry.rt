@@ -1,73 +1,74 @@
-//! A line with its version, as it is sorted.
-ghost use Rattle.std.specs.Prelude.{◌≡◌, MatchOption, IfOk};
-ghost use Rattle.std.specs.Option.{option_map};
-ghost use Rattle.version_lines.specs.Entry.{kept_of};
-ghost use Rattle.versions.specs.Versioning.{plain_versioning};
+//! A line as it is sorted.
+ghost use Rattle.std.specs.Prelude.{◌≡◌, ◌++◌, IfOk, IsTrue, MatchOption, OnOk};
+ghost use Rattle.version_lines.specs.Spelled.{line_key};
 
-use std::alloc::{AllocError, Global};
+use crate::head::head;
+use crate::spelled::add_key;
+use std::alloc::AllocError;
 use std::cmp::Ordering;
-use std::str;
-use versions::Versioning;
 
-/// A line, the sort key of the version that it spells, and that version where it isn't strict: of strict ones the keys
-/// tell all that is ordered.
-#[derive(Drop)]
+/// A line that is a version, where its key lies among the keys of all lines, which are one list, and the first bytes of
+/// the key, by which most lines are told apart.
+#[derive(Clone, Copy)]
 pub struct Entry<'a> {
+    first: u64,
+    second: u64,
     line: &'a [u8],
-    key: Vec<u8>,
-    kept: Option<Box<Versioning>>,
+    start: usize,
+    length: usize,
 }
 
 impl<'a> Entry<'a> {
-    ghost use Rattle.version_lines.specs.Entry.{entry_cmp, entry_line, kept_version, IsRead};
-    ghost use Rattle.versions.specs.Versioning.{versioning_plain_cmp};
-    ghost use Rattle.std.specs.Option.{option_cmp};
+    ghost use Rattle.version_lines.specs.Entry.{behind_cmp, entry_cmp, entry_key, entry_line, IsRead};
     ghost use Rattle.version_lines.specs.Sort.{is_bad};
-    ghost use Rattle.std.specs.Prelude.{IsTrue, IsSomeAnd};
 
-    /// The line with its version, where it is one. The error is that there is no memory for that.
-    pub fn read(alloc: Global, line: &'a [u8]) -> Result<Option<Entry<'a>>, AllocError>
-        ensures { IfOk result (λ read. MatchOption read (IsTrue (is_bad line.now))
-            (λ entry. (entry_line entry ≡ line.now) × IsRead entry)) }
+    /// The line, whose key is added to the keys of others, where it is a version. The error is that there is no memory
+    /// for the key.
+    pub fn read(keys: &mut Vec<u8>, line: &'a [u8]) -> Result<Option<Entry<'a>>, AllocError>
+        ensures key { OnOk result (keys.new.items ≡ keys.old.items ++ line_key line.now) }
+        ensures read { IfOk result (λ read. MatchOption read (IsTrue (is_bad line.now))
+            (λ entry. (entry_line entry ≡ line.now) × IsRead keys.new.items entry)) }
     {
-        let Ok(text) = str::from_utf8(line) else {
+        let start = keys.len();
+        if !add_key(keys, line)? {
             return Ok(None);
-        };
-        let Some(version) = Versioning::new(alloc, text)? else {
-            return Ok(None);
-        };
-        let key = version.sort_key(alloc)?;
-        let kept = keep(alloc, version)?;
-        Ok(Some(Entry { line, key, kept }))
+        }
+        let key = &keys.as_slice()[start..];
+        Ok(Some(Entry {
+            first: head(key),
+            second: head(key.get(8..).unwrap_or(&[])),
+            line,
+            start,
+            length: key.len(),
+        }))
     }
 
-    /// By the keys, and where those are the same, by the versions that are kept.
-    pub fn compare(&self, other: &Entry<'_>) -> Ordering
-        ensures { result ≡ entry_cmp self.now other.now }
+    /// By their keys, the first bytes of which are looked at first.
+    pub fn compare(&self, other: &Entry<'_>, keys: &[u8]) -> Ordering
+        ensures { result ≡ entry_cmp keys.now self.now other.now }
     {
-        match self.key.as_slice().cmp(other.key.as_slice()) {
-            Ordering::Equal => self.compare_kept(other),
+        match self.first.cmp(&other.first) {
+            Ordering::Equal => self.compare_behind(other, keys),
             order => order,
         }
     }
 
-    /// As the versions that are kept compare field by field, none before some.
-    fn compare_kept(&self, other: &Entry<'_>) -> Ordering
-        ensures { result ≡ option_cmp versioning_plain_cmp (kept_version self.now) (kept_version other.now) }
+    /// By the second bytes, and where those are the same by the whole keys.
+    fn compare_behind(&self, other: &Entry<'_>, keys: &[u8]) -> Ordering
+        ensures { result ≡ behind_cmp keys.now self.now other.now }
     {
-        match (&self.kept, &other.kept) {
-            (Some(a), Some(b)) => a.compare_plain(b),
-            (Some(_), None) => Ordering::Greater,
-            (None, Some(_)) => Ordering::Less,
-            (None, None) => Ordering::Equal,
+        match self.second.cmp(&other.second) {
+            Ordering::Equal => self.key(keys).cmp(other.key(keys)),
+            order => order,
         }
     }
 
-    /// The sort key.
-    pub fn key(&self) -> &[u8]
-        ensures { result.now ≡ self.now.key.items }
+    /// Its key, of all keys.
+    fn key<'k>(&self, keys: &'k [u8]) -> &'k [u8]
+        ensures { result.now ≡ entry_key keys.now self.now }
     {
-        self.key.as_slice()
+        let behind = keys.get(self.start..).unwrap_or(&[]);
+        behind.get(..self.length).unwrap_or(behind)
     }
 
     /// The line.
@@ -76,14 +77,4 @@ impl<'a> Entry<'a> {
     {
         self.line
     }
-}
-
-/// A version that isn't strict. The error is that there is no memory for it.
-fn keep(alloc: Global, version: Versioning) -> Result<Option<Box<Versioning>>, AllocError>
-    ensures { IfOk result (λ kept. option_map (λ kept. plain_versioning kept.value) kept ≡ kept_of (plain_versioning version)) }
-{
-    if version.is_ideal() {
-        return Ok(None);
-    }
-    Ok(Some(Box::new(alloc, version)?))
 }

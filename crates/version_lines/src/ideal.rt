@@ -27,7 +27,7 @@ impl LineCommand for Ideal {
 }
 
 /// Whether a line is a strict version. Takes no memory.
-fn is_strict(line: &[u8]) -> bool
+pub fn is_strict(line: &[u8]) -> bool
     ensures { result ≡ is_some (semver_of line.now) }
 {
     match str::from_utf8(line) {

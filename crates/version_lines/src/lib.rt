@@ -16,9 +16,11 @@ mod lines;
 mod matching;
 mod output;
 mod program;
-mod ranked;
 mod show;
 mod sort;
+mod spelled;
+mod tied;
+mod ties;
 mod words;
 
 pub use faults::Fault;

@@ -1,10 +1,10 @@
 //! The command `match`: the lines whose versions a list of requirements asks for.
-ghost use Rattle.std.specs.Prelude.{◌≡◌, IfOk, IsTrue, Some};
+ghost use Rattle.std.specs.Prelude.{◌≡◌, IfOk, IsTrue};
 ghost use Rattle.version_lines.specs.Matching.{match_answer};
 ghost use Rattle.versions.specs.Matching.{Matches, MatchesAll};
 ghost use Rattle.versions.specs.Requirement.{plain_requirement};
 ghost use Rattle.versions.specs.Requirements.{plain_requirements};
-ghost use Rattle.versions.specs.Versioning.{is_ideal, plain_versioning, versioning_of, PlainVersioning};
+ghost use Rattle.versions.specs.Versioning.{is_ideal, versioning_of, PlainVersioning};
 
 use crate::answer::Answer;
 use crate::lines::LineCommand;
@@ -29,6 +29,7 @@ impl LineCommand for Matching {
 }
 
 /// The answer for a line. The error is that there is no memory for its version.
+#[tactic(auto, using(crate::proofs::MatchingLemmas::answered))]
 fn answer_for(alloc: Global, wanted: &Requirements, line: &[u8]) -> Result<Answer, AllocError>
     ensures { IfOk result (λ answer. answer ≡ match_answer (plain_requirements wanted.now) (versioning_of line.now)) }
 {
@@ -38,21 +39,9 @@ fn answer_for(alloc: Global, wanted: &Requirements, line: &[u8]) -> Result<Answe
     if ask_for_strict_alone(wanted) && !SemVer::is_spelled_by(text) {
         return Ok(Answer::Nothing);
     }
-    match Versioning::new(alloc, text)? {
-        Some(version) => Ok(answer_for_version(wanted, &version)),
-        None => Ok(Answer::Nothing),
-    }
-}
-
-/// The line, where the requirements ask for the version that it is. Takes no memory.
-#[tactic(auto, using(crate::proofs::MatchingLemmas::line_if_holds, crate::proofs::MatchingLemmas::line_if_fails))]
-fn answer_for_version(wanted: &Requirements, version: &Versioning) -> Answer
-    ensures { result ≡ match_answer (plain_requirements wanted.now) (Some (plain_versioning version.now)) }
-{
-    if wanted.matches(version) {
-        Answer::Whole
-    } else {
-        Answer::Nothing
+    match wanted.matches_spelled(alloc, text)? {
+        Some(true) => Ok(Answer::Whole),
+        _ => Ok(Answer::Nothing),
     }
 }
 

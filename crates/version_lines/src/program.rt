@@ -36,10 +36,10 @@ use std::io::{Read, Write};
 /// that takes nothing has failed. `read` may give bytes 18446744073709551615 times, and is
 /// [`Fault::Read`] where that isn't the whole input. Nothing is flushed.
 ///
-/// It takes memory for the whole input, for two buffers of 64 KiB, and for one version at a time. `sort` takes it for
-/// the sort key of every line, for each version that isn't strict, and for a list that it sorts with as much again;
-/// `match` for its requirements; `cmp` for two versions; `key` for a version, its sort key and the line; and a word that
-/// is told for its copy.
+/// It takes memory for the whole input and for two buffers of 64 KiB. `sort` takes it for the sort keys of all lines, in
+/// one list, for 48 bytes a line and as much again to sort them, and, a key at a time, for the versions that aren't
+/// strict of lines that have one key and aren't one line; `match` for its requirements, and for one version at a time;
+/// `key` for the sort key and the line; `cmp` for nothing more; and a word that is told for its copy.
 pub fn run<R: Read, W: Write>(
     alloc: Global,
     words: &[String],

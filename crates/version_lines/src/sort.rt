@@ -8,15 +8,14 @@ ghost use Rattle.version_lines.specs.Command.{OfInput};
 ghost use Rattle.version_lines.specs.Run.{ComesOfCommand, GrowsAt};
 ghost use Rattle.version_lines.specs.Sort.{bad_line, sort_output};
 ghost use Rattle.version_lines.specs.Sorting.{in_order};
-ghost use Rattle.version_lines.specs.Entry.{entry_line, IsRead};
-ghost use Rattle.version_lines.specs.Ranked.{ranked_cmp, ranked_entry, ranked_line, HasHeads};
+ghost use Rattle.version_lines.specs.Entry.{entry_cmp, entry_line, IsRead};
 
 use crate::command::InputCommand;
 use crate::entry::Entry;
 use crate::faults::Fault;
 use crate::lines::split_line;
 use crate::output::{make_buffer, put_line, write_whole};
-use crate::ranked::Ranked;
+use crate::ties::break_ties;
 use std::alloc::{AllocError, Global};
 use std::io::Write;
 
@@ -30,23 +29,29 @@ pub fn write_sorted<W: Write>(alloc: Global, input: &[u8], writer: &mut W) -> Re
         (GrowsAt (W.contents writer.old) (W.contents writer.new) (Some (sort_output input.now))) }
     ensures faults { IfErr result (ComesOfCommand (Some input.now) (OfInput InputCommand.Sort)) }
 {
-    let entries = read_entries(alloc, input)?;
-    let mut ranked = rank(alloc, entries.as_slice())?;
-    sort_ranked(&mut ranked)?;
-    write_ranked(alloc, ranked.as_slice(), writer)
+    let mut keys = Vec::new(alloc);
+    let mut entries = read_entries(alloc, &mut keys, input)?;
+    let keys = keys.as_slice();
+    sort_by_keys(keys, &mut entries)?;
+    break_ties(alloc, keys, entries.as_mut_slice())?;
+    write_entries(alloc, entries.as_slice(), writer)
 }
 
-/// The lines with their versions, or the fault that tells the first that has none.
-fn read_entries(alloc: Global, input: &[u8]) -> Result<Vec<Entry<'_>>, Fault>
+/// The lines, whose keys are put into a list, or the fault that tells the first that is no version.
+fn read_entries<'a>(
+    alloc: Global,
+    keys: &mut Vec<u8>,
+    input: &'a [u8],
+) -> Result<Vec<Entry<'a>>, Fault>
     ensures lines { IfOk result (λ entries. map entry_line entries.items ≡ lines_of input.now) }
-    ensures read { IfOk result (λ entries. All IsRead entries.items) }
+    ensures read { IfOk result (λ entries. All (IsRead keys.new.items) entries.items) }
     ensures faults { IfErr result (ComesOfLines (bad_line (lines_of input.now))) }
 {
     let mut entries = Vec::new(alloc);
     let mut rest = input;
     while !rest.is_empty() {
         let (line, after) = split_line(rest);
-        let Some(entry) = Entry::read(alloc, line)? else {
+        let Some(entry) = Entry::read(keys, line)? else {
             return Err(Fault::BadLine(entries.len() + 1));
         };
         add(&mut entries, entry)?;
@@ -63,36 +68,28 @@ fn add<'a>(entries: &mut Vec<Entry<'a>>, entry: Entry<'a>) -> Result<(), AllocEr
     Ok(())
 }
 
-/// The lines with the first bytes of their keys, as they stand.
-fn rank<'a>(alloc: Global, entries: &'a [Entry<'a>]) -> Result<Vec<Ranked<'a>>, AllocError>
-    ensures entries { IfOk result (λ ranked. map ranked_entry ranked.items ≡ entries.now) }
-    ensures heads { IfOk result (λ ranked. All HasHeads ranked.items) }
+/// Puts the lines in the order of their keys.
+fn sort_by_keys(keys: &[u8], entries: &mut Vec<Entry<'_>>) -> Result<(), AllocError>
+    ensures { OnOk result (entries.new.items ≡ in_order (entry_cmp keys.now) entries.old.items) }
 {
-    let mut ranked = Vec::with_capacity(alloc, entries.len())?;
-    for entry in entries {
-        ranked.push(Ranked::of(entry))?;
-    }
-    Ok(ranked)
-}
-
-/// Puts the lines in order.
-fn sort_ranked(ranked: &mut Vec<Ranked<'_>>) -> Result<(), AllocError>
-    ensures { OnOk result (ranked.new.items ≡ in_order ranked_cmp ranked.old.items) }
-{
-    ranked.sort_by(Ranked::compare)
+    entries.sort_by(|a, b| a.compare(b, keys))
 }
 
 /// Writes the lines as they stand.
-fn write_ranked<W: Write>(alloc: Global, ranked: &[Ranked<'_>], writer: &mut W) -> Result<(), Fault>
+fn write_entries<W: Write>(
+    alloc: Global,
+    entries: &[Entry<'_>],
+    writer: &mut W,
+) -> Result<(), Fault>
     ensures written { OnOk result (Appends (W.contents writer.old) (W.contents writer.new)
-        (lines_output whole_line (map ranked_line ranked.now))) }
+        (lines_output whole_line (map entry_line entries.now))) }
     ensures at_fault { IfErr result (GrowsAt (W.contents writer.old) (W.contents writer.new)
-        (Some (lines_output whole_line (map ranked_line ranked.now)))) }
+        (Some (lines_output whole_line (map entry_line entries.now)))) }
     ensures faults { IfErr result ComesOfWriting }
 {
     let mut buffer = make_buffer(alloc)?;
-    for line in ranked {
-        put_line(writer, &mut buffer, b"", line.line())?;
+    for entry in entries {
+        put_line(writer, &mut buffer, b"", entry.line())?;
     }
     write_whole(writer, buffer.as_slice())
 }

@@ -1,8 +1,8 @@
 -- Bodies of general versions: their front reads what is spelled and nothing else, and they print as they are spelled.
-use Rattle.std.proofs.Common.{◌≡◌, ◌∙◌, ◌-◌, ◌++◌, ◌∷◌, ℕ, List, [], length, take, Some, None, refl, sym, ap, subst, arith, inl, inr, append_assoc, length-append}
+use Rattle.std.proofs.Common.{◌≡◌, ◌∙◌, ◌-◌, ◌++◌, ◌∷◌, ◌<◌, ℕ, List, [], length, take, Some, None, refl, sym, ap, subst, arith, inl, inr, append_assoc, length-append}
 use Rattle.std.proofs.lemmas.List.{take_at}
 use Rattle.std.specs.Char.{is_ascii_alphanumeric}
-use Rattle.version_parts.specs.Body.{PlainBody, SpellsBody, body_front, body_text, chunks_front, chunks_text}
+use Rattle.version_parts.specs.Body.{PlainBody, SpellsBody, body_front, body_of, body_text, chunks_front, chunks_text}
 use Rattle.version_parts.specs.Bytes.{dot}
 use Rattle.version_parts.specs.Chunk.{PlainChunk, SpellsPart, chunk_text}
 use Rattle.version_parts.specs.Grammar.{SpellsDotted}
@@ -49,6 +49,15 @@ pub split_last-take : {X : Type 0} (xs : List X) (split : List X × X) → split
 split_last-take xs split e =
     let length_is : length (split.0 ++ split.1 ∷ []) - 1 ≡ length split.0 = omega (arith, length-append split.0 (split.1 ∷ [])) in
     rw (split_last-whole xs split e, length_is) (take_at split.0 (split.1 ∷ []) _ refl)
+
+-- a list that is split into its chunks and its last part has one part or more, and is that body
+pub body_split : (count : ℕ) (parts : List PlainChunk) (split : List PlainChunk × PlainChunk) (last : PlainLast) → count ≡ length parts → split_last parts ≡ Some split
+    → last ≡ last_of split.1 → (0 < count) × (count ≡ length parts) × (body_of parts ≡ Some (take (count - 1) parts, last))
+body_split count parts split last counted e same =
+    let whole = split_last-whole parts split e in
+    let chunks : take (count - 1) parts ≡ split.0 = ap (λ (n : ℕ). take (n - 1) parts) counted ∙ split_last-take parts split e in
+    let some : 0 < count = omega (arith, counted, ap (λ (xs : List PlainChunk). length xs) whole, length-append split.0 (split.1 ∷ [])) in
+    (some, counted, rw (e, chunks, same) refl)
 
 pub body_sound : IsSound SpellsBody body_front
 body_sound text body rest e = elim (cases_Option (chunks_front text)) [

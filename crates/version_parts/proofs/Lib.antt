@@ -8,9 +8,12 @@ pub mod Dotted
 pub mod DottedScan
 pub mod Fed
 pub mod FewBytes
+pub mod Growing
+pub mod ItemsLeft
 pub mod LastReading
 pub mod ListBytes
 pub mod MChunkReading
+pub mod Mapped
 pub mod NumberBytes
 pub mod NumeralReading
 pub mod Numerals

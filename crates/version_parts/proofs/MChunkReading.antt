@@ -124,7 +124,7 @@ ends_run : (rest : List ℕ) → EndsChunk rest → EndsRun is_ascii_alphanumeri
 ends_run [] e = refl
 ends_run (b ∷ rest) e = grind (arith, nat_tests)
 
-mchunk_front-Some : (text run rest : List ℕ) → run_front is_ascii_alphanumeric text ≡ Some (run, rest) → mchunk_front text ≡ Some (chunk_before (run, rest), rest)
+pub mchunk_front-Some : (text run rest : List ℕ) → run_front is_ascii_alphanumeric text ≡ Some (run, rest) → mchunk_front text ≡ Some (chunk_before (run, rest), rest)
 unfolding mchunk_front
 mchunk_front-Some text run rest e = rw e refl
 
@@ -161,7 +161,7 @@ variant_text run = elim (cases_Option (value_of_digits run)) [
   ]
 ]
 
-chunk_text : (run : List ℕ × List ℕ) → mchunk_text (chunk_before run) ≡ run.0
+pub chunk_text : (run : List ℕ × List ℕ) → mchunk_text (chunk_before run) ≡ run.0
 chunk_text run = elim (cases_Bool (ends_chunk run.1)) [ inl ended ↦ rw ended (variant_text run.0) | inr other ↦ rw other refl ]
 
 pub mchunk_kept : IsKept mchunk_text mchunk_front

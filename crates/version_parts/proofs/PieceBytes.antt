@@ -1,10 +1,11 @@
 -- How the bytes of a piece begin at each place, and what is still to come behind the first of them.
-use Rattle.std.proofs.Common.{◌≡◌, ◌==◌, ◌+◌, ◌-◌, ◌*◌, ◌/◌, ◌%◌, ◌^◌, ℕ, ◌<◌, ◌≤◌, Bool, false, true, List, [], ◌∷◌, ◌++◌, length, drop, take, Some, None, refl, sym, ap, ◌∙◌, inl, inr, arith, append_assoc, append-nil, one-add}
+use Rattle.std.proofs.Common.{◌≡◌, ◌==◌, ◌+◌, ◌-◌, ◌*◌, ◌/◌, ◌%◌, ◌^◌, ℕ, zero, suc, ◌<◌, ◌≤◌, ◌≢◌, Bool, false, true, List, [], ◌∷◌, ◌++◌, length, drop, take, Some, None, refl, sym, ap, ◌∙◌, inl, inr, arith, append_assoc, append-nil, one-add}
 use Rattle.std.proofs.lemmas.Bool.{cases_Bool, eqb-true}
 use Rattle.std.proofs.lemmas.Bool.Decides.{nat_tests}
 use Rattle.std.proofs.lemmas.Fmt.{decimal_is_IsNumeral}
 use Rattle.std.proofs.lemmas.List.Folds.{length-prefix_len}
-use Rattle.std.specs.Char.{digit_char, digit_value, is_ascii_digit}
+use Rattle.std.specs.Char.{digit_char, digit_value, is_ascii_alphabetic, is_ascii_digit}
+use Rattle.version_parts.specs.Bytes.{is_identifier_byte}
 use Rattle.std.specs.Cmp.{first_so, second_so}
 use Rattle.std.specs.Fmt.{decimal}
 use Rattle.std.specs.List.{list_all, position_or_len, prefix_len, slice_get, take_while}
@@ -193,6 +194,58 @@ number_of_decimal n small =
 pub text_alone : (text : List ℕ) → place_bytes (Rest Text) text ≡ text_bytes text
 unfolding place_bytes behind_bytes
 text_alone text = refl
+
+-- ---- runs of bytes that stand in a key as they are
+
+-- every byte but 0 and 1 is written as it is
+as_it_is : (b : ℕ) → 1 < b → text_byte (Some b) ≡ b ∷ []
+as_it_is zero above = absurd (omega arith)
+as_it_is (suc zero) above = absurd (omega arith)
+as_it_is (suc (suc n)) above = refl
+
+letter_above : (b : ℕ) → is_ascii_alphabetic b ≡ true → 1 < b
+letter_above b letter = grind (arith, nat_tests)
+
+letter_other : (b : ℕ) → is_ascii_alphabetic b ≡ true → is_ascii_digit b ≡ false
+letter_other b letter = grind (arith, nat_tests)
+
+identifier_above : (b : ℕ) → is_identifier_byte b ≡ true → 1 < b
+identifier_above b identifier = grind (arith, nat_tests)
+
+digits_stand : (behind : Behind) (run text : List ℕ) → list_all is_ascii_digit run ≡ true → run_bytes behind (run ++ text) ≡ run ++ run_bytes behind text
+digits_stand behind [] text all = refl
+digits_stand behind (b ∷ run) text all =
+    let digit : is_ascii_digit b ≡ true = first_so _ _ all in
+    rw (digit, one-add) (ap (λ (l : List ℕ). b ∷ l) (digits_stand behind run text (second_so _ _ all)))
+
+pub digits_taken : (behind : Behind) (whole run text : List ℕ) → whole ≡ run ++ text → list_all is_ascii_digit run ≡ true → length run ≢ 0
+    → place_bytes (Digit behind) whole ≡ run ++ run_bytes behind text
+unfolding place_bytes
+digits_taken behind whole [] text e all some = absurd (some refl)
+digits_taken behind whole (b ∷ run) text e all some = rw e (ap (λ (l : List ℕ). b ∷ l) (digits_stand behind run text (second_so _ _ all)))
+
+letters_stand : (run text : List ℕ) → list_all is_ascii_alphabetic run ≡ true → place_bytes Split (run ++ text) ≡ run ++ place_bytes Split text
+letters_stand [] text all = refl
+letters_stand (b ∷ run) text all =
+    let letter : is_ascii_alphabetic b ≡ true = first_so _ _ all in
+    split_other b (run ++ text) (letter_other b letter) ∙ ap (λ (l : List ℕ). l ++ place_bytes Split (run ++ text)) (as_it_is b (letter_above b letter))
+    ∙ ap (λ (l : List ℕ). b ∷ l) (letters_stand run text (second_so _ _ all))
+
+pub letters_taken : (whole run text : List ℕ) → whole ≡ run ++ text → list_all is_ascii_alphabetic run ≡ true → place_bytes Split whole ≡ run ++ place_bytes Split text
+letters_taken whole run text e all = ap (place_bytes Split) e ∙ letters_stand run text all
+
+identifiers_stand : (run text : List ℕ) → list_all is_identifier_byte run ≡ true → place_bytes (Rest Text) (run ++ text) ≡ run ++ place_bytes (Rest Text) text
+unfolding place_bytes
+identifiers_stand [] text all = refl
+identifiers_stand (b ∷ run) text all =
+    text_more b (run ++ text) ∙ ap (λ (l : List ℕ). l ++ place_bytes (Rest Text) (run ++ text)) (as_it_is b (identifier_above b (first_so _ _ all)))
+    ∙ ap (λ (l : List ℕ). b ∷ l) (identifiers_stand run text (second_so _ _ all))
+
+pub identifiers_taken : (whole run text : List ℕ) → whole ≡ run ++ text → list_all is_identifier_byte run ≡ true
+    → place_bytes (Rest Text) whole ≡ run ++ place_bytes (Rest Text) text
+identifiers_taken whole run text e all = ap (place_bytes (Rest Text)) e ∙ identifiers_stand run text all
+
+pub ruleset runs_taken = (digits_taken, letters_taken, identifiers_taken)
 
 pub ruleset part_steps = (part_of_number, part_of_word)
 

@@ -1,5 +1,5 @@
 -- Orders of lists and of options, made from an order of the items.
-use Rattle.std.specs.Prelude.{ℕ, List, [], ◌∷◌, ◌++◌, map, Option, Some, None}
+use Rattle.std.specs.Prelude.{◌≡◌, ℕ, List, [], ◌∷◌, ◌++◌, map, Option, Some, None}
 use Rattle.std.specs.Option.{option_map_or}
 use Rattle.std.specs.Ordering.{nat_cmp, on}
 use Rattle.std.specs.declared.cmp.Ordering.{Ordering}
@@ -29,3 +29,13 @@ none_last_cmp R (Some a) (Some b) = R a b
 none_last_cmp R (Some a) None = Less
 none_last_cmp R None (Some b) = Greater
 none_last_cmp R None None = Equal
+
+-- a list to which bytes are put: it has got a beginning of them, and these are left
+pub record Growing (old new bytes left : List ℕ) : Type 0 where
+  pub taken : List ℕ
+  pub bytes_are : bytes ≡ taken ++ left
+  pub new_is : new ≡ old ++ taken
+
+-- a list that has got a beginning of some bytes behind its own, perhaps none of them or all
+abbrev pub GrowsWithin : List ℕ → List ℕ → List ℕ → Type 0
+GrowsWithin old new bytes = (left : List ℕ) × Growing old new bytes left

@@ -110,6 +110,18 @@ impl Chunk {
     }
 }
 
+impl Chunk {
+    // The same with its text lent.
+    pub(crate) fn lent(&self) -> ChunkPiece<'_>
+        ensures { plain_piece result ≡ plain_chunk self.now }
+    {
+        match self {
+            Chunk::Numeric(number) => ChunkPiece::Numeric(*number),
+            Chunk::Alphanum(text) => ChunkPiece::Alphanum(text.as_str()),
+        }
+    }
+}
+
 // The number at the front of a text.
 fn front_number(text: &str) -> Option<u32>
     ensures { result ≡ option_map (λ p. p.0) (unsigned_front text.now) }

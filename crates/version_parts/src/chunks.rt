@@ -1,14 +1,16 @@
 //! The chunks of a general version, and its body: the chunks with the last part behind them.
 
-ghost use Rattle.std.specs.Prelude.{◌≡◌, ◌<◌, ◌-◌, [], refl, length, take, IfOk, OnErr, Some};
+ghost use Rattle.std.specs.Prelude.{◌≡◌, ◌<◌, ◌-◌, ◌∷◌, ◌++◌, [], refl, length, take, IfOk, OnErr, Some};
 ghost use Rattle.std.proofs.Common.{ap};
 ghost use Rattle.std.specs.Cmp.{eq_by_cmp_equiv, on_equiv, on_per, on_total, partial_equiv_from_equiv, po};
 ghost use Rattle.std.specs.Option.{option_map};
 ghost use Rattle.std.specs.Ordering.{as_partial_cmp, eq_by_cmp, on};
 ghost use Rattle.version_parts.specs.Body.{body_front, chunks_front, plain_chunks, BodyOwns};
 ghost use Rattle.version_parts.specs.Front.{Reads};
-ghost use Rattle.version_parts.specs.Last.{plain_last};
+ghost use Rattle.version_parts.specs.Last.{last_text, plain_last};
 ghost use Rattle.version_parts.specs.OrderLaws.{same_where_tied};
+ghost use Rattle.version_parts.specs.Codes.{items_bytes};
+ghost use Rattle.version_parts.specs.PartKey.{chunk_parts, part_bytes, part_key};
 ghost use Rattle.version_parts.specs.PartOrder.{chunks_cmp};
 ghost use Rattle.version_parts.specs.PartOrderLaws.{chunks_cmp_ties, chunks_cmp_total};
 ghost use Rattle.version_parts.specs.Release.{release_fed, release_text};
@@ -16,7 +18,7 @@ ghost use Rattle.version_parts.specs.ReleaseLaws.{release_total, releases_same};
 ghost use Rattle.version_parts.specs.ReleaseOrder.{release_cmp};
 
 use crate::chunk::{Chunk, Part};
-use crate::key::compare_part_lists;
+use crate::key::{ItemsLeft, compare_part_lists};
 use crate::last::{Last, LastPiece};
 use crate::lists::{compare_lists, copy_list, write_dotted};
 use crate::scan::Dotted;
@@ -125,8 +127,8 @@ pub struct BodyPiece<'a> {
 }
 
 impl<'a> Model for BodyPiece<'a> {
-    ghost use Rattle.std.specs.Prelude.{◌≡◌, ◌<◌, ◌-◌, length, take};
-    ghost use Rattle.version_parts.specs.Body.{PlainBody};
+    ghost use Rattle.std.specs.Prelude.{◌≡◌, ◌<◌, ◌-◌, length, take, Some};
+    ghost use Rattle.version_parts.specs.Body.{body_of, PlainBody};
 
     ghost Value = { PlainBody };
 
@@ -136,7 +138,8 @@ impl<'a> Model for BodyPiece<'a> {
 
     ghost view = { λ b. (take (b.list.count - 1) (elements_at part_front b.list.text.now), plain_last_piece b.last) };
 
-    ghost invariant = { λ b. (0 < b.list.count) × (b.list.count ≡ length (elements_at part_front b.list.text.now)) };
+    ghost invariant = { λ b. (0 < b.list.count) × (b.list.count ≡ length (elements_at part_front b.list.text.now))
+        × (body_of (elements_at part_front b.list.text.now) ≡ Some (take (b.list.count - 1) (elements_at part_front b.list.text.now), plain_last_piece b.last)) };
 }
 
 impl<'a> BodyPiece<'a> {
@@ -147,6 +150,14 @@ impl<'a> BodyPiece<'a> {
         let (list, rest) = Dotted::scan::<Part>(i)?;
         let (last, _) = LastPiece::scan(list.last)?;
         Some((BodyPiece { list, last }, rest))
+    }
+
+    /// Its parts as they compare. Takes no memory.
+    #[tactic(auto, using(crate::proofs::ListBytes::body_spelled))]
+    pub fn parts(&self) -> ItemsLeft<'a, Part>
+        ensures { result ≡ items_bytes part_bytes (chunk_parts self.now.0 ++ part_key (last_text self.now.1) ∷ []) }
+    {
+        ItemsLeft::spelled_by(self.list)
     }
 
     /// The body with texts of its own. A number alone takes no memory; the error is that there is no memory for more.

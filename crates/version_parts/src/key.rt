@@ -3,12 +3,10 @@
 mod compare;
 mod few;
 mod list;
-mod numbers;
 mod piece;
 mod text;
 
 pub use compare::{compare_bytes, compare_part_lists, compare_parts};
-pub use list::{AsPart, Code, ListBytes, Parts};
-pub use numbers::NumbersBytes;
+pub use list::{Code, ItemsLeft, ListBytes, ListLeft};
 pub use piece::PieceBytes;
 pub use text::PartText;

@@ -12,11 +12,12 @@ ghost use Rattle.version_parts.specs.Last.{first_number, last_fed, last_of, last
 ghost use Rattle.version_parts.specs.LastLaws.{last_total, lasts_same};
 ghost use Rattle.version_parts.specs.LastOrder.{last_plain_cmp, last_rank};
 ghost use Rattle.version_parts.specs.OrderLaws.{same_where_tied};
+ghost use Rattle.version_parts.specs.PartKey.{part_bytes, part_key};
 ghost use Rattle.version_parts.specs.PartOrder.{last_cmp};
 ghost use Rattle.version_parts.specs.PartOrderLaws.{last_cmp_ties, last_cmp_total};
 
 use crate::chunk::{Chunk, ChunkPiece};
-use crate::key::{PartText, compare_parts};
+use crate::key::{PartText, PieceBytes, compare_parts};
 use crate::lists::ListItem;
 use crate::scan::{Class, nonempty_run, unsigned};
 use serde::{Deserialize, Serialize};
@@ -76,6 +77,17 @@ impl Last {
         match self {
             Last::Numeric(number) | Last::Rc(number, _, _) | Last::Post(number, _) => Some(*number),
             Last::Alphanum(_) => None,
+        }
+    }
+
+    /// The bytes of the part that it is. Takes no memory.
+    #[tactic(auto, using(crate::proofs::ListBytes::plain_number))]
+    pub fn piece(&self) -> PieceBytes<'_>
+        ensures { result ≡ part_bytes (Some (part_key (last_text (plain_last self.now)))) }
+    {
+        match self {
+            Last::Numeric(number) => PieceBytes::plain_part(*number),
+            _ => PieceBytes::part(self.part_text()),
         }
     }
 

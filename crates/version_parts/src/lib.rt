@@ -17,6 +17,6 @@ mod sep;
 pub use chunk::{Chunk, Part, ReleaseChunk};
 pub use chunks::{BodyPiece, Chunks};
 pub use last::{Last, LastPiece};
-pub use mchunk::{MChunk, MessyChunk};
+pub use mchunk::{MChunk, MessyChunk, SectionPiece};
 pub use release::{Release, ReleasePiece};
 pub use sep::Sep;

@@ -1,28 +1,30 @@
 //! Chunks of a messy version: what stands between its dots and signs.
 
-ghost use Rattle.std.specs.Prelude.{◌≡◌, ◌<◌, refl, string_bytes, IfOk, Some};
+ghost use Rattle.std.specs.Prelude.{◌≡◌, ◌≢◌, ◌<◌, ◌∷◌, [], refl, length, map, string_bytes, IfNone, IfOk, IfSome, Some};
 ghost use Rattle.std.specs.Option.{option_map};
 ghost use Rattle.std.proofs.Common.{ap};
 ghost use Rattle.std.specs.Cmp.{eq_by_cmp_equiv, on_equiv, on_per, on_total, partial_equiv_from_equiv, po};
 ghost use Rattle.std.specs.Ordering.{as_partial_cmp, eq_by_cmp, on};
 ghost use Rattle.version_parts.specs.DigitRun.{is_digits};
-ghost use Rattle.version_parts.specs.Front.{Reads};
+ghost use Rattle.version_parts.specs.Front.{dotted_front, Reads};
 ghost use Rattle.version_parts.specs.FrontLaws.{mchunk_consumes};
 ghost use Rattle.version_parts.specs.MChunk.{chunk_before, digits_number, ends_chunk, mchunk_fed, mchunk_front, mchunk_plain_cmp, mchunk_rank, mchunk_text, mchunk_value, plain_mchunk, value_of_digits, value_of_revision, variant_of, PlainMChunk};
 ghost use Rattle.version_parts.specs.MChunkLaws.{mchunk_total, mchunks_same};
 ghost use Rattle.version_parts.specs.OrderLaws.{same_where_tied};
+ghost use Rattle.version_parts.specs.PartKey.{parts_bytes, section_parts};
 ghost use Rattle.version_parts.specs.PartOrder.{mchunk_cmp};
 ghost use Rattle.version_parts.specs.PartOrderLaws.{mchunk_cmp_ties, mchunk_cmp_total};
 
-use crate::key::{PartText, compare_parts};
+use crate::key::{ItemsLeft, ListLeft, PartText, compare_parts};
 use crate::lists::ListItem;
-use crate::scan::{Class, Element, after_mark, is_all_digits, nonempty_run, value_of};
+use crate::scan::{Class, Dotted, Element, after_mark, is_all_digits, nonempty_run, value_of};
 use crate::sep::Sep;
 use serde::{Deserialize, Serialize};
 use std::alloc::{AllocError, Global};
 use std::cmp::Ordering;
 use std::fmt;
 use std::hash::{Hash, Hasher};
+use std::marker::Model;
 
 /// One piece between the dots and signs of a messy version, as `1`, `6a` and `r3` of `1.6a+r3`: letters and digits.
 #[derive(Debug, Drop, Serialize, Deserialize)]
@@ -279,5 +281,61 @@ impl Element for MessyChunk {
 
     fn read(alloc: Global, i: &str) -> Result<Option<(MChunk, &str)>, AllocError> {
         MChunk::parse(alloc, i)
+    }
+}
+
+/// The section of a messy version that was scanned, with its chunks still in the input: chunks joined by dots.
+#[derive(Drop)]
+pub struct SectionPiece<'a> {
+    list: Dotted<'a>,
+}
+
+impl<'a> Model for SectionPiece<'a> {
+    ghost use Rattle.std.specs.Prelude.{◌≡◌, List, length};
+    ghost use Rattle.version_parts.specs.Front.{elements_at};
+    ghost use Rattle.version_parts.specs.MChunk.{mchunk_front, PlainMChunk};
+
+    ghost Value = { List PlainMChunk };
+
+    ghost view = { λ section. elements_at mchunk_front section.list.text.now };
+
+    ghost invariant = { λ section. section.list.count ≡ length (elements_at mchunk_front section.list.text.now) };
+}
+
+impl<'a> SectionPiece<'a> {
+    /// The section at the front of a text, and the rest. Takes no memory.
+    pub fn scan(i: &'a str) -> Option<(SectionPiece<'a>, &'a str)>
+        ensures { option_map (λ r. (r.0, r.1.now)) result ≡ dotted_front mchunk_front i.now }
+    {
+        let (list, rest) = Dotted::scan::<MessyChunk>(i)?;
+        Some((SectionPiece { list }, rest))
+    }
+
+    /// The chunks as they compare, and their end. Takes no memory.
+    #[tactic(auto, using(crate::proofs::ListBytes::section_spelled))]
+    pub fn left(&self) -> ListLeft<'a, MessyChunk>
+        ensures { result ≡ parts_bytes (section_parts self.now) }
+    {
+        ListLeft::of(ItemsLeft::spelled_by(self.list))
+    }
+
+    /// The text of its chunk, where it has one alone. Takes no memory.
+    #[tactic(auto, using(crate::proofs::ListBytes::only_chunk))]
+    pub fn only_text(&self) -> Option<&'a str>
+        ensures one { IfSome result (λ text. (chunk : PlainMChunk) × (self.now ≡ chunk ∷ []) × (mchunk_text chunk ≡ text.now)) }
+        ensures other { IfNone result (length self.now ≢ 1) }
+    {
+        if self.list.count != 1 {
+            return None;
+        }
+        Some(nonempty_run(self.list.text, Class::Alphanumeric)?.0)
+    }
+
+    /// The section with chunks of its own. The error is that there is no memory for them.
+    pub fn build(self, alloc: Global) -> Result<Vec<MChunk>, AllocError>
+        ensures { IfOk result (λ chunks. map plain_mchunk chunks.items ≡ self.entry) }
+    {
+        let count = self.list.count;
+        self.list.build::<MessyChunk>(alloc, count)
     }
 }

@@ -13,7 +13,7 @@ ghost use Rattle.version_parts.specs.ReleaseLaws.{release_total, releases_same};
 ghost use Rattle.version_parts.specs.ReleaseOrder.{release_bytes, release_cmp};
 
 use crate::chunk::{Chunk, ReleaseChunk};
-use crate::key::ListBytes;
+use crate::key::{ItemsLeft, ListBytes, ListLeft};
 use crate::lists::{compare_lists, copy_list, write_dotted};
 use crate::scan::{Dotted, after_mark};
 use serde::{Deserialize, Serialize};
@@ -45,6 +45,14 @@ impl Release {
         ensures { result ≡ release_bytes (plain_release self.now) }
     {
         ListBytes::of(self.0.as_slice())
+    }
+
+    /// The chunks as they compare, and their end. Takes no memory.
+    #[tactic(auto, using(crate::proofs::ListBytes::ended))]
+    pub fn left(&self) -> ListLeft<'_, ReleaseChunk>
+        ensures { result ≡ release_bytes (plain_release self.now) }
+    {
+        ListLeft::of(ItemsLeft::of(self.0.as_slice()))
     }
 
     /// A copy. The error is that there is no memory for it.
@@ -134,6 +142,14 @@ impl<'a> ReleasePiece<'a> {
     {
         let (list, rest) = Dotted::scan::<ReleaseChunk>(after_mark(i, b'-')?)?;
         Some((ReleasePiece { list }, rest))
+    }
+
+    /// The chunks as they compare, and their end. Takes no memory.
+    #[tactic(auto, using(crate::proofs::ListBytes::list_spelled))]
+    pub fn left(&self) -> ListLeft<'a, ReleaseChunk>
+        ensures { result ≡ release_bytes self.now }
+    {
+        ListLeft::of(ItemsLeft::spelled_by(self.list))
     }
 
     /// The release with chunks of its own. The error is that there is no memory for them.

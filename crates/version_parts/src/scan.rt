@@ -63,9 +63,9 @@ pub(crate) fn split_run(i: &str, class: Class) -> (&str, &str)
     i.split_at(run_len(i.as_bytes(), class))
 }
 
-// Whether a text has nothing but digits.
+/// Whether a text has nothing but digits. Takes no memory.
 #[inline(always)]
-pub(crate) fn is_all_digits(text: &str) -> bool
+pub fn is_all_digits(text: &str) -> bool
     ensures { result ≡ list_all is_ascii_digit text.now }
 {
     text.as_bytes().iter().all(|byte| byte.is_ascii_digit())

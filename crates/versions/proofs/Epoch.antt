@@ -16,7 +16,7 @@ all_taken (b ∷ text) all =
     let more = all_taken text (second_so (is_ascii_digit b) (list_all is_ascii_digit text) all) in
     take_while-cons is_ascii_digit b text ∙ rw (first_so (is_ascii_digit b) (list_all is_ascii_digit text) all) (ap (λ (l : List ℕ). b ∷ l) more)
 
-digits_alone : (text : List ℕ) → is_digits text ≡ true → digits_value 10 (take_while is_ascii_digit text) ≡ digits_value 10 text
+pub digits_alone : (text : List ℕ) → is_digits text ≡ true → digits_value 10 (take_while is_ascii_digit text) ≡ digits_value 10 text
 digits_alone text digits = ap (digits_value 10) (all_taken text (second_so (starts_with_digit text) (list_all is_ascii_digit text) digits))
 
 -- one chunk of digits is the epoch that it writes

@@ -6,6 +6,7 @@ pub mod FromText
 pub mod Items
 pub mod JsonReading
 pub mod KeyConversion
+pub mod Members
 pub mod MessConversion
 pub mod MessFed
 pub mod MessReading
@@ -20,6 +21,8 @@ pub mod SemVerOrder
 pub mod SemVerReading
 pub mod SortKey
 pub mod Spelled
+pub mod SpelledKey
+pub mod SpelledMatch
 pub mod Tail
 pub mod Texts
 pub mod VersionMatch

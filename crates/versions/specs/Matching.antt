@@ -1,7 +1,8 @@
 -- Which versions a requirement asks for, and a list of requirements.
-use Rattle.std.specs.Prelude.{◌≡◌, ⊤, List, IsTrue, MatchOption}
+use Rattle.std.specs.Prelude.{◌≡◌, ◌↔◌, ⊤, Bool, List, Option, None, Some, IsTrue, MatchOption}
 use Rattle.std.specs.List.{All}
 use Rattle.std.specs.Ordering.{eq_by_cmp}
+use Rattle.std.specs.declared.cmp.Ordering.{Ordering}
 use Rattle.std.specs.declared.cmp.Ordering.TheVariants as ordering
 use Rattle.versions.specs.declared.op.Op.{Op}
 use Rattle.versions.specs.declared.op.Op.TheVariants.{Exact, Greater, GreaterEq, Less, LessEq, Tilde, Caret, Wildcard}
@@ -48,3 +49,32 @@ MatchesAll list v = All (λ r. Matches r v) list
 -- whatever holds of two strict versions holds of those between them
 abbrev pub IsConvex : (PlainVersioning → Type 0) → Type 0
 IsConvex Holds = (a b c : PlainSemVer) → Holds (Ideal a) → Holds (Ideal c) → ¬ (semver_cmp a b ≡ ordering.Greater) → ¬ (semver_cmp b c ≡ ordering.Greater) → Holds (Ideal b)
+
+-- an operator that compares keys
+abbrev pub IsComparison : Op → Type 0
+IsComparison Greater = ⊤
+IsComparison GreaterEq = ⊤
+IsComparison Less = ⊤
+IsComparison LessEq = ⊤
+IsComparison _ = ⊥
+
+-- what a comparison asks of how a version stands to the wanted one
+abbrev pub AsksOrder : Op → Ordering → Type 0
+AsksOrder Greater order = order ≡ ordering.Greater
+AsksOrder GreaterEq order = ¬ (order ≡ ordering.Less)
+AsksOrder Less order = order ≡ ordering.Less
+AsksOrder LessEq order = ¬ (order ≡ ordering.Greater)
+AsksOrder _ order = ⊥
+
+-- an operator that looks at the version itself, and not at its key alone
+abbrev pub LooksAtVersions : Op → Type 0
+LooksAtVersions Exact = ⊤
+LooksAtVersions Tilde = ⊤
+LooksAtVersions Caret = ⊤
+LooksAtVersions _ = ⊥
+
+-- the answer for what a text spells: none where that is no version, else whether the set has it
+abbrev pub AnswersFor : (PlainVersioning → Type 0) → Option Bool → Option PlainVersioning → Type 0
+AnswersFor Holds None None = ⊤
+AnswersFor Holds (Some asked) (Some v) = IsTrue asked ↔ Holds v
+AnswersFor Holds answer spelled = ⊥

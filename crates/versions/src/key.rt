@@ -1,60 +1,82 @@
 //! The bytes of the key of a version, by which versions of all kinds compare. docs/ORDER.md has the rules.
 
-ghost use Rattle.std.specs.Prelude.{◌≡◌, ◌++◌, map, IfNone, IfOk, IfSome, List, ℕ};
+ghost use Rattle.std.specs.Prelude.{◌≡◌, ◌++◌, [], length, map, IfNone, IfOk, IfSome, OnErr, OnOk, List, ℕ};
 ghost use Rattle.std.specs.Char.{is_ascii_digit};
 ghost use Rattle.std.specs.Iterator.{item_count, YieldsFirst};
 ghost use Rattle.std.specs.List.{take_while};
 ghost use Rattle.std.specs.Option.{option_map};
 ghost use Rattle.std.specs.Str.Parse.{digits_value};
-ghost use Rattle.version_parts.specs.Lists.{bytes_cmp};
+ghost use Rattle.version_parts.specs.Front.{repeated};
+ghost use Rattle.version_parts.specs.Lists.{bytes_cmp, GrowsWithin};
 ghost use Rattle.version_parts.specs.MChunk.{plain_mchunk};
 ghost use Rattle.version_parts.specs.NumberBytes.{number_bytes};
-ghost use Rattle.versions.specs.Key.{key_of, key_of_mess, key_of_sections, key_of_semver, key_of_version, section_epoch};
+ghost use Rattle.versions.specs.Key.{key_behind_epoch, key_of, key_of_mess, key_of_sections, key_of_semver, key_of_version, section_epoch};
 ghost use Rattle.versions.specs.KeyBytes.{key_bytes};
-ghost use Rattle.versions.specs.Mess.{plain_mess};
+ghost use Rattle.versions.specs.KeyStream.{list_left, tail_left};
+ghost use Rattle.versions.specs.Mess.{further_front, mess_of, plain_mess};
 ghost use Rattle.versions.specs.SemVer.{plain_semver};
+ghost use Rattle.versions.specs.SemVer.{plain_pieces as strict_pieces};
 ghost use Rattle.versions.specs.Version.{plain_version};
-ghost use Rattle.versions.specs.Versioning.{plain_versioning};
+ghost use Rattle.versions.specs.Version.{plain_pieces as general_pieces};
+ghost use Rattle.versions.specs.Versioning.{plain_versioning, versioning_of};
 
-mod body;
-mod sections;
+mod further;
+mod list;
 mod tail;
 
 use crate::mess::Mess;
-use crate::semver::SemVer;
-use crate::version::Version;
+use crate::semver::{self, SemVer};
+use crate::version::{self, Version};
 use crate::versioning::Versioning;
-use body::BodyBytes;
+use list::{Begun, PartsLeft};
 use std::alloc::{AllocError, Global};
 use std::cmp::Ordering;
 use std::marker::Model;
-use tail::TailBytes;
-use version_parts::key::PieceBytes;
+use std::mem;
+use tail::TailLeft;
 pub use version_parts::key::compare_bytes;
-use version_parts::{MChunk, Sep};
+use version_parts::key::{ListLeft, PieceBytes};
+use version_parts::scan::{after_mark, is_all_digits};
+use version_parts::{MChunk, SectionPiece, Sep};
 
 // How many bytes of a key are made room for at first: as many as three numbers and a short pre-release need.
 const CAPACITY: usize = 32;
 
 /// The bytes of the key of a version, seen as those that are still to come: of its epoch, of the parts of its body, and
-/// of its tail. They order as the keys do, and `compare_bytes` compares two of them. It takes no memory, and all bytes
+/// of its tail. They order as the keys do, and `compare_bytes` compares two of them. One piece is begun; those behind it
+/// are made when it is their turn, off a value or off the text that spells it. It takes no memory, and all bytes
 /// together take time that grows with the version's text.
 #[derive(Drop)]
 pub struct KeyBytes<'a> {
-    epoch: PieceBytes<'a>,
-    body: BodyBytes<'a>,
-    tail: TailBytes<'a>,
+    piece: PieceBytes<'a>,
+    list: Begun<'a>,
+    tail: TailLeft<'a>,
 }
 
 impl<'a> Model for KeyBytes<'a> {
     ghost use Rattle.std.specs.Prelude.{List, ℕ, ◌++◌};
+    ghost use Rattle.versions.specs.KeyStream.{list_left, tail_left};
 
     ghost Value = { List ℕ };
 
-    ghost view = { λ key. key.epoch ++ (key.body ++ key.tail) };
+    ghost view = { λ key. key.piece ++ (list_left key.list ++ tail_left key.tail) };
 }
 
 impl<'a> KeyBytes<'a> {
+    /// The bytes of the key of the version that the whole text spells, of the first kind that holds it; None where it
+    /// spells none. No version is built. Takes no memory.
+    pub fn spelled_by(s: &'a str) -> Option<KeyBytes<'a>>
+        ensures { result ≡ option_map (λ v. key_bytes (key_of v)) (versioning_of s.now) }
+    {
+        if let Some(ideal) = semver::Pieces::whole(s) {
+            return Some(KeyBytes::of_strict_pieces(&ideal));
+        }
+        if let Some(general) = version::Pieces::whole(s) {
+            return Some(KeyBytes::of_general_pieces(&general));
+        }
+        KeyBytes::spelled_by_sections(s)
+    }
+
     // The bytes of the key of a version of any kind.
     pub(crate) fn of(version: &'a Versioning) -> KeyBytes<'a>
         ensures { result ≡ key_bytes (key_of (plain_versioning version.now)) }
@@ -72,9 +94,21 @@ impl<'a> KeyBytes<'a> {
         ensures { result ≡ key_bytes (key_of_semver (plain_semver ideal.now)) }
     {
         KeyBytes {
-            epoch: PieceBytes::number(0),
-            body: BodyBytes::numbers(ideal.major, ideal.minor, ideal.patch),
-            tail: TailBytes::pre_release(&ideal.pre_rel),
+            piece: PieceBytes::number(0),
+            list: Begun::Three(ideal.major, ideal.minor, ideal.patch),
+            tail: TailLeft::pre_release(&ideal.pre_rel),
+        }
+    }
+
+    // The bytes of the key of a strict version that was scanned.
+    #[inline(always)]
+    fn of_strict_pieces(ideal: &semver::Pieces<'a>) -> KeyBytes<'a>
+        ensures { result ≡ key_bytes (key_of_semver (strict_pieces ideal.now)) }
+    {
+        KeyBytes {
+            piece: PieceBytes::number(0),
+            list: Begun::Three(ideal.major, ideal.minor, ideal.patch),
+            tail: TailLeft::spelled_pre_release(&ideal.pre_rel),
         }
     }
 
@@ -84,9 +118,21 @@ impl<'a> KeyBytes<'a> {
         ensures { result ≡ key_bytes (key_of_version (plain_version general.now)) }
     {
         KeyBytes {
-            epoch: PieceBytes::number(general.epoch.unwrap_or(0)),
-            body: BodyBytes::parts(&general.chunks, &general.last),
-            tail: TailBytes::release(&general.release),
+            piece: PieceBytes::number(general.epoch.unwrap_or(0)),
+            list: Begun::Parts(PartsLeft::of(&general.chunks, &general.last)),
+            tail: TailLeft::release(&general.release),
+        }
+    }
+
+    // The bytes of the key of a general version that was scanned.
+    #[inline(always)]
+    fn of_general_pieces(general: &version::Pieces<'a>) -> KeyBytes<'a>
+        ensures { result ≡ key_bytes (key_of_version (general_pieces general.now)) }
+    {
+        KeyBytes {
+            piece: PieceBytes::number(general.epoch.unwrap_or(0)),
+            list: Begun::Parts(PartsLeft::spelled_by(&general.body)),
+            tail: TailLeft::spelled_release(&general.release),
         }
     }
 
@@ -101,17 +147,19 @@ impl<'a> KeyBytes<'a> {
         }
     }
 
-    // The bytes in a list, piece by piece. The error is that there is no memory for it.
-    #[inline(always)]
-    fn into_vec(self, alloc: Global) -> Result<Vec<u8>, AllocError>
-        ensures { IfOk result (λ list. list.items ≡ self.entry) }
+    // The bytes of the key of the messy version that the whole text spells, where it spells one.
+    #[tactic(auto, using(crate::proofs::SpelledKey::whole_spelled))]
+    fn spelled_by_sections(s: &'a str) -> Option<KeyBytes<'a>>
+        ensures { result ≡ option_map (λ m. key_bytes (key_of_mess m)) (mess_of s.now) }
     {
-        let KeyBytes { epoch, body, tail } = self;
-        let mut list = Vec::with_capacity(alloc, CAPACITY)?;
-        epoch.append_to(&mut list)?;
-        body.append_to(&mut list)?;
-        tail.append_to(&mut list)?;
-        Ok(list)
+        if !Mess::is_spelled_by(s) {
+            return None;
+        }
+        let (first, rest) = SectionPiece::scan(s)?;
+        if let Some((digits, body, behind)) = spelled_epoch(&first, rest) {
+            return Some(KeyBytes::behind_spelled(PieceBytes::digits(digits), &body, behind));
+        }
+        Some(KeyBytes::behind_spelled(PieceBytes::number(0), &first, rest))
     }
 
     // The bytes of an epoch, and of the sections behind it.
@@ -120,10 +168,86 @@ impl<'a> KeyBytes<'a> {
         ensures { (n : ℕ) → epoch.entry ≡ number_bytes n → result ≡ key_bytes (key_of_sections n (plain_mess sections.now).first (plain_mess sections.now).more) }
     {
         KeyBytes {
-            epoch,
-            body: BodyBytes::section(sections),
-            tail: TailBytes::sections(sections),
+            piece: epoch,
+            list: Begun::Section(ListLeft::section(sections.chunks.as_slice())),
+            tail: TailLeft::sections(sections),
         }
+    }
+
+    // The bytes of an epoch, of the section behind it, and of the sections at the front of a text.
+    #[inline(always)]
+    fn behind_spelled(
+        epoch: PieceBytes<'a>,
+        section: &SectionPiece<'a>,
+        rest: &'a str,
+    ) -> KeyBytes<'a>
+        ensures { (n : ℕ) → epoch.entry ≡ number_bytes n
+            → result ≡ key_bytes (key_of_sections n section.now (repeated further_front (length rest.now) rest.now).0) }
+    {
+        KeyBytes {
+            piece: epoch,
+            list: Begun::Section(section.left()),
+            tail: TailLeft::spelled_sections(rest),
+        }
+    }
+
+    /// Puts the bytes behind those of a list, so that many keys may lie in one block. The error is that there is no
+    /// memory for all of them; the list then has a beginning of them behind its own.
+    #[inline(always)]
+    pub fn append_to(self, list: &mut Vec<u8>) -> Result<(), AllocError>
+        ensures ok { OnOk result (list.new.items ≡ list.old.items ++ self.entry) }
+        ensures err { OnErr result (GrowsWithin list.old.items list.new.items self.entry) }
+    {
+        let KeyBytes {
+            piece,
+            list: mut begun,
+            mut tail,
+        } = self;
+        piece.append_to(list)?;
+        while let Some(piece) = next_piece(&mut begun, &mut tail) {
+            piece.append_to(list)?;
+        }
+        Ok(())
+    }
+
+    // The bytes in a list. The error is that there is no memory for it.
+    #[inline(always)]
+    fn into_vec(self, alloc: Global) -> Result<Vec<u8>, AllocError>
+        ensures { IfOk result (λ list. list.items ≡ self.entry) }
+    {
+        let mut list = Vec::with_capacity(alloc, CAPACITY)?;
+        self.append_to(&mut list)?;
+        Ok(list)
+    }
+}
+
+// The next piece of the list begun, or else of the tail, which may begin a list.
+fn next_piece<'a>(list: &mut Begun<'a>, tail: &mut TailLeft<'a>) -> Option<PieceBytes<'a>>
+    ensures some { IfSome result (λ piece. (list_left list.old ++ tail_left tail.old ≡ piece ++ (list_left list.new ++ tail_left tail.new)) × ¬ (piece ≡ [])) }
+    ensures none { IfNone result ((list_left list.old ++ tail_left tail.old ≡ []) × (list_left list.new ++ tail_left tail.new ≡ [])) }
+{
+    if let Some(piece) = list.next_piece() {
+        return Some(piece);
+    }
+    match mem::replace(tail, TailLeft::Nothing) {
+        TailLeft::Nothing => None,
+        TailLeft::Bare => Some(PieceBytes::one(2)),
+        TailLeft::Release(rank, chunks) => {
+            *list = Begun::Chunks(chunks);
+            Some(PieceBytes::one(rank))
+        }
+        TailLeft::Sections(further) => {
+            *tail = TailLeft::Behind(further);
+            Some(PieceBytes::one(4))
+        }
+        TailLeft::Behind(further) => match further.next_section() {
+            Some((section, behind)) => {
+                *list = Begun::Section(section);
+                *tail = TailLeft::Behind(behind);
+                Some(PieceBytes::one(2))
+            }
+            None => Some(PieceBytes::one(1)),
+        },
     }
 }
 
@@ -150,6 +274,25 @@ fn digits_of(section: &[MChunk]) -> Option<&str>
     }
 }
 
+// The digits of the epoch, where a first section is one and a colon follows, the section behind it, and the rest.
+#[tactic(auto, using(crate::proofs::SpelledKey::epoch_spelled))]
+fn spelled_epoch<'a>(
+    first: &SectionPiece<'a>,
+    rest: &'a str,
+) -> Option<(&'a str, SectionPiece<'a>, &'a str)>
+    ensures some { IfSome result (λ r. key_behind_epoch (section_epoch first.now) first.now (repeated further_front (length rest.now) rest.now).0
+        ≡ key_of_sections (digits_value 10 (take_while is_ascii_digit r.0.now)) r.1 (repeated further_front (length r.2.now) r.2.now).0) }
+    ensures none { IfNone result (key_behind_epoch (section_epoch first.now) first.now (repeated further_front (length rest.now) rest.now).0
+        ≡ key_of_sections 0 first.now (repeated further_front (length rest.now) rest.now).0) }
+{
+    let digits = first.only_text()?;
+    if digits.is_empty() || !is_all_digits(digits) {
+        return None;
+    }
+    let (body, behind) = SectionPiece::scan(after_mark(rest, b':')?)?;
+    Some((digits, body, behind))
+}
+
 impl<'a> Iterator for KeyBytes<'a> {
     type Item = u8;
 
@@ -158,13 +301,11 @@ impl<'a> Iterator for KeyBytes<'a> {
     ghost remaining = { item_count (λ key. key) };
 
     fn next(&mut self) -> Option<u8> {
-        if let Some(byte) = self.epoch.next() {
+        if let Some(byte) = self.piece.next() {
             return Some(byte);
         }
-        if let Some(byte) = self.body.next() {
-            return Some(byte);
-        }
-        self.tail.next()
+        self.piece = next_piece(&mut self.list, &mut self.tail)?;
+        self.piece.next()
     }
 }
 

@@ -19,6 +19,7 @@ mod mess;
 mod op;
 mod parts;
 mod pieces;
+mod pretty;
 mod reading;
 mod requirement;
 mod requirements;

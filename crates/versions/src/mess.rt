@@ -15,6 +15,7 @@ ghost use Rattle.versions.specs.OrdersLaws.{mess_cmp_ties, mess_cmp_total};
 
 use crate::errors::{Error, ReadError};
 use crate::key::{KeyBytes, compare_keys};
+use crate::pretty::write_pretty;
 use crate::reading::or_illegal;
 use std::alloc::{AllocError, Global};
 use std::cmp::Ordering;
@@ -26,7 +27,6 @@ use version_parts::{MChunk, MessyChunk, Sep};
 
 /// A messy version: chunks joined by dots, then perhaps a sign and a further messy version, as `1.6a+2014+m872b-1`
 /// or `2:10.2`.
-#[derive(Debug)]
 pub struct Mess {
     /// The chunks of the first section. There is at least one where it was read.
     pub chunks: Vec<MChunk>,
@@ -165,6 +165,29 @@ impl Drop for Mess {
     }
 }
 
+/// What a derive would write, but by a loop.
+impl fmt::Debug for Mess {
+    fn fmt<W: fmt::Write>(&self, f: &mut fmt::Formatter<W>) -> fmt::Result {
+        if f.alternate() {
+            return write_pretty(self, f);
+        }
+        show_front(self, f)?;
+        let mut current = self;
+        while let Some((sign, section)) = &current.next {
+            write!(f, "Some(({sign:?}, ")?;
+            show_front(section, f)?;
+            current = section;
+        }
+        f.write_str("None }")?;
+        let mut current = self;
+        while let Some((_, section)) = &current.next {
+            f.write_str(")) }")?;
+            current = section;
+        }
+        Ok(())
+    }
+}
+
 impl fmt::Display for Mess {
     ghost output = { λ m. Some (mess_text (plain_mess m)) };
 
@@ -240,6 +263,13 @@ impl Hash for Mess {
         }
         state.write_u8(0);
     }
+}
+
+// Writes a section as `Debug` does, up to what follows it.
+fn show_front<W: fmt::Write>(section: &Mess, f: &mut fmt::Formatter<W>) -> fmt::Result {
+    f.write_str("Mess { chunks: ")?;
+    fmt::Debug::fmt(&section.chunks, f)?;
+    f.write_str(", next: ")
 }
 
 // The version from the first section that no colon follows on.

@@ -1,12 +1,16 @@
 //! What strict and general versions share: a release and metadata, each of which may be absent.
 
-ghost use Rattle.std.specs.Prelude.{◌≡◌, string_bytes, IfOk, IsSome, OnErr};
+ghost use Rattle.std.specs.Prelude.{◌≡◌, ◌++◌, string_bytes, IfOk, IsSome, OnErr};
+ghost use Rattle.std.specs.Fmt.{WritesOnOk};
 ghost use Rattle.std.specs.Option.{option_map};
+ghost use Rattle.version_parts.specs.Bytes.{hyphen, plus};
 ghost use Rattle.version_parts.specs.Front.{optional};
 ghost use Rattle.version_parts.specs.Metadata.{meta_front};
-ghost use Rattle.version_parts.specs.Release.{plain_release, release_front};
+ghost use Rattle.version_parts.specs.Release.{plain_release, release_front, release_text};
+ghost use Rattle.versions.specs.SemVer.{optional_text};
 
 use std::alloc::{AllocError, Global};
+use std::fmt;
 use version_parts::{Release, ReleasePiece, scan};
 
 // The release at the front of a text, if there is one, and the rest.
@@ -79,4 +83,23 @@ pub(crate) fn copy_meta(alloc: Global, meta: &Option<String>) -> Result<Option<S
         Some(meta) => Ok(Some(String::from_str(alloc, meta.as_str())?)),
         None => Ok(None),
     }
+}
+
+// Writes a hyphen and the release, if there is one, and a plus and the metadata, if there is any.
+pub(crate) fn write_tail<W: fmt::Write>(
+    f: &mut fmt::Formatter<W>,
+    release: &Option<Release>,
+    meta: &Option<String>,
+) -> fmt::Result
+    ensures { WritesOnOk W.write_str_gives f.old result
+        (optional_text hyphen release_text (option_map plain_release release.now)
+        ++ optional_text plus (λ text. text) (option_map string_bytes meta.now)) f.new }
+{
+    if let Some(release) = release {
+        write!(f, "-{release}")?;
+    }
+    if let Some(meta) = meta {
+        write!(f, "+{meta}")?;
+    }
+    Ok(())
 }

@@ -4,17 +4,19 @@ ghost use Rattle.std.specs.Prelude.{◌≡◌, ◌↔◌, ◌++◌, IfOk, IfSome
 ghost use Rattle.std.specs.Option.{is_some, option_map};
 ghost use Rattle.version_parts.specs.Front.{Reads};
 ghost use Rattle.versions.specs.Errors.{IllegalOp, ReadsOr};
-ghost use Rattle.versions.specs.Matching.{IsConvex, Matches, MatchesCaret, MatchesOp, MatchesTilde};
+ghost use Rattle.versions.specs.Matching.{AnswersFor, AsksOrder, IsComparison, IsConvex, LooksAtVersions, Matches, MatchesCaret, MatchesOp, MatchesTilde};
 ghost use Rattle.versions.specs.Op.{op_front};
 ghost use Rattle.versions.specs.Requirement.{plain_requirement, requirement_front, requirement_of, requirement_text, PlainRequirement, RequirementOwns, SpellsRequirement};
-ghost use Rattle.versions.specs.Versioning.{plain_versioning};
+ghost use Rattle.versions.specs.Versioning.{plain_versioning, versioning_of};
 ghost use Rattle.versions.specs.declared.op.Op.TheVariants.{Wildcard};
 
 use crate::errors::{Error, ReadError};
+use crate::key::{KeyBytes, compare_keys};
 use crate::op::Op;
 use crate::reading::or_illegal;
 use crate::versioning::Versioning;
 use std::alloc::{AllocError, Global};
+use std::cmp::Ordering;
 use std::fmt;
 
 /// An operator, and the version that it stands before, as `^1.2.3`; or `*` alone. docs/REQUIREMENTS.md has the rules.
@@ -113,6 +115,21 @@ impl Requirement {
         }
     }
 
+    /// Whether it asks for the version that the whole text spells; None where it spells none. A comparison (`>`, `>=`,
+    /// `<`, `<=`) is held against the key of the text, and `*` asks for any, without memory; `=`, `~` and `^` look at the
+    /// version itself, and the error is that there is no memory for it.
+    pub fn matches_spelled(&self, alloc: Global, s: &str) -> Result<Option<bool>, AllocError>
+        ensures set { IfOk result (λ answer. AnswersFor (Matches (plain_requirement self.now)) answer (versioning_of s.now)) }
+
+        // Memory is wanted only where the version itself is looked at.
+        ensures memory { OnErr result (LooksAtVersions self.now.op) }
+    {
+        match &self.version {
+            Some(wanted) => asks_for_spelled(alloc, self.op, wanted, s),
+            None => Ok(Versioning::is_spelled_by(s).then_some(self.op == Op::Wildcard)),
+        }
+    }
+
     // An operator before a version.
     fn of(op: Op, version: Versioning) -> Requirement
         ensures { plain_requirement result ≡ record { op = op; version = Some (plain_versioning version) } }
@@ -162,6 +179,51 @@ fn asks_for(op: Op, wanted: &Versioning, version: &Versioning) -> bool
         Op::Tilde => matches_tilde(wanted, version),
         Op::Caret => matches_caret(wanted, version),
         Op::Wildcard => true,
+    }
+}
+
+// Whether an operator before one version asks for the one that the whole text spells; None where it spells none.
+fn asks_for_spelled(
+    alloc: Global,
+    op: Op,
+    wanted: &Versioning,
+    s: &str,
+) -> Result<Option<bool>, AllocError>
+    ensures set { IfOk result (λ answer. AnswersFor (MatchesOp op (plain_versioning wanted.now)) answer (versioning_of s.now)) }
+    ensures memory { OnErr result (LooksAtVersions op) }
+{
+    match op {
+        Op::Greater | Op::GreaterEq | Op::Less | Op::LessEq => Ok(compares_to(op, wanted, s)),
+        Op::Exact | Op::Tilde | Op::Caret => match Versioning::new(alloc, s)? {
+            Some(version) => Ok(Some(asks_for(op, wanted, &version))),
+            None => Ok(None),
+        },
+        Op::Wildcard => Ok(Versioning::is_spelled_by(s).then_some(true)),
+    }
+}
+
+// The same for a comparison, which looks at keys alone.
+fn compares_to(op: Op, wanted: &Versioning, s: &str) -> Option<bool>
+    requires { IsComparison op }
+    ensures { AnswersFor (MatchesOp op (plain_versioning wanted.now)) result (versioning_of s.now) }
+{
+    let key = KeyBytes::spelled_by(s)?;
+    Some(asks_order(op, compare_keys(key, wanted.key_bytes())))
+}
+
+// Whether a comparison asks for what stands so to the wanted version.
+fn asks_order(op: Op, order: Ordering) -> bool
+    ensures { IsTrue result ↔ AsksOrder op order }
+{
+    match op {
+        Op::Greater => order.is_gt(),
+        Op::GreaterEq => order.is_ge(),
+        Op::Less => order.is_lt(),
+        Op::LessEq => order.is_le(),
+        Op::Exact => false,
+        Op::Tilde => false,
+        Op::Caret => false,
+        Op::Wildcard => false,
     }
 }
 

@@ -3,10 +3,10 @@
 ghost use Rattle.std.specs.Prelude.{◌≡◌, ◌↔◌, IfOk, IfSome, IsSome, IsTrue, List, OnErr, Some};
 ghost use Rattle.std.specs.Option.{is_some, option_map};
 ghost use Rattle.versions.specs.Errors.{IllegalOp, ReadsOr};
-ghost use Rattle.versions.specs.Matching.{IsConvex, MatchesAll};
+ghost use Rattle.versions.specs.Matching.{AnswersFor, IsConvex, MatchesAll};
 ghost use Rattle.versions.specs.Requirement.{PlainRequirement};
 ghost use Rattle.versions.specs.Requirements.{plain_requirements, requirements_of, requirements_text, SpellsRequirements};
-ghost use Rattle.versions.specs.Versioning.{plain_versioning};
+ghost use Rattle.versions.specs.Versioning.{plain_versioning, versioning_of};
 
 use crate::errors::{Error, ReadError};
 use crate::reading::or_illegal;
@@ -80,6 +80,26 @@ impl Requirements {
             }
         }
         true
+    }
+}
+
+impl Requirements {
+    /// Whether each member asks for the version that the whole text spells; None where it spells none. The members are
+    /// held against the text in turn, up to the first that doesn't ask for it: comparisons against its key, without
+    /// memory, and `=`, `~` and `^` against the version itself, where the error is that there is no memory for it.
+    pub fn matches_spelled(&self, alloc: Global, s: &str) -> Result<Option<bool>, AllocError>
+        ensures { IfOk result (λ answer. AnswersFor (MatchesAll (plain_requirements self.now)) answer (versioning_of s.now)) }
+    {
+        if self.0.is_empty() {
+            return Ok(Versioning::is_spelled_by(s).then_some(true));
+        }
+        for requirement in &self.0 {
+            let answer = requirement.matches_spelled(alloc, s)?;
+            if answer != Some(true) {
+                return Ok(answer);
+            }
+        }
+        Ok(Some(true))
     }
 }
 

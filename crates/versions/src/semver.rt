@@ -17,7 +17,7 @@ ghost use Rattle.versions.specs.SemVer.{plain_semver, semver_fed, plain_pieces, 
 
 use crate::errors::{Error, ReadError};
 use crate::pieces::{
-    build_release, copy_meta, copy_release, copy_text, optional_meta, optional_release,
+    build_release, copy_meta, copy_release, copy_text, optional_meta, optional_release, write_tail,
 };
 use crate::reading::or_illegal;
 use crate::version::Version;
@@ -63,14 +63,10 @@ impl SemVer {
     }
 
     /// Whether the whole text spells a strict version, so that `new` would give one. Takes no memory.
-    #[tactic(auto, unfolding(crate::specs::SemVer::semver_of))]
     pub fn is_spelled_by(s: &str) -> bool
         ensures { result ≡ is_some (semver_of s.now) }
     {
-        match Pieces::scan(s) {
-            Some((_, rest)) => rest.is_empty(),
-            None => false,
-        }
+        Pieces::whole(s).is_some()
     }
 
     /// The strict version that the whole text spells; else `Illegal`, with `IllegalSemver` and the whole text in it.
@@ -115,13 +111,7 @@ impl fmt::Display for SemVer {
     fn fmt<W: fmt::Write>(&self, f: &mut fmt::Formatter<W>) -> fmt::Result {
         let (major, minor, patch) = (self.major, self.minor, self.patch);
         write!(f, "{major}.{minor}.{patch}")?;
-        if let Some(release) = &self.pre_rel {
-            write!(f, "-{release}")?;
-        }
-        if let Some(meta) = &self.meta {
-            write!(f, "+{meta}")?;
-        }
-        Ok(())
+        write_tail(f, &self.pre_rel, &self.meta)
     }
 }
 
@@ -240,28 +230,38 @@ fn compare_pre_releases(a: &Option<Release>, b: &Option<Release>) -> Ordering
 }
 
 // The strict version that the whole text spells.
-#[tactic(auto, unfolding(crate::specs::SemVer::semver_of))]
 fn read_whole(alloc: Global, s: &str) -> Result<Option<SemVer>, AllocError>
     ensures ok { IfOk result (λ o. option_map plain_semver o ≡ semver_of s.now) }
     ensures err { OnErr result (IsSomeAnd (semver_of s.now) SemVerOwns) }
 {
-    match Pieces::scan(s) {
-        Some((pieces, rest)) if rest.is_empty() => Ok(Some(pieces.build(alloc)?)),
-        _ => Ok(None),
+    match Pieces::whole(s) {
+        Some(pieces) => Ok(Some(pieces.build(alloc)?)),
+        None => Ok(None),
     }
 }
 
 // A strict version that was scanned, with its texts still in the input.
 #[derive(Drop)]
-struct Pieces<'a> {
-    major: u32,
-    minor: u32,
-    patch: u32,
-    pre_rel: Option<ReleasePiece<'a>>,
-    meta: Option<&'a str>,
+pub(crate) struct Pieces<'a> {
+    pub(crate) major: u32,
+    pub(crate) minor: u32,
+    pub(crate) patch: u32,
+    pub(crate) pre_rel: Option<ReleasePiece<'a>>,
+    pub(crate) meta: Option<&'a str>,
 }
 
 impl<'a> Pieces<'a> {
+    // The strict version that the whole text spells.
+    #[tactic(auto, unfolding(crate::specs::SemVer::semver_of))]
+    pub(crate) fn whole(s: &'a str) -> Option<Pieces<'a>>
+        ensures { option_map plain_pieces result ≡ semver_of s.now }
+    {
+        match Pieces::scan(s) {
+            Some((pieces, rest)) if rest.is_empty() => Some(pieces),
+            _ => None,
+        }
+    }
+
     // The strict version at the front of a text, and the rest.
     #[tactic(auto, unfolding(crate::specs::SemVer::semver_front))]
     fn scan(i: &'a str) -> Option<(Pieces<'a>, &'a str)>

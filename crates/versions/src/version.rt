@@ -23,7 +23,7 @@ use crate::errors::{Error, ReadError};
 use crate::key::{KeyBytes, compare_keys};
 use crate::parts::{BodyParts, parts_match_caret};
 use crate::pieces::{
-    build_release, copy_meta, copy_release, copy_text, optional_meta, optional_release,
+    build_release, copy_meta, copy_release, copy_text, optional_meta, optional_release, write_tail,
 };
 use crate::reading::or_illegal;
 use serde::{Deserialize, Serialize};
@@ -73,14 +73,10 @@ impl Version {
     }
 
     /// Whether the whole text spells a general version, so that `new` would give one. Takes no memory.
-    #[tactic(auto, unfolding(crate::specs::Version::version_of))]
     pub fn is_spelled_by(s: &str) -> bool
         ensures { result ≡ is_some (version_of s.now) }
     {
-        match Pieces::scan(s) {
-            Some((_, rest)) => rest.is_empty(),
-            None => false,
-        }
+        Pieces::whole(s).is_some()
     }
 
     /// The general version that the whole text spells; else `Illegal`, with `IllegalVersion` and the whole text in it.
@@ -175,13 +171,7 @@ impl fmt::Display for Version {
         }
         let last = &self.last;
         write!(f, "{last}")?;
-        if let Some(release) = &self.release {
-            write!(f, "-{release}")?;
-        }
-        if let Some(meta) = &self.meta {
-            write!(f, "+{meta}")?;
-        }
-        Ok(())
+        write_tail(f, &self.release, &self.meta)
     }
 }
 
@@ -286,27 +276,37 @@ impl Hash for Version {
 }
 
 // The general version that the whole text spells.
-#[tactic(auto, unfolding(crate::specs::Version::version_of))]
 fn read_whole(alloc: Global, s: &str) -> Result<Option<Version>, AllocError>
     ensures ok { IfOk result (λ o. option_map plain_version o ≡ version_of s.now) }
     ensures err { OnErr result (IsSomeAnd (version_of s.now) VersionOwns) }
 {
-    match Pieces::scan(s) {
-        Some((pieces, rest)) if rest.is_empty() => Ok(Some(pieces.build(alloc)?)),
-        _ => Ok(None),
+    match Pieces::whole(s) {
+        Some(pieces) => Ok(Some(pieces.build(alloc)?)),
+        None => Ok(None),
     }
 }
 
 // A general version that was scanned, with its texts still in the input.
 #[derive(Drop)]
-struct Pieces<'a> {
-    epoch: Option<u32>,
-    body: BodyPiece<'a>,
-    release: Option<ReleasePiece<'a>>,
-    meta: Option<&'a str>,
+pub(crate) struct Pieces<'a> {
+    pub(crate) epoch: Option<u32>,
+    pub(crate) body: BodyPiece<'a>,
+    pub(crate) release: Option<ReleasePiece<'a>>,
+    pub(crate) meta: Option<&'a str>,
 }
 
 impl<'a> Pieces<'a> {
+    // The general version that the whole text spells.
+    #[tactic(auto, unfolding(crate::specs::Version::version_of))]
+    pub(crate) fn whole(s: &'a str) -> Option<Pieces<'a>>
+        ensures { option_map plain_pieces result ≡ version_of s.now }
+    {
+        match Pieces::scan(s) {
+            Some((pieces, rest)) if rest.is_empty() => Some(pieces),
+            _ => None,
+        }
+    }
+
     // The general version at the front of a text, and the rest.
     #[tactic(auto, unfolding(crate::specs::Version::version_front))]
     fn scan(i: &'a str) -> Option<(Pieces<'a>, &'a str)>

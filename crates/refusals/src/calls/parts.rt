@@ -62,26 +62,26 @@ fn lists(table: &mut Table<'_>) -> io::Result<()> {
     table.reads("Chunks::default_in, without memory", "", default_in)
 }
 
-fn chunk(alloc: Global, text: &str) -> Result<Option<Chunk>, AllocError> {
+pub fn chunk(alloc: Global, text: &str) -> Result<Option<Chunk>, AllocError> {
     Ok(Chunk::parse(alloc, text)?.map(|read| read.0))
 }
 
-fn last_part(alloc: Global, text: &str) -> Result<Option<Last>, AllocError> {
+pub fn last_part(alloc: Global, text: &str) -> Result<Option<Last>, AllocError> {
     match chunk(alloc, text)? {
         Some(chunk) => Ok(Some(Last::from_chunk(alloc, chunk).map_err(|refused| refused.1)?)),
         None => Ok(None),
     }
 }
 
-fn messy_chunk(alloc: Global, text: &str) -> Result<Option<MChunk>, AllocError> {
+pub fn messy_chunk(alloc: Global, text: &str) -> Result<Option<MChunk>, AllocError> {
     Ok(MChunk::parse(alloc, text)?.map(|read| read.0))
 }
 
-fn release(alloc: Global, text: &str) -> Result<Option<Release>, AllocError> {
+pub fn release(alloc: Global, text: &str) -> Result<Option<Release>, AllocError> {
     Ok(Release::parse(alloc, text)?.map(|read| read.0))
 }
 
-fn parts(alloc: Global, text: &str) -> Result<Option<Chunks>, AllocError> {
+pub fn parts(alloc: Global, text: &str) -> Result<Option<Chunks>, AllocError> {
     Ok(Chunks::parse(alloc, text)?.map(|read| read.0))
 }
 

@@ -1,23 +1,25 @@
-//! The bytes of a list: those of its items in turn, and of its end.
+//! Lists in keys: their items one after another, off a list or off the text that spells it, and their end.
 
-ghost use Rattle.std.specs.Prelude.{◌≡◌, ◌∷◌, ◌++◌, [], List, ℕ, Option, Some, None, map, if◌then◌else◌, OnOk};
+ghost use Rattle.std.specs.Prelude.{◌≡◌, ◌∷◌, ◌++◌, [], List, ℕ, Option, Some, None, map, take, if◌then◌else◌, IfNone, IfSome};
 ghost use Rattle.std.specs.Iterator.{item_count, YieldsFirst};
-ghost use Rattle.version_parts.specs.Chunk.{plain_chunk, chunk_text, PlainChunk};
+ghost use Rattle.version_parts.specs.Bytes.{is_identifier_byte};
+ghost use Rattle.version_parts.specs.Chunk.{chunk_front, chunk_text, plain_chunk, PlainChunk};
 ghost use Rattle.version_parts.specs.Codes.{items_bytes, list_bytes};
-ghost use Rattle.version_parts.specs.KeyLaws.{chunk_begins, part_begins};
-ghost use Rattle.version_parts.specs.Last.{last_text, plain_last};
+ghost use Rattle.version_parts.specs.Front.{elements_at, map_value, Consumes, Front};
+ghost use Rattle.version_parts.specs.FrontLaws.{chunk_consumes};
+ghost use Rattle.version_parts.specs.KeyLaws.{chunk_begins, mchunk_key_consumes, part_begins, part_key_consumes};
+ghost use Rattle.std.specs.Option.{option_map};
 ghost use Rattle.version_parts.specs.MChunk.{mchunk_text, plain_mchunk};
-ghost use Rattle.version_parts.specs.PartKey.{chunk_parts, part_bytes, part_key, parts_bytes, section_parts, PartKey};
+ghost use Rattle.version_parts.specs.PartKey.{chunk_parts, mchunk_key_front, part_bytes, part_key, part_key_front, parts_bytes, section_parts, PartKey};
 ghost use Rattle.version_parts.specs.ReleaseOrder.{chunk_bytes};
 
-use crate::chunk::{Chunk, ReleaseChunk};
+use crate::chunk::{Chunk, ChunkPiece, Part, ReleaseChunk};
 use crate::key::{PartText, PieceBytes};
-use crate::last::Last;
-use crate::mchunk::MChunk;
-use std::alloc::AllocError;
-use std::marker::{Model, PhantomData};
+use crate::mchunk::{MChunk, MessyChunk};
+use crate::scan::{Class, Dotted, after_mark, nonempty_run};
+use std::marker::Model;
 
-/// A kind of item that lists are written of, byte after byte.
+/// A kind of item that a list in a key is written of, byte after byte.
 pub trait Code {
     /// What a list holds.
     type Item;
@@ -29,99 +31,172 @@ pub trait Code {
 
     ghost bytes: { Option Key → List ℕ };
 
+    // What the item at the front of a text is written as, and the rest.
+    ghost front: { Front Key };
+
     /// The bytes of an item.
-    fn item(item: &Self::Item) -> PieceBytes<'_>
+    fn piece(item: &Self::Item) -> PieceBytes<'_>
         ensures { result ≡ bytes (Some (key item.now)) };
+
+    /// The bytes of the item at the front of a text, and the rest. Takes no memory.
+    fn front_piece(i: &str) -> Option<(PieceBytes<'_>, &str)>
+        ensures { option_map (λ r. (r.0, r.1.now)) result ≡ map_value (λ key. bytes (Some key)) (front i.now) };
 
     /// The byte behind the last item.
     fn end() -> u8
         ensures { bytes None ≡ result ∷ [] };
 
-    // Each item has a byte.
+    // Each item has a byte, and what is left is no longer than the text.
     ghost begins: { (key : Key) → ¬ (bytes (Some key) ≡ []) };
+
+    ghost consumes: { Consumes front };
 }
 
-/// The bytes of a list, seen as those that are still to come. It takes no memory.
+/// The items of a list that are still to come: those of a list, and so many of those that a text spells. It takes no
+/// memory.
 #[derive(Drop)]
-pub struct ListBytes<'a, C: Code> {
-    piece: PieceBytes<'a>,
+pub struct ItemsLeft<'a, C: Code> {
     items: &'a [C::Item],
-    last: PieceBytes<'a>,
-    ended: bool,
+    text: &'a str,
+    count: usize,
 }
 
-impl<'a, C: Code> Model for ListBytes<'a, C> {
+impl<'a, C: Code> Model for ItemsLeft<'a, C> {
     ghost Value = { List ℕ };
 
-    ghost view = { λ list. list.piece ++ (items_bytes C.bytes (map C.key list.items.now) ++ (list.last ++ (if list.ended then [] else C.bytes None))) };
+    ghost view = { λ left. items_bytes C.bytes (map C.key left.items.now) ++ items_bytes C.bytes (take left.count (elements_at C.front left.text.now)) };
 }
 
-impl<'a, C: Code> ListBytes<'a, C> {
-    /// No byte, not even of an end.
-    pub fn none() -> ListBytes<'a, C>
-        ensures { result ≡ [] }
+impl<'a, C: Code> ItemsLeft<'a, C> {
+    /// The items of a list.
+    #[inline(always)]
+    pub fn of(items: &'a [C::Item]) -> ItemsLeft<'a, C>
+        ensures { result ≡ items_bytes C.bytes (map C.key items.now) }
     {
-        ListBytes {
-            piece: PieceBytes::none(),
-            items: &[],
-            last: PieceBytes::none(),
-            ended: true,
+        ItemsLeft {
+            items,
+            text: "",
+            count: 0,
         }
     }
 
+    /// The elements of a list that was scanned.
+    #[inline(always)]
+    pub fn spelled_by(list: Dotted<'a>) -> ItemsLeft<'a, C>
+        ensures { result ≡ items_bytes C.bytes (take list.entry.count (elements_at C.front list.entry.text.now)) }
+    {
+        ItemsLeft {
+            items: &[],
+            text: list.text,
+            count: list.count,
+        }
+    }
+}
+
+impl<'a, C: Code> ItemsLeft<'a, C> {
+    /// The bytes of the next item.
+    pub fn next_piece(&mut self) -> Option<PieceBytes<'a>>
+        ensures some { IfSome result (λ piece. (self.old ≡ piece ++ self.new) × ¬ (piece ≡ [])) }
+        ensures none { IfNone result ((self.old ≡ []) × (self.new ≡ [])) }
+    {
+        if let Some((first, rest)) = self.items.split_first() {
+            self.items = rest;
+            return Some(C::piece(first));
+        }
+        if self.count == 0 {
+            return None;
+        }
+        let (piece, rest) = C::front_piece(self.text)?;
+        let Some(next) = after_mark(rest, b'.') else {
+            self.count = 0;
+            return Some(piece);
+        };
+        self.text = next;
+        self.count -= 1;
+        Some(piece)
+    }
+}
+
+/// What is still to come of a list: its items, and its end. It takes no memory.
+#[derive(Drop)]
+pub struct ListLeft<'a, C: Code> {
+    items: ItemsLeft<'a, C>,
+    ended: bool,
+}
+
+impl<'a, C: Code> Model for ListLeft<'a, C> {
+    ghost Value = { List ℕ };
+
+    ghost view = { λ list. list.items ++ (if list.ended then [] else C.bytes None) };
+}
+
+impl<'a, C: Code> ListLeft<'a, C> {
+    /// Some items, and the end behind them.
+    #[inline(always)]
+    pub fn of(items: ItemsLeft<'a, C>) -> ListLeft<'a, C>
+        ensures { result ≡ items.entry ++ C.bytes None }
+    {
+        ListLeft {
+            items,
+            ended: false,
+        }
+    }
+}
+
+impl<'a> ListLeft<'a, MessyChunk> {
+    /// The chunks of a messy section, as parts, and the end behind them.
+    #[tactic(auto, using(crate::proofs::ListBytes::section_written))]
+    pub fn section(chunks: &'a [MChunk]) -> ListLeft<'a, MessyChunk>
+        ensures { result ≡ parts_bytes (section_parts (map plain_mchunk chunks.now)) }
+    {
+        ListLeft::of(ItemsLeft::of(chunks))
+    }
+}
+
+impl<'a, C: Code> ListLeft<'a, C> {
+    /// The bytes of the next item, or of the end.
+    pub fn next_piece(&mut self) -> Option<PieceBytes<'a>>
+        ensures some { IfSome result (λ piece. (self.old ≡ piece ++ self.new) × ¬ (piece ≡ [])) }
+        ensures none { IfNone result ((self.old ≡ []) × (self.new ≡ [])) }
+    {
+        if let Some(piece) = self.items.next_piece() {
+            return Some(piece);
+        }
+        if self.ended {
+            return None;
+        }
+        self.ended = true;
+        Some(PieceBytes::one(C::end()))
+    }
+}
+
+/// The bytes of a list, seen as those that are still to come: of the item begun, and of what is left of the list. It
+/// takes no memory.
+#[derive(Drop)]
+pub struct ListBytes<'a, C: Code> {
+    piece: PieceBytes<'a>,
+    left: ListLeft<'a, C>,
+}
+
+impl<'a, C: Code> Model for ListBytes<'a, C> {
+    ghost use Rattle.std.specs.Prelude.{List, ℕ, ◌++◌};
+
+    ghost Value = { List ℕ };
+
+    ghost view = { λ list. list.piece ++ list.left };
+}
+
+impl<'a, C: Code> ListBytes<'a, C> {
     /// The bytes of the items and of the end of their list.
     #[inline(always)]
     pub fn of(items: &'a [C::Item]) -> ListBytes<'a, C>
         ensures { result ≡ list_bytes C.bytes (map C.key items.now) }
     {
-        ListBytes::with_last(items, PieceBytes::none())
-    }
-
-    /// The bytes of the items, then those of one more that stands elsewhere, and of the end of the list.
-    #[inline(always)]
-    pub fn with_last(items: &'a [C::Item], last: PieceBytes<'a>) -> ListBytes<'a, C>
-        ensures { result ≡ items_bytes C.bytes (map C.key items.now) ++ (last.entry ++ C.bytes None) }
-    {
         ListBytes {
             piece: PieceBytes::none(),
-            items,
-            last,
-            ended: false,
+            left: ListLeft::of(ItemsLeft::of(items)),
         }
     }
-
-    /// Puts the bytes behind those of a list. The error is that there is no memory for them.
-    #[inline(always)]
-    pub fn append_to(self, list: &mut Vec<u8>) -> Result<(), AllocError>
-        ensures { OnOk result (list.new.items ≡ list.old.items ++ self.entry) }
-    {
-        let ListBytes {
-            piece,
-            items,
-            last,
-            ended,
-        } = self;
-        piece.append_to(list)?;
-        append_items::<C>(items, list)?;
-        last.append_to(list)?;
-        if !ended {
-            list.push(C::end())?;
-        }
-        Ok(())
-    }
-}
-
-// Puts the bytes of items behind those of a list.
-#[inline(always)]
-fn append_items<C: Code>(items: &[C::Item], list: &mut Vec<u8>) -> Result<(), AllocError>
-    ensures { OnOk result (list.new.items ≡ list.old.items ++ items_bytes C.bytes (map C.key items.now)) }
-{
-    let mut rest = items;
-    while let Some((first, behind)) = rest.split_first() {
-        C::item(first).append_to(list)?;
-        rest = behind;
-    }
-    Ok(())
 }
 
 impl<'a, C: Code> Iterator for ListBytes<'a, C> {
@@ -135,82 +210,75 @@ impl<'a, C: Code> Iterator for ListBytes<'a, C> {
         if let Some(byte) = self.piece.next() {
             return Some(byte);
         }
-        if let Some((first, rest)) = self.items.split_first() {
-            self.items = rest;
-            self.piece = C::item(first);
-            return self.piece.next();
-        }
-        if let Some(byte) = self.last.next() {
-            return Some(byte);
-        }
-        if self.ended {
-            return None;
-        }
-        self.ended = true;
-        Some(C::end())
+        self.piece = self.left.next_piece()?;
+        self.piece.next()
     }
 }
 
-/// What is a part of a version.
-pub trait AsPart {
-    // The key of the part.
-    ghost part: { Self → PartKey };
-
-    /// The bytes of that part.
-    fn piece(&self) -> PieceBytes<'_>
-        ensures { result ≡ part_bytes (Some (part self.now)) };
-}
-
-impl AsPart for Chunk {
-    ghost part = { λ chunk. part_key (chunk_text (plain_chunk chunk)) };
-
-    #[tactic(auto, using(crate::proofs::ListBytes::plain_number))]
-    fn piece(&self) -> PieceBytes<'_> {
-        match self {
-            Chunk::Numeric(number) => PieceBytes::plain_part(*number),
-            Chunk::Alphanum(text) => PieceBytes::part(PartText::text(text.as_str())),
-        }
+impl<'a> ListBytes<'a, Part> {
+    /// The bytes of chunks as a list of parts.
+    #[tactic(auto, using(crate::proofs::ListBytes::parts_written))]
+    pub fn parts(chunks: &'a [Chunk]) -> ListBytes<'a, Part>
+        ensures { result ≡ parts_bytes (chunk_parts (map plain_chunk chunks.now)) }
+    {
+        ListBytes::of(chunks)
     }
 }
 
-impl AsPart for MChunk {
-    ghost part = { λ chunk. part_key (mchunk_text (plain_mchunk chunk)) };
-
-    fn piece(&self) -> PieceBytes<'_> {
-        PieceBytes::part(PartText::text(self.text()))
-    }
-}
-
-impl AsPart for Last {
-    ghost part = { λ last. part_key (last_text (plain_last last)) };
-
-    #[tactic(auto, using(crate::proofs::ListBytes::plain_number))]
-    fn piece(&self) -> PieceBytes<'_> {
-        match self {
-            Last::Numeric(number) => PieceBytes::plain_part(*number),
-            _ => PieceBytes::part(self.part_text()),
-        }
-    }
-}
-
-/// Lists of parts.
-pub struct Parts<T> {
-    of: PhantomData<T>,
-}
-
-impl<T: AsPart> Code for Parts<T> {
-    type Item = T;
+/// The parts of a general version, by their printed texts.
+impl Code for Part {
+    type Item = Chunk;
 
     ghost Key = { PartKey };
 
-    ghost key = { T.part };
+    ghost key = { λ chunk. part_key (chunk_text (plain_chunk chunk)) };
 
     ghost bytes = { part_bytes };
 
+    ghost front = { part_key_front };
+
     ghost begins = { part_begins };
 
-    fn item(item: &T) -> PieceBytes<'_> {
-        item.piece()
+    ghost consumes = { part_key_consumes };
+
+    fn piece(item: &Chunk) -> PieceBytes<'_> {
+        PieceBytes::chunk_as_part(item.lent())
+    }
+
+    fn front_piece(i: &str) -> Option<(PieceBytes<'_>, &str)> {
+        let (chunk, rest) = ChunkPiece::scan(i, Class::Alphanumeric)?;
+        Some((PieceBytes::chunk_as_part(chunk), rest))
+    }
+
+    fn end() -> u8 {
+        2
+    }
+}
+
+/// The chunks of a messy section, by their texts.
+impl Code for MessyChunk {
+    type Item = MChunk;
+
+    ghost Key = { PartKey };
+
+    ghost key = { λ chunk. part_key (mchunk_text (plain_mchunk chunk)) };
+
+    ghost bytes = { part_bytes };
+
+    ghost front = { mchunk_key_front };
+
+    ghost begins = { part_begins };
+
+    ghost consumes = { mchunk_key_consumes };
+
+    fn piece(item: &MChunk) -> PieceBytes<'_> {
+        PieceBytes::part(PartText::text(item.text()))
+    }
+
+    #[tactic(auto, unfolding(crate::specs::MChunk::mchunk_front))]
+    fn front_piece(i: &str) -> Option<(PieceBytes<'_>, &str)> {
+        let (run, rest) = nonempty_run(i, Class::Alphanumeric)?;
+        Some((PieceBytes::part(PartText::text(run)), rest))
     }
 
     fn end() -> u8 {
@@ -228,41 +296,22 @@ impl Code for ReleaseChunk {
 
     ghost bytes = { chunk_bytes };
 
+    ghost front = { chunk_front };
+
     ghost begins = { chunk_begins };
 
-    fn item(item: &Chunk) -> PieceBytes<'_> {
-        PieceBytes::chunk(item)
+    ghost consumes = { chunk_consumes is_identifier_byte };
+
+    fn piece(item: &Chunk) -> PieceBytes<'_> {
+        PieceBytes::chunk(item.lent())
+    }
+
+    fn front_piece(i: &str) -> Option<(PieceBytes<'_>, &str)> {
+        let (chunk, rest) = ChunkPiece::scan(i, Class::Identifier)?;
+        Some((PieceBytes::chunk(chunk), rest))
     }
 
     fn end() -> u8 {
         1
-    }
-}
-
-impl<'a> ListBytes<'a, Parts<Chunk>> {
-    /// The bytes of chunks as a list of parts.
-    #[tactic(auto, using(crate::proofs::ListBytes::parts_written))]
-    pub fn parts(chunks: &'a [Chunk]) -> ListBytes<'a, Parts<Chunk>>
-        ensures { result ≡ parts_bytes (chunk_parts (map plain_chunk chunks.now)) }
-    {
-        ListBytes::of(chunks)
-    }
-
-    /// The bytes of chunks and of one more part behind them, by its printed text, as a list of parts.
-    #[tactic(auto, using(crate::proofs::ListBytes::parts_with_last_written))]
-    pub fn parts_with_last(chunks: &'a [Chunk], last: PartText<'a>) -> ListBytes<'a, Parts<Chunk>>
-        ensures { result ≡ parts_bytes (chunk_parts (map plain_chunk chunks.now) ++ part_key last.entry ∷ []) }
-    {
-        ListBytes::with_last(chunks, PieceBytes::part(last))
-    }
-}
-
-impl<'a> ListBytes<'a, Parts<MChunk>> {
-    /// The bytes of the chunks of a messy section, as a list of parts.
-    #[tactic(auto, using(crate::proofs::ListBytes::section_written))]
-    pub fn section(chunks: &'a [MChunk]) -> ListBytes<'a, Parts<MChunk>>
-        ensures { result ≡ parts_bytes (section_parts (map plain_mchunk chunks.now)) }
-    {
-        ListBytes::of(chunks)
     }
 }

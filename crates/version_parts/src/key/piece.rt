@@ -1,22 +1,24 @@
 //! The bytes of one piece of a key: of a part, of a number or of a text.
 
-ghost use Rattle.std.specs.Prelude.{◌≡◌, ◌∷◌, ◌++◌, [], List, ℕ, Some, None, IfNone, IfSome, OnOk};
+ghost use Rattle.std.specs.Prelude.{◌≡◌, ◌∷◌, ◌++◌, [], List, ℕ, Some, None, IfNone, IfSome, OnErr, OnOk};
 ghost use Rattle.std.specs.Char.{is_ascii_digit};
 ghost use Rattle.std.specs.Iterator.{item_count, YieldsFirst};
 ghost use Rattle.std.specs.List.{take_while};
 ghost use Rattle.std.specs.Option.{option_to_list};
 ghost use Rattle.std.specs.Str.Parse.{digits_value};
-ghost use Rattle.version_parts.specs.Chunk.{plain_chunk};
+ghost use Rattle.version_parts.specs.Chunk.{chunk_text, plain_piece};
 ghost use Rattle.version_parts.specs.DigitRun.{starts_with_digit};
+ghost use Rattle.version_parts.specs.Lists.{Growing, GrowsWithin};
 ghost use Rattle.version_parts.specs.NumberBytes.{length_bytes, number_bytes};
 ghost use Rattle.version_parts.specs.PartKey.{part_bytes, part_key, Number};
 ghost use Rattle.version_parts.specs.Pieces.{behind_bytes, counted_bytes, place_bytes, run_bytes, step_bytes};
 ghost use Rattle.version_parts.specs.ReleaseOrder.{chunk_bytes};
 ghost use Rattle.version_parts.specs.TextBytes.{text_byte, text_bytes};
 
-use crate::chunk::Chunk;
+use crate::chunk::ChunkPiece;
 use crate::key::PartText;
 use crate::key::few::FewBytes;
+use crate::scan::Class;
 use std::alloc::AllocError;
 use std::marker::Model;
 
@@ -128,6 +130,25 @@ fn part_step(text: &PartText<'_>) -> Step
     }
 }
 
+// The run of bytes at the front of a text that are given out as they stand, and where the stream is behind it.
+#[tactic(auto, using(crate::proofs::PieceBytes::runs_taken))]
+fn run_step<'a>(place: Place, text: &mut PartText<'a>) -> (&'a [u8], Place)
+    ensures { place_bytes place text.old ≡ result.0.now ++ place_bytes result.1 text.new }
+{
+    match place {
+        Place::Digit(behind) => {
+            let digits = text.take_run(Class::Digit);
+            if digits.is_empty() {
+                return (digits, place);
+            }
+            (digits, within_run(behind, text))
+        }
+        Place::Split => (text.take_run(Class::Letter), place),
+        Place::Rest(Behind::Text) => (text.take_run(Class::Identifier), place),
+        _ => (&[], place),
+    }
+}
+
 #[tactic(auto, using(crate::proofs::PieceBytes::split_steps))]
 fn split_step(text: &mut PartText<'_>) -> Step
     ensures { place_bytes Place.Split text.old ≡ step_bytes result text.new }
@@ -216,11 +237,12 @@ fn text_step(text: &mut PartText<'_>) -> Step
 }
 
 /// The bytes of a part, of a number or of a text, seen as those that are still to come. A number of 32 bits is made at
-/// once, and waits in a small array. It takes no memory; a run of digits is counted once, so that all bytes together
-/// take time that grows with the text.
+/// once, and waits in a small array; a run of a text's bytes that stand in the key as they are is lent. It takes no
+/// memory; a run of digits is counted once, so that all bytes together take time that grows with the text.
 #[derive(Drop)]
 pub struct PieceBytes<'a> {
     ready: FewBytes,
+    run: &'a [u8],
     text: PartText<'a>,
     place: Place,
 }
@@ -232,7 +254,7 @@ impl<'a> Model for PieceBytes<'a> {
 
     ghost use Rattle.version_parts.specs.Pieces.{place_bytes};
 
-    ghost view = { λ piece. piece.ready ++ place_bytes piece.place piece.text };
+    ghost view = { λ piece. piece.ready ++ (piece.run.now ++ place_bytes piece.place piece.text) };
 }
 
 impl<'a> PieceBytes<'a> {
@@ -292,22 +314,50 @@ impl<'a> PieceBytes<'a> {
         )
     }
 
-    /// The bytes of a chunk of a release.
+    /// One byte.
+    #[inline(always)]
+    pub fn one(byte: u8) -> PieceBytes<'a>
+        ensures { result ≡ byte ∷ [] }
+    {
+        PieceBytes::made(FewBytes::one(byte))
+    }
+
+    /// The bytes of a plain number as the last part of a list, and of the end of that.
+    #[inline(always)]
+    pub fn last_plain_part(number: u32) -> PieceBytes<'a>
+        ensures { result ≡ part_bytes (Some (Number number None)) ++ part_bytes None }
+    {
+        PieceBytes::made(FewBytes::last_plain_part(number))
+    }
+
+    // The bytes of a chunk of a release.
     #[tactic(auto, using(crate::proofs::PieceBytes::alone))]
     #[inline(always)]
-    pub fn chunk(chunk: &'a Chunk) -> PieceBytes<'a>
-        ensures { result ≡ chunk_bytes (Some (plain_chunk chunk.now)) }
+    pub(crate) fn chunk(chunk: ChunkPiece<'a>) -> PieceBytes<'a>
+        ensures { result ≡ chunk_bytes (Some (plain_piece chunk.entry)) }
     {
         match chunk {
-            Chunk::Numeric(number) => {
-                let mut bytes = FewBytes::number(*number);
+            ChunkPiece::Numeric(number) => {
+                let mut bytes = FewBytes::number(number);
                 bytes.put(2);
                 PieceBytes::made(bytes)
             }
-            Chunk::Alphanum(text) => {
-                let text = PartText::text(text.as_str());
+            ChunkPiece::Alphanum(text) => {
+                let text = PartText::text(text);
                 PieceBytes::at(FewBytes::one(3), Place::Rest(Behind::Text), text)
             }
+        }
+    }
+
+    // The bytes of a chunk as a part.
+    #[tactic(auto, using(crate::proofs::ListBytes::plain_number))]
+    #[inline(always)]
+    pub(crate) fn chunk_as_part(chunk: ChunkPiece<'a>) -> PieceBytes<'a>
+        ensures { result ≡ part_bytes (Some (part_key (chunk_text (plain_piece chunk.entry)))) }
+    {
+        match chunk {
+            ChunkPiece::Numeric(number) => PieceBytes::plain_part(number),
+            ChunkPiece::Alphanum(text) => PieceBytes::part(PartText::text(text)),
         }
     }
 
@@ -316,7 +366,12 @@ impl<'a> PieceBytes<'a> {
     fn at(ready: FewBytes, place: Place, text: PartText<'a>) -> PieceBytes<'a>
         ensures { result ≡ ready ++ place_bytes place text.entry }
     {
-        PieceBytes { ready, text, place }
+        PieceBytes {
+            ready,
+            run: &[],
+            text,
+            place,
+        }
     }
 
     // Bytes that are ready, and no more.
@@ -328,16 +383,31 @@ impl<'a> PieceBytes<'a> {
         PieceBytes::at(ready, Place::Rest(Behind::Nothing), PartText::text(""))
     }
 
-    /// Puts the bytes behind those of a list. The error is that there is no memory for them.
+    /// Puts the bytes behind those of a list. The error is that there is no memory for all of them; the list then has a
+    /// beginning of them.
     #[inline(always)]
     pub fn append_to(mut self, list: &mut Vec<u8>) -> Result<(), AllocError>
-        ensures { OnOk result (list.new.items ≡ list.old.items ++ self.entry) }
+        ensures ok { OnOk result (list.new.items ≡ list.old.items ++ self.entry) }
+        ensures err { OnErr result (GrowsWithin list.old.items list.new.items self.entry) }
+    {
+        self.append_made(list)?;
+        while let Some(byte) = self.next() {
+            list.push(byte)?;
+            self.append_made(list)?;
+        }
+        Ok(())
+    }
+
+    // Puts the bytes that are ready, and those that are lent, behind those of a list.
+    #[inline(always)]
+    fn append_made(&mut self, list: &mut Vec<u8>) -> Result<(), AllocError>
+        ensures ok { OnOk result (Growing list.old.items list.new.items self.old self.new) }
+        ensures err { OnErr result (GrowsWithin list.old.items list.new.items self.old) }
     {
         list.extend_from_slice(self.ready.as_slice())?;
         self.ready = FewBytes::none();
-        while let Some(byte) = self.next() {
-            list.push(byte)?;
-        }
+        list.extend_from_slice(self.run)?;
+        self.run = &[];
         Ok(())
     }
 }
@@ -353,11 +423,15 @@ impl<'a> Iterator for PieceBytes<'a> {
         if let Some(byte) = self.ready.next() {
             return Some(byte);
         }
+        if let Some((first, rest)) = self.run.split_first() {
+            self.run = rest;
+            return Some(*first);
+        }
         let step = self.place.step(&mut self.text)?;
         if let Some(byte) = step.then {
             self.ready.put(byte);
         }
-        self.place = step.place;
+        (self.run, self.place) = run_step(step.place, &mut self.text);
         Some(step.byte)
     }
 }

@@ -1,10 +1,11 @@
 //! The printed text of a part, byte after byte.
 
-ghost use Rattle.std.specs.Prelude.{◌≡◌, ◌==◌, ◌≤◌, ◌++◌, [], List, ℕ, drop, length, slice_get};
+ghost use Rattle.std.specs.Prelude.{◌≡◌, ◌==◌, ◌≤◌, ◌++◌, [], List, ℕ, drop, length, slice_get, true};
 ghost use Rattle.std.specs.Char.{is_ascii_digit};
 ghost use Rattle.std.specs.Fmt.{decimal};
 ghost use Rattle.std.specs.Iterator.{item_count, YieldsFirst};
-ghost use Rattle.std.specs.List.{prefix_len};
+ghost use Rattle.std.specs.List.{list_all, prefix_len};
+ghost use Rattle.version_parts.specs.Class.{contains};
 
 use crate::key::few::FewBytes;
 use crate::scan::{Class, run_len};
@@ -97,6 +98,19 @@ impl<'a> PartText<'a> {
             return count + more;
         }
         count + more + run_len(self.behind.as_slice(), Class::Digit)
+    }
+
+    // Takes the run of a class that the text begins with, as far as it lies in one piece elsewhere.
+    pub(crate) fn take_run(&mut self, class: Class) -> &'a [u8]
+        ensures taken { self.old ≡ result.now ++ self.new }
+        ensures all { list_all (contains class) result.now ≡ true }
+    {
+        if !self.before.as_slice().is_empty() {
+            return &[];
+        }
+        let (run, rest) = self.text.split_at(run_len(self.text, class));
+        self.text = rest;
+        run
     }
 
     // Takes the zeros that the text begins with.

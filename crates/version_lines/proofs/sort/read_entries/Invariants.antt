@@ -6,7 +6,7 @@ use Rattle.version_lines.specs.Lines.{lines_of}
 use Rattle.version_lines.proofs.sort.read_entries.Given as goal
 
 abbrev pub invariant-loop-rest : goal.invariant-loop-rest
-invariant-loop-rest l = (lines_of l.input ≡ map entry_line l.entries.items ++ lines_of l.rest) × All IsRead l.entries.items
+invariant-loop-rest l = (lines_of l.input ≡ map entry_line l.entries.items ++ lines_of l.rest) × All (IsRead l.keys.items) l.entries.items
 
 abbrev pub decreases-loop-rest : goal.decreases-loop-rest
 decreases-loop-rest l = length l.rest

@@ -6,13 +6,8 @@ use Rattle.versions.specs.declared.requirement.Requirement.{Requirement}
 use Rattle.versions.specs.Matching.{Matches, MatchesAll}
 use Rattle.versions.specs.Requirement.{PlainRequirement, plain_requirement}
 use Rattle.versions.specs.Versioning.{PlainVersioning, plain_versioning}
+use Rattle.versions.proofs.Members.{member}
 use Rattle.versions.proofs.requirements.Requirements.matches.Goals as goal
-
--- a version that all members ask for is asked for by the one at a place
-member : (list : List Requirement) (v : PlainVersioning) (n : ℕ) (d : Requirement) → n < length list → MatchesAll (map plain_requirement list) v → Matches (plain_requirement (get_or list n d)) v
-member list v n d fits all =
-    let long = length-map list plain_requirement in
-    subst (λ (r : PlainRequirement). Matches r v) (get_or-map plain_requirement list n d (plain_requirement d) fits) (all n (plain_requirement d) (omega (arith, long)))
 
 pub returns-then-not-matches-clause-set : goal.returns-then-not-matches-clause-set
 returns-then-not-matches-clause-set c =

@@ -1,6 +1,10 @@
-use Rattle.std.proofs.Common.{◌≡◌, ◌++◌}
+use Rattle.std.proofs.Common.{length}
+use Rattle.version_parts.specs.Lists.{Growing}
 use Rattle.version_parts.proofs.key.piece.PieceBytes.append_to.Given as goal
 
--- the bytes taken, and those still to come
+-- the bytes taken are in the list, and the others still to come
 abbrev pub invariant-loop-byte : goal.invariant-loop-byte
-invariant-loop-byte l = l.list.items ++ l.self ≡ l.initial.list.items ++ l.initial.self
+invariant-loop-byte l = Growing l.fn.list.items l.list.items l.fn.self l.self
+
+abbrev pub decreases-loop-byte : goal.decreases-loop-byte
+decreases-loop-byte l = length l.self

@@ -1,0 +1,117 @@
+//! What the readers and the values are built on: elements of lists, pieces that were scanned, and streams of bytes.
+
+use crate::calls::parts::{chunk, last_part, messy_chunk, parts};
+use crate::table::Table;
+use std::alloc::{AllocError, Global};
+use std::io;
+use version_parts::key::{PartText, PieceBytes};
+use version_parts::lists::{ListItem, copy_list};
+use version_parts::scan::{Dotted, Element};
+use version_parts::{
+    BodyPiece, Chunk, Chunks, Last, LastPiece, MChunk, MessyChunk, Part, Release, ReleaseChunk,
+    ReleasePiece, SectionPiece,
+};
+use versions::key::KeyBytes;
+
+pub fn make_all(table: &mut Table<'_>) -> io::Result<()> {
+    elements(table)?;
+    items(table)?;
+    scanned(table)?;
+    streams(table)
+}
+
+fn elements(table: &mut Table<'_>) -> io::Result<()> {
+    table.reads("Element::read", "a-1.b", <ReleaseChunk as Element>::read)?;
+    table.reads("Element::read", "a1-b", <Part as Element>::read)?;
+    table.reads("Element::read", "r26_", <MessyChunk as Element>::read)
+}
+
+fn items(table: &mut Table<'_>) -> io::Result<()> {
+    table.borrows("ListItem::copy", "a-1", chunk, <Chunk as ListItem>::copy)?;
+    table.borrows(
+        "ListItem::copy",
+        "1rc2",
+        last_part,
+        <Last as ListItem>::copy,
+    )?;
+    table.borrows(
+        "ListItem::copy",
+        "007",
+        messy_chunk,
+        <MChunk as ListItem>::copy,
+    )?;
+    table.borrows(
+        "copy_list",
+        "1.a.b2",
+        parts,
+        |chunks, alloc| copy_list(alloc, chunks.0.as_slice()),
+    )
+}
+
+fn scanned(table: &mut Table<'_>) -> io::Result<()> {
+    for text in ["1rc2", "7b", "0rc01"] {
+        table.reads("LastPiece::build", text, build_last)?;
+    }
+    table.reads("LastPiece::build, without memory", "12", build_last)?;
+    table.reads("ReleasePiece::build", "-rc.1.x_", build_release)?;
+    table.reads("BodyPiece::build", "1.a.7b_", build_body)?;
+    table.reads("BodyPiece::build, without memory", "12", build_body)?;
+    table.reads("SectionPiece::build", "a1.02.x+", build_section)?;
+    table.reads("Dotted::build", "a1.02.x+", build_list)
+}
+
+fn streams(table: &mut Table<'_>) -> io::Result<()> {
+    table.reads("PieceBytes::append_to", "7rc12", part_bytes)?;
+    table.reads("KeyBytes::append_to", "1.2.3-rc.1", key_bytes)?;
+    table.reads("KeyBytes::append_to", "1:2_a", key_bytes)
+}
+
+fn build_last(alloc: Global, text: &str) -> Result<Option<Last>, AllocError> {
+    match LastPiece::scan(text) {
+        Some((piece, _)) => Ok(Some(piece.build(alloc)?)),
+        None => Ok(None),
+    }
+}
+
+fn build_release(alloc: Global, text: &str) -> Result<Option<Release>, AllocError> {
+    match ReleasePiece::scan(text) {
+        Some((piece, _)) => Ok(Some(piece.build(alloc)?)),
+        None => Ok(None),
+    }
+}
+
+fn build_body(alloc: Global, text: &str) -> Result<Option<(Chunks, Last)>, AllocError> {
+    match BodyPiece::scan(text) {
+        Some((piece, _)) => Ok(Some(piece.build(alloc)?)),
+        None => Ok(None),
+    }
+}
+
+fn build_section(alloc: Global, text: &str) -> Result<Option<Vec<MChunk>>, AllocError> {
+    match SectionPiece::scan(text) {
+        Some((piece, _)) => Ok(Some(piece.build(alloc)?)),
+        None => Ok(None),
+    }
+}
+
+fn build_list(alloc: Global, text: &str) -> Result<Option<Vec<MChunk>>, AllocError> {
+    match Dotted::scan::<MessyChunk>(text) {
+        Some((list, _)) => Ok(Some(list.build::<MessyChunk>(alloc, list.count)?)),
+        None => Ok(None),
+    }
+}
+
+fn part_bytes(alloc: Global, text: &str) -> Result<Vec<u8>, AllocError> {
+    let mut list = Vec::new(alloc);
+    PieceBytes::part(PartText::text(text)).append_to(&mut list)?;
+    Ok(list)
+}
+
+fn key_bytes(alloc: Global, text: &str) -> Result<Option<Vec<u8>>, AllocError> {
+    let Some(key) = KeyBytes::spelled_by(text) else {
+        return Ok(None);
+    };
+    let mut list = Vec::new(alloc);
+    key.append_to(&mut list)?;
+    Ok(Some(list))
+}

@@ -1,0 +1,43 @@
+-- The keys of what lines and words spell.
+use Rattle.std.proofs.Common.{◌≡◌, ◌∙◌, ℕ, List, [], ◌∷◌, ◌++◌, Option, Some, None, refl, ap}
+use Rattle.std.specs.Option.{option_map, option_map_or}
+use Rattle.std.specs.declared.cmp.Ordering.{Ordering}
+use Rattle.version_lines.specs.Comparison.{comparison_line, sign_text}
+use Rattle.version_lines.specs.Lines.{line_feed}
+use Rattle.version_lines.specs.Spelled.{line_key}
+use Rattle.version_parts.specs.Lists.{bytes_cmp}
+use Rattle.versions.specs.Key.{key_of}
+use Rattle.versions.specs.KeyBytes.{key_bytes}
+use Rattle.versions.specs.Versioning.{PlainVersioning, versioning_of}
+use Rattle.versions.proofs.Orders.{key_bytes_alone}
+
+-- the bytes of the key of a version, if there is one
+abbrev pub key_of_spelled : Option PlainVersioning → Option (List ℕ)
+key_of_spelled = option_map (λ v. key_bytes (key_of v))
+
+pub line_key-some : (line bytes : List ℕ) → Some bytes ≡ key_of_spelled (versioning_of line) → line_key line ≡ bytes
+unfolding line_key
+line_key-some line bytes e = go (versioning_of line) e
+  where
+    go : (spelled : Option PlainVersioning) → Some bytes ≡ key_of_spelled spelled → option_map_or (λ v. key_bytes (key_of v)) spelled [] ≡ bytes
+    go None e = cc e
+    go (Some v) e = cc e
+
+pub line_key-none : (line : List ℕ) → None ≡ key_of_spelled (versioning_of line) → line_key line ≡ []
+unfolding line_key
+line_key-none line e = go (versioning_of line) e
+  where
+    go : (spelled : Option PlainVersioning) → None ≡ key_of_spelled spelled → option_map_or (λ v. key_bytes (key_of v)) spelled [] ≡ []
+    go None e = refl
+    go (Some v) e = cc e
+
+-- the line for two versions, by the bytes of their keys
+pub line_by_keys : (a b : Option PlainVersioning) (first second : List ℕ) (order : Ordering) → key_of_spelled a ≡ Some first → key_of_spelled b ≡ Some second
+    → order ≡ bytes_cmp first second → sign_text order ++ line_feed ∷ [] ≡ comparison_line a b
+line_by_keys None b first second order e f stands = cc e
+line_by_keys (Some v) None first second order e f stands = cc f
+line_by_keys (Some v) (Some w) first second order e f stands =
+    let one : first ≡ key_bytes (key_of v) = cc e in
+    let other : second ≡ key_bytes (key_of w) = cc f in
+    let keys = stands ∙ ap (λ (l : List ℕ). bytes_cmp l second) one ∙ ap (bytes_cmp (key_bytes (key_of v))) other ∙ key_bytes_alone (key_of v) (key_of w) in
+    ap (λ (o : Ordering). sign_text o ++ line_feed ∷ []) keys

@@ -1,0 +1,11 @@
+-- Of the output for all lines, what waits in the buffer and the lines to come are left.
+use Rattle.std.proofs.Common.{◌++◌, drop, map}
+use Rattle.version_lines.specs.Lines.{lines_output, whole_line}
+use Rattle.version_lines.specs.Output.{AppendsUpTo}
+use Rattle.version_lines.specs.Entry.{entry_line}
+use Rattle.version_lines.proofs.sort.write_entries.Given as goal
+
+abbrev pub invariant-loop-entry : goal.invariant-loop-entry
+invariant-loop-entry g l =
+    AppendsUpTo (g.W.Write.contents l.initial.writer) (g.W.Write.contents l.writer)
+    (l.buffer.items ++ lines_output whole_line (map entry_line (drop l.entry-index l.entries))) (lines_output whole_line (map entry_line l.entries))

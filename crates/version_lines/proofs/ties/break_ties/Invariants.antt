@@ -1,0 +1,11 @@
+-- The lines in front of the place are in order, and those behind it stand as they did.
+use Rattle.std.proofs.Common.{◌-◌, length}
+use Rattle.version_lines.specs.Entry.{entry_cmp, tie_cmp}
+use Rattle.version_lines.proofs.TieLemmas.{IsDoneTo}
+use Rattle.version_lines.proofs.ties.break_ties.Given as goal
+
+abbrev pub invariant-loop-start : goal.invariant-loop-start
+invariant-loop-start l = IsDoneTo (entry_cmp l.keys) tie_cmp l.initial.entries l.entries l.start
+
+abbrev pub decreases-loop-start : goal.decreases-loop-start
+decreases-loop-start l = length l.initial.entries - l.start

@@ -1,0 +1,12 @@
+use Rattle.std.proofs.Common.{ℕ, List, Some, ap, sym, ◌∙◌}
+use Rattle.version_parts.specs.PartKey.{part_bytes, part_key}
+use Rattle.version_parts.proofs.MChunkReading.{chunk_text, mchunk_front-Some}
+use Rattle.version_parts.proofs.key.list.MessyChunkCode.front_piece.Goals as goal
+
+-- the key of a chunk is that of its text, which is the run
+pub returns : goal.returns
+returns c =
+    let rest = c.in_ok-run.rest.now in
+    let read = mchunk_front-Some c.args.i.now c.in_ok-run.run'.now rest (sym c.in_ok-run.ensures) in
+    rw (read, chunk_text (c.in_ok-run.run'.now, rest))
+    (ap (λ (l : List ℕ). Some (l, rest)) (c.part.ensures ∙ ap (λ (t : List ℕ). part_bytes (Some (part_key t))) c.text.ensures))

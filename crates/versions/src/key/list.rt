@@ -1,0 +1,125 @@
+//! The list that a key has begun: parts of its body or of a section, or the chunks of its release.
+
+ghost use Rattle.std.specs.Prelude.{◌≡◌, ◌++◌, ◌∷◌, [], IfNone, IfSome};
+ghost use Rattle.version_parts.specs.Body.{plain_chunks};
+ghost use Rattle.version_parts.specs.Last.{last_text, plain_last};
+ghost use Rattle.version_parts.specs.PartKey.{chunk_parts, part_key, parts_bytes};
+
+use std::marker::Model;
+use version_parts::key::{ItemsLeft, ListLeft, PieceBytes};
+use version_parts::{BodyPiece, Chunks, Last, MessyChunk, Part, ReleaseChunk};
+
+/// What is still to come of a list, with its end.
+#[derive(Drop)]
+pub enum Begun<'a> {
+    /// Nothing, not even its end.
+    Ended,
+    /// Plain numbers.
+    One(u32),
+    Two(u32, u32),
+    Three(u32, u32, u32),
+    /// Parts of a body.
+    Parts(PartsLeft<'a>),
+    /// Parts of a messy section.
+    Section(ListLeft<'a, MessyChunk>),
+    /// Chunks of a release.
+    Chunks(ListLeft<'a, ReleaseChunk>),
+}
+
+impl<'a> Begun<'a> {
+    ghost use Rattle.versions.specs.KeyStream.{list_left};
+
+    /// The bytes of the next item, or of the end.
+    pub fn next_piece(&mut self) -> Option<PieceBytes<'a>>
+        ensures some { IfSome result (λ piece. (list_left self.old ≡ piece ++ list_left self.new) × ¬ (piece ≡ [])) }
+        ensures none { IfNone result ((list_left self.old ≡ []) × (list_left self.new ≡ [])) }
+    {
+        match self {
+            Begun::Ended => None,
+            Begun::Three(first, second, third) => {
+                let piece = PieceBytes::plain_part(*first);
+                *self = Begun::Two(*second, *third);
+                Some(piece)
+            }
+            Begun::Two(first, second) => {
+                let piece = PieceBytes::plain_part(*first);
+                *self = Begun::One(*second);
+                Some(piece)
+            }
+            Begun::One(last) => {
+                let piece = PieceBytes::last_plain_part(*last);
+                *self = Begun::Ended;
+                Some(piece)
+            }
+            Begun::Parts(parts) => parts.next_piece(),
+            Begun::Section(section) => section.next_piece(),
+            Begun::Chunks(chunks) => chunks.next_piece(),
+        }
+    }
+}
+
+/// What is still to come of the parts of a body: some items, perhaps a last part that stands elsewhere, and the end.
+#[derive(Drop)]
+pub struct PartsLeft<'a> {
+    items: ItemsLeft<'a, Part>,
+    last: Option<&'a Last>,
+    ended: bool,
+}
+
+impl<'a> Model for PartsLeft<'a> {
+    ghost use Rattle.std.specs.Prelude.{List, ℕ, ◌++◌, [], None, Some, if◌then◌else◌};
+    ghost use Rattle.std.specs.Option.{option_map_or};
+    ghost use Rattle.version_parts.specs.Last.{last_text, plain_last};
+    ghost use Rattle.version_parts.specs.PartKey.{part_bytes, part_key};
+
+    ghost Value = { List ℕ };
+
+    ghost view = { λ parts. parts.items ++ (option_map_or (λ last. part_bytes (Some (part_key (last_text (plain_last last.now))))) parts.last []
+        ++ (if parts.ended then [] else part_bytes None)) };
+}
+
+impl<'a> PartsLeft<'a> {
+    /// The parts of a value: its chunks, and its last part.
+    #[tactic(auto, using(crate::proofs::SpelledKey::parts_written))]
+    #[inline(always)]
+    pub fn of(chunks: &'a Chunks, last: &'a Last) -> PartsLeft<'a>
+        ensures { result ≡ parts_bytes (chunk_parts (plain_chunks chunks.now) ++ part_key (last_text (plain_last last.now)) ∷ []) }
+    {
+        PartsLeft {
+            items: ItemsLeft::of(chunks.0.as_slice()),
+            last: Some(last),
+            ended: false,
+        }
+    }
+
+    /// The parts of a body that was scanned.
+    #[tactic(auto, using(version_parts::proofs::ListBytes::ended))]
+    #[inline(always)]
+    pub fn spelled_by(body: &BodyPiece<'a>) -> PartsLeft<'a>
+        ensures { result ≡ parts_bytes (chunk_parts body.now.0 ++ part_key (last_text body.now.1) ∷ []) }
+    {
+        PartsLeft {
+            items: body.parts(),
+            last: None,
+            ended: false,
+        }
+    }
+
+    // The bytes of the next part, or of the end.
+    fn next_piece(&mut self) -> Option<PieceBytes<'a>>
+        ensures some { IfSome result (λ piece. (self.old ≡ piece ++ self.new) × ¬ (piece ≡ [])) }
+        ensures none { IfNone result ((self.old ≡ []) × (self.new ≡ [])) }
+    {
+        if let Some(piece) = self.items.next_piece() {
+            return Some(piece);
+        }
+        if let Some(last) = self.last.take() {
+            return Some(last.piece());
+        }
+        if self.ended {
+            return None;
+        }
+        self.ended = true;
+        Some(PieceBytes::one(2))
+    }
+}

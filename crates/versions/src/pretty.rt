@@ -1,0 +1,104 @@
+//! What `{:#?}` writes of a messy version: as a derive would, each section within the one before it, but by a loop.
+
+use crate::mess::Mess;
+use std::fmt::{self, Alignment, Debug, Formatter, ToDebug, Write};
+
+/// Writes a version over lines of their own, each four blanks further in than what holds it. Each section is held by
+/// the one before it, so what is written grows with the square of their number.
+pub(crate) fn write_pretty<W: Write>(mess: &Mess, f: &mut Formatter<W>) -> fmt::Result {
+    let mut lines = Lines {
+        f,
+        depth: 0,
+        at_start: false,
+    };
+    lines.write_front(mess)?;
+    let mut current = mess;
+    while let Some((sign, section)) = &current.next {
+        lines.open("Some(")?;
+        lines.open("(")?;
+        lines.write_value(sign)?;
+        lines.write_str(",\n")?;
+        lines.write_front(section)?;
+        current = section;
+    }
+    lines.write_str("None")?;
+    lines.close("}")?;
+    let mut current = mess;
+    while let Some((_, section)) = &current.next {
+        lines.close(")")?;
+        lines.close(")")?;
+        lines.close("}")?;
+        current = section;
+    }
+    Ok(())
+}
+
+// A writer of lines that are further in than what the formatter writes.
+#[derive(Drop)]
+struct Lines<'a, W> {
+    f: &'a mut Formatter<W>,
+    // In steps of four blanks.
+    depth: usize,
+    at_start: bool,
+}
+
+impl<'a, W: Write> Lines<'a, W> {
+    // Writes a section up to what follows it.
+    fn write_front(&mut self, section: &Mess) -> fmt::Result {
+        self.open("Mess {")?;
+        self.write_str("chunks: ")?;
+        self.write_value(&section.chunks)?;
+        self.write_str(",\nnext: ")
+    }
+
+    // Goes one step further in behind what opens a value.
+    fn open(&mut self, opener: &str) -> fmt::Result {
+        self.write_str(opener)?;
+        self.write_str("\n")?;
+        self.depth = self.depth.saturating_add(1);
+        Ok(())
+    }
+
+    // Ends the last part of a value, and the value.
+    fn close(&mut self, closer: &str) -> fmt::Result {
+        self.write_str(",\n")?;
+        self.depth = self.depth.saturating_sub(1);
+        self.write_str(closer)
+    }
+
+    // Writes a value under the options of the formatter.
+    fn write_value<T: Debug>(&mut self, value: &T) -> fmt::Result {
+        let f = &*self.f;
+        let mut shown = value
+            .debug()
+            .alternate()
+            .fill(f.fill())
+            .width(f.width().unwrap_or(0));
+        if f.sign_plus() {
+            shown = shown.plus();
+        }
+        if f.sign_aware_zero_pad() {
+            shown = shown.zero();
+        }
+        shown = match f.align() {
+            Some(Alignment::Left) => shown.left(),
+            Some(Alignment::Center) => shown.center(),
+            Some(Alignment::Right) => shown.right(),
+            None => shown,
+        };
+        write!(self, "{shown}")
+    }
+}
+
+impl<'a, W: Write> Write for Lines<'a, W> {
+    fn write_str(&mut self, s: &str) -> fmt::Result {
+        for line in s.split_inclusive('\n') {
+            if self.at_start {
+                self.f.write_repeated("    ", self.depth)?;
+            }
+            self.f.write_str(line)?;
+            self.at_start = line.ends_with('\n');
+        }
+        Ok(())
+    }
+}
