@@ -1,5 +1,5 @@
 -- The bytes of a piece of a key that are still to come, by where the stream is and the text that is left.
-use Rattle.std.specs.Prelude.{ℕ, List, [], ◌∷◌, ◌++◌, drop, Some}
+use Rattle.std.specs.Prelude.{◌≡◌, ℕ, Bool, true, false, List, [], ◌∷◌, ◌++◌, drop, Some}
 use Rattle.std.specs.Char.{is_ascii_digit}
 use Rattle.std.specs.List.{prefix_len, take_while}
 use Rattle.std.specs.Option.{option_to_list}
@@ -43,3 +43,9 @@ place_bytes (Rest behind) text = behind_bytes behind text
 -- a byte, the one that has to follow it, and what is still to come behind them
 abbrev pub step_bytes : Step → List ℕ → List ℕ
 step_bytes step text = step.byte ∷ (option_to_list step.then ++ place_bytes step.place text)
+
+-- whether there was a next piece: then it is the first of the bytes that were left, and some of them; else nothing was
+-- left, and the piece stays as it was
+abbrev pub IsNext : Bool → List ℕ → List ℕ → List ℕ → List ℕ → Type 0
+IsNext true old new before piece = (old ≡ piece ++ new) × ¬ (piece ≡ [])
+IsNext false old new before piece = (old ≡ []) × (new ≡ []) × (piece ≡ before)

@@ -80,14 +80,14 @@ impl Last {
         }
     }
 
-    /// The bytes of the part that it is. Takes no memory.
+    /// Makes a piece the bytes of the part that it is. Takes no memory.
     #[tactic(auto, using(crate::proofs::ListBytes::plain_number))]
-    pub fn piece(&self) -> PieceBytes<'_>
-        ensures { result ≡ part_bytes (Some (part_key (last_text (plain_last self.now)))) }
+    pub fn set_piece<'a>(&'a self, piece: &mut PieceBytes<'a>)
+        ensures { piece.new ≡ part_bytes (Some (part_key (last_text (plain_last self.now)))) }
     {
         match self {
-            Last::Numeric(number) => PieceBytes::plain_part(*number),
-            _ => PieceBytes::part(self.part_text()),
+            Last::Numeric(number) => piece.set_plain_part(*number),
+            _ => piece.set_part(self.part_text()),
         }
     }
 

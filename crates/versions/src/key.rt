@@ -10,6 +10,7 @@ ghost use Rattle.version_parts.specs.Front.{repeated};
 ghost use Rattle.version_parts.specs.Lists.{bytes_cmp, GrowsWithin};
 ghost use Rattle.version_parts.specs.MChunk.{plain_mchunk};
 ghost use Rattle.version_parts.specs.NumberBytes.{number_bytes};
+ghost use Rattle.version_parts.specs.Pieces.{IsNext};
 ghost use Rattle.versions.specs.Key.{key_behind_epoch, key_of, key_of_mess, key_of_sections, key_of_semver, key_of_version, section_epoch};
 ghost use Rattle.versions.specs.KeyBytes.{key_bytes};
 ghost use Rattle.versions.specs.KeyStream.{list_left, tail_left};
@@ -199,12 +200,12 @@ impl<'a> KeyBytes<'a> {
         ensures err { OnErr result (GrowsWithin list.old.items list.new.items self.entry) }
     {
         let KeyBytes {
-            piece,
+            mut piece,
             list: mut begun,
             mut tail,
         } = self;
         piece.append_to(list)?;
-        while let Some(piece) = next_piece(&mut begun, &mut tail) {
+        while next_piece(&mut begun, &mut tail, &mut piece) {
             piece.append_to(list)?;
         }
         Ok(())
@@ -221,34 +222,39 @@ impl<'a> KeyBytes<'a> {
     }
 }
 
-// The next piece of the list begun, or else of the tail, which may begin a list.
-fn next_piece<'a>(list: &mut Begun<'a>, tail: &mut TailLeft<'a>) -> Option<PieceBytes<'a>>
-    ensures some { IfSome result (λ piece. (list_left list.old ++ tail_left tail.old ≡ piece ++ (list_left list.new ++ tail_left tail.new)) × ¬ (piece ≡ [])) }
-    ensures none { IfNone result ((list_left list.old ++ tail_left tail.old ≡ []) × (list_left list.new ++ tail_left tail.new ≡ [])) }
+// Makes a piece the next of the list begun, or else of the tail, which may begin a list, where there is one.
+fn next_piece<'a>(list: &mut Begun<'a>, tail: &mut TailLeft<'a>, piece: &mut PieceBytes<'a>) -> bool
+    ensures { IsNext result (list_left list.old ++ tail_left tail.old) (list_left list.new ++ tail_left tail.new) piece.old piece.new }
 {
-    if let Some(piece) = list.next_piece() {
-        return Some(piece);
-    }
+    list.next_piece(piece) || begin_tail(list, tail, piece)
+}
+
+// Makes a piece the next of the tail, which may begin a list, where there is one.
+fn begin_tail<'a>(list: &mut Begun<'a>, tail: &mut TailLeft<'a>, piece: &mut PieceBytes<'a>) -> bool
+    requires { list_left list.old ≡ [] }
+    ensures { IsNext result (tail_left tail.old) (list_left list.new ++ tail_left tail.new) piece.old piece.new }
+{
     match mem::replace(tail, TailLeft::Nothing) {
-        TailLeft::Nothing => None,
-        TailLeft::Bare => Some(PieceBytes::one(2)),
+        TailLeft::Nothing => return false,
+        TailLeft::Bare => piece.set_byte(2),
         TailLeft::Release(rank, chunks) => {
             *list = Begun::Chunks(chunks);
-            Some(PieceBytes::one(rank))
+            piece.set_byte(rank);
         }
         TailLeft::Sections(further) => {
             *tail = TailLeft::Behind(further);
-            Some(PieceBytes::one(4))
+            piece.set_byte(4);
         }
         TailLeft::Behind(further) => match further.next_section() {
             Some((section, behind)) => {
                 *list = Begun::Section(section);
                 *tail = TailLeft::Behind(behind);
-                Some(PieceBytes::one(2))
+                piece.set_byte(2);
             }
-            None => Some(PieceBytes::one(1)),
+            None => piece.set_byte(1),
         },
     }
+    true
 }
 
 // The digits of the epoch, where the first section is one, and the version behind it.
@@ -304,7 +310,9 @@ impl<'a> Iterator for KeyBytes<'a> {
         if let Some(byte) = self.piece.next() {
             return Some(byte);
         }
-        self.piece = next_piece(&mut self.list, &mut self.tail)?;
+        if !next_piece(&mut self.list, &mut self.tail, &mut self.piece) {
+            return None;
+        }
         self.piece.next()
     }
 }

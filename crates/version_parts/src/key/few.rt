@@ -39,16 +39,6 @@ impl FewBytes {
         }
     }
 
-    /// One byte.
-    #[inline(always)]
-    pub(crate) fn one(byte: u8) -> FewBytes
-        ensures { result ≡ byte ∷ [] }
-    {
-        let mut few = FewBytes::none();
-        few.put(byte);
-        few
-    }
-
     /// A number in decimal.
     pub(crate) fn decimal(number: u32) -> FewBytes
         ensures { result ≡ decimal number }
@@ -69,22 +59,49 @@ impl FewBytes {
         few
     }
 
-    /// A plain number as a part.
-    pub(crate) fn plain_part(number: u32) -> FewBytes
-        ensures { result ≡ part_bytes (Some (Number number None)) }
+    /// Becomes no byte.
+    #[inline(always)]
+    pub(crate) fn clear(&mut self)
+        ensures { self.new ≡ [] }
     {
-        let mut few = FewBytes::none();
-        few.put_plain_part(number);
-        few
+        self.at = MOST as u8;
     }
 
-    /// A plain number as the last part of a list, and the end of that.
-    pub(crate) fn last_plain_part(number: u32) -> FewBytes
-        ensures { result ≡ part_bytes (Some (Number number None)) ++ part_bytes None }
+    /// Becomes one byte.
+    #[inline(always)]
+    pub(crate) fn set_byte(&mut self, byte: u8)
+        ensures { self.new ≡ byte ∷ [] }
     {
-        let mut few = FewBytes::one(2);
-        few.put_plain_part(number);
-        few
+        self.clear();
+        self.put(byte);
+    }
+
+    /// Becomes a plain number as a part.
+    #[inline(always)]
+    pub(crate) fn set_plain_part(&mut self, number: u32)
+        ensures { self.new ≡ part_bytes (Some (Number number None)) }
+    {
+        self.clear();
+        self.put_plain_part(number);
+    }
+
+    /// Becomes a plain number as the last part of a list, and the end of that.
+    #[inline(always)]
+    pub(crate) fn set_last_plain_part(&mut self, number: u32)
+        ensures { self.new ≡ part_bytes (Some (Number number None)) ++ part_bytes None }
+    {
+        self.set_byte(2);
+        self.put_plain_part(number);
+    }
+
+    /// Becomes a byte, and the bytes of a number behind it.
+    #[inline(always)]
+    pub(crate) fn set_number_behind(&mut self, byte: u8, number: u32)
+        ensures { self.new ≡ byte ∷ number_bytes number }
+    {
+        self.clear();
+        self.put_number(number);
+        self.put(byte);
     }
 
     /// A byte before the others.

@@ -1,6 +1,6 @@
 //! Lists in keys: their items one after another, off a list or off the text that spells it, and their end.
 
-ghost use Rattle.std.specs.Prelude.{◌≡◌, ◌∷◌, ◌++◌, [], List, ℕ, Option, Some, None, map, take, if◌then◌else◌, IfNone, IfSome};
+ghost use Rattle.std.specs.Prelude.{◌≡◌, ◌∷◌, ◌++◌, [], List, ℕ, Option, Some, None, map, take, if◌then◌else◌, IfNone};
 ghost use Rattle.std.specs.Iterator.{item_count, YieldsFirst};
 ghost use Rattle.version_parts.specs.Bytes.{is_identifier_byte};
 ghost use Rattle.version_parts.specs.Chunk.{chunk_front, chunk_text, plain_chunk, PlainChunk};
@@ -10,11 +10,12 @@ ghost use Rattle.version_parts.specs.FrontLaws.{chunk_consumes};
 ghost use Rattle.version_parts.specs.KeyLaws.{chunk_begins, mchunk_key_consumes, part_begins, part_key_consumes};
 ghost use Rattle.std.specs.Option.{option_map};
 ghost use Rattle.version_parts.specs.MChunk.{mchunk_text, plain_mchunk};
+ghost use Rattle.version_parts.specs.Pieces.{IsNext};
 ghost use Rattle.version_parts.specs.PartKey.{chunk_parts, mchunk_key_front, part_bytes, part_key, part_key_front, parts_bytes, section_parts, PartKey};
 ghost use Rattle.version_parts.specs.ReleaseOrder.{chunk_bytes};
 
 use crate::chunk::{Chunk, ChunkPiece, Part, ReleaseChunk};
-use crate::key::{PartText, PieceBytes};
+use crate::key::PieceBytes;
 use crate::mchunk::{MChunk, MessyChunk};
 use crate::scan::{Class, Dotted, after_mark, nonempty_run};
 use std::marker::Model;
@@ -34,13 +35,15 @@ pub trait Code {
     // What the item at the front of a text is written as, and the rest.
     ghost front: { Front Key };
 
-    /// The bytes of an item.
-    fn piece(item: &Self::Item) -> PieceBytes<'_>
-        ensures { result ≡ bytes (Some (key item.now)) };
+    /// Makes a piece the bytes of an item.
+    fn set_piece<'a>(piece: &mut PieceBytes<'a>, item: &'a Self::Item)
+        ensures { piece.new ≡ bytes (Some (key item.now)) };
 
-    /// The bytes of the item at the front of a text, and the rest. Takes no memory.
-    fn front_piece(i: &str) -> Option<(PieceBytes<'_>, &str)>
-        ensures { option_map (λ r. (r.0, r.1.now)) result ≡ map_value (λ key. bytes (Some key)) (front i.now) };
+    /// Makes a piece the bytes of the item at the front of a text, where one can be read, and gives the rest. Takes no
+    /// memory.
+    fn set_front_piece<'a>(piece: &mut PieceBytes<'a>, i: &'a str) -> Option<&'a str>
+        ensures read { option_map (λ rest. (piece.new, rest.now)) result ≡ map_value (λ key. bytes (Some key)) (front i.now) }
+        ensures unread { IfNone result (piece.new ≡ piece.old) };
 
     /// The byte behind the last item.
     fn end() -> u8
@@ -94,26 +97,28 @@ impl<'a, C: Code> ItemsLeft<'a, C> {
 }
 
 impl<'a, C: Code> ItemsLeft<'a, C> {
-    /// The bytes of the next item.
-    pub fn next_piece(&mut self) -> Option<PieceBytes<'a>>
-        ensures some { IfSome result (λ piece. (self.old ≡ piece ++ self.new) × ¬ (piece ≡ [])) }
-        ensures none { IfNone result ((self.old ≡ []) × (self.new ≡ [])) }
+    /// Makes a piece the bytes of the next item, where there is one.
+    pub fn next_piece(&mut self, piece: &mut PieceBytes<'a>) -> bool
+        ensures { IsNext result self.old self.new piece.old piece.new }
     {
         if let Some((first, rest)) = self.items.split_first() {
             self.items = rest;
-            return Some(C::piece(first));
+            C::set_piece(piece, first);
+            return true;
         }
         if self.count == 0 {
-            return None;
+            return false;
         }
-        let (piece, rest) = C::front_piece(self.text)?;
+        let Some(rest) = C::set_front_piece(piece, self.text) else {
+            return false;
+        };
         let Some(next) = after_mark(rest, b'.') else {
             self.count = 0;
-            return Some(piece);
+            return true;
         };
         self.text = next;
         self.count -= 1;
-        Some(piece)
+        true
     }
 }
 
@@ -154,19 +159,19 @@ impl<'a> ListLeft<'a, MessyChunk> {
 }
 
 impl<'a, C: Code> ListLeft<'a, C> {
-    /// The bytes of the next item, or of the end.
-    pub fn next_piece(&mut self) -> Option<PieceBytes<'a>>
-        ensures some { IfSome result (λ piece. (self.old ≡ piece ++ self.new) × ¬ (piece ≡ [])) }
-        ensures none { IfNone result ((self.old ≡ []) × (self.new ≡ [])) }
+    /// Makes a piece the bytes of the next item, or of the end, where there is one.
+    pub fn next_piece(&mut self, piece: &mut PieceBytes<'a>) -> bool
+        ensures { IsNext result self.old self.new piece.old piece.new }
     {
-        if let Some(piece) = self.items.next_piece() {
-            return Some(piece);
+        if self.items.next_piece(piece) {
+            return true;
         }
         if self.ended {
-            return None;
+            return false;
         }
         self.ended = true;
-        Some(PieceBytes::one(C::end()))
+        piece.set_byte(C::end());
+        true
     }
 }
 
@@ -210,7 +215,9 @@ impl<'a, C: Code> Iterator for ListBytes<'a, C> {
         if let Some(byte) = self.piece.next() {
             return Some(byte);
         }
-        self.piece = self.left.next_piece()?;
+        if !self.left.next_piece(&mut self.piece) {
+            return None;
+        }
         self.piece.next()
     }
 }
@@ -241,13 +248,16 @@ impl Code for Part {
 
     ghost consumes = { part_key_consumes };
 
-    fn piece(item: &Chunk) -> PieceBytes<'_> {
-        PieceBytes::chunk_as_part(item.lent())
+    #[inline(always)]
+    fn set_piece<'a>(piece: &mut PieceBytes<'a>, item: &'a Chunk) {
+        piece.set_chunk_as_part(item.lent());
     }
 
-    fn front_piece(i: &str) -> Option<(PieceBytes<'_>, &str)> {
+    #[inline(always)]
+    fn set_front_piece<'a>(piece: &mut PieceBytes<'a>, i: &'a str) -> Option<&'a str> {
         let (chunk, rest) = ChunkPiece::scan(i, Class::Alphanumeric)?;
-        Some((PieceBytes::chunk_as_part(chunk), rest))
+        piece.set_chunk_as_part(chunk);
+        Some(rest)
     }
 
     fn end() -> u8 {
@@ -271,14 +281,17 @@ impl Code for MessyChunk {
 
     ghost consumes = { mchunk_key_consumes };
 
-    fn piece(item: &MChunk) -> PieceBytes<'_> {
-        PieceBytes::part(PartText::text(item.text()))
+    #[inline(always)]
+    fn set_piece<'a>(piece: &mut PieceBytes<'a>, item: &'a MChunk) {
+        piece.set_text_part(item.text());
     }
 
+    #[inline(always)]
     #[tactic(auto, unfolding(crate::specs::MChunk::mchunk_front))]
-    fn front_piece(i: &str) -> Option<(PieceBytes<'_>, &str)> {
+    fn set_front_piece<'a>(piece: &mut PieceBytes<'a>, i: &'a str) -> Option<&'a str> {
         let (run, rest) = nonempty_run(i, Class::Alphanumeric)?;
-        Some((PieceBytes::part(PartText::text(run)), rest))
+        piece.set_text_part(run);
+        Some(rest)
     }
 
     fn end() -> u8 {
@@ -302,13 +315,16 @@ impl Code for ReleaseChunk {
 
     ghost consumes = { chunk_consumes is_identifier_byte };
 
-    fn piece(item: &Chunk) -> PieceBytes<'_> {
-        PieceBytes::chunk(item.lent())
+    #[inline(always)]
+    fn set_piece<'a>(piece: &mut PieceBytes<'a>, item: &'a Chunk) {
+        piece.set_chunk(item.lent());
     }
 
-    fn front_piece(i: &str) -> Option<(PieceBytes<'_>, &str)> {
+    #[inline(always)]
+    fn set_front_piece<'a>(piece: &mut PieceBytes<'a>, i: &'a str) -> Option<&'a str> {
         let (chunk, rest) = ChunkPiece::scan(i, Class::Identifier)?;
-        Some((PieceBytes::chunk(chunk), rest))
+        piece.set_chunk(chunk);
+        Some(rest)
     }
 
     fn end() -> u8 {

@@ -274,14 +274,6 @@ impl<'a> PieceBytes<'a> {
         PieceBytes::at(FewBytes::none(), Place::Part, text)
     }
 
-    /// The bytes of a plain number as a part.
-    #[inline(always)]
-    pub fn plain_part(number: u32) -> PieceBytes<'a>
-        ensures { result ≡ part_bytes (Some (Number number None)) }
-    {
-        PieceBytes::made(FewBytes::plain_part(number))
-    }
-
     /// The bytes of a number: how many digits it has, and these.
     #[inline(always)]
     pub fn number(number: u32) -> PieceBytes<'a>
@@ -314,53 +306,6 @@ impl<'a> PieceBytes<'a> {
         )
     }
 
-    /// One byte.
-    #[inline(always)]
-    pub fn one(byte: u8) -> PieceBytes<'a>
-        ensures { result ≡ byte ∷ [] }
-    {
-        PieceBytes::made(FewBytes::one(byte))
-    }
-
-    /// The bytes of a plain number as the last part of a list, and of the end of that.
-    #[inline(always)]
-    pub fn last_plain_part(number: u32) -> PieceBytes<'a>
-        ensures { result ≡ part_bytes (Some (Number number None)) ++ part_bytes None }
-    {
-        PieceBytes::made(FewBytes::last_plain_part(number))
-    }
-
-    // The bytes of a chunk of a release.
-    #[tactic(auto, using(crate::proofs::PieceBytes::alone))]
-    #[inline(always)]
-    pub(crate) fn chunk(chunk: ChunkPiece<'a>) -> PieceBytes<'a>
-        ensures { result ≡ chunk_bytes (Some (plain_piece chunk.entry)) }
-    {
-        match chunk {
-            ChunkPiece::Numeric(number) => {
-                let mut bytes = FewBytes::number(number);
-                bytes.put(2);
-                PieceBytes::made(bytes)
-            }
-            ChunkPiece::Alphanum(text) => {
-                let text = PartText::text(text);
-                PieceBytes::at(FewBytes::one(3), Place::Rest(Behind::Text), text)
-            }
-        }
-    }
-
-    // The bytes of a chunk as a part.
-    #[tactic(auto, using(crate::proofs::ListBytes::plain_number))]
-    #[inline(always)]
-    pub(crate) fn chunk_as_part(chunk: ChunkPiece<'a>) -> PieceBytes<'a>
-        ensures { result ≡ part_bytes (Some (part_key (chunk_text (plain_piece chunk.entry)))) }
-    {
-        match chunk {
-            ChunkPiece::Numeric(number) => PieceBytes::plain_part(number),
-            ChunkPiece::Alphanum(text) => PieceBytes::part(PartText::text(text)),
-        }
-    }
-
     // Bytes that are ready, and those of a text that is read so.
     #[inline(always)]
     fn at(ready: FewBytes, place: Place, text: PartText<'a>) -> PieceBytes<'a>
@@ -383,12 +328,109 @@ impl<'a> PieceBytes<'a> {
         PieceBytes::at(ready, Place::Rest(Behind::Nothing), PartText::text(""))
     }
 
+    /// Becomes one byte.
+    #[tactic(auto, unfolding(crate::specs::Pieces::place_bytes, crate::specs::Pieces::behind_bytes))]
+    #[inline(always)]
+    pub fn set_byte(&mut self, byte: u8)
+        ensures { self.new ≡ byte ∷ [] }
+    {
+        self.ready.set_byte(byte);
+        self.run = &[];
+        self.place = Place::Rest(Behind::Nothing);
+    }
+
+    /// Becomes the bytes of a plain number as a part.
+    #[tactic(auto, unfolding(crate::specs::Pieces::place_bytes, crate::specs::Pieces::behind_bytes))]
+    #[inline(always)]
+    pub fn set_plain_part(&mut self, number: u32)
+        ensures { self.new ≡ part_bytes (Some (Number number None)) }
+    {
+        self.ready.set_plain_part(number);
+        self.run = &[];
+        self.place = Place::Rest(Behind::Nothing);
+    }
+
+    /// Becomes the bytes of a plain number as the last part of a list, and of the end of that.
+    #[tactic(auto, unfolding(crate::specs::Pieces::place_bytes, crate::specs::Pieces::behind_bytes))]
+    #[inline(always)]
+    pub fn set_last_plain_part(&mut self, number: u32)
+        ensures { self.new ≡ part_bytes (Some (Number number None)) ++ part_bytes None }
+    {
+        self.ready.set_last_plain_part(number);
+        self.run = &[];
+        self.place = Place::Rest(Behind::Nothing);
+    }
+
+    /// Becomes the bytes of a part, by its printed text.
+    #[tactic(auto, unfolding(crate::specs::Pieces::place_bytes))]
+    #[inline(always)]
+    pub fn set_part(&mut self, text: PartText<'a>)
+        ensures { self.new ≡ part_bytes (Some (part_key text.entry)) }
+    {
+        self.ready.clear();
+        self.run = &[];
+        self.text = text;
+        self.place = Place::Part;
+    }
+
+    // Becomes the bytes of a part that is a text.
+    #[tactic(auto, unfolding(crate::specs::Pieces::place_bytes))]
+    #[inline(always)]
+    pub(crate) fn set_text_part(&mut self, text: &'a str)
+        ensures { self.new ≡ part_bytes (Some (part_key text.now)) }
+    {
+        self.ready.clear();
+        self.run = &[];
+        self.text.set_text(text);
+        self.place = Place::Part;
+    }
+
+    // Becomes the bytes of a chunk of a release.
+    #[tactic(auto, using(crate::proofs::PieceBytes::alone))]
+    #[inline(always)]
+    pub(crate) fn set_chunk(&mut self, chunk: ChunkPiece<'a>)
+        ensures { self.new ≡ chunk_bytes (Some (plain_piece chunk.entry)) }
+    {
+        match chunk {
+            ChunkPiece::Numeric(number) => self.set_numeric_chunk(number),
+            ChunkPiece::Alphanum(text) => {
+                self.ready.set_byte(3);
+                self.run = &[];
+                self.text.set_text(text);
+                self.place = Place::Rest(Behind::Text);
+            }
+        }
+    }
+
+    // Becomes the bytes of a number as a chunk of a release.
+    #[tactic(auto, unfolding(crate::specs::Pieces::place_bytes, crate::specs::Pieces::behind_bytes))]
+    #[inline(always)]
+    fn set_numeric_chunk(&mut self, number: u32)
+        ensures { self.new ≡ 2 ∷ number_bytes number }
+    {
+        self.ready.set_number_behind(2, number);
+        self.run = &[];
+        self.place = Place::Rest(Behind::Nothing);
+    }
+
+    // Becomes the bytes of a chunk as a part.
+    #[tactic(auto, using(crate::proofs::ListBytes::plain_number))]
+    #[inline(always)]
+    pub(crate) fn set_chunk_as_part(&mut self, chunk: ChunkPiece<'a>)
+        ensures { self.new ≡ part_bytes (Some (part_key (chunk_text (plain_piece chunk.entry)))) }
+    {
+        match chunk {
+            ChunkPiece::Numeric(number) => self.set_plain_part(number),
+            ChunkPiece::Alphanum(text) => self.set_text_part(text),
+        }
+    }
+
     /// Puts the bytes behind those of a list. The error is that there is no memory for all of them; the list then has a
     /// beginning of them.
     #[inline(always)]
-    pub fn append_to(mut self, list: &mut Vec<u8>) -> Result<(), AllocError>
-        ensures ok { OnOk result (list.new.items ≡ list.old.items ++ self.entry) }
-        ensures err { OnErr result (GrowsWithin list.old.items list.new.items self.entry) }
+    pub fn append_to(&mut self, list: &mut Vec<u8>) -> Result<(), AllocError>
+        ensures ok { OnOk result (list.new.items ≡ list.old.items ++ self.old) }
+        ensures err { OnErr result (GrowsWithin list.old.items list.new.items self.old) }
     {
         self.append_made(list)?;
         while let Some(byte) = self.next() {
@@ -405,7 +447,7 @@ impl<'a> PieceBytes<'a> {
         ensures err { OnErr result (GrowsWithin list.old.items list.new.items self.old) }
     {
         list.extend_from_slice(self.ready.as_slice())?;
-        self.ready = FewBytes::none();
+        self.ready.clear();
         list.extend_from_slice(self.run)?;
         self.run = &[];
         Ok(())

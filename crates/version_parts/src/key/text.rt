@@ -71,6 +71,16 @@ impl<'a> PartText<'a> {
         }
     }
 
+    // Becomes a text alone.
+    #[inline(always)]
+    pub(crate) fn set_text(&mut self, text: &'a str)
+        ensures { self.new ≡ text.now }
+    {
+        self.before.clear();
+        self.text = text.as_bytes();
+        self.behind.clear();
+    }
+
     // The next byte, which is still to come.
     pub(crate) fn first(&self) -> Option<u8>
         ensures { result ≡ slice_get self.now 0 }

@@ -1,9 +1,10 @@
 //! The list that a key has begun: parts of its body or of a section, or the chunks of its release.
 
-ghost use Rattle.std.specs.Prelude.{◌≡◌, ◌++◌, ◌∷◌, [], IfNone, IfSome};
+ghost use Rattle.std.specs.Prelude.{◌≡◌, ◌++◌, ◌∷◌, []};
 ghost use Rattle.version_parts.specs.Body.{plain_chunks};
 ghost use Rattle.version_parts.specs.Last.{last_text, plain_last};
 ghost use Rattle.version_parts.specs.PartKey.{chunk_parts, part_key, parts_bytes};
+ghost use Rattle.version_parts.specs.Pieces.{IsNext};
 
 use std::marker::Model;
 use version_parts::key::{ItemsLeft, ListLeft, PieceBytes};
@@ -29,31 +30,31 @@ pub enum Begun<'a> {
 impl<'a> Begun<'a> {
     ghost use Rattle.versions.specs.KeyStream.{list_left};
 
-    /// The bytes of the next item, or of the end.
-    pub fn next_piece(&mut self) -> Option<PieceBytes<'a>>
-        ensures some { IfSome result (λ piece. (list_left self.old ≡ piece ++ list_left self.new) × ¬ (piece ≡ [])) }
-        ensures none { IfNone result ((list_left self.old ≡ []) × (list_left self.new ≡ [])) }
+    /// Makes a piece the bytes of the next item, or of the end, where there is one.
+    #[inline(always)]
+    pub fn next_piece(&mut self, piece: &mut PieceBytes<'a>) -> bool
+        ensures { IsNext result (list_left self.old) (list_left self.new) piece.old piece.new }
     {
         match self {
-            Begun::Ended => None,
+            Begun::Ended => false,
             Begun::Three(first, second, third) => {
-                let piece = PieceBytes::plain_part(*first);
+                piece.set_plain_part(*first);
                 *self = Begun::Two(*second, *third);
-                Some(piece)
+                true
             }
             Begun::Two(first, second) => {
-                let piece = PieceBytes::plain_part(*first);
+                piece.set_plain_part(*first);
                 *self = Begun::One(*second);
-                Some(piece)
+                true
             }
             Begun::One(last) => {
-                let piece = PieceBytes::last_plain_part(*last);
+                piece.set_last_plain_part(*last);
                 *self = Begun::Ended;
-                Some(piece)
+                true
             }
-            Begun::Parts(parts) => parts.next_piece(),
-            Begun::Section(section) => section.next_piece(),
-            Begun::Chunks(chunks) => chunks.next_piece(),
+            Begun::Parts(parts) => parts.next_piece(piece),
+            Begun::Section(section) => section.next_piece(piece),
+            Begun::Chunks(chunks) => chunks.next_piece(piece),
         }
     }
 }
@@ -105,21 +106,22 @@ impl<'a> PartsLeft<'a> {
         }
     }
 
-    // The bytes of the next part, or of the end.
-    fn next_piece(&mut self) -> Option<PieceBytes<'a>>
-        ensures some { IfSome result (λ piece. (self.old ≡ piece ++ self.new) × ¬ (piece ≡ [])) }
-        ensures none { IfNone result ((self.old ≡ []) × (self.new ≡ [])) }
+    // Makes a piece the bytes of the next part, or of the end, where there is one.
+    fn next_piece(&mut self, piece: &mut PieceBytes<'a>) -> bool
+        ensures { IsNext result self.old self.new piece.old piece.new }
     {
-        if let Some(piece) = self.items.next_piece() {
-            return Some(piece);
+        if self.items.next_piece(piece) {
+            return true;
         }
         if let Some(last) = self.last.take() {
-            return Some(last.piece());
+            last.set_piece(piece);
+            return true;
         }
         if self.ended {
-            return None;
+            return false;
         }
         self.ended = true;
-        Some(PieceBytes::one(2))
+        piece.set_byte(2);
+        true
     }
 }

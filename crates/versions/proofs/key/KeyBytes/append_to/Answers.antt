@@ -8,4 +8,4 @@ returns-in_err-append_to-clause-err c =
 
 pub returns-in_err-append_to-2-clause-err : goal.returns-in_err-append_to-2-clause-err
 returns-in_err-append_to-2-clause-err c =
-    at_any_error c.from_residual-in_err-append_to-2.result (grows_next _ _ _ _ _ _ _ c.loop-piece.invariant c.in-Some.ensures.some.0 c.in_err-append_to-2.ensures.err)
+    at_any_error c.from_residual-in_err-append_to-2.result (grows_next _ _ _ _ _ _ _ c.loop-piece.invariant c.loop-piece-test.ensures.0 c.in_err-append_to-2.ensures.err)
