@@ -1,8 +1,9 @@
 -- How a comparison goes along two streams: they have given the same bytes so far, and then one more each.
-use Rattle.std.proofs.Common.{◌≡◌, ℕ, List, [], ◌∷◌, ◌++◌, Option, Some, None, refl, sym, ap, ◌∙◌, append-nil}
+use Rattle.std.proofs.Common.{◌≡◌, ℕ, List, [], ◌∷◌, ◌++◌, Option, Some, None, refl, sym, ap, ◌∙◌, append-nil, append_assoc}
 use Rattle.std.proofs.lemmas.Iterator.Consumers.{YieldsList-from_first}
 use Rattle.std.specs.Cmp.{nat_cmp_total, tied_itself}
 use Rattle.std.specs.Cmp.Lexicographic.{nat_list_cmp_total}
+use Rattle.std.specs.FinMap.{nat_cmp-IsAntisymmetric}
 use Rattle.std.specs.Iterator.{AlwaysYields, Yields, YieldsFirst}
 use Rattle.std.specs.Option.{option_cmp}
 use Rattle.std.specs.Ordering.{nat_cmp, ordering_then}
@@ -13,12 +14,27 @@ use Rattle.version_parts.specs.Codes.{Writes}
 use Rattle.version_parts.specs.Compare.{ComparesBytes, GoesOn}
 use Rattle.version_parts.specs.Lists.{bytes_cmp}
 use Rattle.version_parts.specs.OrderLaws.{then_decided, then_equal}
+use Rattle.version_parts.specs.Pieces.{GonePast}
 
 -- ---- the order of two lists that begin alike
 
 alike : (same xs ys : List ℕ) → bytes_cmp (same ++ xs) (same ++ ys) ≡ bytes_cmp xs ys
 alike [] xs ys = refl
 alike (b ∷ same) xs ys = ap (λ o. ordering_then o (bytes_cmp (same ++ xs) (same ++ ys))) (tied_itself nat_cmp_total b) ∙ alike same xs ys
+
+-- past the same bytes, whatever follows, they compare as what is left does
+pub past_same : (a b a_left b_left x y : List ℕ) → GonePast a b a_left b_left → bytes_cmp (a ++ x) (b ++ y) ≡ bytes_cmp (a_left ++ x) (b_left ++ y)
+past_same a b a_left b_left x y past =
+    rw (past.first_is, past.second_is, append_assoc, append_assoc) (alike past.same (a_left ++ x) (b_left ++ y))
+
+-- the first bytes decide where they differ, and what is behind them where they don't
+
+pub first_differ : (m n : ℕ) (xs ys : List ℕ) → ¬ (m ≡ n) → nat_cmp m n ≡ bytes_cmp (m ∷ xs) (n ∷ ys)
+first_differ m n xs ys other =
+    sym (then_decided (nat_cmp m n) (bytes_cmp xs ys) Equal (λ tied. absurd (other (nat_cmp-IsAntisymmetric m n tied))) ∙ then_equal (nat_cmp m n))
+
+pub first_same : (n : ℕ) (xs ys : List ℕ) → bytes_cmp (n ∷ xs) (n ∷ ys) ≡ bytes_cmp xs ys
+first_same n xs ys = alike (n ∷ []) xs ys
 
 -- one byte more of each, or none, decides, unless these are the same byte
 decides : (same : List ℕ) (x y : Option ℕ) (xs ys : List ℕ) → GoesOn same x xs → GoesOn same y ys → (option_cmp nat_cmp x y ≡ Equal → (x ≡ None) × (y ≡ None))

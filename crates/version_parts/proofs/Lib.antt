@@ -19,6 +19,7 @@ pub mod NumeralReading
 pub mod Numerals
 pub mod Orders
 pub mod PartKey
+pub mod Past
 pub mod PieceBytes
 pub mod Printing
 pub mod ReleaseOrder

@@ -49,3 +49,9 @@ step_bytes step text = step.byte ∷ (option_to_list step.then ++ place_bytes st
 abbrev pub IsNext : Bool → List ℕ → List ℕ → List ℕ → List ℕ → Type 0
 IsNext true old new before piece = (old ≡ piece ++ new) × ¬ (piece ≡ [])
 IsNext false old new before piece = (old ≡ []) × (new ≡ []) × (piece ≡ before)
+
+-- two streams have gone past the same bytes at their fronts, and these are left of each
+pub record GonePast (first second first_left second_left : List ℕ) : Type 0 where
+  pub same : List ℕ
+  pub first_is : first ≡ same ++ first_left
+  pub second_is : second ≡ same ++ second_left

@@ -328,9 +328,21 @@ pub(crate) fn key_list(alloc: Global, version: &Versioning) -> Result<Vec<u8>, A
     }
 }
 
-// How two streams of the bytes of keys compare.
+// How two streams of the bytes of keys compare: byte by byte, but for what both pieces begin with alike.
 pub(crate) fn compare_keys(mut a: KeyBytes<'_>, mut b: KeyBytes<'_>) -> Ordering
     ensures { result ≡ bytes_cmp a.entry b.entry }
 {
-    compare_bytes(&mut a, &mut b)
+    while let Some(x) = a.next() {
+        let Some(y) = b.next() else {
+            return Ordering::Greater;
+        };
+        if x != y {
+            return x.cmp(&y);
+        }
+        a.piece.pass_same(&mut b.piece);
+    }
+    match b.next() {
+        Some(_) => Ordering::Less,
+        None => Ordering::Equal,
+    }
 }

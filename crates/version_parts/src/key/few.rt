@@ -1,10 +1,11 @@
 //! The few bytes of a piece that are made at once.
 
-ghost use Rattle.std.specs.Prelude.{◌≡◌, ◌∷◌, ◌++◌, ◌+◌, ◌<◌, ◌≤◌, [], List, ℕ, drop, length, None, Some};
+ghost use Rattle.std.specs.Prelude.{◌≡◌, ◌∷◌, ◌++◌, ◌+◌, ◌<◌, ◌≤◌, [], List, ℕ, drop, length, IsTrue, None, Some};
 ghost use Rattle.std.specs.Fmt.{decimal};
 ghost use Rattle.std.specs.Iterator.{item_count, YieldsFirst};
 ghost use Rattle.version_parts.specs.NumberBytes.{number_bytes};
 ghost use Rattle.version_parts.specs.PartKey.{part_bytes, Number};
+ghost use Rattle.version_parts.specs.Pieces.{GonePast};
 
 use itoa::write_digits;
 use std::marker::Model;
@@ -151,6 +152,28 @@ impl FewBytes {
         let end = self.at;
         self.at = write_digits(u64::from(number), &mut self.bytes, usize::from(end)) as u8;
         end - self.at
+    }
+
+    /// Goes past as many bytes as both have, where those are the same.
+    #[tactic(auto, using(crate::proofs::Past::past))]
+    #[inline(always)]
+    pub(crate) fn pass_same(&mut self, other: &mut FewBytes)
+        ensures { GonePast self.old other.old self.new other.new }
+    {
+        let (a, b) = (self.as_slice(), other.as_slice());
+        let count = a.len().min(b.len());
+        if a[..count] == b[..count] {
+            self.at += count as u8;
+            other.at += count as u8;
+        }
+    }
+
+    /// Whether there is none.
+    #[inline(always)]
+    pub(crate) fn is_empty(&self) -> bool
+        ensures { IsTrue result → self.now ≡ [] }
+    {
+        self.at == MOST as u8
     }
 
     /// The bytes as a slice.

@@ -11,7 +11,7 @@ ghost use Rattle.version_parts.specs.DigitRun.{starts_with_digit};
 ghost use Rattle.version_parts.specs.Lists.{Growing, GrowsWithin};
 ghost use Rattle.version_parts.specs.NumberBytes.{length_bytes, number_bytes};
 ghost use Rattle.version_parts.specs.PartKey.{part_bytes, part_key, Number};
-ghost use Rattle.version_parts.specs.Pieces.{behind_bytes, counted_bytes, place_bytes, run_bytes, step_bytes};
+ghost use Rattle.version_parts.specs.Pieces.{GonePast, behind_bytes, counted_bytes, place_bytes, run_bytes, step_bytes};
 ghost use Rattle.version_parts.specs.ReleaseOrder.{chunk_bytes};
 ghost use Rattle.version_parts.specs.TextBytes.{text_byte, text_bytes};
 
@@ -236,6 +236,21 @@ fn text_step(text: &mut PartText<'_>) -> Step
     }
 }
 
+// Goes past as many bytes as both runs have, where those are the same.
+#[tactic(auto, using(crate::proofs::Past::past))]
+#[inline(always)]
+fn pass_same_run(run: &mut &[u8], other: &mut &[u8])
+    ensures { GonePast run.old.now other.old.now run.new.now other.new.now }
+{
+    let count = run.len().min(other.len());
+    let (front, rest) = run.split_at(count);
+    let (other_front, other_rest) = other.split_at(count);
+    if front == other_front {
+        *run = rest;
+        *other = other_rest;
+    }
+}
+
 /// The bytes of a part, of a number or of a text, seen as those that are still to come. A number of 32 bits is made at
 /// once, and waits in a small array; a run of a text's bytes that stand in the key as they are is lent. It takes no
 /// memory; a run of digits is counted once, so that all bytes together take time that grows with the text.
@@ -422,6 +437,17 @@ impl<'a> PieceBytes<'a> {
         match chunk {
             ChunkPiece::Numeric(number) => self.set_plain_part(number),
             ChunkPiece::Alphanum(text) => self.set_text_part(text),
+        }
+    }
+
+    /// Goes past bytes at the front of both that are the same, perhaps not all of them. Takes no memory.
+    #[inline(always)]
+    pub fn pass_same(&mut self, other: &mut PieceBytes<'_>)
+        ensures { GonePast self.old other.old self.new other.new }
+    {
+        self.ready.pass_same(&mut other.ready);
+        if self.ready.is_empty() && other.ready.is_empty() {
+            pass_same_run(&mut self.run, &mut other.run);
         }
     }
 
