@@ -1,0 +1,188 @@
+/*
+ * versions.h: versions and requirements, for C and C++. C99.
+ *
+ * Version texts are read, ordered and matched by the library `versions`, whose rules and proofs are its
+ * documentation's. Link with -lversions.
+ *
+ * Texts. A text is a pointer and a length in bytes. No byte 0 is needed behind it, and a byte 0 in it is a byte like
+ * any other. A null pointer with length 0 is the empty text. Every text of every length is answered; one that is not
+ * UTF-8 is no version. A version is of the first of three kinds that fits: ideal (strict, as SemVer 2.0 has it),
+ * general, complex.
+ *
+ * Many texts. They lie in one buffer, as in a large binary array of Apache Arrow: n + 1 offsets, the text of place i
+ * being the bytes from offsets[i] up to offsets[i + 1]. Offsets don't descend, are not negative and lie within the
+ * buffer; the first needn't be 0, and the last needn't be the buffer's length. Each array is passed with its own
+ * length, so that nothing behind it is ever looked at: n + 1 for offsets, n for one answer a text.
+ *
+ * Owning. Nothing is kept and nothing is handed out: all that a call reads and writes is the caller's, and is free
+ * again when the call returns. What is written to must overlap with nothing else that the call is passed.
+ *
+ * Statuses. A call returns VERSIONS_OK or says what is wrong, and what it was to write is written only where it
+ * returns VERSIONS_OK, unless its own words say otherwise. A pointer to one number may not be null.
+ *
+ * Threads. The library has no state: any thread may make any call at any time, on memory of which no other thread
+ * changes anything meanwhile. A call that may want memory takes it by malloc, gives it back by free before it returns,
+ * and must not be made in a signal handler; the others take none.
+ *
+ * Other languages. The names below are functions of the library, which bear these signatures. In C and C++ they are
+ * macros, too, that pass a null pointer on as one to an empty text. Who calls the functions themselves, as by a foreign
+ * function interface, passes no null pointer, whatever the length.
+ */
+#ifndef VERSIONS_H
+#define VERSIONS_H
+
+#include <stdbool.h>
+#include <stddef.h>
+#include <stdint.h>
+
+#ifdef __cplusplus
+extern "C" {
+#endif
+
+/* The statuses. */
+#define VERSIONS_OK 0
+#define VERSIONS_NO_VERSION 1      /* the text is no version */
+#define VERSIONS_NO_VERSION_A 2    /* of two texts, the first is no version */
+#define VERSIONS_NO_VERSION_B 3    /* of two texts, the second is no version */
+#define VERSIONS_NO_VERSION_AB 4   /* neither of two texts is a version */
+#define VERSIONS_NO_REQUIREMENTS 5 /* the list is no list of requirements */
+#define VERSIONS_NO_NUMBER 6       /* the version has no number at that place */
+#define VERSIONS_NO_ROOM 7         /* there is too little room for the keys */
+#define VERSIONS_BAD_OFFSETS 8     /* an offset is bad, or the lengths of two arrays don't fit */
+#define VERSIONS_NO_MEMORY 9       /* malloc gave no memory */
+
+/* The kinds. */
+#define VERSIONS_NONE 0    /* no version */
+#define VERSIONS_IDEAL 1   /* strict, as 1.2.3-rc.1+x86 */
+#define VERSIONS_GENERAL 2 /* as 1:2.0rc1-3 */
+#define VERSIONS_COMPLEX 3 /* as 10.2+0.93+1-1 */
+
+/*
+ * The kind of a text: VERSIONS_NONE, VERSIONS_IDEAL, VERSIONS_GENERAL or VERSIONS_COMPLEX. Takes no memory.
+ */
+int versions_kind(const char *text, size_t text_len);
+
+/*
+ * How two versions compare by precedence, the one order of all kinds: *order becomes -1, 0 or 1 where the first is
+ * below, level with or above the second. Different texts may be level, as 1.0.0+a and 1.0.0+b. Takes no memory.
+ * Returns VERSIONS_OK, VERSIONS_NO_VERSION_A, VERSIONS_NO_VERSION_B or VERSIONS_NO_VERSION_AB.
+ */
+int versions_compare(const char *a, size_t a_len, const char *b, size_t b_len, int32_t *order);
+
+/*
+ * The same with ties broken, by kind and then field by field, so that *order is 0 only where the two are the same
+ * version but for the metadata of strict ones. May want memory, and does so only where precedence ties.
+ * Returns as versions_compare does, or VERSIONS_NO_MEMORY.
+ */
+int versions_compare_total(const char *a, size_t a_len, const char *b, size_t b_len, int32_t *order);
+
+/*
+ * The sort key of a version: bytes that compare by memcmp, the shorter first where one begins the other, as versions
+ * do by precedence. Equal keys are keys of versions that are level, no key is empty, and none begins another.
+ *
+ * `key` has room for `room` bytes. *key_len becomes the whole length of the key, also at VERSIONS_NO_ROOM, where no
+ * byte of `key` is written; then room for *key_len bytes is enough, as room for versions_sort_key_bound(text_len) is
+ * for every text of the length. A room of 0, whose `key` may be null, asks for the length alone. Takes no memory.
+ * Returns VERSIONS_OK, VERSIONS_NO_VERSION or VERSIONS_NO_ROOM.
+ */
+int versions_sort_key(const char *text, size_t text_len, uint8_t *key, size_t room, size_t *key_len);
+
+/*
+ * A room that is enough for the key of every text of the length: 3 * text_len + 5, or SIZE_MAX where that would be
+ * more. Takes no memory.
+ */
+size_t versions_sort_key_bound(size_t text_len);
+
+/*
+ * Whether a list of requirements, as >=1.1.1,<2.0.0, asks for a version: *matches becomes true or false. May want
+ * memory, for the list and, at =, ~ and ^, for the version.
+ * Returns VERSIONS_OK, VERSIONS_NO_REQUIREMENTS (whatever the text is), VERSIONS_NO_VERSION or VERSIONS_NO_MEMORY.
+ */
+int versions_matches(const char *list, size_t list_len, const char *text, size_t text_len, bool *matches);
+
+/*
+ * The number at a place of a version, counted from 0: major, minor and patch of a strict one, and of the other kinds
+ * those parts that are plain numbers. May want memory.
+ * Returns VERSIONS_OK, VERSIONS_NO_VERSION, VERSIONS_NO_NUMBER or VERSIONS_NO_MEMORY.
+ */
+int versions_nth(const char *text, size_t text_len, size_t n, uint32_t *number);
+
+/*
+ * The kind of each of n texts, as versions_kind gives it: offsets_len is n + 1, and kinds_len is n. Takes no memory.
+ * Returns VERSIONS_OK or VERSIONS_BAD_OFFSETS.
+ */
+int versions_kinds(const char *texts, size_t texts_len, const int64_t *offsets, size_t offsets_len, uint8_t *kinds,
+                   size_t kinds_len);
+
+/*
+ * The sort keys of n texts, one behind another: offsets_len and key_offsets_len are n + 1, the key of the text of place
+ * i is the bytes of `keys` from key_offsets[i] up to key_offsets[i + 1], and key_offsets[0] is 0. A text that is no
+ * version has an empty key, which no version has. Nothing behind the last key is written. Takes no memory.
+ *
+ * `keys` has room for `room` bytes. At VERSIONS_NO_ROOM key_offsets are written all the same, and key_offsets[n] is the
+ * room that all keys need; what `keys` then holds is not told. A room of 0, whose `keys` may be null, asks for the
+ * offsets alone. 3 bytes for each byte of the texts and 5 for each text are always enough.
+ * Returns VERSIONS_OK, VERSIONS_NO_ROOM or VERSIONS_BAD_OFFSETS, where nothing is written.
+ */
+int versions_sort_keys(const char *texts, size_t texts_len, const int64_t *offsets, size_t offsets_len, uint8_t *keys,
+                       size_t room, int64_t *key_offsets, size_t key_offsets_len);
+
+/*
+ * Whether a list of requirements asks for each of n texts: offsets_len is n + 1, matches_len is n, and matches[i]
+ * becomes 1 where it does, 0 where it doesn't, and 2 where the text is no version. May want memory, as versions_matches
+ * does; at VERSIONS_NO_MEMORY some of `matches` may have been written.
+ * Returns VERSIONS_OK, VERSIONS_NO_REQUIREMENTS, VERSIONS_BAD_OFFSETS (whatever the list is) or VERSIONS_NO_MEMORY.
+ */
+int versions_match_all(const char *list, size_t list_len, const char *texts, size_t texts_len, const int64_t *offsets,
+                       size_t offsets_len, uint8_t *matches, size_t matches_len);
+
+#ifdef __cplusplus
+}
+#endif
+
+/* What a status says, in English; never null. */
+static inline const char *versions_status_text(int status) {
+  switch (status) {
+    case VERSIONS_OK: return "no fault";
+    case VERSIONS_NO_VERSION: return "the text is no version";
+    case VERSIONS_NO_VERSION_A: return "the first text is no version";
+    case VERSIONS_NO_VERSION_B: return "the second text is no version";
+    case VERSIONS_NO_VERSION_AB: return "neither text is a version";
+    case VERSIONS_NO_REQUIREMENTS: return "the list is no list of requirements";
+    case VERSIONS_NO_NUMBER: return "the version has no number at that place";
+    case VERSIONS_NO_ROOM: return "there is too little room for the keys";
+    case VERSIONS_BAD_OFFSETS: return "an offset is bad, or the lengths of two arrays don't fit";
+    case VERSIONS_NO_MEMORY: return "there is no memory";
+    default: return "not a status of this library";
+  }
+}
+
+/* Guards: the library is passed no null pointer, so that an empty text or an empty array may be one here. */
+static inline const char *versions_guard_text(const char *text) { return text != NULL ? text : ""; }
+
+static inline uint8_t *versions_guard_bytes(uint8_t *bytes) {
+  static uint8_t none;
+  return bytes != NULL ? bytes : &none;
+}
+
+#define versions_kind(text, text_len) versions_kind(versions_guard_text(text), (text_len))
+#define versions_compare(a, a_len, b, b_len, order) \
+  versions_compare(versions_guard_text(a), (a_len), versions_guard_text(b), (b_len), (order))
+#define versions_compare_total(a, a_len, b, b_len, order) \
+  versions_compare_total(versions_guard_text(a), (a_len), versions_guard_text(b), (b_len), (order))
+#define versions_sort_key(text, text_len, key, room, key_len) \
+  versions_sort_key(versions_guard_text(text), (text_len), versions_guard_bytes(key), (room), (key_len))
+#define versions_matches(list, list_len, text, text_len, matches) \
+  versions_matches(versions_guard_text(list), (list_len), versions_guard_text(text), (text_len), (matches))
+#define versions_nth(text, text_len, n, number) versions_nth(versions_guard_text(text), (text_len), (n), (number))
+#define versions_kinds(texts, texts_len, offsets, offsets_len, kinds, kinds_len) \
+  versions_kinds(versions_guard_text(texts), (texts_len), (offsets), (offsets_len), versions_guard_bytes(kinds), \
+                 (kinds_len))
+#define versions_sort_keys(texts, texts_len, offsets, offsets_len, keys, room, key_offsets, key_offsets_len) \
+  versions_sort_keys(versions_guard_text(texts), (texts_len), (offsets), (offsets_len), versions_guard_bytes(keys), \
+                     (room), (key_offsets), (key_offsets_len))
+#define versions_match_all(list, list_len, texts, texts_len, offsets, offsets_len, matches, matches_len) \
+  versions_match_all(versions_guard_text(list), (list_len), versions_guard_text(texts), (texts_len), (offsets), \
+                     (offsets_len), versions_guard_bytes(matches), (matches_len))
+
+#endif

@@ -1,0 +1,10 @@
+use Rattle.std.proofs.Common.{◌≡◌, ◌≤◌, ℕ, length, slice_index}
+use Rattle.versions_c.specs.Keys.{keys_before, put_at, saturated, saturated_offset}
+use Rattle.versions_c.proofs.keys.put_all.Given as goal
+
+abbrev pub invariant-loop-place : goal.invariant-loop-place
+invariant-loop-place l = record {
+  ended : l.end ≡ saturated (length (keys_before l.texts l.offsets l.place));
+  written : l.keys ≡ put_at l.fn.keys 0 (keys_before l.texts l.offsets l.place);
+  told : (i : ℕ) → i ≤ l.place → slice_index l.key_offsets i ≡ saturated_offset (length (keys_before l.texts l.offsets i));
+}

@@ -1,0 +1,8 @@
+use Rattle.std.proofs.Common.{◌≡◌, ◌<◌, ℕ, slice_index}
+use Rattle.versions.specs.Versioning.{versioning_of}
+use Rattle.versions_c.specs.Kinds.{kind_of}
+use Rattle.versions_c.specs.Offsets.{text_at}
+use Rattle.versions_c.proofs.kinds.versions_kinds.Given as goal
+
+abbrev pub invariant-loop-place : goal.invariant-loop-place
+invariant-loop-place l = (i : ℕ) → i < l.place → slice_index l.kinds i ≡ kind_of (versioning_of (text_at l.texts l.offsets i))

@@ -1,0 +1,10 @@
+-- The kinds by their numbers.
+use Rattle.std.specs.Prelude.{ℕ, Option, Some, None}
+use Rattle.versions.specs.Versioning.{PlainVersioning, Ideal, General, Complex}
+
+-- the number of a version's kind, and 0 for no version
+abbrev pub kind_of : Option PlainVersioning → ℕ
+kind_of None = 0
+kind_of (Some (Ideal v)) = 1
+kind_of (Some (General v)) = 2
+kind_of (Some (Complex m)) = 3

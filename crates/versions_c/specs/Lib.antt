@@ -1,0 +1,6 @@
+pub mod Keys
+pub mod Kinds
+pub mod Matching
+pub mod Numbers
+pub mod Offsets
+pub mod Order

@@ -1,0 +1,23 @@
+-- How two texts compare.
+use Rattle.std.specs.Prelude.{Bool, true, false, ℤ, pos, negsuc, Option, Some, None}
+use Rattle.std.specs.declared.cmp.Ordering.{Ordering}
+use Rattle.std.specs.declared.cmp.Ordering.TheVariants.{Less, Equal, Greater}
+use Rattle.versions_c.specs.declared.status.TheConstants.{OK, NO_VERSION_A, NO_VERSION_B, NO_VERSION_AB}
+
+-- an order as a number
+abbrev pub sign : Ordering → ℤ
+sign Less = negsuc 0
+sign Equal = pos 0
+sign Greater = pos 1
+
+-- how what two texts spell compares, where both spell something
+abbrev pub both : {X Y : Type 0} → (X → X → Y) → Option X → Option X → Option Y
+both compare (Some a) (Some b) = Some (compare a b)
+both compare _ _ = None
+
+-- what is said of two texts by whether each spells a version
+abbrev pub pair_status : Bool → Bool → ℤ
+pair_status true true = OK
+pair_status false true = NO_VERSION_A
+pair_status true false = NO_VERSION_B
+pair_status false false = NO_VERSION_AB

@@ -1,0 +1,158 @@
+//! The sort keys of versions, in a room of the caller's.
+
+ghost use Rattle.std.specs.Prelude.{◌≡◌, ◌≢◌, ◌↔◌, ◌+◌, ◌^◌, ◌<◌, ◌≤◌, ◌++◌, drop, length, slice_index, IfSome, IsTrue, List, Some, ℕ};
+ghost use Rattle.std.specs.Option.{option_map};
+ghost use Rattle.versions.specs.Key.{key_of};
+ghost use Rattle.versions.specs.KeyBytes.{key_bytes};
+ghost use Rattle.versions.specs.Versioning.{versioning_of, PlainVersioning};
+ghost use Rattle.versions_c.specs.Keys.{all_keys, key_status, keys_before, length_past, put_at, room_for, room_status, saturated, saturated_offset, spelled_key, AreKeyOffsets};
+ghost use Rattle.versions_c.specs.Offsets.{AreOffsets};
+
+use crate::offsets::{are_offsets, text_at};
+use crate::spelled::key_of;
+use crate::status::{BAD_OFFSETS, NO_ROOM, NO_VERSION, OK};
+use versions::key::KeyBytes;
+
+// The largest offset that C has.
+const LARGEST: u64 = 0x7FFF_FFFF_FFFF_FFFF;
+
+/// A room that is enough for the key of each text of a length.
+#[unsafe(no_mangle)]
+pub extern "C" fn versions_sort_key_bound(text_len: usize) -> usize
+    ensures room { result ≡ saturated (room_for text_len) }
+
+    // No text of that length has a longer key.
+    ensures enough { (text : List ℕ) (v : PlainVersioning) → length text ≡ text_len → versioning_of text ≡ Some v → length (key_bytes (key_of v)) ≤ room_for text_len }
+{
+    text_len.saturating_mul(3).saturating_add(5)
+}
+
+/// The sort key of a version.
+#[unsafe(no_mangle)]
+pub extern "C" fn versions_sort_key(text: &[u8], key: &mut [u8], key_len: &mut usize) -> i32
+    ensures status { result ≡ key_status (spelled_key text.now) (length key.old) }
+    ensures key { result ≡ OK → IfSome (spelled_key text.now) (λ bytes. key.new ≡ bytes ++ drop (length bytes) key.old) }
+    ensures kept { result ≢ OK → key.new ≡ key.old }
+
+    // Its length is told where there is too little room, too.
+    ensures length { IfSome (spelled_key text.now) (λ bytes. key_len.new ≡ saturated (length bytes)) }
+    ensures no_length { result ≡ NO_VERSION → key_len.new ≡ key_len.old }
+{
+    if let Some(length) = length_past(text, key.len()) {
+        *key_len = length;
+        return NO_ROOM;
+    }
+    let Some(bytes) = key_of(text) else {
+        return NO_VERSION;
+    };
+    *key_len = put(key, 0, bytes);
+    OK
+}
+
+/// The sort key of each version.
+#[unsafe(no_mangle)]
+pub extern "C" fn versions_sort_keys(
+    texts: &[u8],
+    offsets: &[u64],
+    keys: &mut [u8],
+    key_offsets: &mut [u64],
+) -> i32
+    ensures status { AreKeyOffsets offsets.now (length texts.now) (length key_offsets.old)
+        → result ≡ room_status (all_keys texts.now offsets.now) (length keys.old) }
+    ensures keys { result ≡ OK → keys.new ≡ all_keys texts.now offsets.now ++ drop (length (all_keys texts.now offsets.now)) keys.old }
+
+    // Where they begin and end is told where there is too little room, too.
+    ensures offsets { AreKeyOffsets offsets.now (length texts.now) (length key_offsets.old)
+        → (i : ℕ) → i < length offsets.now → slice_index key_offsets.new i ≡ saturated_offset (length (keys_before texts.now offsets.now i)) }
+
+    // Else nothing is written.
+    ensures bad { ¬ (AreKeyOffsets offsets.now (length texts.now) (length key_offsets.old)) → result ≡ BAD_OFFSETS }
+    ensures kept { ¬ (AreKeyOffsets offsets.now (length texts.now) (length key_offsets.old)) → keys.new ≡ keys.old }
+    ensures kept_offsets { ¬ (AreKeyOffsets offsets.now (length texts.now) (length key_offsets.old)) → key_offsets.new ≡ key_offsets.old }
+{
+    let Some(count) = offsets.len().checked_sub(1) else {
+        return BAD_OFFSETS;
+    };
+    if key_offsets.len() != offsets.len() || !are_offsets(offsets, texts.len(), count) {
+        return BAD_OFFSETS;
+    }
+    if put_all(texts, offsets, count, keys, key_offsets) <= keys.len() {
+        OK
+    } else {
+        NO_ROOM
+    }
+}
+
+// Writes the keys of all texts, as far as there is room, and where they begin and end, and gives the place behind them.
+fn put_all(
+    texts: &[u8],
+    offsets: &[u64],
+    count: usize,
+    keys: &mut [u8],
+    key_offsets: &mut [u64],
+) -> usize
+    requires offsets { AreOffsets offsets.now (length texts.now) count }
+    requires room { length key_offsets.old ≡ count + 1 }
+    ensures end { result ≡ saturated (length (keys_before texts.now offsets.now count)) }
+    ensures keys { keys.new ≡ put_at keys.old 0 (keys_before texts.now offsets.now count) }
+    ensures key_offsets { (i : ℕ) → i ≤ count → slice_index key_offsets.new i ≡ saturated_offset (length (keys_before texts.now offsets.now i)) }
+{
+    let mut end: usize = 0;
+    key_offsets[0] = 0;
+    for place in 0..count {
+        if let Some(key) = key_of(text_at(texts, offsets, count, place)) {
+            end = put(keys, end, key);
+        }
+        key_offsets[place + 1] = (end as u64).min(LARGEST);
+    }
+    end
+}
+
+// The length of the key of a version, where that is more than a room.
+fn length_past(text: &[u8], room: usize) -> Option<usize>
+    requires { room < 2 ^ 63 }
+    ensures { result ≡ length_past (spelled_key text.now) room }
+{
+    if is_enough(room, text.len()) {
+        return None;
+    }
+    let length = length_of(key_of(text)?);
+    if length <= room {
+        return None;
+    }
+    Some(length)
+}
+
+// Whether a room is enough for the key of each text of a length.
+fn is_enough(room: usize, text_len: usize) -> bool
+    ensures { IsTrue result ↔ (room_for text_len ≤ room) }
+{
+    5 <= room && text_len <= (room - 5) / 3
+}
+
+// How many bytes a key has.
+fn length_of(key: KeyBytes<'_>) -> usize
+    ensures { result ≡ saturated (length key.entry) }
+{
+    let mut length: usize = 0;
+    for _byte in key {
+        length = length.saturating_add(1);
+    }
+    length
+}
+
+// Writes a key from a place on, as far as there is room, and gives the place behind it.
+#[tactic(auto, using(crate::proofs::Putting::put_nothing, crate::proofs::Putting::put_past, crate::proofs::Putting::put_first))]
+fn put(keys: &mut [u8], start: usize, key: KeyBytes<'_>) -> usize
+    ensures bytes { keys.new ≡ put_at keys.old start key.entry }
+    ensures end { result ≡ saturated (start + length key.entry) }
+{
+    let mut end = start;
+    for byte in key {
+        if end < keys.len() {
+            keys[end] = byte;
+        }
+        end = end.saturating_add(1);
+    }
+    end
+}

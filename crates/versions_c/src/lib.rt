@@ -1,0 +1,12 @@
+//! `versions` for C: c/versions.h declares the exports and says what each is for, and docs/C.md has the rules. Each takes
+//! texts as bytes, keeps nothing, and answers a status.
+#![tactic(auto)]
+
+mod keys;
+mod kinds;
+mod matching;
+mod numbers;
+mod offsets;
+mod order;
+mod spelled;
+mod status;

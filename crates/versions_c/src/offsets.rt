@@ -1,0 +1,27 @@
+//! Many texts in one buffer, each from one offset up to the next.
+
+ghost use Rattle.std.specs.Prelude.{◌≡◌, ◌↔◌, ◌+◌, ◌<◌, length, IsTrue};
+ghost use Rattle.versions_c.specs.Offsets.{text_at, AreOffsets};
+
+/// Whether offsets are those of so many texts in a buffer of that length. An offset that C has below 0 is here above
+/// every length.
+pub fn are_offsets(offsets: &[u64], buffer: usize, count: usize) -> bool
+    ensures { IsTrue result ↔ AreOffsets offsets.now buffer count }
+{
+    let Some((last, others)) = offsets.split_last() else {
+        return false;
+    };
+    if others.len() != count || *last > buffer as u64 {
+        return false;
+    }
+    offsets.is_sorted()
+}
+
+/// The text of a place.
+pub fn text_at<'a>(texts: &'a [u8], offsets: &[u64], count: usize, place: usize) -> &'a [u8]
+    requires offsets { AreOffsets offsets.now (length texts.now) count }
+    requires place { place < count }
+    ensures { result.now ≡ text_at texts.now offsets.now place }
+{
+    &texts[offsets[place] as usize..offsets[place + 1] as usize]
+}

@@ -1,0 +1,502 @@
+// The program of tests/c. It links the library, and makes its calls on the lines of standard input:
+//   show      the kind of each line, its sort key in hexadecimal, and its first four numbers
+//   compare   how each line compares with the one behind it: by precedence, and with ties broken
+//   match R   for each line 1, 0 or 2, as versions_match_all has it
+//   threads   the same answers from eight threads at once
+//   edges     what needs no lines: null pointers, rooms, offsets, bytes that are no text, and every status
+//   long      texts of megabytes
+//   refused N the call N of those that want memory, once
+// A call for many texts and the single call have to agree wherever both are made. It ends with status 1 where something
+// fails, and says what. It is compiled as C and as C++.
+#ifndef _GNU_SOURCE
+#define _GNU_SOURCE
+#endif
+#include <versions.h>
+
+#include <pthread.h>
+#include <stdio.h>
+#include <stdlib.h>
+#include <string.h>
+#include <sys/mman.h>
+#include <unistd.h>
+
+static int failures;
+
+#define CHECK(holds) \
+  do { \
+    if (!(holds)) { \
+      failures++; \
+      fprintf(stderr, "FAILED: line %d: %s\n", __LINE__, #holds); \
+    } \
+  } while (0)
+
+// Memory that ends where a page begins that may be neither read nor written. So a byte too many ends the program, also
+// where the library takes it, into which the sanitizers don't see. In front of it stand its mapping and how long that is.
+static void *block(size_t size) {
+  size_t page = (size_t)sysconf(_SC_PAGESIZE), whole = (size / page + 3) * page;
+  char *base = (char *)mmap(NULL, whole, PROT_READ | PROT_WRITE, MAP_PRIVATE | MAP_ANONYMOUS, -1, 0);
+  if (base == (char *)MAP_FAILED || mprotect(base + whole - page, page, PROT_NONE) != 0) exit(2);
+  char *bytes = base + whole - page - size;
+  memcpy(bytes - sizeof base, &base, sizeof base);
+  memcpy(bytes - sizeof base - sizeof whole, &whole, sizeof whole);
+  return bytes;
+}
+
+static void release(void *bytes) {
+  char *base;
+  size_t whole;
+  if (bytes == NULL) return;
+  memcpy(&base, (char *)bytes - sizeof base, sizeof base);
+  memcpy(&whole, (char *)bytes - sizeof base - sizeof whole, sizeof whole);
+  if (munmap(base, whole) != 0) exit(2);
+}
+
+// The lines of standard input in one buffer, with their offsets; no line feed is in it.
+struct lines {
+  char *texts;
+  int64_t *offsets;
+  size_t count, length;
+};
+
+static struct lines read_lines(void) {
+  size_t room = 1 << 20, used = 0, got;
+  char *all = (char *)block(room);
+  struct lines lines;
+  while ((got = fread(all + used, 1, room - used, stdin)) > 0) {
+    used += got;
+    if (used == room) {
+      char *more = (char *)block(2 * room);
+      memcpy(more, all, used);
+      release(all);
+      all = more;
+      room *= 2;
+    }
+  }
+  lines.count = 0;
+  for (size_t i = 0; i < used; i++) lines.count += all[i] == '\n';
+  lines.length = used - lines.count;
+  lines.texts = (char *)block(lines.length);
+  lines.offsets = (int64_t *)block((lines.count + 1) * sizeof(int64_t));
+  lines.offsets[0] = 0;
+  size_t line = 0, at = 0;
+  for (size_t i = 0; i < used; i++) {
+    if (all[i] == '\n') {
+      lines.offsets[++line] = (int64_t)at;
+    } else {
+      lines.texts[at++] = all[i];
+    }
+  }
+  release(all);
+  return lines;
+}
+
+static void free_lines(struct lines *lines) {
+  release(lines->texts);
+  release(lines->offsets);
+}
+
+static const char *text_of(const struct lines *lines, size_t line) { return lines->texts + lines->offsets[line]; }
+
+static size_t length_of(const struct lines *lines, size_t line) {
+  return (size_t)(lines->offsets[line + 1] - lines->offsets[line]);
+}
+
+// The key of a text in a block of exactly its length, or NULL. A room that is too small by one byte, or that has none,
+// has to be left as it was, and any other to keep what is behind the key.
+static uint8_t *key_of(const char *text, size_t length, size_t *key_length) {
+  size_t bound = versions_sort_key_bound(length), told = 77;
+  int status = versions_sort_key(text, length, NULL, 0, &told);
+  if (status == VERSIONS_NO_VERSION) {
+    CHECK(told == 77);
+    CHECK(versions_kind(text, length) == VERSIONS_NONE);
+    return NULL;
+  }
+  CHECK(status == VERSIONS_NO_ROOM);
+  CHECK(0 < told && told <= bound);
+  *key_length = told;
+
+  uint8_t *key = (uint8_t *)block(told);
+  memset(key, 170, told);
+  CHECK(versions_sort_key(text, length, key, told - 1, key_length) == VERSIONS_NO_ROOM);
+  CHECK(*key_length == told);
+  for (size_t i = 0; i < told; i++) CHECK(key[i] == 170);
+  CHECK(versions_sort_key(text, length, key, told, key_length) == VERSIONS_OK);
+  CHECK(*key_length == told);
+
+  uint8_t *other = (uint8_t *)block(bound + 3);
+  memset(other, 170, bound + 3);
+  CHECK(versions_sort_key(text, length, other, bound + 3, key_length) == VERSIONS_OK);
+  CHECK(*key_length == told && memcmp(key, other, told) == 0);
+  for (size_t i = told; i < bound + 3; i++) CHECK(other[i] == 170);
+  release(other);
+  return key;
+}
+
+static void show(const struct lines *lines) {
+  static const char *const names[] = {"none", "ideal", "general", "complex"};
+  size_t count = lines->count, behind = 0;
+  uint8_t *kinds = (uint8_t *)block(count);
+  int64_t *key_offsets = (int64_t *)block((count + 1) * sizeof(int64_t));
+  CHECK(versions_kinds(lines->texts, lines->length, lines->offsets, count + 1, kinds, count) == VERSIONS_OK);
+  CHECK(versions_sort_keys(lines->texts, lines->length, lines->offsets, count + 1, NULL, 0, key_offsets, count + 1) ==
+        (count == 0 || key_offsets[count] == 0 ? VERSIONS_OK : VERSIONS_NO_ROOM));
+  size_t all = (size_t)key_offsets[count];
+  uint8_t *keys = (uint8_t *)block(all);
+  memset(key_offsets, 0, (count + 1) * sizeof(int64_t));
+  if (all > 0) {
+    CHECK(versions_sort_keys(lines->texts, lines->length, lines->offsets, count + 1, keys, all - 1, key_offsets,
+                             count + 1) == VERSIONS_NO_ROOM);
+    CHECK((size_t)key_offsets[count] == all);
+  }
+  CHECK(versions_sort_keys(lines->texts, lines->length, lines->offsets, count + 1, keys, all, key_offsets,
+                           count + 1) == VERSIONS_OK);
+
+  for (size_t line = 0; line < count; line++) {
+    // A copy, so that nothing stands behind the text.
+    size_t length = length_of(lines, line), key_length = 0;
+    char *text = (char *)block(length);
+    memcpy(text, text_of(lines, line), length);
+    int kind = versions_kind(text, length);
+    CHECK(kind == kinds[line]);
+    CHECK((size_t)key_offsets[line] == behind);
+    printf("%s", names[kind]);
+
+    uint8_t *key = key_of(text, length, &key_length);
+    CHECK((key != NULL) == (kind != VERSIONS_NONE));
+    if (key != NULL) {
+      CHECK(key_length == (size_t)(key_offsets[line + 1] - key_offsets[line]));
+      CHECK(memcmp(key, keys + behind, key_length) == 0);
+      printf(" ");
+      for (size_t i = 0; i < key_length; i++) printf("%02x", key[i]);
+    }
+    release(key);
+    behind = (size_t)key_offsets[line + 1];
+
+    for (size_t place = 0; place < 4; place++) {
+      uint32_t number = 77;
+      int status = versions_nth(text, length, place, &number);
+      if (status == VERSIONS_OK) {
+        printf(" %u", (unsigned)number);
+      } else {
+        CHECK(status == (kind == VERSIONS_NONE ? VERSIONS_NO_VERSION : VERSIONS_NO_NUMBER));
+        CHECK(number == 77);
+        printf(" -");
+      }
+    }
+    printf("\n");
+    release(text);
+  }
+  CHECK(behind == all);
+  release(kinds);
+  release(keys);
+  release(key_offsets);
+}
+
+// The status for two texts, by whether each is a version.
+static int status_of(int a, int b) {
+  if (a && b) return VERSIONS_OK;
+  if (b) return VERSIONS_NO_VERSION_A;
+  return a ? VERSIONS_NO_VERSION_B : VERSIONS_NO_VERSION_AB;
+}
+
+static void compare(const struct lines *lines) {
+  for (size_t line = 0; line + 1 < lines->count; line++) {
+    const char *a = text_of(lines, line), *b = text_of(lines, line + 1);
+    size_t a_length = length_of(lines, line), b_length = length_of(lines, line + 1);
+    int wanted = status_of(versions_kind(a, a_length) != 0, versions_kind(b, b_length) != 0);
+    int32_t order = 77, total = 77, turned = 77;
+    CHECK(versions_compare(a, a_length, b, b_length, &order) == wanted);
+    CHECK(versions_compare_total(a, a_length, b, b_length, &total) == wanted);
+    if (wanted != VERSIONS_OK) {
+      CHECK(order == 77 && total == 77);
+      printf("%d\n", wanted);
+      continue;
+    }
+    CHECK(versions_compare(b, b_length, a, a_length, &turned) == VERSIONS_OK && turned == -order);
+    CHECK(versions_compare_total(b, b_length, a, a_length, &turned) == VERSIONS_OK && turned == -total);
+    CHECK(order == 0 || order == total);
+
+    // Keys compare as the versions do.
+    size_t a_key_length = 0, b_key_length = 0;
+    uint8_t *a_key = key_of(a, a_length, &a_key_length), *b_key = key_of(b, b_length, &b_key_length);
+    int by_keys = memcmp(a_key, b_key, a_key_length < b_key_length ? a_key_length : b_key_length);
+    if (by_keys == 0) by_keys = (a_key_length > b_key_length) - (a_key_length < b_key_length);
+    CHECK((by_keys > 0) - (by_keys < 0) == order);
+    release(a_key);
+    release(b_key);
+    printf("%d %d\n", (int)order, (int)total);
+  }
+}
+
+static void match(const struct lines *lines, const char *list) {
+  size_t count = lines->count, length = strlen(list);
+  uint8_t *matches = (uint8_t *)block(count);
+  memset(matches, 77, count);
+  int status = versions_match_all(list, length, lines->texts, lines->length, lines->offsets, count + 1, matches, count);
+  if (status != VERSIONS_OK) {
+    CHECK(status == VERSIONS_NO_REQUIREMENTS);
+    for (size_t line = 0; line < count; line++) CHECK(matches[line] == 77);
+    printf("no list\n");
+  }
+  for (size_t line = 0; line < count; line++) {
+    bool one = false;
+    int single = versions_matches(list, length, text_of(lines, line), length_of(lines, line), &one);
+    if (status != VERSIONS_OK) {
+      CHECK(single == VERSIONS_NO_REQUIREMENTS);
+      continue;
+    }
+    CHECK(single == (matches[line] == 2 ? VERSIONS_NO_VERSION : VERSIONS_OK));
+    CHECK(matches[line] == 2 || matches[line] == one);
+    printf("%d\n", matches[line]);
+  }
+  release(matches);
+}
+
+// What one thread answers of all lines, as one number.
+static void *summed(void *argument) {
+  const struct lines *lines = (const struct lines *)argument;
+  uint64_t sum = 0;
+  for (size_t line = 0; line + 1 < lines->count; line++) {
+    const char *a = text_of(lines, line), *b = text_of(lines, line + 1);
+    size_t a_length = length_of(lines, line), b_length = length_of(lines, line + 1), key_length = 0;
+    int32_t order = 5, total = 5;
+    bool matches = false;
+    sum = sum * 31 + (uint64_t)versions_kind(a, a_length);
+    sum = sum * 31 + (uint64_t)versions_compare(a, a_length, b, b_length, &order);
+    sum = sum * 31 + (uint64_t)versions_compare_total(a, a_length, b, b_length, &total);
+    sum = sum * 31 + (uint64_t)versions_matches("^1.2,<9", 7, a, a_length, &matches);
+    sum = sum * 31 + (uint64_t)versions_sort_key(a, a_length, NULL, 0, &key_length);
+    sum = sum * 31 + (uint64_t)(order + 5) + (uint64_t)(total + 50) + (uint64_t)matches + key_length;
+  }
+  uint64_t *result = (uint64_t *)block(sizeof(uint64_t));
+  *result = sum;
+  return result;
+}
+
+static void threads(struct lines *lines) {
+  uint64_t *alone = (uint64_t *)summed(lines);
+  pthread_t running[8];
+  for (int i = 0; i < 8; i++) CHECK(pthread_create(&running[i], NULL, summed, lines) == 0);
+  for (int i = 0; i < 8; i++) {
+    void *sum = NULL;
+    CHECK(pthread_join(running[i], &sum) == 0);
+    CHECK(sum != NULL && *(uint64_t *)sum == *alone);
+    release(sum);
+  }
+  release(alone);
+}
+
+// Offsets of one text after another, which are all refused, and nothing is written.
+static void refused_offsets(const int64_t *offsets, size_t offsets_length, size_t count) {
+  uint8_t answers[4], keys[64];
+  int64_t key_offsets[5] = {77, 77, 77, 77, 77};
+  memset(answers, 77, sizeof answers);
+  memset(keys, 77, sizeof keys);
+  CHECK(versions_kinds("1.2.31.2", 8, offsets, offsets_length, answers, count) == VERSIONS_BAD_OFFSETS);
+  CHECK(versions_match_all("*", 1, "1.2.31.2", 8, offsets, offsets_length, answers, count) == VERSIONS_BAD_OFFSETS);
+  CHECK(versions_match_all("no list", 7, "1.2.31.2", 8, offsets, offsets_length, answers, count) == VERSIONS_BAD_OFFSETS);
+  CHECK(versions_sort_keys("1.2.31.2", 8, offsets, offsets_length, keys, sizeof keys, key_offsets, count + 1) ==
+        VERSIONS_BAD_OFFSETS);
+  for (size_t i = 0; i < sizeof answers; i++) CHECK(answers[i] == 77);
+  for (size_t i = 0; i < sizeof keys; i++) CHECK(keys[i] == 77);
+  for (size_t i = 0; i < 5; i++) CHECK(key_offsets[i] == 77);
+}
+
+static void edges(void) {
+  // Null pointers, and bytes that are no text.
+  int32_t order = 77;
+  bool matches = true;
+  uint32_t number = 77;
+  size_t length = 77;
+  uint8_t answers[4] = {77, 77, 77, 77};
+  int64_t key_offsets[5] = {77, 77, 77, 77, 77};
+  CHECK(versions_kind(NULL, 0) == VERSIONS_NONE);
+  CHECK(versions_kind("", 0) == VERSIONS_NONE);
+  CHECK(versions_kind("1.2.3", 5) == VERSIONS_IDEAL);
+  CHECK(versions_kind("1.2.3", 3) == VERSIONS_GENERAL);
+  CHECK(versions_kind("1.0_1", 5) == VERSIONS_COMPLEX);
+  CHECK(versions_kind("1.2\0003", 5) == VERSIONS_NONE);
+  CHECK(versions_kind("1.2.\xff", 5) == VERSIONS_NONE);
+  CHECK(versions_kind("\xc3\xa9", 2) == VERSIONS_NONE);
+  CHECK(versions_compare(NULL, 0, "1", 1, &order) == VERSIONS_NO_VERSION_A);
+  CHECK(versions_compare("1", 1, NULL, 0, &order) == VERSIONS_NO_VERSION_B);
+  CHECK(versions_compare(NULL, 0, NULL, 0, &order) == VERSIONS_NO_VERSION_AB);
+  CHECK(versions_compare_total(NULL, 0, "1", 1, &order) == VERSIONS_NO_VERSION_A);
+  CHECK(versions_compare_total("1", 1, NULL, 0, &order) == VERSIONS_NO_VERSION_B);
+  CHECK(versions_compare_total("\xff", 1, NULL, 0, &order) == VERSIONS_NO_VERSION_AB);
+  CHECK(order == 77);
+  CHECK(versions_sort_key(NULL, 0, NULL, 0, &length) == VERSIONS_NO_VERSION);
+  CHECK(versions_sort_key("\xff", 1, answers, 4, &length) == VERSIONS_NO_VERSION);
+  CHECK(length == 77 && answers[0] == 77);
+  CHECK(versions_matches(NULL, 0, "1", 1, &matches) == VERSIONS_NO_REQUIREMENTS);
+  CHECK(versions_matches("\xff", 1, "1", 1, &matches) == VERSIONS_NO_REQUIREMENTS);
+  CHECK(versions_matches("*", 1, NULL, 0, &matches) == VERSIONS_NO_VERSION);
+  CHECK(versions_matches("*", 1, "\xff", 1, &matches) == VERSIONS_NO_VERSION);
+  CHECK(matches);
+  CHECK(versions_nth(NULL, 0, 0, &number) == VERSIONS_NO_VERSION);
+  CHECK(versions_nth("1.2.3", 5, SIZE_MAX, &number) == VERSIONS_NO_NUMBER);
+  CHECK(number == 77);
+
+  // A tie of precedence, broken by kind or field by field; and metadata of strict versions, which breaks none.
+  CHECK(versions_compare("1.0", 3, "0:1.0", 5, &order) == VERSIONS_OK && order == 0);
+  CHECK(versions_compare_total("1.0", 3, "0:1.0", 5, &order) == VERSIONS_OK && order == -1);
+  CHECK(versions_compare_total("1.0.0+a", 7, "1.0.0+b", 7, &order) == VERSIONS_OK && order == 0);
+
+  // Numbers, by the rows of docs/GRAMMAR.md.
+  CHECK(versions_nth("1:2.a.4.5.6.7-r1", 16, 1, &number) == VERSIONS_NO_NUMBER && number == 77);
+  CHECK(versions_nth("1:2.a.4.5.6.7-r1", 16, 0, &number) == VERSIONS_OK && number == 2);
+  CHECK(versions_nth("1:2.a.4.5.6.7-r1", 16, 2, &number) == VERSIONS_OK && number == 4);
+  CHECK(versions_nth("1:2:3.4", 7, 0, &number) == VERSIONS_OK && number == 3);
+  CHECK(versions_nth("1:2:3.4", 7, 1, &number) == VERSIONS_OK && number == 4);
+  CHECK(versions_nth("1:2:3.4", 7, 2, &number) == VERSIONS_NO_NUMBER && number == 4);
+
+  // Rooms. No text of three bytes has a longer key than 1_1.
+  CHECK(versions_sort_key_bound(0) == 5);
+  CHECK(versions_sort_key_bound(3) == 14);
+  CHECK(versions_sort_key("1_1", 3, NULL, 0, &length) == VERSIONS_NO_ROOM && length == 14);
+  CHECK(versions_sort_key_bound((SIZE_MAX - 5) / 3) == (SIZE_MAX - 5) / 3 * 3 + 5);
+  CHECK(versions_sort_key_bound(SIZE_MAX / 3 + 1) == SIZE_MAX);
+  CHECK(versions_sort_key_bound(SIZE_MAX) == SIZE_MAX);
+
+  // No texts, and a beginning that isn't the buffer's.
+  const int64_t one_offset[] = {0}, apart[] = {3, 8, 8, 11}, last[] = {8};
+  CHECK(versions_kinds(NULL, 0, one_offset, 1, NULL, 0) == VERSIONS_OK);
+  CHECK(versions_match_all("*", 1, NULL, 0, one_offset, 1, NULL, 0) == VERSIONS_OK);
+  CHECK(versions_sort_keys(NULL, 0, one_offset, 1, NULL, 0, key_offsets, 1) == VERSIONS_OK && key_offsets[0] == 0);
+  CHECK(versions_kinds("1.2.31.2", 8, last, 1, NULL, 0) == VERSIONS_OK);
+  CHECK(versions_kinds("???1.2.31.2???", 14, apart, 4, answers, 3) == VERSIONS_OK);
+  CHECK(answers[0] == VERSIONS_IDEAL && answers[1] == VERSIONS_NONE && answers[2] == VERSIONS_GENERAL && answers[3] == 77);
+  CHECK(versions_match_all("1.2", 3, "???1.2.31.2???", 14, apart, 4, answers, 3) == VERSIONS_NO_REQUIREMENTS);
+  CHECK(versions_match_all("<1.2.3", 6, "???1.2.31.2???", 14, apart, 4, answers, 3) == VERSIONS_OK);
+  CHECK(answers[0] == 0 && answers[1] == 2 && answers[2] == 1 && answers[3] == 77);
+
+  // Offsets that are bad in each way, and arrays whose lengths don't fit.
+  const int64_t negative[] = {-1, 5, 8}, lowest[] = {INT64_MIN, 5, 8}, descending[] = {5, 0, 8}, past[] = {0, 5, 9},
+                largest[] = {0, 5, INT64_MAX}, negative_last[] = {0, 5, -1}, good[] = {0, 5, 8}, nothing[] = {-1};
+  refused_offsets(negative, 3, 2);
+  refused_offsets(lowest, 3, 2);
+  refused_offsets(descending, 3, 2);
+  refused_offsets(past, 3, 2);
+  refused_offsets(largest, 3, 2);
+  refused_offsets(negative_last, 3, 2);
+  refused_offsets(nothing, 1, 0);
+  refused_offsets(good, 3, 3);
+  refused_offsets(good, 3, 1);
+  refused_offsets(good, 3, 0);
+  refused_offsets(good, 0, 0);
+
+  // Every status has a text of its own.
+  for (int a = VERSIONS_OK; a <= VERSIONS_NO_MEMORY + 1; a++) {
+    CHECK(strlen(versions_status_text(a)) > 5);
+    for (int b = VERSIONS_OK; b < a; b++) CHECK(strcmp(versions_status_text(a), versions_status_text(b)) != 0);
+  }
+}
+
+// Every call on a text of many bytes, made of a piece again and again with one byte behind it.
+static void long_text(const char *piece, size_t times, int kind, size_t key_length) {
+  size_t piece_length = strlen(piece), length = piece_length * times + 1, told = 0;
+  char *text = (char *)block(length);
+  for (size_t i = 0; i < times; i++) memcpy(text + i * piece_length, piece, piece_length);
+  text[length - 1] = '1';
+  CHECK(versions_kind(text, length) == kind);
+  int32_t order = 77, total = 77;
+  CHECK(versions_compare(text, length, text, length, &order) == VERSIONS_OK && order == 0);
+  CHECK(versions_compare_total(text, length, text, length, &total) == VERSIONS_OK && total == 0);
+  CHECK(versions_sort_key(text, length, NULL, 0, &told) == VERSIONS_NO_ROOM && told == key_length);
+  uint8_t *key = (uint8_t *)block(told);
+  CHECK(versions_sort_key(text, length, key, told, &told) == VERSIONS_OK && told == key_length);
+  release(key);
+  bool matches = false;
+  CHECK(versions_matches("*", 1, text, length, &matches) == VERSIONS_OK && matches);
+  CHECK(versions_matches(text, length, "1", 1, &matches) == VERSIONS_NO_REQUIREMENTS);
+  uint32_t number = 77;
+  int status = versions_nth(text, length, 0, &number);
+  CHECK(status == VERSIONS_OK ? number == 1 : status == VERSIONS_NO_NUMBER);
+  release(text);
+}
+
+// A million sections, a million parts, and ten megabytes of letters. Of sections of one digit each the key is as long as
+// the bound.
+static void long_texts(void) {
+  size_t million = 1000000;
+  long_text("1_", million, VERSIONS_COMPLEX, versions_sort_key_bound(2 * million + 1));
+  long_text("1.", million, VERSIONS_GENERAL, 1 + 4 * (million + 1) + 1 + 1);
+  long_text("a", 10 * million, VERSIONS_GENERAL, 1 + 1 + 10 * million + 1 + 1 + 3 + 1 + 1);
+}
+
+// Makes a call that wants memory, and returns its status; -1 where there is none of that number.
+static int refused(int call) {
+  static const char texts[] = "1.2.3-rc.10+x1.2a2.0_1-x";
+  static const int64_t offsets[] = {0, 13, 17, 24};
+  static uint8_t answers[3];
+  int32_t order = 77;
+  uint32_t number = 77;
+  bool matches = true;
+  int status;
+  switch (call) {
+    case 1:
+      status = versions_compare_total("1.0.0-a+x", 9, "1.0.0-a+y", 9, &order);
+      CHECK(order == (status == VERSIONS_OK ? 0 : 77));
+      return status;
+    case 2:
+      status = versions_compare_total("1.0_1-a", 7, "1.00_1-a", 8, &order);
+      CHECK(status == VERSIONS_OK ? order == 1 || order == -1 : order == 77);
+      return status;
+    case 3:
+      status = versions_nth("1.2.3-rc.1+x", 12, 2, &number);
+      CHECK(number == (status == VERSIONS_OK ? 3u : 77u));
+      return status;
+    case 4:
+      status = versions_nth("1.2_a", 5, 1, &number);
+      CHECK(number == (status == VERSIONS_OK ? 2u : 77u));
+      return status;
+    case 5:
+      status = versions_matches("^1.2.3-a,<9,>0.1a", 17, "1.2.3-rc.10+x", 13, &matches);
+      CHECK(matches);
+      return status;
+    case 6:
+      return versions_match_all("~1.2.3-a,=1.2.3-rc.10", 21, texts, 24, offsets, 4, answers, 3);
+    default:
+      return -1;
+  }
+}
+
+// What takes no memory, once each.
+static void without_memory(void) {
+  static const int64_t offsets[] = {0, 5, 8};
+  uint8_t bytes[64];
+  int64_t key_offsets[3];
+  int32_t order;
+  size_t length;
+  CHECK(versions_kind("1.0_1-x", 7) == VERSIONS_COMPLEX);
+  CHECK(versions_compare("1.0_1-x", 7, "1.0_1-y", 7, &order) == VERSIONS_OK && order == -1);
+  CHECK(versions_compare_total("1.0_1-x", 7, "1.0_1-y", 7, &order) == VERSIONS_OK && order == -1);
+  CHECK(versions_sort_key("1.0_1-x", 7, bytes, sizeof bytes, &length) == VERSIONS_OK);
+  CHECK(versions_sort_key("1.0_1-x", 7, bytes, 3, &length) == VERSIONS_NO_ROOM);
+  CHECK(versions_kinds("1.2.31.2", 8, offsets, 3, bytes, 2) == VERSIONS_OK);
+  CHECK(versions_sort_keys("1.2.31.2", 8, offsets, 3, bytes, sizeof bytes, key_offsets, 3) == VERSIONS_OK);
+}
+
+int main(int count, char **words) {
+  const char *word = count > 1 ? words[1] : "";
+  if (strcmp(word, "edges") == 0) {
+    edges();
+  } else if (strcmp(word, "long") == 0) {
+    long_texts();
+  } else if (strcmp(word, "refused") == 0) {
+    // Nothing else may take memory here.
+    int status = 0;
+    if (strcmp(words[2], "none") == 0) without_memory();
+    else status = refused(atoi(words[2]));
+    if (failures == 0) return status < 0 ? 100 : status;
+  } else {
+    struct lines lines = read_lines();
+    if (strcmp(word, "show") == 0) show(&lines);
+    else if (strcmp(word, "compare") == 0) compare(&lines);
+    else if (strcmp(word, "match") == 0) match(&lines, words[2]);
+    else if (strcmp(word, "threads") == 0) threads(&lines);
+    else CHECK(!"usage: show, compare, match R, threads, edges, long or refused N");
+    free_lines(&lines);
+  }
+  return failures == 0 ? 0 : 99;
+}
