@@ -161,13 +161,12 @@ impl<'a> BodyPiece<'a> {
     }
 
     /// The body with texts of its own. A number alone takes no memory; the error is that there is no memory for more.
-    pub fn build(self, alloc: Global) -> Result<(Chunks, Last), AllocError>
-        ensures ok { IfOk result (λ body. (plain_chunks body.0, plain_last body.1) ≡ self.entry) }
-        ensures err { OnErr result (BodyOwns self.entry) }
+    pub fn build(&self, alloc: Global) -> Result<(Chunks, Last), AllocError>
+        ensures ok { IfOk result (λ body. (plain_chunks body.0, plain_last body.1) ≡ self.now) }
+        ensures err { OnErr result (BodyOwns self.now) }
     {
-        let BodyPiece { list, last } = self;
-        let chunks = list.build::<Part>(alloc, list.count - 1)?;
-        let last = last.build(alloc)?;
+        let chunks = self.list.build::<Part>(alloc, self.list.count - 1)?;
+        let last = self.last.build(alloc)?;
         Ok((Chunks(chunks), last))
     }
 }

@@ -332,8 +332,8 @@ impl<'a> SectionPiece<'a> {
     }
 
     /// The section with chunks of its own. The error is that there is no memory for them.
-    pub fn build(self, alloc: Global) -> Result<Vec<MChunk>, AllocError>
-        ensures { IfOk result (λ chunks. map plain_mchunk chunks.items ≡ self.entry) }
+    pub fn build(&self, alloc: Global) -> Result<Vec<MChunk>, AllocError>
+        ensures { IfOk result (λ chunks. map plain_mchunk chunks.items ≡ self.now) }
     {
         let count = self.list.count;
         self.list.build::<MessyChunk>(alloc, count)

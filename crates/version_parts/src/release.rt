@@ -153,8 +153,8 @@ impl<'a> ReleasePiece<'a> {
     }
 
     /// The release with chunks of its own. The error is that there is no memory for them.
-    pub fn build(self, alloc: Global) -> Result<Release, AllocError>
-        ensures { IfOk result (λ release. plain_release release ≡ self.entry) }
+    pub fn build(&self, alloc: Global) -> Result<Release, AllocError>
+        ensures { IfOk result (λ release. plain_release release ≡ self.now) }
     {
         let count = self.list.count;
         Ok(Release(self.list.build::<ReleaseChunk>(alloc, count)?))

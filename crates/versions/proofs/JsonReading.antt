@@ -1,5 +1,5 @@
 -- What a call that reads a JSON value answers, as it follows from what its string gave.
-use Rattle.std.proofs.Common.{◌≡◌, ◌∙◌, List, ℕ, Option, Some, Result, refl, ap}
+use Rattle.std.proofs.Common.{◌≡◌, List, ℕ, Option, Some, Result, refl}
 use Rattle.serde_json.specs.Data.{Data, string}
 use Rattle.serde_json.specs.Find.{as_str}
 use Rattle.version_parts.specs.Reading.{IsPrinted}

@@ -20,7 +20,7 @@ pub mod RequirementsReading
 pub mod SemVerOrder
 pub mod SemVerReading
 pub mod SortKey
-pub mod Spelled
+pub mod SpelledTexts
 pub mod SpelledKey
 pub mod SpelledMatch
 pub mod Tail

@@ -1,8 +1,7 @@
 -- Messy versions: their front reads what is spelled, and nothing else where what follows is a dot, a sign or the end;
 -- and they print as they are spelled.
-use Rattle.std.proofs.Common.{◌≡◌, ◌∙◌, ℕ, ◌<◌, List, [], ◌∷◌, ◌++◌, length, Some, None, false, true, refl, sym, ap, subst, arith, append-nil, append_assoc, inl, inr}
+use Rattle.std.proofs.Common.{◌≡◌, ◌∙◌, ℕ, ◌<◌, List, [], ◌∷◌, ◌++◌, length, Some, None, Result, Ok, Err, IsSome, OnErr, refl, sym, ap, subst, arith, append-nil, append_assoc, inl, inr}
 use Rattle.std.proofs.lemmas.Str.{IsAscii-append}
-use Rattle.std.specs.Option.{is_some}
 use Rattle.std.specs.Str.{IsAscii}
 use Rattle.version_parts.specs.Bytes.{dot}
 use Rattle.version_parts.specs.Front.{repeated}
@@ -16,8 +15,8 @@ use Rattle.version_parts.proofs.Dotted.{dotted_sound_before}
 use Rattle.version_parts.proofs.MChunkReading.{mchunk_kept, mchunk_sound, section_complete, section_consumes, section_printed, sep_front-Some, sep_of_byte, sign_ends}
 use Rattle.version_parts.proofs.Repeated.{Shrinks, cases_Option, each_ends, each_printed, repeated-reads, repeated_follows, repeated_sound}
 use Rattle.versions.specs.Mess.{Further, PlainMess, Section, SpellsFurther, SpellsMess, further_front, further_text, joined_section, mess_front, mess_of, mess_text, section_front}
-use Rattle.versions.proofs.Spelled.{of_mess}
-use Rattle.version_parts.proofs.WholeReading.{whole-Some, whole-is}
+use Rattle.versions.proofs.SpelledTexts.{of_mess}
+use Rattle.version_parts.proofs.WholeReading.{whole-Some}
 
 -- ---- a sign and the section behind it
 
@@ -179,20 +178,13 @@ pub mess_of-spells : (text : List ℕ) (m : PlainMess) → mess_of text ≡ Some
 unfolding mess_of
 mess_of-spells text m e = mess_whole text m (whole-Some _ m e)
 
-pub mess_of-is : (text : List ℕ) (m : PlainMess) (rest : List ℕ) → is_some (mess_of text) ≡ true → Some (m, rest) ≡ mess_front text → mess_of text ≡ Some m
-unfolding mess_of
-mess_of-is text m rest some e = whole-is (mess_front text) m rest some (sym e)
-
--- where nothing is read nothing is spelled
-pub mess_of-None : (text : List ℕ) → None ≡ mess_front text → None ≡ mess_of text
-unfolding mess_of
-mess_of-None text e = rw (← e) refl
-
-pub not_spelled : (text : List ℕ) → false ≡ is_some (mess_of text) → (m : PlainMess) → SpellsMess text m → None ≡ Some m
-not_spelled text none m s = cc (rw (mess_of-Some text m s) at none)
-
-pub some_spelled : (text : List ℕ) → true ≡ is_some (mess_of text) → (m : PlainMess) × SpellsMess text m
+-- memory is wanted only where a version is spelled
+some_spelled : (text : List ℕ) → IsSome (mess_of text) → (m : PlainMess) × SpellsMess text m
 some_spelled text some = elim (cases_Option (mess_of text)) [
   | inl none ↦ cc (rw none at some)
   | inr one ↦ (one.0, mess_of-spells text one.0 one.1)
 ]
+
+pub spelled_on_err : {V E : Type 0} (text : List ℕ) (r : Result V E) → OnErr r (IsSome (mess_of text)) → OnErr r ((m : PlainMess) × SpellsMess text m)
+spelled_on_err text (Ok v) some = tt
+spelled_on_err text (Err e) some = some_spelled text some

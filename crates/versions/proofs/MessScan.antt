@@ -1,5 +1,6 @@
 -- How a reader goes over a messy version, section by section.
-use Rattle.std.proofs.Common.{◌≡◌, ◌∙◌, ◌<◌, ℕ, List, [], ◌∷◌, ◌++◌, length, Option, Some, None, Result, Ok, Err, IsSomeAnd, inl, inr, refl, sym, ap, append-nil, append_assoc}
+use Rattle.std.proofs.Common.{◌≡◌, ◌≢◌, ◌==◌, ◌∙◌, ◌<◌, ℕ, List, [], ◌∷◌, ◌++◌, length, Option, Some, None, Result, Ok, Err, IsSomeAnd, inl, inr, refl, sym, ap, append-nil, append_assoc}
+use Rattle.std.proofs.lemmas.Bool.{cases_Bool, eqb-true}
 use Rattle.std.specs.Borrow.{Bor}
 use Rattle.std.specs.Option.{option_map}
 use Rattle.std.specs.Result.{IsErr}
@@ -7,7 +8,7 @@ use Rattle.std.specs.declared.alloc.AllocError.{AllocError}
 use Rattle.version_parts.specs.Front.{Reads, repeated}
 use Rattle.version_parts.proofs.DottedScan.{nothing_before, read_before}
 use Rattle.version_parts.proofs.Repeated.{cases_Option, repeated-None, repeated-next}
-use Rattle.versions.specs.Mess.{Further, PlainMess, Section, further_front, mess_front, plain_mess, section_front}
+use Rattle.versions.specs.Mess.{Further, PlainMess, Section, further_front, mess_front, mess_of, plain_mess, section_front}
 use Rattle.versions.specs.declared.mess.Mess.{Mess}
 use Rattle.versions.proofs.MessReading.{further_shrinks, mess_front-None, mess_front-Some}
 
@@ -20,15 +21,6 @@ abbrev pub and_further : List Further → List ℕ → List Further × List ℕ
 and_further sofar text = (sofar ++ (all_further text).0, (all_further text).1)
 
 -- ---- what is left
-
--- behind the first section
-pub left_first : (text behind : List ℕ) → Some behind ≡ option_map (λ p. p.1) (section_front text) → Some (all_further behind).1 ≡ option_map (λ p. p.1) (mess_front text)
-left_first text behind e =
-    let first = read_before (section_front text) behind e in
-    rw (mess_front-Some text first.0 behind first.1) refl
-
-pub left_none : (text : List ℕ) → None ≡ option_map (λ p. p.1) (section_front text) → None ≡ option_map (λ p. p.1) (mess_front text)
-left_none text e = rw (mess_front-None text (nothing_before _ e)) refl
 
 -- behind a further section
 pub left_next : (text after : List ℕ) → Some after ≡ option_map (λ p. p.1) (further_front text) → (all_further text).1 ≡ (all_further after).1
@@ -61,6 +53,26 @@ mess_read text first behind further m read rest first_is more_is =
     let left : further.1 ≡ (all_further behind).1 = ap (λ (p : List Further × List ℕ). p.1) rest in
     let value : m ≡ record { first = first; more = (all_further behind).0 } = λ i. record { first = first_is i; more = more i } in
     ap (λ (p : PlainMess × List ℕ). Some p) (λ i. (value i, left i)) ∙ sym (mess_front-Some text first behind (sym read))
+
+-- the version that the whole text spells, where nothing is left behind its sections
+pub whole_sections : (text : List ℕ) (first : Section) (behind : List ℕ) → Some (first, behind) ≡ section_front text → length (all_further behind).1 ≡ 0
+    → mess_of text ≡ Some (record { first = first; more = (all_further behind).0 })
+unfolding mess_of
+whole_sections text first behind read none = rw (mess_front-Some text first behind (sym read), none) refl
+
+pub sections_and_more : (text : List ℕ) (first : Section) (behind : List ℕ) → Some (first, behind) ≡ section_front text → length (all_further behind).1 ≢ 0
+    → mess_of text ≡ None
+unfolding mess_of
+sections_and_more text first behind read some = elim (cases_Bool (length (all_further behind).1 == 0)) [
+  | inl none ↦ absurd (some (eqb-true _ 0 none))
+  | inr goes_on ↦ rw (mess_front-Some text first behind (sym read), goes_on) refl
+]
+
+pub no_section : (text : List ℕ) → None ≡ section_front text → mess_of text ≡ None
+unfolding mess_of
+no_section text e = rw (mess_front-None text (sym e)) refl
+
+pub ruleset whole_mess = (whole_sections, sections_and_more, no_section)
 
 -- memory is wanted only where a first section is read
 pub wants_memory : (text : List ℕ) → IsSomeAnd (section_front text) (λ r. Unit {0}) → IsSomeAnd (mess_front text) (λ r. Unit {0})

@@ -19,7 +19,7 @@ use Rattle.versions.specs.Requirement.{PlainRequirement, SpellsOperand, SpellsRe
 use Rattle.versions.specs.Requirements.{comma}
 use Rattle.versions.specs.Versioning.{PlainVersioning, SpellsVersioning, versioning_of, versioning_text}
 use Rattle.versions.proofs.OpReading.{op_front-Some, op_front-reads}
-use Rattle.versions.proofs.Spelled.{of_versioning}
+use Rattle.versions.proofs.SpelledTexts.{of_versioning}
 use Rattle.versions.proofs.VersioningReading.{versioning_of-Some, versioning_of-spells, versioning_printed}
 
 -- ---- the bytes of versions and of requirements

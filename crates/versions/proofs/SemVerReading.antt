@@ -17,7 +17,7 @@ use Rattle.version_parts.proofs.Dotted.{behind-Some, cases_Option}
 use Rattle.version_parts.proofs.NumeralReading.{numeral_printed, unsigned_complete, unsigned_sound}
 use Rattle.version_parts.proofs.WholeReading.{read_whole, spelled_once, spelled_utf8, whole_read, whole_spelled}
 use Rattle.versions.specs.SemVer.{PlainSemVer, SpellsSemVer, optional_text, plain_semver, semver_front, semver_of, semver_text}
-use Rattle.versions.proofs.Spelled.{of_semver}
+use Rattle.versions.proofs.SpelledTexts.{of_semver}
 
 -- what the front gives behind three numbers
 semver_front-Some : (text : List ℕ) (major minor patch : ℕ × List ℕ) → unsigned_front text ≡ Some major → behind dot unsigned_front major.1 ≡ Some minor

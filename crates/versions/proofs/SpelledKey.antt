@@ -1,26 +1,26 @@
 -- The lists of a key, from what is still to come of them, and the key of a text.
-use Rattle.std.proofs.Common.{◌≡◌, ◌≢◌, ◌==◌, ◌&&◌, if◌then◌else◌, ℕ, Bool, true, false, List, [], ◌∷◌, ◌++◌, length, map, Option, Some, None, is_some, refl, sym, ap, ◌∙◌, inl, inr, arith, append_assoc, append-nil}
+use Rattle.std.proofs.Common.{◌≡◌, ◌≢◌, ◌==◌, ◌&&◌, if◌then◌else◌, ℕ, Bool, true, false, List, [], ◌∷◌, ◌++◌, length, map, Option, Some, None, refl, sym, ap, ◌∙◌, inl, inr, append_assoc, append-nil}
 use Rattle.std.proofs.lemmas.Bool.{cases_Bool, eqb-true}
 use Rattle.std.specs.Char.{is_ascii_digit}
 use Rattle.std.specs.List.{list_all, take_while}
 use Rattle.std.specs.Option.{option_map}
 use Rattle.std.specs.Str.Parse.{digits_value}
 use Rattle.version_parts.specs.Bytes.{colon, hyphen, plus, tilde, underscore}
-use Rattle.version_parts.specs.Chunk.{chunk_text, plain_chunk}
+use Rattle.version_parts.specs.Chunk.{plain_chunk}
 use Rattle.version_parts.specs.Codes.{items_bytes}
 use Rattle.version_parts.specs.DigitRun.{is_digits}
-use Rattle.version_parts.specs.Front.{after_mark, repeated}
+use Rattle.version_parts.specs.Front.{after_mark}
 use Rattle.version_parts.specs.MChunk.{PlainMChunk, mchunk_text}
-use Rattle.version_parts.specs.PartKey.{PartKey, chunk_parts, part_bytes, part_key, parts_bytes, section_parts}
+use Rattle.version_parts.specs.PartKey.{PartKey, chunk_parts, part_bytes, parts_bytes, section_parts}
 use Rattle.version_parts.specs.Sep.{PlainSep, Colon, Hyphen, Plus, Underscore, Tilde, sep_front, sep_of}
 use Rattle.version_parts.specs.declared.chunk.Chunk.{Chunk}
 use Rattle.version_parts.proofs.ListBytes.{chunk_parts-map, key_of_chunk}
 use Rattle.version_parts.proofs.Repeated.{cases_Option, repeated-None, repeated-next}
-use Rattle.versions.specs.Key.{Key, key_behind_epoch, key_of_sections, section_epoch}
+use Rattle.versions.specs.Key.{key_behind_epoch, key_of_sections, section_epoch}
 use Rattle.versions.specs.KeyBytes.{further_bytes}
-use Rattle.versions.specs.Mess.{Further, PlainMess, Section, further_front, mess_front, mess_of, section_front}
+use Rattle.versions.specs.Mess.{Further, Section, further_front, section_front}
 use Rattle.versions.proofs.Epoch.{digits_alone}
-use Rattle.versions.proofs.MessReading.{further_shrinks, mess_front-None, mess_front-Some}
+use Rattle.versions.proofs.MessReading.{further_shrinks}
 use Rattle.versions.proofs.MessScan.{all_further}
 
 -- the parts of a body, and the last one behind them
@@ -159,19 +159,3 @@ epoch_of_others (chunk ∷ []) more other = absurd (other refl)
 epoch_of_others (chunk ∷ second ∷ chunks) more other = refl
 
 pub ruleset epoch_spelled = (epoch_unmarked, epoch_unread, epoch_read, epoch_of_others)
-
--- ---- the whole text
-
-pub mess_spelled : (text rest : List ℕ) (first : Section) → is_some (mess_of text) ≡ true → Some (first, rest) ≡ section_front text
-    → mess_of text ≡ Some (record { first = first; more = (all_further rest).0 })
-unfolding mess_of
-mess_spelled text rest first some e = elim (cases_Bool (length (all_further rest).1 == 0)) [
-  | inl ends ↦ rw (mess_front-Some text first rest (sym e), ends) refl
-  | inr goes_on ↦ cc (rw (mess_front-Some text first rest (sym e), goes_on) at some)
-]
-
-pub mess_unspelled : (text : List ℕ) → None ≡ section_front text → mess_of text ≡ None
-unfolding mess_of
-mess_unspelled text e = rw (mess_front-None text (sym e)) refl
-
-pub ruleset whole_spelled = (mess_spelled, mess_unspelled)

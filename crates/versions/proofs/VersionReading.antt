@@ -24,7 +24,7 @@ use Rattle.version_parts.proofs.Spelled.{all_weaker, of_body, of_metadata, of_op
 use Rattle.version_parts.proofs.WholeReading.{read_whole, spelled_once, spelled_utf8, whole_read, whole_spelled}
 use Rattle.versions.specs.Version.{PlainVersion, SpellsEpoch, SpellsVersion, epoch_front, epoch_text, plain_version, version_front, version_of, version_text}
 use Rattle.versions.proofs.SemVerReading.{optional_begins, optional_printed}
-use Rattle.versions.proofs.Spelled.{of_version}
+use Rattle.versions.proofs.SpelledTexts.{of_version}
 
 -- what the front gives behind a body
 version_front-Some : (text : List ℕ) (epoch : Option ℕ × List ℕ) (body : PlainBody × List ℕ) → optional epoch_front text ≡ epoch → body_front epoch.1 ≡ Some body

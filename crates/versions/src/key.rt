@@ -13,7 +13,8 @@ ghost use Rattle.version_parts.specs.NumberBytes.{number_bytes};
 ghost use Rattle.versions.specs.Key.{key_behind_epoch, key_of, key_of_mess, key_of_sections, key_of_semver, key_of_version, section_epoch};
 ghost use Rattle.versions.specs.KeyBytes.{key_bytes};
 ghost use Rattle.versions.specs.KeyStream.{list_left, tail_left};
-ghost use Rattle.versions.specs.Mess.{further_front, mess_of, plain_mess};
+ghost use Rattle.versions.specs.Mess.{further_front, plain_mess};
+ghost use Rattle.versions.specs.Mess.{plain_pieces as messy_pieces};
 ghost use Rattle.versions.specs.SemVer.{plain_semver};
 ghost use Rattle.versions.specs.SemVer.{plain_pieces as strict_pieces};
 ghost use Rattle.versions.specs.Version.{plain_version};
@@ -24,8 +25,9 @@ mod further;
 mod list;
 mod tail;
 
-use crate::mess::Mess;
+use crate::mess::{self, Mess};
 use crate::semver::{self, SemVer};
+use crate::spelled::Spelled;
 use crate::version::{self, Version};
 use crate::versioning::Versioning;
 use list::{Begun, PartsLeft};
@@ -68,13 +70,7 @@ impl<'a> KeyBytes<'a> {
     pub fn spelled_by(s: &'a str) -> Option<KeyBytes<'a>>
         ensures { result ≡ option_map (λ v. key_bytes (key_of v)) (versioning_of s.now) }
     {
-        if let Some(ideal) = semver::Pieces::whole(s) {
-            return Some(KeyBytes::of_strict_pieces(&ideal));
-        }
-        if let Some(general) = version::Pieces::whole(s) {
-            return Some(KeyBytes::of_general_pieces(&general));
-        }
-        KeyBytes::spelled_by_sections(s)
+        Some(Spelled::whole(s)?.key_bytes())
     }
 
     // The bytes of the key of a version of any kind.
@@ -102,7 +98,7 @@ impl<'a> KeyBytes<'a> {
 
     // The bytes of the key of a strict version that was scanned.
     #[inline(always)]
-    fn of_strict_pieces(ideal: &semver::Pieces<'a>) -> KeyBytes<'a>
+    pub(crate) fn of_strict_pieces(ideal: &semver::Pieces<'a>) -> KeyBytes<'a>
         ensures { result ≡ key_bytes (key_of_semver (strict_pieces ideal.now)) }
     {
         KeyBytes {
@@ -126,7 +122,7 @@ impl<'a> KeyBytes<'a> {
 
     // The bytes of the key of a general version that was scanned.
     #[inline(always)]
-    fn of_general_pieces(general: &version::Pieces<'a>) -> KeyBytes<'a>
+    pub(crate) fn of_general_pieces(general: &version::Pieces<'a>) -> KeyBytes<'a>
         ensures { result ≡ key_bytes (key_of_version (general_pieces general.now)) }
     {
         KeyBytes {
@@ -147,19 +143,14 @@ impl<'a> KeyBytes<'a> {
         }
     }
 
-    // The bytes of the key of the messy version that the whole text spells, where it spells one.
-    #[tactic(auto, using(crate::proofs::SpelledKey::whole_spelled))]
-    fn spelled_by_sections(s: &'a str) -> Option<KeyBytes<'a>>
-        ensures { result ≡ option_map (λ m. key_bytes (key_of_mess m)) (mess_of s.now) }
+    // The bytes of the key of a messy version that was scanned.
+    pub(crate) fn of_messy_pieces(complex: &mess::Pieces<'a>) -> KeyBytes<'a>
+        ensures { result ≡ key_bytes (key_of_mess (messy_pieces complex.now)) }
     {
-        if !Mess::is_spelled_by(s) {
-            return None;
+        if let Some((digits, body, behind)) = spelled_epoch(&complex.first, complex.rest) {
+            return KeyBytes::behind_spelled(PieceBytes::digits(digits), &body, behind);
         }
-        let (first, rest) = SectionPiece::scan(s)?;
-        if let Some((digits, body, behind)) = spelled_epoch(&first, rest) {
-            return Some(KeyBytes::behind_spelled(PieceBytes::digits(digits), &body, behind));
-        }
-        Some(KeyBytes::behind_spelled(PieceBytes::number(0), &first, rest))
+        KeyBytes::behind_spelled(PieceBytes::number(0), &complex.first, complex.rest)
     }
 
     // The bytes of an epoch, and of the sections behind it.

@@ -24,6 +24,7 @@ mod reading;
 mod requirement;
 mod requirements;
 mod semver;
+mod spelled;
 mod version;
 mod versioning;
 

@@ -1,6 +1,6 @@
 //! Messy versions. However many sections there are, every call goes along them by a loop.
 
-ghost use Rattle.std.specs.Prelude.{◌≡◌, refl, [], Some, IfOk, IfSome, OnErr, length, map};
+ghost use Rattle.std.specs.Prelude.{◌≡◌, refl, [], Some, IfOk, IfSome, IsSome, OnErr, length, map};
 ghost use Rattle.std.specs.Option.{is_some, option_map};
 ghost use Rattle.std.proofs.Common.{ap};
 ghost use Rattle.std.specs.Cmp.{eq_by_cmp_equiv, on_equiv, on_per, on_total, partial_equiv_from_equiv, po};
@@ -8,7 +8,7 @@ ghost use Rattle.std.specs.Ordering.{as_partial_cmp, eq_by_cmp, on};
 ghost use Rattle.version_parts.specs.Front.{repeated, Reads};
 ghost use Rattle.version_parts.specs.OrderLaws.{same_where_tied};
 ghost use Rattle.versions.specs.Errors.{IllegalMess, ReadsOr};
-ghost use Rattle.versions.specs.Mess.{behind_colons, further_front, mess_fed, mess_front, mess_of, mess_plain_cmp, mess_text, nth_number, plain_further, plain_mess, plain_section, section_front, PlainMess, SpellsMess};
+ghost use Rattle.versions.specs.Mess.{behind_colons, further_front, mess_fed, mess_front, mess_of, mess_plain_cmp, mess_text, nth_number, plain_further, plain_mess, plain_pieces, plain_section, section_front, PlainMess, SpellsMess};
 ghost use Rattle.versions.specs.MessLaws.{mess_total, messes_same};
 ghost use Rattle.versions.specs.Orders.{mess_cmp};
 ghost use Rattle.versions.specs.OrdersLaws.{mess_cmp_ties, mess_cmp_total};
@@ -22,8 +22,7 @@ use std::cmp::Ordering;
 use std::fmt;
 use std::hash::{Hash, Hasher};
 use version_parts::lists::{compare_lists, copy_list, write_dotted};
-use version_parts::scan::{self, Dotted};
-use version_parts::{MChunk, MessyChunk, Sep};
+use version_parts::{MChunk, SectionPiece, Sep, scan};
 
 /// A messy version: chunks joined by dots, then perhaps a sign and a further messy version, as `1.6a+2014+m872b-1`
 /// or `2:10.2`.
@@ -51,24 +50,14 @@ impl Mess {
         // The same as an equation.
         ensures exact { IfOk result (λ o. option_map plain_mess o ≡ mess_of s.now) }
     {
-        if !Mess::is_spelled_by(s) {
-            return Ok(None);
-        }
-        match Mess::parse(alloc, s)? {
-            Some((mess, _)) => Ok(Some(mess)),
-            None => Ok(None),
-        }
+        read_whole(alloc, s)
     }
 
     /// Whether the whole text spells a messy version, so that `new` would give one. Takes no memory.
-    #[tactic(auto, unfolding(crate::specs::Mess::mess_of))]
     pub fn is_spelled_by(s: &str) -> bool
         ensures { result ≡ is_some (mess_of s.now) }
     {
-        match skip(s) {
-            Some(rest) => rest.is_empty(),
-            None => false,
-        }
+        Pieces::whole(s).is_some()
     }
 
     /// The messy version that the whole text spells; else `Illegal`, with `IllegalMess` and the whole text in it.
@@ -76,7 +65,7 @@ impl Mess {
     pub fn from_str(alloc: Global, s: &str) -> Result<Mess, ReadError>
         ensures { ReadsOr plain_mess (λ _. Unit {0}) (IllegalMess s.now) result (mess_of s.now) }
     {
-        or_illegal(alloc, Mess::new(alloc, s)?, s, Error::IllegalMess)
+        or_illegal(alloc, read_whole(alloc, s)?, s, Error::IllegalMess)
     }
 
     /// The messy version at the front of a text, and the rest: chunks joined by dots, then, as long as a sign and
@@ -302,22 +291,58 @@ pub(crate) fn link(
     Ok(Mess { chunks, next })
 }
 
-// What stands behind the messy version at the front of a text.
-fn skip(i: &str) -> Option<&str>
-    ensures { option_map (λ r. r.now) result ≡ option_map (λ p. p.1) (mess_front i.now) }
+// The messy version that the whole text spells.
+fn read_whole(alloc: Global, s: &str) -> Result<Option<Mess>, AllocError>
+    ensures ok { IfOk result (λ o. option_map plain_mess o ≡ mess_of s.now) }
+    ensures err { OnErr result (IsSome (mess_of s.now)) }
 {
-    let mut rest = skip_section(i)?;
+    match Pieces::whole(s) {
+        Some(pieces) => Ok(Some(pieces.build(alloc)?)),
+        None => Ok(None),
+    }
+}
+
+// A messy version that was scanned, with its texts still in the input: its first section, and the text of those behind
+// it, each behind its sign.
+#[derive(Drop)]
+pub(crate) struct Pieces<'a> {
+    pub(crate) first: SectionPiece<'a>,
+    pub(crate) rest: &'a str,
+}
+
+impl<'a> Pieces<'a> {
+    // The messy version that the whole text spells.
+    #[tactic(auto, using(crate::proofs::MessScan::whole_mess))]
+    #[inline(always)]
+    pub(crate) fn whole(s: &'a str) -> Option<Pieces<'a>>
+        ensures { option_map plain_pieces result ≡ mess_of s.now }
+    {
+        let (first, rest) = SectionPiece::scan(s)?;
+        if !skip_all_further(rest).is_empty() {
+            return None;
+        }
+        Some(Pieces { first, rest })
+    }
+
+    // The version with texts of its own.
+    pub(crate) fn build(&self, alloc: Global) -> Result<Mess, AllocError>
+        ensures { IfOk result (λ m. plain_mess m ≡ plain_pieces self.now) }
+    {
+        let first = self.first.build(alloc)?;
+        let (more, _) = read_all_further(alloc, self.rest)?;
+        link(alloc, first, more)
+    }
+}
+
+// What stands behind all further sections at the front of a text.
+fn skip_all_further(i: &str) -> &str
+    ensures { result.now ≡ (repeated further_front (length i.now) i.now).1 }
+{
+    let mut rest = i;
     while let Some(after) = skip_further(rest) {
         rest = after;
     }
-    Some(rest)
-}
-
-// What stands behind the section at the front of a text.
-fn skip_section(i: &str) -> Option<&str>
-    ensures { option_map (λ r. r.now) result ≡ option_map (λ p. p.1) (section_front i.now) }
-{
-    Some(Dotted::scan::<MessyChunk>(i)?.1)
+    rest
 }
 
 // What stands behind the sign and the section at the front of a text.
@@ -326,17 +351,17 @@ fn skip_further(i: &str) -> Option<&str>
     ensures { option_map (λ r. r.now) result ≡ option_map (λ p. p.1) (further_front i.now) }
 {
     let (_, behind) = scan::sign(i)?;
-    skip_section(behind)
+    Some(SectionPiece::scan(behind)?.1)
 }
 
 // The section at the front of a text, with chunks of its own, and the rest.
 fn read_section(alloc: Global, i: &str) -> Result<Option<(Vec<MChunk>, &str)>, AllocError>
     ensures { Reads plain_section (λ _. Unit {0}) result (section_front i.now) }
 {
-    let Some((list, rest)) = Dotted::scan::<MessyChunk>(i) else {
+    let Some((section, rest)) = SectionPiece::scan(i) else {
         return Ok(None);
     };
-    Ok(Some((list.build::<MessyChunk>(alloc, list.count)?, rest)))
+    Ok(Some((section.build(alloc)?, rest)))
 }
 
 // The sign and the section at the front of a text, and the rest.

@@ -38,10 +38,10 @@ pub(crate) fn optional_meta(i: &str) -> (Option<&str>, &str)
 // The chunks of a release, if there is one.
 pub(crate) fn build_release(
     alloc: Global,
-    piece: Option<ReleasePiece<'_>>,
+    piece: &Option<ReleasePiece<'_>>,
 ) -> Result<Option<Release>, AllocError>
-    ensures ok { IfOk result (λ release. option_map plain_release release ≡ piece.entry) }
-    ensures err { OnErr result (IsSome piece.entry) }
+    ensures ok { IfOk result (λ release. option_map plain_release release ≡ piece.now) }
+    ensures err { OnErr result (IsSome piece.now) }
 {
     match piece {
         Some(piece) => Ok(Some(piece.build(alloc)?)),

@@ -4,16 +4,18 @@ ghost use Rattle.std.specs.Prelude.{◌≡◌, ◌↔◌, ◌++◌, IfOk, IfSome
 ghost use Rattle.std.specs.Option.{is_some, option_map};
 ghost use Rattle.version_parts.specs.Front.{Reads};
 ghost use Rattle.versions.specs.Errors.{IllegalOp, ReadsOr};
-ghost use Rattle.versions.specs.Matching.{AnswersFor, AsksOrder, IsComparison, IsConvex, LooksAtVersions, Matches, MatchesCaret, MatchesOp, MatchesTilde};
+ghost use Rattle.versions.specs.Matching.{AnswersFor, AsksOrder, IsConvex, IsOfKind, LooksAt, LooksAtVersions, Matches, MatchesCaret, MatchesOp, MatchesTilde};
 ghost use Rattle.versions.specs.Op.{op_front};
 ghost use Rattle.versions.specs.Requirement.{plain_requirement, requirement_front, requirement_of, requirement_text, PlainRequirement, RequirementOwns, SpellsRequirement};
+ghost use Rattle.versions.specs.Spelled.{plain_spelled};
 ghost use Rattle.versions.specs.Versioning.{plain_versioning, versioning_of};
 ghost use Rattle.versions.specs.declared.op.Op.TheVariants.{Wildcard};
 
 use crate::errors::{Error, ReadError};
-use crate::key::{KeyBytes, compare_keys};
+use crate::key::compare_keys;
 use crate::op::Op;
 use crate::reading::or_illegal;
+use crate::spelled::Spelled;
 use crate::versioning::Versioning;
 use std::alloc::{AllocError, Global};
 use std::cmp::Ordering;
@@ -116,17 +118,32 @@ impl Requirement {
     }
 
     /// Whether it asks for the version that the whole text spells; None where it spells none. A comparison (`>`, `>=`,
-    /// `<`, `<=`) is held against the key of the text, and `*` asks for any, without memory; `=`, `~` and `^` look at the
-    /// version itself, and the error is that there is no memory for it.
+    /// `<`, `<=`) is held against the key of the text, and `*` asks for any, without memory; `=`, `~` and `^` ask for
+    /// versions of one kind, and look at one of that kind itself, where the error is that there is no memory for it.
     pub fn matches_spelled(&self, alloc: Global, s: &str) -> Result<Option<bool>, AllocError>
         ensures set { IfOk result (λ answer. AnswersFor (Matches (plain_requirement self.now)) answer (versioning_of s.now)) }
 
-        // Memory is wanted only where the version itself is looked at.
-        ensures memory { OnErr result (LooksAtVersions self.now.op) }
+        // Memory is wanted only where the text spells a version that is looked at itself.
+        ensures memory { OnErr result (IsSomeAnd (versioning_of s.now) (LooksAt (plain_requirement self.now))) }
+    {
+        match Spelled::whole(s) {
+            Some(spelled) => Ok(Some(self.matches_scanned(alloc, &spelled)?)),
+            None => Ok(None),
+        }
+    }
+
+    // Whether it asks for the version that was scanned.
+    pub(crate) fn matches_scanned(
+        &self,
+        alloc: Global,
+        spelled: &Spelled<'_>,
+    ) -> Result<bool, AllocError>
+        ensures set { IfOk result (λ asked. IsTrue asked ↔ Matches (plain_requirement self.now) (plain_spelled spelled.now)) }
+        ensures memory { OnErr result (LooksAt (plain_requirement self.now) (plain_spelled spelled.now)) }
     {
         match &self.version {
-            Some(wanted) => asks_for_spelled(alloc, self.op, wanted, s),
-            None => Ok(Versioning::is_spelled_by(s).then_some(self.op == Op::Wildcard)),
+            Some(wanted) => asks_for_scanned(alloc, self.op, wanted, spelled),
+            None => Ok(self.op == Op::Wildcard),
         }
     }
 
@@ -172,43 +189,39 @@ fn asks_for(op: Op, wanted: &Versioning, version: &Versioning) -> bool
 {
     match op {
         Op::Exact => version == wanted,
-        Op::Greater => version.precedence(wanted).is_gt(),
-        Op::GreaterEq => version.precedence(wanted).is_ge(),
-        Op::Less => version.precedence(wanted).is_lt(),
-        Op::LessEq => version.precedence(wanted).is_le(),
+        Op::Greater | Op::GreaterEq | Op::Less | Op::LessEq => {
+            asks_order(op, version.precedence(wanted))
+        }
         Op::Tilde => matches_tilde(wanted, version),
         Op::Caret => matches_caret(wanted, version),
         Op::Wildcard => true,
     }
 }
 
-// Whether an operator before one version asks for the one that the whole text spells; None where it spells none.
-fn asks_for_spelled(
+// Whether an operator before one version asks for the one that was scanned.
+#[tactic(auto, using(crate::proofs::SpelledMatch::held_against_scanned))]
+fn asks_for_scanned(
     alloc: Global,
     op: Op,
     wanted: &Versioning,
-    s: &str,
-) -> Result<Option<bool>, AllocError>
-    ensures set { IfOk result (λ answer. AnswersFor (MatchesOp op (plain_versioning wanted.now)) answer (versioning_of s.now)) }
-    ensures memory { OnErr result (LooksAtVersions op) }
+    spelled: &Spelled<'_>,
+) -> Result<bool, AllocError>
+    ensures set { IfOk result (λ asked. IsTrue asked ↔ MatchesOp op (plain_versioning wanted.now) (plain_spelled spelled.now)) }
+    ensures memory { OnErr result (LooksAtVersions op × IsOfKind (plain_versioning wanted.now) (plain_spelled spelled.now)) }
 {
     match op {
-        Op::Greater | Op::GreaterEq | Op::Less | Op::LessEq => Ok(compares_to(op, wanted, s)),
-        Op::Exact | Op::Tilde | Op::Caret => match Versioning::new(alloc, s)? {
-            Some(version) => Ok(Some(asks_for(op, wanted, &version))),
-            None => Ok(None),
-        },
-        Op::Wildcard => Ok(Versioning::is_spelled_by(s).then_some(true)),
+        Op::Greater | Op::GreaterEq | Op::Less | Op::LessEq => {
+            let order = compare_keys(spelled.key_bytes(), wanted.key_bytes());
+            Ok(asks_order(op, order))
+        }
+        Op::Exact | Op::Tilde | Op::Caret => {
+            if !spelled.is_of_kind(wanted) {
+                return Ok(false);
+            }
+            Ok(asks_for(op, wanted, &spelled.build(alloc)?))
+        }
+        Op::Wildcard => Ok(true),
     }
-}
-
-// The same for a comparison, which looks at keys alone.
-fn compares_to(op: Op, wanted: &Versioning, s: &str) -> Option<bool>
-    requires { IsComparison op }
-    ensures { AnswersFor (MatchesOp op (plain_versioning wanted.now)) result (versioning_of s.now) }
-{
-    let key = KeyBytes::spelled_by(s)?;
-    Some(asks_order(op, compare_keys(key, wanted.key_bytes())))
 }
 
 // Whether a comparison asks for what stands so to the wanted version.

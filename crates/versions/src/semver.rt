@@ -253,6 +253,7 @@ pub(crate) struct Pieces<'a> {
 impl<'a> Pieces<'a> {
     // The strict version that the whole text spells.
     #[tactic(auto, unfolding(crate::specs::SemVer::semver_of))]
+    #[inline(always)]
     pub(crate) fn whole(s: &'a str) -> Option<Pieces<'a>>
         ensures { option_map plain_pieces result ≡ semver_of s.now }
     {
@@ -283,25 +284,16 @@ impl<'a> Pieces<'a> {
     }
 
     // The version with texts of its own.
-    fn build(self, alloc: Global) -> Result<SemVer, AllocError>
-        ensures ok { IfOk result (λ v. plain_semver v ≡ plain_pieces self.entry) }
-        ensures err { OnErr result (SemVerOwns (plain_pieces self.entry)) }
+    pub(crate) fn build(&self, alloc: Global) -> Result<SemVer, AllocError>
+        ensures ok { IfOk result (λ v. plain_semver v ≡ plain_pieces self.now) }
+        ensures err { OnErr result (SemVerOwns (plain_pieces self.now)) }
     {
-        let Pieces {
-            major,
-            minor,
-            patch,
-            pre_rel,
-            meta,
-        } = self;
-        let pre_rel = build_release(alloc, pre_rel)?;
-        let meta = copy_text(alloc, meta)?;
         Ok(SemVer {
-            major,
-            minor,
-            patch,
-            pre_rel,
-            meta,
+            major: self.major,
+            minor: self.minor,
+            patch: self.patch,
+            pre_rel: build_release(alloc, &self.pre_rel)?,
+            meta: copy_text(alloc, self.meta)?,
         })
     }
 }

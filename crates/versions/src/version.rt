@@ -298,6 +298,7 @@ pub(crate) struct Pieces<'a> {
 impl<'a> Pieces<'a> {
     // The general version that the whole text spells.
     #[tactic(auto, unfolding(crate::specs::Version::version_of))]
+    #[inline(always)]
     pub(crate) fn whole(s: &'a str) -> Option<Pieces<'a>>
         ensures { option_map plain_pieces result ≡ version_of s.now }
     {
@@ -326,25 +327,17 @@ impl<'a> Pieces<'a> {
     }
 
     // The version with texts of its own.
-    fn build(self, alloc: Global) -> Result<Version, AllocError>
-        ensures ok { IfOk result (λ v. plain_version v ≡ plain_pieces self.entry) }
-        ensures err { OnErr result (VersionOwns (plain_pieces self.entry)) }
+    pub(crate) fn build(&self, alloc: Global) -> Result<Version, AllocError>
+        ensures ok { IfOk result (λ v. plain_version v ≡ plain_pieces self.now) }
+        ensures err { OnErr result (VersionOwns (plain_pieces self.now)) }
     {
-        let Pieces {
-            epoch,
-            body,
-            release,
-            meta,
-        } = self;
-        let (chunks, last) = body.build(alloc)?;
-        let release = build_release(alloc, release)?;
-        let meta = copy_text(alloc, meta)?;
+        let (chunks, last) = self.body.build(alloc)?;
         Ok(Version {
-            epoch,
+            epoch: self.epoch,
             chunks,
             last,
-            release,
-            meta,
+            release: build_release(alloc, &self.release)?,
+            meta: copy_text(alloc, self.meta)?,
         })
     }
 }

@@ -23,6 +23,7 @@ use crate::key::{KeyBytes, compare_keys, key_list};
 use crate::mess::Mess;
 use crate::reading::or_illegal;
 use crate::semver::SemVer;
+use crate::spelled::Spelled;
 use crate::version::Version;
 use std::alloc::{AllocError, Global};
 use std::cmp::Ordering;
@@ -216,14 +217,8 @@ fn read_whole(alloc: Global, s: &str) -> Result<Option<Versioning>, AllocError>
     ensures ok { IfOk result (λ o. option_map plain_versioning o ≡ versioning_of s.now) }
     ensures err { OnErr result (IsSomeAnd (versioning_of s.now) VersioningOwns) }
 {
-    if let Some(ideal) = SemVer::new(alloc, s)? {
-        return Ok(Some(Versioning::Ideal(ideal)));
-    }
-    if let Some(general) = Version::new(alloc, s)? {
-        return Ok(Some(Versioning::General(general)));
-    }
-    match Mess::new(alloc, s)? {
-        Some(complex) => Ok(Some(Versioning::Complex(complex))),
+    match Spelled::whole(s) {
+        Some(spelled) => Ok(Some(spelled.build(alloc)?)),
         None => Ok(None),
     }
 }

@@ -1,11 +1,11 @@
-use Rattle.std.proofs.Common.{◌≡◌, ◌∙◌, ◌+◌, ◌<◌, ℕ, suc, List, [], ◌∷◌, ◌++◌, length, map, take, get_or, ap, arith, refl, subst, sym}
+use Rattle.std.proofs.Common.{◌≡◌, ◌∙◌, ◌+◌, suc, [], ◌∷◌, ◌++◌, take, ap, arith, refl, subst, sym}
 use Rattle.std.proofs.Math.Seq.{take-suc}
-use Rattle.std.proofs.lemmas.List.{get_or-map, length-map, take_all}
+use Rattle.std.proofs.lemmas.List.{take_all}
 use Rattle.std.proofs.lemmas.List.Elements.{All-map, All-push, All-same}
 use Rattle.versions.specs.declared.requirement.Requirement.{Requirement}
-use Rattle.versions.specs.Matching.{Matches, MatchesAll}
-use Rattle.versions.specs.Requirement.{PlainRequirement, plain_requirement}
-use Rattle.versions.specs.Versioning.{PlainVersioning, plain_versioning}
+use Rattle.versions.specs.Matching.{Matches}
+use Rattle.versions.specs.Requirement.{plain_requirement}
+use Rattle.versions.specs.Versioning.{plain_versioning}
 use Rattle.versions.proofs.Members.{member}
 use Rattle.versions.proofs.requirements.Requirements.matches.Goals as goal
 
