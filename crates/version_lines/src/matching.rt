@@ -36,13 +36,28 @@ fn answer_for(alloc: Global, wanted: &Requirements, line: &[u8]) -> Result<Answe
     let Ok(text) = str::from_utf8(line) else {
         return Ok(Answer::Nothing);
     };
-    if ask_for_strict_alone(wanted) && !SemVer::is_spelled_by(text) {
-        return Ok(Answer::Nothing);
+    if ask_for_strict_alone(wanted) {
+        return answer_for_strict(alloc, wanted, text);
     }
     match wanted.matches_spelled(alloc, text)? {
         Some(true) => Ok(Answer::Whole),
         _ => Ok(Answer::Nothing),
     }
+}
+
+/// The same where strict versions alone are asked for, so that none of another kind is looked for.
+#[tactic(auto, using(crate::proofs::MatchingLemmas::strict_answered))]
+fn answer_for_strict(alloc: Global, wanted: &Requirements, text: &str) -> Result<Answer, AllocError>
+    requires { (v : PlainVersioning) → MatchesAll (plain_requirements wanted.now) v → IsTrue (is_ideal v) }
+    ensures { IfOk result (λ answer. answer ≡ match_answer (plain_requirements wanted.now) (versioning_of text.now)) }
+{
+    let Some(ideal) = SemVer::new(alloc, text)? else {
+        return Ok(Answer::Nothing);
+    };
+    if wanted.matches(&Versioning::Ideal(ideal)) {
+        return Ok(Answer::Whole);
+    }
+    Ok(Answer::Nothing)
 }
 
 /// Whether one of the requirements asks for strict versions alone, so that together they do. Takes no memory.
