@@ -111,14 +111,14 @@ impl<'a> Table<'a> {
         self.run(name, words, input, wanted)
     }
 
-    /// The same with lines all of which are wanted, and more of them than wait in a buffer.
+    /// The same with general versions all of which are wanted, and more of them than wait in a buffer.
     pub fn runs_over_long_lines(&mut self, name: &str, words: &[&str]) -> io::Result<()> {
         if !self.makes_next() {
             return Ok(());
         }
-        let mut lines = vec![in self.rt.alloc(); b'7'; 70000]?;
-        lines.extend_from_slice(b"\n1.2\n")?;
-        self.run(name, words, lines.as_slice(), lines.as_slice())
+        let mut lines = "7.".repeat(self.rt.alloc(), 35000)?;
+        lines.push_str("7\n7.2\n")?;
+        self.run(name, words, lines.as_bytes(), lines.as_bytes())
     }
 
     fn run(&self, name: &str, words: &[&str], input: &[u8], wanted: &[u8]) -> io::Result<()> {

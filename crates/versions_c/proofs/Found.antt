@@ -12,7 +12,7 @@ use Rattle.versions.specs.Requirement.{PlainRequirement, SpellsOperand, SpellsRe
 use Rattle.versions.specs.Requirements.{SpellsRequirements, comma, requirements_of}
 use Rattle.versions.specs.Versioning.{PlainVersioning, SpellsVersioning, VersioningOwns, versioning_of}
 use Rattle.versions.proofs.RequirementsReading.{requirements_of-Some, requirements_of-spells}
-use Rattle.versions.proofs.Spelled.{of_versioning}
+use Rattle.versions.proofs.SpelledTexts.{of_versioning}
 use Rattle.versions.proofs.VersioningReading.{versioning_of-Some}
 
 cons_ascii : (b : ℕ) (text : List ℕ) → b < 128 → IsAscii text → IsAscii (b ∷ text)
