@@ -2,7 +2,7 @@
 #![tactic(auto)]
 
 use std::alloc::{AllocError, Global};
-use std::fmt::Display;
+use std::fmt::{Debug, Display};
 use std::hash::{DefaultHasher, Hash, Hasher};
 use std::test::Fail;
 use versions::key::compare_bytes;
@@ -25,6 +25,13 @@ pub fn repeated(
     }
     long.push_str(end)?;
     Ok(long)
+}
+
+/// The three columns of a row of a table, a `|` between each two.
+pub fn columns(row: &str) -> Result<(&str, &str, &str), Fail> {
+    let (first, others) = row.split_once('|').ok_or("no second column")?;
+    let (second, third) = others.split_once('|').ok_or("no third column")?;
+    Ok((first, second, third))
 }
 
 /// The bytes that a text has in hexadecimal, a blank between each two.
@@ -93,6 +100,29 @@ pub fn printed(rt: &impl AllocGlobal, value: &impl Display) -> Result<String, Al
     value.to_string(rt.alloc())
 }
 
+/// A value as `Debug` writes it.
+pub fn shown(rt: &impl AllocGlobal, value: &impl Debug) -> Result<String, AllocError> {
+    format!(in rt.alloc(); "{value:?}")
+}
+
+/// Fails where a value is printed as another text.
+pub fn prints(rt: &impl AllocGlobal, value: &impl Display, wanted: &str) -> Result<(), Fail> {
+    let text = printed(rt, value)?;
+    holds(
+        text.as_str() == wanted,
+        format_args!("`{text}` is printed for `{wanted}`"),
+    )
+}
+
+/// Fails where `Debug` writes a value as another text.
+pub fn shows(rt: &impl AllocGlobal, value: &impl Debug, wanted: &str) -> Result<(), Fail> {
+    let text = shown(rt, value)?;
+    holds(
+        text.as_str() == wanted,
+        format_args!("`{text}` is shown for `{wanted}`"),
+    )
+}
+
 pub fn hash_of<T: Hash>(value: &T) -> u64 {
     let mut state = DefaultHasher::new();
     value.hash(&mut state);
@@ -137,8 +167,26 @@ pub fn are_ordered(
     holds(answer.is_lt(), "the order of their bytes")
 }
 
-// Fails where a fact doesn't hold, and says of what it is.
-fn holds(fact: bool, of: impl Display + Drop) -> Result<(), Fail> {
+/// Fails where two values of a list are equal or hash alike, or one isn't equal to itself.
+pub fn are_apart<T: Eq + Hash>(values: &[T]) -> Result<(), Fail> {
+    for (at, one) in values.iter().enumerate() {
+        for (place, other) in values.iter().enumerate() {
+            let same = at == place;
+            holds(
+                (one == other) == same,
+                format_args!("`==` of values {at} and {place}"),
+            )?;
+            holds(
+                (hash_of(one) == hash_of(other)) == same,
+                format_args!("the hashes of values {at} and {place}"),
+            )?;
+        }
+    }
+    Ok(())
+}
+
+/// Fails where a fact doesn't hold, and says of what it is.
+pub fn holds(fact: bool, of: impl Display + Drop) -> Result<(), Fail> {
     match fact {
         true => Ok(()),
         false => Err(Fail::new(of)),

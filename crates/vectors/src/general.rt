@@ -1,35 +1,23 @@
 //! General versions and their parts: what is read, what is not, what is printed, and what is copied.
 
-use given::{general, hash_of, numbers, printed, text};
+use given::{are_apart, columns, general, numbers, prints, shows, text};
 use std::test::Fail;
 use versions::{Chunk, Chunks, Last, Release, SemVer, Version};
 
-#[test]
-fn a_front_has_each_field_in_its_place(rt: HostRuntime) -> Result<(), Fail> {
-    let (version, rest) = Version::parse(rt.alloc(), "1:2.0-3+x y")?.ok_or("not read")?;
-    let wanted = Version {
-        epoch: Some(1),
-        chunks: Chunks(numbers(&rt, &[2])?),
-        last: Last::Numeric(0),
-        release: Some(Release(numbers(&rt, &[3])?)),
-        meta: Some(text(&rt, "x")?),
-    };
-    assert_eq!(rt; version, wanted);
-    assert_eq!(rt; rest, " y");
-    Ok(())
-}
+// Texts, what is left of them, and the version before it as `Debug` writes it.
+const FRONTS: &str =
+    r#"1:2.0-3+x y| y|Version { epoch: Some(1), chunks: Chunks([Numeric(2)]), last: Numeric(0), release: Some(Release([Numeric(3)])), meta: Some("x") }
+1.2.x3_4|_4|Version { epoch: None, chunks: Chunks([Numeric(1), Numeric(2)]), last: Alphanum("x3"), release: None, meta: None }
+01.2|1.2|Version { epoch: None, chunks: Chunks([]), last: Numeric(0), release: None, meta: None }"#;
 
 #[test]
 fn a_front_leaves_what_it_cannot_read(rt: HostRuntime) -> Result<(), Fail> {
-    let (version, rest) = Version::parse(rt.alloc(), "1.2.x3_4")?.ok_or("not read")?;
-    let mut wanted = Version::default_in(rt.alloc());
-    wanted.chunks = Chunks(numbers(&rt, &[1, 2])?);
-    wanted.last = Last::Alphanum(text(&rt, "x3")?);
-    assert_eq!(rt; version, wanted);
-    assert_eq!(rt; rest, "_4");
-    let (version, rest) = Version::parse(rt.alloc(), "01.2")?.ok_or("not read")?;
-    assert_eq!(rt; version, Version::default_in(rt.alloc()));
-    assert_eq!(rt; rest, "1.2");
+    for row in FRONTS.lines() {
+        let (text, wanted_rest, wanted) = columns(row)?;
+        let (version, rest) = Version::parse(rt.alloc(), text)?.ok_or("not read")?;
+        shows(&rt, &version, wanted)?;
+        assert_eq!(rt; rest, wanted_rest, "{text}");
+    }
     assert!(rt; Version::parse(rt.alloc(), "1:")?.is_none());
     Ok(())
 }
@@ -55,8 +43,7 @@ const GENERAL_VERSIONS: &str = "\
 fn general_versions_print_what_was_read(rt: HostRuntime) -> Result<(), Fail> {
     for text in GENERAL_VERSIONS.lines() {
         assert!(rt; SemVer::new(rt.alloc(), text)?.is_none());
-        let version = general(&rt, text)?;
-        assert_eq!(rt; printed(&rt, &version)?.as_str(), text);
+        prints(&rt, &general(&rt, text)?, text)?;
     }
     Ok(())
 }
@@ -66,24 +53,25 @@ fn other_texts_are_no_general_version(rt: HostRuntime) -> Result<(), Fail> {
     for text in ["01.2", "4294967296", "", "1.2 "] {
         assert!(rt; Version::new(rt.alloc(), text)?.is_none(), "{text}");
     }
-    let version = general(&rt, "4294967296a")?;
-    assert_eq!(rt; version.last, Last::Alphanum(text(&rt, "4294967296a")?));
     Ok(())
 }
 
+// Parts, and what they are as the last of a version, as `Debug` writes it.
+const LAST_PARTS: &str = r#"1rc2 Rc(1, "rc", 2)
+7b Post(7, "b")
+0rc01 Alphanum("0rc01")
+01rc1 Alphanum("01rc1")
+4294967296a Alphanum("4294967296a")"#;
+
 #[test]
 fn the_last_part_is_taken_apart(rt: HostRuntime) -> Result<(), Fail> {
-    for (part, wanted) in [
-        ("1rc2", Last::Rc(1, text(&rt, "rc")?, 2)),
-        ("7b", Last::Post(7, text(&rt, "b")?)),
-        ("0rc01", Last::Alphanum(text(&rt, "0rc01")?)),
-        ("01rc1", Last::Alphanum(text(&rt, "01rc1")?)),
-    ] {
+    for row in LAST_PARTS.lines() {
+        let (part, wanted) = row.split_once(' ').ok_or("no last part")?;
         let chunk = Chunk::Alphanum(text(&rt, part)?);
-        let last = Last::from_chunk(rt.alloc(), chunk);
-        assert_eq!(rt; last.map_err(|refused| refused.1)?, wanted);
-        assert_eq!(rt; printed(&rt, &wanted)?.as_str(), part);
-        assert_eq!(rt; general(&rt, part)?.last, wanted);
+        let last = Last::from_chunk(rt.alloc(), chunk).map_err(|refused| refused.1)?;
+        shows(&rt, &last, wanted)?;
+        prints(&rt, &last, part)?;
+        shows(&rt, &general(&rt, part)?.last, wanted)?;
     }
     Ok(())
 }
@@ -116,30 +104,27 @@ fn empty_pieces_print_their_marks(rt: HostRuntime) -> Result<(), Fail> {
     version.epoch = Some(0);
     version.release = Some(Release(Vec::new(rt.alloc())));
     version.meta = Some(String::new(rt.alloc()));
-    assert_eq!(rt; printed(&rt, &version)?.as_str(), "0:0-+");
-    Ok(())
+    prints(&rt, &version, "0:0-+")
 }
 
 #[test]
-fn unequal_values_hash_apart(rt: HostRuntime) -> Result<(), Fail> {
-    let one = Chunks(numbers(&rt, &[1])?);
-    let other = Chunks(numbers(&rt, &[1, 1])?);
-    assert_ne!(rt; hash_of(&one), hash_of(&other));
-    let texts = [
-        "1", "2", "1a", "2a", "1b", "1a1", "1a2", "a", "1.1", "0:1", "1-1", "1+1",
-    ];
-    for (at, one) in texts.iter().enumerate() {
-        for (place, other) in texts.iter().enumerate() {
-            if at != place {
-                let one = general(&rt, one)?;
-                let other = general(&rt, other)?;
-                assert_ne!(rt; one, other);
-                assert_ne!(rt; hash_of(&one), hash_of(&other), "{one} {other}");
-                if one.last != other.last {
-                    assert_ne!(rt; hash_of(&one.last), hash_of(&other.last));
-                }
-            }
-        }
+fn unequal_versions_hash_apart(rt: HostRuntime) -> Result<(), Fail> {
+    let mut versions = Vec::new(rt.alloc());
+    for text in "1 2 1a 2a 1b 1a1 1a2 a 1.1 0:1 1-1 1+1".split(' ') {
+        versions.push(general(&rt, text)?)?;
     }
-    Ok(())
+    are_apart(versions.as_slice())
+}
+
+#[test]
+fn unequal_parts_hash_apart(rt: HostRuntime) -> Result<(), Fail> {
+    let mut parts = Vec::new(rt.alloc());
+    for text in "1 2 1a 2a 1b 1a1 1a2 a".split(' ') {
+        parts.push(general(&rt, text)?.last)?;
+    }
+    are_apart(parts.as_slice())?;
+    let mut lists = Vec::new(rt.alloc());
+    lists.push(Chunks(numbers(&rt, &[1])?))?;
+    lists.push(Chunks(numbers(&rt, &[1, 1])?))?;
+    are_apart(lists.as_slice())
 }

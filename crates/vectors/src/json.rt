@@ -1,15 +1,15 @@
 //! Versions and requirements in JSON documents, where each is a string: what is read, what is written, and the errors.
 
-use given::{any, printed};
+use given::{any, prints, shows, text};
 use serde_json::Value;
 use std::alloc::{AllocError, Global};
 use std::test::Fail;
-use versions::{Error, JsonError, Op, Requirement, Requirements, Versioning};
+use versions::{Error, JsonError, Requirement, Requirements, Versioning};
 
 #[test]
 fn a_version_is_read_from_a_string_and_written_as_it_was(rt: HostRuntime) -> Result<(), Fail> {
-    for text in ["1.2.3", "1.2.3-rc.1+x86", "1:2.0rc1-3", "10.2+0.93+1-1"] {
-        let value = Value::try_from_str(rt.alloc(), text)?;
+    for text in "1.2.3 1.2.3-rc.1+x86 1:2.0rc1-3 10.2+0.93+1-1".split(' ') {
+        let value = string(&rt, text)?;
         let version = read(Versioning::deserialize_pretty(rt.alloc(), &value))?;
         assert!(rt; version == any(&rt, text)?, "{text}");
         assert!(rt; version.serialize_pretty(rt.alloc())? == value, "{text}");
@@ -19,10 +19,13 @@ fn a_version_is_read_from_a_string_and_written_as_it_was(rt: HostRuntime) -> Res
 
 #[test]
 fn a_requirement_is_read_from_a_string_and_written_as_it_was(rt: HostRuntime) -> Result<(), Fail> {
-    let value = Value::try_from_str(rt.alloc(), ">=1.2.3")?;
+    let value = string(&rt, ">=1.2.3")?;
     let requirement = read(Requirement::deserialize(rt.alloc(), &value))?;
-    assert_eq!(rt; requirement.op, Op::GreaterEq);
-    assert!(rt; requirement.version == Some(any(&rt, "1.2.3")?));
+    shows(
+        &rt,
+        &requirement,
+        "Requirement { op: GreaterEq, version: Some(Ideal(SemVer { major: 1, minor: 2, patch: 3, pre_rel: None, meta: None })) }",
+    )?;
     assert!(rt; requirement.serialize(rt.alloc())? == value);
     Ok(())
 }
@@ -30,7 +33,7 @@ fn a_requirement_is_read_from_a_string_and_written_as_it_was(rt: HostRuntime) ->
 #[test]
 fn a_list_is_read_from_a_string_and_written_as_it_was(rt: HostRuntime) -> Result<(), Fail> {
     for (text, count) in [("*", 1), (">=1.1.1,<2.0.0", 2)] {
-        let value = Value::try_from_str(rt.alloc(), text)?;
+        let value = string(&rt, text)?;
         let list = read(Requirements::deserialize(rt.alloc(), &value))?;
         assert_eq!(rt; list.0.len(), count);
         assert!(rt; list.serialize(rt.alloc())? == value, "{text}");
@@ -52,39 +55,25 @@ fn what_is_no_string_is_not_text(rt: HostRuntime) -> Result<(), Fail> {
 
 #[test]
 fn other_strings_are_illegal(rt: HostRuntime) -> Result<(), Fail> {
-    for (kind, text) in [
-        (Kind::Version, "1 2"),
-        (Kind::Version, ""),
-        (Kind::Requirement, ">=1.0,<2.0"),
-        (Kind::Requirement, ""),
-        (Kind::List, ""),
-        (Kind::List, ">=1.0,"),
-    ] {
-        let value = Value::try_from_str(rt.alloc(), text)?;
-        let Some(JsonError::Illegal(error)) = refusal(rt.alloc(), kind, &value) else {
-            return Err(Fail::new("no illegal text"));
-        };
-        let told = match (kind, &error) {
-            (Kind::Version, Error::IllegalVersioning(told)) => Some(told.as_str()),
-            (Kind::Requirement | Kind::List, Error::IllegalOp(told)) => Some(told.as_str()),
-            _ => None,
-        };
-        assert_eq!(rt; told, Some(text));
-    }
-    Ok(())
+    is_illegal(&rt, Kind::Version, "1 2", r#"IllegalVersioning("1 2")"#)?;
+    is_illegal(&rt, Kind::Version, "", r#"IllegalVersioning("")"#)?;
+    is_illegal(
+        &rt,
+        Kind::Requirement,
+        ">=1.0,<2.0",
+        r#"IllegalOp(">=1.0,<2.0")"#,
+    )?;
+    is_illegal(&rt, Kind::Requirement, "", r#"IllegalOp("")"#)?;
+    is_illegal(&rt, Kind::List, "", r#"IllegalOp("")"#)?;
+    is_illegal(&rt, Kind::List, ">=1.0,", r#"IllegalOp(">=1.0,")"#)
 }
 
 #[test]
 fn each_error_says_its_text(rt: HostRuntime) -> Result<(), Fail> {
-    let illegal = Error::IllegalVersioning(String::from_str(rt.alloc(), "1 2")?);
-    for (error, text) in [
-        (JsonError::NotText, "not a JSON string"),
-        (JsonError::Illegal(illegal), "Illegal Versioning: 1 2"),
-        (JsonError::Memory(AllocError), "no memory"),
-    ] {
-        assert_eq!(rt; printed(&rt, &error)?.as_str(), text);
-    }
-    Ok(())
+    prints(&rt, &JsonError::NotText, "not a JSON string")?;
+    prints(&rt, &JsonError::Memory(AllocError), "no memory")?;
+    let illegal = Error::IllegalVersioning(text(&rt, "1 2")?);
+    prints(&rt, &JsonError::Illegal(illegal), "Illegal Versioning: 1 2")
 }
 
 #[test]
@@ -134,6 +123,19 @@ fn refusal(alloc: Global, kind: Kind, value: &Value) -> Option<JsonError> {
         Kind::Requirement => Requirement::deserialize(alloc, value).err(),
         Kind::List => Requirements::deserialize(alloc, value).err(),
     }
+}
+
+// A string that spells no value of a kind is refused, with an error that `Debug` writes so.
+fn is_illegal(rt: &impl AllocGlobal, kind: Kind, text: &str, wanted: &str) -> Result<(), Fail> {
+    match refusal(rt.alloc(), kind, &string(rt, text)?) {
+        Some(JsonError::Illegal(error)) => shows(rt, &error, wanted),
+        _ => Err("no illegal text".into()),
+    }
+}
+
+// The JSON string of a text.
+fn string(rt: &impl AllocGlobal, text: &str) -> Result<Value, Fail> {
+    Ok(Value::try_from_str(rt.alloc(), text)?)
 }
 
 fn read<T: Drop>(answer: Result<T, JsonError>) -> Result<T, Fail> {

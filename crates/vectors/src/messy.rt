@@ -1,8 +1,9 @@
 //! Messy versions and their chunks: what is read, what is not, and what is printed.
 
-use given::{any, hash_of, messy, printed, text};
+use given::{any, are_apart, columns, messy, prints, shows, text};
 use std::alloc::AllocError;
 use std::fmt::Debug;
+use std::process::Abort;
 use std::test::Fail;
 use versions::{MChunk, Mess, SemVer, Sep, Version};
 
@@ -26,30 +27,30 @@ alpha0||Plain("alpha0")
 #[test]
 fn chunks_are_what_follows_them_says(rt: HostRuntime) -> Result<(), Fail> {
     for row in CHUNKS.lines() {
-        let (text, wanted) = row.split_once('|').ok_or("no rest")?;
-        let (wanted_rest, wanted) = wanted.split_once('|').ok_or("no chunk")?;
+        let (text, wanted_rest, wanted) = columns(row)?;
         let (chunk, rest) = MChunk::parse(rt.alloc(), text)?.ok_or("no chunk")?;
-        assert_eq!(rt; shown(&rt, &chunk)?.as_str(), wanted, "{text}");
         assert_eq!(rt; rest, wanted_rest, "{text}");
-        assert_eq!(rt; printed(&rt, &chunk)?.as_str(), chunk.text());
-        assert_eq!(rt; chunk.clone(rt.alloc())?, chunk);
+        shows(&rt, &chunk, wanted)?;
+        shows(&rt, &chunk.clone(rt.alloc())?, wanted)?;
+        prints(&rt, &chunk, chunk.text())?;
     }
     assert!(rt; MChunk::parse(rt.alloc(), "")?.is_none());
     assert!(rt; MChunk::parse(rt.alloc(), ".1")?.is_none());
     Ok(())
 }
 
+// Texts, what is left of them, and the one section before it as `Debug` writes it.
+const FRONTS: &str = r#"1.2 | |Mess { chunks: [Digits(1, "1"), Plain("2")], next: None }
+1.2-|-|Mess { chunks: [Digits(1, "1"), Digits(2, "2")], next: None }
+1..2|..2|Mess { chunks: [Digits(1, "1")], next: None }
+1:|:|Mess { chunks: [Digits(1, "1")], next: None }"#;
+
 #[test]
 fn fronts_stop_where_nothing_further_can_be_read(rt: HostRuntime) -> Result<(), Fail> {
-    for (text, wanted, wanted_rest) in [
-        ("1.2 ", "[Digits(1, \"1\"), Plain(\"2\")]", " "),
-        ("1.2-", "[Digits(1, \"1\"), Digits(2, \"2\")]", "-"),
-        ("1..2", "[Digits(1, \"1\")]", "..2"),
-        ("1:", "[Digits(1, \"1\")]", ":"),
-    ] {
+    for row in FRONTS.lines() {
+        let (text, wanted_rest, wanted) = columns(row)?;
         let (mess, rest) = Mess::parse(rt.alloc(), text)?.ok_or("not read")?;
-        assert_eq!(rt; shown(&rt, &mess.chunks)?.as_str(), wanted, "{text}");
-        assert!(rt; mess.next.is_none(), "{text}");
+        shows(&rt, &mess, wanted)?;
         assert_eq!(rt; rest, wanted_rest, "{text}");
     }
     Ok(())
@@ -57,69 +58,63 @@ fn fronts_stop_where_nothing_further_can_be_read(rt: HostRuntime) -> Result<(), 
 
 #[test]
 fn other_texts_are_one_plain_chunk(rt: HostRuntime) -> Result<(), Fail> {
-    for whole in ["r4294967296", "r", "R2"] {
-        let wanted = MChunk::Plain(text(&rt, whole)?);
-        let mess = messy(&rt, whole)?;
-        assert!(rt; mess.next.is_none());
-        let [chunk] = mess.chunks.as_slice() else {
-            return Err(Fail::new("not one chunk"));
-        };
-        assert_eq!(rt; *chunk, wanted);
+    for whole in "r4294967296 r R2".split(' ') {
+        let wanted = format!(in rt.alloc(); "Mess {{ chunks: [Plain({whole:?})], next: None }}")?;
+        shows(&rt, &messy(&rt, whole)?, wanted.as_str())?;
     }
     Ok(())
 }
 
 #[test]
 fn sections_stand_behind_their_signs(rt: HostRuntime) -> Result<(), Fail> {
-    let mess = messy(&rt, "2:10.2+r3-a~0_1")?;
-    assert_eq!(rt;
-        shown(&rt, &mess)?.as_str(),
+    shows(
+        &rt,
+        &messy(&rt, "2:10.2+r3-a~0_1")?,
         "Mess { chunks: [Digits(2, \"2\")], next: Some((Colon, \
          Mess { chunks: [Digits(10, \"10\"), Digits(2, \"2\")], next: Some((Plus, \
          Mess { chunks: [Rev(3, \"r3\")], next: Some((Hyphen, \
          Mess { chunks: [Plain(\"a\")], next: Some((Tilde, \
          Mess { chunks: [Digits(0, \"0\")], next: Some((Underscore, \
-         Mess { chunks: [Digits(1, \"1\")], next: None })) })) })) })) })) }"
-    );
-    Ok(())
+         Mess { chunks: [Digits(1, \"1\")], next: None })) })) })) })) })) }",
+    )
 }
 
 // The texts are those that Rust's derive writes.
 #[test]
 fn debug_shows_section_within_section(rt: HostRuntime) -> Result<(), Fail> {
-    let none = Mess::default_in(rt.alloc());
-    assert_eq!(rt;
-        shown(&rt, &none)?.as_str(),
-        "Mess { chunks: [], next: None }"
-    );
+    let none = "Mess { chunks: [], next: None }";
+    shows(&rt, &Mess::default_in(rt.alloc()), none)?;
+    shows(
+        &rt,
+        &any(&rt, "1_r2")?,
+        "Complex(Mess { chunks: [Digits(1, \"1\")], next: Some((Underscore, \
+         Mess { chunks: [Rev(2, \"r2\")], next: None })) })",
+    )?;
     let mut quoted = messy(&rt, "1~a")?;
     quoted.chunks.push(MChunk::Plain(text(&rt, "\"é\n")?))?;
-    assert_eq!(rt;
-        shown(&rt, &quoted)?.as_str(),
+    shows(
+        &rt,
+        &quoted,
         "Mess { chunks: [Digits(1, \"1\"), Plain(\"\\\"é\\n\")], next: Some((Tilde, \
-         Mess { chunks: [Plain(\"a\")], next: None })) }"
-    );
+         Mess { chunks: [Plain(\"a\")], next: None })) }",
+    )
+}
+
+#[test]
+fn debug_keeps_the_options(rt: HostRuntime) -> Result<(), Fail> {
     let widened = format!(in rt.alloc(); "{:03?}", messy(&rt, "1-r2")?)?;
     assert_eq!(rt;
         widened.as_str(),
         "Mess { chunks: [Digits(001, \"1\")], next: Some((Hyphen, \
          Mess { chunks: [Rev(002, \"r2\")], next: None })) }"
     );
-    assert_eq!(rt;
-        shown(&rt, &any(&rt, "1_r2")?)?.as_str(),
-        "Complex(Mess { chunks: [Digits(1, \"1\")], next: Some((Underscore, \
-         Mess { chunks: [Rev(2, \"r2\")], next: None })) })"
-    );
     Ok(())
 }
 
 #[test]
 fn pretty_debug_indents_each_section(rt: HostRuntime) -> Result<(), Fail> {
-    let none = Mess::default_in(rt.alloc());
-    assert_eq!(rt;
-        pretty(&rt, &none)?.as_str(),
-        "Mess {\n    chunks: [],\n    next: None,\n}"
-    );
+    let none = "Mess {\n    chunks: [],\n    next: None,\n}";
+    assert_eq!(rt; pretty(&rt, &Mess::default_in(rt.alloc()))?.as_str(), none);
     let wanted = "\
 Complex(
     Mess {
@@ -168,23 +163,12 @@ Complex(
 #[test]
 fn pretty_debug_keeps_the_options(rt: HostRuntime) -> Result<(), Fail> {
     let mess = messy(&rt, "7")?;
-    for (shown, number) in [
-        (format!(in rt.alloc(); "{mess:#03?}")?, "007"),
-        (format!(in rt.alloc(); "{mess:#3?}")?, "  7"),
-        (format!(in rt.alloc(); "{mess:x<#3?}")?, "7xx"),
-        (format!(in rt.alloc(); "{mess:x^#3?}")?, "x7x"),
-        (format!(in rt.alloc(); "{mess:x>#3?}")?, "xx7"),
-        (format!(in rt.alloc(); "{mess:+#?}")?, "+7"),
-    ] {
-        let digits = format!(in rt.alloc();
-            "        Digits(\n            {number},\n            \"7\",\n        ),\n"
-        )?;
-        let wanted = format!(in rt.alloc();
-            "Mess {{\n    chunks: [\n{digits}    ],\n    next: None,\n}}"
-        )?;
-        assert_eq!(rt; shown, wanted);
-    }
-    Ok(())
+    is_seven(&rt, format!(in rt.alloc(); "{mess:#03?}")?, "007")?;
+    is_seven(&rt, format!(in rt.alloc(); "{mess:#3?}")?, "  7")?;
+    is_seven(&rt, format!(in rt.alloc(); "{mess:x<#3?}")?, "7xx")?;
+    is_seven(&rt, format!(in rt.alloc(); "{mess:x^#3?}")?, "x7x")?;
+    is_seven(&rt, format!(in rt.alloc(); "{mess:x>#3?}")?, "xx7")?;
+    is_seven(&rt, format!(in rt.alloc(); "{mess:+#?}")?, "+7")
 }
 
 // Texts, places, and the numbers there.
@@ -230,8 +214,7 @@ const MESSY_VERSIONS: &str = "\
 #[test]
 fn messy_versions_print_what_was_read(rt: HostRuntime) -> Result<(), Fail> {
     for text in MESSY_VERSIONS.lines() {
-        let mess = messy(&rt, text)?;
-        assert_eq!(rt; printed(&rt, &mess)?.as_str(), text);
+        prints(&rt, &messy(&rt, text)?, text)?;
         assert!(rt; !is_strict_or_general(&rt, text)?);
     }
     Ok(())
@@ -258,61 +241,64 @@ fn other_texts_are_no_messy_version(rt: HostRuntime) -> Result<(), Fail> {
 #[test]
 fn no_chunks_is_the_default(rt: HostRuntime) -> Result<(), Fail> {
     let mess = Mess::default_in(rt.alloc());
-    assert_eq!(rt; printed(&rt, &mess)?.as_str(), "");
+    prints(&rt, &mess, "")?;
     assert_eq!(rt; mess.nth(0), None);
-    assert_eq!(rt; mess.clone(rt.alloc())?, mess);
+    assert!(rt; mess.clone(rt.alloc())? == mess);
     Ok(())
 }
 
 #[test]
-fn unequal_values_hash_apart(rt: HostRuntime) -> Result<(), Fail> {
-    let texts = [
-        "1", "01", "r1", "1.1", "1:1", "1-1", "1+1", "1_1", "1~1", "1_1_1", "1_1_2",
-    ];
-    for (at, text) in texts.iter().enumerate() {
-        for (place, other) in texts.iter().enumerate() {
-            let mess = messy(&rt, text)?;
-            let other = messy(&rt, other)?;
-            assert_eq!(rt; mess == other, at == place, "{mess} {other}");
-            assert_eq!(rt;
-                hash_of(&mess) == hash_of(&other),
-                at == place,
-                "{mess} {other}"
-            );
-        }
+fn unequal_versions_hash_apart(rt: HostRuntime) -> Result<(), Fail> {
+    let mut versions = Vec::new(rt.alloc());
+    for text in "1 01 r1 1.1 1:1 1-1 1+1 1_1 1~1 1_1_1 1_1_2".split(' ') {
+        versions.push(messy(&rt, text)?)?;
     }
-    assert_ne!(rt; hash_of(&Sep::Colon), hash_of(&Sep::Tilde));
-    let digits = MChunk::Digits(1, String::from_str(rt.alloc(), "1")?);
-    let plain = MChunk::Plain(String::from_str(rt.alloc(), "1")?);
-    assert_ne!(rt; hash_of(&digits), hash_of(&plain));
-    Ok(())
+    are_apart(versions.as_slice())
+}
+
+#[test]
+fn unequal_chunks_hash_apart(rt: HostRuntime) -> Result<(), Fail> {
+    let mut chunks = Vec::new(rt.alloc());
+    chunks.push(MChunk::Digits(1, text(&rt, "1")?))?;
+    chunks.push(MChunk::Plain(text(&rt, "1")?))?;
+    are_apart(chunks.as_slice())
 }
 
 #[test]
 fn signs_print_and_compare(rt: HostRuntime) -> Result<(), Fail> {
-    let signs = [
+    is_sign(&rt, Sep::Colon, ":")?;
+    is_sign(&rt, Sep::Hyphen, "-")?;
+    is_sign(&rt, Sep::Plus, "+")?;
+    is_sign(&rt, Sep::Underscore, "_")?;
+    is_sign(&rt, Sep::Tilde, "~")?;
+    are_apart(&[
         Sep::Colon,
         Sep::Hyphen,
         Sep::Plus,
         Sep::Underscore,
         Sep::Tilde,
-    ];
-    for (sign, wanted) in signs.iter().zip([":", "-", "+", "_", "~"]) {
-        assert_eq!(rt; printed(&rt, sign)?.as_str(), wanted);
-        assert_eq!(rt; sign.clone()?, *sign);
-    }
-    assert_ne!(rt; Sep::Plus, Sep::Underscore);
+    ])
+}
+
+// A sign is printed so, and its copy equals it.
+fn is_sign(rt: &(impl Abort + AllocGlobal), sign: Sep, wanted: &str) -> Result<(), Fail> {
+    prints(rt, &sign, wanted)?;
+    assert_eq!(rt; sign.clone()?, sign);
+    Ok(())
+}
+
+// Fails where a text isn't that of the version `7` over several lines, whose number stands so.
+fn is_seven(rt: &(impl Abort + AllocGlobal), shown: String, number: &str) -> Result<(), Fail> {
+    let wanted = format!(in rt.alloc();
+        "Mess {{\n    chunks: [\n        Digits(\n            {number},\n            \"7\",\n        ),\n    ],\n    next: None,\n}}"
+    )?;
+    assert_eq!(rt; shown, wanted);
     Ok(())
 }
 
 // Whether a text spells a strict version or a general one.
 fn is_strict_or_general(rt: &HostRuntime, text: &str) -> Result<bool, AllocError> {
     Ok(SemVer::new(rt.alloc(), text)?.is_some() || Version::new(rt.alloc(), text)?.is_some())
-}
-
-// A value as `Debug` writes it.
-fn shown(rt: &HostRuntime, value: &impl Debug) -> Result<String, AllocError> {
-    format!(in rt.alloc(); "{value:?}")
 }
 
 // A value as `Debug` writes it over several lines.

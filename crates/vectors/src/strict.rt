@@ -1,6 +1,6 @@
 //! Strict versions and their parts: what is read, what is not, and what is printed.
 
-use given::printed;
+use given::{columns, prints, shows, strict, text};
 use std::test::Fail;
 use versions::parsers::{alphanums, hyphenated_alphanums, meta, unsigned};
 use versions::{Chunk, Release, SemVer};
@@ -21,36 +21,37 @@ fn unsigned_reads_numerals(rt: HostRuntime) {
 }
 
 #[test]
-fn runs_end_at_the_first_other_byte(rt: HostRuntime) -> Result<(), Fail> {
+fn runs_end_at_the_first_other_byte(rt: HostRuntime) {
     assert_eq!(rt; alphanums("1a-b.c"), Some(("1a", "-b.c")));
     assert_eq!(rt; alphanums("-"), None);
     assert_eq!(rt; hyphenated_alphanums("1a-b.c"), Some(("1a-b", ".c")));
     assert_eq!(rt; hyphenated_alphanums("é"), None);
-    let (text, rest) = meta(rt.alloc(), "+a.-b+c")?.ok_or("no metadata")?;
-    assert_eq!(rt; text.as_str(), "a.-b");
-    assert_eq!(rt; rest, "+c");
-    assert!(rt; meta(rt.alloc(), "a")?.is_none());
-    assert!(rt; meta(rt.alloc(), "+")?.is_none());
-    Ok(())
 }
 
 #[test]
+fn metadata_is_read_behind_its_mark(rt: HostRuntime) -> Result<(), Fail> {
+    shows(
+        &rt,
+        &meta(rt.alloc(), "+a.-b+c")?,
+        r#"Some(("a.-b", "+c"))"#,
+    )?;
+    shows(&rt, &meta(rt.alloc(), "a")?, "None")?;
+    shows(&rt, &meta(rt.alloc(), "+")?, "None")
+}
+
+// Texts, and the chunks that they spell as `Debug` writes them.
+const CHUNKS: &str = r#"123 Numeric(123)
+123a Alphanum("123a")
+123-456 Alphanum("123-456")
+00a Alphanum("00a")"#;
+
+#[test]
 fn chunks_of_digits_are_numbers(rt: HostRuntime) -> Result<(), Fail> {
-    for (text, wanted) in [
-        ("123", None),
-        ("123a", Some("123a")),
-        ("123-456", Some("123-456")),
-        ("00a", Some("00a")),
-    ] {
-        let (chunk, rest) = Chunk::parse(rt.alloc(), text)?.ok_or("no chunk")?;
+    for row in CHUNKS.lines() {
+        let (text, wanted) = row.split_once(' ').ok_or("no chunk")?;
+        let (chunk, rest) = Chunk::parse(rt.alloc(), text)?.ok_or("not read")?;
+        shows(&rt, &chunk, wanted)?;
         assert_eq!(rt; rest, "", "{text}");
-        match chunk {
-            Chunk::Numeric(number) => {
-                assert_eq!(rt; wanted, None, "{text}");
-                assert_eq!(rt; number, 123);
-            }
-            Chunk::Alphanum(letters) => assert_eq!(rt; wanted, Some(letters.as_str())),
-        }
     }
     Ok(())
 }
@@ -58,7 +59,7 @@ fn chunks_of_digits_are_numbers(rt: HostRuntime) -> Result<(), Fail> {
 #[test]
 fn releases_stop_before_a_dot_that_leads_nowhere(rt: HostRuntime) -> Result<(), Fail> {
     let (release, rest) = Release::parse(rt.alloc(), "-rc.1.+x")?.ok_or("no release")?;
-    assert_eq!(rt; printed(&rt, &release)?.as_str(), "rc.1");
+    prints(&rt, &release, "rc.1")?;
     assert_eq!(rt; rest, ".+x");
     assert!(rt; Release::parse(rt.alloc(), "rc")?.is_none());
     assert!(rt; Release::parse(rt.alloc(), "-")?.is_none());
@@ -90,8 +91,7 @@ const STRICT_VERSIONS: &str = "\
 #[test]
 fn strict_versions_print_what_was_read(rt: HostRuntime) -> Result<(), Fail> {
     for text in STRICT_VERSIONS.lines() {
-        let version = SemVer::new(rt.alloc(), text)?.ok_or("not read")?;
-        assert_eq!(rt; printed(&rt, &version)?.as_str(), text);
+        prints(&rt, &strict(&rt, text)?, text)?;
     }
     Ok(())
 }
@@ -119,34 +119,26 @@ fn other_texts_are_no_strict_version(rt: HostRuntime) -> Result<(), Fail> {
 
 #[test]
 fn fields_are_read_into_their_places(rt: HostRuntime) -> Result<(), Fail> {
-    let version = SemVer::new(rt.alloc(), "1.2.3-rc.4+five")?.ok_or("not read")?;
-    assert_eq!(rt; version.major, 1);
-    assert_eq!(rt; version.minor, 2);
-    assert_eq!(rt; version.patch, 3);
-    let release = version.pre_rel.ok_or("no release")?;
-    match release.0.as_slice() {
-        [Chunk::Alphanum(letters), Chunk::Numeric(number)] => {
-            assert_eq!(rt; letters.as_str(), "rc");
-            assert_eq!(rt; *number, 4);
-        }
-        _ => assert!(rt; false, "{release:?}"),
-    }
-    assert_eq!(rt; version.meta.ok_or("no metadata")?.as_str(), "five");
-    Ok(())
+    let wanted =
+        r#"SemVer { major: 1, minor: 2, patch: 3, pre_rel: Some(Release([Alphanum("rc"), Numeric(4)])), meta: Some("five") }"#;
+    shows(&rt, &strict(&rt, "1.2.3-rc.4+five")?, wanted)
 }
+
+// Texts, what of them is read, and what is left.
+const FRONTS: &str = "\
+1.2.2-00a|1.2.2-00a|
+1.2.3-06|1.2.3-0|6
+1.2.3-99999999999|1.2.3|-99999999999
+1.2.3-a.+x|1.2.3-a|.+x
+1.2.3.4|1.2.3|.4";
 
 #[test]
 fn a_front_leaves_what_it_cannot_read(rt: HostRuntime) -> Result<(), Fail> {
-    for (text, front, wanted) in [
-        ("1.2.2-00a", "1.2.2-00a", ""),
-        ("1.2.3-06", "1.2.3-0", "6"),
-        ("1.2.3-99999999999", "1.2.3", "-99999999999"),
-        ("1.2.3-a.+x", "1.2.3-a", ".+x"),
-        ("1.2.3.4", "1.2.3", ".4"),
-    ] {
+    for row in FRONTS.lines() {
+        let (text, front, wanted_rest) = columns(row)?;
         let (version, rest) = SemVer::parse(rt.alloc(), text)?.ok_or("not read")?;
-        assert_eq!(rt; printed(&rt, &version)?.as_str(), front);
-        assert_eq!(rt; rest, wanted, "{text}");
+        prints(&rt, &version, front)?;
+        assert_eq!(rt; rest, wanted_rest, "{text}");
     }
     assert!(rt; SemVer::parse(rt.alloc(), "1.2.")?.is_none());
     Ok(())
@@ -154,9 +146,11 @@ fn a_front_leaves_what_it_cannot_read(rt: HostRuntime) -> Result<(), Fail> {
 
 #[test]
 fn hand_built_values_print_as_they_are(rt: HostRuntime) -> Result<(), Fail> {
+    let mut version = strict(&rt, "1.2.3")?;
+    version.pre_rel = Some(Release(Vec::new(rt.alloc())));
+    prints(&rt, &version, "1.2.3-")?;
     let mut chunks = Vec::new(rt.alloc());
-    let letters = String::from_str(rt.alloc(), "a.b é")?;
-    chunks.push(Chunk::Alphanum(letters))?;
+    chunks.push(Chunk::Alphanum(text(&rt, "a.b é")?))?;
     chunks.push(Chunk::Numeric(7))?;
     let version = SemVer {
         major: 0,
@@ -165,14 +159,5 @@ fn hand_built_values_print_as_they_are(rt: HostRuntime) -> Result<(), Fail> {
         pre_rel: Some(Release(chunks)),
         meta: Some(String::new(rt.alloc())),
     };
-    assert_eq!(rt; printed(&rt, &version)?.as_str(), "0.1.4294967295-a.b é.7+");
-    let bare = SemVer {
-        major: 1,
-        minor: 2,
-        patch: 3,
-        pre_rel: Some(Release(Vec::new(rt.alloc()))),
-        meta: None,
-    };
-    assert_eq!(rt; printed(&rt, &bare)?.as_str(), "1.2.3-");
-    Ok(())
+    prints(&rt, &version, "0.1.4294967295-a.b é.7+")
 }
