@@ -1,0 +1,24 @@
+"""Runs the tests of the installed package and the examples of its docstrings, of docs/PYTHON.md and of the README.
+
+The last line is 'N passed, M failed'.
+"""
+
+import doctest
+import importlib
+import os
+import sys
+import unittest
+
+HERE = os.path.dirname(os.path.abspath(__file__))
+MODULES = ("versions", "versions._one", "versions._many", "versions._version", "versions._requirement")
+TOP = os.path.join(HERE, "..", "..")
+PAGES = (os.path.join(TOP, "README.md"), os.path.join(TOP, "docs", "PYTHON.md"))
+
+tests = unittest.defaultTestLoader.discover(HERE)
+for module in MODULES:
+    tests.addTest(doctest.DocTestSuite(importlib.import_module(module)))
+tests.addTest(doctest.DocFileSuite(*PAGES, module_relative=False, encoding="utf-8"))
+result = unittest.TextTestRunner(sys.stdout).run(tests)
+failed = len({test.id().split(" ")[0] for test, _ in result.failures + result.errors} | set(result.unexpectedSuccesses))
+print(f"{result.testsRun - failed} passed, {failed} failed")
+sys.exit(failed > 0)

@@ -1,0 +1,197 @@
+"""`Version` and `Requirement` as values of Python."""
+
+import copy
+import enum
+import pickle
+import random
+import unittest
+
+from versions import Requirement, Version, compare, sort_key
+
+# In increasing order by docs/ORDER.md.
+INCREASING = "abc.0 0.0 1a.0 1.2.git 1.2 1.2.0-rc.1 1.2.0 1.2.3rc9 1.2.3rc10 1.2.3 1:0.1".split()
+
+# Of one key by docs/ORDER.md.
+LEVEL = ["1.2", "01.2", "0:1.2", "1.2+x", "1.002"]
+
+# No versions by docs/GRAMMAR.md, and what is no text of Unicode.
+NONE = ["", "1..2", "1.2.3 ", "1.2.3-a_!", ".", "\0", "1\0", "1.2.3-ä", "\ud800", "1.2.3\udcff", "x y"]
+
+
+class Item(str, enum.Enum):
+    FIRST = "1.2.3"
+
+
+class Versions(unittest.TestCase):
+    def test_order(self):
+        for i, a in enumerate(INCREASING):
+            for j, b in enumerate(INCREASING):
+                x, y = Version(a), Version(b)
+                with self.subTest(a=a, b=b):
+                    self.assertEqual((x < y, x <= y, x == y), (i < j, i <= j, i == j))
+                    self.assertEqual((x > y, x >= y, x != y), (i > j, i >= j, i != j))
+                    self.assertEqual(compare(a, b), (i > j) - (i < j))
+                    self.assertEqual(x.key < y.key, i < j)
+
+    def test_sorts(self):
+        drawn = INCREASING[:]
+        random.Random(1).shuffle(drawn)
+        self.assertEqual([str(v) for v in sorted(map(Version, drawn))], INCREASING)
+        self.assertEqual(sorted(drawn, key=Version), INCREASING)
+        self.assertEqual(sorted(drawn, key=sort_key, reverse=True), INCREASING[::-1])
+        self.assertEqual(str(max(map(Version, drawn))), INCREASING[-1])
+
+    def test_level_versions_are_equal_and_hash_alike(self):
+        versions = [Version(text) for text in LEVEL]
+        self.assertEqual(len(set(versions)), 1)
+        self.assertEqual({hash(v) for v in versions}, {hash(versions[0])})
+        self.assertEqual(versions, versions[:1] * len(LEVEL))
+        self.assertEqual([str(v) for v in versions], LEVEL)
+        self.assertIn(Version("0:1.2"), {Version("1.2"): 1})
+
+    def test_no_version(self):
+        for text in NONE:
+            with self.subTest(text=text), self.assertRaises(ValueError) as raised:
+                Version(text)
+            self.assertNotIsInstance(raised.exception, UnicodeError)
+            self.assertEqual(str(raised.exception), f"not a version: {text!r}")
+
+    def test_no_text(self):
+        for other in (None, 1.2, 5, b"1.2", ["1.2"], Version("1.2"), object):
+            with self.subTest(other=other), self.assertRaisesRegex(TypeError, type(other).__name__):
+                Version(other)
+        with self.assertRaises(TypeError):
+            Version()
+
+    def test_others_are_neither_equal_nor_ordered(self):
+        version = Version("1.2")
+        for other in ("1.2", 1.2, None, version.key, Requirement("=1.2")):
+            with self.subTest(other=other):
+                self.assertNotEqual(version, other)
+                self.assertIs(version.__eq__(other), NotImplemented)
+                for ordered in (lambda: version < other, lambda: version >= other, lambda: other > version):
+                    self.assertRaises(TypeError, ordered)
+
+    def test_another_type_may_answer(self):
+        class Above:
+            def __gt__(self, other):
+                return "asked"
+
+        self.assertEqual(Version("1") < Above(), "asked")
+
+    def test_never_changes(self):
+        version = Version("1.2")
+        for name in ("_text", "_key", "key", "kind", "other"):
+            with self.subTest(name=name):
+                self.assertRaises(AttributeError, setattr, version, name, "1")
+                self.assertRaises(AttributeError, delattr, version, name)
+        version.__init__("2.0")
+        self.assertFalse(hasattr(version, "__dict__"))
+        self.assertEqual((str(version), version.key), ("1.2", sort_key("1.2")))
+
+    def test_kinds(self):
+        wanted = {"1.2.3-rc.1+x": "ideal", "1:2.0rc1-3": "general", "1.2.3-06": "complex", "4294967296.0.0": "complex"}
+        for text, kind in wanted.items():
+            version = Version(text)
+            with self.subTest(text=text):
+                self.assertEqual(version.kind, kind)
+                said = {"ideal": version.is_ideal, "general": version.is_general, "complex": version.is_complex}
+                self.assertEqual([name for name, holds in said.items() if holds], [kind])
+
+    def test_numbers(self):
+        self.assertEqual([Version("1.2.3").nth(n) for n in range(4)], [1, 2, 3, None])
+        self.assertEqual([Version("1:2.a.4.5.6.7-r1").nth(n) for n in range(4)], [2, None, 4, 5])
+        self.assertEqual(Version("4294967295.0.0").nth(0), 4294967295)
+        for n in (2**31, 2**32, 2**63 - 1, 2**63, 2**64, 2**64 + 1, 10**30):
+            self.assertIsNone(Version("1.2.3").nth(n))
+        self.assertRaises(ValueError, Version("1.2.3").nth, -1)
+        self.assertRaises(TypeError, Version("1.2.3").nth, 1.0)
+
+    def test_is_printed_as_it_was_written(self):
+        for text in INCREASING + LEVEL:
+            self.assertEqual(str(Version(text)), text)
+            self.assertEqual(eval(repr(Version(text))), Version(text))
+            self.assertEqual(f"{Version(text):>30}", f"{text:>30}")
+        self.assertEqual(repr(Version("1.2")), "Version('1.2')")
+
+    def test_an_item_of_an_enum_is_its_text(self):
+        self.assertEqual(str(Version(Item.FIRST)), "1.2.3")
+        self.assertEqual(type(str(Version(Item.FIRST))), str)
+
+    def test_pickles_and_copies(self):
+        for value in (Version("0:1.2"), Requirement(">=1.2,<2")):
+            for protocol in range(pickle.HIGHEST_PROTOCOL + 1):
+                back = pickle.loads(pickle.dumps(value, protocol))
+                self.assertEqual((back, str(back), type(back)), (value, str(value), type(value)))
+            self.assertIs(copy.copy(value), value)
+            self.assertEqual(copy.deepcopy([value]), [value])
+
+    def test_long(self):
+        for text in ("1." * 1_000_000 + "1", "1_" * 1_000_000 + "1", "a" * 10_000_000, "9" * 10_000_000):
+            version = Version(text)
+            self.assertEqual(str(version), text)
+            self.assertEqual(version, Version("0:" + text))
+            self.assertGreater(Version("1:0"), version)
+        self.assertRaises(ValueError, Version, "1." * 1_000_000)
+
+
+class Requirements(unittest.TestCase):
+    def test_matches(self):
+        # From docs/REQUIREMENTS.md.
+        wanted = {
+            ("^1.1.1", "1.2.0"): True,
+            ("~1.1.1", "1.2.0"): False,
+            ("~1.2", "1.5"): True,
+            ("~1.2", "5.0"): False,
+            ("^1.2", "1.0"): False,
+            (">=1.0", "0:1.0"): True,
+            ("=1.0", "0:1.0"): False,
+            ("^1.1.1,<1.5.0", "1.5.0-rc.1"): True,
+            ("^1.1.1,<1.5.0", "1.5.0"): False,
+            ("*", "20.0026.1_0-2+0.93"): True,
+        }
+        for (requirement, text), answer in wanted.items():
+            with self.subTest(requirement=requirement, text=text):
+                self.assertIs(Requirement(requirement).matches(text), answer)
+                self.assertIs(Requirement(requirement).matches(Version(text)), answer)
+                self.assertIs(text in Requirement(requirement), answer)
+                self.assertIs(Version(text) in Requirement(requirement), answer)
+
+    def test_no_requirement(self):
+        of_the_page = ("", "1.2.3", "*1", "=", "=>1.0", ",", ",*", "=1.0.0,", "=1.0.0,,*")
+        for text in (*of_the_page, ">= 1", "^\ud800", "=1\0", "=é"):
+            with self.subTest(text=text), self.assertRaises(ValueError) as raised:
+                Requirement(text)
+            self.assertEqual(str(raised.exception), f"not a requirement: {text!r}")
+        for other in (None, 1, b"*", Version("1.2")):
+            self.assertRaises(TypeError, Requirement, other)
+
+    def test_no_version(self):
+        anything = Requirement("*")
+        for text in NONE:
+            with self.subTest(text=text):
+                with self.assertRaises(ValueError) as raised:
+                    anything.matches(text)
+                self.assertEqual(str(raised.exception), f"not a version: {text!r}")
+                self.assertNotIn(text, anything)
+        for other in (None, 1.2, b"1.2", anything):
+            self.assertRaises(TypeError, anything.matches, other)
+            self.assertRaises(TypeError, anything.__contains__, other)
+            self.assertRaises(TypeError, anything.filter, ["1.2", other])
+
+    def test_filter(self):
+        wanted = Requirement(">=1.1.1,<2.0.0")
+        versions = [Version("1.0"), "1.5", "x y", Version("1.1.1"), "2.0.0", "2.0.0-rc.1"]
+        self.assertEqual(wanted.filter(versions), ["1.5", Version("1.1.1"), "2.0.0-rc.1"])
+        self.assertEqual(wanted.filter(iter(["1.5", "1.0"])), ["1.5"])
+        self.assertEqual(wanted.filter([]), [])
+
+    def test_is_a_value(self):
+        wanted = Requirement("^1.2")
+        self.assertEqual((str(wanted), repr(wanted)), ("^1.2", "Requirement('^1.2')"))
+        self.assertEqual({wanted, Requirement("^1.2")}, {wanted})
+        self.assertNotEqual(wanted, Requirement("^0:1.2"))
+        self.assertNotEqual(wanted, "^1.2")
+        self.assertRaises(AttributeError, setattr, wanted, "_text", "*")
+        self.assertRaises(AttributeError, delattr, wanted, "_text")
+        self.assertFalse(hasattr(wanted, "__dict__"))
