@@ -75,6 +75,7 @@ impl<'a> KeyBytes<'a> {
     }
 
     // The bytes of the key of a version of any kind.
+    #[inline(always)]
     pub(crate) fn of(version: &'a Versioning) -> KeyBytes<'a>
         ensures { result ≡ key_bytes (key_of (plain_versioning version.now)) }
     {
@@ -319,8 +320,11 @@ pub(crate) fn key_list(alloc: Global, version: &Versioning) -> Result<Vec<u8>, A
     }
 }
 
-// How two streams of the bytes of keys compare: byte by byte, but for what both pieces begin with alike.
-pub(crate) fn compare_keys(mut a: KeyBytes<'_>, mut b: KeyBytes<'_>) -> Ordering
+/// How two keys compare, as the precedence of their versions: by the first byte at which they differ. What both pieces
+/// begin with alike is passed at once, so it is quicker than `compare_bytes`, which takes any two streams. Takes no
+/// memory.
+#[inline(always)]
+pub fn compare_keys(mut a: KeyBytes<'_>, mut b: KeyBytes<'_>) -> Ordering
     ensures { result ≡ bytes_cmp a.entry b.entry }
 {
     while let Some(x) = a.next() {

@@ -12,7 +12,7 @@ use crate::spelled::{key_of, kind_of, version_of};
 use crate::status::{NO_MEMORY, NO_VERSION_A, NO_VERSION_AB, NO_VERSION_B, OK};
 use std::alloc::{AllocError, Global};
 use std::cmp::Ordering;
-use versions::key::compare_bytes;
+use versions::key::compare_keys;
 
 /// By precedence.
 #[unsafe(no_mangle)]
@@ -54,9 +54,7 @@ pub extern "C" fn versions_compare_total(alloc: Global, a: &[u8], b: &[u8], orde
 fn precedence_of(a: &[u8], b: &[u8]) -> Option<Ordering>
     ensures { result ≡ both (on key_of precedence) (versioning_of a.now) (versioning_of b.now) }
 {
-    let mut a = key_of(a)?;
-    let mut b = key_of(b)?;
-    Some(compare_bytes(&mut a, &mut b))
+    Some(compare_keys(key_of(a)?, key_of(b)?))
 }
 
 // How two versions compare by `Ord`. The error is that there is no memory for them, which are made only for a tie.
