@@ -26,6 +26,7 @@ pub mod ReleaseOrder
 pub mod Repeated
 pub mod RunFronts
 pub mod Runs
+pub mod ShortRuns
 pub mod Spelled
 pub mod Split
 pub mod TextBytes

@@ -1,7 +1,7 @@
 //! Chunks: what stands between the dots of a release or of a general version.
 
-ghost use Rattle.std.specs.Prelude.{◌≡◌, refl, Some, IfOk, OnErr};
-ghost use Rattle.std.specs.Char.{is_ascii_alphanumeric};
+ghost use Rattle.std.specs.Prelude.{◌≡◌, ◌<◌, ℕ, refl, length, true, IsTrue, Some, IfOk, OnErr};
+ghost use Rattle.std.specs.Char.{is_ascii_alphanumeric, is_ascii_digit};
 ghost use Rattle.std.specs.Option.{option_map};
 ghost use Rattle.std.proofs.Common.{ap};
 ghost use Rattle.std.specs.Cmp.{eq_by_cmp_equiv, on_equiv, on_per, partial_equiv_from_equiv};
@@ -11,7 +11,7 @@ ghost use Rattle.version_parts.specs.Chunk.{after_letter, chunk_fed, chunk_front
 ghost use Rattle.version_parts.specs.Class.{contains};
 ghost use Rattle.version_parts.specs.Front.{Reads};
 ghost use Rattle.version_parts.specs.FrontLaws.{chunk_consumes};
-ghost use Rattle.version_parts.specs.Numeral.{unsigned_front};
+ghost use Rattle.version_parts.specs.Numeral.{unsigned_front, HasNoLeadingZero};
 ghost use Rattle.version_parts.specs.OrderLaws.{same_where_tied};
 ghost use Rattle.version_parts.specs.ReleaseLaws.{chunk_total, chunks_same};
 ghost use Rattle.version_parts.specs.ReleaseOrder.{chunk_cmp};
@@ -240,6 +240,36 @@ impl<'a> ChunkPiece<'a> {
     }
 }
 
+// What stands behind the chunk at the front of a text whose runs are of the class, which has all digits. Of a run of at
+// most nine digits the value isn't looked at, since that is below 2 ^ 32.
+#[tactic(auto, unfolding(crate::specs::Chunk::chunk_front_of))]
+#[inline(always)]
+fn skip_chunk(i: &str, class: Class) -> Option<&str>
+    requires { (b : ℕ) → is_ascii_digit b ≡ true → contains class b ≡ true }
+    ensures { option_map (λ r. r.now) result ≡ option_map (λ p. p.1) (chunk_front_of (contains class) i.now) }
+{
+    let (run, rest) = split_run(i, class);
+    if !is_all_digits(run) {
+        return Some(rest);
+    }
+    if is_short_numeral(run) {
+        return Some(rest);
+    }
+    Some(unsigned(i)?.1)
+}
+
+// Whether a run of digits is a numeral of at most nine.
+#[inline(always)]
+fn is_short_numeral(run: &str) -> bool
+    ensures { IsTrue result → (length run.now < 10) × HasNoLeadingZero run.now }
+{
+    match run.as_bytes() {
+        [] => false,
+        [_] => true,
+        [first, ..] => *first != b'0' && run.len() < 10,
+    }
+}
+
 impl ListItem for Chunk {
     ghost Plain = { PlainChunk };
 
@@ -276,8 +306,9 @@ impl Element for ReleaseChunk {
 
     ghost consumes = { chunk_consumes is_identifier_byte };
 
+    #[tactic(auto, using(crate::proofs::ShortRuns::digits_identify))]
     fn skip(i: &str) -> Option<&str> {
-        Some(ChunkPiece::scan(i, Class::Identifier)?.1)
+        skip_chunk(i, Class::Identifier)
     }
 
     fn read(alloc: Global, i: &str) -> Result<Option<(Chunk, &str)>, AllocError> {
@@ -301,8 +332,9 @@ impl Element for Part {
 
     ghost consumes = { chunk_consumes is_ascii_alphanumeric };
 
+    #[tactic(auto, using(crate::proofs::ShortRuns::digits_alphanumeric))]
     fn skip(i: &str) -> Option<&str> {
-        Some(ChunkPiece::scan(i, Class::Alphanumeric)?.1)
+        skip_chunk(i, Class::Alphanumeric)
     }
 
     fn read(alloc: Global, i: &str) -> Result<Option<(Chunk, &str)>, AllocError> {

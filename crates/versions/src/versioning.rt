@@ -153,6 +153,7 @@ impl Versioning {
     }
 
     /// The bytes of its key, one after another, which order as precedence does. Takes no memory.
+    #[inline(always)]
     pub fn key_bytes(&self) -> KeyBytes<'_>
         ensures { result ≡ key_bytes (key_of (plain_versioning self.now)) }
     {
