@@ -236,13 +236,17 @@ fn text_step(text: &mut PartText<'_>) -> Step
     }
 }
 
-// Goes past as many bytes as both runs have, where those are the same.
+// How many bytes of two runs are held beside each other at once: where they differ far behind, not all is gone through
+// again for each byte.
+const WINDOW: usize = 64;
+
+// Goes past as many bytes as both runs have, and at most a window of them, where those are the same.
 #[tactic(auto, using(crate::proofs::Past::past))]
 #[inline(always)]
 fn pass_same_run(run: &mut &[u8], other: &mut &[u8])
     ensures { GonePast run.old.now other.old.now run.new.now other.new.now }
 {
-    let count = run.len().min(other.len());
+    let count = run.len().min(other.len()).min(WINDOW);
     let (front, rest) = run.split_at(count);
     let (other_front, other_rest) = other.split_at(count);
     if front == other_front {
