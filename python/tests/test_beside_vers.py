@@ -1,10 +1,8 @@
-"""The package beside the program `vers`, over ten thousand texts of every shape that tests/compare draws.
+"""The package beside the program `vers`, over ten thousand texts of every shape that tests/support/shapes.py draws.
 
 VERS is the program. SEED chooses the texts, the same each time where it isn't set.
 """
 
-import importlib.machinery
-import importlib.util
 import os
 import subprocess
 import sys
@@ -12,7 +10,10 @@ import sys
 import versions
 from lists import LongLists
 
-TESTS = os.path.join(os.path.dirname(os.path.abspath(__file__)), "..", "..", "tests")
+HERE = os.path.dirname(os.path.abspath(__file__))
+sys.path.insert(0, os.path.join(HERE, "..", "..", "tests", "support"))
+from shapes import Shapes  # noqa: E402
+
 VERS = os.environ["VERS"]
 SEED = os.environ.get("SEED", "one")
 TEXTS = 10_000
@@ -21,12 +22,8 @@ SIGNS = {b"<\n": -1, b"=\n": 0, b">\n": 1}
 
 
 def drawn():
-    """The shapes of tests/compare, and lines of them."""
-    loader = importlib.machinery.SourceFileLoader("compare", os.path.join(TESTS, "compare"))
-    sys.dont_write_bytecode = True
-    module = importlib.util.module_from_spec(importlib.util.spec_from_loader("compare", loader))
-    loader.exec_module(module)
-    shapes = module.Shapes(SEED)
+    """The shapes, and lines of them."""
+    shapes = Shapes(SEED)
     return shapes, [shapes.line() for _ in range(TEXTS)]
 
 

@@ -1,7 +1,7 @@
 //! General versions and their parts: what is read, what is not, what is printed, and what is copied.
 
-use given::{are_apart, columns, general, numbers, prints, shows, text};
 use std::test::Fail;
+use vectors_support::{are_apart, columns, general, numbers, prints, shows, text};
 use versions::{Chunk, Chunks, Last, Release, SemVer, Version};
 
 // Texts, what is left of them, and the version before it as `Debug` writes it.

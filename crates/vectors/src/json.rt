@@ -1,9 +1,9 @@
 //! Versions and requirements in JSON documents, where each is a string: what is read, what is written, and the errors.
 
-use given::{any, prints, shows, text};
 use serde_json::Value;
 use std::alloc::{AllocError, Global};
 use std::test::Fail;
+use vectors_support::{any, prints, shows, text};
 use versions::{Error, JsonError, Requirement, Requirements, Versioning};
 
 #[test]

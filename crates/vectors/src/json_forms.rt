@@ -1,12 +1,12 @@
 //! The forms that serde derives of strict and general versions and of the parts of all versions: their JSON texts, and
 //! what is refused.
 
-use given::shows;
 use serde::{DeserializeOwned, Serialize};
 use serde_json::Value;
 use std::fmt::Debug;
 use std::process::Abort;
 use std::test::Fail;
+use vectors_support::shows;
 use versions::{Chunk, Chunks, Last, MChunk, Release, SemVer, Sep, Version};
 
 #[test]

@@ -1,10 +1,10 @@
 //! Messy versions and their chunks: what is read, what is not, and what is printed.
 
-use given::{any, are_apart, columns, messy, prints, shows, text};
 use std::alloc::AllocError;
 use std::fmt::Debug;
 use std::process::Abort;
 use std::test::Fail;
+use vectors_support::{any, are_apart, columns, messy, prints, shows, text};
 use versions::{MChunk, Mess, SemVer, Sep, Version};
 
 // Texts, what is left of them, and the chunks before it as `Debug` writes them.

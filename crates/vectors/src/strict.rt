@@ -1,7 +1,7 @@
 //! Strict versions and their parts: what is read, what is not, and what is printed.
 
-use given::{columns, prints, shows, strict, text};
 use std::test::Fail;
+use vectors_support::{columns, prints, shows, strict, text};
 use versions::parsers::{alphanums, hyphenated_alphanums, meta, unsigned};
 use versions::{Chunk, Release, SemVer};
 

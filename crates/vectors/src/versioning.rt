@@ -1,10 +1,10 @@
 //! Versions of any kind, conversions between kinds, and why a text is not read.
 
-use given::{any, are_apart, columns, general, kind_of, prints, shows, strict, text};
 use std::alloc::AllocError;
 use std::fmt::Display;
 use std::process::Abort;
 use std::test::Fail;
+use vectors_support::{any, are_apart, columns, general, kind_of, prints, shows, strict, text};
 use versions::{Error, Mess, ReadError, Release, SemVer, Version, Versioning};
 
 const FIRST_KINDS: &str = "\

@@ -1,7 +1,7 @@
 //! The bytes of the keys of versions, one after another and in a list.
 
-use given::{alone, any, are_ordered, bytes, key, messy, text};
 use std::test::Fail;
+use vectors_support::{alone, any, are_ordered, bytes, key, messy, text};
 use versions::{Last, Versioning};
 
 // Texts, and the keys of the versions of the first kind that they spell.

@@ -1,11 +1,11 @@
 //! The orders of strict versions and of parts, equality and hash of strict versions, and what a tilde or a caret asks
 //! for.
 
-use given::{hash_of, numbers, strict, text};
 use std::alloc::AllocError;
 use std::cmp::Ordering;
 use std::collections::{BTreeMap, HashMap};
 use std::test::Fail;
+use vectors_support::{hash_of, numbers, strict, text};
 use versions::{Chunk, Chunks, Last, MChunk, Release, SemVer};
 
 // A version, another, and which of `~` and `^` before the first asks for the other.

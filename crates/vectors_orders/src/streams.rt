@@ -1,9 +1,9 @@
 //! The bytes of parts, lists of parts and releases, and how two streams of bytes compare.
 
-use given::{bytes, repeated};
 use std::cmp::Ordering;
 use std::process::Abort;
 use std::test::Fail;
+use vectors_support::{bytes, repeated};
 use version_parts::key::{
     ListBytes, PartText, PieceBytes, compare_bytes, compare_part_lists, compare_parts,
 };

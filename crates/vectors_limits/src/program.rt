@@ -1,9 +1,9 @@
 //! The program: what it reads and writes, and how it ends.
 
 use crate::devices::{Giver, Taker, owned};
-use given::hash_of;
 use std::process::Abort;
 use std::test::Fail;
+use vectors_support::hash_of;
 use version_lines::{Fault, run};
 
 #[test]

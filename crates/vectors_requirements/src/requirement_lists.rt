@@ -1,9 +1,9 @@
 //! Lists of requirements: which versions they ask for, what is read, what is not, and what is printed.
 
 use crate::requirements::{requirement, whole_of_op};
-use given::{any, hash_of, printed, repeated};
 use std::process::Abort;
 use std::test::Fail;
+use vectors_support::{any, hash_of, printed, repeated};
 use versions::Requirements;
 
 // A list in each row, and then versions: those behind a `!` it doesn't ask for.

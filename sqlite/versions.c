@@ -1,5 +1,5 @@
 /*
- * sqlite.c: functions on versions, and an order of them, as a loadable extension of SQLite. c/build_sqlite builds it.
+ * versions.c: functions on versions, and an order of them, as a loadable extension of SQLite. sqlite/build builds it.
  *
  *   version_key(text)                    the sort key, a BLOB that orders as versions do by precedence
  *   version_kind(text)                   'ideal', 'general' or 'complex'

@@ -1,10 +1,10 @@
 //! Values of every shape, also those that no text spells: their keys, what they print, their orders and their hashes.
 
-use given::{alone, any, as_messy, bytes, hash_of, key, messy, strict, text};
 use std::alloc::AllocError;
 use std::cmp::Ordering;
 use std::process::Abort;
 use std::test::Fail;
+use vectors_support::{alone, any, as_messy, bytes, hash_of, key, messy, strict, text};
 use versions::{Last, MChunk, Mess, Release, Sep, Version, Versioning};
 
 // The key of each value and what it prints, in the order of `values`.

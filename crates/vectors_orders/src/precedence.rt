@@ -1,11 +1,11 @@
 //! Precedence, and the orders of general, messy and any versions: rows whose versions increase, ties, and what
 //! conversions do.
 
-use given::{any, general, messy, strict};
 use std::cmp::Ordering;
 use std::fmt::Display;
 use std::process::Abort;
 use std::test::Fail;
+use vectors_support::{any, general, messy, strict};
 use versions::Versioning;
 
 const WORDS_ENDS_AND_NUMBERS: &str = "\

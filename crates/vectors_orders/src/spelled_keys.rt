@@ -1,8 +1,8 @@
 //! The bytes of keys read off texts, beside the keys of the versions that these texts spell.
 
-use given::{any, bytes, key, repeated};
 use std::process::Abort;
 use std::test::Fail;
+use vectors_support::{any, bytes, key, repeated};
 use versions::Versioning;
 use versions::key::KeyBytes;
 

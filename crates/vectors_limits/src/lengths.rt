@@ -2,12 +2,12 @@
 //! loop, so the stack that a program has is enough. `rt try --test` takes more than a hundred times as long for them as
 //! `rt test`, so it doesn't end for the longest.
 
-use given::{alone, any, are_ordered, as_messy, hash_of, key, kind_of, repeated};
 use std::alloc::AllocError;
 use std::cmp::Ordering;
 use std::fmt::{self, Write};
 use std::process::Abort;
 use std::test::Fail;
+use vectors_support::{alone, any, are_ordered, as_messy, hash_of, key, kind_of, repeated};
 use versions::key::{KeyBytes, compare_bytes};
 use versions::{Last, MChunk, Mess, Versioning};
 

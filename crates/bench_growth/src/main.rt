@@ -1,4 +1,4 @@
-//! The program `growth`: what each call takes on one long version, for a byte of its text. Where the work grows with
+//! The program `bench_growth`: what each call takes on one long version, for a byte of its text. Where the work grows with
 //! the text and no faster, that is the same for a text of any length. `bench/growth` runs it.
 #![tactic(auto)]
 
@@ -11,7 +11,7 @@ use std::num::nearest_usize_to_f64;
 use std::time::Duration;
 use std::{env, io};
 
-const USAGE: &str = "usage: growth signs|letters|dots|metadata MEGABYTES";
+const USAGE: &str = "usage: bench_growth signs|letters|dots|metadata MEGABYTES";
 
 const ROUNDS: u8 = 3;
 

@@ -1,8 +1,8 @@
 //! Requirements and their operators: which versions they ask for, what is read, what is not, and what is printed.
 
-use given::{any, hash_of, printed, strict};
 use std::process::Abort;
 use std::test::Fail;
+use vectors_support::{any, hash_of, printed, strict};
 use versions::{Error, Op, ReadError, Requirement, Versioning};
 
 // A requirement in each row, and then versions: those behind a `!` it doesn't ask for.
