@@ -7,7 +7,7 @@ pub mod DigitRun
 pub mod Dotted
 pub mod DottedScan
 pub mod Fed
-pub mod FewBytes
+pub mod InlineBytes
 pub mod Growing
 pub mod ItemsLeft
 pub mod LastReading

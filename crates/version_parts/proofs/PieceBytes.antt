@@ -10,13 +10,13 @@ use Rattle.std.specs.Cmp.{first_so, second_so}
 use Rattle.std.specs.Fmt.{decimal}
 use Rattle.std.specs.List.{list_all, position_or_len, prefix_len, slice_get, take_while}
 use Rattle.std.specs.Str.Parse.{digits_value, digits_value_after}
-use Rattle.version_parts.specs.declared.key.piece.Behind.{Behind}
-use Rattle.version_parts.specs.declared.key.piece.Behind.TheVariants.{Suffix, Text, Nothing}
-use Rattle.version_parts.specs.declared.key.piece.Place.TheVariants.{Part, Split, Numbered, Number, Length, Digit, Rest}
+use Rattle.version_parts.specs.declared.key.place.AfterNumber.{AfterNumber}
+use Rattle.version_parts.specs.declared.key.place.AfterNumber.TheVariants.{Suffix, Text, Nothing}
+use Rattle.version_parts.specs.declared.key.place.Place.TheVariants.{Part, Split, Numbered, Number, Length, Digit, Rest}
 use Rattle.version_parts.specs.DigitRun.{number_front, starts_with_digit}
 use Rattle.version_parts.specs.Front.{begins}
 use Rattle.version_parts.specs.NumberBytes.{length_bytes, number_bytes}
-use Rattle.version_parts.specs.Pieces.{behind_bytes, counted_bytes, place_bytes, run_bytes}
+use Rattle.version_parts.specs.Pieces.{after_number_bytes, counted_bytes, place_bytes, run_bytes}
 use Rattle.version_parts.specs.Split.{numbered_bytes}
 use Rattle.version_parts.specs.TextBytes.{text_byte, text_bytes}
 use Rattle.version_parts.proofs.DigitRun.{decimal-digits}
@@ -26,7 +26,7 @@ use Rattle.version_parts.proofs.RunFronts.{begins-drop, list_all-take_while}
 -- ---- parts and splits
 
 pub part_of_number : (text : List ℕ) → starts_with_digit text ≡ true → place_bytes Part text ≡ 3 ∷ place_bytes (Number Suffix) text
-unfolding place_bytes behind_bytes
+unfolding place_bytes after_number_bytes
 part_of_number text digit = rw digit refl
 
 pub part_of_word : (text : List ℕ) → starts_with_digit text ≡ false → place_bytes Part text ≡ 1 ∷ place_bytes Split text
@@ -34,11 +34,11 @@ unfolding place_bytes
 part_of_word text other = rw other refl
 
 pub numbered_some : (text : List ℕ) → starts_with_digit text ≡ true → place_bytes Numbered text ≡ 1 ∷ place_bytes (Number Text) text
-unfolding place_bytes behind_bytes
+unfolding place_bytes after_number_bytes
 numbered_some text digit = rw digit refl
 
 pub numbered_none : (text : List ℕ) → starts_with_digit text ≡ false → place_bytes Numbered text ≡ 0 ∷ place_bytes (Rest Nothing) text
-unfolding place_bytes behind_bytes
+unfolding place_bytes after_number_bytes
 numbered_none text other = rw other refl
 
 pub split_end : place_bytes Split [] ≡ 0 ∷ place_bytes Numbered []
@@ -58,41 +58,41 @@ split_other b text other = rw (other, one-add) (append_assoc (text_byte (Some b)
 
 -- ---- what stands behind a number
 
-pub suffix_none : (text : List ℕ) → slice_get text 0 ≡ None → behind_bytes Suffix text ≡ 2 ∷ place_bytes (Rest Nothing) text
-unfolding behind_bytes place_bytes
+pub suffix_none : (text : List ℕ) → slice_get text 0 ≡ None → after_number_bytes Suffix text ≡ 2 ∷ place_bytes (Rest Nothing) text
+unfolding after_number_bytes place_bytes
 suffix_none [] e = refl
 suffix_none (b ∷ text) e = cc e
 
-pub suffix_some : (text : List ℕ) (b : ℕ) → slice_get text 0 ≡ Some b → behind_bytes Suffix text ≡ 1 ∷ place_bytes Split text
-unfolding behind_bytes place_bytes
+pub suffix_some : (text : List ℕ) (b : ℕ) → slice_get text 0 ≡ Some b → after_number_bytes Suffix text ≡ 1 ∷ place_bytes Split text
+unfolding after_number_bytes place_bytes
 suffix_some [] b e = cc e
 suffix_some (c ∷ text) b e = refl
 
-pub text_end : behind_bytes Text [] ≡ 0 ∷ place_bytes (Rest Nothing) []
-unfolding behind_bytes place_bytes
+pub text_end : after_number_bytes Text [] ≡ 0 ∷ place_bytes (Rest Nothing) []
+unfolding after_number_bytes place_bytes
 text_end = refl
 
-pub text_more : (b : ℕ) (text : List ℕ) → behind_bytes Text (b ∷ text) ≡ text_byte (Some b) ++ place_bytes (Rest Text) text
-unfolding behind_bytes place_bytes
+pub text_more : (b : ℕ) (text : List ℕ) → after_number_bytes Text (b ∷ text) ≡ text_byte (Some b) ++ place_bytes (Rest Text) text
+unfolding after_number_bytes place_bytes
 text_more b text = refl
 
 -- ---- runs of digits
 
-pub at_digit : (behind : Behind) (text : List ℕ) → starts_with_digit text ≡ true → place_bytes (Digit behind) text ≡ run_bytes behind text
+pub at_digit : (behind : AfterNumber) (text : List ℕ) → starts_with_digit text ≡ true → place_bytes (Digit behind) text ≡ run_bytes behind text
 unfolding place_bytes
 at_digit behind [] digit = cc
 at_digit behind (b ∷ text) digit = rw (digit, one-add) refl
 
-pub behind_digits : (behind : Behind) (text : List ℕ) → starts_with_digit text ≡ false → place_bytes (Rest behind) text ≡ run_bytes behind text
+pub behind_digits : (behind : AfterNumber) (text : List ℕ) → starts_with_digit text ≡ false → place_bytes (Rest behind) text ≡ run_bytes behind text
 unfolding place_bytes
 behind_digits behind [] other = refl
 behind_digits behind (b ∷ text) other = rw other refl
 
-pub length_short : (left : ℕ) (behind : Behind) (text : List ℕ) → left < 255 → place_bytes (Length left behind) text ≡ left ∷ run_bytes behind text
+pub length_short : (left : ℕ) (behind : AfterNumber) (text : List ℕ) → left < 255 → place_bytes (Length left behind) text ≡ left ∷ run_bytes behind text
 unfolding place_bytes
 length_short left behind text short = ap (λ (l : List ℕ). l ++ run_bytes behind text) (length_bytes-short left short)
 
-pub length_long : (left : ℕ) (behind : Behind) (text : List ℕ) → 255 ≤ left → place_bytes (Length left behind) text ≡ 255 ∷ place_bytes (Length (left - 255) behind) text
+pub length_long : (left : ℕ) (behind : AfterNumber) (text : List ℕ) → 255 ≤ left → place_bytes (Length left behind) text ≡ 255 ∷ place_bytes (Length (left - 255) behind) text
 unfolding place_bytes
 length_long left behind text long =
     let parts : left ≡ 255 + (left - 255) = omega arith in
@@ -103,11 +103,11 @@ length_long left behind text long =
 abbrev pub is_zero : ℕ → Bool
 is_zero b = b == 48
 
-counted_zero : (behind : Behind) (text : List ℕ) → counted_bytes behind (48 ∷ text) ≡ counted_bytes behind text
+counted_zero : (behind : AfterNumber) (text : List ℕ) → counted_bytes behind (48 ∷ text) ≡ counted_bytes behind text
 counted_zero behind text = rw one-add refl
 
 -- zeros in front don't count
-zeros_skipped : (behind : Behind) (text : List ℕ) → counted_bytes behind text ≡ counted_bytes behind (drop (prefix_len is_zero text) text)
+zeros_skipped : (behind : AfterNumber) (text : List ℕ) → counted_bytes behind text ≡ counted_bytes behind (drop (prefix_len is_zero text) text)
 zeros_skipped behind [] = refl
 zeros_skipped behind (b ∷ text) = elim (cases_Bool (b == 48)) [
   | inl same ↦
@@ -165,13 +165,13 @@ begins_within test inner (b ∷ text) e = elim (cases_Bool (inner b)) [
   | inr fails ↦ rw fails refl
 ]
 
-pub number_counted : (behind : Behind) (text : List ℕ)
+pub number_counted : (behind : AfterNumber) (text : List ℕ)
     → place_bytes (Number behind) text ≡ place_bytes (Length (prefix_len is_ascii_digit (drop (prefix_len is_zero text) text)) behind) (drop (prefix_len is_zero text) text)
 unfolding place_bytes
 number_counted behind text =
     let left = drop (prefix_len is_zero text) text in
     let run = take_while is_ascii_digit left in
-    let rest = behind_bytes behind (drop (prefix_len is_ascii_digit left) left) in
+    let rest = after_number_bytes behind (drop (prefix_len is_ascii_digit left) left) in
     let own = digits_of_run run (list_all-take_while is_ascii_digit left) (begins_within is_zero is_ascii_digit left (begins-drop is_zero text)) in
     let long : length run ≡ prefix_len is_ascii_digit left = length-prefix_len is_ascii_digit left in
     zeros_skipped behind text
@@ -182,7 +182,7 @@ number_counted behind text =
 -- ---- numbers and texts alone
 
 pub number_alone : (text : List ℕ) → place_bytes (Number Nothing) text ≡ number_bytes (digits_value 10 (take_while is_ascii_digit text))
-unfolding place_bytes behind_bytes
+unfolding place_bytes after_number_bytes
 number_alone text = append-nil (number_bytes (digits_value 10 (take_while is_ascii_digit text)))
 
 pub number_of_decimal : (n : ℕ) → n < 2 ^ 32 → place_bytes (Number Nothing) (decimal n) ≡ number_bytes n
@@ -192,7 +192,7 @@ number_of_decimal n small =
     number_alone (decimal n) ∙ ap (λ ds. number_bytes (digits_value 10 ds)) (take_while-all is_ascii_digit (decimal n) run) ∙ ap number_bytes (decimal_is_IsNumeral n fits).1
 
 pub text_alone : (text : List ℕ) → place_bytes (Rest Text) text ≡ text_bytes text
-unfolding place_bytes behind_bytes
+unfolding place_bytes after_number_bytes
 text_alone text = refl
 
 -- ---- runs of bytes that stand in a key as they are
@@ -212,13 +212,13 @@ letter_other b letter = grind (arith, nat_tests)
 identifier_above : (b : ℕ) → is_identifier_byte b ≡ true → 1 < b
 identifier_above b identifier = grind (arith, nat_tests)
 
-digits_stand : (behind : Behind) (run text : List ℕ) → list_all is_ascii_digit run ≡ true → run_bytes behind (run ++ text) ≡ run ++ run_bytes behind text
+digits_stand : (behind : AfterNumber) (run text : List ℕ) → list_all is_ascii_digit run ≡ true → run_bytes behind (run ++ text) ≡ run ++ run_bytes behind text
 digits_stand behind [] text all = refl
 digits_stand behind (b ∷ run) text all =
     let digit : is_ascii_digit b ≡ true = first_so _ _ all in
     rw (digit, one-add) (ap (λ (l : List ℕ). b ∷ l) (digits_stand behind run text (second_so _ _ all)))
 
-pub digits_taken : (behind : Behind) (whole run text : List ℕ) → whole ≡ run ++ text → list_all is_ascii_digit run ≡ true → length run ≢ 0
+pub digits_taken : (behind : AfterNumber) (whole run text : List ℕ) → whole ≡ run ++ text → list_all is_ascii_digit run ≡ true → length run ≢ 0
     → place_bytes (Digit behind) whole ≡ run ++ run_bytes behind text
 unfolding place_bytes
 digits_taken behind whole [] text e all some = absurd (some refl)

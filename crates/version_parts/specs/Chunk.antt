@@ -10,8 +10,8 @@ use Rattle.std.specs.Option.{option_map}
 use Rattle.std.specs.String.{string_bytes}
 use Rattle.version_parts.specs.declared.chunk.Chunk.{Chunk}
 use Rattle.version_parts.specs.declared.chunk.Chunk.TheVariants as owned
-use Rattle.version_parts.specs.declared.chunk.ChunkPiece.{ChunkPiece}
-use Rattle.version_parts.specs.declared.chunk.ChunkPiece.TheVariants as lent
+use Rattle.version_parts.specs.declared.chunk.ChunkRef.{ChunkRef}
+use Rattle.version_parts.specs.declared.chunk.ChunkRef.TheVariants as lent
 use Rattle.version_parts.specs.Bytes.{is_identifier_byte}
 use Rattle.version_parts.specs.Front.{◌>>=◌, Front, map_value}
 use Rattle.version_parts.specs.Numeral.{SpellsNumeral, unsigned_front}
@@ -27,9 +27,9 @@ plain_chunk (owned.Numeric n) = Numeric n
 plain_chunk (owned.Alphanum text) = Alphanum (string_bytes text)
 
 -- the chunk that was scanned
-abbrev pub plain_piece : ChunkPiece → PlainChunk
-plain_piece (lent.Numeric n) = Numeric n
-plain_piece (lent.Alphanum text) = Alphanum text.now
+abbrev pub plain_chunk_ref : ChunkRef → PlainChunk
+plain_chunk_ref (lent.Numeric n) = Numeric n
+plain_chunk_ref (lent.Alphanum text) = Alphanum text.now
 
 -- the text spells the chunk, whose runs are of bytes that pass the test
 abbrev pub SpellsChunkOf : (ℕ → Bool) → List ℕ → PlainChunk → Type 0

@@ -10,8 +10,8 @@ use Rattle.std.specs.Option.{option_map}
 use Rattle.std.specs.String.{string_bytes}
 use Rattle.version_parts.specs.declared.last.Last.{Last}
 use Rattle.version_parts.specs.declared.last.Last.TheVariants as owned
-use Rattle.version_parts.specs.declared.last.LastPiece.{LastPiece}
-use Rattle.version_parts.specs.declared.last.LastPiece.TheVariants as lent
+use Rattle.version_parts.specs.declared.last.LastRef.{LastRef}
+use Rattle.version_parts.specs.declared.last.LastRef.TheVariants as lent
 use Rattle.version_parts.specs.Chunk.{PlainChunk}
 use Rattle.version_parts.specs.Chunk as chunk
 use Rattle.version_parts.specs.Front.{◌>>=◌, run_front, whole}
@@ -32,11 +32,11 @@ plain_last (owned.Post a text) = Post a (string_bytes text)
 plain_last (owned.Alphanum text) = Alphanum (string_bytes text)
 
 -- the last part that was scanned
-abbrev pub plain_last_piece : LastPiece → PlainLast
-plain_last_piece (lent.Numeric n) = Numeric n
-plain_last_piece (lent.Rc a text b) = Rc a text.now b
-plain_last_piece (lent.Post a text) = Post a text.now
-plain_last_piece (lent.Alphanum text) = Alphanum text.now
+abbrev pub plain_last_ref : LastRef → PlainLast
+plain_last_ref (lent.Numeric n) = Numeric n
+plain_last_ref (lent.Rc a text b) = Rc a text.now b
+plain_last_ref (lent.Post a text) = Post a text.now
+plain_last_ref (lent.Alphanum text) = Alphanum text.now
 
 -- one letter or more, and nothing else
 abbrev pub IsLetters : List ℕ → Type 0

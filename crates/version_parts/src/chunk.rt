@@ -7,7 +7,7 @@ ghost use Rattle.std.proofs.Common.{ap};
 ghost use Rattle.std.specs.Cmp.{eq_by_cmp_equiv, on_equiv, on_per, partial_equiv_from_equiv};
 ghost use Rattle.std.specs.Ordering.{eq_by_cmp, on};
 ghost use Rattle.version_parts.specs.Bytes.{is_identifier_byte};
-ghost use Rattle.version_parts.specs.Chunk.{after_letter, chunk_fed, chunk_front, chunk_front_of, chunk_text, digits_behind_letter, lenient_digits, number_of, part_front, plain_chunk, plain_piece, ChunkOwns, PlainChunk};
+ghost use Rattle.version_parts.specs.Chunk.{after_letter, chunk_fed, chunk_front, chunk_front_of, chunk_text, digits_behind_letter, lenient_digits, number_of, part_front, plain_chunk, plain_chunk_ref, ChunkOwns, PlainChunk};
 ghost use Rattle.version_parts.specs.Class.{contains};
 ghost use Rattle.version_parts.specs.Front.{Reads};
 ghost use Rattle.version_parts.specs.FrontLaws.{chunk_consumes};
@@ -112,12 +112,12 @@ impl Chunk {
 
 impl Chunk {
     // The same with its text lent.
-    pub(crate) fn lent(&self) -> ChunkPiece<'_>
-        ensures { plain_piece result ≡ plain_chunk self.now }
+    pub(crate) fn lent(&self) -> ChunkRef<'_>
+        ensures { plain_chunk_ref result ≡ plain_chunk self.now }
     {
         match self {
-            Chunk::Numeric(number) => ChunkPiece::Numeric(*number),
-            Chunk::Alphanum(text) => ChunkPiece::Alphanum(text.as_str()),
+            Chunk::Numeric(number) => ChunkRef::Numeric(*number),
+            Chunk::Alphanum(text) => ChunkRef::Alphanum(text.as_str()),
         }
     }
 }
@@ -190,7 +190,7 @@ fn compare_chunks(a: &Chunk, b: &Chunk) -> Ordering
 fn read_chunk(alloc: Global, i: &str, class: Class) -> Result<Option<(Chunk, &str)>, AllocError>
     ensures { Reads plain_chunk ChunkOwns result (chunk_front_of (contains class) i.now) }
 {
-    let Some((piece, rest)) = ChunkPiece::scan(i, class) else {
+    let Some((piece, rest)) = ChunkRef::scan(i, class) else {
         return Ok(None);
     };
     Ok(Some((piece.build(alloc)?, rest)))
@@ -208,34 +208,34 @@ fn after_letter(text: &str) -> Option<&str>
 
 // A chunk that was scanned, with its text still in the input.
 #[derive(Clone, Copy)]
-pub(crate) enum ChunkPiece<'a> {
+pub(crate) enum ChunkRef<'a> {
     Numeric(u32),
     Alphanum(&'a str),
 }
 
-impl<'a> ChunkPiece<'a> {
+impl<'a> ChunkRef<'a> {
     // The chunk at the front of a text whose runs are of the class, and the rest. Takes no memory.
     #[tactic(auto, unfolding(crate::specs::Chunk::chunk_front_of))]
     #[inline(always)]
-    pub(crate) fn scan(i: &'a str, class: Class) -> Option<(ChunkPiece<'a>, &'a str)>
-        ensures { option_map (λ r. (plain_piece r.0, r.1.now)) result ≡ chunk_front_of (contains class) i.now }
+    pub(crate) fn scan(i: &'a str, class: Class) -> Option<(ChunkRef<'a>, &'a str)>
+        ensures { option_map (λ r. (plain_chunk_ref r.0, r.1.now)) result ≡ chunk_front_of (contains class) i.now }
     {
         let (run, rest) = split_run(i, class);
         if !is_all_digits(run) {
-            return Some((ChunkPiece::Alphanum(run), rest));
+            return Some((ChunkRef::Alphanum(run), rest));
         }
         let (number, rest) = unsigned(i)?;
-        Some((ChunkPiece::Numeric(number), rest))
+        Some((ChunkRef::Numeric(number), rest))
     }
 
     // The chunk with a text of its own. A number takes no memory.
     pub(crate) fn build(self, alloc: Global) -> Result<Chunk, AllocError>
-        ensures ok { IfOk result (λ chunk. plain_chunk chunk ≡ plain_piece self.entry) }
-        ensures err { OnErr result (ChunkOwns (plain_piece self.entry)) }
+        ensures ok { IfOk result (λ chunk. plain_chunk chunk ≡ plain_chunk_ref self.entry) }
+        ensures err { OnErr result (ChunkOwns (plain_chunk_ref self.entry)) }
     {
         match self {
-            ChunkPiece::Numeric(number) => Ok(Chunk::Numeric(number)),
-            ChunkPiece::Alphanum(text) => Ok(Chunk::Alphanum(String::from_str(alloc, text)?)),
+            ChunkRef::Numeric(number) => Ok(Chunk::Numeric(number)),
+            ChunkRef::Alphanum(text) => Ok(Chunk::Alphanum(String::from_str(alloc, text)?)),
         }
     }
 }

@@ -19,7 +19,7 @@ ghost use Rattle.version_parts.specs.ReleaseOrder.{release_cmp};
 
 use crate::chunk::{Chunk, Part};
 use crate::key::{ItemsLeft, compare_part_lists};
-use crate::last::{Last, LastPiece};
+use crate::last::{Last, LastRef};
 use crate::lists::{compare_lists, copy_list, write_dotted};
 use crate::scan::Dotted;
 use serde::{Deserialize, Serialize};
@@ -121,12 +121,12 @@ impl PartialOrd for Chunks {
 
 /// The body of a general version that was scanned, with its texts still in the input.
 #[derive(Drop)]
-pub struct BodyPiece<'a> {
+pub struct BodyRef<'a> {
     list: Dotted<'a>,
-    last: LastPiece<'a>,
+    last: LastRef<'a>,
 }
 
-impl<'a> Model for BodyPiece<'a> {
+impl<'a> Model for BodyRef<'a> {
     ghost use Rattle.std.specs.Prelude.{◌≡◌, ◌<◌, ◌-◌, length, take, Some};
     ghost use Rattle.version_parts.specs.Body.{body_of, PlainBody};
 
@@ -134,22 +134,22 @@ impl<'a> Model for BodyPiece<'a> {
 
     ghost use Rattle.version_parts.specs.Chunk.{part_front};
     ghost use Rattle.version_parts.specs.Front.{elements_at};
-    ghost use Rattle.version_parts.specs.Last.{plain_last_piece};
+    ghost use Rattle.version_parts.specs.Last.{plain_last_ref};
 
-    ghost view = { λ b. (take (b.list.count - 1) (elements_at part_front b.list.text.now), plain_last_piece b.last) };
+    ghost view = { λ b. (take (b.list.count - 1) (elements_at part_front b.list.text.now), plain_last_ref b.last) };
 
     ghost invariant = { λ b. (0 < b.list.count) × (b.list.count ≡ length (elements_at part_front b.list.text.now))
-        × (body_of (elements_at part_front b.list.text.now) ≡ Some (take (b.list.count - 1) (elements_at part_front b.list.text.now), plain_last_piece b.last)) };
+        × (body_of (elements_at part_front b.list.text.now) ≡ Some (take (b.list.count - 1) (elements_at part_front b.list.text.now), plain_last_ref b.last)) };
 }
 
-impl<'a> BodyPiece<'a> {
+impl<'a> BodyRef<'a> {
     /// The body at the front of a text, and the rest. Takes no memory.
-    pub fn scan(i: &'a str) -> Option<(BodyPiece<'a>, &'a str)>
+    pub fn scan(i: &'a str) -> Option<(BodyRef<'a>, &'a str)>
         ensures { option_map (λ r. (r.0, r.1.now)) result ≡ body_front i.now }
     {
         let (list, rest) = Dotted::scan::<Part>(i)?;
-        let (last, _) = LastPiece::scan(list.last)?;
-        Some((BodyPiece { list, last }, rest))
+        let (last, _) = LastRef::scan(list.last)?;
+        Some((BodyRef { list, last }, rest))
     }
 
     /// Its parts as they compare. Takes no memory.

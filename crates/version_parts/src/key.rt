@@ -1,9 +1,10 @@
 //! Streams of the bytes by which parts, lists of parts and releases compare. None of them takes memory.
 
 mod compare;
-mod few;
+mod inline;
 mod list;
 mod piece;
+mod place;
 mod text;
 
 pub use compare::{compare_bytes, compare_part_lists, compare_parts};

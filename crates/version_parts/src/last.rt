@@ -5,10 +5,10 @@ ghost use Rattle.std.proofs.Common.{ap};
 ghost use Rattle.std.specs.Cmp.{eq_by_cmp_equiv, on_equiv, on_per, on_total, partial_equiv_from_equiv, po};
 ghost use Rattle.std.specs.Option.{option_map};
 ghost use Rattle.std.specs.Ordering.{as_partial_cmp, eq_by_cmp, on};
-ghost use Rattle.version_parts.specs.Chunk.{part_front, plain_chunk, plain_piece};
+ghost use Rattle.version_parts.specs.Chunk.{part_front, plain_chunk, plain_chunk_ref};
 ghost use Rattle.version_parts.specs.Front.{map_value};
 ghost use Rattle.version_parts.specs.Last as plain;
-ghost use Rattle.version_parts.specs.Last.{first_number, last_fed, last_of, last_text, numbered_last, plain_last, plain_last_piece, IsNumbered, LastOwns, PlainLast};
+ghost use Rattle.version_parts.specs.Last.{first_number, last_fed, last_of, last_text, numbered_last, plain_last, plain_last_ref, IsNumbered, LastOwns, PlainLast};
 ghost use Rattle.version_parts.specs.LastLaws.{last_total, lasts_same};
 ghost use Rattle.version_parts.specs.LastOrder.{last_plain_cmp, last_rank};
 ghost use Rattle.version_parts.specs.OrderLaws.{same_where_tied};
@@ -16,7 +16,7 @@ ghost use Rattle.version_parts.specs.PartKey.{part_bytes, part_key};
 ghost use Rattle.version_parts.specs.PartOrder.{last_cmp};
 ghost use Rattle.version_parts.specs.PartOrderLaws.{last_cmp_ties, last_cmp_total};
 
-use crate::chunk::{Chunk, ChunkPiece};
+use crate::chunk::{Chunk, ChunkRef};
 use crate::key::{PartText, PieceBytes, compare_parts};
 use crate::lists::ListItem;
 use crate::scan::{Class, nonempty_run, unsigned};
@@ -52,7 +52,7 @@ impl Last {
             Chunk::Numeric(number) => return Ok(Last::Numeric(number)),
             Chunk::Alphanum(text) => text,
         };
-        let built = match LastPiece::numbered(text.as_str()) {
+        let built = match LastRef::numbered(text.as_str()) {
             Some(piece) => piece.build(alloc),
             None => return Ok(Last::Alphanum(text)),
         };
@@ -104,14 +104,14 @@ impl Last {
     }
 
     // The same with its text lent.
-    fn lent(&self) -> LastPiece<'_>
-        ensures { plain_last_piece result ≡ plain_last self.now }
+    fn lent(&self) -> LastRef<'_>
+        ensures { plain_last_ref result ≡ plain_last self.now }
     {
         match self {
-            Last::Numeric(number) => LastPiece::Numeric(*number),
-            Last::Rc(first, text, second) => LastPiece::Rc(*first, text.as_str(), *second),
-            Last::Post(number, text) => LastPiece::Post(*number, text.as_str()),
-            Last::Alphanum(text) => LastPiece::Alphanum(text.as_str()),
+            Last::Numeric(number) => LastRef::Numeric(*number),
+            Last::Rc(first, text, second) => LastRef::Rc(*first, text.as_str(), *second),
+            Last::Post(number, text) => LastRef::Post(*number, text.as_str()),
+            Last::Alphanum(text) => LastRef::Alphanum(text.as_str()),
         }
     }
 }
@@ -247,23 +247,23 @@ impl ListItem for Last {
 
 /// A last part that was scanned, with its text still in the input.
 #[derive(Clone, Copy)]
-pub enum LastPiece<'a> {
+pub enum LastRef<'a> {
     Numeric(u32),
     Rc(u32, &'a str, u32),
     Post(u32, &'a str),
     Alphanum(&'a str),
 }
 
-impl<'a> LastPiece<'a> {
+impl<'a> LastRef<'a> {
     /// The last part that the part at the front of a text is, and the rest. Takes no memory.
-    pub fn scan(i: &'a str) -> Option<(LastPiece<'a>, &'a str)>
-        ensures { option_map (λ r. (plain_last_piece r.0, r.1.now)) result ≡ map_value last_of (part_front i.now) }
+    pub fn scan(i: &'a str) -> Option<(LastRef<'a>, &'a str)>
+        ensures { option_map (λ r. (plain_last_ref r.0, r.1.now)) result ≡ map_value last_of (part_front i.now) }
     {
-        let (part, rest) = ChunkPiece::scan(i, Class::Alphanumeric)?;
+        let (part, rest) = ChunkRef::scan(i, Class::Alphanumeric)?;
         let last = match part {
-            ChunkPiece::Numeric(number) => LastPiece::Numeric(number),
-            ChunkPiece::Alphanum(text) => {
-                LastPiece::numbered(text).unwrap_or(LastPiece::Alphanum(text))
+            ChunkRef::Numeric(number) => LastRef::Numeric(number),
+            ChunkRef::Alphanum(text) => {
+                LastRef::numbered(text).unwrap_or(LastRef::Alphanum(text))
             }
         };
         Some((last, rest))
@@ -271,18 +271,18 @@ impl<'a> LastPiece<'a> {
 
     // A text that is a number and letters, with or without a number behind them.
     #[tactic(auto, unfolding(crate::specs::Last::numbered_last))]
-    fn numbered(text: &'a str) -> Option<LastPiece<'a>>
-        ensures value { option_map plain_last_piece result ≡ numbered_last text.now }
-        ensures numbered { IfSome result (λ piece. IsNumbered (plain_last_piece piece)) }
+    fn numbered(text: &'a str) -> Option<LastRef<'a>>
+        ensures value { option_map plain_last_ref result ≡ numbered_last text.now }
+        ensures numbered { IfSome result (λ piece. IsNumbered (plain_last_ref piece)) }
     {
         let (number, rest) = unsigned(text)?;
         let (letters, rest) = nonempty_run(rest, Class::Letter)?;
         if rest.is_empty() {
-            return Some(LastPiece::Post(number, letters));
+            return Some(LastRef::Post(number, letters));
         }
         let (last, rest) = unsigned(rest)?;
         if rest.is_empty() {
-            Some(LastPiece::Rc(number, letters, last))
+            Some(LastRef::Rc(number, letters, last))
         } else {
             None
         }
@@ -291,16 +291,16 @@ impl<'a> LastPiece<'a> {
     /// The last part with a text of its own. A number takes no memory; the error is that there is no memory for the
     /// text.
     pub fn build(self, alloc: Global) -> Result<Last, AllocError>
-        ensures ok { IfOk result (λ last. plain_last last ≡ plain_last_piece self.entry) }
-        ensures err { OnErr result (LastOwns (plain_last_piece self.entry)) }
+        ensures ok { IfOk result (λ last. plain_last last ≡ plain_last_ref self.entry) }
+        ensures err { OnErr result (LastOwns (plain_last_ref self.entry)) }
     {
         match self {
-            LastPiece::Numeric(number) => Ok(Last::Numeric(number)),
-            LastPiece::Rc(first, text, second) => {
+            LastRef::Numeric(number) => Ok(Last::Numeric(number)),
+            LastRef::Rc(first, text, second) => {
                 Ok(Last::Rc(first, String::from_str(alloc, text)?, second))
             }
-            LastPiece::Post(number, text) => Ok(Last::Post(number, String::from_str(alloc, text)?)),
-            LastPiece::Alphanum(text) => Ok(Last::Alphanum(String::from_str(alloc, text)?)),
+            LastRef::Post(number, text) => Ok(Last::Post(number, String::from_str(alloc, text)?)),
+            LastRef::Alphanum(text) => Ok(Last::Alphanum(String::from_str(alloc, text)?)),
         }
     }
 }

@@ -15,8 +15,8 @@ pub mod scan;
 mod sep;
 
 pub use chunk::{Chunk, Part, ReleaseChunk};
-pub use chunks::{BodyPiece, Chunks};
-pub use last::{Last, LastPiece};
-pub use mchunk::{MChunk, MessyChunk, SectionPiece};
-pub use release::{Release, ReleasePiece};
+pub use chunks::{BodyRef, Chunks};
+pub use last::{Last, LastRef};
+pub use mchunk::{MChunk, MessyChunk, SectionRef};
+pub use release::{Release, ReleaseRef};
 pub use sep::Sep;

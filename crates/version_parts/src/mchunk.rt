@@ -286,11 +286,11 @@ impl Element for MessyChunk {
 
 /// The section of a messy version that was scanned, with its chunks still in the input: chunks joined by dots.
 #[derive(Drop)]
-pub struct SectionPiece<'a> {
+pub struct SectionRef<'a> {
     list: Dotted<'a>,
 }
 
-impl<'a> Model for SectionPiece<'a> {
+impl<'a> Model for SectionRef<'a> {
     ghost use Rattle.std.specs.Prelude.{◌≡◌, List, length};
     ghost use Rattle.version_parts.specs.Front.{elements_at};
     ghost use Rattle.version_parts.specs.MChunk.{mchunk_front, PlainMChunk};
@@ -302,13 +302,13 @@ impl<'a> Model for SectionPiece<'a> {
     ghost invariant = { λ section. section.list.count ≡ length (elements_at mchunk_front section.list.text.now) };
 }
 
-impl<'a> SectionPiece<'a> {
+impl<'a> SectionRef<'a> {
     /// The section at the front of a text, and the rest. Takes no memory.
-    pub fn scan(i: &'a str) -> Option<(SectionPiece<'a>, &'a str)>
+    pub fn scan(i: &'a str) -> Option<(SectionRef<'a>, &'a str)>
         ensures { option_map (λ r. (r.0, r.1.now)) result ≡ dotted_front mchunk_front i.now }
     {
         let (list, rest) = Dotted::scan::<MessyChunk>(i)?;
-        Some((SectionPiece { list }, rest))
+        Some((SectionRef { list }, rest))
     }
 
     /// The chunks as they compare, and their end. Takes no memory.

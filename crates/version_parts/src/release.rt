@@ -34,7 +34,7 @@ impl Release {
     pub fn parse(alloc: Global, i: &str) -> Result<Option<(Release, &str)>, AllocError>
         ensures { Reads plain_release (λ _. Unit {0}) result (release_front i.now) }
     {
-        let Some((piece, rest)) = ReleasePiece::scan(i) else {
+        let Some((piece, rest)) = ReleaseRef::scan(i) else {
             return Ok(None);
         };
         Ok(Some((piece.build(alloc)?, rest)))
@@ -123,11 +123,11 @@ impl PartialOrd for Release {
 
 /// A release that was scanned, with its chunks still in the input.
 #[derive(Drop)]
-pub struct ReleasePiece<'a> {
+pub struct ReleaseRef<'a> {
     list: Dotted<'a>,
 }
 
-impl<'a> Model for ReleasePiece<'a> {
+impl<'a> Model for ReleaseRef<'a> {
     ghost Value = { List PlainChunk };
 
     ghost view = { λ r. elements_at chunk_front r.list.text.now };
@@ -135,13 +135,13 @@ impl<'a> Model for ReleasePiece<'a> {
     ghost invariant = { λ r. r.list.count ≡ length (elements_at chunk_front r.list.text.now) };
 }
 
-impl<'a> ReleasePiece<'a> {
+impl<'a> ReleaseRef<'a> {
     /// The release at the front of a text, and the rest. Takes no memory.
-    pub fn scan(i: &'a str) -> Option<(ReleasePiece<'a>, &'a str)>
+    pub fn scan(i: &'a str) -> Option<(ReleaseRef<'a>, &'a str)>
         ensures { option_map (λ r. (r.0, r.1.now)) result ≡ release_front i.now }
     {
         let (list, rest) = Dotted::scan::<ReleaseChunk>(after_mark(i, b'-')?)?;
-        Some((ReleasePiece { list }, rest))
+        Some((ReleaseRef { list }, rest))
     }
 
     /// The chunks as they compare, and their end. Takes no memory.

@@ -2,10 +2,10 @@
 
 ghost use Rattle.std.specs.Prelude.{◌≡◌, ◌<◌, ◌^◌, ◌++◌, ◌∷◌, [], List, drop, length, map, take, true, IfOk, IfSome, OnErr, Some, SomeIff};
 ghost use Rattle.std.specs.Option.{option_map};
-ghost use Rattle.std.specs.Char.{is_ascii_digit};
+ghost use Rattle.std.specs.Char.{is_ascii_alphanumeric, is_ascii_digit};
 ghost use Rattle.std.specs.List.{list_all, prefix_len, take_while};
 ghost use Rattle.std.specs.Str.Parse.{digits_value};
-ghost use Rattle.version_parts.specs.Bytes.{dot};
+ghost use Rattle.version_parts.specs.Bytes.{dot, is_identifier_byte};
 ghost use Rattle.version_parts.specs.Class.{contains};
 ghost use Rattle.version_parts.specs.Front.{after_mark, behind, dotted_front, elements_at, run_front, Consumes, Front, Reads};
 ghost use Rattle.version_parts.specs.Lists.{split_last};
@@ -95,8 +95,9 @@ pub fn after_mark(i: &str, mark: u8) -> Option<&str>
     }
 }
 
-/// The number at the front of a text, and the rest: a 0 alone, or else the longest run of digits, read whole, of
-/// value below 2^32.
+/// The number at the start of a text, and the rest. A text that starts with `0` gives 0 and leaves all after that one
+/// digit; else the longest run of digits is read whole. None without a digit, and for a value above 4294967295. Takes
+/// no memory.
 #[tactic(auto, unfolding(crate::specs::Numeral::unsigned_front))]
 pub fn unsigned(i: &str) -> Option<(u32, &str)>
     ensures { option_map (λ r. (r.0, r.1.now)) result ≡ unsigned_front i.now }
@@ -106,6 +107,20 @@ pub fn unsigned(i: &str) -> Option<(u32, &str)>
     }
     let (digits, rest) = nonempty_run(i, Class::Digit)?;
     Some((value_of(digits)?, rest))
+}
+
+/// The longest nonempty run of letters and digits at the start of a text, and the rest. Takes no memory.
+pub fn alphanums(i: &str) -> Option<(&str, &str)>
+    ensures { option_map (λ r. (r.0.now, r.1.now)) result ≡ run_front is_ascii_alphanumeric i.now }
+{
+    nonempty_run(i, Class::Alphanumeric)
+}
+
+/// The longest nonempty run of letters, digits and hyphens at the start of a text, and the rest. Takes no memory.
+pub fn hyphenated_alphanums(i: &str) -> Option<(&str, &str)>
+    ensures { option_map (λ r. (r.0.now, r.1.now)) result ≡ run_front is_identifier_byte i.now }
+{
+    nonempty_run(i, Class::Identifier)
 }
 
 // The value of a run of digits, if it is below 2 ^ 32.

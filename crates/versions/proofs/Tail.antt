@@ -1,15 +1,18 @@
 -- The order of tails tells all of them apart, and their bytes compare as they do.
 use Rattle.std.proofs.Common.{◌≡◌, ℕ, List, ◌∷◌, ◌++◌, Option, Some, None, refl, ap}
 use Rattle.std.specs.FinMap.{IsAntisymmetric, slice_cmp-IsAntisymmetric}
-use Rattle.std.specs.Option.{option_cmp}
+use Rattle.std.specs.Option.{option_cmp, option_map, option_map_or}
 use Rattle.std.specs.Ordering.{ordering_then}
 use Rattle.version_parts.proofs.Codes.{writes_slice}
 use Rattle.version_parts.proofs.PartKey.{list_writes, lists_same}
 use Rattle.version_parts.proofs.ReleaseOrder.{release_writes}
+use Rattle.version_parts.specs.Chunk.{PlainChunk}
 use Rattle.version_parts.specs.ReleaseLaws.{releases_same}
+use Rattle.version_parts.specs.ReleaseOrder.{release_bytes}
 use Rattle.version_parts.specs.Codes.{Writes, list_bytes}
 use Rattle.version_parts.specs.Lists.{bytes_cmp}
 use Rattle.version_parts.specs.PartKey.{PartKey, list_cmp}
+use Rattle.versions.specs.KeyStream.{release_tail}
 use Rattle.versions.specs.Tail.{Tail, PreReleased, Bare, Released, Sections, section_bytes, sections_cmp, tail_bytes, tail_cmp}
 
 section_writes : Writes (option_cmp list_cmp) section_bytes
@@ -45,3 +48,13 @@ tail_writes = record { compares = go }
     go (Released a) (Released b) x y = release_writes.compares a b x y
     go (Sections a more) (Sections b further) x y = sections_writes.compares (a ∷ more) (b ∷ further) x y
     go _ _ x y = refl
+
+-- ---- what is still to come of a release is the tail that it makes
+
+pub pre_release_written : (o : Option (List PlainChunk)) → release_tail 1 (option_map release_bytes o) ≡ tail_bytes (option_map_or PreReleased o Bare)
+pre_release_written None = refl
+pre_release_written (Some chunks) = refl
+
+pub release_written : (o : Option (List PlainChunk)) → release_tail 3 (option_map release_bytes o) ≡ tail_bytes (option_map_or Released o Bare)
+release_written None = refl
+release_written (Some chunks) = refl

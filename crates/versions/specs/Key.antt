@@ -31,11 +31,15 @@ precedence =
 abbrev pub plain : ℕ → PartKey
 plain n = Number n None
 
+-- the body of a strict version: its three numbers
+abbrev pub strict_body : ℕ → ℕ → ℕ → List PartKey
+strict_body major minor patch = plain major ∷ plain minor ∷ plain patch ∷ []
+
 -- the key of a strict version: its three numbers, then its pre-release
 abbrev pub key_of_semver : PlainSemVer → Key
 key_of_semver v = record {
   epoch = 0;
-  body = plain v.major ∷ plain v.minor ∷ plain v.patch ∷ [];
+  body = strict_body v.major v.minor v.patch;
   tail = option_map_or PreReleased v.pre_rel Bare;
 }
 

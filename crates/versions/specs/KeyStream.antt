@@ -1,21 +1,22 @@
 -- What is still to come of the bytes of a key, behind the piece begun.
-use Rattle.std.specs.Prelude.{ℕ, List, [], ◌∷◌, length}
+use Rattle.std.specs.Prelude.{ℕ, List, [], ◌∷◌, length, Option}
+use Rattle.std.specs.Option.{option_map_or}
 use Rattle.version_parts.specs.Front.{repeated}
 use Rattle.version_parts.specs.PartKey.{parts_bytes}
-use Rattle.versions.specs.declared.key.further.Further.{Further}
-use Rattle.versions.specs.declared.key.further.Further.TheVariants.{Made, Spelled}
-use Rattle.versions.specs.declared.key.list.Begun.{Begun}
-use Rattle.versions.specs.declared.key.list.Begun.TheVariants.{Ended, One, Two, Three, Parts, Section, Chunks}
+use Rattle.versions.specs.declared.key.sections.SectionsLeft.{SectionsLeft}
+use Rattle.versions.specs.declared.key.sections.SectionsLeft.TheVariants.{Built, Spelled}
+use Rattle.versions.specs.declared.key.list.CurrentList.{CurrentList}
+use Rattle.versions.specs.declared.key.list.CurrentList.TheVariants.{Ended, One, Two, Three, Parts, Section, Chunks}
 use Rattle.versions.specs.declared.key.tail.TailLeft.{TailLeft}
-use Rattle.versions.specs.declared.key.tail.TailLeft.TheVariants.{Nothing, Bare, Release, Sections, Behind}
+use Rattle.versions.specs.declared.key.tail.TailLeft.TheVariants.{Nothing, Bare, Release, Sections, AfterSection}
 use Rattle.versions.specs.Key.{plain}
 use Rattle.versions.specs.KeyBytes.{further_bytes}
-use Rattle.versions.specs.Mess.{further_front, plain_mess}
+use Rattle.versions.specs.Mess.{Further, further_front, plain_mess}
 use Rattle.versions.specs.Tail as tail
 use Rattle.versions.specs.Tail.{tail_bytes}
 
 -- of the list begun
-abbrev pub list_left : Begun → List ℕ
+abbrev pub list_left : CurrentList → List ℕ
 list_left Ended = []
 list_left (One n) = parts_bytes (plain n ∷ [])
 list_left (Two m n) = parts_bytes (plain m ∷ plain n ∷ [])
@@ -24,15 +25,23 @@ list_left (Parts left) = left
 list_left (Section left) = left
 list_left (Chunks left) = left
 
--- of further sections: those behind the first of a version, or those that a text spells
-abbrev pub further_left : Further → List ℕ
-further_left (Made mess) = further_bytes (plain_mess mess.now).more
-further_left (Spelled text) = further_bytes (repeated further_front (length text.now) text.now).0
+-- the further sections themselves: those behind the first of a version, or those that a text spells
+abbrev pub sections_of : SectionsLeft → List Further
+sections_of (Built mess) = (plain_mess mess.now).more
+sections_of (Spelled text) = (repeated further_front (length text.now) text.now).0
+
+-- of further sections
+abbrev pub sections_left : SectionsLeft → List ℕ
+sections_left further = further_bytes (sections_of further)
+
+-- of a release: its mark and its chunks, or the mark of nothing
+abbrev pub release_tail : ℕ → Option (List ℕ) → List ℕ
+release_tail mark left = option_map_or (λ bytes. mark ∷ bytes) left (2 ∷ [])
 
 -- of a tail
 abbrev pub tail_left : TailLeft → List ℕ
 tail_left Nothing = []
 tail_left Bare = tail_bytes tail.Bare
 tail_left (Release rank left) = rank ∷ left
-tail_left (Sections further) = 4 ∷ further_left further
-tail_left (Behind further) = further_left further
+tail_left (Sections further) = 4 ∷ sections_left further
+tail_left (AfterSection further) = sections_left further

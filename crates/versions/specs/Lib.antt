@@ -19,7 +19,7 @@ pub mod SemVer
 pub mod SemVerLaws
 pub mod SemVerMatch
 pub mod SemVerOrder
-pub mod Spelled
+pub mod VersioningRef
 pub mod Tail
 pub mod Texts
 pub mod Version

@@ -19,7 +19,7 @@ use Rattle.version_parts.specs.Sep.{plain_sep, sep_byte, sep_fed, sep_front, sep
 use Rattle.versions.specs.declared.mess.Mess.{Mess}
 use Rattle.versions.specs.declared.mess.Mess.TheFolds.{fold-Mess}
 use Rattle.versions.specs.declared.mess.Mess.TheOpen.{Mess-F}
-use Rattle.versions.specs.declared.mess.Pieces.{Pieces}
+use Rattle.versions.specs.declared.mess.MessRef.{MessRef}
 
 -- the chunks of a section
 abbrev pub Section : Type 0
@@ -93,8 +93,8 @@ mess_front text = do
   Some (record { first = first.0; more = more.0 }, more.1)
 
 -- the version that was scanned: its first section, and all that are read behind it
-abbrev pub plain_pieces : Pieces → PlainMess
-plain_pieces p = record { first = p.first; more = (repeated further_front (length p.rest.now) p.rest.now).0 }
+abbrev pub plain_mess_ref : MessRef → PlainMess
+plain_mess_ref p = record { first = p.first; more = (repeated further_front (length p.rest.now) p.rest.now).0 }
 
 -- the messy version that the whole text spells, where it spells one
 unfoldable pub mess_of : List ℕ → Option PlainMess

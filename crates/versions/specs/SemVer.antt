@@ -12,7 +12,7 @@ use Rattle.version_parts.specs.Grammar.{SpellsOptional}
 use Rattle.version_parts.specs.Metadata.{SpellsMetadata, meta_front}
 use Rattle.version_parts.specs.Numeral.{SpellsNumeral, unsigned_front}
 use Rattle.version_parts.specs.Release.{SpellsRelease, plain_release, release_fed, release_front, release_text}
-use Rattle.versions.specs.declared.semver.Pieces.{Pieces}
+use Rattle.versions.specs.declared.semver.SemVerRef.{SemVerRef}
 use Rattle.versions.specs.declared.semver.SemVer.{SemVer}
 
 -- a strict version, apart from where its texts lie
@@ -34,8 +34,8 @@ plain_semver v = record {
 }
 
 -- the version that was scanned
-abbrev pub plain_pieces : Pieces → PlainSemVer
-plain_pieces p = record {
+abbrev pub plain_semver_ref : SemVerRef → PlainSemVer
+plain_semver_ref p = record {
   major = p.major;
   minor = p.minor;
   patch = p.patch;

@@ -16,7 +16,7 @@ use Rattle.version_parts.specs.Metadata.{SpellsMetadata, meta_front}
 use Rattle.version_parts.specs.Numeral.{SpellsNumeral, unsigned_front}
 use Rattle.version_parts.specs.Release.{SpellsRelease, plain_release, release_fed, release_front, release_text}
 use Rattle.versions.specs.SemVer.{optional_text}
-use Rattle.versions.specs.declared.version.Pieces.{Pieces}
+use Rattle.versions.specs.declared.version.VersionRef.{VersionRef}
 use Rattle.versions.specs.declared.version.Version.{Version}
 
 -- a general version, apart from where its texts lie
@@ -38,8 +38,8 @@ plain_version v = record {
 }
 
 -- the version that was scanned
-abbrev pub plain_pieces : Pieces → PlainVersion
-plain_pieces p = record {
+abbrev pub plain_version_ref : VersionRef → PlainVersion
+plain_version_ref p = record {
   epoch = p.epoch;
   chunks = p.body.0;
   last = p.body.1;

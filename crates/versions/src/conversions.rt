@@ -16,7 +16,7 @@ ghost use Rattle.versions.specs.SemVer.{plain_semver, semver_text};
 ghost use Rattle.versions.specs.Version.{plain_version, version_text};
 
 use crate::mess::{Mess, link};
-use crate::pieces::{copy_meta, copy_release};
+use crate::optional::{copy_meta, copy_release};
 use crate::semver::SemVer;
 use crate::version::Version;
 use std::alloc::{AllocError, Global};

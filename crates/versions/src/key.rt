@@ -4,43 +4,48 @@ ghost use Rattle.std.specs.Prelude.{◌≡◌, ◌++◌, [], length, map, IfNone
 ghost use Rattle.std.specs.Char.{is_ascii_digit};
 ghost use Rattle.std.specs.Iterator.{item_count, YieldsFirst};
 ghost use Rattle.std.specs.List.{take_while};
-ghost use Rattle.std.specs.Option.{option_map};
+ghost use Rattle.std.specs.Option.{option_map, unwrap_or};
 ghost use Rattle.std.specs.Str.Parse.{digits_value};
 ghost use Rattle.version_parts.specs.Front.{repeated};
 ghost use Rattle.version_parts.specs.Lists.{bytes_cmp, GrowsWithin};
 ghost use Rattle.version_parts.specs.MChunk.{plain_mchunk};
 ghost use Rattle.version_parts.specs.NumberBytes.{number_bytes};
+ghost use Rattle.version_parts.specs.PartKey.{parts_bytes};
 ghost use Rattle.version_parts.specs.Pieces.{IsNext};
-ghost use Rattle.versions.specs.Key.{key_behind_epoch, key_of, key_of_mess, key_of_sections, key_of_semver, key_of_version, section_epoch};
+ghost use Rattle.version_parts.specs.Release.{plain_release};
+ghost use Rattle.version_parts.specs.ReleaseOrder.{release_bytes};
+ghost use Rattle.versions.specs.Key.{key_behind_epoch, key_of, key_of_mess, key_of_sections, key_of_semver, key_of_version, section_epoch, sections_tail, strict_body};
 ghost use Rattle.versions.specs.KeyBytes.{key_bytes};
-ghost use Rattle.versions.specs.KeyStream.{list_left, tail_left};
+ghost use Rattle.versions.specs.KeyStream.{list_left, release_tail, sections_of, tail_left};
 ghost use Rattle.versions.specs.Mess.{further_front, plain_mess};
-ghost use Rattle.versions.specs.Mess.{plain_pieces as messy_pieces};
+ghost use Rattle.versions.specs.Mess.{plain_mess_ref};
 ghost use Rattle.versions.specs.SemVer.{plain_semver};
-ghost use Rattle.versions.specs.SemVer.{plain_pieces as strict_pieces};
+ghost use Rattle.versions.specs.SemVer.{plain_semver_ref};
 ghost use Rattle.versions.specs.Version.{plain_version};
-ghost use Rattle.versions.specs.Version.{plain_pieces as general_pieces};
+ghost use Rattle.versions.specs.Version.{plain_version_ref};
+ghost use Rattle.versions.specs.Tail.{tail_bytes};
 ghost use Rattle.versions.specs.Versioning.{plain_versioning, versioning_of};
 
-mod further;
+mod sections;
 mod list;
 mod tail;
 
 use crate::mess::{self, Mess};
 use crate::semver::{self, SemVer};
-use crate::spelled::Spelled;
+use crate::versioning_ref::VersioningRef;
 use crate::version::{self, Version};
 use crate::versioning::Versioning;
-use list::{Begun, PartsLeft};
+use list::{CurrentList, PartsLeft};
+use sections::SectionsLeft;
 use std::alloc::{AllocError, Global};
 use std::cmp::Ordering;
 use std::marker::Model;
 use std::mem;
-use tail::TailLeft;
+use tail::{BARE, PRE_RELEASE, RELEASE, SECTIONS, TailLeft};
 pub use version_parts::key::compare_bytes;
 use version_parts::key::{ListLeft, PieceBytes};
 use version_parts::scan::{after_mark, is_all_digits};
-use version_parts::{MChunk, SectionPiece, Sep};
+use version_parts::{MChunk, MessyChunk, Release, ReleaseChunk, ReleaseRef, SectionRef, Sep};
 
 // How many bytes of a key are made room for at first: as many as three numbers and a short pre-release need.
 const CAPACITY: usize = 32;
@@ -52,7 +57,7 @@ const CAPACITY: usize = 32;
 #[derive(Drop)]
 pub struct KeyBytes<'a> {
     piece: PieceBytes<'a>,
-    list: Begun<'a>,
+    list: CurrentList<'a>,
     tail: TailLeft<'a>,
 }
 
@@ -71,7 +76,7 @@ impl<'a> KeyBytes<'a> {
     pub fn spelled_by(s: &'a str) -> Option<KeyBytes<'a>>
         ensures { result ≡ option_map (λ v. key_bytes (key_of v)) (versioning_of s.now) }
     {
-        Some(Spelled::whole(s)?.key_bytes())
+        Some(VersioningRef::new(s)?.key_bytes())
     }
 
     // The bytes of the key of a version of any kind.
@@ -87,51 +92,43 @@ impl<'a> KeyBytes<'a> {
     }
 
     // The bytes of the key of a strict version.
+    #[tactic(auto, using(crate::proofs::Tail::pre_release_written))]
     #[inline(always)]
     pub(crate) fn of_semver(ideal: &'a SemVer) -> KeyBytes<'a>
         ensures { result ≡ key_bytes (key_of_semver (plain_semver ideal.now)) }
     {
-        KeyBytes {
-            piece: PieceBytes::number(0),
-            list: Begun::Three(ideal.major, ideal.minor, ideal.patch),
-            tail: TailLeft::pre_release(&ideal.pre_rel),
-        }
+        let chunks = chunks_left(&ideal.pre_rel);
+        KeyBytes::strict(ideal.major, ideal.minor, ideal.patch, chunks)
     }
 
     // The bytes of the key of a strict version that was scanned.
+    #[tactic(auto, using(crate::proofs::Tail::pre_release_written))]
     #[inline(always)]
-    pub(crate) fn of_strict_pieces(ideal: &semver::Pieces<'a>) -> KeyBytes<'a>
-        ensures { result ≡ key_bytes (key_of_semver (strict_pieces ideal.now)) }
+    pub(crate) fn of_semver_ref(ideal: &semver::SemVerRef<'a>) -> KeyBytes<'a>
+        ensures { result ≡ key_bytes (key_of_semver (plain_semver_ref ideal.now)) }
     {
-        KeyBytes {
-            piece: PieceBytes::number(0),
-            list: Begun::Three(ideal.major, ideal.minor, ideal.patch),
-            tail: TailLeft::spelled_pre_release(&ideal.pre_rel),
-        }
+        let chunks = spelled_chunks_left(&ideal.pre_rel);
+        KeyBytes::strict(ideal.major, ideal.minor, ideal.patch, chunks)
     }
 
     // The bytes of the key of a general version.
+    #[tactic(auto, using(crate::proofs::Tail::release_written))]
     #[inline(always)]
     pub(crate) fn of_version(general: &'a Version) -> KeyBytes<'a>
         ensures { result ≡ key_bytes (key_of_version (plain_version general.now)) }
     {
-        KeyBytes {
-            piece: PieceBytes::number(general.epoch.unwrap_or(0)),
-            list: Begun::Parts(PartsLeft::of(&general.chunks, &general.last)),
-            tail: TailLeft::release(&general.release),
-        }
+        let parts = PartsLeft::of(&general.chunks, &general.last);
+        KeyBytes::general(general.epoch, parts, chunks_left(&general.release))
     }
 
     // The bytes of the key of a general version that was scanned.
+    #[tactic(auto, using(crate::proofs::Tail::release_written))]
     #[inline(always)]
-    pub(crate) fn of_general_pieces(general: &version::Pieces<'a>) -> KeyBytes<'a>
-        ensures { result ≡ key_bytes (key_of_version (general_pieces general.now)) }
+    pub(crate) fn of_version_ref(general: &version::VersionRef<'a>) -> KeyBytes<'a>
+        ensures { result ≡ key_bytes (key_of_version (plain_version_ref general.now)) }
     {
-        KeyBytes {
-            piece: PieceBytes::number(general.epoch.unwrap_or(0)),
-            list: Begun::Parts(PartsLeft::spelled_by(&general.body)),
-            tail: TailLeft::spelled_release(&general.release),
-        }
+        let parts = PartsLeft::spelled_by(&general.body);
+        KeyBytes::general(general.epoch, parts, spelled_chunks_left(&general.release))
     }
 
     // The bytes of the key of a messy version.
@@ -139,48 +136,75 @@ impl<'a> KeyBytes<'a> {
     pub(crate) fn of_mess(complex: &'a Mess) -> KeyBytes<'a>
         ensures { result ≡ key_bytes (key_of_mess (plain_mess complex.now)) }
     {
-        match epoch_of(complex) {
-            Some((digits, behind)) => KeyBytes::behind(PieceBytes::digits(digits), behind),
-            None => KeyBytes::behind(PieceBytes::number(0), complex),
-        }
+        let (epoch, sections) = match epoch_of(complex) {
+            Some((digits, sections)) => (PieceBytes::digits(digits), sections),
+            None => (PieceBytes::number(0), complex),
+        };
+        let first = ListLeft::section(sections.chunks.as_slice());
+        KeyBytes::messy(epoch, first, SectionsLeft::Built(sections))
     }
 
     // The bytes of the key of a messy version that was scanned.
-    pub(crate) fn of_messy_pieces(complex: &mess::Pieces<'a>) -> KeyBytes<'a>
-        ensures { result ≡ key_bytes (key_of_mess (messy_pieces complex.now)) }
+    pub(crate) fn of_mess_ref(complex: &mess::MessRef<'a>) -> KeyBytes<'a>
+        ensures { result ≡ key_bytes (key_of_mess (plain_mess_ref complex.now)) }
     {
-        if let Some((digits, body, behind)) = spelled_epoch(&complex.first, complex.rest) {
-            return KeyBytes::behind_spelled(PieceBytes::digits(digits), &body, behind);
+        if let Some((digits, first, rest)) = spelled_epoch(&complex.first, complex.rest) {
+            let epoch = PieceBytes::digits(digits);
+            return KeyBytes::messy(epoch, first.left(), SectionsLeft::Spelled(rest));
         }
-        KeyBytes::behind_spelled(PieceBytes::number(0), &complex.first, complex.rest)
+        let further = SectionsLeft::Spelled(complex.rest);
+        KeyBytes::messy(PieceBytes::number(0), complex.first.left(), further)
     }
 
-    // The bytes of an epoch, and of the sections behind it.
+    // The bytes of a key: of three plain numbers, and of the chunks of a pre-release, if there is one.
     #[inline(always)]
-    fn behind(epoch: PieceBytes<'a>, sections: &'a Mess) -> KeyBytes<'a>
-        ensures { (n : ℕ) → epoch.entry ≡ number_bytes n → result ≡ key_bytes (key_of_sections n (plain_mess sections.now).first (plain_mess sections.now).more) }
-    {
-        KeyBytes {
-            piece: epoch,
-            list: Begun::Section(ListLeft::section(sections.chunks.as_slice())),
-            tail: TailLeft::sections(sections),
-        }
-    }
-
-    // The bytes of an epoch, of the section behind it, and of the sections at the front of a text.
-    #[inline(always)]
-    fn behind_spelled(
-        epoch: PieceBytes<'a>,
-        section: &SectionPiece<'a>,
-        rest: &'a str,
+    fn strict(
+        major: u32,
+        minor: u32,
+        patch: u32,
+        chunks: Option<ListLeft<'a, ReleaseChunk>>,
     ) -> KeyBytes<'a>
-        ensures { (n : ℕ) → epoch.entry ≡ number_bytes n
-            → result ≡ key_bytes (key_of_sections n section.now (repeated further_front (length rest.now) rest.now).0) }
+        ensures { result ≡ number_bytes 0 ++ (parts_bytes (strict_body major minor patch)
+            ++ release_tail 1 chunks.entry) }
+    {
+        KeyBytes {
+            piece: PieceBytes::number(0),
+            list: CurrentList::Three(major, minor, patch),
+            tail: TailLeft::release(PRE_RELEASE, chunks),
+        }
+    }
+
+    // The bytes of a key: of an epoch, of the parts of a body, and of the chunks of a release, if there is one.
+    #[inline(always)]
+    fn general(
+        epoch: Option<u32>,
+        parts: PartsLeft<'a>,
+        chunks: Option<ListLeft<'a, ReleaseChunk>>,
+    ) -> KeyBytes<'a>
+        ensures { result ≡ number_bytes (unwrap_or epoch 0) ++ (parts.entry
+            ++ release_tail 3 chunks.entry) }
+    {
+        KeyBytes {
+            piece: PieceBytes::number(epoch.unwrap_or(0)),
+            list: CurrentList::Parts(parts),
+            tail: TailLeft::release(RELEASE, chunks),
+        }
+    }
+
+    // The bytes of a key: of an epoch, of a section, and of the sections after it.
+    #[inline(always)]
+    fn messy(
+        epoch: PieceBytes<'a>,
+        section: ListLeft<'a, MessyChunk>,
+        further: SectionsLeft<'a>,
+    ) -> KeyBytes<'a>
+        ensures { result ≡ epoch.entry ++ (section.entry
+            ++ tail_bytes (sections_tail (sections_of further.entry))) }
     {
         KeyBytes {
             piece: epoch,
-            list: Begun::Section(section.left()),
-            tail: TailLeft::spelled_sections(rest),
+            list: CurrentList::Section(section),
+            tail: TailLeft::sections(further),
         }
     }
 
@@ -214,33 +238,55 @@ impl<'a> KeyBytes<'a> {
     }
 }
 
+// The chunks of a release as they compare, if there is one.
+#[inline(always)]
+fn chunks_left(release: &Option<Release>) -> Option<ListLeft<'_, ReleaseChunk>>
+    ensures { result ≡ option_map release_bytes (option_map plain_release release.now) }
+{
+    match release {
+        Some(release) => Some(release.left()),
+        None => None,
+    }
+}
+
+// The chunks of a release that was scanned, if there is one.
+#[inline(always)]
+fn spelled_chunks_left<'a>(release: &Option<ReleaseRef<'a>>) -> Option<ListLeft<'a, ReleaseChunk>>
+    ensures { result ≡ option_map release_bytes release.now }
+{
+    match release {
+        Some(release) => Some(release.left()),
+        None => None,
+    }
+}
+
 // Makes a piece the next of the list begun, or else of the tail, which may begin a list, where there is one.
-fn next_piece<'a>(list: &mut Begun<'a>, tail: &mut TailLeft<'a>, piece: &mut PieceBytes<'a>) -> bool
+fn next_piece<'a>(list: &mut CurrentList<'a>, tail: &mut TailLeft<'a>, piece: &mut PieceBytes<'a>) -> bool
     ensures { IsNext result (list_left list.old ++ tail_left tail.old) (list_left list.new ++ tail_left tail.new) piece.old piece.new }
 {
     list.next_piece(piece) || begin_tail(list, tail, piece)
 }
 
 // Makes a piece the next of the tail, which may begin a list, where there is one.
-fn begin_tail<'a>(list: &mut Begun<'a>, tail: &mut TailLeft<'a>, piece: &mut PieceBytes<'a>) -> bool
+fn begin_tail<'a>(list: &mut CurrentList<'a>, tail: &mut TailLeft<'a>, piece: &mut PieceBytes<'a>) -> bool
     requires { list_left list.old ≡ [] }
     ensures { IsNext result (tail_left tail.old) (list_left list.new ++ tail_left tail.new) piece.old piece.new }
 {
     match mem::replace(tail, TailLeft::Nothing) {
         TailLeft::Nothing => return false,
-        TailLeft::Bare => piece.set_byte(2),
+        TailLeft::Bare => piece.set_byte(BARE),
         TailLeft::Release(rank, chunks) => {
-            *list = Begun::Chunks(chunks);
+            *list = CurrentList::Chunks(chunks);
             piece.set_byte(rank);
         }
         TailLeft::Sections(further) => {
-            *tail = TailLeft::Behind(further);
-            piece.set_byte(4);
+            *tail = TailLeft::AfterSection(further);
+            piece.set_byte(SECTIONS);
         }
-        TailLeft::Behind(further) => match further.next_section() {
+        TailLeft::AfterSection(further) => match further.next_section() {
             Some((section, behind)) => {
-                *list = Begun::Section(section);
-                *tail = TailLeft::Behind(behind);
+                *list = CurrentList::Section(section);
+                *tail = TailLeft::AfterSection(behind);
                 piece.set_byte(2);
             }
             None => piece.set_byte(1),
@@ -275,9 +321,9 @@ fn digits_of(section: &[MChunk]) -> Option<&str>
 // The digits of the epoch, where a first section is one and a colon follows, the section behind it, and the rest.
 #[tactic(auto, using(crate::proofs::SpelledKey::epoch_spelled))]
 fn spelled_epoch<'a>(
-    first: &SectionPiece<'a>,
+    first: &SectionRef<'a>,
     rest: &'a str,
-) -> Option<(&'a str, SectionPiece<'a>, &'a str)>
+) -> Option<(&'a str, SectionRef<'a>, &'a str)>
     ensures some { IfSome result (λ r. key_behind_epoch (section_epoch first.now) first.now (repeated further_front (length rest.now) rest.now).0
         ≡ key_of_sections (digits_value 10 (take_while is_ascii_digit r.0.now)) r.1 (repeated further_front (length r.2.now) r.2.now).0) }
     ensures none { IfNone result (key_behind_epoch (section_epoch first.now) first.now (repeated further_front (length rest.now) rest.now).0
@@ -287,7 +333,7 @@ fn spelled_epoch<'a>(
     if digits.is_empty() || !is_all_digits(digits) {
         return None;
     }
-    let (body, behind) = SectionPiece::scan(after_mark(rest, b':')?)?;
+    let (body, behind) = SectionRef::scan(after_mark(rest, b':')?)?;
     Some((digits, body, behind))
 }
 

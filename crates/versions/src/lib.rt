@@ -18,13 +18,13 @@ mod laws;
 mod mess;
 mod op;
 mod parts;
-mod pieces;
+mod optional;
 mod pretty;
 mod reading;
 mod requirement;
 mod requirements;
 mod semver;
-mod spelled;
+mod versioning_ref;
 mod version;
 mod versioning;
 

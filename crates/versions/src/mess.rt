@@ -8,7 +8,7 @@ ghost use Rattle.std.specs.Ordering.{as_partial_cmp, eq_by_cmp, on};
 ghost use Rattle.version_parts.specs.Front.{repeated, Reads};
 ghost use Rattle.version_parts.specs.OrderLaws.{same_where_tied};
 ghost use Rattle.versions.specs.Errors.{IllegalMess, ReadsOr};
-ghost use Rattle.versions.specs.Mess.{behind_colons, further_front, mess_fed, mess_front, mess_of, mess_plain_cmp, mess_text, nth_number, plain_further, plain_mess, plain_pieces, plain_section, section_front, PlainMess, SpellsMess};
+ghost use Rattle.versions.specs.Mess.{behind_colons, further_front, mess_fed, mess_front, mess_of, mess_plain_cmp, mess_text, nth_number, plain_further, plain_mess, plain_mess_ref, plain_section, section_front, PlainMess, SpellsMess};
 ghost use Rattle.versions.specs.MessLaws.{mess_total, messes_same};
 ghost use Rattle.versions.specs.Orders.{mess_cmp};
 ghost use Rattle.versions.specs.OrdersLaws.{mess_cmp_ties, mess_cmp_total};
@@ -22,7 +22,7 @@ use std::cmp::Ordering;
 use std::fmt;
 use std::hash::{Hash, Hasher};
 use version_parts::lists::{compare_lists, copy_list, write_dotted};
-use version_parts::{MChunk, SectionPiece, Sep, scan};
+use version_parts::{MChunk, SectionRef, Sep, scan};
 
 /// A messy version: chunks joined by dots, then perhaps a sign and a further messy version, as `1.6a+2014+m872b-1`
 /// or `2:10.2`.
@@ -57,7 +57,7 @@ impl Mess {
     pub fn is_spelled_by(s: &str) -> bool
         ensures { result ≡ is_some (mess_of s.now) }
     {
-        Pieces::whole(s).is_some()
+        MessRef::new(s).is_some()
     }
 
     /// The messy version that the whole text spells; else `Illegal`, with `IllegalMess` and the whole text in it.
@@ -296,8 +296,8 @@ fn read_whole(alloc: Global, s: &str) -> Result<Option<Mess>, AllocError>
     ensures ok { IfOk result (λ o. option_map plain_mess o ≡ mess_of s.now) }
     ensures err { OnErr result (IsSome (mess_of s.now)) }
 {
-    match Pieces::whole(s) {
-        Some(pieces) => Ok(Some(pieces.build(alloc)?)),
+    match MessRef::new(s) {
+        Some(version) => Ok(Some(version.build(alloc)?)),
         None => Ok(None),
     }
 }
@@ -305,28 +305,28 @@ fn read_whole(alloc: Global, s: &str) -> Result<Option<Mess>, AllocError>
 // A messy version that was scanned, with its texts still in the input: its first section, and the text of those behind
 // it, each behind its sign.
 #[derive(Drop)]
-pub(crate) struct Pieces<'a> {
-    pub(crate) first: SectionPiece<'a>,
+pub(crate) struct MessRef<'a> {
+    pub(crate) first: SectionRef<'a>,
     pub(crate) rest: &'a str,
 }
 
-impl<'a> Pieces<'a> {
+impl<'a> MessRef<'a> {
     // The messy version that the whole text spells.
     #[tactic(auto, using(crate::proofs::MessScan::whole_mess))]
     #[inline(always)]
-    pub(crate) fn whole(s: &'a str) -> Option<Pieces<'a>>
-        ensures { option_map plain_pieces result ≡ mess_of s.now }
+    pub(crate) fn new(s: &'a str) -> Option<MessRef<'a>>
+        ensures { option_map plain_mess_ref result ≡ mess_of s.now }
     {
-        let (first, rest) = SectionPiece::scan(s)?;
+        let (first, rest) = SectionRef::scan(s)?;
         if !skip_all_further(rest).is_empty() {
             return None;
         }
-        Some(Pieces { first, rest })
+        Some(MessRef { first, rest })
     }
 
     // The version with texts of its own.
     pub(crate) fn build(&self, alloc: Global) -> Result<Mess, AllocError>
-        ensures { IfOk result (λ m. plain_mess m ≡ plain_pieces self.now) }
+        ensures { IfOk result (λ m. plain_mess m ≡ plain_mess_ref self.now) }
     {
         let first = self.first.build(alloc)?;
         let (more, _) = read_all_further(alloc, self.rest)?;
@@ -351,14 +351,14 @@ fn skip_further(i: &str) -> Option<&str>
     ensures { option_map (λ r. r.now) result ≡ option_map (λ p. p.1) (further_front i.now) }
 {
     let (_, behind) = scan::sign(i)?;
-    Some(SectionPiece::scan(behind)?.1)
+    Some(SectionRef::scan(behind)?.1)
 }
 
 // The section at the front of a text, with chunks of its own, and the rest.
 fn read_section(alloc: Global, i: &str) -> Result<Option<(Vec<MChunk>, &str)>, AllocError>
     ensures { Reads plain_section (λ _. Unit {0}) result (section_front i.now) }
 {
-    let Some((section, rest)) = SectionPiece::scan(i) else {
+    let Some((section, rest)) = SectionRef::scan(i) else {
         return Ok(None);
     };
     Ok(Some((section.build(alloc)?, rest)))

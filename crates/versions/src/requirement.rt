@@ -7,7 +7,7 @@ ghost use Rattle.versions.specs.Errors.{IllegalOp, ReadsOr};
 ghost use Rattle.versions.specs.Matching.{AnswersFor, AsksOrder, IsConvex, IsOfKind, LooksAt, LooksAtVersions, Matches, MatchesCaret, MatchesOp, MatchesTilde};
 ghost use Rattle.versions.specs.Op.{op_front};
 ghost use Rattle.versions.specs.Requirement.{plain_requirement, requirement_front, requirement_of, requirement_text, PlainRequirement, RequirementOwns, SpellsRequirement};
-ghost use Rattle.versions.specs.Spelled.{plain_spelled};
+ghost use Rattle.versions.specs.VersioningRef.{plain_versioning_ref};
 ghost use Rattle.versions.specs.Versioning.{plain_versioning, versioning_of};
 ghost use Rattle.versions.specs.declared.op.Op.TheVariants.{Wildcard};
 
@@ -15,7 +15,7 @@ use crate::errors::{Error, ReadError};
 use crate::key::compare_keys;
 use crate::op::Op;
 use crate::reading::or_illegal;
-use crate::spelled::Spelled;
+use crate::versioning_ref::VersioningRef;
 use crate::versioning::Versioning;
 use std::alloc::{AllocError, Global};
 use std::cmp::Ordering;
@@ -126,7 +126,7 @@ impl Requirement {
         // Memory is wanted only where the text spells a version that is looked at itself.
         ensures memory { OnErr result (IsSomeAnd (versioning_of s.now) (LooksAt (plain_requirement self.now))) }
     {
-        match Spelled::whole(s) {
+        match VersioningRef::new(s) {
             Some(spelled) => Ok(Some(self.matches_scanned(alloc, &spelled)?)),
             None => Ok(None),
         }
@@ -136,10 +136,10 @@ impl Requirement {
     pub(crate) fn matches_scanned(
         &self,
         alloc: Global,
-        spelled: &Spelled<'_>,
+        spelled: &VersioningRef<'_>,
     ) -> Result<bool, AllocError>
-        ensures set { IfOk result (λ asked. IsTrue asked ↔ Matches (plain_requirement self.now) (plain_spelled spelled.now)) }
-        ensures memory { OnErr result (LooksAt (plain_requirement self.now) (plain_spelled spelled.now)) }
+        ensures set { IfOk result (λ asked. IsTrue asked ↔ Matches (plain_requirement self.now) (plain_versioning_ref spelled.now)) }
+        ensures memory { OnErr result (LooksAt (plain_requirement self.now) (plain_versioning_ref spelled.now)) }
     {
         match &self.version {
             Some(wanted) => asks_for_scanned(alloc, self.op, wanted, spelled),
@@ -204,10 +204,10 @@ fn asks_for_scanned(
     alloc: Global,
     op: Op,
     wanted: &Versioning,
-    spelled: &Spelled<'_>,
+    spelled: &VersioningRef<'_>,
 ) -> Result<bool, AllocError>
-    ensures set { IfOk result (λ asked. IsTrue asked ↔ MatchesOp op (plain_versioning wanted.now) (plain_spelled spelled.now)) }
-    ensures memory { OnErr result (LooksAtVersions op × IsOfKind (plain_versioning wanted.now) (plain_spelled spelled.now)) }
+    ensures set { IfOk result (λ asked. IsTrue asked ↔ MatchesOp op (plain_versioning wanted.now) (plain_versioning_ref spelled.now)) }
+    ensures memory { OnErr result (LooksAtVersions op × IsOfKind (plain_versioning wanted.now) (plain_versioning_ref spelled.now)) }
 {
     match op {
         Op::Greater | Op::GreaterEq | Op::Less | Op::LessEq => {

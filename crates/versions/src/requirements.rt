@@ -12,7 +12,7 @@ ghost use Rattle.versions.specs.Versioning.{plain_versioning, versioning_of};
 use crate::errors::{Error, ReadError};
 use crate::reading::or_illegal;
 use crate::requirement::Requirement;
-use crate::spelled::Spelled;
+use crate::versioning_ref::VersioningRef;
 use crate::versioning::Versioning;
 use std::alloc::{AllocError, Global};
 use std::fmt;
@@ -96,7 +96,7 @@ impl Requirements {
         // Memory is wanted only where the text spells a version that a member looks at itself.
         ensures memory { OnErr result (IsSomeAnd (versioning_of s.now) (λ v. Any (λ r. LooksAt (plain_requirement r) v) self.now.0.items)) }
     {
-        let Some(spelled) = Spelled::whole(s) else {
+        let Some(spelled) = VersioningRef::new(s) else {
             return Ok(None);
         };
         for requirement in &self.0 {

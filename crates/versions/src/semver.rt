@@ -13,10 +13,10 @@ ghost use Rattle.versions.specs.Errors.{IllegalSemver, ReadsOr};
 ghost use Rattle.versions.specs.SemVerLaws.{fed_alike, semver_total};
 ghost use Rattle.versions.specs.SemVerMatch.{numbers, MatchesCaret, MatchesTilde};
 ghost use Rattle.versions.specs.SemVerOrder.{semver_cmp};
-ghost use Rattle.versions.specs.SemVer.{plain_semver, semver_fed, plain_pieces, semver_front, semver_of, semver_text, SemVerOwns, PlainSemVer, SpellsSemVer};
+ghost use Rattle.versions.specs.SemVer.{plain_semver, semver_fed, plain_semver_ref, semver_front, semver_of, semver_text, SemVerOwns, PlainSemVer, SpellsSemVer};
 
 use crate::errors::{Error, ReadError};
-use crate::pieces::{
+use crate::optional::{
     build_release, copy_meta, copy_release, copy_text, optional_meta, optional_release, write_tail,
 };
 use crate::reading::or_illegal;
@@ -26,7 +26,7 @@ use std::alloc::{AllocError, Global};
 use std::cmp::Ordering;
 use std::fmt;
 use std::hash::{Hash, Hasher};
-use version_parts::{Chunk, Chunks, Last, Release, ReleasePiece, scan};
+use version_parts::{Chunk, Chunks, Last, Release, ReleaseRef, scan};
 
 /// A strict version: `major.minor.patch`, then perhaps a pre-release, then perhaps build metadata, as
 /// `1.2.3-rc.1+x86` (SemVer 2.0, sections 2, 9 and 10). The numbers are below 2^32.
@@ -66,7 +66,7 @@ impl SemVer {
     pub fn is_spelled_by(s: &str) -> bool
         ensures { result ≡ is_some (semver_of s.now) }
     {
-        Pieces::whole(s).is_some()
+        SemVerRef::new(s).is_some()
     }
 
     /// The strict version that the whole text spells; else `Illegal`, with `IllegalSemver` and the whole text in it.
@@ -83,10 +83,10 @@ impl SemVer {
     pub fn parse(alloc: Global, i: &str) -> Result<Option<(SemVer, &str)>, AllocError>
         ensures { Reads plain_semver SemVerOwns result (semver_front i.now) }
     {
-        let Some((pieces, rest)) = Pieces::scan(i) else {
+        let Some((version, rest)) = SemVerRef::scan(i) else {
             return Ok(None);
         };
-        Ok(Some((pieces.build(alloc)?, rest)))
+        Ok(Some((version.build(alloc)?, rest)))
     }
 
     /// A copy, with the same in every field, metadata included. Three plain numbers take no memory; the error is that
@@ -234,59 +234,59 @@ fn read_whole(alloc: Global, s: &str) -> Result<Option<SemVer>, AllocError>
     ensures ok { IfOk result (λ o. option_map plain_semver o ≡ semver_of s.now) }
     ensures err { OnErr result (IsSomeAnd (semver_of s.now) SemVerOwns) }
 {
-    match Pieces::whole(s) {
-        Some(pieces) => Ok(Some(pieces.build(alloc)?)),
+    match SemVerRef::new(s) {
+        Some(version) => Ok(Some(version.build(alloc)?)),
         None => Ok(None),
     }
 }
 
 // A strict version that was scanned, with its texts still in the input.
 #[derive(Drop)]
-pub(crate) struct Pieces<'a> {
+pub(crate) struct SemVerRef<'a> {
     pub(crate) major: u32,
     pub(crate) minor: u32,
     pub(crate) patch: u32,
-    pub(crate) pre_rel: Option<ReleasePiece<'a>>,
+    pub(crate) pre_rel: Option<ReleaseRef<'a>>,
     pub(crate) meta: Option<&'a str>,
 }
 
-impl<'a> Pieces<'a> {
+impl<'a> SemVerRef<'a> {
     // The strict version that the whole text spells.
     #[tactic(auto, unfolding(crate::specs::SemVer::semver_of))]
     #[inline(always)]
-    pub(crate) fn whole(s: &'a str) -> Option<Pieces<'a>>
-        ensures { option_map plain_pieces result ≡ semver_of s.now }
+    pub(crate) fn new(s: &'a str) -> Option<SemVerRef<'a>>
+        ensures { option_map plain_semver_ref result ≡ semver_of s.now }
     {
-        match Pieces::scan(s) {
-            Some((pieces, rest)) if rest.is_empty() => Some(pieces),
+        match SemVerRef::scan(s) {
+            Some((version, rest)) if rest.is_empty() => Some(version),
             _ => None,
         }
     }
 
     // The strict version at the front of a text, and the rest.
     #[tactic(auto, unfolding(crate::specs::SemVer::semver_front))]
-    fn scan(i: &'a str) -> Option<(Pieces<'a>, &'a str)>
-        ensures { option_map (λ r. (plain_pieces r.0, r.1.now)) result ≡ semver_front i.now }
+    fn scan(i: &'a str) -> Option<(SemVerRef<'a>, &'a str)>
+        ensures { option_map (λ r. (plain_semver_ref r.0, r.1.now)) result ≡ semver_front i.now }
     {
         let (major, rest) = scan::unsigned(i)?;
         let (minor, rest) = scan::unsigned(scan::after_mark(rest, b'.')?)?;
         let (patch, rest) = scan::unsigned(scan::after_mark(rest, b'.')?)?;
         let (pre_rel, rest) = optional_release(rest);
         let (meta, rest) = optional_meta(rest);
-        let pieces = Pieces {
+        let version = SemVerRef {
             major,
             minor,
             patch,
             pre_rel,
             meta,
         };
-        Some((pieces, rest))
+        Some((version, rest))
     }
 
     // The version with texts of its own.
     pub(crate) fn build(&self, alloc: Global) -> Result<SemVer, AllocError>
-        ensures ok { IfOk result (λ v. plain_semver v ≡ plain_pieces self.now) }
-        ensures err { OnErr result (SemVerOwns (plain_pieces self.now)) }
+        ensures ok { IfOk result (λ v. plain_semver v ≡ plain_semver_ref self.now) }
+        ensures err { OnErr result (SemVerOwns (plain_semver_ref self.now)) }
     {
         Ok(SemVer {
             major: self.major,

@@ -14,7 +14,7 @@ ghost use Rattle.versions.specs.Errors.{IllegalVersion, ReadsOr};
 ghost use Rattle.versions.specs.Key.{key_of_version, precedence};
 ghost use Rattle.versions.specs.Orders.{version_cmp};
 ghost use Rattle.versions.specs.OrdersLaws.{version_cmp_ties, version_cmp_total};
-ghost use Rattle.versions.specs.Version.{epoch_front, plain_pieces, plain_version, version_fed, version_front, version_nth, version_of, version_text, PlainVersion, SpellsVersion, VersionOwns};
+ghost use Rattle.versions.specs.Version.{epoch_front, plain_version_ref, plain_version, version_fed, version_front, version_nth, version_of, version_text, PlainVersion, SpellsVersion, VersionOwns};
 ghost use Rattle.versions.specs.VersionLaws.{version_plain_total, versions_same};
 ghost use Rattle.versions.specs.VersionMatch.{epoch_and_parts, MatchesCaret, MatchesTilde, PartsMatchTilde};
 ghost use Rattle.versions.specs.VersionOrder.{version_plain_cmp};
@@ -22,7 +22,7 @@ ghost use Rattle.versions.specs.VersionOrder.{version_plain_cmp};
 use crate::errors::{Error, ReadError};
 use crate::key::{KeyBytes, compare_keys};
 use crate::parts::{BodyParts, parts_match_caret};
-use crate::pieces::{
+use crate::optional::{
     build_release, copy_meta, copy_release, copy_text, optional_meta, optional_release, write_tail,
 };
 use crate::reading::or_illegal;
@@ -33,7 +33,7 @@ use std::fmt;
 use std::hash::{Hash, Hasher};
 use version_parts::key::{compare_part_lists, compare_parts};
 use version_parts::lists::{ListItem, compare_lists};
-use version_parts::{BodyPiece, Chunks, Last, Release, ReleasePiece, scan};
+use version_parts::{BodyRef, Chunks, Last, Release, ReleaseRef, scan};
 
 /// A general version: perhaps a number and a colon, then parts joined by dots, then perhaps a release, then perhaps
 /// metadata, as `1:2.0rc1-3`. It is what most packages carry. The numbers are below 2^32.
@@ -76,7 +76,7 @@ impl Version {
     pub fn is_spelled_by(s: &str) -> bool
         ensures { result ≡ is_some (version_of s.now) }
     {
-        Pieces::whole(s).is_some()
+        VersionRef::new(s).is_some()
     }
 
     /// The general version that the whole text spells; else `Illegal`, with `IllegalVersion` and the whole text in it.
@@ -94,10 +94,10 @@ impl Version {
     pub fn parse(alloc: Global, i: &str) -> Result<Option<(Version, &str)>, AllocError>
         ensures { Reads plain_version VersionOwns result (version_front i.now) }
     {
-        let Some((pieces, rest)) = Pieces::scan(i) else {
+        let Some((version, rest)) = VersionRef::scan(i) else {
             return Ok(None);
         };
-        Ok(Some((pieces.build(alloc)?, rest)))
+        Ok(Some((version.build(alloc)?, rest)))
     }
 
     /// No epoch, no chunks, the last part `0`, and nothing else. Takes no memory.
@@ -280,56 +280,56 @@ fn read_whole(alloc: Global, s: &str) -> Result<Option<Version>, AllocError>
     ensures ok { IfOk result (λ o. option_map plain_version o ≡ version_of s.now) }
     ensures err { OnErr result (IsSomeAnd (version_of s.now) VersionOwns) }
 {
-    match Pieces::whole(s) {
-        Some(pieces) => Ok(Some(pieces.build(alloc)?)),
+    match VersionRef::new(s) {
+        Some(version) => Ok(Some(version.build(alloc)?)),
         None => Ok(None),
     }
 }
 
 // A general version that was scanned, with its texts still in the input.
 #[derive(Drop)]
-pub(crate) struct Pieces<'a> {
+pub(crate) struct VersionRef<'a> {
     pub(crate) epoch: Option<u32>,
-    pub(crate) body: BodyPiece<'a>,
-    pub(crate) release: Option<ReleasePiece<'a>>,
+    pub(crate) body: BodyRef<'a>,
+    pub(crate) release: Option<ReleaseRef<'a>>,
     pub(crate) meta: Option<&'a str>,
 }
 
-impl<'a> Pieces<'a> {
+impl<'a> VersionRef<'a> {
     // The general version that the whole text spells.
     #[tactic(auto, unfolding(crate::specs::Version::version_of))]
     #[inline(always)]
-    pub(crate) fn whole(s: &'a str) -> Option<Pieces<'a>>
-        ensures { option_map plain_pieces result ≡ version_of s.now }
+    pub(crate) fn new(s: &'a str) -> Option<VersionRef<'a>>
+        ensures { option_map plain_version_ref result ≡ version_of s.now }
     {
-        match Pieces::scan(s) {
-            Some((pieces, rest)) if rest.is_empty() => Some(pieces),
+        match VersionRef::scan(s) {
+            Some((version, rest)) if rest.is_empty() => Some(version),
             _ => None,
         }
     }
 
     // The general version at the front of a text, and the rest.
     #[tactic(auto, unfolding(crate::specs::Version::version_front))]
-    fn scan(i: &'a str) -> Option<(Pieces<'a>, &'a str)>
-        ensures { option_map (λ r. (plain_pieces r.0, r.1.now)) result ≡ version_front i.now }
+    fn scan(i: &'a str) -> Option<(VersionRef<'a>, &'a str)>
+        ensures { option_map (λ r. (plain_version_ref r.0, r.1.now)) result ≡ version_front i.now }
     {
         let (epoch, rest) = optional_epoch(i);
-        let (body, rest) = BodyPiece::scan(rest)?;
+        let (body, rest) = BodyRef::scan(rest)?;
         let (release, rest) = optional_release(rest);
         let (meta, rest) = optional_meta(rest);
-        let pieces = Pieces {
+        let version = VersionRef {
             epoch,
             body,
             release,
             meta,
         };
-        Some((pieces, rest))
+        Some((version, rest))
     }
 
     // The version with texts of its own.
     pub(crate) fn build(&self, alloc: Global) -> Result<Version, AllocError>
-        ensures ok { IfOk result (λ v. plain_version v ≡ plain_pieces self.now) }
-        ensures err { OnErr result (VersionOwns (plain_pieces self.now)) }
+        ensures ok { IfOk result (λ v. plain_version v ≡ plain_version_ref self.now) }
+        ensures err { OnErr result (VersionOwns (plain_version_ref self.now)) }
     {
         let (chunks, last) = self.body.build(alloc)?;
         Ok(Version {

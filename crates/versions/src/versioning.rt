@@ -23,7 +23,7 @@ use crate::key::{KeyBytes, compare_keys, key_list};
 use crate::mess::Mess;
 use crate::reading::or_illegal;
 use crate::semver::SemVer;
-use crate::spelled::Spelled;
+use crate::versioning_ref::VersioningRef;
 use crate::version::Version;
 use std::alloc::{AllocError, Global};
 use std::cmp::Ordering;
@@ -218,7 +218,7 @@ fn read_whole(alloc: Global, s: &str) -> Result<Option<Versioning>, AllocError>
     ensures ok { IfOk result (λ o. option_map plain_versioning o ≡ versioning_of s.now) }
     ensures err { OnErr result (IsSomeAnd (versioning_of s.now) VersioningOwns) }
 {
-    match Spelled::whole(s) {
+    match VersioningRef::new(s) {
         Some(spelled) => Ok(Some(spelled.build(alloc)?)),
         None => Ok(None),
     }

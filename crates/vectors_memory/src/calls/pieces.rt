@@ -8,8 +8,8 @@ use version_parts::key::{PartText, PieceBytes};
 use version_parts::lists::{ListItem, copy_list};
 use version_parts::scan::{Dotted, Element};
 use version_parts::{
-    BodyPiece, Chunk, Chunks, Last, LastPiece, MChunk, MessyChunk, Part, Release, ReleaseChunk,
-    ReleasePiece, SectionPiece,
+    BodyRef, Chunk, Chunks, Last, LastRef, MChunk, MessyChunk, Part, Release, ReleaseChunk,
+    ReleaseRef, SectionRef,
 };
 use versions::key::KeyBytes;
 
@@ -50,13 +50,13 @@ fn items(table: &mut Table<'_>) -> io::Result<()> {
 
 fn scanned(table: &mut Table<'_>) -> io::Result<()> {
     for text in ["1rc2", "7b", "0rc01"] {
-        table.reads("LastPiece::build", text, build_last)?;
+        table.reads("LastRef::build", text, build_last)?;
     }
-    table.reads("LastPiece::build, without memory", "12", build_last)?;
-    table.reads("ReleasePiece::build", "-rc.1.x_", build_release)?;
-    table.reads("BodyPiece::build", "1.a.7b_", build_body)?;
-    table.reads("BodyPiece::build, without memory", "12", build_body)?;
-    table.reads("SectionPiece::build", "a1.02.x+", build_section)?;
+    table.reads("LastRef::build, without memory", "12", build_last)?;
+    table.reads("ReleaseRef::build", "-rc.1.x_", build_release)?;
+    table.reads("BodyRef::build", "1.a.7b_", build_body)?;
+    table.reads("BodyRef::build, without memory", "12", build_body)?;
+    table.reads("SectionRef::build", "a1.02.x+", build_section)?;
     table.reads("Dotted::build", "a1.02.x+", build_list)
 }
 
@@ -67,28 +67,28 @@ fn streams(table: &mut Table<'_>) -> io::Result<()> {
 }
 
 fn build_last(alloc: Global, text: &str) -> Result<Option<Last>, AllocError> {
-    match LastPiece::scan(text) {
+    match LastRef::scan(text) {
         Some((piece, _)) => Ok(Some(piece.build(alloc)?)),
         None => Ok(None),
     }
 }
 
 fn build_release(alloc: Global, text: &str) -> Result<Option<Release>, AllocError> {
-    match ReleasePiece::scan(text) {
+    match ReleaseRef::scan(text) {
         Some((piece, _)) => Ok(Some(piece.build(alloc)?)),
         None => Ok(None),
     }
 }
 
 fn build_body(alloc: Global, text: &str) -> Result<Option<(Chunks, Last)>, AllocError> {
-    match BodyPiece::scan(text) {
+    match BodyRef::scan(text) {
         Some((piece, _)) => Ok(Some(piece.build(alloc)?)),
         None => Ok(None),
     }
 }
 
 fn build_section(alloc: Global, text: &str) -> Result<Option<Vec<MChunk>>, AllocError> {
-    match SectionPiece::scan(text) {
+    match SectionRef::scan(text) {
         Some((piece, _)) => Ok(Some(piece.build(alloc)?)),
         None => Ok(None),
     }

@@ -14,17 +14,14 @@ ghost use Rattle.version_parts.specs.Pieces.{IsNext};
 ghost use Rattle.version_parts.specs.PartKey.{chunk_parts, mchunk_key_front, part_bytes, part_key, part_key_front, parts_bytes, section_parts, PartKey};
 ghost use Rattle.version_parts.specs.ReleaseOrder.{chunk_bytes};
 
-use crate::chunk::{Chunk, ChunkPiece, Part, ReleaseChunk};
+use crate::chunk::{Chunk, ChunkRef, Part, ReleaseChunk};
 use crate::key::PieceBytes;
 use crate::mchunk::{MChunk, MessyChunk};
-use crate::scan::{Class, Dotted, after_mark, nonempty_run};
+use crate::scan::{Class, Dotted, Element, after_mark, nonempty_run};
 use std::marker::Model;
 
-/// A kind of item that a list in a key is written of, byte after byte.
-pub trait Code {
-    /// What a list holds.
-    type Item;
-
+/// A kind of element that stands in a key, byte after byte.
+pub trait Code: Element {
     // What an item is written as, and the bytes of that, or of the end of a list.
     ghost Key: { Type 0 };
 
@@ -33,7 +30,7 @@ pub trait Code {
     ghost bytes: { Option Key → List ℕ };
 
     // What the item at the front of a text is written as, and the rest.
-    ghost front: { Front Key };
+    ghost key_front: { Front Key };
 
     /// Makes a piece the bytes of an item.
     fn set_piece<'a>(piece: &mut PieceBytes<'a>, item: &'a Self::Item)
@@ -42,7 +39,7 @@ pub trait Code {
     /// Makes a piece the bytes of the item at the front of a text, where one can be read, and gives the rest. Takes no
     /// memory.
     fn set_front_piece<'a>(piece: &mut PieceBytes<'a>, i: &'a str) -> Option<&'a str>
-        ensures read { option_map (λ rest. (piece.new, rest.now)) result ≡ map_value (λ key. bytes (Some key)) (front i.now) }
+        ensures read { option_map (λ rest. (piece.new, rest.now)) result ≡ map_value (λ key. bytes (Some key)) (key_front i.now) }
         ensures unread { IfNone result (piece.new ≡ piece.old) };
 
     /// The byte behind the last item.
@@ -52,7 +49,7 @@ pub trait Code {
     // Each item has a byte, and what is left is no longer than the text.
     ghost begins: { (key : Key) → ¬ (bytes (Some key) ≡ []) };
 
-    ghost consumes: { Consumes front };
+    ghost key_consumes: { Consumes key_front };
 }
 
 /// The items of a list that are still to come: those of a list, and so many of those that a text spells. It takes no
@@ -67,7 +64,7 @@ pub struct ItemsLeft<'a, C: Code> {
 impl<'a, C: Code> Model for ItemsLeft<'a, C> {
     ghost Value = { List ℕ };
 
-    ghost view = { λ left. items_bytes C.bytes (map C.key left.items.now) ++ items_bytes C.bytes (take left.count (elements_at C.front left.text.now)) };
+    ghost view = { λ left. items_bytes C.bytes (map C.key left.items.now) ++ items_bytes C.bytes (take left.count (elements_at C.key_front left.text.now)) };
 }
 
 impl<'a, C: Code> ItemsLeft<'a, C> {
@@ -86,7 +83,7 @@ impl<'a, C: Code> ItemsLeft<'a, C> {
     /// The elements of a list that was scanned.
     #[inline(always)]
     pub fn spelled_by(list: Dotted<'a>) -> ItemsLeft<'a, C>
-        ensures { result ≡ items_bytes C.bytes (take list.entry.count (elements_at C.front list.entry.text.now)) }
+        ensures { result ≡ items_bytes C.bytes (take list.entry.count (elements_at C.key_front list.entry.text.now)) }
     {
         ItemsLeft {
             items: &[],
@@ -234,19 +231,17 @@ impl<'a> ListBytes<'a, Part> {
 
 /// The parts of a general version, by their printed texts.
 impl Code for Part {
-    type Item = Chunk;
-
     ghost Key = { PartKey };
 
     ghost key = { λ chunk. part_key (chunk_text (plain_chunk chunk)) };
 
     ghost bytes = { part_bytes };
 
-    ghost front = { part_key_front };
+    ghost key_front = { part_key_front };
 
     ghost begins = { part_begins };
 
-    ghost consumes = { part_key_consumes };
+    ghost key_consumes = { part_key_consumes };
 
     #[inline(always)]
     fn set_piece<'a>(piece: &mut PieceBytes<'a>, item: &'a Chunk) {
@@ -255,7 +250,7 @@ impl Code for Part {
 
     #[inline(always)]
     fn set_front_piece<'a>(piece: &mut PieceBytes<'a>, i: &'a str) -> Option<&'a str> {
-        let (chunk, rest) = ChunkPiece::scan(i, Class::Alphanumeric)?;
+        let (chunk, rest) = ChunkRef::scan(i, Class::Alphanumeric)?;
         piece.set_chunk_as_part(chunk);
         Some(rest)
     }
@@ -267,19 +262,17 @@ impl Code for Part {
 
 /// The chunks of a messy section, by their texts.
 impl Code for MessyChunk {
-    type Item = MChunk;
-
     ghost Key = { PartKey };
 
     ghost key = { λ chunk. part_key (mchunk_text (plain_mchunk chunk)) };
 
     ghost bytes = { part_bytes };
 
-    ghost front = { mchunk_key_front };
+    ghost key_front = { mchunk_key_front };
 
     ghost begins = { part_begins };
 
-    ghost consumes = { mchunk_key_consumes };
+    ghost key_consumes = { mchunk_key_consumes };
 
     #[inline(always)]
     fn set_piece<'a>(piece: &mut PieceBytes<'a>, item: &'a MChunk) {
@@ -301,19 +294,17 @@ impl Code for MessyChunk {
 
 /// The chunks of a release.
 impl Code for ReleaseChunk {
-    type Item = Chunk;
-
     ghost Key = { PlainChunk };
 
     ghost key = { plain_chunk };
 
     ghost bytes = { chunk_bytes };
 
-    ghost front = { chunk_front };
+    ghost key_front = { chunk_front };
 
     ghost begins = { chunk_begins };
 
-    ghost consumes = { chunk_consumes is_identifier_byte };
+    ghost key_consumes = { chunk_consumes is_identifier_byte };
 
     #[inline(always)]
     fn set_piece<'a>(piece: &mut PieceBytes<'a>, item: &'a Chunk) {
@@ -322,7 +313,7 @@ impl Code for ReleaseChunk {
 
     #[inline(always)]
     fn set_front_piece<'a>(piece: &mut PieceBytes<'a>, i: &'a str) -> Option<&'a str> {
-        let (chunk, rest) = ChunkPiece::scan(i, Class::Identifier)?;
+        let (chunk, rest) = ChunkRef::scan(i, Class::Identifier)?;
         piece.set_chunk(chunk);
         Some(rest)
     }

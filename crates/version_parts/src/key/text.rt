@@ -7,7 +7,7 @@ ghost use Rattle.std.specs.Iterator.{item_count, YieldsFirst};
 ghost use Rattle.std.specs.List.{list_all, prefix_len};
 ghost use Rattle.version_parts.specs.Class.{contains};
 
-use crate::key::few::FewBytes;
+use crate::key::inline::InlineBytes;
 use crate::scan::{Class, run_len};
 use std::marker::Model;
 
@@ -15,15 +15,15 @@ use std::marker::Model;
 /// elsewhere, and the digits of one more. It takes no memory.
 #[derive(Drop)]
 pub struct PartText<'a> {
-    before: FewBytes,
+    before: InlineBytes,
     text: &'a [u8],
-    behind: FewBytes,
+    after: InlineBytes,
 }
 
 impl<'a> Model for PartText<'a> {
     ghost Value = { List ℕ };
 
-    ghost view = { λ part. part.before ++ (part.text.now ++ part.behind) };
+    ghost view = { λ part. part.before ++ (part.text.now ++ part.after) };
 }
 
 impl<'a> PartText<'a> {
@@ -32,9 +32,9 @@ impl<'a> PartText<'a> {
         ensures { result ≡ decimal number }
     {
         PartText {
-            before: FewBytes::decimal(number),
+            before: InlineBytes::decimal(number),
             text: &[],
-            behind: FewBytes::none(),
+            after: InlineBytes::none(),
         }
     }
 
@@ -43,9 +43,9 @@ impl<'a> PartText<'a> {
         ensures { result ≡ text.now }
     {
         PartText {
-            before: FewBytes::none(),
+            before: InlineBytes::none(),
             text: text.as_bytes(),
-            behind: FewBytes::none(),
+            after: InlineBytes::none(),
         }
     }
 
@@ -54,9 +54,9 @@ impl<'a> PartText<'a> {
         ensures { result ≡ decimal number ++ text.now }
     {
         PartText {
-            before: FewBytes::decimal(number),
+            before: InlineBytes::decimal(number),
             text: text.as_bytes(),
-            behind: FewBytes::none(),
+            after: InlineBytes::none(),
         }
     }
 
@@ -65,9 +65,9 @@ impl<'a> PartText<'a> {
         ensures { result ≡ decimal first ++ text.now ++ decimal second }
     {
         PartText {
-            before: FewBytes::decimal(first),
+            before: InlineBytes::decimal(first),
             text: text.as_bytes(),
-            behind: FewBytes::decimal(second),
+            after: InlineBytes::decimal(second),
         }
     }
 
@@ -78,7 +78,7 @@ impl<'a> PartText<'a> {
     {
         self.before.clear();
         self.text = text.as_bytes();
-        self.behind.clear();
+        self.after.clear();
     }
 
     // The next byte, which is still to come.
@@ -89,7 +89,7 @@ impl<'a> PartText<'a> {
             .as_slice()
             .first()
             .or(self.text.first())
-            .or(self.behind.as_slice().first())
+            .or(self.after.as_slice().first())
             .copied()
     }
 
@@ -107,7 +107,7 @@ impl<'a> PartText<'a> {
         if more < self.text.len() {
             return count + more;
         }
-        count + more + run_len(self.behind.as_slice(), Class::Digit)
+        count + more + run_len(self.after.as_slice(), Class::Digit)
     }
 
     // Takes the run of a class that the text begins with, as far as it lies in one piece elsewhere.
@@ -148,6 +148,6 @@ impl<'a> Iterator for PartText<'a> {
             self.text = rest;
             return Some(*first);
         }
-        self.behind.next()
+        self.after.next()
     }
 }

@@ -8,11 +8,11 @@ ghost use Rattle.version_parts.specs.Pieces.{IsNext};
 
 use std::marker::Model;
 use version_parts::key::{ItemsLeft, ListLeft, PieceBytes};
-use version_parts::{BodyPiece, Chunks, Last, MessyChunk, Part, ReleaseChunk};
+use version_parts::{BodyRef, Chunks, Last, MessyChunk, Part, ReleaseChunk};
 
 /// What is still to come of a list, with its end.
 #[derive(Drop)]
-pub enum Begun<'a> {
+pub enum CurrentList<'a> {
     /// Nothing, not even its end.
     Ended,
     /// Plain numbers.
@@ -27,7 +27,7 @@ pub enum Begun<'a> {
     Chunks(ListLeft<'a, ReleaseChunk>),
 }
 
-impl<'a> Begun<'a> {
+impl<'a> CurrentList<'a> {
     ghost use Rattle.versions.specs.KeyStream.{list_left};
 
     /// Makes a piece the bytes of the next item, or of the end, where there is one.
@@ -36,25 +36,25 @@ impl<'a> Begun<'a> {
         ensures { IsNext result (list_left self.old) (list_left self.new) piece.old piece.new }
     {
         match self {
-            Begun::Ended => false,
-            Begun::Three(first, second, third) => {
+            CurrentList::Ended => false,
+            CurrentList::Three(first, second, third) => {
                 piece.set_plain_part(*first);
-                *self = Begun::Two(*second, *third);
+                *self = CurrentList::Two(*second, *third);
                 true
             }
-            Begun::Two(first, second) => {
+            CurrentList::Two(first, second) => {
                 piece.set_plain_part(*first);
-                *self = Begun::One(*second);
+                *self = CurrentList::One(*second);
                 true
             }
-            Begun::One(last) => {
+            CurrentList::One(last) => {
                 piece.set_last_plain_part(*last);
-                *self = Begun::Ended;
+                *self = CurrentList::Ended;
                 true
             }
-            Begun::Parts(parts) => parts.next_piece(piece),
-            Begun::Section(section) => section.next_piece(piece),
-            Begun::Chunks(chunks) => chunks.next_piece(piece),
+            CurrentList::Parts(parts) => parts.next_piece(piece),
+            CurrentList::Section(section) => section.next_piece(piece),
+            CurrentList::Chunks(chunks) => chunks.next_piece(piece),
         }
     }
 }
@@ -96,7 +96,7 @@ impl<'a> PartsLeft<'a> {
     /// The parts of a body that was scanned.
     #[tactic(auto, using(version_parts::proofs::ListBytes::ended))]
     #[inline(always)]
-    pub fn spelled_by(body: &BodyPiece<'a>) -> PartsLeft<'a>
+    pub fn spelled_by(body: &BodyRef<'a>) -> PartsLeft<'a>
         ensures { result ≡ parts_bytes (chunk_parts body.now.0 ++ part_key (last_text body.now.1) ∷ []) }
     {
         PartsLeft {

@@ -1,18 +1,25 @@
 //! The tail of a key: what stands behind its body.
 
-ghost use Rattle.std.specs.Prelude.{◌≡◌, length};
-ghost use Rattle.std.specs.Option.{option_map, option_map_or};
-ghost use Rattle.version_parts.specs.Front.{repeated};
-ghost use Rattle.version_parts.specs.Release.{plain_release};
+ghost use Rattle.std.specs.Prelude.{◌≡◌};
 ghost use Rattle.versions.specs.Key.{sections_tail};
-ghost use Rattle.versions.specs.Mess.{further_front, plain_mess};
-ghost use Rattle.versions.specs.Tail as plain;
-ghost use Rattle.versions.specs.Tail.{tail_bytes, PreReleased, Released};
+ghost use Rattle.versions.specs.KeyStream.{release_tail, sections_of};
+ghost use Rattle.versions.specs.Tail.{tail_bytes};
 
-use crate::key::further::Further;
-use crate::mess::Mess;
+use crate::key::sections::SectionsLeft;
+use version_parts::ReleaseChunk;
 use version_parts::key::ListLeft;
-use version_parts::{Release, ReleaseChunk, ReleasePiece};
+
+/// The mark of a strict pre-release.
+pub const PRE_RELEASE: u8 = 1;
+
+/// The mark of a tail that holds nothing.
+pub const BARE: u8 = 2;
+
+/// The mark of a general release.
+pub const RELEASE: u8 = 3;
+
+/// The mark of further sections.
+pub const SECTIONS: u8 = 4;
 
 /// What is still to come of a tail.
 #[derive(Drop)]
@@ -23,76 +30,31 @@ pub enum TailLeft<'a> {
     Bare,
     /// The mark of a release, and its chunks.
     Release(u8, ListLeft<'a, ReleaseChunk>),
-    /// The mark of further sections, and these.
-    Sections(Further<'a>),
-    /// Further sections behind the one begun.
-    Behind(Further<'a>),
+    /// The mark of further sections, and these sections.
+    Sections(SectionsLeft<'a>),
+    /// Further sections, after the one that is written now.
+    AfterSection(SectionsLeft<'a>),
 }
 
 impl<'a> TailLeft<'a> {
     ghost use Rattle.versions.specs.KeyStream.{tail_left};
 
-    /// A strict pre-release, or nothing.
+    /// The mark of a pre-release or release and its chunks, or the mark of nothing.
     #[inline(always)]
-    pub fn pre_release(pre_rel: &'a Option<Release>) -> TailLeft<'a>
-        ensures { tail_left result ≡ tail_bytes (option_map_or PreReleased (option_map plain_release pre_rel.now) plain.Bare) }
+    pub fn release(mark: u8, chunks: Option<ListLeft<'a, ReleaseChunk>>) -> TailLeft<'a>
+        ensures { tail_left result ≡ release_tail mark chunks.entry }
     {
-        match pre_rel {
-            Some(release) => TailLeft::Release(1, release.left()),
+        match chunks {
+            Some(chunks) => TailLeft::Release(mark, chunks),
             None => TailLeft::Bare,
         }
     }
 
-    /// A strict pre-release that was scanned, or nothing.
+    /// The mark of further sections and these sections, or the mark of nothing.
     #[inline(always)]
-    pub fn spelled_pre_release(pre_rel: &Option<ReleasePiece<'a>>) -> TailLeft<'a>
-        ensures { tail_left result ≡ tail_bytes (option_map_or PreReleased pre_rel.now plain.Bare) }
+    pub fn sections(further: SectionsLeft<'a>) -> TailLeft<'a>
+        ensures { tail_left result ≡ tail_bytes (sections_tail (sections_of further.entry)) }
     {
-        match pre_rel {
-            Some(release) => TailLeft::Release(1, release.left()),
-            None => TailLeft::Bare,
-        }
-    }
-
-    /// A general release, or nothing.
-    #[inline(always)]
-    pub fn release(release: &'a Option<Release>) -> TailLeft<'a>
-        ensures { tail_left result ≡ tail_bytes (option_map_or Released (option_map plain_release release.now) plain.Bare) }
-    {
-        match release {
-            Some(release) => TailLeft::Release(3, release.left()),
-            None => TailLeft::Bare,
-        }
-    }
-
-    /// A general release that was scanned, or nothing.
-    #[inline(always)]
-    pub fn spelled_release(release: &Option<ReleasePiece<'a>>) -> TailLeft<'a>
-        ensures { tail_left result ≡ tail_bytes (option_map_or Released release.now plain.Bare) }
-    {
-        match release {
-            Some(release) => TailLeft::Release(3, release.left()),
-            None => TailLeft::Bare,
-        }
-    }
-
-    /// The sections behind the first of a messy version, or nothing.
-    #[inline(always)]
-    pub fn sections(mess: &'a Mess) -> TailLeft<'a>
-        ensures { tail_left result ≡ tail_bytes (sections_tail (plain_mess mess.now).more) }
-    {
-        match &mess.next {
-            Some(_) => TailLeft::Sections(Further::Made(mess)),
-            None => TailLeft::Bare,
-        }
-    }
-
-    /// The sections at the front of a text, each behind its sign, or nothing.
-    #[inline(always)]
-    pub fn spelled_sections(text: &'a str) -> TailLeft<'a>
-        ensures { tail_left result ≡ tail_bytes (sections_tail (repeated further_front (length text.now) text.now).0) }
-    {
-        let further = Further::Spelled(text);
         match further.next_section() {
             Some(_) => TailLeft::Sections(further),
             None => TailLeft::Bare,

@@ -2,9 +2,9 @@ use Rattle.std.proofs.Common.{take}
 use Rattle.std.specs.List.{All}
 use Rattle.versions.specs.Matching.{Matches}
 use Rattle.versions.specs.Requirement.{plain_requirement}
-use Rattle.versions.specs.Spelled.{plain_spelled}
+use Rattle.versions.specs.VersioningRef.{plain_versioning_ref}
 use Rattle.versions.proofs.requirements.Requirements.matches_spelled.Given as goal
 
 -- the members so far ask for the version
 abbrev pub invariant-loop-requirement : goal.invariant-loop-requirement
-invariant-loop-requirement l = All (λ r. Matches (plain_requirement r) (plain_spelled l.spelled)) (take l.requirement-index l.requirement-items)
+invariant-loop-requirement l = All (λ r. Matches (plain_requirement r) (plain_versioning_ref l.spelled)) (take l.requirement-index l.requirement-items)

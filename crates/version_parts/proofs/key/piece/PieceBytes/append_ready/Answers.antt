@@ -1,5 +1,5 @@
 use Rattle.version_parts.proofs.Growing.{at_any_error, grows_not}
-use Rattle.version_parts.proofs.key.piece.PieceBytes.append_made.Goals as goal
+use Rattle.version_parts.proofs.key.piece.PieceBytes.append_ready.Goals as goal
 
 pub returns-in_err-extend_from_slice-clause-err : goal.returns-in_err-extend_from_slice-clause-err
 returns-in_err-extend_from_slice-clause-err c =

@@ -11,14 +11,14 @@ ghost use Rattle.versions.specs.SemVer.{optional_text};
 
 use std::alloc::{AllocError, Global};
 use std::fmt;
-use version_parts::{Release, ReleasePiece, scan};
+use version_parts::{Release, ReleaseRef, scan};
 
 // The release at the front of a text, if there is one, and the rest.
 #[tactic(auto, unfolding(version_parts::specs::Front::optional))]
-pub(crate) fn optional_release(i: &str) -> (Option<ReleasePiece<'_>>, &str)
+pub(crate) fn optional_release(i: &str) -> (Option<ReleaseRef<'_>>, &str)
     ensures { (result.0, result.1.now) ≡ optional release_front i.now }
 {
-    match ReleasePiece::scan(i) {
+    match ReleaseRef::scan(i) {
         Some((piece, rest)) => (Some(piece), rest),
         None => (None, i),
     }
@@ -38,7 +38,7 @@ pub(crate) fn optional_meta(i: &str) -> (Option<&str>, &str)
 // The chunks of a release, if there is one.
 pub(crate) fn build_release(
     alloc: Global,
-    piece: &Option<ReleasePiece<'_>>,
+    piece: &Option<ReleaseRef<'_>>,
 ) -> Result<Option<Release>, AllocError>
     ensures ok { IfOk result (λ release. option_map plain_release release ≡ piece.now) }
     ensures err { OnErr result (IsSome piece.now) }

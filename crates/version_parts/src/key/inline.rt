@@ -15,49 +15,49 @@ const MOST: usize = 14;
 
 /// At most 14 bytes, seen as those that are still to come.
 #[derive(Drop)]
-pub(crate) struct FewBytes {
+pub(crate) struct InlineBytes {
     bytes: [u8; MOST],
-    at: u8,
+    start: u8,
 }
 
-impl Model for FewBytes {
+impl Model for InlineBytes {
     ghost Value = { List ℕ };
 
-    ghost view = { λ few. drop few.at few.bytes };
+    ghost view = { λ inline. drop inline.start inline.bytes };
 
-    ghost invariant = { λ few. few.at ≤ 14 };
+    ghost invariant = { λ inline. inline.start ≤ 14 };
 }
 
-impl FewBytes {
+impl InlineBytes {
     /// No byte.
     #[inline(always)]
-    pub(crate) fn none() -> FewBytes
+    pub(crate) fn none() -> InlineBytes
         ensures { result ≡ [] }
     {
-        FewBytes {
+        InlineBytes {
             bytes: [0; MOST],
-            at: MOST as u8,
+            start: MOST as u8,
         }
     }
 
     /// A number in decimal.
-    pub(crate) fn decimal(number: u32) -> FewBytes
+    pub(crate) fn decimal(number: u32) -> InlineBytes
         ensures { result ≡ decimal number }
     {
-        let mut few = FewBytes::none();
-        few.put_decimal(number);
-        few
+        let mut inline = InlineBytes::none();
+        inline.put_decimal(number);
+        inline
     }
 
     /// The bytes of a number: how many digits it has, and these.
     #[inline(always)]
-    pub(crate) fn number(number: u32) -> FewBytes
+    pub(crate) fn number(number: u32) -> InlineBytes
         ensures value { result ≡ number_bytes number }
         ensures short { length result ≤ 11 }
     {
-        let mut few = FewBytes::none();
-        few.put_number(number);
-        few
+        let mut inline = InlineBytes::none();
+        inline.put_number(number);
+        inline
     }
 
     /// Becomes no byte.
@@ -65,7 +65,7 @@ impl FewBytes {
     pub(crate) fn clear(&mut self)
         ensures { self.new ≡ [] }
     {
-        self.at = MOST as u8;
+        self.start = MOST as u8;
     }
 
     /// Becomes one byte.
@@ -97,7 +97,7 @@ impl FewBytes {
 
     /// Becomes a byte, and the bytes of a number behind it.
     #[inline(always)]
-    pub(crate) fn set_number_behind(&mut self, byte: u8, number: u32)
+    pub(crate) fn set_byte_and_number(&mut self, byte: u8, number: u32)
         ensures { self.new ≡ byte ∷ number_bytes number }
     {
         self.clear();
@@ -111,8 +111,8 @@ impl FewBytes {
         requires { length self.old < 14 }
         ensures { self.new ≡ byte ∷ self.old }
     {
-        self.at -= 1;
-        self.bytes[usize::from(self.at)] = byte;
+        self.start -= 1;
+        self.bytes[usize::from(self.start)] = byte;
     }
 
     // A plain number as a part before the others.
@@ -126,7 +126,7 @@ impl FewBytes {
     }
 
     // The bytes of a number before the others.
-    #[tactic(auto, using(crate::proofs::FewBytes::number_put))]
+    #[tactic(auto, using(crate::proofs::InlineBytes::number_put))]
     #[inline(always)]
     fn put_number(&mut self, number: u32)
         requires { length self.old ≤ 2 }
@@ -142,29 +142,29 @@ impl FewBytes {
     }
 
     // A number in decimal before the others. It says how many digits that are.
-    #[tactic(auto, using(crate::proofs::FewBytes::ten_digits))]
+    #[tactic(auto, using(crate::proofs::InlineBytes::ten_digits))]
     fn put_decimal(&mut self, number: u32) -> u8
         requires { length self.old ≤ 3 }
         ensures value { self.new ≡ decimal number ++ self.old }
         ensures count { result ≡ length (decimal number) }
         ensures short { result ≤ 10 }
     {
-        let end = self.at;
-        self.at = write_digits(u64::from(number), &mut self.bytes, usize::from(end)) as u8;
-        end - self.at
+        let end = self.start;
+        self.start = write_digits(u64::from(number), &mut self.bytes, usize::from(end)) as u8;
+        end - self.start
     }
 
     /// Goes past as many bytes as both have, where those are the same.
     #[tactic(auto, using(crate::proofs::Past::past))]
     #[inline(always)]
-    pub(crate) fn pass_same(&mut self, other: &mut FewBytes)
+    pub(crate) fn pass_same(&mut self, other: &mut InlineBytes)
         ensures { GonePast self.old other.old self.new other.new }
     {
         let (a, b) = (self.as_slice(), other.as_slice());
         let count = a.len().min(b.len());
         if a[..count] == b[..count] {
-            self.at += count as u8;
-            other.at += count as u8;
+            self.start += count as u8;
+            other.start += count as u8;
         }
     }
 
@@ -173,7 +173,7 @@ impl FewBytes {
     pub(crate) fn is_empty(&self) -> bool
         ensures { IsTrue result → self.now ≡ [] }
     {
-        self.at == MOST as u8
+        self.start == MOST as u8
     }
 
     /// The bytes as a slice.
@@ -182,20 +182,20 @@ impl FewBytes {
         ensures value { result.now ≡ self.now }
         ensures short { length result.now ≤ 14 }
     {
-        &self.bytes[usize::from(self.at)..]
+        &self.bytes[usize::from(self.start)..]
     }
 }
 
-impl Iterator for FewBytes {
+impl Iterator for InlineBytes {
     type Item = u8;
 
-    ghost next_gives = { YieldsFirst (λ few. few) };
+    ghost next_gives = { YieldsFirst (λ inline. inline) };
 
-    ghost remaining = { item_count (λ few. few) };
+    ghost remaining = { item_count (λ inline. inline) };
 
     fn next(&mut self) -> Option<u8> {
         let byte = self.as_slice().first().copied()?;
-        self.at += 1;
+        self.start += 1;
         Some(byte)
     }
 }

@@ -1,6 +1,6 @@
 use Rattle.std.proofs.Common.{length, sym, ap, ◌∙◌}
 use Rattle.version_parts.proofs.ListBytes.{no_chunk, only_chunk}
-use Rattle.version_parts.proofs.mchunk.SectionPiece.only_text.Goals as goal
+use Rattle.version_parts.proofs.mchunk.SectionRef.only_text.Goals as goal
 
 pub returns-in_err-nonempty_run-clause-other : goal.returns-in_err-nonempty_run-clause-other
 returns-in_err-nonempty_run-clause-other c =
