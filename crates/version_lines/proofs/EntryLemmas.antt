@@ -19,7 +19,7 @@ use Rattle.version_lines.specs.Lines.{lines_of, lines_output, whole_line}
 use Rattle.version_lines.specs.Sort.{bad_line, is_bad, line_cmp, sort_output}
 use Rattle.version_lines.specs.Sorting.{in_order}
 use Rattle.version_lines.specs.Spelled.{line_key, line_tie_breaker, line_tie_cmp, unless_strict}
-use Rattle.version_lines.specs.declared.entry.Entry.{Entry}
+use Rattle.version_lines.specs.declared.sort.entry.Entry.{Entry}
 use Rattle.versions.proofs.Orders.{key_bytes_alone}
 use Rattle.versions.proofs.SemVerOrder.{precedence_of_semvers}
 use Rattle.versions.specs.Key.{key_of, key_of_semver, precedence}

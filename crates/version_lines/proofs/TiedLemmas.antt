@@ -13,8 +13,8 @@ use Rattle.version_lines.specs.Entry.{entry_line, tie_cmp}
 use Rattle.version_lines.specs.Sorting.{in_order}
 use Rattle.version_lines.specs.Spelled.{line_tie_breaker, unless_strict}
 use Rattle.version_lines.specs.Tied.{tied_cmp, tied_entry, tied_version, IsTied}
-use Rattle.version_lines.specs.declared.entry.Entry.{Entry}
-use Rattle.version_lines.specs.declared.tied.Tied.{Tied}
+use Rattle.version_lines.specs.declared.sort.entry.Entry.{Entry}
+use Rattle.version_lines.specs.declared.sort.tied.Tied.{Tied}
 use Rattle.versions.specs.Mess.{PlainMess}
 use Rattle.versions.specs.SemVer.{PlainSemVer, semver_of}
 use Rattle.versions.specs.Version.{PlainVersion}

@@ -7,7 +7,7 @@ use Rattle.std.specs.declared.cmp.Ordering.{Ordering}
 use Rattle.version_lines.specs.Head.{head_number}
 use Rattle.version_lines.specs.Sort.{is_bad}
 use Rattle.version_lines.specs.Spelled.{line_key, line_tie_cmp}
-use Rattle.version_lines.specs.declared.entry.Entry.{Entry}
+use Rattle.version_lines.specs.declared.sort.entry.Entry.{Entry}
 
 -- the line of an entry
 abbrev pub entry_line : Entry → List ℕ

@@ -5,8 +5,8 @@ use Rattle.std.specs.Ordering.{on}
 use Rattle.std.specs.declared.cmp.Ordering.{Ordering}
 use Rattle.version_lines.specs.Entry.{entry_line}
 use Rattle.version_lines.specs.Spelled.{line_tie_breaker}
-use Rattle.version_lines.specs.declared.entry.Entry.{Entry}
-use Rattle.version_lines.specs.declared.tied.Tied.{Tied}
+use Rattle.version_lines.specs.declared.sort.entry.Entry.{Entry}
+use Rattle.version_lines.specs.declared.sort.tied.Tied.{Tied}
 use Rattle.versions.specs.Versioning.{PlainVersioning, plain_versioning, versioning_plain_cmp}
 
 -- the line as it was sorted by its key

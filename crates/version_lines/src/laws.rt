@@ -13,5 +13,6 @@ fn sorting()
     ensures same { (lines : List (List ℕ)) → IsPermutation lines (in_order line_cmp lines) }
     ensures sorted { (lines : List (List ℕ)) → IsSorted line_cmp (in_order line_cmp lines) }
     ensures stable { (lines : List (List ℕ)) → IsStable line_cmp lines (in_order line_cmp lines) }
-    ensures only { (lines others : List (List ℕ)) → IsSorted line_cmp others → IsStable line_cmp lines others → others ≡ in_order line_cmp lines }
+    ensures only { (lines others : List (List ℕ)) → IsSorted line_cmp others
+        → IsStable line_cmp lines others → others ≡ in_order line_cmp lines }
 {}

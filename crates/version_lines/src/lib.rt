@@ -5,9 +5,7 @@
 mod answer;
 mod command;
 mod comparison;
-mod entry;
 mod faults;
-mod head;
 mod ideal;
 mod input;
 mod key;
@@ -19,8 +17,6 @@ mod program;
 mod show;
 mod sort;
 mod spelled;
-mod tied;
-mod ties;
 mod words;
 
 pub use faults::Fault;

@@ -20,7 +20,8 @@ pub trait LineCommand {
 
     /// The answer for a line. The error is that there is no memory to judge it.
     fn answer(&self, alloc: Global, line: &[u8]) -> Result<Answer, AllocError>
-        ensures { IfOk result (λ answer. answer_text answer line.now ≡ line_output self.now line.now) };
+        ensures { IfOk result (λ answer. answer_text answer line.now
+            ≡ line_output self.now line.now) };
 }
 
 /// Writes the answer for each line of the input.

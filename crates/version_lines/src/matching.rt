@@ -31,7 +31,8 @@ impl LineCommand for Matching {
 /// The answer for a line. The error is that there is no memory for its version.
 #[tactic(auto, using(crate::proofs::MatchingLemmas::answered))]
 fn answer_for(alloc: Global, wanted: &Requirements, line: &[u8]) -> Result<Answer, AllocError>
-    ensures { IfOk result (λ answer. answer ≡ match_answer (plain_requirements wanted.now) (versioning_of line.now)) }
+    ensures { IfOk result (λ answer. answer
+        ≡ match_answer (plain_requirements wanted.now) (versioning_of line.now)) }
 {
     let Ok(text) = str::from_utf8(line) else {
         return Ok(Answer::Nothing);
@@ -48,8 +49,10 @@ fn answer_for(alloc: Global, wanted: &Requirements, line: &[u8]) -> Result<Answe
 /// The same where strict versions alone are asked for, so that none of another kind is looked for.
 #[tactic(auto, using(crate::proofs::MatchingLemmas::strict_answered))]
 fn answer_for_strict(alloc: Global, wanted: &Requirements, text: &str) -> Result<Answer, AllocError>
-    requires { (v : PlainVersioning) → MatchesAll (plain_requirements wanted.now) v → IsTrue (is_ideal v) }
-    ensures { IfOk result (λ answer. answer ≡ match_answer (plain_requirements wanted.now) (versioning_of text.now)) }
+    requires { (v : PlainVersioning) → MatchesAll (plain_requirements wanted.now) v
+        → IsTrue (is_ideal v) }
+    ensures { IfOk result (λ answer. answer
+        ≡ match_answer (plain_requirements wanted.now) (versioning_of text.now)) }
 {
     let Some(ideal) = SemVer::new(alloc, text)? else {
         return Ok(Answer::Nothing);
@@ -76,7 +79,8 @@ fn ask_for_strict_alone(wanted: &Requirements) -> bool
 /// Whether a requirement is a tilde or a caret of a strict version, which asks for no other.
 fn asks_for_strict_alone(requirement: &Requirement) -> bool
     ensures { IsTrue result →
-        (v : PlainVersioning) → Matches (plain_requirement requirement.now) v → IsTrue (is_ideal v) }
+        (v : PlainVersioning) → Matches (plain_requirement requirement.now) v
+        → IsTrue (is_ideal v) }
 {
     match (requirement.op, &requirement.version) {
         (Op::Tilde | Op::Caret, Some(Versioning::Ideal(_))) => true,

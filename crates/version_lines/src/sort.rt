@@ -10,14 +10,19 @@ ghost use Rattle.version_lines.specs.Sort.{bad_line, sort_output};
 ghost use Rattle.version_lines.specs.Sorting.{in_order};
 ghost use Rattle.version_lines.specs.Entry.{entry_cmp, entry_line, IsRead};
 
+mod entry;
+mod head;
+mod tied;
+mod ties;
+
 use crate::command::InputCommand;
-use crate::entry::Entry;
 use crate::faults::Fault;
 use crate::lines::split_line;
 use crate::output::{make_buffer, put_line, write_whole};
-use crate::ties::break_ties;
+use entry::Entry;
 use std::alloc::{AllocError, Global};
 use std::io::Write;
+use ties::break_ties;
 
 /// Writes the lines of the input in the order of their versions, each of which has to be one.
 pub fn write_sorted<W: Write>(alloc: Global, input: &[u8], writer: &mut W) -> Result<(), Fault>

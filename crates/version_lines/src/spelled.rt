@@ -12,25 +12,27 @@ use std::str;
 use versions::Versioning;
 use versions::key::KeyBytes;
 
-/// The version that a line spells, where it spells one. The error is that there is no memory for it.
-pub fn version_of_line(alloc: Global, line: &[u8]) -> Result<Option<Versioning>, AllocError>
-    ensures { IfOk result (λ version. option_map plain_versioning version ≡ versioning_of line.now) }
-{
-    match str::from_utf8(line) {
-        Ok(text) => Versioning::new(alloc, text),
-        Err(_) => Ok(None),
-    }
-}
-
 /// The version that a line spells, where it spells one that isn't strict: only that can break the tie of two keys. The
 /// error is that there is no memory for it; a strict version takes none.
 pub fn tie_breaker(alloc: Global, line: &[u8]) -> Result<Option<Versioning>, AllocError>
-    ensures { IfOk result (λ version. option_map plain_versioning version ≡ line_tie_breaker line.now) }
+    ensures { IfOk result (λ version. option_map plain_versioning version
+        ≡ line_tie_breaker line.now) }
 {
     if is_strict(line) {
         return Ok(None);
     }
     version_of_line(alloc, line)
+}
+
+// The version that a line spells, where it spells one. The error is that there is no memory for it.
+fn version_of_line(alloc: Global, line: &[u8]) -> Result<Option<Versioning>, AllocError>
+    ensures { IfOk result (λ version. option_map plain_versioning version
+        ≡ versioning_of line.now) }
+{
+    match str::from_utf8(line) {
+        Ok(text) => Versioning::new(alloc, text),
+        Err(_) => Ok(None),
+    }
 }
 
 /// Adds the key of the version that a line spells to other keys, and says whether it spells one. The error is that there

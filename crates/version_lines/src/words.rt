@@ -15,7 +15,8 @@ use versions::key::KeyBytes;
 
 /// The bytes of the key of the version that a word spells; else the fault that holds a copy of the word.
 pub fn key_of_word(alloc: Global, word: &str) -> Result<KeyBytes<'_>, Fault>
-    ensures ok { IfOk result (λ key. option_map (λ v. key_bytes (key_of v)) (versioning_of word.now) ≡ Some key) }
+    ensures ok { IfOk result (λ key. option_map
+        (λ v. key_bytes (key_of v)) (versioning_of word.now) ≡ Some key) }
     ensures faults { IfErr result (ComesOfWords (unless_version word.now)) }
 {
     match KeyBytes::spelled_by(word) {

@@ -10,7 +10,8 @@ use Rattle.std.specs.declared.cmp.Ordering.{Ordering}
 use Rattle.std.specs.declared.cmp.Ordering.TheVariants.{Equal}
 use Rattle.version_parts.specs.Codes.{Writes, list_bytes}
 use Rattle.version_parts.specs.Lists.{bytes_cmp, ended_cmp, with_end}
-use Rattle.version_parts.specs.OrderLaws.{options_same, then_assoc, then_decided, then_equal, then_first}
+use Rattle.version_parts.specs.OrderLaws.{options_same, then_equal, then_first}
+use Rattle.version_parts.proofs.OrderLemmas.{then_assoc, then_decided}
 
 with_end-same : {A : Type 0} (xs ys : List A) → with_end xs ≡ with_end ys → xs ≡ ys
 with_end-same [] [] e = refl

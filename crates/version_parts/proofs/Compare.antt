@@ -13,7 +13,8 @@ use Rattle.version_parts.proofs.Codes.{writes_alone}
 use Rattle.version_parts.specs.Codes.{Writes}
 use Rattle.version_parts.specs.Compare.{ComparesBytes, GoesOn}
 use Rattle.version_parts.specs.Lists.{bytes_cmp}
-use Rattle.version_parts.specs.OrderLaws.{then_decided, then_equal}
+use Rattle.version_parts.specs.OrderLaws.{then_equal}
+use Rattle.version_parts.proofs.OrderLemmas.{then_decided}
 use Rattle.version_parts.specs.Pieces.{GonePast}
 
 -- ---- the order of two lists that begin alike

@@ -7,8 +7,8 @@ pub mod DigitRun
 pub mod Dotted
 pub mod DottedScan
 pub mod Fed
-pub mod InlineBytes
 pub mod Growing
+pub mod InlineBytes
 pub mod ItemsLeft
 pub mod LastReading
 pub mod ListBytes
@@ -17,6 +17,7 @@ pub mod Mapped
 pub mod NumberBytes
 pub mod NumeralReading
 pub mod Numerals
+pub mod OrderLemmas
 pub mod Orders
 pub mod PartKey
 pub mod Past

@@ -11,7 +11,7 @@ use Rattle.std.specs.Int.Digits.{AllBelowBase, digits_of}
 use Rattle.std.specs.Ordering.{MatchOrdering, nat_cmp, ordering_then}
 use Rattle.std.specs.declared.cmp.Ordering.{Ordering}
 use Rattle.std.specs.declared.cmp.Ordering.TheVariants.{Less, Equal, Greater}
-use Rattle.version_parts.specs.OrderLaws.{then_assoc}
+use Rattle.version_parts.proofs.OrderLemmas.{then_assoc}
 use Rattle.version_parts.specs.Codes.{Writes}
 use Rattle.version_parts.specs.Lists.{bytes_cmp}
 use Rattle.version_parts.specs.NumberBytes.{length_bytes, number_bytes}

@@ -8,7 +8,7 @@ use Rattle.version_parts.proofs.ReleaseOrder.{release_writes}
 use Rattle.version_parts.proofs.Split.{split_writes}
 use Rattle.version_parts.proofs.TextBytes.{text_writes}
 use Rattle.version_parts.proofs.Worked.{worked_bytes, worked_order}
-use Rattle.version_parts.specs.OrderLaws.{equal_where_same, then_same}
+use Rattle.version_parts.proofs.OrderLemmas.{equal_where_same, then_same}
 use Rattle.version_parts.specs.Chunk.{PlainChunk}
 use Rattle.version_parts.specs.PartKey.{PartKey, list_cmp, part_cmp}
 use Rattle.version_parts.specs.PartLaws.{list_total, part_total, parts_same, split_total, splits_same}

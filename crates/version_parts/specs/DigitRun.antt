@@ -13,9 +13,13 @@ starts_with_digit = begins is_ascii_digit
 abbrev pub is_digits : List ℕ → Bool
 is_digits text = starts_with_digit text && list_all is_ascii_digit text
 
--- the value of the longest run that a text begins with, and what stands behind it; none where it begins with no digit
+-- the value of the longest run that a text begins with
+abbrev pub run_value : List ℕ → ℕ
+run_value text = digits_value 10 (take_while is_ascii_digit text)
+
+-- that value, and what stands after the run; none where the text begins with no digit
 abbrev pub number_front : List ℕ → Option (ℕ × List ℕ)
 number_front text =
     if starts_with_digit text
-    then Some (digits_value 10 (take_while is_ascii_digit text), drop (prefix_len is_ascii_digit text) text)
+    then Some (run_value text, drop (prefix_len is_ascii_digit text) text)
     else None

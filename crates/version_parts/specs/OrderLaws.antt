@@ -1,5 +1,5 @@
 -- Laws of orders in general: what follows from their being total, or from their telling different values apart.
-use Rattle.std.proofs.Common.{◌≡◌, ◌↔◌, Option, Some, None, true, refl, ap, subst}
+use Rattle.std.proofs.Common.{◌≡◌, Option, Some, None, true, refl, ap, subst}
 use Rattle.std.specs.Cmp.{Equal-is, IsTotalOrder, back_total, tied_itself}
 use Rattle.std.specs.Cmp.Lexicographic.{options_total}
 use Rattle.std.specs.FinMap.{IsAntisymmetric, nat_cmp-IsAntisymmetric, slice_cmp-IsAntisymmetric}
@@ -11,21 +11,10 @@ use Rattle.version_parts.specs.Lists.{bytes_cmp, none_last_cmp}
 
 -- ---- one order and then another
 
-pub then_assoc : (a b c : Ordering) → ordering_then (ordering_then a b) c ≡ ordering_then a (ordering_then b c)
-then_assoc Less b c = refl
-then_assoc Equal b c = refl
-then_assoc Greater b c = refl
-
 pub then_equal : (a : Ordering) → ordering_then a Equal ≡ a
 then_equal Less = refl
 then_equal Equal = refl
 then_equal Greater = refl
-
--- what is not Equal decides, whatever follows
-pub then_decided : (a b c : Ordering) → ¬ (a ≡ Equal) → ordering_then a b ≡ ordering_then a c
-then_decided Less b c h = refl
-then_decided Equal b c h = absurd (h refl)
-then_decided Greater b c h = refl
 
 pub then_first : (a b : Ordering) → ordering_then a b ≡ Equal → a ≡ Equal
 then_first Less b e = cc e
@@ -54,18 +43,11 @@ none_last_same same (Some a) (Some b) e = ap Some (same a b e)
 pub bytes_same : IsAntisymmetric bytes_cmp
 bytes_same = slice_cmp-IsAntisymmetric nat_cmp-IsAntisymmetric
 
-pub then_same : {A : Type 0} (R : A → A → Ordering) {S : A → A → Ordering} → IsAntisymmetric S → IsAntisymmetric (then_cmp R S)
-then_same R same a b tied = same a b (then_second _ _ tied)
-
 -- ---- what a tie says
 
 -- values that an order ties are the same, where it tells different ones apart
 pub same_where_tied : {A : Type 0} {R : A → A → Ordering} → IsAntisymmetric R → {a b : A} → eq_by_cmp R a b ≡ true → a ≡ b
 same_where_tied {R = R} same {a} {b} tied = same a b ((Equal-is (R a b)).0 tied)
-
--- an order is Equal exactly of one and the same value
-pub equal_where_same : {A : Type 0} {R : A → A → Ordering} → IsTotalOrder R → IsAntisymmetric R → (a b : A) → (R a b ≡ Equal) ↔ (a ≡ b)
-equal_where_same {R = R} total same a b = (same a b, λ e. subst (λ c. R a c ≡ Equal) e (tied_itself total a))
 
 -- ---- an order, and another where it ties
 

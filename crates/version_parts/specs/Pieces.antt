@@ -3,13 +3,12 @@ use Rattle.std.specs.Prelude.{◌≡◌, ℕ, Bool, true, false, List, [], ◌�
 use Rattle.std.specs.Char.{is_ascii_digit}
 use Rattle.std.specs.List.{prefix_len, take_while}
 use Rattle.std.specs.Option.{option_to_list}
-use Rattle.std.specs.Str.Parse.{digits_value}
 use Rattle.version_parts.specs.declared.key.place.AfterNumber.{AfterNumber}
 use Rattle.version_parts.specs.declared.key.place.AfterNumber.TheVariants.{Suffix, Text, Nothing}
 use Rattle.version_parts.specs.declared.key.place.Place.{Place}
 use Rattle.version_parts.specs.declared.key.place.Place.TheVariants.{Part, Split, Numbered, Number, Length, Digit, Rest}
 use Rattle.version_parts.specs.declared.key.place.Step.{Step}
-use Rattle.version_parts.specs.DigitRun.{number_front}
+use Rattle.version_parts.specs.DigitRun.{number_front, run_value}
 use Rattle.version_parts.specs.NumberBytes.{length_bytes, number_bytes}
 use Rattle.version_parts.specs.PartKey.{part_bytes, part_key, suffix_bytes, suffix_of}
 use Rattle.version_parts.specs.Split.{numbered_bytes, split_bytes, split_of}
@@ -27,7 +26,7 @@ run_bytes after text = take_while is_ascii_digit text ++ after_number_bytes afte
 
 -- the number of that run, and what stands after it
 abbrev pub counted_bytes : AfterNumber → List ℕ → List ℕ
-counted_bytes after text = number_bytes (digits_value 10 (take_while is_ascii_digit text)) ++ after_number_bytes after (drop (prefix_len is_ascii_digit text) text)
+counted_bytes after text = number_bytes (run_value text) ++ after_number_bytes after (drop (prefix_len is_ascii_digit text) text)
 
 -- what is still to come at a place
 unfoldable pub place_bytes : Place → List ℕ → List ℕ

@@ -218,7 +218,8 @@ impl<'a> ChunkRef<'a> {
     #[tactic(auto, unfolding(crate::specs::Chunk::chunk_front_of))]
     #[inline(always)]
     pub(crate) fn scan(i: &'a str, class: Class) -> Option<(ChunkRef<'a>, &'a str)>
-        ensures { option_map (λ r. (plain_chunk_ref r.0, r.1.now)) result ≡ chunk_front_of (contains class) i.now }
+        ensures { option_map (λ r. (plain_chunk_ref r.0, r.1.now)) result
+            ≡ chunk_front_of (contains class) i.now }
     {
         let (run, rest) = split_run(i, class);
         if !is_all_digits(run) {
@@ -246,7 +247,8 @@ impl<'a> ChunkRef<'a> {
 #[inline(always)]
 fn skip_chunk(i: &str, class: Class) -> Option<&str>
     requires { (b : ℕ) → is_ascii_digit b ≡ true → contains class b ≡ true }
-    ensures { option_map (λ r. r.now) result ≡ option_map (λ p. p.1) (chunk_front_of (contains class) i.now) }
+    ensures { option_map (λ r. r.now) result
+        ≡ option_map (λ p. p.1) (chunk_front_of (contains class) i.now) }
 {
     let (run, rest) = split_run(i, class);
     if !is_all_digits(run) {

@@ -112,7 +112,8 @@ impl Ord for Chunks {
 impl PartialOrd for Chunks {
     ghost partial_cmp = { as_partial_cmp (on plain_chunks chunks_cmp) };
 
-    ghost laws = { po (on_total plain_chunks chunks_cmp_total) (λ a b. chunks_cmp_ties (plain_chunks a) (plain_chunks b)) };
+    ghost laws = { po (on_total plain_chunks chunks_cmp_total)
+        (λ a b. chunks_cmp_ties (plain_chunks a) (plain_chunks b)) };
 
     fn partial_cmp(&self, other: &Chunks) -> Option<Ordering> {
         Some(self.cmp(other))
@@ -138,8 +139,10 @@ impl<'a> Model for BodyRef<'a> {
 
     ghost view = { λ b. (take (b.list.count - 1) (elements_at part_front b.list.text.now), plain_last_ref b.last) };
 
-    ghost invariant = { λ b. (0 < b.list.count) × (b.list.count ≡ length (elements_at part_front b.list.text.now))
-        × (body_of (elements_at part_front b.list.text.now) ≡ Some (take (b.list.count - 1) (elements_at part_front b.list.text.now), plain_last_ref b.last)) };
+    ghost invariant = { λ b. (0 < b.list.count)
+        × (b.list.count ≡ length (elements_at part_front b.list.text.now))
+        × (body_of (elements_at part_front b.list.text.now)
+        ≡ Some (take (b.list.count - 1) (elements_at part_front b.list.text.now), plain_last_ref b.last)) };
 }
 
 impl<'a> BodyRef<'a> {

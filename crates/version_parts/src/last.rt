@@ -194,7 +194,8 @@ impl Ord for Last {
 impl PartialOrd for Last {
     ghost partial_cmp = { as_partial_cmp (on plain_last last_cmp) };
 
-    ghost laws = { po (on_total plain_last last_cmp_total) (λ a b. last_cmp_ties (plain_last a) (plain_last b)) };
+    ghost laws = { po (on_total plain_last last_cmp_total)
+        (λ a b. last_cmp_ties (plain_last a) (plain_last b)) };
 
     fn partial_cmp(&self, other: &Last) -> Option<Ordering> {
         Some(self.cmp(other))
@@ -257,7 +258,8 @@ pub enum LastRef<'a> {
 impl<'a> LastRef<'a> {
     /// The last part that the part at the front of a text is, and the rest. Takes no memory.
     pub fn scan(i: &'a str) -> Option<(LastRef<'a>, &'a str)>
-        ensures { option_map (λ r. (plain_last_ref r.0, r.1.now)) result ≡ map_value last_of (part_front i.now) }
+        ensures { option_map (λ r. (plain_last_ref r.0, r.1.now)) result
+            ≡ map_value last_of (part_front i.now) }
     {
         let (part, rest) = ChunkRef::scan(i, Class::Alphanumeric)?;
         let last = match part {

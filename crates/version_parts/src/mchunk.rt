@@ -231,7 +231,8 @@ impl Ord for MChunk {
 impl PartialOrd for MChunk {
     ghost partial_cmp = { as_partial_cmp (on plain_mchunk mchunk_cmp) };
 
-    ghost laws = { po (on_total plain_mchunk mchunk_cmp_total) (λ a b. mchunk_cmp_ties (plain_mchunk a) (plain_mchunk b)) };
+    ghost laws = { po (on_total plain_mchunk mchunk_cmp_total)
+        (λ a b. mchunk_cmp_ties (plain_mchunk a) (plain_mchunk b)) };
 
     fn partial_cmp(&self, other: &MChunk) -> Option<Ordering> {
         Some(self.cmp(other))
@@ -299,7 +300,8 @@ impl<'a> Model for SectionRef<'a> {
 
     ghost view = { λ section. elements_at mchunk_front section.list.text.now };
 
-    ghost invariant = { λ section. section.list.count ≡ length (elements_at mchunk_front section.list.text.now) };
+    ghost invariant = { λ section. section.list.count
+        ≡ length (elements_at mchunk_front section.list.text.now) };
 }
 
 impl<'a> SectionRef<'a> {
@@ -322,7 +324,9 @@ impl<'a> SectionRef<'a> {
     /// The text of its chunk, where it has one alone. Takes no memory.
     #[tactic(auto, using(crate::proofs::ListBytes::only_chunk))]
     pub fn only_text(&self) -> Option<&'a str>
-        ensures one { IfSome result (λ text. (chunk : PlainMChunk) × (self.now ≡ chunk ∷ []) × (mchunk_text chunk ≡ text.now)) }
+        ensures one { IfSome result
+            (λ text. (chunk : PlainMChunk) × (self.now ≡ chunk ∷ [])
+            × (mchunk_text chunk ≡ text.now)) }
         ensures other { IfNone result (length self.now ≢ 1) }
     {
         if self.list.count != 1 {

@@ -13,7 +13,7 @@ ghost use Rattle.version_parts.specs.ReleaseLaws.{release_total, releases_same};
 ghost use Rattle.version_parts.specs.ReleaseOrder.{release_bytes, release_cmp};
 
 use crate::chunk::{Chunk, ReleaseChunk};
-use crate::key::{ItemsLeft, ListBytes, ListLeft};
+use crate::key::{ItemsLeft, ListLeft};
 use crate::lists::{compare_lists, copy_list, write_dotted};
 use crate::scan::{Dotted, after_mark};
 use serde::{Deserialize, Serialize};
@@ -38,13 +38,6 @@ impl Release {
             return Ok(None);
         };
         Ok(Some((piece.build(alloc)?, rest)))
-    }
-
-    /// The bytes by which releases compare, of its chunks and of its end. Takes no memory.
-    pub fn bytes(&self) -> ListBytes<'_, ReleaseChunk>
-        ensures { result ≡ release_bytes (plain_release self.now) }
-    {
-        ListBytes::of(self.0.as_slice())
     }
 
     /// The chunks as they compare, and their end. Takes no memory.

@@ -191,10 +191,13 @@ impl<'a> Dotted<'a> {
     /// The dotted list of one element or more at the front of a text, and the rest. It stops before a dot behind
     /// which no element can be read. Takes no memory.
     pub fn scan<E: Element>(i: &'a str) -> Option<(Dotted<'a>, &'a str)>
-        ensures elements { option_map (λ r. (elements_at E.front r.0.text.now, r.1.now)) result ≡ dotted_front E.front i.now }
-        ensures counted { IfSome result (λ r. r.0.count ≡ length (elements_at E.front r.0.text.now)) }
+        ensures elements { option_map (λ r. (elements_at E.front r.0.text.now, r.1.now)) result
+            ≡ dotted_front E.front i.now }
+        ensures counted { IfSome result
+            (λ r. r.0.count ≡ length (elements_at E.front r.0.text.now)) }
         ensures last { IfSome result (λ r. (parts : List E.Plain × E.Plain)
-            × (split_last (elements_at E.front r.0.text.now) ≡ Some parts) × (E.front r.0.last.now ≡ Some (parts.1, r.1.now))) }
+            × (split_last (elements_at E.front r.0.text.now) ≡ Some parts)
+            × (E.front r.0.last.now ≡ Some (parts.1, r.1.now))) }
     {
         let mut rest = E::skip(i)?;
         let mut count = 1;
@@ -210,7 +213,8 @@ impl<'a> Dotted<'a> {
 
     /// The first `count` of the elements, in a list of that capacity.
     pub fn build<E: Element>(self, alloc: Global, count: usize) -> Result<Vec<E::Item>, AllocError>
-        ensures ok { IfOk result (λ items. map E.plain items.items ≡ take count (elements_at E.front self.entry.text.now)) }
+        ensures ok { IfOk result (λ items. map E.plain items.items
+            ≡ take count (elements_at E.front self.entry.text.now)) }
         ensures err { OnErr result (0 < count) }
     {
         let mut items = Vec::with_capacity(alloc, count)?;
@@ -232,7 +236,8 @@ impl<'a> Dotted<'a> {
 // The text from the element behind a dot on, and what stands behind that element.
 fn skip_further<E: Element>(i: &str) -> Option<(&str, &str)>
     ensures next { IfSome result (λ r. after_mark dot i.now ≡ Some r.0.now) }
-    ensures after { option_map (λ r. r.1.now) result ≡ option_map (λ p. p.1) (behind dot E.front i.now) }
+    ensures after { option_map (λ r. r.1.now) result
+        ≡ option_map (λ p. p.1) (behind dot E.front i.now) }
 {
     let next = after_mark(i, b'.')?;
     Some((next, E::skip(next)?))

@@ -1,9 +1,11 @@
 -- The laws that the contracts of `src/laws/order.rt` state, as they follow from the codes.
 use Rattle.std.proofs.Common.{◌≡◌, ◌↔◌, ℕ, List, ◌∷◌, ◌++◌, Option, refl, ◌∙◌}
+use Rattle.std.specs.Cmp.{tied_itself}
 use Rattle.std.specs.Ordering.{on, ordering_then}
 use Rattle.std.specs.declared.cmp.Ordering.TheVariants.{Equal}
 use Rattle.version_parts.proofs.Codes.{writes_alone, writes_canonical, writes_no_prefix}
-use Rattle.version_parts.specs.OrderLaws.{equal_where_same, then_decided, then_equal, then_same, then_second}
+use Rattle.version_parts.specs.OrderLaws.{then_equal, then_second}
+use Rattle.version_parts.proofs.OrderLemmas.{equal_where_same, then_decided, then_same}
 use Rattle.version_parts.specs.Lists.{bytes_cmp}
 use Rattle.version_parts.specs.MChunk.{PlainMChunk}
 use Rattle.version_parts.specs.PartKey.{PartKey}
@@ -23,7 +25,7 @@ use Rattle.versions.specs.Versioning.{PlainVersioning, Ideal, General, Complex, 
 use Rattle.versions.specs.VersioningLaws.{versioning_plain_total}
 use Rattle.versions.specs.SemVer.{PlainSemVer}
 use Rattle.versions.specs.SemVerOrder.{SameButMetadata, semver_cmp}
-use Rattle.versions.specs.SemVerLaws.{same_tied, semver_total, tied_same}
+use Rattle.versions.specs.SemVerLaws.{semver_total, tied_same}
 use Rattle.versions.specs.Tail.{Tail, sections_cmp, tail_cmp}
 use Rattle.versions.specs.Version.{PlainVersion}
 use Rattle.versions.specs.VersionLaws.{version_plain_total, versions_same}
@@ -58,6 +60,11 @@ version_equal = equal_where_same version_plain_total versions_same
 
 pub mess_equal : (a b : PlainMess) → (mess_plain_cmp a b ≡ Equal) ↔ (a ≡ b)
 mess_equal = equal_where_same mess_total messes_same
+
+-- versions that are the same but for their metadata are tied
+same_tied : (a b : PlainSemVer) → SameButMetadata a b → semver_cmp a b ≡ Equal
+same_tied a b same =
+    rw (same.major, same.minor, same.patch, same.pre_rel) (tied_itself semver_total b)
 
 pub versioning_equal : (a b : PlainVersioning) → (versioning_plain_cmp a b ≡ Equal) ↔ SameVersioning a b
 versioning_equal (Ideal a) (Ideal b) = (tied_same a b, same_tied a b)

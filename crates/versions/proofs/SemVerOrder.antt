@@ -1,7 +1,8 @@
 -- On strict versions precedence is the order of strict versions.
 use Rattle.std.proofs.Common.{◌≡◌, List, Option, Some, None, refl}
 use Rattle.std.specs.Option.{option_map_or}
-use Rattle.version_parts.specs.OrderLaws.{then_assoc, then_equal}
+use Rattle.version_parts.specs.OrderLaws.{then_equal}
+use Rattle.version_parts.proofs.OrderLemmas.{then_assoc}
 use Rattle.version_parts.specs.Chunk.{PlainChunk}
 use Rattle.version_parts.specs.Lists.{none_last_cmp}
 use Rattle.version_parts.specs.ReleaseOrder.{release_cmp}

@@ -65,14 +65,22 @@ section_epoch chunks = None
 abbrev pub key_of_sections : ℕ → List PlainMChunk → List (PlainSep × List PlainMChunk) → Key
 key_of_sections epoch body more = record { epoch = epoch; body = section_parts body; tail = sections_tail more }
 
+-- the key of sections as a messy version, after an epoch
+abbrev pub key_with_epoch : ℕ → PlainMess → Key
+key_with_epoch epoch m = key_of_sections epoch m.first m.more
+
 -- a first section that may be the epoch is it where a colon follows; else it is the body, and the epoch is 0
 abbrev pub key_behind_epoch : Option ℕ → List PlainMChunk → List (PlainSep × List PlainMChunk) → Key
 key_behind_epoch (Some epoch) first ((Colon, body) ∷ more) = key_of_sections epoch body more
 key_behind_epoch may_be_epoch first more = key_of_sections 0 first more
 
+-- the key of a first section, which may be the epoch, and of the sections behind it
+abbrev pub key_from_first : List PlainMChunk → List (PlainSep × List PlainMChunk) → Key
+key_from_first first more = key_behind_epoch (section_epoch first) first more
+
 -- the key of a messy version: its epoch, the section behind it, then the further sections; signs aren't looked at again
 abbrev pub key_of_mess : PlainMess → Key
-key_of_mess m = key_behind_epoch (section_epoch m.first) m.first m.more
+key_of_mess m = key_from_first m.first m.more
 
 -- the key of a version of any kind
 abbrev pub key_of : PlainVersioning → Key

@@ -1,7 +1,6 @@
 -- What is still to come of the bytes of a key, behind the piece begun.
-use Rattle.std.specs.Prelude.{ℕ, List, [], ◌∷◌, length, Option}
+use Rattle.std.specs.Prelude.{ℕ, List, [], ◌∷◌, Option}
 use Rattle.std.specs.Option.{option_map_or}
-use Rattle.version_parts.specs.Front.{repeated}
 use Rattle.version_parts.specs.PartKey.{parts_bytes}
 use Rattle.versions.specs.declared.key.sections.SectionsLeft.{SectionsLeft}
 use Rattle.versions.specs.declared.key.sections.SectionsLeft.TheVariants.{Built, Spelled}
@@ -11,7 +10,7 @@ use Rattle.versions.specs.declared.key.tail.TailLeft.{TailLeft}
 use Rattle.versions.specs.declared.key.tail.TailLeft.TheVariants.{Nothing, Bare, Release, Sections, AfterSection}
 use Rattle.versions.specs.Key.{plain}
 use Rattle.versions.specs.KeyBytes.{further_bytes}
-use Rattle.versions.specs.Mess.{Further, further_front, plain_mess}
+use Rattle.versions.specs.Mess.{Further, further_in, plain_mess}
 use Rattle.versions.specs.Tail as tail
 use Rattle.versions.specs.Tail.{tail_bytes}
 
@@ -28,7 +27,7 @@ list_left (Chunks left) = left
 -- the further sections themselves: those behind the first of a version, or those that a text spells
 abbrev pub sections_of : SectionsLeft → List Further
 sections_of (Built mess) = (plain_mess mess.now).more
-sections_of (Spelled text) = (repeated further_front (length text.now) text.now).0
+sections_of (Spelled text) = further_in text.now
 
 -- of further sections
 abbrev pub sections_left : SectionsLeft → List ℕ

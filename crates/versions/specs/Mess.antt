@@ -85,6 +85,10 @@ further_front text = do
   section ← section_front sign.1
   Some ((sign.0, section.0), section.1)
 
+-- further sections as long as they can be read, without the rest
+abbrev pub further_in : List ℕ → List Further
+further_in text = (repeated further_front (length text) text).0
+
 -- a section, and further ones as long as they can be read; it stops before a sign behind which none can be
 unfoldable pub mess_front : Front PlainMess
 mess_front text = do
@@ -94,7 +98,7 @@ mess_front text = do
 
 -- the version that was scanned: its first section, and all that are read behind it
 abbrev pub plain_mess_ref : MessRef → PlainMess
-plain_mess_ref p = record { first = p.first; more = (repeated further_front (length p.rest.now) p.rest.now).0 }
+plain_mess_ref p = record { first = p.first; more = further_in p.rest.now }
 
 -- the messy version that the whole text spells, where it spells one
 unfoldable pub mess_of : List ℕ → Option PlainMess

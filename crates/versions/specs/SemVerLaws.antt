@@ -1,6 +1,6 @@
 -- The laws of the order of strict versions, which the impls of `Ord`, `Eq` and `Hash` cite.
 use Rattle.std.proofs.Common.{◌≡◌, true, refl}
-use Rattle.std.specs.Cmp.{Equal-is, IsTotalOrder, nat_cmp_total, on_total, then_total, tied_itself}
+use Rattle.std.specs.Cmp.{Equal-is, IsTotalOrder, nat_cmp_total, on_total, then_total}
 use Rattle.std.specs.FinMap.{nat_cmp-IsAntisymmetric}
 use Rattle.std.specs.Ordering.{eq_by_cmp}
 use Rattle.std.specs.declared.cmp.Ordering.TheVariants.{Equal}
@@ -33,8 +33,3 @@ pub fed_alike : (a b : PlainSemVer) → eq_by_cmp semver_cmp a b ≡ true → se
 fed_alike a b tied =
     let same = tied_same a b ((Equal-is (semver_cmp a b)).0 tied) in
     rw (same.major, same.minor, same.patch, same.pre_rel) refl
-
--- and versions that are the same but for their metadata are tied
-pub same_tied : (a b : PlainSemVer) → SameButMetadata a b → semver_cmp a b ≡ Equal
-same_tied a b same =
-    rw (same.major, same.minor, same.patch, same.pre_rel) (tied_itself semver_total b)

@@ -26,7 +26,8 @@ impl SemVer {
     /// The general version with the same numbers, release and metadata: the first two numbers are its chunks, the
     /// third its last part. The error is that there is no memory for it.
     pub fn to_version(&self, alloc: Global) -> Result<Version, AllocError>
-        ensures fields { IfOk result (λ v. plain_version v ≡ version_of_semver (plain_semver self.now)) }
+        ensures fields { IfOk result (λ v. plain_version v
+            ≡ version_of_semver (plain_semver self.now)) }
         // In precedence it is Equal to this one without a pre-release, and else above it.
         ensures precedence { IfOk result (λ v. precedence (key_of_semver (plain_semver self.now)) (key_of_version (plain_version v))
             ≡ (if is_some (plain_semver self.now).pre_rel then Less else Equal)) }
@@ -39,7 +40,8 @@ impl SemVer {
     /// as one text behind a plus. The error is that there is no memory for it.
     pub fn to_mess(&self, alloc: Global) -> Result<Mess, AllocError>
         ensures fields { IfOk result (λ m. plain_mess m ≡ mess_of_semver (plain_semver self.now)) }
-        ensures printed { IfOk result (λ m. mess_text (plain_mess m) ≡ semver_text (plain_semver self.now)) }
+        ensures printed { IfOk result (λ m. mess_text (plain_mess m)
+            ≡ semver_text (plain_semver self.now)) }
         // In precedence it is Equal to this one without a pre-release and metadata, and else above it.
         ensures precedence { IfOk result (λ m. precedence (key_of_semver (plain_semver self.now)) (key_of_mess (plain_mess m))
             ≡ (if is_some (plain_semver self.now).pre_rel || is_some (plain_semver self.now).meta then Less else Equal)) }
@@ -54,8 +56,10 @@ impl Version {
     /// part, the release behind a hyphen, the metadata as one text behind a plus. A number is digits, anything else its
     /// printed text. The error is that there is no memory for it.
     pub fn to_mess(&self, alloc: Global) -> Result<Mess, AllocError>
-        ensures fields { IfOk result (λ m. plain_mess m ≡ mess_of_version (plain_version self.now)) }
-        ensures printed { IfOk result (λ m. mess_text (plain_mess m) ≡ version_text (plain_version self.now)) }
+        ensures fields { IfOk result (λ m. plain_mess m
+            ≡ mess_of_version (plain_version self.now)) }
+        ensures printed { IfOk result (λ m. mess_text (plain_mess m)
+            ≡ version_text (plain_version self.now)) }
         // In precedence it is Equal to this one without a release and metadata, and else above it.
         ensures precedence { IfOk result (λ m. precedence (key_of_version (plain_version self.now)) (key_of_mess (plain_mess m))
             ≡ (if is_some (plain_version self.now).release || is_some (plain_version self.now).meta then Less else Equal)) }
@@ -67,7 +71,8 @@ impl Version {
 
 // A strict version as a general one.
 fn widen(alloc: Global, v: &SemVer) -> Result<Version, AllocError>
-    ensures { IfOk result (λ general. plain_version general ≡ version_of_semver (plain_semver v.now)) }
+    ensures { IfOk result (λ general. plain_version general
+        ≡ version_of_semver (plain_semver v.now)) }
 {
     let mut chunks = Vec::with_capacity(alloc, 2)?;
     chunks.push(Chunk::Numeric(v.major))?;
@@ -145,7 +150,8 @@ fn chunk_section(
     chunks: &[Chunk],
     capacity: usize,
 ) -> Result<Vec<MChunk>, AllocError>
-    ensures { IfOk result (λ section. plain_section section ≡ map mchunk_of (map plain_chunk chunks.now)) }
+    ensures { IfOk result (λ section. plain_section section
+        ≡ map mchunk_of (map plain_chunk chunks.now)) }
 {
     let mut section = Vec::with_capacity(alloc, capacity)?;
     for chunk in chunks {

@@ -21,7 +21,8 @@ use std::alloc::{AllocError, Global};
 impl Versioning {
     /// The JSON string that holds the printed text. The error is that there is no memory for it.
     pub fn serialize_pretty(&self, alloc: Global) -> Result<Value, AllocError>
-        ensures { IfOk result (λ value. view value ≡ string (versioning_text (plain_versioning self.now))) }
+        ensures { IfOk result (λ value. view value
+            ≡ string (versioning_text (plain_versioning self.now))) }
     {
         Ok(Value::String(self.to_string(alloc)?))
     }
@@ -33,7 +34,8 @@ impl Versioning {
         ensures read { ReadsJson plain_versioning VersioningOwns IllegalVersioning versioning_of result (as_str (view value.now)) }
 
         // What was read is written as the string that it was read from.
-        ensures written { IfOk result (λ v. view value.now ≡ string (versioning_text (plain_versioning v))) }
+        ensures written { IfOk result (λ v. view value.now
+            ≡ string (versioning_text (plain_versioning v))) }
     {
         Ok(Versioning::from_str(alloc, text_of(value)?)?)
     }
@@ -42,7 +44,8 @@ impl Versioning {
 impl Requirement {
     /// The JSON string that holds the printed text. The error is that there is no memory for it.
     pub fn serialize(&self, alloc: Global) -> Result<Value, AllocError>
-        ensures { IfOk result (λ value. view value ≡ string (requirement_text (plain_requirement self.now))) }
+        ensures { IfOk result (λ value. view value
+            ≡ string (requirement_text (plain_requirement self.now))) }
     {
         Ok(Value::String(self.to_string(alloc)?))
     }
@@ -54,7 +57,8 @@ impl Requirement {
         ensures read { ReadsJson plain_requirement RequirementOwns IllegalOp requirement_of result (as_str (view value.now)) }
 
         // What was read is written as the string that it was read from.
-        ensures written { IfOk result (λ r. view value.now ≡ string (requirement_text (plain_requirement r))) }
+        ensures written { IfOk result (λ r. view value.now
+            ≡ string (requirement_text (plain_requirement r))) }
     {
         Ok(Requirement::from_str(alloc, text_of(value)?)?)
     }
@@ -63,7 +67,8 @@ impl Requirement {
 impl Requirements {
     /// The JSON string that holds the printed text. The error is that there is no memory for it.
     pub fn serialize(&self, alloc: Global) -> Result<Value, AllocError>
-        ensures { IfOk result (λ value. view value ≡ string (requirements_text (plain_requirements self.now))) }
+        ensures { IfOk result (λ value. view value
+            ≡ string (requirements_text (plain_requirements self.now))) }
     {
         Ok(Value::String(self.to_string(alloc)?))
     }
@@ -72,10 +77,12 @@ impl Requirements {
     /// and takes no memory; `Illegal`, with `IllegalOp` and the string in it, where the string spells no list; and
     /// `Memory` where there is no memory for the list or for that string.
     pub fn deserialize(alloc: Global, value: &Value) -> Result<Requirements, JsonError>
-        ensures read { ReadsJson plain_requirements (λ _. Unit {0}) IllegalOp requirements_of result (as_str (view value.now)) }
+        ensures read { ReadsJson plain_requirements
+            (λ _. Unit {0}) IllegalOp requirements_of result (as_str (view value.now)) }
 
         // What was read is written as the string that it was read from.
-        ensures written { IfOk result (λ list. view value.now ≡ string (requirements_text (plain_requirements list))) }
+        ensures written { IfOk result (λ list. view value.now
+            ≡ string (requirements_text (plain_requirements list))) }
     {
         Ok(Requirements::from_str(alloc, text_of(value)?)?)
     }
@@ -83,7 +90,8 @@ impl Requirements {
 
 // The string that a JSON value is.
 fn text_of(value: &Value) -> Result<&str, JsonError>
-    ensures { MatchResult result (λ text. view value.now ≡ string text.now) (λ e. (e ≡ NotText) × (as_str (view value.now) ≡ None)) }
+    ensures { MatchResult result (λ text. view value.now ≡ string text.now)
+        (λ e. (e ≡ NotText) × (as_str (view value.now) ≡ None)) }
 {
     value.as_str().ok_or(JsonError::NotText)
 }

@@ -1,12 +1,9 @@
 //! The bytes of the key of a version, by which versions of all kinds compare. docs/ORDER.md has the rules.
 
-ghost use Rattle.std.specs.Prelude.{◌≡◌, ◌++◌, [], length, map, IfNone, IfOk, IfSome, OnErr, OnOk, List, ℕ};
-ghost use Rattle.std.specs.Char.{is_ascii_digit};
+ghost use Rattle.std.specs.Prelude.{◌≡◌, ◌++◌, [], map, IfNone, IfOk, IfSome, OnErr, OnOk, List, ℕ};
 ghost use Rattle.std.specs.Iterator.{item_count, YieldsFirst};
-ghost use Rattle.std.specs.List.{take_while};
 ghost use Rattle.std.specs.Option.{option_map, unwrap_or};
-ghost use Rattle.std.specs.Str.Parse.{digits_value};
-ghost use Rattle.version_parts.specs.Front.{repeated};
+ghost use Rattle.version_parts.specs.DigitRun.{run_value};
 ghost use Rattle.version_parts.specs.Lists.{bytes_cmp, GrowsWithin};
 ghost use Rattle.version_parts.specs.MChunk.{plain_mchunk};
 ghost use Rattle.version_parts.specs.NumberBytes.{number_bytes};
@@ -14,27 +11,24 @@ ghost use Rattle.version_parts.specs.PartKey.{parts_bytes};
 ghost use Rattle.version_parts.specs.Pieces.{IsNext};
 ghost use Rattle.version_parts.specs.Release.{plain_release};
 ghost use Rattle.version_parts.specs.ReleaseOrder.{release_bytes};
-ghost use Rattle.versions.specs.Key.{key_behind_epoch, key_of, key_of_mess, key_of_sections, key_of_semver, key_of_version, section_epoch, sections_tail, strict_body};
+ghost use Rattle.versions.specs.Key.{key_from_first, key_of, key_of_mess, key_of_sections, key_of_semver, key_of_version, key_with_epoch, section_epoch, sections_tail, strict_body};
 ghost use Rattle.versions.specs.KeyBytes.{key_bytes};
 ghost use Rattle.versions.specs.KeyStream.{list_left, release_tail, sections_of, tail_left};
-ghost use Rattle.versions.specs.Mess.{further_front, plain_mess};
-ghost use Rattle.versions.specs.Mess.{plain_mess_ref};
-ghost use Rattle.versions.specs.SemVer.{plain_semver};
-ghost use Rattle.versions.specs.SemVer.{plain_semver_ref};
-ghost use Rattle.versions.specs.Version.{plain_version};
-ghost use Rattle.versions.specs.Version.{plain_version_ref};
+ghost use Rattle.versions.specs.Mess.{further_in, plain_mess, plain_mess_ref};
+ghost use Rattle.versions.specs.SemVer.{plain_semver, plain_semver_ref};
 ghost use Rattle.versions.specs.Tail.{tail_bytes};
+ghost use Rattle.versions.specs.Version.{plain_version, plain_version_ref};
 ghost use Rattle.versions.specs.Versioning.{plain_versioning, versioning_of};
 
-mod sections;
 mod list;
+mod sections;
 mod tail;
 
 use crate::mess::{self, Mess};
 use crate::semver::{self, SemVer};
-use crate::versioning_ref::VersioningRef;
 use crate::version::{self, Version};
 use crate::versioning::Versioning;
+use crate::versioning_ref::VersioningRef;
 use list::{CurrentList, PartsLeft};
 use sections::SectionsLeft;
 use std::alloc::{AllocError, Global};
@@ -94,7 +88,7 @@ impl<'a> KeyBytes<'a> {
     // The bytes of the key of a strict version.
     #[tactic(auto, using(crate::proofs::Tail::pre_release_written))]
     #[inline(always)]
-    pub(crate) fn of_semver(ideal: &'a SemVer) -> KeyBytes<'a>
+    fn of_semver(ideal: &'a SemVer) -> KeyBytes<'a>
         ensures { result ≡ key_bytes (key_of_semver (plain_semver ideal.now)) }
     {
         let chunks = chunks_left(&ideal.pre_rel);
@@ -261,14 +255,22 @@ fn spelled_chunks_left<'a>(release: &Option<ReleaseRef<'a>>) -> Option<ListLeft<
 }
 
 // Makes a piece the next of the list begun, or else of the tail, which may begin a list, where there is one.
-fn next_piece<'a>(list: &mut CurrentList<'a>, tail: &mut TailLeft<'a>, piece: &mut PieceBytes<'a>) -> bool
+fn next_piece<'a>(
+    list: &mut CurrentList<'a>,
+    tail: &mut TailLeft<'a>,
+    piece: &mut PieceBytes<'a>,
+) -> bool
     ensures { IsNext result (list_left list.old ++ tail_left tail.old) (list_left list.new ++ tail_left tail.new) piece.old piece.new }
 {
     list.next_piece(piece) || begin_tail(list, tail, piece)
 }
 
 // Makes a piece the next of the tail, which may begin a list, where there is one.
-fn begin_tail<'a>(list: &mut CurrentList<'a>, tail: &mut TailLeft<'a>, piece: &mut PieceBytes<'a>) -> bool
+fn begin_tail<'a>(
+    list: &mut CurrentList<'a>,
+    tail: &mut TailLeft<'a>,
+    piece: &mut PieceBytes<'a>,
+) -> bool
     requires { list_left list.old ≡ [] }
     ensures { IsNext result (tail_left tail.old) (list_left list.new ++ tail_left tail.new) piece.old piece.new }
 {
@@ -298,8 +300,9 @@ fn begin_tail<'a>(list: &mut CurrentList<'a>, tail: &mut TailLeft<'a>, piece: &m
 // The digits of the epoch, where the first section is one, and the version behind it.
 fn epoch_of(mess: &Mess) -> Option<(&str, &Mess)>
     ensures some { IfSome result (λ r. key_of_mess (plain_mess mess.now)
-        ≡ key_of_sections (digits_value 10 (take_while is_ascii_digit r.0.now)) (plain_mess r.1.now).first (plain_mess r.1.now).more) }
-    ensures none { IfNone result (key_of_mess (plain_mess mess.now) ≡ key_of_sections 0 (plain_mess mess.now).first (plain_mess mess.now).more) }
+        ≡ key_with_epoch (run_value r.0.now) (plain_mess r.1.now)) }
+    ensures none { IfNone result (key_of_mess (plain_mess mess.now)
+        ≡ key_with_epoch 0 (plain_mess mess.now)) }
 {
     let digits = digits_of(mess.chunks.as_slice())?;
     match &mess.next {
@@ -310,7 +313,8 @@ fn epoch_of(mess: &Mess) -> Option<(&str, &Mess)>
 
 // The digits that a section is, where it is one chunk of digits.
 fn digits_of(section: &[MChunk]) -> Option<&str>
-    ensures { option_map (λ digits. digits_value 10 (take_while is_ascii_digit digits.now)) result ≡ section_epoch (map plain_mchunk section.now) }
+    ensures { option_map (λ digits. run_value digits.now) result
+        ≡ section_epoch (map plain_mchunk section.now) }
 {
     match section {
         [chunk] if chunk.is_digits() => Some(chunk.text()),
@@ -324,10 +328,10 @@ fn spelled_epoch<'a>(
     first: &SectionRef<'a>,
     rest: &'a str,
 ) -> Option<(&'a str, SectionRef<'a>, &'a str)>
-    ensures some { IfSome result (λ r. key_behind_epoch (section_epoch first.now) first.now (repeated further_front (length rest.now) rest.now).0
-        ≡ key_of_sections (digits_value 10 (take_while is_ascii_digit r.0.now)) r.1 (repeated further_front (length r.2.now) r.2.now).0) }
-    ensures none { IfNone result (key_behind_epoch (section_epoch first.now) first.now (repeated further_front (length rest.now) rest.now).0
-        ≡ key_of_sections 0 first.now (repeated further_front (length rest.now) rest.now).0) }
+    ensures some { IfSome result (λ r. key_from_first first.now (further_in rest.now)
+        ≡ key_of_sections (run_value r.0.now) r.1 (further_in r.2.now)) }
+    ensures none { IfNone result (key_from_first first.now (further_in rest.now)
+        ≡ key_of_sections 0 first.now (further_in rest.now)) }
 {
     let digits = first.only_text()?;
     if digits.is_empty() || !is_all_digits(digits) {

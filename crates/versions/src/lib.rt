@@ -17,16 +17,16 @@ pub mod key;
 mod laws;
 mod mess;
 mod op;
-mod parts;
 mod optional;
+mod parts;
 mod pretty;
 mod reading;
 mod requirement;
 mod requirements;
 mod semver;
-mod versioning_ref;
 mod version;
 mod versioning;
+mod versioning_ref;
 
 pub use errors::{Error, JsonError, ReadError};
 pub use mess::Mess;

@@ -42,7 +42,8 @@ impl Mess {
         ensures printed { IfOk result (λ o. IfSome o (λ m. mess_text (plain_mess m) ≡ s.now)) }
 
         // What is spelled is read. So None comes exactly where nothing is spelled.
-        ensures read { (m : PlainMess) → SpellsMess s.now m → IfOk result (λ o. option_map plain_mess o ≡ Some m) }
+        ensures read { (m : PlainMess) → SpellsMess s.now m
+            → IfOk result (λ o. option_map plain_mess o ≡ Some m) }
 
         // Memory is wanted only where the text spells a version, since each has chunks.
         ensures memory { OnErr result ((m : PlainMess) × SpellsMess s.now m) }
@@ -228,7 +229,8 @@ impl Ord for Mess {
 impl PartialOrd for Mess {
     ghost partial_cmp = { as_partial_cmp (on plain_mess mess_cmp) };
 
-    ghost laws = { po (on_total plain_mess mess_cmp_total) (λ a b. mess_cmp_ties (plain_mess a) (plain_mess b)) };
+    ghost laws = { po (on_total plain_mess mess_cmp_total)
+        (λ a b. mess_cmp_ties (plain_mess a) (plain_mess b)) };
 
     fn partial_cmp(&self, other: &Mess) -> Option<Ordering> {
         Some(self.cmp(other))
@@ -263,7 +265,8 @@ fn show_front<W: fmt::Write>(section: &Mess, f: &mut fmt::Formatter<W>) -> fmt::
 
 // The version from the first section that no colon follows on.
 fn skip_colons(mess: &Mess) -> &Mess
-    ensures { (plain_mess result.now).first ≡ behind_colons (plain_mess mess.now).first (plain_mess mess.now).more }
+    ensures { (plain_mess result.now).first
+        ≡ behind_colons (plain_mess mess.now).first (plain_mess mess.now).more }
 {
     let mut current = mess;
     while let Some((sign, section)) = &current.next {
@@ -380,7 +383,8 @@ fn read_further(alloc: Global, i: &str) -> Result<Option<((Sep, Vec<MChunk>), &s
 
 // All further sections at the front of a text, and the rest.
 fn read_all_further(alloc: Global, i: &str) -> Result<(Vec<(Sep, Vec<MChunk>)>, &str), AllocError>
-    ensures { IfOk result (λ r. (map plain_further r.0.items, r.1.now) ≡ repeated further_front (length i.now) i.now) }
+    ensures { IfOk result (λ r. (map plain_further r.0.items, r.1.now)
+        ≡ repeated further_front (length i.now) i.now) }
 {
     let mut more = Vec::new(alloc);
     let mut rest = i;

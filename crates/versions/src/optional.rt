@@ -51,7 +51,8 @@ pub(crate) fn build_release(
 
 // A copy of a text, if there is one.
 pub(crate) fn copy_text(alloc: Global, text: Option<&str>) -> Result<Option<String>, AllocError>
-    ensures ok { IfOk result (λ copy. option_map string_bytes copy ≡ option_map (λ text. text.now) text.entry) }
+    ensures ok { IfOk result (λ copy. option_map string_bytes copy
+        ≡ option_map (λ text. text.now) text.entry) }
     ensures err { OnErr result (IsSome text.entry) }
 {
     match text {
@@ -65,7 +66,8 @@ pub(crate) fn copy_release(
     alloc: Global,
     release: &Option<Release>,
 ) -> Result<Option<Release>, AllocError>
-    ensures ok { IfOk result (λ copy. option_map plain_release copy ≡ option_map plain_release release.now) }
+    ensures ok { IfOk result (λ copy. option_map plain_release copy
+        ≡ option_map plain_release release.now) }
     ensures err { OnErr result (IsSome release.now) }
 {
     match release {
@@ -76,7 +78,8 @@ pub(crate) fn copy_release(
 
 // A copy of metadata, if there is any.
 pub(crate) fn copy_meta(alloc: Global, meta: &Option<String>) -> Result<Option<String>, AllocError>
-    ensures ok { IfOk result (λ copy. option_map string_bytes copy ≡ option_map string_bytes meta.now) }
+    ensures ok { IfOk result (λ copy. option_map string_bytes copy
+        ≡ option_map string_bytes meta.now) }
     ensures err { OnErr result (IsSome meta.now) }
 {
     match meta {

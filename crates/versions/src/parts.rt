@@ -12,16 +12,16 @@ use std::cmp::Ordering;
 use version_parts::key::{PartText, compare_parts};
 use version_parts::{Chunk, Last};
 
-/// A part of a general version: a chunk, or the last part.
+// A part of a general version: a chunk, or the last part.
 #[derive(Clone, Copy)]
-pub enum BodyPart<'a> {
+enum BodyPart<'a> {
     Chunk(&'a Chunk),
     Last(&'a Last),
 }
 
 impl<'a> BodyPart<'a> {
-    /// The printed text, byte after byte. Takes no memory.
-    pub fn text(self) -> PartText<'a>
+    // The printed text, byte after byte.
+    fn text(self) -> PartText<'a>
         ensures { part_key result ≡ key_of_part self.entry }
     {
         match self {
@@ -30,16 +30,16 @@ impl<'a> BodyPart<'a> {
         }
     }
 
-    /// How two parts compare, by their printed texts. Takes no memory.
-    pub fn compare(self, other: BodyPart<'_>) -> Ordering
+    // How two parts compare, by their printed texts.
+    fn compare(self, other: BodyPart<'_>) -> Ordering
         ensures { result ≡ part_cmp (Some (key_of_part self.entry)) (Some (key_of_part other.entry)) }
     {
         compare_parts(self.text(), other.text())
     }
 
-    /// Whether the part is the number 0, with no suffix.
+    // Whether the part is the number 0, with no suffix.
     #[tactic(auto, using(crate::proofs::VersionMatch::zero_tied))]
-    pub fn is_plain_zero(self) -> bool
+    fn is_plain_zero(self) -> bool
         ensures { result ≡ is_plain_zero (key_of_part self.entry) }
     {
         compare_parts(self.text(), PartText::number(0)).is_eq()
@@ -64,9 +64,10 @@ impl<'a> BodyParts<'a> {
         }
     }
 
-    /// The first of the parts, which is taken.
-    pub fn take_first(&mut self) -> Option<BodyPart<'a>>
-        ensures some { IfSome result (λ part. parts_left self.old ≡ key_of_part part ∷ parts_left self.new) }
+    // The first of the parts, which is taken.
+    fn take_first(&mut self) -> Option<BodyPart<'a>>
+        ensures some { IfSome result
+            (λ part. parts_left self.old ≡ key_of_part part ∷ parts_left self.new) }
         ensures none { IfNone result (parts_left self.old ≡ []) }
     {
         if let Some((first, rest)) = self.chunks.split_first() {

@@ -16,7 +16,9 @@ pub(crate) fn or_illegal<T: Drop, F: FnOnce(String) -> Error + Drop>(
 ) -> Result<T, ReadError>
     requires { (text : _) → F.pre wrong text }
     ensures some { IfSome value (λ v. result ≡ Ok v) }
-    ensures none { (e : PlainError) → ((text : _) (error : _) → string_bytes text ≡ s.now → F.post wrong text error → plain_error error ≡ e)
+    ensures none { (e : PlainError)
+        → ((text : _) (error : _) → string_bytes text ≡ s.now → F.post wrong text error
+        → plain_error error ≡ e)
         → IfNone value (IsErrAnd result (IsIllegal e)) }
 {
     match value {

@@ -15,8 +15,8 @@ use crate::errors::{Error, ReadError};
 use crate::key::compare_keys;
 use crate::op::Op;
 use crate::reading::or_illegal;
-use crate::versioning_ref::VersioningRef;
 use crate::versioning::Versioning;
+use crate::versioning_ref::VersioningRef;
 use std::alloc::{AllocError, Global};
 use std::cmp::Ordering;
 use std::fmt;
@@ -35,14 +35,18 @@ impl Requirement {
     /// otherwise the error is that there is no memory for the version.
     pub fn new(alloc: Global, s: &str) -> Result<Option<Requirement>, AllocError>
         // What is read is spelled so, and prints the text again.
-        ensures spelled { IfOk result (λ o. IfSome o (λ r. SpellsRequirement s.now (plain_requirement r))) }
-        ensures printed { IfOk result (λ o. IfSome o (λ r. requirement_text (plain_requirement r) ≡ s.now)) }
+        ensures spelled { IfOk result (λ o. IfSome o
+            (λ r. SpellsRequirement s.now (plain_requirement r))) }
+        ensures printed { IfOk result (λ o. IfSome o
+            (λ r. requirement_text (plain_requirement r) ≡ s.now)) }
 
         // What is spelled is read. So None comes exactly where nothing is spelled.
-        ensures read { (r : PlainRequirement) → SpellsRequirement s.now r → IfOk result (λ o. option_map plain_requirement o ≡ Some r) }
+        ensures read { (r : PlainRequirement) → SpellsRequirement s.now r
+            → IfOk result (λ o. option_map plain_requirement o ≡ Some r) }
 
         // Memory is wanted only where the text spells a requirement that owns some.
-        ensures memory { OnErr result ((r : PlainRequirement) × SpellsRequirement s.now r × RequirementOwns r) }
+        ensures memory { OnErr result ((r : PlainRequirement) × SpellsRequirement s.now r
+            × RequirementOwns r) }
 
         // The same as an equation.
         ensures exact { IfOk result (λ o. option_map plain_requirement o ≡ requirement_of s.now) }
@@ -106,7 +110,8 @@ impl Requirement {
     /// alone asks for any. Takes no memory.
     #[tactic(auto, using(crate::proofs::Convex::requirement_convex))]
     pub fn matches(&self, version: &Versioning) -> bool
-        ensures set { IsTrue result ↔ Matches (plain_requirement self.now) (plain_versioning version.now) }
+        ensures set { IsTrue result
+            ↔ Matches (plain_requirement self.now) (plain_versioning version.now) }
 
         // With two strict versions it asks for those between them.
         ensures convex { IsConvex (Matches (plain_requirement self.now)) }
@@ -138,7 +143,8 @@ impl Requirement {
         alloc: Global,
         spelled: &VersioningRef<'_>,
     ) -> Result<bool, AllocError>
-        ensures set { IfOk result (λ asked. IsTrue asked ↔ Matches (plain_requirement self.now) (plain_versioning_ref spelled.now)) }
+        ensures set { IfOk result (λ asked. IsTrue asked
+            ↔ Matches (plain_requirement self.now) (plain_versioning_ref spelled.now)) }
         ensures memory { OnErr result (LooksAt (plain_requirement self.now) (plain_versioning_ref spelled.now)) }
     {
         match &self.version {
@@ -149,7 +155,8 @@ impl Requirement {
 
     // An operator before a version.
     fn of(op: Op, version: Versioning) -> Requirement
-        ensures { plain_requirement result ≡ record { op = op; version = Some (plain_versioning version) } }
+        ensures { plain_requirement result
+            ≡ record { op = op; version = Some (plain_versioning version) } }
     {
         Requirement {
             op,
@@ -185,7 +192,8 @@ impl fmt::Display for Requirement {
 
 // Whether an operator before one version asks for another.
 fn asks_for(op: Op, wanted: &Versioning, version: &Versioning) -> bool
-    ensures { IsTrue result ↔ MatchesOp op (plain_versioning wanted.now) (plain_versioning version.now) }
+    ensures { IsTrue result
+        ↔ MatchesOp op (plain_versioning wanted.now) (plain_versioning version.now) }
 {
     match op {
         Op::Exact => version == wanted,
@@ -206,8 +214,10 @@ fn asks_for_scanned(
     wanted: &Versioning,
     spelled: &VersioningRef<'_>,
 ) -> Result<bool, AllocError>
-    ensures set { IfOk result (λ asked. IsTrue asked ↔ MatchesOp op (plain_versioning wanted.now) (plain_versioning_ref spelled.now)) }
-    ensures memory { OnErr result (LooksAtVersions op × IsOfKind (plain_versioning wanted.now) (plain_versioning_ref spelled.now)) }
+    ensures set { IfOk result (λ asked. IsTrue asked
+        ↔ MatchesOp op (plain_versioning wanted.now) (plain_versioning_ref spelled.now)) }
+    ensures memory { OnErr result (LooksAtVersions op
+        × IsOfKind (plain_versioning wanted.now) (plain_versioning_ref spelled.now)) }
 {
     match op {
         Op::Greater | Op::GreaterEq | Op::Less | Op::LessEq => {
@@ -242,7 +252,8 @@ fn asks_order(op: Op, order: Ordering) -> bool
 
 // Whether `~wanted` asks for a version.
 fn matches_tilde(wanted: &Versioning, version: &Versioning) -> bool
-    ensures { IsTrue result ↔ MatchesTilde (plain_versioning wanted.now) (plain_versioning version.now) }
+    ensures { IsTrue result
+        ↔ MatchesTilde (plain_versioning wanted.now) (plain_versioning version.now) }
 {
     match (wanted, version) {
         (Versioning::Ideal(wanted), Versioning::Ideal(ideal)) => wanted.matches_tilde(ideal),
@@ -255,7 +266,8 @@ fn matches_tilde(wanted: &Versioning, version: &Versioning) -> bool
 
 // Whether `^wanted` asks for a version.
 fn matches_caret(wanted: &Versioning, version: &Versioning) -> bool
-    ensures { IsTrue result ↔ MatchesCaret (plain_versioning wanted.now) (plain_versioning version.now) }
+    ensures { IsTrue result
+        ↔ MatchesCaret (plain_versioning wanted.now) (plain_versioning version.now) }
 {
     match (wanted, version) {
         (Versioning::Ideal(wanted), Versioning::Ideal(ideal)) => wanted.matches_caret(ideal),

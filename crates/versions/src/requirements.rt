@@ -12,8 +12,8 @@ ghost use Rattle.versions.specs.Versioning.{plain_versioning, versioning_of};
 use crate::errors::{Error, ReadError};
 use crate::reading::or_illegal;
 use crate::requirement::Requirement;
-use crate::versioning_ref::VersioningRef;
 use crate::versioning::Versioning;
+use crate::versioning_ref::VersioningRef;
 use std::alloc::{AllocError, Global};
 use std::fmt;
 
@@ -27,14 +27,18 @@ impl Requirements {
     /// there is no memory for the list.
     pub fn new(alloc: Global, s: &str) -> Result<Option<Requirements>, AllocError>
         // What is read is spelled so, and prints the text again.
-        ensures spelled { IfOk result (λ o. IfSome o (λ list. SpellsRequirements s.now (plain_requirements list))) }
-        ensures printed { IfOk result (λ o. IfSome o (λ list. requirements_text (plain_requirements list) ≡ s.now)) }
+        ensures spelled { IfOk result (λ o. IfSome o
+            (λ list. SpellsRequirements s.now (plain_requirements list))) }
+        ensures printed { IfOk result (λ o. IfSome o
+            (λ list. requirements_text (plain_requirements list) ≡ s.now)) }
 
         // What is spelled is read. So None comes exactly where nothing is spelled.
-        ensures read { (list : List PlainRequirement) → SpellsRequirements s.now list → IfOk result (λ o. option_map plain_requirements o ≡ Some list) }
+        ensures read { (list : List PlainRequirement) → SpellsRequirements s.now list
+            → IfOk result (λ o. option_map plain_requirements o ≡ Some list) }
 
         // Memory is wanted only where the text spells a list.
-        ensures memory { OnErr result ((list : List PlainRequirement) × SpellsRequirements s.now list) }
+        ensures memory { OnErr result ((list : List PlainRequirement)
+            × SpellsRequirements s.now list) }
 
         // The same as an equation.
         ensures exact { IfOk result (λ o. option_map plain_requirements o ≡ requirements_of s.now) }
@@ -52,7 +56,8 @@ impl Requirements {
     /// The list that the whole text spells; else `Illegal`, with `IllegalOp` and the whole text in it. `Memory` comes
     /// where there is no memory for the list or for that text.
     pub fn from_str(alloc: Global, s: &str) -> Result<Requirements, ReadError>
-        ensures { ReadsOr plain_requirements (λ _. Unit {0}) (IllegalOp s.now) result (requirements_of s.now) }
+        ensures { ReadsOr plain_requirements
+            (λ _. Unit {0}) (IllegalOp s.now) result (requirements_of s.now) }
     {
         or_illegal(alloc, read_whole(alloc, s)?, s, Error::IllegalOp)
     }
@@ -71,7 +76,8 @@ impl Requirements {
     /// Whether each member asks for a version; an empty list asks for any. Takes no memory.
     #[tactic(auto, using(crate::proofs::Convex::requirements_convex))]
     pub fn matches(&self, version: &Versioning) -> bool
-        ensures set { IsTrue result ↔ MatchesAll (plain_requirements self.now) (plain_versioning version.now) }
+        ensures set { IsTrue result
+            ↔ MatchesAll (plain_requirements self.now) (plain_versioning version.now) }
 
         // With two strict versions it asks for those between them.
         ensures convex { IsConvex (MatchesAll (plain_requirements self.now)) }
@@ -94,7 +100,8 @@ impl Requirements {
         ensures set { IfOk result (λ answer. AnswersFor (MatchesAll (plain_requirements self.now)) answer (versioning_of s.now)) }
 
         // Memory is wanted only where the text spells a version that a member looks at itself.
-        ensures memory { OnErr result (IsSomeAnd (versioning_of s.now) (λ v. Any (λ r. LooksAt (plain_requirement r) v) self.now.0.items)) }
+        ensures memory { OnErr result (IsSomeAnd (versioning_of s.now)
+            (λ v. Any (λ r. LooksAt (plain_requirement r) v) self.now.0.items)) }
     {
         let Some(spelled) = VersioningRef::new(s) else {
             return Ok(None);

@@ -51,7 +51,8 @@ impl SemVer {
         ensures printed { IfOk result (λ o. IfSome o (λ v. semver_text (plain_semver v) ≡ s.now)) }
 
         // What is spelled is read. So None comes exactly where nothing is spelled.
-        ensures read { (v : PlainSemVer) → SpellsSemVer s.now v → IfOk result (λ o. option_map plain_semver o ≡ Some v) }
+        ensures read { (v : PlainSemVer) → SpellsSemVer s.now v
+            → IfOk result (λ o. option_map plain_semver o ≡ Some v) }
 
         // Memory is wanted only where the text spells a version that owns some.
         ensures memory { OnErr result ((v : PlainSemVer) × SpellsSemVer s.now v × SemVerOwns v) }
@@ -119,7 +120,8 @@ impl SemVer {
     /// Whether `~self` asks for `other`: equal major and minor, and a patch that is not less. Pre-releases are not
     /// looked at. Takes no memory.
     pub fn matches_tilde(&self, other: &SemVer) -> bool
-        ensures { IsTrue result ↔ MatchesTilde (numbers (plain_semver self.now)) (numbers (plain_semver other.now)) }
+        ensures { IsTrue result
+            ↔ MatchesTilde (numbers (plain_semver self.now)) (numbers (plain_semver other.now)) }
     {
         self.major == other.major && self.minor == other.minor && self.patch <= other.patch
     }
@@ -127,7 +129,8 @@ impl SemVer {
     /// Whether `^self` asks for `other`: the first of the three numbers that is not 0 in both is equal, and what
     /// stands behind it is not less. Pre-releases are not looked at. Takes no memory.
     pub fn matches_caret(&self, other: &SemVer) -> bool
-        ensures { IsTrue result ↔ MatchesCaret (numbers (plain_semver self.now)) (numbers (plain_semver other.now)) }
+        ensures { IsTrue result
+            ↔ MatchesCaret (numbers (plain_semver self.now)) (numbers (plain_semver other.now)) }
     {
         if self.major == 0 && other.major == 0 {
             if self.minor == 0 && other.minor == 0 {
@@ -141,7 +144,8 @@ impl SemVer {
 
 /// `0.0.0`.
 impl Default for SemVer {
-    ghost is_default = { λ v. plain_semver v ≡ record { major = 0; minor = 0; patch = 0; pre_rel = None; meta = None } };
+    ghost is_default = { λ v. plain_semver v
+        ≡ record { major = 0; minor = 0; patch = 0; pre_rel = None; meta = None } };
 
     fn default() -> SemVer {
         SemVer {

@@ -21,10 +21,10 @@ ghost use Rattle.versions.specs.VersionOrder.{version_plain_cmp};
 
 use crate::errors::{Error, ReadError};
 use crate::key::{KeyBytes, compare_keys};
-use crate::parts::{BodyParts, parts_match_caret};
 use crate::optional::{
     build_release, copy_meta, copy_release, copy_text, optional_meta, optional_release, write_tail,
 };
+use crate::parts::{BodyParts, parts_match_caret};
 use crate::reading::or_illegal;
 use serde::{Deserialize, Serialize};
 use std::alloc::{AllocError, Global};
@@ -58,10 +58,12 @@ impl Version {
     pub fn new(alloc: Global, s: &str) -> Result<Option<Version>, AllocError>
         // What is read is spelled so, and prints the text again.
         ensures spelled { IfOk result (λ o. IfSome o (λ v. SpellsVersion s.now (plain_version v))) }
-        ensures printed { IfOk result (λ o. IfSome o (λ v. version_text (plain_version v) ≡ s.now)) }
+        ensures printed { IfOk result (λ o. IfSome o
+            (λ v. version_text (plain_version v) ≡ s.now)) }
 
         // What is spelled is read. So None comes exactly where nothing is spelled.
-        ensures read { (v : PlainVersion) → SpellsVersion s.now v → IfOk result (λ o. option_map plain_version o ≡ Some v) }
+        ensures read { (v : PlainVersion) → SpellsVersion s.now v
+            → IfOk result (λ o. option_map plain_version o ≡ Some v) }
 
         // Memory is wanted only where the text spells a version that owns some.
         ensures memory { OnErr result ((v : PlainVersion) × SpellsVersion s.now v × VersionOwns v) }
@@ -102,7 +104,8 @@ impl Version {
 
     /// No epoch, no chunks, the last part `0`, and nothing else. Takes no memory.
     pub fn default_in(alloc: Global) -> Version
-        ensures { plain_version result ≡ record { epoch = None; chunks = []; last = plain.Numeric 0; release = None; meta = None } }
+        ensures { plain_version result
+            ≡ record { epoch = None; chunks = []; last = plain.Numeric 0; release = None; meta = None } }
     {
         Version {
             epoch: None,
@@ -179,7 +182,8 @@ impl Version {
     /// Whether `~self` asks for `other`: the same epoch, none being 0, and equally many parts, of which all but the
     /// final ones are the same and the final one is not below. Releases and metadata are not looked at. Takes no memory.
     pub fn matches_tilde(&self, other: &Version) -> bool
-        ensures { IsTrue result ↔ MatchesTilde (epoch_and_parts (plain_version self.now)) (epoch_and_parts (plain_version other.now)) }
+        ensures { IsTrue result
+            ↔ MatchesTilde (epoch_and_parts (plain_version self.now)) (epoch_and_parts (plain_version other.now)) }
     {
         self.epoch_number() == other.epoch_number() && self.parts_match_tilde(other)
     }
@@ -189,7 +193,8 @@ impl Version {
     /// one that is not below it. Further parts of `other` are free. Releases and metadata are not looked at. Takes no
     /// memory.
     pub fn matches_caret(&self, other: &Version) -> bool
-        ensures { IsTrue result ↔ MatchesCaret (epoch_and_parts (plain_version self.now)) (epoch_and_parts (plain_version other.now)) }
+        ensures { IsTrue result
+            ↔ MatchesCaret (epoch_and_parts (plain_version self.now)) (epoch_and_parts (plain_version other.now)) }
     {
         self.epoch_number() == other.epoch_number()
             && parts_match_caret(BodyParts::of(self), BodyParts::of(other))
@@ -198,7 +203,8 @@ impl Version {
     // Whether there are equally many parts, of which all but the final ones are the same and the final one is not
     // below.
     fn parts_match_tilde(&self, other: &Version) -> bool
-        ensures { IsTrue result ↔ PartsMatchTilde (epoch_and_parts (plain_version self.now)).1 (epoch_and_parts (plain_version other.now)).1 }
+        ensures { IsTrue result
+            ↔ PartsMatchTilde (epoch_and_parts (plain_version self.now)).1 (epoch_and_parts (plain_version other.now)).1 }
     {
         self.compare_chunks(other).is_eq()
             && compare_parts(other.last.part_text(), self.last.part_text()).is_ge()
@@ -253,7 +259,8 @@ impl Ord for Version {
 impl PartialOrd for Version {
     ghost partial_cmp = { as_partial_cmp (on plain_version version_cmp) };
 
-    ghost laws = { po (on_total plain_version version_cmp_total) (λ a b. version_cmp_ties (plain_version a) (plain_version b)) };
+    ghost laws = { po (on_total plain_version version_cmp_total)
+        (λ a b. version_cmp_ties (plain_version a) (plain_version b)) };
 
     fn partial_cmp(&self, other: &Version) -> Option<Ordering> {
         Some(self.cmp(other))

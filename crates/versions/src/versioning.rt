@@ -23,8 +23,8 @@ use crate::key::{KeyBytes, compare_keys, key_list};
 use crate::mess::Mess;
 use crate::reading::or_illegal;
 use crate::semver::SemVer;
-use crate::versioning_ref::VersioningRef;
 use crate::version::Version;
+use crate::versioning_ref::VersioningRef;
 use std::alloc::{AllocError, Global};
 use std::cmp::Ordering;
 use std::fmt;
@@ -47,14 +47,18 @@ impl Versioning {
     /// memory, nor do three plain numbers; otherwise the error is that there is no memory for what is read.
     pub fn new(alloc: Global, s: &str) -> Result<Option<Versioning>, AllocError>
         // What is read is spelled so, and prints the text again.
-        ensures spelled { IfOk result (λ o. IfSome o (λ v. SpellsVersioning s.now (plain_versioning v))) }
-        ensures printed { IfOk result (λ o. IfSome o (λ v. versioning_text (plain_versioning v) ≡ s.now)) }
+        ensures spelled { IfOk result (λ o. IfSome o
+            (λ v. SpellsVersioning s.now (plain_versioning v))) }
+        ensures printed { IfOk result (λ o. IfSome o
+            (λ v. versioning_text (plain_versioning v) ≡ s.now)) }
 
         // What is spelled is read. So None comes exactly where nothing is spelled.
-        ensures read { (v : PlainVersioning) → SpellsVersioning s.now v → IfOk result (λ o. option_map plain_versioning o ≡ Some v) }
+        ensures read { (v : PlainVersioning) → SpellsVersioning s.now v
+            → IfOk result (λ o. option_map plain_versioning o ≡ Some v) }
 
         // Memory is wanted only where the text spells a version that owns some.
-        ensures memory { OnErr result ((v : PlainVersioning) × SpellsVersioning s.now v × VersioningOwns v) }
+        ensures memory { OnErr result ((v : PlainVersioning) × SpellsVersioning s.now v
+            × VersioningOwns v) }
 
         // The same as an equation.
         ensures exact { IfOk result (λ o. option_map plain_versioning o ≡ versioning_of s.now) }
@@ -147,7 +151,8 @@ impl Versioning {
 
         // That order is total and transitive, and reversed by swapping, over all keys; on strict versions it is theirs.
         ensures total { IsTotalOrder precedence }
-        ensures strict { (a b : PlainSemVer) → precedence (key_of (plain.Ideal a)) (key_of (plain.Ideal b)) ≡ semver_cmp a b }
+        ensures strict { (a b : PlainSemVer)
+            → precedence (key_of (plain.Ideal a)) (key_of (plain.Ideal b)) ≡ semver_cmp a b }
     {
         compare_keys(self.key_bytes(), other.key_bytes())
     }
@@ -165,13 +170,18 @@ impl Versioning {
     /// there is no memory for them.
     #[tactic(auto, using(crate::proofs::Orders::laws))]
     pub fn sort_key(&self, alloc: Global) -> Result<Vec<u8>, AllocError>
-        ensures bytes { IfOk result (λ key. key.items ≡ key_bytes (key_of (plain_versioning self.now))) }
+        ensures bytes { IfOk result (λ key. key.items
+            ≡ key_bytes (key_of (plain_versioning self.now))) }
 
         // Against the bytes of any key they compare as precedence does, and where that isn't Equal it stays so
         // whatever bytes follow the two.
-        ensures ordered { IfOk result (λ key. (k : Key) → bytes_cmp key.items (key_bytes k) ≡ precedence (key_of (plain_versioning self.now)) k) }
-        ensures followed { IfOk result (λ key. (k : Key) (x y : List ℕ) → ¬ (precedence (key_of (plain_versioning self.now)) k ≡ Equal)
-            → bytes_cmp (key.items ++ x) (key_bytes k ++ y) ≡ precedence (key_of (plain_versioning self.now)) k) }
+        ensures ordered { IfOk result (λ key. (k : Key)
+            → bytes_cmp key.items (key_bytes k)
+            ≡ precedence (key_of (plain_versioning self.now)) k) }
+        ensures followed { IfOk result (λ key. (k : Key) (x y : List ℕ)
+            → ¬ (precedence (key_of (plain_versioning self.now)) k ≡ Equal)
+            → bytes_cmp (key.items ++ x) (key_bytes k ++ y)
+            ≡ precedence (key_of (plain_versioning self.now)) k) }
     {
         key_list(alloc, self)
     }
@@ -226,7 +236,8 @@ fn read_whole(alloc: Global, s: &str) -> Result<Option<Versioning>, AllocError>
 
 /// The strict version `0.0.0`.
 impl Default for Versioning {
-    ghost is_default = { λ v. plain_versioning v ≡ plain.Ideal (record { major = 0; minor = 0; patch = 0; pre_rel = None; meta = None }) };
+    ghost is_default = { λ v. plain_versioning v
+        ≡ plain.Ideal (record { major = 0; minor = 0; patch = 0; pre_rel = None; meta = None }) };
 
     fn default() -> Versioning {
         Versioning::Ideal(SemVer::default())
@@ -285,7 +296,8 @@ impl Ord for Versioning {
 impl PartialOrd for Versioning {
     ghost partial_cmp = { as_partial_cmp (on plain_versioning versioning_cmp) };
 
-    ghost laws = { po (on_total plain_versioning versioning_cmp_total) (λ a b. versioning_cmp_ties (plain_versioning a) (plain_versioning b)) };
+    ghost laws = { po (on_total plain_versioning versioning_cmp_total)
+        (λ a b. versioning_cmp_ties (plain_versioning a) (plain_versioning b)) };
 
     fn partial_cmp(&self, other: &Versioning) -> Option<Ordering> {
         Some(self.cmp(other))

@@ -50,7 +50,8 @@ impl<'a> VersioningRef<'a> {
 
     // Whether it is of the kind of a version.
     pub(crate) fn is_of_kind(&self, version: &Versioning) -> bool
-        ensures { IsTrue result ↔ IsOfKind (plain_versioning version.now) (plain_versioning_ref self.now) }
+        ensures { IsTrue result
+            ↔ IsOfKind (plain_versioning version.now) (plain_versioning_ref self.now) }
     {
         match (self, version) {
             (VersioningRef::Ideal(_), Versioning::Ideal(_)) => true,

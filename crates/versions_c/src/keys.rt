@@ -22,7 +22,8 @@ pub extern "C" fn versions_sort_key_bound(text_len: usize) -> usize
     ensures room { result ≡ saturated (room_for text_len) }
 
     // No text of that length has a longer key.
-    ensures enough { (text : List ℕ) (v : PlainVersioning) → length text ≡ text_len → versioning_of text ≡ Some v → length (key_bytes (key_of v)) ≤ room_for text_len }
+    ensures enough { (text : List ℕ) (v : PlainVersioning) → length text ≡ text_len
+        → versioning_of text ≡ Some v → length (key_bytes (key_of v)) ≤ room_for text_len }
 {
     text_len.saturating_mul(3).saturating_add(5)
 }
@@ -31,11 +32,13 @@ pub extern "C" fn versions_sort_key_bound(text_len: usize) -> usize
 #[unsafe(no_mangle)]
 pub extern "C" fn versions_sort_key(text: &[u8], key: &mut [u8], key_len: &mut usize) -> i32
     ensures status { result ≡ key_status (spelled_key text.now) (length key.old) }
-    ensures key { result ≡ OK → IfSome (spelled_key text.now) (λ bytes. key.new ≡ bytes ++ drop (length bytes) key.old) }
+    ensures key { result ≡ OK → IfSome (spelled_key text.now)
+        (λ bytes. key.new ≡ bytes ++ drop (length bytes) key.old) }
     ensures kept { result ≢ OK → key.new ≡ key.old }
 
     // Its length is told where there is too little room, too.
-    ensures length { IfSome (spelled_key text.now) (λ bytes. key_len.new ≡ saturated (length bytes)) }
+    ensures length { IfSome (spelled_key text.now)
+        (λ bytes. key_len.new ≡ saturated (length bytes)) }
     ensures no_length { result ≡ NO_VERSION → key_len.new ≡ key_len.old }
 {
     if let Some(length) = length_past(text, key.len()) {
@@ -59,15 +62,20 @@ pub extern "C" fn versions_sort_keys(
 ) -> i32
     ensures status { AreKeyOffsets offsets.now (length texts.now) (length key_offsets.old)
         → result ≡ room_status (all_keys texts.now offsets.now) (length keys.old) }
-    ensures keys { result ≡ OK → keys.new ≡ all_keys texts.now offsets.now ++ drop (length (all_keys texts.now offsets.now)) keys.old }
+    ensures keys { result ≡ OK → keys.new
+        ≡ all_keys texts.now offsets.now ++ drop (length (all_keys texts.now offsets.now)) keys.old }
 
     // Where they begin and end is told where there is too little room, too.
     ensures offsets { AreKeyOffsets offsets.now (length texts.now) (length key_offsets.old)
-        → (i : ℕ) → i < length offsets.now → slice_index key_offsets.new i ≡ saturated_offset (length (keys_before texts.now offsets.now i)) }
+        → (i : ℕ) → i < length offsets.now
+        → slice_index key_offsets.new i
+        ≡ saturated_offset (length (keys_before texts.now offsets.now i)) }
 
     // Else nothing is written.
-    ensures bad { ¬ (AreKeyOffsets offsets.now (length texts.now) (length key_offsets.old)) → result ≡ BAD_OFFSETS }
-    ensures kept { ¬ (AreKeyOffsets offsets.now (length texts.now) (length key_offsets.old)) → keys.new ≡ keys.old }
+    ensures bad { ¬ (AreKeyOffsets offsets.now (length texts.now) (length key_offsets.old))
+        → result ≡ BAD_OFFSETS }
+    ensures kept { ¬ (AreKeyOffsets offsets.now (length texts.now) (length key_offsets.old))
+        → keys.new ≡ keys.old }
     ensures kept_offsets { ¬ (AreKeyOffsets offsets.now (length texts.now) (length key_offsets.old)) → key_offsets.new ≡ key_offsets.old }
 {
     let Some(count) = offsets.len().checked_sub(1) else {
@@ -95,7 +103,9 @@ fn put_all(
     requires room { length key_offsets.old ≡ count + 1 }
     ensures end { result ≡ saturated (length (keys_before texts.now offsets.now count)) }
     ensures keys { keys.new ≡ put_at keys.old 0 (keys_before texts.now offsets.now count) }
-    ensures key_offsets { (i : ℕ) → i ≤ count → slice_index key_offsets.new i ≡ saturated_offset (length (keys_before texts.now offsets.now i)) }
+    ensures key_offsets { (i : ℕ) → i ≤ count
+        → slice_index key_offsets.new i
+        ≡ saturated_offset (length (keys_before texts.now offsets.now i)) }
 {
     let mut end: usize = 0;
     key_offsets[0] = 0;

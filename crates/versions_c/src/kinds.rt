@@ -21,10 +21,13 @@ pub extern "C" fn versions_kind(text: &[u8]) -> i32
 #[unsafe(no_mangle)]
 pub extern "C" fn versions_kinds(texts: &[u8], offsets: &[u64], kinds: &mut [u8]) -> i32
     ensures ok { AreOffsets offsets.now (length texts.now) (length kinds.old) → result ≡ OK }
-    ensures kinds { AreOffsets offsets.now (length texts.now) (length kinds.old) → (i : ℕ) → i < length kinds.old
+    ensures kinds { AreOffsets offsets.now (length texts.now) (length kinds.old) → (i : ℕ)
+        → i < length kinds.old
         → slice_index kinds.new i ≡ kind_of (versioning_of (text_at texts.now offsets.now i)) }
-    ensures bad { ¬ (AreOffsets offsets.now (length texts.now) (length kinds.old)) → result ≡ BAD_OFFSETS }
-    ensures kept { ¬ (AreOffsets offsets.now (length texts.now) (length kinds.old)) → kinds.new ≡ kinds.old }
+    ensures bad { ¬ (AreOffsets offsets.now (length texts.now) (length kinds.old))
+        → result ≡ BAD_OFFSETS }
+    ensures kept { ¬ (AreOffsets offsets.now (length texts.now) (length kinds.old))
+        → kinds.new ≡ kinds.old }
 {
     let count = kinds.len();
     if !are_offsets(offsets, texts.len(), count) {

@@ -16,8 +16,10 @@ use versions::Requirements;
 /// Whether a list asks for a version.
 #[unsafe(no_mangle)]
 pub extern "C" fn versions_matches(alloc: Global, list: &[u8], text: &[u8], matches: &mut u8) -> i32
-    ensures status { result ≢ NO_MEMORY → result ≡ match_status (requirements_of list.now) (versioning_of text.now) }
-    ensures matches { result ≡ OK → IfSome (requirements_of list.now) (λ wanted. matches.new ≡ match_code wanted (versioning_of text.now)) }
+    ensures status { result ≢ NO_MEMORY
+        → result ≡ match_status (requirements_of list.now) (versioning_of text.now) }
+    ensures matches { result ≡ OK → IfSome (requirements_of list.now)
+        (λ wanted. matches.new ≡ match_code wanted (versioning_of text.now)) }
     ensures kept { result ≢ OK → matches.new ≡ matches.old }
 
     // Memory is wanted only where there is a list.
@@ -47,10 +49,14 @@ pub extern "C" fn versions_match_all(
     offsets: &[u64],
     matches: &mut [u8],
 ) -> i32
-    ensures status { AreOffsets offsets.now (length texts.now) (length matches.old) → result ≢ NO_MEMORY → result ≡ list_status (requirements_of list.now) }
-    ensures matches { result ≡ OK → IfSome (requirements_of list.now) (λ wanted. (i : ℕ) → i < length matches.old
-        → slice_index matches.new i ≡ match_code wanted (versioning_of (text_at texts.now offsets.now i))) }
-    ensures bad { ¬ (AreOffsets offsets.now (length texts.now) (length matches.old)) → result ≡ BAD_OFFSETS }
+    ensures status { AreOffsets offsets.now (length texts.now) (length matches.old)
+        → result ≢ NO_MEMORY → result ≡ list_status (requirements_of list.now) }
+    ensures matches { result ≡ OK → IfSome (requirements_of list.now)
+        (λ wanted. (i : ℕ) → i < length matches.old
+        → slice_index matches.new i
+        ≡ match_code wanted (versioning_of (text_at texts.now offsets.now i))) }
+    ensures bad { ¬ (AreOffsets offsets.now (length texts.now) (length matches.old))
+        → result ≡ BAD_OFFSETS }
 
     // Memory is wanted only where there is a list, and else nothing is written where something is wrong.
     ensures memory { result ≡ NO_MEMORY → IsSome (requirements_of list.now) }
@@ -78,7 +84,8 @@ pub extern "C" fn versions_match_all(
 // there is no memory for the version.
 #[tactic(auto, using(crate::proofs::Answers::coded_true, crate::proofs::Answers::coded_false, crate::proofs::Answers::coded_none))]
 fn asked_for(alloc: Global, wanted: &Requirements, text: &[u8]) -> Result<u8, AllocError>
-    ensures { IfOk result (λ answer. answer ≡ match_code (plain_requirements wanted.now) (versioning_of text.now)) }
+    ensures { IfOk result (λ answer. answer
+        ≡ match_code (plain_requirements wanted.now) (versioning_of text.now)) }
 {
     let Ok(text) = str::from_utf8(text) else {
         return Ok(2);

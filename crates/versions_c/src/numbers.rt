@@ -12,7 +12,8 @@ use std::alloc::Global;
 #[unsafe(no_mangle)]
 pub extern "C" fn versions_nth(alloc: Global, text: &[u8], n: usize, number: &mut u32) -> i32
     ensures status { result ≢ NO_MEMORY → result ≡ nth_status (versioning_of text.now) n }
-    ensures number { result ≡ OK → IfSome (versioning_of text.now) (λ v. versioning_nth v n ≡ Some number.new) }
+    ensures number { result ≡ OK → IfSome (versioning_of text.now)
+        (λ v. versioning_nth v n ≡ Some number.new) }
     ensures kept { result ≢ OK → number.new ≡ number.old }
 
     // Memory is wanted only for a version that owns some.

@@ -18,7 +18,9 @@ use versions::key::compare_keys;
 #[unsafe(no_mangle)]
 pub extern "C" fn versions_compare(a: &[u8], b: &[u8], order: &mut i32) -> i32
     ensures status { result ≡ pair_status (is_some (versioning_of a.now)) (is_some (versioning_of b.now)) }
-    ensures order { IfSome (versioning_of a.now) (λ v. IfSome (versioning_of b.now) (λ w. order.new ≡ sign (precedence (key_of v) (key_of w)))) }
+    ensures order { IfSome (versioning_of a.now)
+        (λ v. IfSome (versioning_of b.now)
+        (λ w. order.new ≡ sign (precedence (key_of v) (key_of w)))) }
     ensures kept { result ≢ OK → order.new ≡ order.old }
 {
     match precedence_of(a, b) {
@@ -33,12 +35,15 @@ pub extern "C" fn versions_compare(a: &[u8], b: &[u8], order: &mut i32) -> i32
 /// The same, with ties broken as `Ord` breaks them.
 #[unsafe(no_mangle)]
 pub extern "C" fn versions_compare_total(alloc: Global, a: &[u8], b: &[u8], order: &mut i32) -> i32
-    ensures status { result ≢ NO_MEMORY → result ≡ pair_status (is_some (versioning_of a.now)) (is_some (versioning_of b.now)) }
-    ensures order { result ≡ OK → IfSome (versioning_of a.now) (λ v. IfSome (versioning_of b.now) (λ w. order.new ≡ sign (versioning_cmp v w))) }
+    ensures status { result ≢ NO_MEMORY
+        → result ≡ pair_status (is_some (versioning_of a.now)) (is_some (versioning_of b.now)) }
+    ensures order { result ≡ OK → IfSome (versioning_of a.now)
+        (λ v. IfSome (versioning_of b.now) (λ w. order.new ≡ sign (versioning_cmp v w))) }
     ensures kept { result ≢ OK → order.new ≡ order.old }
 
     // Memory is wanted only for a tie.
-    ensures memory { result ≡ NO_MEMORY → both (on key_of precedence) (versioning_of a.now) (versioning_of b.now) ≡ Some Equal }
+    ensures memory { result ≡ NO_MEMORY
+        → both (on key_of precedence) (versioning_of a.now) (versioning_of b.now) ≡ Some Equal }
 {
     match total_order_of(alloc, a, b) {
         Ok(Some(found)) => {
@@ -59,7 +64,8 @@ fn precedence_of(a: &[u8], b: &[u8]) -> Option<Ordering>
 
 // How two versions compare by `Ord`. The error is that there is no memory for them, which are made only for a tie.
 fn total_order_of(alloc: Global, a: &[u8], b: &[u8]) -> Result<Option<Ordering>, AllocError>
-    ensures ok { IfOk result (λ o. o ≡ both versioning_cmp (versioning_of a.now) (versioning_of b.now)) }
+    ensures ok { IfOk result (λ o. o
+        ≡ both versioning_cmp (versioning_of a.now) (versioning_of b.now)) }
     ensures err { OnErr result (both (on key_of precedence) (versioning_of a.now) (versioning_of b.now) ≡ Some Equal) }
 {
     match precedence_of(a, b) {
@@ -70,7 +76,8 @@ fn total_order_of(alloc: Global, a: &[u8], b: &[u8]) -> Result<Option<Ordering>,
 
 // How two versions compare by what breaks ties. The error is that there is no memory for them.
 fn plain_order_of(alloc: Global, a: &[u8], b: &[u8]) -> Result<Option<Ordering>, AllocError>
-    ensures { IfOk result (λ o. o ≡ both versioning_plain_cmp (versioning_of a.now) (versioning_of b.now)) }
+    ensures { IfOk result (λ o. o
+        ≡ both versioning_plain_cmp (versioning_of a.now) (versioning_of b.now)) }
 {
     let a = version_of(alloc, a)?;
     let b = version_of(alloc, b)?;

@@ -50,7 +50,8 @@ pub fn key_of(text: &[u8]) -> Option<KeyBytes<'_>>
 
 /// The version that bytes spell. The error is that there is no memory for it.
 pub fn version_of(alloc: Global, text: &[u8]) -> Result<Option<Versioning>, AllocError>
-    ensures ok { IfOk result (λ version. option_map plain_versioning version ≡ versioning_of text.now) }
+    ensures ok { IfOk result (λ version. option_map plain_versioning version
+        ≡ versioning_of text.now) }
     ensures err { OnErr result (IsSomeAnd (versioning_of text.now) VersioningOwns) }
 {
     match str::from_utf8(text) {
@@ -61,7 +62,8 @@ pub fn version_of(alloc: Global, text: &[u8]) -> Result<Option<Versioning>, Allo
 
 /// The list of requirements that bytes spell. The error is that there is no memory for it.
 pub fn requirements_of(alloc: Global, list: &[u8]) -> Result<Option<Requirements>, AllocError>
-    ensures ok { IfOk result (λ wanted. option_map plain_requirements wanted ≡ requirements_of list.now) }
+    ensures ok { IfOk result (λ wanted. option_map plain_requirements wanted
+        ≡ requirements_of list.now) }
     ensures err { OnErr result (IsSome (requirements_of list.now)) }
 {
     match str::from_utf8(list) {

@@ -22,7 +22,8 @@ pub fn compare_bytes<A: Iterator<Item = u8>, B: Iterator<Item = u8>>(
     requires can_b { B.can_next b.old }
     requires ends { IsFinite (A.remaining a.old) }
     ensures taken { ComparesBytes A.next_gives B.next_gives a.old b.old result a.new b.new }
-    ensures yielded { (xs ys : List ℕ) → AlwaysYields A.next_gives (λ x. x) a.old xs → AlwaysYields B.next_gives (λ y. y) b.old ys → result ≡ bytes_cmp xs ys }
+    ensures yielded { (xs ys : List ℕ) → AlwaysYields A.next_gives (λ x. x) a.old xs
+        → AlwaysYields B.next_gives (λ y. y) b.old ys → result ≡ bytes_cmp xs ys }
 {
     while let Some(x) = a.next() {
         let Some(y) = b.next() else {

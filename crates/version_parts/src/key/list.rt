@@ -39,7 +39,8 @@ pub trait Code: Element {
     /// Makes a piece the bytes of the item at the front of a text, where one can be read, and gives the rest. Takes no
     /// memory.
     fn set_front_piece<'a>(piece: &mut PieceBytes<'a>, i: &'a str) -> Option<&'a str>
-        ensures read { option_map (λ rest. (piece.new, rest.now)) result ≡ map_value (λ key. bytes (Some key)) (key_front i.now) }
+        ensures read { option_map (λ rest. (piece.new, rest.now)) result
+            ≡ map_value (λ key. bytes (Some key)) (key_front i.now) }
         ensures unread { IfNone result (piece.new ≡ piece.old) };
 
     /// The byte behind the last item.

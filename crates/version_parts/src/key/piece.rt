@@ -1,11 +1,9 @@
 //! The bytes of one piece of a key: of a part, of a number or of a text.
 
 ghost use Rattle.std.specs.Prelude.{◌≡◌, ◌∷◌, ◌++◌, [], List, ℕ, Some, None, OnErr, OnOk};
-ghost use Rattle.std.specs.Char.{is_ascii_digit};
 ghost use Rattle.std.specs.Iterator.{item_count, YieldsFirst};
-ghost use Rattle.std.specs.List.{take_while};
-ghost use Rattle.std.specs.Str.Parse.{digits_value};
 ghost use Rattle.version_parts.specs.Chunk.{chunk_text, plain_chunk_ref};
+ghost use Rattle.version_parts.specs.DigitRun.{run_value};
 ghost use Rattle.version_parts.specs.Lists.{Growing, GrowsWithin};
 ghost use Rattle.version_parts.specs.NumberBytes.{number_bytes};
 ghost use Rattle.version_parts.specs.PartKey.{part_bytes, part_key, Number};
@@ -69,7 +67,7 @@ impl<'a> PieceBytes<'a> {
     /// The bytes of the number that the digits at the front of a text write. They may be any number of digits.
     #[tactic(auto, using(crate::proofs::PieceBytes::alone))]
     pub fn digits(text: &'a str) -> PieceBytes<'a>
-        ensures { result ≡ number_bytes (digits_value 10 (take_while is_ascii_digit text.now)) }
+        ensures { result ≡ number_bytes (run_value text.now) }
     {
         PieceBytes::at_place(
             InlineBytes::none(),

@@ -60,7 +60,8 @@ impl Step {
 
     // A byte of a text: each of 0 and 1 is written in two.
     fn text_byte(byte: u8, place: Place) -> Step
-        ensures { (rest : List ℕ) → step_bytes result rest ≡ text_byte (Some byte) ++ place_bytes place rest }
+        ensures { (rest : List ℕ)
+            → step_bytes result rest ≡ text_byte (Some byte) ++ place_bytes place rest }
     {
         if byte > 1 {
             return Step::to(byte, place);
@@ -77,8 +78,10 @@ impl Place {
     // The next byte of a text that is read so, if there is one.
     #[tactic(auto, unfolding(crate::specs::Pieces::place_bytes))]
     pub(crate) fn step(self, text: &mut PartText<'_>) -> Option<Step>
-        ensures some { IfSome result (λ step. place_bytes self text.old ≡ step_bytes step text.new) }
-        ensures none { IfNone result ((place_bytes self text.old ≡ []) × (place_bytes self text.new ≡ [])) }
+        ensures some { IfSome result
+            (λ step. place_bytes self text.old ≡ step_bytes step text.new) }
+        ensures none { IfNone result ((place_bytes self text.old ≡ [])
+            × (place_bytes self text.new ≡ [])) }
     {
         match self {
             Place::Part => Some(part_step(text)),
@@ -192,8 +195,10 @@ fn within_run(after: AfterNumber, text: &PartText<'_>) -> Place
 
 #[tactic(auto, unfolding(crate::specs::Pieces::after_number_bytes))]
 fn rest_step(after: AfterNumber, text: &mut PartText<'_>) -> Option<Step>
-    ensures some { IfSome result (λ step. after_number_bytes after text.old ≡ step_bytes step text.new) }
-    ensures none { IfNone result ((after_number_bytes after text.old ≡ []) × (after_number_bytes after text.new ≡ [])) }
+    ensures some { IfSome result
+        (λ step. after_number_bytes after text.old ≡ step_bytes step text.new) }
+    ensures none { IfNone result ((after_number_bytes after text.old ≡ [])
+        × (after_number_bytes after text.new ≡ [])) }
 {
     match after {
         AfterNumber::Suffix => Some(suffix_step(text)),

@@ -37,7 +37,8 @@ fn parts()
 
 /// Of a part that stands last one thing alone is made, and it prints what the part does.
 fn last_parts()
-    ensures rule { (part : PlainChunk) (last : PlainLast) → (last_of part ≡ last) ↔ IsLastOf part last }
+    ensures rule { (part : PlainChunk) (last : PlainLast)
+        → (last_of part ≡ last) ↔ IsLastOf part last }
     ensures printed { (part : PlainChunk) → last_text (last_of part) ≡ chunk_text part }
 {}
 

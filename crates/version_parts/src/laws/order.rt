@@ -33,7 +33,8 @@ fn length_bytes_by_255s()
 /// The bytes of a number are the length of its decimal digits and the digits themselves; zero has none.
 fn number_bytes_of_decimal()
     ensures zero { number_bytes 0 ≡ 0 ∷ [] }
-    ensures other { (n : ℕ) → 0 < n → n < 2 ^ 64 → number_bytes n ≡ length_bytes (length (decimal n)) ++ decimal n }
+    ensures other { (n : ℕ) → 0 < n → n < 2 ^ 64
+        → number_bytes n ≡ length_bytes (length (decimal n)) ++ decimal n }
 {}
 
 /// Whatever follows them, the bytes of numbers compare as the numbers do, and those of texts as the texts.
@@ -103,16 +104,20 @@ fn release_order()
 
 /// A text is split before its first digit and behind the run that begins there, and not at all without a digit.
 fn split_of_text()
-    ensures whole { (text : List ℕ) → list_any is_ascii_digit text ≡ false → split_of text ≡ record { before = text; number = None } }
-    ensures cut { (before digits rest : List ℕ) → list_any is_ascii_digit before ≡ false → is_digits digits ≡ true → starts_with_digit rest ≡ false
+    ensures whole { (text : List ℕ) → list_any is_ascii_digit text ≡ false
+        → split_of text ≡ record { before = text; number = None } }
+    ensures cut { (before digits rest : List ℕ) → list_any is_ascii_digit before ≡ false
+        → is_digits digits ≡ true → starts_with_digit rest ≡ false
         → split_of (before ++ (digits ++ rest)) ≡ record { before = before; number = Some (digits_value 10 digits, rest) } }
 {}
 
 /// A part is the number of the run of digits that its text begins with, and else a word; a number in decimal is itself.
 fn part_key_of_text()
-    ensures number { (digits rest : List ℕ) → is_digits digits ≡ true → starts_with_digit rest ≡ false
+    ensures number { (digits rest : List ℕ) → is_digits digits ≡ true
+        → starts_with_digit rest ≡ false
         → part_key (digits ++ rest) ≡ Number (digits_value 10 digits) (suffix_of rest) }
-    ensures word { (text : List ℕ) → starts_with_digit text ≡ false → part_key text ≡ Word (split_of text) }
+    ensures word { (text : List ℕ) → starts_with_digit text ≡ false
+        → part_key text ≡ Word (split_of text) }
     ensures decimals { (n : ℕ) → n < 2 ^ 64 → part_key (decimal n) ≡ Number n None }
 {}
 

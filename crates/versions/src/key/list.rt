@@ -75,7 +75,8 @@ impl<'a> Model for PartsLeft<'a> {
 
     ghost Value = { List ℕ };
 
-    ghost view = { λ parts. parts.items ++ (option_map_or (λ last. part_bytes (Some (part_key (last_text (plain_last last.now))))) parts.last []
+    ghost view = { λ parts. parts.items ++ (option_map_or
+        (λ last. part_bytes (Some (part_key (last_text (plain_last last.now))))) parts.last []
         ++ (if parts.ended then [] else part_bytes None)) };
 }
 

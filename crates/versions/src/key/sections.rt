@@ -21,7 +21,8 @@ impl<'a> SectionsLeft<'a> {
     /// The next section, and those behind it.
     #[tactic(auto, using(crate::proofs::SpelledKey::further_spelled))]
     pub fn next_section(self) -> Option<(ListLeft<'a, MessyChunk>, SectionsLeft<'a>)>
-        ensures some { IfSome result (λ next. sections_left self.entry ≡ 2 ∷ (next.0 ++ sections_left next.1)) }
+        ensures some { IfSome result
+            (λ next. sections_left self.entry ≡ 2 ∷ (next.0 ++ sections_left next.1)) }
         ensures none { IfNone result (sections_left self.entry ≡ 1 ∷ []) }
     {
         match self {

@@ -7,5 +7,6 @@ ghost use Rattle.versions.specs.Versioning.{PlainVersioning};
 
 /// Whether a list of requirements asks for a version can be told of every list and every version.
 fn requirements_told()
-    ensures { (list : List PlainRequirement) (v : PlainVersioning) → MatchesAll list v ⊎ (¬ (MatchesAll list v)) }
+    ensures { (list : List PlainRequirement) (v : PlainVersioning)
+        → MatchesAll list v ⊎ (¬ (MatchesAll list v)) }
 {}

@@ -48,10 +48,13 @@ fn precedence_order()
 /// So the bytes alone order exactly as precedence, equal bytes mean Equal precedence and the other way round,
 /// what follows two different keys doesn't change their order, and no key begins a different one.
 fn key_bytes_order()
-    ensures followed { (k l : Key) (x y : List ℕ) → bytes_cmp (key_bytes k ++ x) (key_bytes l ++ y) ≡ ordering_then (precedence k l) (bytes_cmp x y) }
+    ensures followed { (k l : Key) (x y : List ℕ)
+        → bytes_cmp (key_bytes k ++ x) (key_bytes l ++ y)
+        ≡ ordering_then (precedence k l) (bytes_cmp x y) }
     ensures alone { (k l : Key) → bytes_cmp (key_bytes k) (key_bytes l) ≡ precedence k l }
     ensures canonical { (k l : Key) → (key_bytes k ≡ key_bytes l) ↔ (precedence k l ≡ Equal) }
-    ensures apart { (k l : Key) (x y : List ℕ) → ¬ (precedence k l ≡ Equal) → bytes_cmp (key_bytes k ++ x) (key_bytes l ++ y) ≡ precedence k l }
+    ensures apart { (k l : Key) (x y : List ℕ) → ¬ (precedence k l ≡ Equal)
+        → bytes_cmp (key_bytes k ++ x) (key_bytes l ++ y) ≡ precedence k l }
     ensures no_prefix { (k l : Key) (x y : List ℕ) → key_bytes k ++ x ≡ key_bytes l ++ y → k ≡ l }
 {}
 
@@ -69,7 +72,8 @@ fn plain_orders()
     ensures messy { IsTotalOrder mess_plain_cmp }
     ensures same_messy { (a b : PlainMess) → (mess_plain_cmp a b ≡ Equal) ↔ (a ≡ b) }
     ensures any { IsTotalOrder versioning_plain_cmp }
-    ensures same_any { (a b : PlainVersioning) → (versioning_plain_cmp a b ≡ Equal) ↔ SameVersioning a b }
+    ensures same_any { (a b : PlainVersioning)
+        → (versioning_plain_cmp a b ≡ Equal) ↔ SameVersioning a b }
 {}
 
 /// The orders of general, of messy and of any versions, by their keys and then field by field, are total and Equal
@@ -81,25 +85,31 @@ fn version_orders()
     ensures same_messy { (a b : PlainMess) → (mess_cmp a b ≡ Equal) ↔ (a ≡ b) }
     ensures any { IsTotalOrder versioning_cmp }
     ensures same_any { (a b : PlainVersioning) → (versioning_cmp a b ≡ Equal) ↔ SameVersioning a b }
-    ensures refines { (a b : PlainVersioning) → ¬ (precedence (key_of a) (key_of b) ≡ Equal) → versioning_cmp a b ≡ precedence (key_of a) (key_of b) }
+    ensures refines { (a b : PlainVersioning) → ¬ (precedence (key_of a) (key_of b) ≡ Equal)
+        → versioning_cmp a b ≡ precedence (key_of a) (key_of b) }
 {}
 
 /// On two strict versions precedence is the order of strict versions.
 fn precedence_of_strict_versions()
-    ensures { (a b : PlainSemVer) → precedence (key_of_semver a) (key_of_semver b) ≡ semver_cmp a b }
+    ensures { (a b : PlainSemVer)
+        → precedence (key_of_semver a) (key_of_semver b) ≡ semver_cmp a b }
 {}
 
 /// Every byte of a key is below 256 where the bytes of its texts are, and so where those of the version's texts are.
 fn key_bytes_below_256()
     ensures keys { (k : Key) → AreBytes (key_text k) → AreBytes (key_bytes k) }
-    ensures versions { (v : PlainVersioning) → AreBytes (texts_of v) → AreBytes (key_bytes (key_of v)) }
+    ensures versions { (v : PlainVersioning) → AreBytes (texts_of v)
+        → AreBytes (key_bytes (key_of v)) }
 {}
 
 /// Metadata has no part in a key, nor have the signs before the sections of its tail.
 fn not_looked_at()
-    ensures strict { (v : PlainSemVer) (meta : Option (List ℕ)) → key_of_semver (record v { meta = meta }) ≡ key_of_semver v }
-    ensures general { (v : PlainVersion) (meta : Option (List ℕ)) → key_of_version (record v { meta = meta }) ≡ key_of_version v }
-    ensures signs { (sign other : PlainSep) (section : List PlainMChunk) (more : List (PlainSep × List PlainMChunk))
+    ensures strict { (v : PlainSemVer) (meta : Option (List ℕ))
+        → key_of_semver (record v { meta = meta }) ≡ key_of_semver v }
+    ensures general { (v : PlainVersion) (meta : Option (List ℕ))
+        → key_of_version (record v { meta = meta }) ≡ key_of_version v }
+    ensures signs { (sign other : PlainSep) (section : List PlainMChunk) (more : List (PlainSep
+        × List PlainMChunk))
         → sections_tail ((sign, section) ∷ more) ≡ sections_tail ((other, section) ∷ more) }
 {}
 

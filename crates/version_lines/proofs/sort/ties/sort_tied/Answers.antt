@@ -4,7 +4,7 @@ use Rattle.std.proofs.lemmas.Result.{on_ok_weaker}
 use Rattle.version_lines.specs.Tied.{tied_cmp}
 use Rattle.version_lines.proofs.SortingLemmas.{in_order-only}
 use Rattle.version_lines.proofs.TiedLemmas.{tied_ranks}
-use Rattle.version_lines.proofs.ties.sort_tied.Goals as goal
+use Rattle.version_lines.proofs.sort.ties.sort_tied.Goals as goal
 
 pub returns : goal.returns
 returns c =

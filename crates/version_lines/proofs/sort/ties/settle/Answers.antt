@@ -3,8 +3,8 @@ use Rattle.std.proofs.lemmas.List.{length-map}
 use Rattle.version_lines.specs.Tied.{tied_cmp, tied_entry}
 use Rattle.version_lines.proofs.TieLemmas.{length-in_order}
 use Rattle.version_lines.proofs.TiedLemmas.{in_order-one_line, in_order-strict, in_order-tied_lines}
-use Rattle.version_lines.proofs.ties.settle.Goals as goal
-use Rattle.version_lines.proofs.ties.settle.Goals.{then-are_one_line-via-then-are_one_line, then-are_one_line-via-else-are_one_line+then-are_strict}
+use Rattle.version_lines.proofs.sort.ties.settle.Goals as goal
+use Rattle.version_lines.proofs.sort.ties.settle.Goals.{then-are_one_line-via-then-are_one_line, then-are_one_line-via-else-are_one_line+then-are_strict}
 
 pub returns-then-are_one_line : goal.returns-then-are_one_line
 returns-then-are_one_line c =

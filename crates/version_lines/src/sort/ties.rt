@@ -8,16 +8,17 @@ ghost use Rattle.version_lines.specs.Sorting.{in_order, run_length};
 ghost use Rattle.versions.specs.SemVer.{semver_of};
 ghost use Rattle.version_lines.specs.Tied.{tied_cmp, tied_entry, IsTied};
 
-use crate::entry::Entry;
 use crate::ideal::is_strict;
-use crate::tied::Tied;
+use crate::sort::entry::Entry;
+use crate::sort::tied::Tied;
 use std::alloc::{AllocError, Global};
 
 /// Puts lines that stand in the order of their keys in the order of their versions: each run of lines with one key is
 /// put in order by their versions, where they aren't one and the same line, nor strict versions all of them.
 pub fn break_ties(alloc: Global, keys: &[u8], entries: &mut [Entry<'_>]) -> Result<(), AllocError>
     requires { IsSorted (entry_cmp keys.now) entries.old }
-    ensures { OnOk result (entries.new ≡ in_order (then_cmp (entry_cmp keys.now) tie_cmp) entries.old) }
+    ensures { OnOk result (entries.new
+        ≡ in_order (then_cmp (entry_cmp keys.now) tie_cmp) entries.old) }
 {
     let mut start = 0;
     while start < entries.len() {

@@ -2,7 +2,7 @@
 use Rattle.std.proofs.Common.{◌-◌, length}
 use Rattle.version_lines.specs.Entry.{entry_cmp, tie_cmp}
 use Rattle.version_lines.proofs.TieLemmas.{IsDoneTo}
-use Rattle.version_lines.proofs.ties.break_ties.Given as goal
+use Rattle.version_lines.proofs.sort.ties.break_ties.Given as goal
 
 abbrev pub invariant-loop-start : goal.invariant-loop-start
 invariant-loop-start l = IsDoneTo (entry_cmp l.keys) tie_cmp l.initial.entries l.entries l.start

@@ -2,7 +2,7 @@ use Rattle.std.proofs.Common.{◌≤◌, ◌<◌, ◌-◌, length, take, drop, a
 use Rattle.std.proofs.lemmas.List.{length-take}
 use Rattle.version_lines.specs.Entry.{entry_cmp}
 use Rattle.version_lines.proofs.TieLemmas.{run_length-some, run_length-within}
-use Rattle.version_lines.proofs.ties.run_end.Goals as goal
+use Rattle.version_lines.proofs.sort.ties.run_end.Goals as goal
 
 pub overflow_add-result : goal.overflow_add-result
 overflow_add-result c =

@@ -3,7 +3,7 @@ use Rattle.version_lines.specs.Entry.{entry_cmp, tie_cmp}
 use Rattle.version_lines.proofs.EntryLemmas.{entry_ranks, entry_total}
 use Rattle.version_lines.proofs.SortingLemmas.{rises_from_sorted}
 use Rattle.version_lines.proofs.TieLemmas.{done_to-run, done_to-start}
-use Rattle.version_lines.proofs.ties.break_ties.Goals as goal
+use Rattle.version_lines.proofs.sort.ties.break_ties.Goals as goal
 
 pub loop-start-init : goal.loop-start-init
 loop-start-init c =

@@ -2,7 +2,7 @@
 use Rattle.std.proofs.Common.{◌≡◌, is_some, take, true}
 use Rattle.std.specs.List.{All}
 use Rattle.version_lines.specs.Entry.{entry_line}
-use Rattle.version_lines.proofs.ties.are_strict.Given as goal
+use Rattle.version_lines.proofs.sort.ties.are_strict.Given as goal
 use Rattle.versions.specs.SemVer.{semver_of}
 
 abbrev pub invariant-loop-entry : goal.invariant-loop-entry

@@ -2,7 +2,7 @@
 ghost use Rattle.std.specs.Prelude.{◌≡◌, ◌++◌, IfOk, IsTrue, MatchOption, OnOk};
 ghost use Rattle.version_lines.specs.Spelled.{line_key};
 
-use crate::head::head;
+use crate::sort::head::head;
 use crate::spelled::add_key;
 use std::alloc::AllocError;
 use std::cmp::Ordering;

@@ -1,7 +1,7 @@
 //! A line with what breaks the tie of its key.
 ghost use Rattle.std.specs.Prelude.{◌≡◌, IfOk};
 
-use crate::entry::Entry;
+use crate::sort::entry::Entry;
 use crate::spelled::tie_breaker;
 use std::alloc::{AllocError, Global};
 use std::cmp::Ordering;

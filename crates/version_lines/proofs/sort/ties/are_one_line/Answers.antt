@@ -1,9 +1,9 @@
 use Rattle.std.proofs.Common.{◌≡◌, ◌-◌, [], length, take, drop, get_or, rules, sym, ◌∙◌}
 use Rattle.std.proofs.lemmas.List.Elements.{All-more}
 use Rattle.version_lines.specs.Entry.{entry_line}
-use Rattle.version_lines.specs.declared.entry.Entry.{Entry}
+use Rattle.version_lines.specs.declared.sort.entry.Entry.{Entry}
 use Rattle.version_lines.proofs.TiedLemmas.{one_line-from_first}
-use Rattle.version_lines.proofs.ties.are_one_line.Goals as goal
+use Rattle.version_lines.proofs.sort.ties.are_one_line.Goals as goal
 
 pub loop-other-preserved : goal.loop-other-preserved
 loop-other-preserved c =

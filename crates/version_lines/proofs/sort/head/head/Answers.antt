@@ -1,7 +1,7 @@
 use Rattle.std.proofs.Common.{◌<◌, ℕ, arith}
 use Rattle.std.proofs.lemmas.List.Elements.{All-from_get_or}
 use Rattle.version_lines.proofs.HeadLemmas.{head-from_bytes}
-use Rattle.version_lines.proofs.head.head.Goals as goal
+use Rattle.version_lines.proofs.sort.head.head.Goals as goal
 
 pub returns-clause-value : goal.returns-clause-value
 returns-clause-value c =

@@ -2,7 +2,7 @@
 use Rattle.std.proofs.Common.{◌≡◌, map, take}
 use Rattle.std.specs.List.{All}
 use Rattle.version_lines.specs.Tied.{tied_entry, IsTied}
-use Rattle.version_lines.proofs.ties.read_again.Given as goal
+use Rattle.version_lines.proofs.sort.ties.read_again.Given as goal
 
 abbrev pub invariant-loop-entry : goal.invariant-loop-entry
 invariant-loop-entry l = (map tied_entry l.tied.items ≡ take l.entry-index l.run) × All IsTied l.tied.items
