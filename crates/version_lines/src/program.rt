@@ -50,7 +50,8 @@ pub fn run<R: Read, W: Write>(
     // else.
     ensures read { IsTrue (ask_for_input (map string_bytes words.now)) →
         OnOk result (IsAtEnd (R.remaining reader.new)) }
-    ensures written { OnOk result (IfSome (output_of (map string_bytes words.now) (R.remaining reader.old))
+    ensures written { OnOk result (IfSome
+        (output_of (map string_bytes words.now) (R.remaining reader.old))
         (Appends (W.contents writer.old) (W.contents writer.new))) }
 
     // The words are judged before anything is read, and before anything is written all was read, where the words ask
@@ -83,7 +84,8 @@ fn serve<R: Read, W: Write>(
 ) -> Result<(), Fault>
     ensures read { IsTrue (reads_input (plain_command command.entry)) →
         OnOk result (IsAtEnd (R.remaining reader.new)) }
-    ensures written { OnOk result (IfSome (command_output (R.remaining reader.old) (plain_command command.entry))
+    ensures written { OnOk result (IfSome
+        (command_output (R.remaining reader.old) (plain_command command.entry))
         (Appends (W.contents writer.old) (W.contents writer.new))) }
     ensures unread { reads_input (plain_command command.entry) ≡ false →
         Keeps (R.remaining reader.old) (R.remaining reader.new) }
@@ -93,7 +95,8 @@ fn serve<R: Read, W: Write>(
         ⊎ (IsErr result × Keeps (W.contents writer.old) (W.contents writer.new)) }
     ensures at_fault { IfErr result (GrowsAt (W.contents writer.old) (W.contents writer.new)
         (command_output (R.remaining reader.old) (plain_command command.entry))) }
-    ensures faults { IfErr result (ComesOfCommand (R.remaining reader.old) (plain_command command.entry)) }
+    ensures faults { IfErr result
+        (ComesOfCommand (R.remaining reader.old) (plain_command command.entry)) }
 {
     match command {
         Command::Cmp(first, second) => write_whole(writer, comparison(alloc, first, second)?),

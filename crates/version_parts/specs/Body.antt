@@ -1,12 +1,14 @@
 -- Bodies of general versions: one part or more, joined by dots, of which the last is read by rules of its own.
-use Rattle.std.specs.Prelude.{◌<◌, ◌++◌, ◌∷◌, ◌⊎◌, ℕ, List, [], length, map, Option, Some}
+use Rattle.std.specs.Prelude.{◌≡◌, ◌<◌, ◌-◌, ◌++◌, ◌∷◌, ◌⊎◌, ℕ, List, [], length, map, take, Option, Some}
 use Rattle.std.specs.Option.{option_map}
 use Rattle.version_parts.specs.declared.chunks.Chunks.{Chunks}
+use Rattle.version_parts.specs.declared.last.LastRef.{LastRef}
+use Rattle.version_parts.specs.declared.scan.Dotted.{Dotted}
 use Rattle.version_parts.specs.Bytes.{dot}
 use Rattle.version_parts.specs.Chunk.{PlainChunk, SpellsPart, part_front, plain_chunk}
-use Rattle.version_parts.specs.Front.{◌>>=◌, Front, dotted_front}
+use Rattle.version_parts.specs.Front.{◌>>=◌, Front, dotted_front, elements_at}
 use Rattle.version_parts.specs.Grammar.{SpellsDotted}
-use Rattle.version_parts.specs.Last.{IsLastOf, LastOwns, PlainLast, last_of, last_text}
+use Rattle.version_parts.specs.Last.{IsLastOf, LastOwns, PlainLast, last_of, last_text, plain_last_ref}
 use Rattle.version_parts.specs.Lists.{split_last}
 use Rattle.version_parts.specs.Release.{release_text}
 
@@ -51,3 +53,12 @@ body_text body = chunks_text body.0 ++ last_text body.1
 -- a body of more than a number owns memory
 abbrev pub BodyOwns : PlainBody → Type 0
 BodyOwns body = (0 < length body.0) ⊎ LastOwns body.1
+
+-- the body that a list of parts was scanned as: its parts but for the last one, and that one
+abbrev pub scanned_body : Dotted → LastRef → PlainBody
+scanned_body list last = (take (list.count - 1) (elements_at part_front list.text.now), plain_last_ref last)
+
+-- the list counts its parts, of which there is one, and the body is what they make
+abbrev pub IsScannedBody : Dotted → LastRef → Type 0
+IsScannedBody list last = (0 < list.count) × (list.count ≡ length (elements_at part_front list.text.now))
+    × (body_of (elements_at part_front list.text.now) ≡ Some (scanned_body list last))

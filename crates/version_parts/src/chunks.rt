@@ -1,6 +1,6 @@
 //! The chunks of a general version, and its body: the chunks with the last part behind them.
 
-ghost use Rattle.std.specs.Prelude.{◌≡◌, ◌<◌, ◌-◌, ◌∷◌, ◌++◌, [], refl, length, take, IfOk, OnErr, Some};
+ghost use Rattle.std.specs.Prelude.{◌≡◌, ◌<◌, ◌-◌, ◌∷◌, ◌++◌, [], refl, IfOk, OnErr, Some};
 ghost use Rattle.std.proofs.Common.{ap};
 ghost use Rattle.std.specs.Cmp.{eq_by_cmp_equiv, on_equiv, on_per, on_total, partial_equiv_from_equiv, po};
 ghost use Rattle.std.specs.Option.{option_map};
@@ -128,21 +128,15 @@ pub struct BodyRef<'a> {
 }
 
 impl<'a> Model for BodyRef<'a> {
-    ghost use Rattle.std.specs.Prelude.{◌≡◌, ◌<◌, ◌-◌, length, take, Some};
-    ghost use Rattle.version_parts.specs.Body.{body_of, PlainBody};
+    ghost use Rattle.version_parts.specs.Body.{PlainBody};
 
     ghost Value = { PlainBody };
 
-    ghost use Rattle.version_parts.specs.Chunk.{part_front};
-    ghost use Rattle.version_parts.specs.Front.{elements_at};
-    ghost use Rattle.version_parts.specs.Last.{plain_last_ref};
+    ghost use Rattle.version_parts.specs.Body.{scanned_body, IsScannedBody};
 
-    ghost view = { λ b. (take (b.list.count - 1) (elements_at part_front b.list.text.now), plain_last_ref b.last) };
+    ghost view = { λ body. scanned_body body.list body.last };
 
-    ghost invariant = { λ b. (0 < b.list.count)
-        × (b.list.count ≡ length (elements_at part_front b.list.text.now))
-        × (body_of (elements_at part_front b.list.text.now)
-        ≡ Some (take (b.list.count - 1) (elements_at part_front b.list.text.now), plain_last_ref b.last)) };
+    ghost invariant = { λ body. IsScannedBody body.list body.last };
 }
 
 impl<'a> BodyRef<'a> {
@@ -158,7 +152,8 @@ impl<'a> BodyRef<'a> {
     /// Its parts as they compare. Takes no memory.
     #[tactic(auto, using(crate::proofs::ListBytes::body_spelled))]
     pub fn parts(&self) -> ItemsLeft<'a, Part>
-        ensures { result ≡ items_bytes part_bytes (chunk_parts self.now.0 ++ part_key (last_text self.now.1) ∷ []) }
+        ensures { result ≡ items_bytes part_bytes
+            (chunk_parts self.now.0 ++ part_key (last_text self.now.1) ∷ []) }
     {
         ItemsLeft::spelled_by(self.list)
     }

@@ -5,7 +5,7 @@ ghost use Rattle.std.proofs.Common.{ap};
 ghost use Rattle.std.specs.Cmp.{eq_by_cmp_equiv, on_equiv, on_per, on_total, partial_equiv_from_equiv, po};
 ghost use Rattle.std.specs.Option.{option_map};
 ghost use Rattle.std.specs.Ordering.{as_partial_cmp, eq_by_cmp, on};
-ghost use Rattle.version_parts.specs.Chunk.{part_front, plain_chunk, plain_chunk_ref};
+ghost use Rattle.version_parts.specs.Chunk.{part_front, plain_chunk};
 ghost use Rattle.version_parts.specs.Front.{map_value};
 ghost use Rattle.version_parts.specs.Last as plain;
 ghost use Rattle.version_parts.specs.Last.{first_number, last_fed, last_of, last_text, numbered_last, plain_last, plain_last_ref, IsNumbered, LastOwns, PlainLast};

@@ -67,7 +67,8 @@ impl fmt::Display for Release {
 impl PartialEq for Release {
     ghost eq = { on plain_release (eq_by_cmp release_cmp) };
 
-    ghost laws = { on_per plain_release (partial_equiv_from_equiv (eq_by_cmp_equiv release_total)) };
+    ghost laws = { on_per plain_release
+        (partial_equiv_from_equiv (eq_by_cmp_equiv release_total)) };
 
     fn eq(&self, other: &Release) -> bool {
         self.cmp(other).is_eq()

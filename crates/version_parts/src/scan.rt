@@ -1,6 +1,6 @@
 //! Scans: what a reader reads, as pieces of its input, without memory. The crate of the kinds stands on them.
 
-ghost use Rattle.std.specs.Prelude.{◌≡◌, ◌<◌, ◌^◌, ◌++◌, ◌∷◌, [], List, drop, length, map, take, true, IfOk, IfSome, OnErr, Some, SomeIff};
+ghost use Rattle.std.specs.Prelude.{◌≡◌, ◌<◌, ◌^◌, List, drop, length, map, take, true, IfOk, IfSome, OnErr, Some, SomeIff};
 ghost use Rattle.std.specs.Option.{option_map};
 ghost use Rattle.std.specs.Char.{is_ascii_alphanumeric, is_ascii_digit};
 ghost use Rattle.std.specs.List.{list_all, prefix_len, take_while};

@@ -1,5 +1,7 @@
 -- Conversions of versions to a wider kind.
-use Rattle.std.specs.Prelude.{ℕ, List, [], ◌∷◌, ◌++◌, map, Option, Some, None}
+use Rattle.std.specs.Prelude.{ℕ, List, [], ◌∷◌, ◌++◌, ◌||◌, if◌then◌else◌, is_some, map, Option, Some, None}
+use Rattle.std.specs.declared.cmp.Ordering.{Ordering}
+use Rattle.std.specs.declared.cmp.Ordering.TheVariants.{Less, Equal}
 use Rattle.std.specs.Fmt.{decimal}
 use Rattle.version_parts.specs.Chunk as chunk
 use Rattle.version_parts.specs.Chunk.{PlainChunk, chunk_text}
@@ -20,6 +22,11 @@ version_of_semver v = record {
   release = v.pre_rel;
   meta = v.meta;
 }
+
+-- how a version stands to one that prints the same and has its release and metadata as sections: below it where there
+-- is one of the two
+abbrev pub below_sections : Option (List PlainChunk) → Option (List ℕ) → Ordering
+below_sections release meta = if is_some release || is_some meta then Less else Equal
 
 -- a number as digits
 abbrev pub digits_of_number : ℕ → PlainMChunk

@@ -1,17 +1,15 @@
 //! Versions as ones of a more lenient kind.
 
-ghost use Rattle.std.specs.Prelude.{◌≡◌, ◌<◌, ◌^◌, ◌∷◌, [], ◌++◌, ◌||◌, if◌then◌else◌, map, string_bytes, IfOk, IfSome};
-ghost use Rattle.std.specs.Fmt.{decimal};
+ghost use Rattle.std.specs.Prelude.{◌≡◌, ◌<◌, ◌^◌, ◌∷◌, [], ◌++◌, if◌then◌else◌, map, string_bytes, IfOk, IfSome};
 ghost use Rattle.std.specs.Option.{is_some, option_map};
 ghost use Rattle.std.specs.declared.cmp.Ordering.TheVariants.{Equal, Less};
-ghost use Rattle.version_parts.specs.Body.{plain_chunks};
 ghost use Rattle.version_parts.specs.Chunk.{plain_chunk};
 ghost use Rattle.version_parts.specs.Last.{plain_last};
 ghost use Rattle.version_parts.specs.MChunk.{plain_mchunk, Plain};
 ghost use Rattle.version_parts.specs.Release.{plain_release};
-ghost use Rattle.versions.specs.Conversions.{behind_epoch, body_section, digits_of_number, mchunk_of, mchunk_of_last, mess_of_semver, mess_of_version, meta_section, release_section, version_of_semver};
+ghost use Rattle.versions.specs.Conversions.{behind_epoch, below_sections, digits_of_number, mchunk_of, mchunk_of_last, mess_of_semver, mess_of_version, meta_section, release_section, version_of_semver};
 ghost use Rattle.versions.specs.Key.{key_of_mess, key_of_semver, key_of_version, precedence};
-ghost use Rattle.versions.specs.Mess.{mess_text, plain_further, plain_mess, plain_section};
+ghost use Rattle.versions.specs.Mess.{mess_text, plain_mess, plain_section};
 ghost use Rattle.versions.specs.SemVer.{plain_semver, semver_text};
 ghost use Rattle.versions.specs.Version.{plain_version, version_text};
 
@@ -29,7 +27,8 @@ impl SemVer {
         ensures fields { IfOk result (λ v. plain_version v
             ≡ version_of_semver (plain_semver self.now)) }
         // In precedence it is Equal to this one without a pre-release, and else above it.
-        ensures precedence { IfOk result (λ v. precedence (key_of_semver (plain_semver self.now)) (key_of_version (plain_version v))
+        ensures precedence { IfOk result (λ v. precedence (key_of_semver (plain_semver self.now))
+            (key_of_version (plain_version v))
             ≡ (if is_some (plain_semver self.now).pre_rel then Less else Equal)) }
     {
         numbers_fit(self);
@@ -43,8 +42,9 @@ impl SemVer {
         ensures printed { IfOk result (λ m. mess_text (plain_mess m)
             ≡ semver_text (plain_semver self.now)) }
         // In precedence it is Equal to this one without a pre-release and metadata, and else above it.
-        ensures precedence { IfOk result (λ m. precedence (key_of_semver (plain_semver self.now)) (key_of_mess (plain_mess m))
-            ≡ (if is_some (plain_semver self.now).pre_rel || is_some (plain_semver self.now).meta then Less else Equal)) }
+        ensures precedence { IfOk result (λ m.
+            precedence (key_of_semver (plain_semver self.now)) (key_of_mess (plain_mess m))
+            ≡ below_sections (plain_semver self.now).pre_rel (plain_semver self.now).meta) }
     {
         numbers_fit(self);
         convert_strict(alloc, self)
@@ -61,8 +61,9 @@ impl Version {
         ensures printed { IfOk result (λ m. mess_text (plain_mess m)
             ≡ version_text (plain_version self.now)) }
         // In precedence it is Equal to this one without a release and metadata, and else above it.
-        ensures precedence { IfOk result (λ m. precedence (key_of_version (plain_version self.now)) (key_of_mess (plain_mess m))
-            ≡ (if is_some (plain_version self.now).release || is_some (plain_version self.now).meta then Less else Equal)) }
+        ensures precedence { IfOk result (λ m.
+            precedence (key_of_version (plain_version self.now)) (key_of_mess (plain_mess m))
+            ≡ below_sections (plain_version self.now).release (plain_version self.now).meta) }
     {
         epoch_fits(self);
         convert_general(alloc, self)
@@ -114,7 +115,8 @@ fn join(
     meta: &Option<String>,
 ) -> Result<Mess, AllocError>
     ensures { IfOk result (λ m. plain_mess m ≡ behind_epoch epoch (plain_section body)
-        (release_section (option_map plain_release release.now) ++ meta_section (option_map string_bytes meta.now))) }
+        (release_section (option_map plain_release release.now)
+        ++ meta_section (option_map string_bytes meta.now))) }
 {
     let mut more = Vec::with_capacity(alloc, 3)?;
     let first = match epoch {

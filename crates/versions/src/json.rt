@@ -31,7 +31,8 @@ impl Versioning {
     /// first and takes no memory; `Illegal`, with `IllegalVersioning` and the string in it, where the string spells no
     /// version; and `Memory` where there is no memory for the version or for that string.
     pub fn deserialize_pretty(alloc: Global, value: &Value) -> Result<Versioning, JsonError>
-        ensures read { ReadsJson plain_versioning VersioningOwns IllegalVersioning versioning_of result (as_str (view value.now)) }
+        ensures read { ReadsJson plain_versioning VersioningOwns IllegalVersioning versioning_of result
+            (as_str (view value.now)) }
 
         // What was read is written as the string that it was read from.
         ensures written { IfOk result (λ v. view value.now
@@ -54,7 +55,8 @@ impl Requirement {
     /// at first and takes no memory; `Illegal`, with `IllegalOp` and the string in it, where the string spells no
     /// requirement; and `Memory` where there is no memory for the requirement or for that string.
     pub fn deserialize(alloc: Global, value: &Value) -> Result<Requirement, JsonError>
-        ensures read { ReadsJson plain_requirement RequirementOwns IllegalOp requirement_of result (as_str (view value.now)) }
+        ensures read { ReadsJson plain_requirement RequirementOwns IllegalOp requirement_of result
+            (as_str (view value.now)) }
 
         // What was read is written as the string that it was read from.
         ensures written { IfOk result (λ r. view value.now

@@ -260,7 +260,8 @@ fn next_piece<'a>(
     tail: &mut TailLeft<'a>,
     piece: &mut PieceBytes<'a>,
 ) -> bool
-    ensures { IsNext result (list_left list.old ++ tail_left tail.old) (list_left list.new ++ tail_left tail.new) piece.old piece.new }
+    ensures { IsNext result (list_left list.old ++ tail_left tail.old)
+        (list_left list.new ++ tail_left tail.new) piece.old piece.new }
 {
     list.next_piece(piece) || begin_tail(list, tail, piece)
 }
@@ -272,7 +273,8 @@ fn begin_tail<'a>(
     piece: &mut PieceBytes<'a>,
 ) -> bool
     requires { list_left list.old ≡ [] }
-    ensures { IsNext result (tail_left tail.old) (list_left list.new ++ tail_left tail.new) piece.old piece.new }
+    ensures { IsNext result (tail_left tail.old)
+        (list_left list.new ++ tail_left tail.new) piece.old piece.new }
 {
     match mem::replace(tail, TailLeft::Nothing) {
         TailLeft::Nothing => return false,

@@ -32,7 +32,8 @@ impl<'a> BodyPart<'a> {
 
     // How two parts compare, by their printed texts.
     fn compare(self, other: BodyPart<'_>) -> Ordering
-        ensures { result ≡ part_cmp (Some (key_of_part self.entry)) (Some (key_of_part other.entry)) }
+        ensures { result ≡ part_cmp (Some (key_of_part self.entry))
+            (Some (key_of_part other.entry)) }
     {
         compare_parts(self.text(), other.text())
     }

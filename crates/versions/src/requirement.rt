@@ -1,11 +1,10 @@
 //! Requirements: what `^1.2.3` and `>=1.0` ask for.
 
-ghost use Rattle.std.specs.Prelude.{◌≡◌, ◌↔◌, ◌++◌, IfOk, IfSome, IsSomeAnd, IsTrue, None, OnErr, Some};
+ghost use Rattle.std.specs.Prelude.{◌≡◌, ◌↔◌, IfOk, IfSome, IsSomeAnd, IsTrue, None, OnErr, Some};
 ghost use Rattle.std.specs.Option.{is_some, option_map};
 ghost use Rattle.version_parts.specs.Front.{Reads};
 ghost use Rattle.versions.specs.Errors.{IllegalOp, ReadsOr};
 ghost use Rattle.versions.specs.Matching.{AnswersFor, AsksOrder, IsConvex, IsOfKind, LooksAt, LooksAtVersions, Matches, MatchesCaret, MatchesOp, MatchesTilde};
-ghost use Rattle.versions.specs.Op.{op_front};
 ghost use Rattle.versions.specs.Requirement.{plain_requirement, requirement_front, requirement_of, requirement_text, PlainRequirement, RequirementOwns, SpellsRequirement};
 ghost use Rattle.versions.specs.VersioningRef.{plain_versioning_ref};
 ghost use Rattle.versions.specs.Versioning.{plain_versioning, versioning_of};
@@ -68,7 +67,8 @@ impl Requirement {
     /// The requirement that the whole text spells; else `Illegal`, with `IllegalOp` and the whole text in it. `Memory`
     /// comes where there is no memory for the version or for that text.
     pub fn from_str(alloc: Global, s: &str) -> Result<Requirement, ReadError>
-        ensures { ReadsOr plain_requirement RequirementOwns (IllegalOp s.now) result (requirement_of s.now) }
+        ensures { ReadsOr plain_requirement RequirementOwns (IllegalOp s.now) result
+            (requirement_of s.now) }
     {
         or_illegal(alloc, read_whole(alloc, s)?, s, Error::IllegalOp)
     }
@@ -126,10 +126,12 @@ impl Requirement {
     /// `<`, `<=`) is held against the key of the text, and `*` asks for any, without memory; `=`, `~` and `^` ask for
     /// versions of one kind, and look at one of that kind itself, where the error is that there is no memory for it.
     pub fn matches_spelled(&self, alloc: Global, s: &str) -> Result<Option<bool>, AllocError>
-        ensures set { IfOk result (λ answer. AnswersFor (Matches (plain_requirement self.now)) answer (versioning_of s.now)) }
+        ensures set { IfOk result (λ answer. AnswersFor
+            (Matches (plain_requirement self.now)) answer (versioning_of s.now)) }
 
         // Memory is wanted only where the text spells a version that is looked at itself.
-        ensures memory { OnErr result (IsSomeAnd (versioning_of s.now) (LooksAt (plain_requirement self.now))) }
+        ensures memory { OnErr result
+            (IsSomeAnd (versioning_of s.now) (LooksAt (plain_requirement self.now))) }
     {
         match VersioningRef::new(s) {
             Some(spelled) => Ok(Some(self.matches_scanned(alloc, &spelled)?)),
@@ -145,7 +147,8 @@ impl Requirement {
     ) -> Result<bool, AllocError>
         ensures set { IfOk result (λ asked. IsTrue asked
             ↔ Matches (plain_requirement self.now) (plain_versioning_ref spelled.now)) }
-        ensures memory { OnErr result (LooksAt (plain_requirement self.now) (plain_versioning_ref spelled.now)) }
+        ensures memory { OnErr result
+            (LooksAt (plain_requirement self.now) (plain_versioning_ref spelled.now)) }
     {
         match &self.version {
             Some(wanted) => asks_for_scanned(alloc, self.op, wanted, spelled),

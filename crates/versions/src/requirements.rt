@@ -97,7 +97,8 @@ impl Requirements {
     /// its key and `*` without memory, and `=`, `~` and `^` against the version itself, where that is of the kind that
     /// they ask for; the error is that there is no memory for it.
     pub fn matches_spelled(&self, alloc: Global, s: &str) -> Result<Option<bool>, AllocError>
-        ensures set { IfOk result (λ answer. AnswersFor (MatchesAll (plain_requirements self.now)) answer (versioning_of s.now)) }
+        ensures set { IfOk result (λ answer. AnswersFor
+            (MatchesAll (plain_requirements self.now)) answer (versioning_of s.now)) }
 
         // Memory is wanted only where the text spells a version that a member looks at itself.
         ensures memory { OnErr result (IsSomeAnd (versioning_of s.now)

@@ -1,12 +1,11 @@
 //! Strict versions.
 
-ghost use Rattle.std.specs.Prelude.{◌≡◌, ◌↔◌, refl, string_bytes, IfOk, IfSome, IsSomeAnd, IsTrue, None, OnErr, Some};
+ghost use Rattle.std.specs.Prelude.{◌≡◌, ◌↔◌, refl, IfOk, IfSome, IsSomeAnd, IsTrue, None, OnErr, Some};
 ghost use Rattle.std.specs.Cmp.{eq_by_cmp_equiv, on_equiv, on_per, on_total, partial_equiv_from_equiv, po};
 ghost use Rattle.std.specs.Option.{is_some, option_map};
 ghost use Rattle.std.specs.Ordering.{as_partial_cmp, eq_by_cmp, on};
 ghost use Rattle.version_parts.specs.Front.{optional, Reads};
-ghost use Rattle.version_parts.specs.Metadata.{meta_front};
-ghost use Rattle.version_parts.specs.Release.{plain_release, release_front};
+ghost use Rattle.version_parts.specs.Release.{plain_release};
 ghost use Rattle.version_parts.specs.Lists.{none_last_cmp};
 ghost use Rattle.version_parts.specs.ReleaseOrder.{release_cmp};
 ghost use Rattle.versions.specs.Errors.{IllegalSemver, ReadsOr};
@@ -223,7 +222,8 @@ impl PartialOrd for SemVer {
 
 // A pre-release is below none (SemVer 2.0, section 11).
 fn compare_pre_releases(a: &Option<Release>, b: &Option<Release>) -> Ordering
-    ensures { result ≡ none_last_cmp release_cmp (option_map plain_release a.now) (option_map plain_release b.now) }
+    ensures { result ≡ none_last_cmp release_cmp (option_map plain_release a.now)
+        (option_map plain_release b.now) }
 {
     match (a, b) {
         (Some(a), Some(b)) => a.cmp(b),

@@ -1,6 +1,6 @@
 //! General versions.
 
-ghost use Rattle.std.specs.Prelude.{◌≡◌, ◌↔◌, refl, string_bytes, IfOk, IfSome, IsSome, IsSomeAnd, IsTrue, None, OnErr, Some, []};
+ghost use Rattle.std.specs.Prelude.{◌≡◌, ◌↔◌, refl, IfOk, IfSome, IsSomeAnd, IsTrue, None, OnErr, Some, []};
 ghost use Rattle.std.proofs.Common.{ap};
 ghost use Rattle.std.specs.Cmp.{eq_by_cmp_equiv, on_equiv, on_per, on_total, partial_equiv_from_equiv, po};
 ghost use Rattle.std.specs.Option.{is_some, option_map};
@@ -84,7 +84,8 @@ impl Version {
     /// The general version that the whole text spells; else `Illegal`, with `IllegalVersion` and the whole text in it.
     /// `Memory` comes where there is no memory for the version or for that text.
     pub fn from_str(alloc: Global, s: &str) -> Result<Version, ReadError>
-        ensures { ReadsOr plain_version VersionOwns (IllegalVersion s.now) result (version_of s.now) }
+        ensures { ReadsOr plain_version VersionOwns (IllegalVersion s.now) result
+            (version_of s.now) }
     {
         or_illegal(alloc, read_whole(alloc, s)?, s, Error::IllegalVersion)
     }
@@ -143,7 +144,8 @@ impl Version {
     // How the keys of two versions compare.
     #[tactic(auto, using(crate::proofs::Orders::key_bytes_alone))]
     fn compare_keys(&self, other: &Version) -> Ordering
-        ensures { result ≡ precedence (key_of_version (plain_version self.now)) (key_of_version (plain_version other.now)) }
+        ensures { result ≡ precedence (key_of_version (plain_version self.now))
+            (key_of_version (plain_version other.now)) }
     {
         compare_keys(KeyBytes::of_version(self), KeyBytes::of_version(other))
     }
@@ -183,7 +185,8 @@ impl Version {
     /// final ones are the same and the final one is not below. Releases and metadata are not looked at. Takes no memory.
     pub fn matches_tilde(&self, other: &Version) -> bool
         ensures { IsTrue result
-            ↔ MatchesTilde (epoch_and_parts (plain_version self.now)) (epoch_and_parts (plain_version other.now)) }
+            ↔ MatchesTilde (epoch_and_parts (plain_version self.now))
+            (epoch_and_parts (plain_version other.now)) }
     {
         self.epoch_number() == other.epoch_number() && self.parts_match_tilde(other)
     }
@@ -194,7 +197,8 @@ impl Version {
     /// memory.
     pub fn matches_caret(&self, other: &Version) -> bool
         ensures { IsTrue result
-            ↔ MatchesCaret (epoch_and_parts (plain_version self.now)) (epoch_and_parts (plain_version other.now)) }
+            ↔ MatchesCaret (epoch_and_parts (plain_version self.now))
+            (epoch_and_parts (plain_version other.now)) }
     {
         self.epoch_number() == other.epoch_number()
             && parts_match_caret(BodyParts::of(self), BodyParts::of(other))
@@ -204,7 +208,8 @@ impl Version {
     // below.
     fn parts_match_tilde(&self, other: &Version) -> bool
         ensures { IsTrue result
-            ↔ PartsMatchTilde (epoch_and_parts (plain_version self.now)).1 (epoch_and_parts (plain_version other.now)).1 }
+            ↔ PartsMatchTilde (epoch_and_parts (plain_version self.now)).1
+            (epoch_and_parts (plain_version other.now)).1 }
     {
         self.compare_chunks(other).is_eq()
             && compare_parts(other.last.part_text(), self.last.part_text()).is_ge()
@@ -212,7 +217,8 @@ impl Version {
 
     // How the chunks compare as lists of parts.
     fn compare_chunks(&self, other: &Version) -> Ordering
-        ensures { result ≡ list_cmp (chunk_parts (plain_chunks self.now.chunks)) (chunk_parts (plain_chunks other.now.chunks)) }
+        ensures { result ≡ list_cmp (chunk_parts (plain_chunks self.now.chunks))
+            (chunk_parts (plain_chunks other.now.chunks)) }
     {
         compare_part_lists(self.chunks.0.as_slice(), other.chunks.0.as_slice())
     }
@@ -229,7 +235,8 @@ impl Version {
 impl PartialEq for Version {
     ghost eq = { on plain_version (eq_by_cmp version_plain_cmp) };
 
-    ghost laws = { on_per plain_version (partial_equiv_from_equiv (eq_by_cmp_equiv version_plain_total)) };
+    ghost laws = { on_per plain_version
+        (partial_equiv_from_equiv (eq_by_cmp_equiv version_plain_total)) };
 
     fn eq(&self, other: &Version) -> bool {
         self.compare_plain(other).is_eq()

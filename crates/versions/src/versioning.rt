@@ -76,7 +76,8 @@ impl Versioning {
     /// The version that the whole text spells; else `Illegal`, with `IllegalVersioning` and the whole text in it.
     /// `Memory` comes where there is no memory for the version or for that text.
     pub fn from_str(alloc: Global, s: &str) -> Result<Versioning, ReadError>
-        ensures { ReadsOr plain_versioning VersioningOwns (IllegalVersioning s.now) result (versioning_of s.now) }
+        ensures { ReadsOr plain_versioning VersioningOwns (IllegalVersioning s.now) result
+            (versioning_of s.now) }
     {
         or_illegal(alloc, read_whole(alloc, s)?, s, Error::IllegalVersioning)
     }
@@ -147,7 +148,8 @@ impl Versioning {
     /// Takes no memory.
     #[tactic(auto, using(crate::proofs::Orders::laws))]
     pub fn precedence(&self, other: &Versioning) -> Ordering
-        ensures keys { result ≡ precedence (key_of (plain_versioning self.now)) (key_of (plain_versioning other.now)) }
+        ensures keys { result ≡ precedence (key_of (plain_versioning self.now))
+            (key_of (plain_versioning other.now)) }
 
         // That order is total and transitive, and reversed by swapping, over all keys; on strict versions it is theirs.
         ensures total { IsTotalOrder precedence }
@@ -189,7 +191,8 @@ impl Versioning {
     /// How two versions compare by their kinds, and then field by field, which breaks the ties of precedence. Takes no
     /// memory.
     pub fn compare_plain(&self, other: &Versioning) -> Ordering
-        ensures { result ≡ versioning_plain_cmp (plain_versioning self.now) (plain_versioning other.now) }
+        ensures { result ≡ versioning_plain_cmp (plain_versioning self.now)
+            (plain_versioning other.now) }
     {
         match (self, other) {
             (Versioning::Ideal(a), Versioning::Ideal(b)) => a.cmp(b),
@@ -260,7 +263,8 @@ impl fmt::Display for Versioning {
 impl PartialEq for Versioning {
     ghost eq = { on plain_versioning (eq_by_cmp versioning_plain_cmp) };
 
-    ghost laws = { on_per plain_versioning (partial_equiv_from_equiv (eq_by_cmp_equiv versioning_plain_total)) };
+    ghost laws = { on_per plain_versioning
+        (partial_equiv_from_equiv (eq_by_cmp_equiv versioning_plain_total)) };
 
     fn eq(&self, other: &Versioning) -> bool {
         match (self, other) {
@@ -308,7 +312,8 @@ impl PartialOrd for Versioning {
 impl Hash for Versioning {
     ghost hash_input = { λ v. versioning_fed (plain_versioning v) };
 
-    ghost respects_eq = { λ a b tied. versions_fed_alike (plain_versioning a) (plain_versioning b) tied };
+    ghost respects_eq = { λ a b tied. versions_fed_alike (plain_versioning a)
+        (plain_versioning b) tied };
 
     fn hash<H: Hasher>(&self, state: &mut H) {
         match self {

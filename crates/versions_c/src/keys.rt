@@ -1,7 +1,6 @@
 //! The sort keys of versions, in a room of the caller's.
 
 ghost use Rattle.std.specs.Prelude.{◌≡◌, ◌≢◌, ◌↔◌, ◌+◌, ◌^◌, ◌<◌, ◌≤◌, ◌++◌, drop, length, slice_index, IfSome, IsTrue, List, Some, ℕ};
-ghost use Rattle.std.specs.Option.{option_map};
 ghost use Rattle.versions.specs.Key.{key_of};
 ghost use Rattle.versions.specs.KeyBytes.{key_bytes};
 ghost use Rattle.versions.specs.Versioning.{versioning_of, PlainVersioning};
@@ -63,7 +62,8 @@ pub extern "C" fn versions_sort_keys(
     ensures status { AreKeyOffsets offsets.now (length texts.now) (length key_offsets.old)
         → result ≡ room_status (all_keys texts.now offsets.now) (length keys.old) }
     ensures keys { result ≡ OK → keys.new
-        ≡ all_keys texts.now offsets.now ++ drop (length (all_keys texts.now offsets.now)) keys.old }
+        ≡ all_keys texts.now offsets.now
+        ++ drop (length (all_keys texts.now offsets.now)) keys.old }
 
     // Where they begin and end is told where there is too little room, too.
     ensures offsets { AreKeyOffsets offsets.now (length texts.now) (length key_offsets.old)
@@ -76,7 +76,8 @@ pub extern "C" fn versions_sort_keys(
         → result ≡ BAD_OFFSETS }
     ensures kept { ¬ (AreKeyOffsets offsets.now (length texts.now) (length key_offsets.old))
         → keys.new ≡ keys.old }
-    ensures kept_offsets { ¬ (AreKeyOffsets offsets.now (length texts.now) (length key_offsets.old)) → key_offsets.new ≡ key_offsets.old }
+    ensures kept_offsets { ¬ (AreKeyOffsets offsets.now (length texts.now)
+        (length key_offsets.old)) → key_offsets.new ≡ key_offsets.old }
 {
     let Some(count) = offsets.len().checked_sub(1) else {
         return BAD_OFFSETS;

@@ -17,7 +17,8 @@ use versions::key::compare_keys;
 /// By precedence.
 #[unsafe(no_mangle)]
 pub extern "C" fn versions_compare(a: &[u8], b: &[u8], order: &mut i32) -> i32
-    ensures status { result ≡ pair_status (is_some (versioning_of a.now)) (is_some (versioning_of b.now)) }
+    ensures status { result ≡ pair_status (is_some (versioning_of a.now))
+        (is_some (versioning_of b.now)) }
     ensures order { IfSome (versioning_of a.now)
         (λ v. IfSome (versioning_of b.now)
         (λ w. order.new ≡ sign (precedence (key_of v) (key_of w)))) }
@@ -66,7 +67,8 @@ fn precedence_of(a: &[u8], b: &[u8]) -> Option<Ordering>
 fn total_order_of(alloc: Global, a: &[u8], b: &[u8]) -> Result<Option<Ordering>, AllocError>
     ensures ok { IfOk result (λ o. o
         ≡ both versioning_cmp (versioning_of a.now) (versioning_of b.now)) }
-    ensures err { OnErr result (both (on key_of precedence) (versioning_of a.now) (versioning_of b.now) ≡ Some Equal) }
+    ensures err { OnErr result
+        (both (on key_of precedence) (versioning_of a.now) (versioning_of b.now) ≡ Some Equal) }
 {
     match precedence_of(a, b) {
         Some(Ordering::Equal) => plain_order_of(alloc, a, b),

@@ -1,6 +1,6 @@
 //! What bytes spell. Bytes that are no UTF-8 spell nothing.
 
-ghost use Rattle.std.specs.Prelude.{◌≡◌, ℕ, IfOk, IsSome, IsSomeAnd, OnErr};
+ghost use Rattle.std.specs.Prelude.{◌≡◌, IfOk, IsSome, IsSomeAnd, OnErr};
 ghost use Rattle.std.specs.Option.{option_map};
 ghost use Rattle.versions.specs.Key.{key_of};
 ghost use Rattle.versions.specs.KeyBytes.{key_bytes};

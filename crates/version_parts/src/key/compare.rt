@@ -48,7 +48,8 @@ pub fn compare_parts(a: PartText<'_>, b: PartText<'_>) -> Ordering
 
 /// How two lists of chunks compare as lists of parts. Takes no memory.
 pub fn compare_part_lists(a: &[Chunk], b: &[Chunk]) -> Ordering
-    ensures { result ≡ list_cmp (chunk_parts (map plain_chunk a.now)) (chunk_parts (map plain_chunk b.now)) }
+    ensures { result ≡ list_cmp (chunk_parts (map plain_chunk a.now))
+        (chunk_parts (map plain_chunk b.now)) }
 {
     compare_bytes(&mut ListBytes::parts(a), &mut ListBytes::parts(b))
 }

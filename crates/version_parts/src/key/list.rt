@@ -65,7 +65,8 @@ pub struct ItemsLeft<'a, C: Code> {
 impl<'a, C: Code> Model for ItemsLeft<'a, C> {
     ghost Value = { List ℕ };
 
-    ghost view = { λ left. items_bytes C.bytes (map C.key left.items.now) ++ items_bytes C.bytes (take left.count (elements_at C.key_front left.text.now)) };
+    ghost view = { λ left. items_bytes C.bytes (map C.key left.items.now)
+        ++ items_bytes C.bytes (take left.count (elements_at C.key_front left.text.now)) };
 }
 
 impl<'a, C: Code> ItemsLeft<'a, C> {
@@ -84,7 +85,8 @@ impl<'a, C: Code> ItemsLeft<'a, C> {
     /// The elements of a list that was scanned.
     #[inline(always)]
     pub fn spelled_by(list: Dotted<'a>) -> ItemsLeft<'a, C>
-        ensures { result ≡ items_bytes C.bytes (take list.entry.count (elements_at C.key_front list.entry.text.now)) }
+        ensures { result ≡ items_bytes C.bytes
+            (take list.entry.count (elements_at C.key_front list.entry.text.now)) }
     {
         ItemsLeft {
             items: &[],

@@ -199,7 +199,8 @@ impl<'a> PieceBytes<'a> {
     #[tactic(auto, using(crate::proofs::ListBytes::plain_number))]
     #[inline(always)]
     pub(crate) fn set_chunk_as_part(&mut self, chunk: ChunkRef<'a>)
-        ensures { self.new ≡ part_bytes (Some (part_key (chunk_text (plain_chunk_ref chunk.entry)))) }
+        ensures { self.new ≡ part_bytes
+            (Some (part_key (chunk_text (plain_chunk_ref chunk.entry)))) }
     {
         match chunk {
             ChunkRef::Numeric(number) => self.set_plain_part(number),

@@ -1,6 +1,6 @@
 //! The printed text of a part, byte after byte.
 
-ghost use Rattle.std.specs.Prelude.{◌≡◌, ◌==◌, ◌≤◌, ◌++◌, [], List, ℕ, drop, length, slice_get, true};
+ghost use Rattle.std.specs.Prelude.{◌≡◌, ◌==◌, ◌++◌, [], List, ℕ, drop, slice_get, true};
 ghost use Rattle.std.specs.Char.{is_ascii_digit};
 ghost use Rattle.std.specs.Fmt.{decimal};
 ghost use Rattle.std.specs.Iterator.{item_count, YieldsFirst};

@@ -52,7 +52,8 @@ fn bodies()
 /// A release is read behind its hyphen as releases are spelled, and prints as its text.
 fn releases()
     ensures sound { IsSound SpellsRelease (dotted_front chunk_front) }
-    ensures complete { IsComplete SpellsRelease (EndsList (EndsRun is_identifier_byte)) (dotted_front chunk_front) }
+    ensures complete { IsComplete SpellsRelease (EndsList (EndsRun is_identifier_byte))
+        (dotted_front chunk_front) }
     ensures printed { IsPrinted SpellsRelease release_text }
 {}
 
@@ -68,5 +69,6 @@ fn messy_chunks()
 /// Build metadata is read behind its plus as it is spelled.
 fn metadata()
     ensures sound { IsSound SpellsMetadata (run_front is_metadata_byte) }
-    ensures complete { IsComplete SpellsMetadata (EndsRun is_metadata_byte) (run_front is_metadata_byte) }
+    ensures complete { IsComplete SpellsMetadata (EndsRun is_metadata_byte)
+        (run_front is_metadata_byte) }
 {}

@@ -108,7 +108,8 @@ fn split_of_text()
         → split_of text ≡ record { before = text; number = None } }
     ensures cut { (before digits rest : List ℕ) → list_any is_ascii_digit before ≡ false
         → is_digits digits ≡ true → starts_with_digit rest ≡ false
-        → split_of (before ++ (digits ++ rest)) ≡ record { before = before; number = Some (digits_value 10 digits, rest) } }
+        → split_of (before ++ (digits ++ rest))
+        ≡ record { before = before; number = Some (digits_value 10 digits, rest) } }
 {}
 
 /// A part is the number of the run of digits that its text begins with, and else a word; a number in decimal is itself.

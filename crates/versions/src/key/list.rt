@@ -85,7 +85,9 @@ impl<'a> PartsLeft<'a> {
     #[tactic(auto, using(crate::proofs::SpelledKey::parts_written))]
     #[inline(always)]
     pub fn of(chunks: &'a Chunks, last: &'a Last) -> PartsLeft<'a>
-        ensures { result ≡ parts_bytes (chunk_parts (plain_chunks chunks.now) ++ part_key (last_text (plain_last last.now)) ∷ []) }
+        ensures { result ≡ parts_bytes
+            (chunk_parts (plain_chunks chunks.now)
+            ++ part_key (last_text (plain_last last.now)) ∷ []) }
     {
         PartsLeft {
             items: ItemsLeft::of(chunks.0.as_slice()),
@@ -98,7 +100,8 @@ impl<'a> PartsLeft<'a> {
     #[tactic(auto, using(version_parts::proofs::ListBytes::ended))]
     #[inline(always)]
     pub fn spelled_by(body: &BodyRef<'a>) -> PartsLeft<'a>
-        ensures { result ≡ parts_bytes (chunk_parts body.now.0 ++ part_key (last_text body.now.1) ∷ []) }
+        ensures { result ≡ parts_bytes
+            (chunk_parts body.now.0 ++ part_key (last_text body.now.1) ∷ []) }
     {
         PartsLeft {
             items: body.parts(),
