@@ -1,5 +1,6 @@
 //! The program `bench_growth`: what each call takes on one long version, for a byte of its text. Where the work grows with
-//! the text and no faster, that is the same for a text of any length. `bench/growth` runs it.
+//! the text and no faster, that is the same for a text of any length. `bench/growth` runs it. By the word `check`, as the
+//! gate runs it, it makes the same calls on short texts, and prints these and no time.
 #![tactic(auto)]
 
 mod calls;
@@ -11,12 +12,21 @@ use std::num::nearest_usize_to_f64;
 use std::time::Duration;
 use std::{env, io};
 
-const USAGE: &str = "usage: bench_growth signs|letters|dots|metadata MEGABYTES";
+const USAGE: &str =
+    "usage: bench_growth signs|letters|dots|metadata MEGABYTES, or bench_growth check";
 
 const ROUNDS: u8 = 3;
 
+// The bytes of a short text.
+const FEW: usize = 19;
+
 fn main(rt: HostRuntime) -> io::Result<()> {
     let words: Vec<String> = env::args(&rt)?.skip(1).collect(rt.alloc())?;
+    if let [word] = words.as_slice()
+        && word.as_str() == "check"
+    {
+        return check(&rt);
+    }
     match wanted(words.as_slice()) {
         Some((shape, bytes)) => {
             let text = shape.text(rt.alloc(), bytes)?;
@@ -25,6 +35,20 @@ fn main(rt: HostRuntime) -> io::Result<()> {
         }
         None => println!(rt; "{USAGE}"),
     }
+}
+
+// A line for each shape, with a short text of it and the calls that were made and looked at.
+fn check(rt: &HostRuntime) -> io::Result<()> {
+    for (name, shape) in shape::ALL {
+        let text = shape.text(rt.alloc(), FEW)?;
+        times(rt, text.as_str())?;
+        print!(rt; "{name} {text}:")?;
+        for call in NAMES {
+            print!(rt; " {call}")?;
+        }
+        println!(rt)?;
+    }
+    Ok(())
 }
 
 // The shape and the bytes that the words ask for.

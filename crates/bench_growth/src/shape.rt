@@ -15,16 +15,20 @@ pub enum Shape {
     Metadata,
 }
 
+/// The shapes by their names.
+pub const ALL: [(&str, Shape); 4] = [
+    ("signs", Shape::Signs),
+    ("letters", Shape::Letters),
+    ("dots", Shape::Dots),
+    ("metadata", Shape::Metadata),
+];
+
 impl Shape {
     /// The shape of that name.
     pub fn named(name: &str) -> Option<Shape> {
-        match name {
-            "signs" => Some(Shape::Signs),
-            "letters" => Some(Shape::Letters),
-            "dots" => Some(Shape::Dots),
-            "metadata" => Some(Shape::Metadata),
-            _ => None,
-        }
+        ALL.iter()
+            .find(|(known, _)| *known == name)
+            .map(|(_, shape)| *shape)
     }
 
     /// A version of this shape, of as many bytes or one more.
