@@ -1,5 +1,6 @@
 //! That unequal values hash apart, which no clause says: what a hash is fed with is proved.
 
+use std::hash::Hash;
 use std::test::Fail;
 use vectors_support::{any, are_apart, form, general, hash_of, messy, strict};
 use versions::{Chunk, Chunks, Last, MChunk, Release, Sep};
@@ -31,16 +32,19 @@ fn unequal_values_hash_apart(rt: HostRuntime) -> Result<(), Fail> {
 
 fn hash(rt: &impl AllocGlobal, of: &str, value: &str) -> Result<u64, Fail> {
     match of {
-        "Chunk" => Ok(hash_of(&form::<Chunk>(rt, value)?)),
-        "Chunks" => Ok(hash_of(&form::<Chunks>(rt, value)?)),
-        "Release" => Ok(hash_of(&form::<Release>(rt, value)?)),
-        "Last" => Ok(hash_of(&form::<Last>(rt, value)?)),
-        "MChunk" => Ok(hash_of(&form::<MChunk>(rt, value)?)),
-        "Sep" => Ok(hash_of(&form::<Sep>(rt, value)?)),
-        "SemVer" => Ok(hash_of(&strict(rt, value)?)),
-        "Version" => Ok(hash_of(&general(rt, value)?)),
-        "Mess" => Ok(hash_of(&messy(rt, value)?)),
-        "Versioning" => Ok(hash_of(&any(rt, value)?)),
-        _ => Err("no such type".into()),
+        "Chunk" => hash_read::<Chunk>(form(rt, value)),
+        "Chunks" => hash_read::<Chunks>(form(rt, value)),
+        "Release" => hash_read::<Release>(form(rt, value)),
+        "Last" => hash_read::<Last>(form(rt, value)),
+        "MChunk" => hash_read::<MChunk>(form(rt, value)),
+        "Sep" => hash_read::<Sep>(form(rt, value)),
+        "SemVer" => hash_read(strict(rt, value)),
+        "Version" => hash_read(general(rt, value)),
+        "Mess" => hash_read(messy(rt, value)),
+        _ => hash_read(any(rt, value)),
     }
+}
+
+fn hash_read<T: Hash + Drop>(value: Result<T, Fail>) -> Result<u64, Fail> {
+    Ok(hash_of(&value?))
 }

@@ -1,6 +1,8 @@
 //! Requirements, their operators and lists of them: what is read, what is not, what is printed, and that unequal ones
 //! hash apart.
 
+use std::alloc::AllocError;
+use std::hash::Hash;
 use std::test::Fail;
 use vectors_support::{answered, are_apart, columns, hash_of, prints, shown};
 use versions::{Op, Requirement, Requirements};
@@ -55,30 +57,36 @@ const APART: &str = "* =1.0.0 =1.0.1 >1.0.0 ~1.0.0 ^1.0.0 =1.0";
 const LISTS_APART: &str = "* *,* =1.0.0 =1.0.0,* *,=1.0.0 =1.0.0,>1.0.0";
 
 #[test]
-fn unequal_values_hash_apart(rt: HostRuntime) -> Result<(), Fail> {
-    are_apart(&[hash_of(&Op::Exact), hash_of(&Op::Greater)])?;
+fn unequal_requirements_hash_apart(rt: HostRuntime) -> Result<(), Fail> {
     let mut hashes = Vec::new(rt.alloc());
     for text in APART.split(' ') {
-        let requirement = Requirement::new(rt.alloc(), text)?;
-        hashes.push(hash_of(&requirement.ok_or("no requirement")?))?;
+        hashes.push(hash_read(Requirement::new(rt.alloc(), text))?)?;
     }
     are_apart(hashes.as_slice())?;
-    hashes.clear();
+    are_apart(&[hash_of(&Op::Exact), hash_of(&Op::Greater)])
+}
+
+#[test]
+fn unequal_lists_hash_apart(rt: HostRuntime) -> Result<(), Fail> {
+    let mut hashes = Vec::new(rt.alloc());
     for text in LISTS_APART.split(' ') {
-        let list = Requirements::new(rt.alloc(), text)?;
-        hashes.push(hash_of(&list.ok_or("no list")?))?;
+        hashes.push(hash_read(Requirements::new(rt.alloc(), text))?)?;
     }
     are_apart(hashes.as_slice())
 }
 
 // What a call answers for a text: a value by `Debug`, an error by `Display` and `Debug`.
-fn answer(rt: &impl AllocGlobal, call: &str, text: &str) -> Result<String, Fail> {
+fn answer(rt: &impl AllocGlobal, call: &str, text: &str) -> Result<String, AllocError> {
     match call {
-        "Requirement::new" => Ok(shown(rt, &Requirement::new(rt.alloc(), text)?)?),
-        "Requirement::parse" => Ok(shown(rt, &Requirement::parse(rt.alloc(), text)?)?),
-        "Requirement::from_str" => Ok(answered(rt, Requirement::from_str(rt.alloc(), text))?),
-        "Requirements::new" => Ok(shown(rt, &Requirements::new(rt.alloc(), text)?)?),
-        "Requirements::from_str" => Ok(answered(rt, Requirements::from_str(rt.alloc(), text))?),
-        _ => Err("no such call".into()),
+        "Requirement::new" => answered(rt, Requirement::new(rt.alloc(), text)),
+        "Requirement::parse" => answered(rt, Requirement::parse(rt.alloc(), text)),
+        "Requirement::from_str" => answered(rt, Requirement::from_str(rt.alloc(), text)),
+        "Requirements::new" => answered(rt, Requirements::new(rt.alloc(), text)),
+        _ => answered(rt, Requirements::from_str(rt.alloc(), text)),
     }
+}
+
+fn hash_read<T: Hash + Drop>(value: Result<Option<T>, AllocError>) -> Result<u64, Fail> {
+    let value = value?.ok_or("not read")?;
+    Ok(hash_of(&value))
 }
