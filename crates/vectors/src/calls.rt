@@ -52,13 +52,25 @@ fn of_versions(rt: &impl AllocGlobal, call: &str, text: &str) -> Result<String, 
 
 // The calls of a chunk, which is that of a text.
 fn of_chunks(rt: &impl AllocGlobal, call: &str, text: &str) -> Result<String, AllocError> {
-    let Some((chunk, _)) = Chunk::parse(rt.alloc(), text)? else {
-        return shown(rt, &"no chunk");
-    };
+    match Chunk::parse(rt.alloc(), text)? {
+        Some((chunk, _)) if call == "Last::from_chunk" => last_of(rt, chunk),
+        Some((chunk, _)) => digits_of(rt, call, &chunk),
+        None => shown(rt, &"no chunk"),
+    }
+}
+
+fn last_of(rt: &impl AllocGlobal, chunk: Chunk) -> Result<String, AllocError> {
+    match Last::from_chunk(rt.alloc(), chunk) {
+        Ok(last) => shown(rt, &last),
+        Err((_, refused)) => Err(refused),
+    }
+}
+
+fn digits_of(rt: &impl AllocGlobal, call: &str, chunk: &Chunk) -> Result<String, AllocError> {
     match call {
         "single_digit" => shown(rt, &chunk.single_digit()),
         "single_digit_lenient" => shown(rt, &chunk.single_digit_lenient()),
         "single_digit_lenient_post" => shown(rt, &chunk.single_digit_lenient_post()),
-        _ => shown(rt, &Last::from_chunk(rt.alloc(), chunk)),
+        _ => shown(rt, &"no such call"),
     }
 }

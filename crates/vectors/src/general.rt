@@ -3,10 +3,10 @@
 use crate::calls::answer;
 use std::test::Fail;
 
-const PARTS: &str = r#"Last::from_chunk|1rc2|Ok(Rc(1, "rc", 2))
-Last::from_chunk|7b|Ok(Post(7, "b"))
-Last::from_chunk|0rc01|Ok(Alphanum("0rc01"))
-Last::from_chunk|01rc1|Ok(Alphanum("01rc1"))
+const PARTS: &str = r#"Last::from_chunk|1rc2|Rc(1, "rc", 2)
+Last::from_chunk|7b|Post(7, "b")
+Last::from_chunk|0rc01|Alphanum("0rc01")
+Last::from_chunk|01rc1|Alphanum("01rc1")
 single_digit|1|Some(1)
 single_digit|abc|None
 single_digit_lenient|1abc|Some(1)

@@ -1,6 +1,7 @@
 //! Messy versions and their chunks: what is read, what is not, and what `Debug` writes, which no clause says.
 
 use crate::calls::answer;
+use std::alloc::AllocError;
 use std::test::Fail;
 use vectors_support::{any, holds, messy};
 
@@ -113,23 +114,20 @@ fn pretty_debug_indents_each_section(rt: HostRuntime) -> Result<(), Fail> {
 #[test]
 fn debug_passes_its_options_on(rt: HostRuntime) -> Result<(), Fail> {
     let mess = messy(&rt, "7")?;
-    holds_seven(&rt, format!(in rt.alloc(); "{mess:03?}")?, "007")?;
-    holds_seven(&rt, format!(in rt.alloc(); "{mess:#03?}")?, "007")?;
-    holds_seven(&rt, format!(in rt.alloc(); "{mess:#3?}")?, "  7")?;
-    holds_seven(&rt, format!(in rt.alloc(); "{mess:x<#3?}")?, "7xx")?;
-    holds_seven(&rt, format!(in rt.alloc(); "{mess:x^#3?}")?, "x7x")?;
-    holds_seven(&rt, format!(in rt.alloc(); "{mess:x>#3?}")?, "xx7")?;
-    holds_seven(&rt, format!(in rt.alloc(); "{mess:+#?}")?, "+7")
+    has(format!(in rt.alloc(); "{mess:03?}"), "Digits(007, \"7\")")?;
+    has(format!(in rt.alloc(); "{mess:#03?}"), "  007,\n")?;
+    has(format!(in rt.alloc(); "{mess:#3?}"), "    7,\n")?;
+    has(format!(in rt.alloc(); "{mess:x<#3?}"), "  7xx,\n")?;
+    has(format!(in rt.alloc(); "{mess:x^#3?}"), "  x7x,\n")?;
+    has(format!(in rt.alloc(); "{mess:x>#3?}"), "  xx7,\n")?;
+    has(format!(in rt.alloc(); "{mess:+#?}"), "  +7,\n")
 }
 
-// Fails where the number of the version `7` is written otherwise, on one line or over several.
-fn holds_seven(rt: &impl AllocGlobal, shown: String, number: &str) -> Result<(), Fail> {
-    let line = format!(in rt.alloc(); "Mess {{ chunks: [Digits({number}, \"7\")], next: None }}")?;
-    let lines = format!(in rt.alloc();
-        "Mess {{\n    chunks: [\n        Digits(\n            {number},\n            \"7\",\n        ),\n    ],\n    next: None,\n}}"
-    )?;
+// Fails where a text doesn't have a piece.
+fn has(shown: Result<String, AllocError>, piece: &str) -> Result<(), Fail> {
+    let shown = shown?;
     holds(
-        shown == line || shown == lines,
-        format_args!("{shown} is written for {number}"),
+        shown.as_str().contains(piece),
+        format_args!("{shown} without {piece}"),
     )
 }

@@ -27,6 +27,7 @@ fn a_reader_that_fails(rt: HostRuntime) -> Result<(), Fail> {
     for row in &READING {
         let row = Row::of(&rt, row)?;
         for given in 0..=row.input.len() {
+            let given = row.input.get(..given).ok_or("too much")?;
             for step in [1, 2, 100] {
                 row.fails_to_read(given, step, ErrorKind::Other)?;
                 row.fails_to_read(given, step, ErrorKind::Interrupted)?;
@@ -98,49 +99,40 @@ impl<'a> Row<'a> {
     }
 
     // A reader that fails after so many bytes is a fault, and nothing is written.
-    fn fails_to_read(&self, given: usize, step: usize, kind: ErrorKind) -> Result<(), Fail> {
-        let given = self.input.as_bytes().get(..given).ok_or("too much")?;
-        let mut reader = Giver::of(given, step, Some(kind));
+    fn fails_to_read(&self, given: &str, step: usize, kind: ErrorKind) -> Result<(), Fail> {
+        let mut reader = Giver::of(given.as_bytes(), step, Some(kind));
         let mut writer = Taker::new(self.alloc, usize::MAX, None);
-        let outcome = run(self.alloc, self.words.as_slice(), &mut reader, &mut writer);
+        let outcome = self.run(&mut reader, &mut writer);
+        let all = reader.input.is_empty() && writer.calls == 0;
         holds(
-            outcome == Err(Fault::Read),
-            "another outcome than a failed read",
-        )?;
-        holds(reader.input.is_empty(), "some input is left")?;
-        holds(writer.calls == 0, "something is written")
+            outcome == Err(Fault::Read) && all,
+            format_args!("{outcome:?} after a failed read of {given:?}, {all}"),
+        )
     }
 
     // A reader that always fails is not read.
     fn reads_nothing(&self) -> Result<(), Fail> {
         let mut reader = Giver::of(b"", 1, Some(ErrorKind::Other));
         let mut writer = Taker::new(self.alloc, usize::MAX, None);
-        let outcome = run(self.alloc, self.words.as_slice(), &mut reader, &mut writer);
-        holds(outcome == Ok(()), "a fault")?;
-        holds(reader.calls == 0, "the reader is called")?;
+        let outcome = self.run(&mut reader, &mut writer);
+        let all = reader.calls == 0 && writer.taken.as_slice() == self.output.as_bytes();
         holds(
-            writer.taken.as_slice() == self.output.as_bytes(),
-            "another output",
+            outcome == Ok(()) && all,
+            format_args!("{outcome:?} where nothing is read, {all}"),
         )
     }
 
     // A writer that takes a byte at each of so many calls, and then fails or takes none, has the beginning of the output.
     fn fails_to_write(&self, calls: usize, kind: Option<ErrorKind>) -> Result<(), Fail> {
-        let mut reader = self.input.as_bytes();
+        let mut reader = Giver::of(self.input.as_bytes(), usize::MAX, None);
         let mut writer = Taker::new(self.alloc, 1, Some((calls, kind)));
-        let outcome = run(self.alloc, self.words.as_slice(), &mut reader, &mut writer);
-        holds(
-            outcome == Err(Fault::Write),
-            "another outcome than a failed write",
-        )?;
+        let outcome = self.run(&mut reader, &mut writer);
         let wanted = self.output.as_bytes().get(..calls);
+        let all = Some(writer.taken.as_slice()) == wanted
+            && writer.calls == calls.saturating_add(1);
         holds(
-            Some(writer.taken.as_slice()) == wanted,
-            "another beginning of the output",
-        )?;
-        holds(
-            writer.calls == calls.saturating_add(1),
-            "the writer is called again",
+            outcome == Err(Fault::Write) && all,
+            format_args!("{outcome:?} after {calls} calls, {all}"),
         )
     }
 
@@ -148,20 +140,27 @@ impl<'a> Row<'a> {
     fn is_written(&self) -> Result<(), Fail> {
         let mut reader = Giver::of(self.input.as_bytes(), 1, None);
         let mut writer = Taker::new(self.alloc, 1, None);
-        let outcome = run(self.alloc, self.words.as_slice(), &mut reader, &mut writer);
-        holds(outcome == Ok(()), "a fault")?;
+        let outcome = self.run(&mut reader, &mut writer);
+        let all = writer.taken.as_slice() == self.output.as_bytes();
         holds(
-            writer.taken.as_slice() == self.output.as_bytes(),
-            "another output",
+            outcome == Ok(()) && all,
+            format_args!("{outcome:?} over pieces of one byte, {all}"),
         )
     }
 
     // A writer that always fails is not called where nothing is to be written.
     fn writes_nothing(&self) -> Result<(), Fail> {
-        let mut reader = self.input.as_bytes();
+        let mut reader = Giver::of(self.input.as_bytes(), 1, None);
         let mut writer = Taker::new(self.alloc, 1, Some((0, Some(ErrorKind::Other))));
-        let outcome = run(self.alloc, self.words.as_slice(), &mut reader, &mut writer);
-        holds(outcome == Ok(()), "a fault")
+        let outcome = self.run(&mut reader, &mut writer);
+        holds(
+            outcome == Ok(()),
+            format_args!("{outcome:?} where nothing is written"),
+        )
+    }
+
+    fn run(&self, reader: &mut Giver<'_>, writer: &mut Taker) -> Result<(), Fault> {
+        run(self.alloc, self.words.as_slice(), reader, writer)
     }
 }
 

@@ -191,13 +191,19 @@ fn read(rt: &impl AllocGlobal, text: &str, kind: &str) -> Result<Versioning, Fai
 // A version of a great text is printed, copied, compared, hashed and keyed.
 fn goes_through(rt: &impl AllocGlobal, version: &Versioning, text: &str) -> Result<(), Fail> {
     prints(rt, version, text)?;
-    let copy = version.clone(rt.alloc())?;
-    holds(copy == *version, "`==`")?;
+    is_same(version, &version.clone(rt.alloc())?)?;
+    is_key(version, version.sort_key(rt.alloc())?.as_slice())?;
+    holds(version.nth(usize::MAX).is_none(), "a number")
+}
+
+fn is_same(version: &Versioning, copy: &Versioning) -> Result<(), Fail> {
+    holds(copy == version, "`==`")?;
     holds(copy.cmp(version).is_eq(), "`Ord`")?;
     holds(copy.precedence(version).is_eq(), "precedence")?;
-    holds(hash_of(&copy) == hash_of(version), "the hash")?;
-    holds(version.nth(usize::MAX).is_none(), "a number")?;
-    let key = version.sort_key(rt.alloc())?;
+    holds(hash_of(copy) == hash_of(version), "the hash")
+}
+
+fn is_key(version: &Versioning, key: &[u8]) -> Result<(), Fail> {
     let answer = compare_bytes(&mut version.key_bytes(), &mut key.iter().copied());
     holds(answer.is_eq(), "the bytes of the key")
 }
@@ -208,8 +214,7 @@ fn spells_key(text: &str, version: &Versioning, list: &mut Vec<u8>) -> Result<()
     let answer = compare_bytes(&mut spelled, &mut version.key_bytes());
     holds(answer.is_eq(), "the bytes of the text's key")?;
     KeyBytes::spelled_by(text).ok_or("no key")?.append_to(list)?;
-    let answer = compare_bytes(&mut list.iter().copied(), &mut version.key_bytes());
-    holds(answer.is_eq(), "the text's key")
+    is_key(version, list.as_slice())
 }
 
 // A text with an end that no version has spells none, and has no key.
