@@ -1,115 +1,85 @@
 //! The forms that serde derives of strict and general versions and of the parts of all versions: their JSON texts, and
-//! what is refused.
+//! what is refused. No clause says what they are.
 
 use serde::{DeserializeOwned, Serialize};
 use serde_json::Value;
-use std::fmt::Debug;
-use std::process::Abort;
+use std::fmt::{Debug, Display};
 use std::test::Fail;
-use vectors_support::shows;
+use vectors_support::holds;
 use versions::{Chunk, Chunks, Last, MChunk, Release, SemVer, Sep, Version};
 
-#[test]
-fn chunks_and_lists_of_them(rt: HostRuntime) -> Result<(), Fail> {
-    comes_back::<Chunk>(&rt, r#"{"Numeric":4294967295}"#, "Numeric(4294967295)")?;
-    comes_back::<Chunk>(&rt, r#"{"Alphanum":"rc-1"}"#, r#"Alphanum("rc-1")"#)?;
-    comes_back::<Chunks>(
-        &rt,
-        r#"[{"Numeric":1},{"Numeric":2}]"#,
-        "Chunks([Numeric(1), Numeric(2)])",
-    )?;
-    comes_back::<Release>(&rt, "[]", "Release([])")?;
-    comes_back::<Release>(&rt, r#"[{"Numeric":3}]"#, "Release([Numeric(3)])")
-}
+// Types and forms of their values, what these print, and what `Debug` writes of them; or that a document is no form.
+const FORMS: &str = r#"Chunk {"Numeric":4294967295}|4294967295|Numeric(4294967295)
+Chunk {"Alphanum":"rc-1"}|rc-1|Alphanum("rc-1")
+Chunks [{"Numeric":1},{"Numeric":2}]|1.2|Chunks([Numeric(1), Numeric(2)])
+Release []||Release([])
+Release [{"Numeric":3}]|3|Release([Numeric(3)])
+Last {"Numeric":3}|3|Numeric(3)
+Last {"Rc":[0,"rc",1]}|0rc1|Rc(0, "rc", 1)
+Last {"Post":[2,"a"]}|2a|Post(2, "a")
+Last {"Alphanum":"git"}|git|Alphanum("git")
+MChunk {"Digits":[7,"007"]}|007|Digits(7, "007")
+MChunk {"Rev":[1,"r1"]}|r1|Rev(1, "r1")
+MChunk {"Plain":"a\"\\"}|a"\|Plain("a\"\\")
+Sep "Colon"|:|Colon
+Sep "Hyphen"|-|Hyphen
+Sep "Plus"|+|Plus
+Sep "Underscore"|_|Underscore
+Sep "Tilde"|~|Tilde
+SemVer {"major":1,"minor":2,"patch":3,"pre_rel":null,"meta":null}|1.2.3|SemVer { major: 1, minor: 2, patch: 3, pre_rel: None, meta: None }
+SemVer {"major":1,"minor":2,"patch":3,"pre_rel":[{"Alphanum":"rc"}],"meta":"x86"}|1.2.3-rc+x86|SemVer { major: 1, minor: 2, patch: 3, pre_rel: Some(Release([Alphanum("rc")])), meta: Some("x86") }
+Version {"epoch":null,"chunks":[],"last":{"Numeric":0},"release":null,"meta":null}|0|Version { epoch: None, chunks: Chunks([]), last: Numeric(0), release: None, meta: None }
+Version {"epoch":1,"chunks":[{"Numeric":2}],"last":{"Rc":[0,"rc",1]},"release":[{"Numeric":3}],"meta":"x"}|1:2.0rc1-3+x|Version { epoch: Some(1), chunks: Chunks([Numeric(2)]), last: Rc(0, "rc", 1), release: Some(Release([Numeric(3)])), meta: Some("x") }
+Chunk {"Number":1}|refused
+Chunk {"Numeric":4294967296}|refused
+Chunk {"Numeric":-1}|refused
+Chunks [{"Numeric":1},{"Alphanum":2}]|refused
+Release "1"|refused
+Last {"Rc":[0,"rc"]}|refused
+MChunk {"Digits":[4294967296,"x"]}|refused
+Sep "Comma"|refused
+SemVer {"major":1,"minor":2,"pre_rel":null,"meta":null}|refused
+SemVer {"major":1,"minor":2,"patch":4294967296,"pre_rel":null,"meta":null}|refused
+Version {"epoch":null,"chunks":[{"Alphanum":"a"}],"release":null,"meta":null}|refused"#;
 
 #[test]
-fn last_parts(rt: HostRuntime) -> Result<(), Fail> {
-    comes_back::<Last>(&rt, r#"{"Numeric":3}"#, "Numeric(3)")?;
-    comes_back::<Last>(&rt, r#"{"Rc":[0,"rc",1]}"#, r#"Rc(0, "rc", 1)"#)?;
-    comes_back::<Last>(&rt, r#"{"Post":[2,"a"]}"#, r#"Post(2, "a")"#)?;
-    comes_back::<Last>(&rt, r#"{"Alphanum":"git"}"#, r#"Alphanum("git")"#)
+fn forms_are_read_and_written(rt: HostRuntime) -> Result<(), Fail> {
+    for row in FORMS.lines() {
+        let (typed, wanted) = row.split_once('|').ok_or("no value")?;
+        let (of, document) = typed.split_once(' ').ok_or("no form")?;
+        let value = read(&rt, of, document)?;
+        assert_eq!(rt; value.as_str(), wanted, "{typed}");
+    }
+    Ok(())
 }
 
-#[test]
-fn messy_chunks_and_signs(rt: HostRuntime) -> Result<(), Fail> {
-    comes_back::<MChunk>(&rt, r#"{"Digits":[7,"007"]}"#, r#"Digits(7, "007")"#)?;
-    comes_back::<MChunk>(&rt, r#"{"Rev":[1,"r1"]}"#, r#"Rev(1, "r1")"#)?;
-    comes_back::<MChunk>(&rt, r#"{"Plain":"a\"\\"}"#, r#"Plain("a\"\\")"#)?;
-    comes_back::<Sep>(&rt, r#""Colon""#, "Colon")?;
-    comes_back::<Sep>(&rt, r#""Hyphen""#, "Hyphen")?;
-    comes_back::<Sep>(&rt, r#""Plus""#, "Plus")?;
-    comes_back::<Sep>(&rt, r#""Underscore""#, "Underscore")?;
-    comes_back::<Sep>(&rt, r#""Tilde""#, "Tilde")
+// The value that a document is read as, as it prints and by `Debug`.
+fn read(rt: &impl AllocGlobal, of: &str, document: &str) -> Result<String, Fail> {
+    match of {
+        "Chunk" => read_as::<Chunk>(rt, document),
+        "Chunks" => read_as::<Chunks>(rt, document),
+        "Release" => read_as::<Release>(rt, document),
+        "Last" => read_as::<Last>(rt, document),
+        "MChunk" => read_as::<MChunk>(rt, document),
+        "Sep" => read_as::<Sep>(rt, document),
+        "SemVer" => read_as::<SemVer>(rt, document),
+        "Version" => read_as::<Version>(rt, document),
+        _ => Err("no such type".into()),
+    }
 }
 
-#[test]
-fn strict_versions(rt: HostRuntime) -> Result<(), Fail> {
-    comes_back::<SemVer>(
-        &rt,
-        r#"{"major":1,"minor":2,"patch":3,"pre_rel":null,"meta":null}"#,
-        "SemVer { major: 1, minor: 2, patch: 3, pre_rel: None, meta: None }",
-    )?;
-    comes_back::<SemVer>(
-        &rt,
-        r#"{"major":1,"minor":2,"patch":3,"pre_rel":[{"Alphanum":"rc"}],"meta":"x86"}"#,
-        r#"SemVer { major: 1, minor: 2, patch: 3, pre_rel: Some(Release([Alphanum("rc")])), meta: Some("x86") }"#,
-    )
-}
-
-#[test]
-fn general_versions(rt: HostRuntime) -> Result<(), Fail> {
-    comes_back::<Version>(
-        &rt,
-        r#"{"epoch":null,"chunks":[],"last":{"Numeric":1},"release":null,"meta":null}"#,
-        "Version { epoch: None, chunks: Chunks([]), last: Numeric(1), release: None, meta: None }",
-    )?;
-    comes_back::<Version>(
-        &rt,
-        r#"{"epoch":1,"chunks":[{"Numeric":2}],"last":{"Rc":[0,"rc",1]},"release":[{"Numeric":3}],"meta":"x"}"#,
-        r#"Version { epoch: Some(1), chunks: Chunks([Numeric(2)]), last: Rc(0, "rc", 1), release: Some(Release([Numeric(3)])), meta: Some("x") }"#,
-    )
-}
-
-#[test]
-fn other_documents_are_errors(rt: HostRuntime) -> Result<(), Fail> {
-    is_refused::<Chunk>(&rt, r#"{"Number":1}"#)?;
-    is_refused::<Chunk>(&rt, r#"{"Numeric":4294967296}"#)?;
-    is_refused::<Chunk>(&rt, r#"{"Numeric":-1}"#)?;
-    is_refused::<Chunks>(&rt, r#"[{"Numeric":1},{"Alphanum":2}]"#)?;
-    is_refused::<Release>(&rt, r#""1""#)?;
-    is_refused::<Last>(&rt, r#"{"Rc":[0,"rc"]}"#)?;
-    is_refused::<MChunk>(&rt, r#"{"Digits":[4294967296,"x"]}"#)?;
-    is_refused::<Sep>(&rt, r#""Comma""#)?;
-    is_refused::<SemVer>(&rt, r#"{"major":1,"minor":2,"pre_rel":null,"meta":null}"#)?;
-    is_refused::<SemVer>(
-        &rt,
-        r#"{"major":1,"minor":2,"patch":4294967296,"pre_rel":null,"meta":null}"#,
-    )?;
-    is_refused::<Version>(
-        &rt,
-        r#"{"epoch":null,"chunks":[{"Alphanum":"a"}],"release":null,"meta":null}"#,
-    )
-}
-
-// A form is read as the value that `Debug` writes so, and written again.
-fn comes_back<T: Serialize + DeserializeOwned + Debug + Drop>(
-    rt: &(impl Abort + AllocGlobal),
-    form: &str,
-    wanted: &str,
-) -> Result<(), Fail> {
-    let value: T = serde_json::from_value(rt.alloc(), Value::from_str(rt.alloc(), form)?)?;
-    shows(rt, &value, wanted)?;
+fn read_as<T: Serialize + DeserializeOwned + Debug + Display + Drop>(
+    rt: &impl AllocGlobal,
+    document: &str,
+) -> Result<String, Fail> {
+    let value = Value::from_str(rt.alloc(), document)?;
+    let Ok(value) = serde_json::from_value::<T>(rt.alloc(), value) else {
+        return Ok(String::from_str(rt.alloc(), "refused")?);
+    };
     let written = serde_json::to_string(rt.alloc(), &value)?;
-    assert_eq!(rt; written.as_str(), form);
-    Ok(())
-}
-
-// A document that is no value of the type.
-fn is_refused<T: DeserializeOwned + Drop>(
-    rt: &(impl Abort + AllocGlobal),
-    form: &str,
-) -> Result<(), Fail> {
-    let read = serde_json::from_value::<T>(rt.alloc(), Value::from_str(rt.alloc(), form)?);
-    assert!(rt; read.is_err(), "{form}");
-    Ok(())
+    holds(
+        written.as_str() == document,
+        format_args!("{written} is written for {document}"),
+    )?;
+    Ok(format!(in rt.alloc(); "{value}|{value:?}")?)
 }

@@ -3,28 +3,44 @@
 use std::alloc::{AllocError, Global};
 use std::io;
 use std::io::{Error, ErrorKind, Read, Write};
-use std::process::Abort;
 use std::test::Fail;
+use vectors_support::{columns, hash_of, holds};
 use version_lines::{Fault, run};
 
-// Words, an input, all that a run writes of it, and whether it reads the input.
-#[derive(Clone, Copy)]
-struct Run {
-    words: &'static [&'static str],
-    input: &'static [u8],
-    output: &'static [u8],
-    reads: bool,
-}
+// The words of runs that read, their inputs, and all that they write.
+const READING: [&str; 5] = [
+    "|1.2.3\n1.2\n\n1.2.3+a|ideal 1.2.3\nnone\nnone\nideal 1.2.3+a\n",
+    "ideal|1.2.3\n1.2\n|ideal 1.2.3\nnone\n",
+    "show|1.2.3\n1.2\n|ideal 1.2.3\ngeneral 1.2\n",
+    "sort|2\n1\n|1\n2\n",
+    "match ^1.1.1|1.1.2\nx y\n2.0.0\n1.2.0|1.1.2\n1.2.0\n",
+];
+
+// Runs that read nothing.
+const UNREAD: [&str; 2] = [
+    "cmp 1 2||<\n",
+    "key 1.2.3||000301310203013202030133020202\n",
+];
 
 #[test]
 fn a_reader_that_fails(rt: HostRuntime) -> Result<(), Fail> {
-    for run in &runs() {
-        for given in 0..=run.input.len() {
+    for row in &READING {
+        let row = Row::of(&rt, row)?;
+        for given in 0..=row.input.len() {
+            let given = row.input.get(..given).ok_or("too much")?;
             for step in [1, 2, 100] {
-                fails_to_read(&rt, run, given, step, ErrorKind::Other)?;
-                fails_to_read(&rt, run, given, step, ErrorKind::Interrupted)?;
+                row.fails_to_read(given, step, ErrorKind::Other)?;
+                row.fails_to_read(given, step, ErrorKind::Interrupted)?;
             }
         }
+    }
+    Ok(())
+}
+
+#[test]
+fn a_reader_that_fails_and_is_not_read(rt: HostRuntime) -> Result<(), Fail> {
+    for row in &UNREAD {
+        Row::of(&rt, row)?.reads_nothing()?;
     }
     Ok(())
 }
@@ -33,11 +49,12 @@ fn a_reader_that_fails(rt: HostRuntime) -> Result<(), Fail> {
 // one byte a call gets the same bytes one after another, however much waits.
 #[test]
 fn a_writer_that_fails(rt: HostRuntime) -> Result<(), Fail> {
-    for run in &runs() {
-        for calls in 0..run.output.len() {
-            for kind in [None, Some(ErrorKind::Other), Some(ErrorKind::Interrupted)] {
-                fails_to_write(&rt, run, calls, kind)?;
-            }
+    for row in READING.iter().chain(UNREAD.iter()) {
+        let row = Row::of(&rt, row)?;
+        for calls in 0..row.output.len() {
+            row.fails_to_write(calls, None)?;
+            row.fails_to_write(calls, Some(ErrorKind::Other))?;
+            row.fails_to_write(calls, Some(ErrorKind::Interrupted))?;
         }
     }
     Ok(())
@@ -45,126 +62,123 @@ fn a_writer_that_fails(rt: HostRuntime) -> Result<(), Fail> {
 
 #[test]
 fn pieces_of_one_byte_change_nothing(rt: HostRuntime) -> Result<(), Fail> {
-    for row in &runs() {
-        let words = owned(&rt, row.words)?;
-        let mut reader = Giver::of(row.input, 1);
-        let mut writer = Taker::new(rt.alloc(), 1);
-        let outcome = run(rt.alloc(), words.as_slice(), &mut reader, &mut writer);
-        assert_eq!(rt; outcome, Ok(()));
-        assert_eq!(rt; writer.taken.as_slice(), row.output);
+    for row in READING.iter().chain(UNREAD.iter()) {
+        Row::of(&rt, row)?.is_written()?;
     }
     Ok(())
 }
 
 #[test]
 fn without_output_a_broken_writer_is_no_fault(rt: HostRuntime) -> Result<(), Fail> {
-    let words = owned(&rt, &["ideal"])?;
-    let mut reader = Giver::of(b"", 1);
-    let mut writer = Taker::new(rt.alloc(), 1);
-    writer.ends = Some((0, Some(ErrorKind::Other)));
-    let outcome = run(rt.alloc(), words.as_slice(), &mut reader, &mut writer);
-    assert_eq!(rt; outcome, Ok(()));
-    Ok(())
+    Row::of(&rt, "ideal||")?.writes_nothing()
 }
 
-fn runs() -> [Run; 7] {
-    [
-        reading(
-            &[],
-            b"1.2.3\n1.2\n\n1.2.3+a",
-            b"ideal 1.2.3\nnone\nnone\nideal 1.2.3+a\n",
-        ),
-        reading(&["ideal"], b"1.2.3\n1.2\n", b"ideal 1.2.3\nnone\n"),
-        reading(&["show"], b"1.2.3\n1.2\n", b"ideal 1.2.3\ngeneral 1.2\n"),
-        reading(&["sort"], b"2\n1\n", b"1\n2\n"),
-        reading(
-            &["match", "^1.1.1"],
-            b"1.1.2\nx y\n2.0.0\n1.2.0",
-            b"1.1.2\n1.2.0\n",
-        ),
-        unread(&["cmp", "1", "2"], b"<\n"),
-        unread(&["key", "1.2.3"], b"000301310203013202030133020202\n"),
-    ]
+#[test]
+fn unequal_faults_hash_apart(rt: HostRuntime) {
+    assert_ne!(rt; hash_of(&Fault::Read), hash_of(&Fault::Write));
 }
 
-fn reading(words: &'static [&'static str], input: &'static [u8], output: &'static [u8]) -> Run {
-    Run {
-        words,
-        input,
-        output,
-        reads: true,
+// Words as the program gets them, an input, and all that the run writes.
+#[derive(Drop)]
+struct Row<'a> {
+    alloc: Global,
+    words: Vec<String>,
+    input: &'a str,
+    output: &'a str,
+}
+
+impl<'a> Row<'a> {
+    fn of(rt: &impl AllocGlobal, row: &'a str) -> Result<Row<'a>, Fail> {
+        let (words, input, output) = columns(row)?;
+        Ok(Row {
+            alloc: rt.alloc(),
+            words: owned(rt, words)?,
+            input,
+            output,
+        })
     }
-}
 
-// A run whose input is left as it is.
-fn unread(words: &'static [&'static str], output: &'static [u8]) -> Run {
-    Run {
-        words,
-        input: b"1.2.3\n",
-        output,
-        reads: false,
+    // A reader that fails after so many bytes is a fault, and nothing is written.
+    fn fails_to_read(&self, given: &str, step: usize, kind: ErrorKind) -> Result<(), Fail> {
+        let mut reader = Giver::of(given.as_bytes(), step, Some(kind));
+        let mut writer = Taker::new(self.alloc, usize::MAX, None);
+        let outcome = self.run(&mut reader, &mut writer);
+        let all = reader.input.is_empty() && writer.calls == 0;
+        holds(
+            outcome == Err(Fault::Read) && all,
+            format_args!("{outcome:?} after a failed read of {given:?}, {all}"),
+        )
     }
-}
 
-// A reader that fails behind so many bytes. Where the run reads it nothing is written, and else it is no fault.
-fn fails_to_read(
-    rt: &(impl Abort + AllocGlobal),
-    row: &Run,
-    given: usize,
-    step: usize,
-    kind: ErrorKind,
-) -> Result<(), Fail> {
-    let words = owned(rt, row.words)?;
-    let given = row.input.get(..given).ok_or("too much")?;
-    let mut reader = Giver::of(given, step);
-    reader.fault = Some(kind);
-    let mut writer = Taker::new(rt.alloc(), usize::MAX);
-    let outcome = run(rt.alloc(), words.as_slice(), &mut reader, &mut writer);
-    if row.reads {
-        assert_eq!(rt; outcome, Err(Fault::Read));
-        assert_eq!(rt; reader.input.len(), 0);
-        assert_eq!(rt; writer.calls, 0);
-    } else {
-        assert_eq!(rt; outcome, Ok(()));
-        assert_eq!(rt; reader.calls, 0);
-        assert_eq!(rt; writer.taken.as_slice(), row.output);
+    // A reader that always fails is not read.
+    fn reads_nothing(&self) -> Result<(), Fail> {
+        let mut reader = Giver::of(b"", 1, Some(ErrorKind::Other));
+        let mut writer = Taker::new(self.alloc, usize::MAX, None);
+        let outcome = self.run(&mut reader, &mut writer);
+        let all = reader.calls == 0 && writer.taken.as_slice() == self.output.as_bytes();
+        holds(
+            outcome == Ok(()) && all,
+            format_args!("{outcome:?} where nothing is read, {all}"),
+        )
     }
-    Ok(())
-}
 
-// A writer that takes a byte at each of so many calls, and then fails or takes none, has the beginning of the output.
-fn fails_to_write(
-    rt: &(impl Abort + AllocGlobal),
-    row: &Run,
-    calls: usize,
-    kind: Option<ErrorKind>,
-) -> Result<(), Fail> {
-    let words = owned(rt, row.words)?;
-    let mut reader = row.input;
-    let mut writer = Taker::new(rt.alloc(), 1);
-    writer.ends = Some((calls, kind));
-    let outcome = run(rt.alloc(), words.as_slice(), &mut reader, &mut writer);
-    assert_eq!(rt; outcome, Err(Fault::Write));
-    assert_eq!(rt; Some(writer.taken.as_slice()), row.output.get(..calls));
-    assert_eq!(rt; writer.calls, calls.saturating_add(1));
-    Ok(())
+    // A writer that takes a byte at each of so many calls, and then fails or takes none, has the beginning of the output.
+    fn fails_to_write(&self, calls: usize, kind: Option<ErrorKind>) -> Result<(), Fail> {
+        let mut reader = Giver::of(self.input.as_bytes(), usize::MAX, None);
+        let mut writer = Taker::new(self.alloc, 1, Some((calls, kind)));
+        let outcome = self.run(&mut reader, &mut writer);
+        let wanted = self.output.as_bytes().get(..calls);
+        let all = Some(writer.taken.as_slice()) == wanted
+            && writer.calls == calls.saturating_add(1);
+        holds(
+            outcome == Err(Fault::Write) && all,
+            format_args!("{outcome:?} after {calls} calls, {all}"),
+        )
+    }
+
+    // A reader that gives, and a writer that takes, one byte at a call change nothing.
+    fn is_written(&self) -> Result<(), Fail> {
+        let mut reader = Giver::of(self.input.as_bytes(), 1, None);
+        let mut writer = Taker::new(self.alloc, 1, None);
+        let outcome = self.run(&mut reader, &mut writer);
+        let all = writer.taken.as_slice() == self.output.as_bytes();
+        holds(
+            outcome == Ok(()) && all,
+            format_args!("{outcome:?} over pieces of one byte, {all}"),
+        )
+    }
+
+    // A writer that always fails is not called where nothing is to be written.
+    fn writes_nothing(&self) -> Result<(), Fail> {
+        let mut reader = Giver::of(self.input.as_bytes(), 1, None);
+        let mut writer = Taker::new(self.alloc, 1, Some((0, Some(ErrorKind::Other))));
+        let outcome = self.run(&mut reader, &mut writer);
+        holds(
+            outcome == Ok(()),
+            format_args!("{outcome:?} where nothing is written"),
+        )
+    }
+
+    fn run(&self, reader: &mut Giver<'_>, writer: &mut Taker) -> Result<(), Fault> {
+        run(self.alloc, self.words.as_slice(), reader, writer)
+    }
 }
 
 // Gives its input in pieces of at most `step` bytes, and then fails, where a fault is set.
 #[derive(Drop)]
-pub(crate) struct Giver<'a> {
-    pub(crate) input: &'a [u8],
-    pub(crate) step: usize,
-    pub(crate) fault: Option<ErrorKind>,
-    pub(crate) calls: usize,
+struct Giver<'a> {
+    input: &'a [u8],
+    step: usize,
+    fault: Option<ErrorKind>,
+    calls: usize,
 }
 
 impl<'a> Giver<'a> {
-    pub(crate) fn of(input: &'a [u8], step: usize) -> Giver<'a> {
+    fn of(input: &'a [u8], step: usize, fault: Option<ErrorKind>) -> Giver<'a> {
         Giver {
             input,
             step,
-            fault: None,
+            fault,
             calls: 0,
         }
     }
@@ -185,19 +199,19 @@ impl<'a> Read for Giver<'a> {
 
 // Takes at most `step` bytes at a call. After as many calls as `ends` says it takes none, or fails.
 #[derive(Drop)]
-pub(crate) struct Taker {
-    pub(crate) taken: Vec<u8>,
-    pub(crate) step: usize,
-    pub(crate) ends: Option<(usize, Option<ErrorKind>)>,
-    pub(crate) calls: usize,
+struct Taker {
+    taken: Vec<u8>,
+    step: usize,
+    ends: Option<(usize, Option<ErrorKind>)>,
+    calls: usize,
 }
 
 impl Taker {
-    pub(crate) fn new(alloc: Global, step: usize) -> Taker {
+    fn new(alloc: Global, step: usize, ends: Option<(usize, Option<ErrorKind>)>) -> Taker {
         Taker {
             taken: Vec::new(alloc),
             step,
-            ends: None,
+            ends,
             calls: 0,
         }
     }
@@ -225,10 +239,10 @@ impl Write for Taker {
     }
 }
 
-// The words as a program gets them.
-pub(crate) fn owned(rt: &impl AllocGlobal, words: &[&str]) -> Result<Vec<String>, AllocError> {
+// The words of a text as a program gets them.
+fn owned(rt: &impl AllocGlobal, words: &str) -> Result<Vec<String>, AllocError> {
     let mut owned = Vec::new(rt.alloc());
-    for word in words {
+    for word in words.split_whitespace() {
         owned.push(String::from_str(rt.alloc(), word)?)?;
     }
     Ok(owned)

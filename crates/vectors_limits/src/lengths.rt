@@ -5,56 +5,49 @@
 use std::alloc::AllocError;
 use std::cmp::Ordering;
 use std::fmt::{self, Write};
-use std::process::Abort;
 use std::test::Fail;
-use vectors_support::{alone, any, are_ordered, as_messy, hash_of, key, kind_of, repeated};
+use vectors_support::{
+    any, are_ordered, as_messy, bytes, hash_of, holds, key, kind_of, prints, repeated,
+};
 use versions::key::{KeyBytes, compare_bytes};
-use versions::{Last, MChunk, Mess, Versioning};
+use versions::{MChunk, Mess, Requirements, Versioning};
 
 #[test]
 fn three_thousand_nines(rt: HostRuntime) -> Result<(), Fail> {
     let nines = repeated(&rt, "9", 3000, "")?;
-    let mut wanted = Vec::from_slice(rt.alloc(), &[0x00, 0x03])?;
-    for _ in 0..11 {
-        wanted.push(0xFF)?;
-    }
-    wanted.push(0xC3)?;
+    let mut wanted = bytes(&rt, "00 03 FF FF FF FF FF FF FF FF FF FF FF C3")?;
     wanted.extend_from_slice(nines.as_bytes())?;
     wanted.extend_from_slice(&[0x02, 0x02, 0x02])?;
     assert_eq!(rt; wanted.len(), 3017);
     let version = any(&rt, nines.as_str())?;
     key(&rt, &version, wanted.as_slice())?;
     assert!(rt; matches!(only_chunk(&version), Some(MChunk::Plain(_))));
-    key(&rt, &alone(&rt, Last::Alphanum(nines)), wanted.as_slice())
+    Ok(())
 }
 
 #[test]
 fn three_thousand_zeros_and_a_one(rt: HostRuntime) -> Result<(), Fail> {
     let long = any(&rt, repeated(&rt, "0", 3000, "1")?.as_str())?;
-    let wanted = [0x00, 0x03, 0x01, 0x31, 0x02, 0x02, 0x02];
-    key(&rt, &long, wanted.as_slice())?;
+    key(&rt, &long, &[0x00, 0x03, 0x01, 0x31, 0x02, 0x02, 0x02])?;
     assert!(rt; matches!(only_chunk(&long), Some(MChunk::Digits(1, _))));
-    let short = any(&rt, "1")?;
-    assert!(rt; short.is_general());
-    assert_eq!(rt; long.precedence(&short), Ordering::Equal);
+    assert_eq!(rt; long.precedence(&any(&rt, "1")?), Ordering::Equal);
     Ok(())
 }
 
+// Each below the next, and the beginnings of their keys, in which the length of the digits is written.
 #[test]
 fn lengths_about_the_largest_of_one_byte(rt: HostRuntime) -> Result<(), Fail> {
-    let one = any(&rt, repeated(&rt, "9", 254, "")?.as_str())?;
-    let further = any(&rt, ten_to(&rt, 254)?.as_str())?;
-    let next = any(&rt, ten_to(&rt, 255)?.as_str())?;
-    for (version, wanted) in [
-        (&one, [0x00, 0x03, 0xFE, b'9']),
-        (&further, [0x00, 0x03, 0xFF, 0x00]),
-        (&next, [0x00, 0x03, 0xFF, 0x01]),
-    ] {
-        let key = version.sort_key(rt.alloc())?;
-        assert!(rt; key.as_slice().starts_with(&wanted));
-    }
-    are_ordered(&rt, &one, &further)?;
-    are_ordered(&rt, &further, &next)
+    let nines = any(&rt, repeated(&rt, "9", 254, "")?.as_str())?;
+    let zeros = any(&rt, ten_to(&rt, 254)?.as_str())?;
+    are_ordered(&rt, &nines, &zeros)?;
+    are_ordered(&rt, &zeros, &any(&rt, ten_to(&rt, 255)?.as_str())?)?;
+    begins(&rt, &nines, "00 03 FE 39")?;
+    begins(&rt, &zeros, "00 03 FF 00 31")?;
+    begins(
+        &rt,
+        &any(&rt, ten_to(&rt, 255)?.as_str())?,
+        "00 03 FF 01 31",
+    )
 }
 
 #[test]
@@ -122,49 +115,72 @@ fn ten_megabytes_of_metadata(rt: HostRuntime) -> Result<(), Fail> {
     let mut text = String::from_str(rt.alloc(), "1.2.3+")?;
     text.push_str(repeated(&rt, "a", 9_999_994, "")?.as_str())?;
     let version = read(&rt, text.as_str(), "ideal")?;
-    let Versioning::Ideal(ideal) = &version else {
-        return Err("not ideal".into());
-    };
-    let general = Versioning::General(ideal.to_version(rt.alloc())?);
-    goes_through(&rt, &general, text.as_str())?;
-    spells_none(&rt, "1.2.3+", "a", 9_999_993, " ")
+    if let Versioning::Ideal(ideal) = &version {
+        prints(&rt, &ideal.to_version(rt.alloc())?, text.as_str())?;
+    }
+    spells_none(&rt, text, " ")
 }
+
+// Texts that are so often repeated, with a `!` at their ends.
+const NONE: &str = "\
+1_ 1000000
+1: 1000000
+1. 5000000
+9 9999999
+a 9999999";
 
 #[test]
 fn ten_megabytes_that_spell_none(rt: HostRuntime) -> Result<(), Fail> {
-    for (text, count) in [("1_", 1_000_000), ("1:", 1_000_000), ("1.", 5_000_000)] {
-        spells_none(&rt, "", text, count, "")?;
+    for row in NONE.lines() {
+        let (text, count) = row.split_once(' ').ok_or("no count")?;
+        spells_none(&rt, repeated(&rt, text, count.parse()?, "")?, "!")?;
     }
-    for text in ["9", "a"] {
-        spells_none(&rt, "", text, 9_999_999, " ")?;
+    Ok(())
+}
+
+// `rt try --test` takes minutes for it, so it wants `--seconds 600`.
+#[test]
+fn a_hundred_thousand_requirements(rt: HostRuntime) -> Result<(), Fail> {
+    let mut text = repeated(&rt, ">=1.2,", 99_999, "<2.0.0")?;
+    let list = Requirements::new(rt.alloc(), text.as_str())?.ok_or("no list")?;
+    assert_eq!(rt; list.0.len(), 100_000);
+    prints(&rt, &list, text.as_str())?;
+    // The first requirement and the last decide.
+    for (version, wanted) in [
+        ("1.2", true),
+        ("1.9.9", true),
+        ("1.1", false),
+        ("2.0.0", false),
+    ] {
+        assert_eq!(rt; list.matches(&any(&rt, version)?), wanted, "{version}");
     }
+    assert!(rt; list.clone(rt.alloc())? == list);
+    text.push_str(",")?;
+    assert!(rt; Requirements::new(rt.alloc(), text.as_str())?.is_none());
     Ok(())
 }
 
 // A text so many times and then `1` is a version of the kind, and below the one that ends in `2`.
 fn differ_at_the_end(
-    rt: &(impl Abort + AllocGlobal),
+    rt: &impl AllocGlobal,
     text: &str,
     count: u32,
     kind: &str,
 ) -> Result<(), Fail> {
     let lower = repeated(rt, text, count, "1")?;
     let lower = read(rt, lower.as_str(), kind)?;
-    let mut upper = repeated(rt, text, count, "2")?;
-    are_ordered(rt, &lower, &any(rt, upper.as_str())?)?;
-    upper.push_str(" ")?;
-    let (mess, rest) = Mess::parse(rt.alloc(), upper.as_str())?.ok_or("not read")?;
-    assert_eq!(rt; rest, " ");
-    assert!(rt; lower < Versioning::Complex(mess));
-    Ok(())
+    let upper = repeated(rt, text, count, "2 ")?;
+    let (upper, rest) = Mess::parse(rt.alloc(), upper.as_str())?.ok_or("not read")?;
+    holds(rest == " ", "another rest")?;
+    are_ordered(rt, &lower, &Versioning::Complex(upper))
 }
 
 // The version that a text spells, which is of the kind. It goes through each call, and so does the messy version.
-fn read(rt: &(impl Abort + AllocGlobal), text: &str, kind: &str) -> Result<Versioning, Fail> {
+fn read(rt: &impl AllocGlobal, text: &str, kind: &str) -> Result<Versioning, Fail> {
     let version = any(rt, text)?;
-    assert_eq!(rt; kind_of(&version), kind);
+    holds(kind_of(&version) == kind, "another kind")?;
     goes_through(rt, &version, text)?;
-    spells_key(rt, text, &version)?;
+    spells_key(text, &version, &mut Vec::new(rt.alloc()))?;
     if !version.is_complex() {
         let mess = Versioning::Complex(as_messy(rt.alloc(), &version)?);
         goes_through(rt, &mess, text)?;
@@ -173,56 +189,49 @@ fn read(rt: &(impl Abort + AllocGlobal), text: &str, kind: &str) -> Result<Versi
 }
 
 // A version of a great text is printed, copied, compared, hashed and keyed.
-fn goes_through(
-    rt: &(impl Abort + AllocGlobal),
-    version: &Versioning,
-    text: &str,
-) -> Result<(), Fail> {
-    assert!(rt; version.to_string(rt.alloc())?.as_str() == text);
-    let copy = version.clone(rt.alloc())?;
-    assert!(rt; copy == *version);
-    assert_eq!(rt; copy.cmp(version), Ordering::Equal);
-    assert_eq!(rt; copy.precedence(version), Ordering::Equal);
-    assert_eq!(rt; hash_of(&copy), hash_of(version));
-    assert_eq!(rt; version.nth(usize::MAX), None);
-    let key = version.sort_key(rt.alloc())?;
-    let mut list = key.iter().copied();
-    assert_eq!(rt;
-        compare_bytes(&mut version.key_bytes(), &mut list),
-        Ordering::Equal
-    );
-    Ok(())
+fn goes_through(rt: &impl AllocGlobal, version: &Versioning, text: &str) -> Result<(), Fail> {
+    prints(rt, version, text)?;
+    is_same(version, &version.clone(rt.alloc())?)?;
+    is_key(version, version.sort_key(rt.alloc())?.as_slice())?;
+    holds(version.nth(usize::MAX).is_none(), "a number")
 }
 
-// The bytes read off a text are those of the key of the version that it spells.
-fn spells_key(
-    rt: &(impl Abort + AllocGlobal),
-    text: &str,
-    version: &Versioning,
-) -> Result<(), Fail> {
-    let mut list = Vec::new(rt.alloc());
-    let spelled = KeyBytes::spelled_by(text).ok_or("no key")?;
-    spelled.append_to(&mut list)?;
-    assert!(rt; list == version.sort_key(rt.alloc())?);
+fn is_same(version: &Versioning, copy: &Versioning) -> Result<(), Fail> {
+    holds(copy == version, "`==`")?;
+    holds(copy.cmp(version).is_eq(), "`Ord`")?;
+    holds(copy.precedence(version).is_eq(), "precedence")?;
+    holds(hash_of(copy) == hash_of(version), "the hash")
+}
+
+fn is_key(version: &Versioning, key: &[u8]) -> Result<(), Fail> {
+    let answer = compare_bytes(&mut version.key_bytes(), &mut key.iter().copied());
+    holds(answer.is_eq(), "the bytes of the key")
+}
+
+// The bytes read off a text, one after another and all at once, are those of the key of the version that it spells.
+fn spells_key(text: &str, version: &Versioning, list: &mut Vec<u8>) -> Result<(), Fail> {
     let mut spelled = KeyBytes::spelled_by(text).ok_or("no key")?;
     let answer = compare_bytes(&mut spelled, &mut version.key_bytes());
-    assert_eq!(rt; answer, Ordering::Equal);
-    Ok(())
+    holds(answer.is_eq(), "the bytes of the text's key")?;
+    KeyBytes::spelled_by(text).ok_or("no key")?.append_to(list)?;
+    is_key(version, list.as_slice())
 }
 
-// A text that is so long spells no version, and has no key.
-fn spells_none(
-    rt: &(impl Abort + AllocGlobal),
-    front: &str,
-    text: &str,
-    count: u32,
-    end: &str,
-) -> Result<(), Fail> {
-    let mut long = String::from_str(rt.alloc(), front)?;
-    long.push_str(repeated(rt, text, count, end)?.as_str())?;
-    assert!(rt; Versioning::new(rt.alloc(), long.as_str())?.is_none());
-    assert!(rt; KeyBytes::spelled_by(long.as_str()).is_none());
-    Ok(())
+// A text with an end that no version has spells none, and has no key.
+fn spells_none(rt: &impl AllocGlobal, mut text: String, end: &str) -> Result<(), Fail> {
+    text.push_str(end)?;
+    let version = Versioning::new(rt.alloc(), text.as_str())?;
+    holds(version.is_none(), "a version")?;
+    holds(KeyBytes::spelled_by(text.as_str()).is_none(), "a key")
+}
+
+// Fails where the key of a version begins otherwise.
+fn begins(rt: &impl AllocGlobal, version: &Versioning, wanted: &str) -> Result<(), Fail> {
+    let key = version.sort_key(rt.alloc())?;
+    holds(
+        key.as_slice().starts_with(bytes(rt, wanted)?.as_slice()),
+        format_args!("a key that doesn't begin with {wanted}"),
+    )
 }
 
 // The chunk that a messy version is.
@@ -237,7 +246,7 @@ fn only_chunk(version: &Versioning) -> Option<&MChunk> {
 }
 
 // The digit 1 and so many zeros.
-fn ten_to(rt: &HostRuntime, zeros: u32) -> Result<String, AllocError> {
+fn ten_to(rt: &impl AllocGlobal, zeros: u32) -> Result<String, AllocError> {
     let mut text = String::from_str(rt.alloc(), "1")?;
     text.push_str(repeated(rt, "0", zeros, "")?.as_str())?;
     Ok(text)

@@ -1,13 +1,9 @@
-//! Tests of orders: how versions and their parts compare, and the bytes of their keys.
+//! Tests of orders: how versions and their parts compare, the bytes of their keys, and that unequal values hash apart.
 #![tactic(auto)]
 
 #[cfg(test)]
+mod hashes;
+#[cfg(test)]
+mod keys;
+#[cfg(test)]
 mod order;
-#[cfg(test)]
-mod precedence;
-#[cfg(test)]
-mod sort_keys;
-#[cfg(test)]
-mod spelled_keys;
-#[cfg(test)]
-mod streams;

@@ -1,187 +1,178 @@
-//! The orders of strict versions and of parts, equality and hash of strict versions, and what a tilde or a caret asks
-//! for.
+//! How versions and their parts compare: rows of versions each below the next, ties, and what conversions do.
 
-use std::alloc::AllocError;
 use std::cmp::Ordering;
-use std::collections::{BTreeMap, HashMap};
 use std::test::Fail;
-use vectors_support::{hash_of, numbers, strict, text};
-use versions::{Chunk, Chunks, Last, MChunk, Release, SemVer};
+use vectors_support::{any, columns, form, general, holds, messy, strict};
+use versions::{Chunks, Last, MChunk, SemVer, Versioning};
 
-// A version, another, and which of `~` and `^` before the first asks for the other.
-const TILDES_AND_CARETS: &str = "\
-1.1.1 1.1.3 ~^
-1.1.1 1.2.0 ^
-0.3.1 0.3.5 ~^
-0.3.1 0.4.0 none
-0.0.3 0.0.4 ~
-1.2.3 1.2.3-a ~^
-1.2.3 2.2.3 none
-1.2.3 1.2.2 none
-0.2.3 1.2.3 none";
-
-#[test]
-fn tilde_and_caret(rt: HostRuntime) -> Result<(), Fail> {
-    for row in TILDES_AND_CARETS.lines() {
-        let (versions, signs) = row.rsplit_once(' ').ok_or("no sign")?;
-        let (wanted, version) = versions.split_once(' ').ok_or("no version")?;
-        let wanted = strict(&rt, wanted)?;
-        let version = strict(&rt, version)?;
-        assert_eq!(rt;
-            wanted.matches_tilde(&version),
-            signs.contains('~'),
-            "{row}"
-        );
-        assert_eq!(rt;
-            wanted.matches_caret(&version),
-            signs.contains('^'),
-            "{row}"
-        );
-    }
-    Ok(())
-}
-
-const INCREASING: &str = "1.0.0-alpha 1.0.0-alpha.1 1.0.0-alpha.beta 1.0.0-beta 1.0.0-beta.2 \
-                          1.0.0-beta.11 1.0.0-rc.1 1.0.0 1.0.1-a 1.1.0 2.0.0";
+// A type and texts of its values. Those of any kind, as a `Versioning`, go by `precedence` too.
+const EACH_BELOW_THE_NEXT: &str = "\
+SemVer 1.0.0-alpha 1.0.0-alpha.1 1.0.0-alpha.beta 1.0.0-beta 1.0.0-beta.2 1.0.0-beta.11 1.0.0-rc.1 1.0.0
+Version 0.9.9.9 1.0.0.0 1.0.0.1 2
+Version 1.2 1.2.0
+Version 1.9 1.10
+Version 0:1.3 1:0.1
+Version 1.2 1.2-1 1.2-2
+Version 1.2-5 1.2.3-1
+Version 1.0rc1 1.0
+Version 1.0rc1 1.0rc2
+Version 1.0 1:1.0
+Version 1.1 1:1.0
+Version 1.1 1:1.1
+Version 3.7b 3.7c
+Version 2.14.r8.g28399bf-1 2.14.r23.ga07d3df-1 2.14.8
+Mess 10.2+0.93+1-1 10.2+0.93+1-2 10.2+0.93+2-1 10.2+0.94+1-1 10.3+0.93+1-1 11.2+0.93+1-1 12
+Mess 22.01-ZS-v1.5.5-R2 22.01-ZS-v1.5.6-R2
+Mess 22.01-ZS-v1.5.5-R2 24.02-ZS-v1.6.0
+Mess 5 10a 10
+Versioning abc.0 0.0 1a.0
+Versioning 1.2.git 1.2
+Versioning 1.2.3.git 1.2.3 1.2.3.0
+Versioning 2.14.r8.g28399bf-1 2.14.r23.ga07d3df-1 2.14.8
+Versioning 4294967295.0.0 4294967296.0.0
+Versioning 9 10
+Versioning 1.0rc1 1.0
+Versioning 1.2 1.2.0
+Versioning 1.2.9 1.3
+Versioning 1.2.3rc1 1.2.3
+Versioning 0:8.7p1-38.el9 0:8.7p1-38.el9_4.1
+Versioning 1:2.0 5:0.1_1
+Versioning 1.6.0a+2014+m872b87e73dfb-1 1.6.0-1
+Versioning 9.9.9 1:0.1
+Versioning 1.2.3-1 0:1.2.3
+Versioning 1.0.a_1 1.0_1
+Versioning 1.2.2r1-1 1.2.3-1
+Versioning 1.2.3-1 1.2.4r1-1
+Versioning 1.2.3-1 2+0007-1
+Versioning 1.2.3r1-1 2+0007-1
+Versioning 1.2-5 1.2.3-1
+Versioning 2.2.3 10e
+Versioning e.2.3 1.2.3
+Versioning 1.2.3 1:1.2.0
+Versioning 1.11.0.git.20200404-1 1.11.0+20200830-1
+Versioning 0.17.0+r8+gc41db5f1-1 0.17.0+r157+g584760cf-1
+Versioning 0.4.8-1 0.4.9-1
+Versioning 2.1.16102-2 2.1.17627-1
+Versioning 8.64.0.81-1 8.65.0.78-1
+Versioning 1.3.00.16851-1 1.3.00.25560-1
+Versioning 1:3.20-1 1:3.20.1-1
+Versioning 5.2.458699.0906-1 5.3.472687.1012-1";
 
 #[test]
 fn each_is_below_the_next(rt: HostRuntime) -> Result<(), Fail> {
-    for (at, lower) in INCREASING.split(' ').enumerate() {
-        for (place, upper) in INCREASING.split(' ').enumerate() {
-            let wanted = at.cmp(&place);
-            let lower = strict(&rt, lower)?;
-            let upper = strict(&rt, upper)?;
-            assert_eq!(rt; lower.cmp(&upper), wanted, "{lower} {upper}");
-            assert_eq!(rt; lower.partial_cmp(&upper), Some(wanted));
-            assert_eq!(rt; lower == upper, wanted == Ordering::Equal);
+    compare(&rt, EACH_BELOW_THE_NEXT, (Ordering::Less, Ordering::Less))
+}
+
+const TIED_IN_PRECEDENCE: &str = "\
+Versioning 1.0 0:1.0
+Versioning 1.0 1.0+x
+Versioning 1.2 1.002";
+
+#[test]
+fn ties_are_broken_by_kinds_and_fields(rt: HostRuntime) -> Result<(), Fail> {
+    compare(&rt, TIED_IN_PRECEDENCE, (Ordering::Equal, Ordering::Less))
+}
+
+const EQUAL: &str = "\
+SemVer 1.0.0+a 1.0.0+b
+Versioning 1.0.0+a 1.0.0+b
+Versioning 1:3.20.1-1 1:3.20.1-1
+Versioning 1.3.00.25560-1 1.3.00.25560-1
+Versioning 150_28-3 150_28-3
+Versioning 1.0.r15.g3fc772c-5 1.0.r15.g3fc772c-5
+Versioning 0.88-2 0.88-2";
+
+#[test]
+fn equal_versions(rt: HostRuntime) -> Result<(), Fail> {
+    compare(&rt, EQUAL, (Ordering::Equal, Ordering::Equal))
+}
+
+// Types and JSON forms of two values, the first below the second. No text spells all of them.
+const EACH_FORM_BELOW_THE_NEXT: &str = r#"Chunks|[]|[{"Numeric":0}]
+Chunks|[{"Alphanum":"a"}]|[]
+Chunks|[{"Numeric":1}]|[{"Alphanum":"1"}]
+Last|{"Numeric":102}|{"Rc":[1,"0",2]}
+Last|{"Rc":[0,"rc",1]}|{"Numeric":0}
+Last|{"Post":[7,"alpha"]}|{"Numeric":7}
+Last|{"Post":[1,"rc"]}|{"Rc":[1,"rc",5]}
+MChunk|{"Digits":[1,"01"]}|{"Digits":[1,"1"]}
+SemVer|{"major":1,"minor":2,"patch":3,"pre_rel":[],"meta":null}|{"major":1,"minor":2,"patch":3,"pre_rel":[{"Numeric":0}],"meta":null}"#;
+
+#[test]
+fn values_built_by_hand(rt: HostRuntime) -> Result<(), Fail> {
+    for row in EACH_FORM_BELOW_THE_NEXT.lines() {
+        let (of, lower, upper) = columns(row)?;
+        let (order, _, _) = match of {
+            "Chunks" => in_order::<Chunks>(form(&rt, lower)?, form(&rt, upper))?,
+            "Last" => in_order::<Last>(form(&rt, lower)?, form(&rt, upper))?,
+            "MChunk" => in_order::<MChunk>(form(&rt, lower)?, form(&rt, upper))?,
+            _ => in_order::<SemVer>(form(&rt, lower)?, form(&rt, upper))?,
+        };
+        assert_eq!(rt; order, Ordering::Less, "{row}");
+    }
+    Ok(())
+}
+
+// A strict version with a pre-release is below its general version, and that below its messy one. Without, the first
+// two tie.
+#[test]
+fn conversions_never_lower_precedence(rt: HostRuntime) -> Result<(), Fail> {
+    let rising = converted(&rt, "1.2.3-1+x")?;
+    assert_eq!(rt; rising, (Ordering::Less, Ordering::Less));
+    let (tie, _) = converted(&rt, "1.2.3+x")?;
+    assert_eq!(rt; tie, Ordering::Equal);
+    Ok(())
+}
+
+// Fails where a version of a row doesn't stand so to the next one, in precedence and in `Ord`, or `==` is otherwise.
+fn compare(rt: &impl AllocGlobal, rows: &str, wanted: (Ordering, Ordering)) -> Result<(), Fail> {
+    for row in rows.lines() {
+        let (of, texts) = row.split_once(' ').ok_or("no text")?;
+        for (one, other) in texts.split(' ').zip(texts.split(' ').skip(1)) {
+            let (precedence, order, equal) = compared(rt, of, one, other)?;
+            holds(
+                (precedence, order) == wanted && equal == order.is_eq(),
+                format_args!("{of} {one} {other}: {precedence:?}, {order:?}, {equal}"),
+            )?;
         }
     }
     Ok(())
 }
 
-#[test]
-fn an_empty_pre_release_is_the_lowest(rt: HostRuntime) -> Result<(), Fail> {
-    let mut empty = strict(&rt, "1.2.3")?;
-    empty.pre_rel = Some(Release(Vec::new(rt.alloc())));
-    let zero = strict(&rt, "1.2.3-0")?;
-    let bare = strict(&rt, "1.2.3")?;
-    assert!(rt; empty < zero);
-    assert!(rt; zero < bare);
-    assert!(rt; empty < bare);
-    Ok(())
-}
-
-#[test]
-fn chunks_compare_as_parts(rt: HostRuntime) -> Result<(), Fail> {
-    let none = Chunks::default_in(rt.alloc());
-    let zero = Chunks(numbers(&rt, &[0])?);
-    let word = Chunks(alone(&rt, "a")?);
-    assert_eq!(rt; none.cmp(&zero), Ordering::Less);
-    assert_eq!(rt; none.cmp(&word), Ordering::Greater);
-    // One part, so that the fields decide.
-    let number = Chunks(numbers(&rt, &[1])?);
-    let digits = Chunks(alone(&rt, "1")?);
-    assert_eq!(rt; number.cmp(&digits), Ordering::Less);
-    assert_eq!(rt; number.partial_cmp(&digits), Some(Ordering::Less));
-    Ok(())
-}
-
-#[test]
-fn last_parts_compare_as_parts(rt: HostRuntime) -> Result<(), Fail> {
-    let candidate = Last::Rc(0, text(&rt, "rc")?, 1);
-    assert_eq!(rt; candidate.cmp(&Last::Numeric(0)), Ordering::Less);
-    let alpha = Last::Post(7, text(&rt, "alpha")?);
-    assert_eq!(rt; alpha.cmp(&Last::Numeric(7)), Ordering::Less);
-    let fifth = Last::Rc(1, text(&rt, "rc")?, 5);
-    let bare = Last::Post(1, text(&rt, "rc")?);
-    assert_eq!(rt; fifth.cmp(&bare), Ordering::Greater);
-    // One part, so that the fields decide.
-    let pieces = Last::Rc(1, text(&rt, "0")?, 2);
-    assert_eq!(rt; Last::Numeric(102).cmp(&pieces), Ordering::Less);
-    assert_eq!(rt;
-        pieces.partial_cmp(&Last::Numeric(102)),
-        Some(Ordering::Greater)
-    );
-    Ok(())
-}
-
-#[test]
-fn messy_chunks_compare_as_parts(rt: HostRuntime) -> Result<(), Fail> {
-    let nine = MChunk::Digits(9, text(&rt, "9")?);
-    let ten = MChunk::Digits(10, text(&rt, "10")?);
-    assert_eq!(rt; nine.cmp(&ten), Ordering::Less);
-    // One part, so that the fields decide.
-    let short = MChunk::Digits(1, text(&rt, "1")?);
-    let long = MChunk::Digits(1, text(&rt, "01")?);
-    assert_eq!(rt; short.cmp(&long), Ordering::Greater);
-    assert_eq!(rt; long.partial_cmp(&short), Some(Ordering::Less));
-    Ok(())
-}
-
-#[test]
-fn metadata_is_not_looked_at(rt: HostRuntime) -> Result<(), Fail> {
-    let a = strict(&rt, "1.0.0+a")?;
-    let b = strict(&rt, "1.0.0+b")?;
-    assert!(rt; a == b);
-    assert_eq!(rt; a.cmp(&b), Ordering::Equal);
-    assert_eq!(rt; hash_of(&a), hash_of(&b));
-    assert_eq!(rt; a.to_string(rt.alloc())?.as_str(), "1.0.0+a");
-    assert_eq!(rt; b.to_string(rt.alloc())?.as_str(), "1.0.0+b");
-    Ok(())
-}
-
-#[test]
-fn maps_find_what_was_put_in(rt: HostRuntime) -> Result<(), Fail> {
-    let mut ordered = BTreeMap::new(rt.alloc());
-    let mut hashed = HashMap::new(rt.alloc());
-    for (at, text) in ["1.0.0", "1.0.0-rc.1", "0.9.12"].iter().enumerate() {
-        ordered.insert(strict(&rt, text)?, at)?;
-        hashed.insert(strict(&rt, text)?, at)?;
-    }
-    let wanted = strict(&rt, "1.0.0-rc.1+build")?;
-    assert_eq!(rt; ordered.get(&wanted), Some(&1));
-    assert_eq!(rt; hashed.get(&wanted), Some(&1));
-    let absent = strict(&rt, "1.0.0-rc.2")?;
-    assert_eq!(rt; ordered.get(&absent), None);
-    assert_eq!(rt; hashed.get(&absent), None);
-    Ok(())
-}
-
-#[test]
-fn unequal_values_hash_apart(rt: HostRuntime) -> Result<(), Fail> {
-    let one = String::from_str(rt.alloc(), "1")?;
-    assert_ne!(rt; hash_of(&Chunk::Numeric(1)), hash_of(&Chunk::Alphanum(one)));
-    assert_ne!(rt; hash_of(&Chunk::Numeric(1)), hash_of(&Chunk::Numeric(2)));
-    let short = release(&rt, "-a")?;
-    let long = release(&rt, "-a.b")?;
-    assert_ne!(rt; hash_of(&short), hash_of(&long));
-    let texts = ["1.0.0", "2.0.0", "1.1.0", "1.0.1", "1.0.0-a", "1.0.0-b"];
-    for (at, one) in texts.iter().enumerate() {
-        for (place, other) in texts.iter().enumerate() {
-            if at != place {
-                let one = strict(&rt, one)?;
-                let other = strict(&rt, other)?;
-                assert_ne!(rt; hash_of(&one), hash_of(&other), "{one} {other}");
-            }
+// How two versions of a type stand in precedence and in `Ord`, and whether they are equal.
+fn compared(
+    rt: &impl AllocGlobal,
+    of: &str,
+    one: &str,
+    other: &str,
+) -> Result<(Ordering, Ordering, bool), Fail> {
+    match of {
+        "SemVer" => in_order(strict(rt, one)?, strict(rt, other)),
+        "Version" => in_order(general(rt, one)?, general(rt, other)),
+        "Mess" => in_order(messy(rt, one)?, messy(rt, other)),
+        _ => {
+            let one = any(rt, one)?;
+            let other = any(rt, other)?;
+            Ok((one.precedence(&other), one.cmp(&other), one == other))
         }
     }
-    Ok(())
 }
 
-#[test]
-fn the_default_is_zero(rt: HostRuntime) -> Result<(), Fail> {
-    let version = SemVer::default();
-    assert_eq!(rt; version.to_string(rt.alloc())?.as_str(), "0.0.0");
-    Ok(())
+// The same for a type that has one order alone.
+fn in_order<T: Ord + Drop>(
+    one: T,
+    other: Result<T, Fail>,
+) -> Result<(Ordering, Ordering, bool), Fail> {
+    let other = other?;
+    let order = one.cmp(&other);
+    Ok((order, order, one == other))
 }
 
-fn alone(rt: &HostRuntime, chunk: &str) -> Result<Vec<Chunk>, AllocError> {
-    let mut chunks = Vec::new(rt.alloc());
-    chunks.push(Chunk::Alphanum(text(rt, chunk)?))?;
-    Ok(chunks)
-}
-
-fn release(rt: &HostRuntime, text: &str) -> Result<Release, Fail> {
-    let (release, _) = Release::parse(rt.alloc(), text)?.ok_or("no release")?;
-    Ok(release)
+// How a strict version stands to its general version in precedence, and that to its messy one.
+fn converted(rt: &impl AllocGlobal, text: &str) -> Result<(Ordering, Ordering), Fail> {
+    let version = strict(rt, text)?;
+    let general = Versioning::General(version.to_version(rt.alloc())?);
+    let messy = Versioning::Complex(version.to_mess(rt.alloc())?);
+    let ideal = Versioning::Ideal(version);
+    Ok((ideal.precedence(&general), general.precedence(&messy)))
 }

@@ -1,7 +1,7 @@
-//! Tests of requirements and lists of them: which versions they ask for, what is read, and what is printed.
+//! Tests of requirements and lists of them: which versions they match, what is read, and what is printed.
 #![tactic(auto)]
 
 #[cfg(test)]
-mod requirement_lists;
+mod matching;
 #[cfg(test)]
 mod requirements;
