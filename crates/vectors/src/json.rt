@@ -91,7 +91,9 @@ fn is_written(
 // Writes the latest version in the place of an older one.
 fn replace_older(rt: &impl AllocGlobal, value: &mut Value, latest: &str) -> Result<(), Fail> {
     let latest = any(rt, latest)?;
-    let version = Versioning::deserialize_pretty(rt.alloc(), value).map_err(Fail::new)?;
+    let Ok(version) = Versioning::deserialize_pretty(rt.alloc(), value) else {
+        return Err("no version".into());
+    };
     holds(version < latest, "the latest is not above")?;
     *value = latest.serialize_pretty(rt.alloc())?;
     Ok(())
