@@ -6,9 +6,9 @@ mod general;
 mod json;
 mod messy;
 mod parts;
-mod pieces;
 mod program;
 mod requirements;
+mod scans;
 mod strict;
 
 use crate::table::Table;
@@ -16,7 +16,7 @@ use std::io;
 
 pub fn make_all(table: &mut Table<'_>) -> io::Result<()> {
     parts::make_all(table)?;
-    pieces::make_all(table)?;
+    scans::make_all(table)?;
     strict::make_all(table)?;
     general::make_all(table)?;
     messy::make_all(table)?;
