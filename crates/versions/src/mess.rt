@@ -305,10 +305,10 @@ fn read_whole(alloc: Global, s: &str) -> Result<Option<Mess>, AllocError>
     }
 }
 
-// A messy version that was scanned, with its texts still in the input: its first section, and the text of those behind
-// it, each behind its sign.
+/// A messy version that was scanned, with its texts still in the input: its first section, and the text of those behind
+/// it, each behind its sign.
 #[derive(Drop)]
-pub(crate) struct MessRef<'a> {
+pub struct MessRef<'a> {
     pub(crate) first: SectionRef<'a>,
     pub(crate) rest: &'a str,
 }

@@ -244,9 +244,9 @@ fn read_whole(alloc: Global, s: &str) -> Result<Option<SemVer>, AllocError>
     }
 }
 
-// A strict version that was scanned, with its texts still in the input.
+/// A strict version that was scanned, with its texts still in the input.
 #[derive(Drop)]
-pub(crate) struct SemVerRef<'a> {
+pub struct SemVerRef<'a> {
     pub(crate) major: u32,
     pub(crate) minor: u32,
     pub(crate) patch: u32,

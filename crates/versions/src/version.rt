@@ -300,9 +300,9 @@ fn read_whole(alloc: Global, s: &str) -> Result<Option<Version>, AllocError>
     }
 }
 
-// A general version that was scanned, with its texts still in the input.
+/// A general version that was scanned, with its texts still in the input.
 #[derive(Drop)]
-pub(crate) struct VersionRef<'a> {
+pub struct VersionRef<'a> {
     pub(crate) epoch: Option<u32>,
     pub(crate) body: BodyRef<'a>,
     pub(crate) release: Option<ReleaseRef<'a>>,
