@@ -4,6 +4,7 @@ pub mod Comparison
 pub mod Entry
 pub mod Fault
 pub mod Head
+pub mod KeyedLine
 pub mod Lines
 pub mod Matching
 pub mod Output

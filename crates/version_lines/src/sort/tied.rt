@@ -2,6 +2,7 @@
 ghost use Rattle.std.specs.Prelude.{◌≡◌, IfOk};
 
 use crate::sort::entry::Entry;
+use crate::sort::keyed::KeyedLine;
 use crate::spelled::tie_breaker;
 use std::alloc::{AllocError, Global};
 use std::cmp::Ordering;
@@ -9,25 +10,25 @@ use versions::Versioning;
 
 /// A line with the version that it spells, where that isn't strict.
 #[derive(Drop)]
-pub struct Tied<'a> {
-    line: Entry<'a>,
+pub struct Tied {
+    entry: Entry,
     version: Option<Versioning>,
 }
 
-impl<'a> Tied<'a> {
+impl Tied {
     ghost use Rattle.version_lines.specs.Tied.{tied_cmp, tied_entry, IsTied};
 
     /// The line with its version, where that isn't strict. The error is that there is no memory for it.
-    pub fn read(alloc: Global, line: Entry<'a>) -> Result<Tied<'a>, AllocError>
-        ensures line { IfOk result (λ tied. tied_entry tied ≡ line.entry) }
-        ensures read { IfOk result IsTied }
+    pub fn read(alloc: Global, lines: &[KeyedLine<'_>], entry: Entry) -> Result<Tied, AllocError>
+        ensures line { IfOk result (λ tied. tied_entry tied ≡ entry) }
+        ensures read { IfOk result (IsTied lines.now) }
     {
-        let version = tie_breaker(alloc, line.line())?;
-        Ok(Tied { line, version })
+        let version = tie_breaker(alloc, entry.line(lines))?;
+        Ok(Tied { entry, version })
     }
 
     /// As the versions compare field by field, none before some.
-    pub fn compare(&self, other: &Tied<'_>) -> Ordering
+    pub fn compare(&self, other: &Tied) -> Ordering
         ensures { result ≡ tied_cmp self.now other.now }
     {
         match (&self.version, &other.version) {
@@ -39,9 +40,9 @@ impl<'a> Tied<'a> {
     }
 
     /// The line.
-    pub fn line(&self) -> Entry<'a>
+    pub fn entry(&self) -> Entry
         ensures { result ≡ tied_entry self.now }
     {
-        self.line
+        self.entry
     }
 }
