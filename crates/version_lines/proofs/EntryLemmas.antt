@@ -16,7 +16,7 @@ use Rattle.std.proofs.lemmas.List.Elements.{All-get_or, All-head, All-tail, All-
 use Rattle.std.proofs.lemmas.List.Sorted.{ranks_by}
 use Rattle.std.proofs.lemmas.Option.{slice_get-get_or}
 use Rattle.version_lines.specs.Entry.{entry_cmp, entry_key, entry_line, tie_cmp, IsEntry}
-use Rattle.version_lines.specs.Head.{head_number}
+use Rattle.version_lines.specs.Head.{behind_heads_cmp, head_number}
 use Rattle.version_lines.specs.KeyedLine.{key_within, line_text, IsRead, TellsStrict}
 use Rattle.version_lines.specs.Lines.{lines_of, lines_output, whole_line}
 use Rattle.version_lines.specs.Sort.{bad_line, is_bad, line_cmp}
@@ -171,10 +171,13 @@ lines_alike a b a_good b_good = versions_alike (versioning_of a) (versioning_of 
 
 -- the orders of entries are total
 
+behind_heads_total : IsTotalOrder behind_heads_cmp
+behind_heads_total = then_total (on_total (drop 16) nat_list_cmp_total) (on_total length nat_cmp_total)
+
 pub entry_total : (keys : List ℕ) (lines : List KeyedLine) → IsTotalOrder (entry_cmp keys lines)
 entry_total keys lines =
     then_total (on_total (λ (entry : Entry). entry.first) nat_cmp_total) (then_total (on_total (λ (entry : Entry). entry.second) nat_cmp_total)
-    (on_total (entry_key keys lines) nat_list_cmp_total))
+    (on_total (entry_key keys lines) behind_heads_total))
 
 pub entry_ranks : (keys : List ℕ) (lines : List KeyedLine) → IsStrictWeakOrder (λ a b. is_lt (entry_cmp keys lines a b))
 entry_ranks keys lines = ranks_by (entry_total keys lines) (λ (entry : Entry). entry)

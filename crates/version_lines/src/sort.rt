@@ -23,7 +23,6 @@ use crate::lines::split_line;
 use crate::output::{make_buffer, put_line, write_whole};
 use entry::Entry;
 use keyed::KeyedLine;
-use memchr::memchr_iter;
 use std::alloc::{AllocError, Global};
 use std::io::Write;
 use ties::break_ties;
@@ -49,9 +48,9 @@ fn room_for_keys(input: &[u8]) -> usize {
     input.len().saturating_mul(2)
 }
 
-/// How many lines the input has at most.
-fn count_lines(input: &[u8]) -> usize {
-    memchr_iter(b'\n', input).count().saturating_add(1)
+/// How many lines are made room for at first: versions are most often twelve bytes or longer. For more the room grows.
+fn room_for_lines(input: &[u8]) -> usize {
+    input.len() / 12
 }
 
 /// The lines, whose keys are put into a list, or the fault that tells the first that is no version.
@@ -64,7 +63,7 @@ fn read_lines<'a>(
     ensures read { IfOk result (λ lines. All (IsRead keys.new.items) lines.items) }
     ensures faults { IfErr result (ComesOfLines (bad_line (lines_of input.now))) }
 {
-    let mut lines = Vec::with_capacity(alloc, count_lines(input))?;
+    let mut lines = Vec::with_capacity(alloc, room_for_lines(input))?;
     let mut rest = input;
     while !rest.is_empty() {
         let (text, after) = split_line(rest);

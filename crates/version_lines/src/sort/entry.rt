@@ -1,7 +1,7 @@
 //! A line as it is sorted.
 ghost use Rattle.std.specs.Prelude.{◌≡◌, ◌<◌, drop, is_some, true, IsTrue};
 ghost use Rattle.std.specs.List.{All};
-ghost use Rattle.version_lines.specs.Head.{head_number};
+ghost use Rattle.version_lines.specs.Head.{behind_heads_cmp, head_number};
 
 use crate::sort::head::head;
 use crate::sort::keyed::KeyedLine;
@@ -45,13 +45,15 @@ impl Entry {
         }
     }
 
-    /// By the second bytes, and where those are the same by the whole keys.
+    /// By the second bytes, and where those are the same by what is behind them.
     #[inline(always)]
     fn compare_behind(&self, other: &Entry, keys: &[u8], lines: &[KeyedLine<'_>]) -> Ordering
         ensures { result ≡ behind_cmp keys.now lines.now self.now other.now }
     {
         match self.second.cmp(&other.second) {
-            Ordering::Equal => self.key(keys, lines).cmp(other.key(keys, lines)),
+            Ordering::Equal => {
+                compare_behind_heads(self.key(keys, lines), other.key(keys, lines))
+            }
             order => order,
         }
     }
@@ -86,4 +88,26 @@ impl Entry {
             None => false,
         }
     }
+}
+
+/// Two keys whose first sixteen bytes are the same, where those that are missing count as 0: by what is behind them, and
+/// where that is the same by how long they are.
+#[inline(always)]
+fn compare_behind_heads(a: &[u8], b: &[u8]) -> Ordering
+    ensures { result ≡ behind_heads_cmp a.now b.now }
+{
+    if a.len() <= 16 && b.len() <= 16 {
+        return a.len().cmp(&b.len());
+    }
+    match behind_heads(a).cmp(behind_heads(b)) {
+        Ordering::Equal => a.len().cmp(&b.len()),
+        order => order,
+    }
+}
+
+/// What is behind the first sixteen bytes of a key.
+fn behind_heads(key: &[u8]) -> &[u8]
+    ensures { result.now ≡ drop 16 key.now }
+{
+    key.get(16..).unwrap_or(&[])
 }

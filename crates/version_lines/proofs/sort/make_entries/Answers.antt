@@ -23,6 +23,6 @@ loop-place-preserved c =
     let both : map line_text (take (place + 1) lines) ≡ map line_text (take place lines) ++ line_text (get_or lines place d) ∷ [] =
     ap (map line_text) (ap (λ (n : ℕ). take n lines) (add-one place) ∙ take-suc lines place d inside) ∙ map_push line_text (take place lines) (get_or lines place d) in (
       ap (map (entry_line lines)) c.in_ok-push.ensures.items ∙ map_push (entry_line lines) before entry ∙ ap (λ (l : List (List ℕ)). l ++ entry_line lines entry ∷ []) so_far
-      ∙ ap (λ (t : List ℕ). map line_text (take place lines) ++ t ∷ []) line ∙ sym both,
+          ∙ ap (λ (t : List ℕ). map line_text (take place lines) ++ t ∷ []) line ∙ sym both,
       All-same (IsEntry keys lines) _ _ c.in_ok-push.ensures.items (All-push (IsEntry keys lines) before entry read made),
     )
