@@ -51,11 +51,18 @@ impl Entry {
         ensures { result ≡ behind_cmp keys.now lines.now self.now other.now }
     {
         match self.second.cmp(&other.second) {
-            Ordering::Equal => {
-                compare_behind_heads(self.key(keys, lines), other.key(keys, lines))
-            }
+            Ordering::Equal => self.compare_keys(other, keys, lines),
             order => order,
         }
+    }
+
+    /// By what is behind the first bytes of their keys. Never inlined, so that a sort takes in what is looked at first.
+    #[inline(never)]
+    fn compare_keys(&self, other: &Entry, keys: &[u8], lines: &[KeyedLine<'_>]) -> Ordering
+        ensures { result ≡ behind_heads_cmp
+            (entry_key keys.now lines.now self.now) (entry_key keys.now lines.now other.now) }
+    {
+        compare_behind_heads(self.key(keys, lines), other.key(keys, lines))
     }
 
     /// The key of its line, of all keys.
