@@ -14,7 +14,6 @@ use Rattle.version_lines.specs.Sorting.{in_order}
 use Rattle.version_lines.specs.Spelled.{line_tie_breaker, unless_strict}
 use Rattle.version_lines.specs.Tied.{tied_cmp, tied_entry, tied_version, IsTied}
 use Rattle.version_lines.specs.declared.sort.entry.Entry.{Entry}
-use Rattle.version_lines.specs.declared.sort.keyed.KeyedLine.{KeyedLine}
 use Rattle.version_lines.specs.declared.sort.tied.Tied.{Tied}
 use Rattle.versions.specs.Mess.{PlainMess}
 use Rattle.versions.specs.SemVer.{PlainSemVer, semver_of}
@@ -29,37 +28,37 @@ pub tied_ranks : IsStrictWeakOrder (λ a b. is_lt (tied_cmp a b))
 tied_ranks = ranks_by (on_total tied_version (options_total versioning_plain_total)) (λ (tied : Tied). tied)
 
 -- the lines of what was read and put in order
-pub in_order-tied_lines : (lines : List KeyedLine) (run : List Entry) (tied ordered : List Tied) → map tied_entry tied ≡ run → All (IsTied lines) tied → ordered ≡ in_order tied_cmp tied
-    → map tied_entry ordered ≡ in_order (tie_cmp lines) run
-in_order-tied_lines lines run tied ordered same read sorted =
+pub in_order-tied_lines : (run : List Entry) (tied ordered : List Tied) → map tied_entry tied ≡ run → All IsTied tied → ordered ≡ in_order tied_cmp tied
+    → map tied_entry ordered ≡ in_order tie_cmp run
+in_order-tied_lines run tied ordered lines read sorted =
     ap (map tied_entry) sorted
-    ∙ in_order-map (IsTied lines) tied_entry tied_cmp (tie_cmp lines) (λ a b a_read b_read. rw (a_read, b_read) refl) tied read
-    ∙ ap (in_order (tie_cmp lines)) same
+    ∙ in_order-map IsTied tied_entry tied_cmp tie_cmp (λ a b a_read b_read. rw (a_read, b_read) refl) tied read
+    ∙ ap (in_order tie_cmp) lines
 
 -- lines that nothing tells apart are in order
 
 -- what breaks the tie of the line's key is this
-abbrev HasBreaker : List KeyedLine → Option PlainVersioning → Entry → Type 0
-HasBreaker lines breaker entry = line_tie_breaker (entry_line lines entry) ≡ breaker
+abbrev HasBreaker : Option PlainVersioning → Entry → Type 0
+HasBreaker breaker entry = line_tie_breaker (entry_line entry) ≡ breaker
 
-level : (lines : List KeyedLine) (breaker : Option PlainVersioning) (a b : Entry) → HasBreaker lines breaker a → HasBreaker lines breaker b → below (tie_cmp lines) b a ≡ false
-level lines breaker a b a_same b_same = ap is_lt (ap (λ v. option_cmp versioning_plain_cmp v (line_tie_breaker (entry_line lines a))) (b_same ∙ sym a_same) ∙ tied_itself (tie_total lines) a)
+level : (breaker : Option PlainVersioning) (a b : Entry) → HasBreaker breaker a → HasBreaker breaker b → below tie_cmp b a ≡ false
+level breaker a b a_same b_same = ap is_lt (ap (λ v. option_cmp versioning_plain_cmp v (line_tie_breaker (entry_line a))) (b_same ∙ sym a_same) ∙ tied_itself tie_total a)
 
-level_rest : (lines : List KeyedLine) (breaker : Option PlainVersioning) (a : Entry) (run : List Entry) → HasBreaker lines breaker a → All (HasBreaker lines breaker) run → AtLeast (below (tie_cmp lines)) a run
-level_rest lines breaker a [] same all = tt
-level_rest lines breaker a (b ∷ run) same all =
-    (level lines breaker a b same (All-head (HasBreaker lines breaker) b run all), level_rest lines breaker a run same (All-tail (HasBreaker lines breaker) b run all))
+level_rest : (breaker : Option PlainVersioning) (a : Entry) (run : List Entry) → HasBreaker breaker a → All (HasBreaker breaker) run → AtLeast (below tie_cmp) a run
+level_rest breaker a [] same all = tt
+level_rest breaker a (b ∷ run) same all =
+    (level breaker a b same (All-head (HasBreaker breaker) b run all), level_rest breaker a run same (All-tail (HasBreaker breaker) b run all))
 
-rises-level : (lines : List KeyedLine) (breaker : Option PlainVersioning) (run : List Entry) → All (HasBreaker lines breaker) run → Rises (below (tie_cmp lines)) run
-rises-level lines breaker [] all = tt
-rises-level lines breaker (a ∷ run) all =
-    let others = All-tail (HasBreaker lines breaker) a run all in
-    (level_rest lines breaker a run (All-head (HasBreaker lines breaker) a run all) others, rises-level lines breaker run others)
+rises-level : (breaker : Option PlainVersioning) (run : List Entry) → All (HasBreaker breaker) run → Rises (below tie_cmp) run
+rises-level breaker [] all = tt
+rises-level breaker (a ∷ run) all =
+    let others = All-tail (HasBreaker breaker) a run all in
+    (level_rest breaker a run (All-head (HasBreaker breaker) a run all) others, rises-level breaker run others)
 
 -- one and the same line
-pub in_order-one_line : (lines : List KeyedLine) (line : List ℕ) (run : List Entry) → All (λ entry. entry_line lines entry ≡ line) run → in_order (tie_cmp lines) run ≡ run
-in_order-one_line lines line run all =
-    in_order-risen (tie_cmp lines) run (rises-level lines (line_tie_breaker line) run (All-weaker (λ entry. entry_line lines entry ≡ line) (HasBreaker lines (line_tie_breaker line)) (λ entry same. ap line_tie_breaker same) run all))
+pub in_order-one_line : (line : List ℕ) (run : List Entry) → All (λ entry. entry_line entry ≡ line) run → in_order tie_cmp run ≡ run
+in_order-one_line line run all =
+    in_order-risen tie_cmp run (rises-level (line_tie_breaker line) run (All-weaker (λ entry. entry_line entry ≡ line) (HasBreaker (line_tie_breaker line)) (λ entry same. ap line_tie_breaker same) run all))
 
 -- strict versions
 
@@ -67,10 +66,10 @@ pub strict-no_breaker : (ideal : Option PlainSemVer) (other : Option PlainVersio
 strict-no_breaker (Some v) other strict = refl
 strict-no_breaker None other strict = cc
 
-pub in_order-strict : (lines : List KeyedLine) (run : List Entry) → All (λ entry. is_some (semver_of (entry_line lines entry)) ≡ true) run → in_order (tie_cmp lines) run ≡ run
-in_order-strict lines run all =
-    in_order-risen (tie_cmp lines) run (rises-level lines None run
-    (All-weaker (λ entry. is_some (semver_of (entry_line lines entry)) ≡ true) (HasBreaker lines None) (λ entry strict. strict-no_breaker (semver_of (entry_line lines entry)) _ strict) run all))
+pub in_order-strict : (run : List Entry) → All (λ entry. is_some (semver_of (entry_line entry)) ≡ true) run → in_order tie_cmp run ≡ run
+in_order-strict run all =
+    in_order-risen tie_cmp run (rises-level None run
+    (All-weaker (λ entry. is_some (semver_of (entry_line entry)) ≡ true) (HasBreaker None) (λ entry strict. strict-no_breaker (semver_of (entry_line entry)) _ strict) run all))
 
 -- what is spelled where no strict version is breaks ties
 pub breaker-of_others : (ideal : Option PlainSemVer) (general : Option PlainVersion) (complex : Option PlainMess) → is_some ideal ≡ false
@@ -82,10 +81,10 @@ breaker-of_others None None (Some m) other = refl
 breaker-of_others None None None other = refl
 
 -- lines behind the first that are the first, to the last of them
-pub one_line-from_first : (lines : List KeyedLine) (run : List Entry) (d : Entry) (i : ℕ) → 1 ≤ length run → length (take (length run - 1) (drop 1 run)) ≤ i
-    → All (λ entry. entry_line lines entry ≡ entry_line lines (get_or run 0 d)) (take i (take (length run - 1) (drop 1 run))) → (line : List ℕ) × All (λ entry. entry_line lines entry ≡ line) run
-one_line-from_first lines [] d i some past all = absurd (omega arith)
-one_line-from_first lines (e ∷ es) d i some past all =
+pub one_line-from_first : (run : List Entry) (d : Entry) (i : ℕ) → 1 ≤ length run → length (take (length run - 1) (drop 1 run)) ≤ i
+    → All (λ entry. entry_line entry ≡ entry_line (get_or run 0 d)) (take i (take (length run - 1) (drop 1 run))) → (line : List ℕ) × All (λ entry. entry_line entry ≡ line) run
+one_line-from_first [] d i some past all = absurd (omega arith)
+one_line-from_first (e ∷ es) d i some past all =
     let others : take (length (e ∷ es) - 1) es ≡ es = take_all (length (e ∷ es) - 1) es (omega arith) in
     let whole : take i (take (length (e ∷ es) - 1) es) ≡ es = take_all i (take (length (e ∷ es) - 1) es) past ∙ others in
-    (entry_line lines e, All-cons (λ entry. entry_line lines entry ≡ entry_line lines e) e es refl (All-same (λ entry. entry_line lines entry ≡ entry_line lines e) es _ (sym whole) all))
+    (entry_line e, All-cons (λ entry. entry_line entry ≡ entry_line e) e es refl (All-same (λ entry. entry_line entry ≡ entry_line e) es _ (sym whole) all))

@@ -4,7 +4,6 @@ pub mod Comparison
 pub mod Entry
 pub mod Fault
 pub mod Head
-pub mod KeyedLine
 pub mod Lines
 pub mod Matching
 pub mod Output

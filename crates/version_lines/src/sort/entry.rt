@@ -1,99 +1,93 @@
 //! A line as it is sorted.
-ghost use Rattle.std.specs.Prelude.{◌≡◌, ◌<◌, drop, is_some, true, IsTrue};
-ghost use Rattle.std.specs.List.{All};
-ghost use Rattle.version_lines.specs.Head.{behind_heads_cmp, head_number};
+ghost use Rattle.std.specs.Prelude.{◌≡◌, ◌++◌, drop, IfOk, IsTrue, MatchOption, OnOk};
+ghost use Rattle.version_lines.specs.Head.{behind_heads_cmp};
+ghost use Rattle.version_lines.specs.Spelled.{line_key};
 
 use crate::sort::head::head;
-use crate::sort::keyed::KeyedLine;
+use crate::spelled::add_key;
+use std::alloc::AllocError;
 use std::cmp::Ordering;
 
-/// The place of a line among all lines, and the first bytes of its key, by which most lines are told apart.
+/// A line that is a version, where its key lies among the keys of all lines, which are one list, and the first bytes of
+/// the key, by which most lines are told apart.
 #[derive(Clone, Copy)]
-pub struct Entry {
+pub struct Entry<'a> {
     first: u64,
     second: u64,
-    place: usize,
+    line: &'a [u8],
+    start: usize,
+    length: usize,
 }
 
-impl Entry {
-    ghost use Rattle.version_lines.specs.Entry.{behind_cmp, entry_cmp, entry_key, entry_line};
-    ghost use Rattle.version_lines.specs.KeyedLine.{TellsStrict};
-    ghost use Rattle.versions.specs.SemVer.{semver_of};
+impl<'a> Entry<'a> {
+    ghost use Rattle.version_lines.specs.Entry.{behind_cmp, entry_cmp, entry_key, entry_line, IsRead};
+    ghost use Rattle.version_lines.specs.Sort.{is_bad};
 
-    /// The entry of the line at a place, by its key.
-    pub fn new(place: usize, key: &[u8]) -> Entry
-        ensures place { result.place ≡ place }
-        ensures first { result.first ≡ head_number key.now }
-        ensures second { result.second ≡ head_number (drop 8 key.now) }
-        ensures bytes { All (λ byte. byte < 256) key.now }
+    /// The line, whose key is added to the keys of others, where it is a version. The error is that there is no memory
+    /// for the key.
+    pub fn read(keys: &mut Vec<u8>, line: &'a [u8]) -> Result<Option<Entry<'a>>, AllocError>
+        ensures key { OnOk result (keys.new.items ≡ keys.old.items ++ line_key line.now) }
+        ensures read { IfOk result (λ read. MatchOption read (IsTrue (is_bad line.now))
+            (λ entry. (entry_line entry ≡ line.now) × IsRead keys.new.items entry)) }
     {
-        Entry {
+        let start = keys.len();
+        if !add_key(keys, line)? {
+            return Ok(None);
+        }
+        let key = &keys.as_slice()[start..];
+        Ok(Some(Entry {
             first: head(key),
             second: head(key.get(8..).unwrap_or(&[])),
-            place,
-        }
+            line,
+            start,
+            length: key.len(),
+        }))
     }
 
     /// By their keys, the first bytes of which are looked at first.
     #[inline(always)]
-    pub fn compare(&self, other: &Entry, keys: &[u8], lines: &[KeyedLine<'_>]) -> Ordering
-        ensures { result ≡ entry_cmp keys.now lines.now self.now other.now }
+    pub fn compare(&self, other: &Entry<'_>, keys: &[u8]) -> Ordering
+        ensures { result ≡ entry_cmp keys.now self.now other.now }
     {
         match self.first.cmp(&other.first) {
-            Ordering::Equal => self.compare_behind(other, keys, lines),
+            Ordering::Equal => self.compare_behind(other, keys),
             order => order,
         }
     }
 
     /// By the second bytes, and where those are the same by what is behind them.
     #[inline(always)]
-    fn compare_behind(&self, other: &Entry, keys: &[u8], lines: &[KeyedLine<'_>]) -> Ordering
-        ensures { result ≡ behind_cmp keys.now lines.now self.now other.now }
+    fn compare_behind(&self, other: &Entry<'_>, keys: &[u8]) -> Ordering
+        ensures { result ≡ behind_cmp keys.now self.now other.now }
     {
         match self.second.cmp(&other.second) {
-            Ordering::Equal => self.compare_keys(other, keys, lines),
+            Ordering::Equal => self.compare_keys(other, keys),
             order => order,
         }
     }
 
     /// By what is behind the first bytes of their keys. Never inlined, so that a sort takes in what is looked at first.
     #[inline(never)]
-    fn compare_keys(&self, other: &Entry, keys: &[u8], lines: &[KeyedLine<'_>]) -> Ordering
+    fn compare_keys(&self, other: &Entry<'_>, keys: &[u8]) -> Ordering
         ensures { result ≡ behind_heads_cmp
-            (entry_key keys.now lines.now self.now) (entry_key keys.now lines.now other.now) }
+            (entry_key keys.now self.now) (entry_key keys.now other.now) }
     {
-        compare_behind_heads(self.key(keys, lines), other.key(keys, lines))
+        compare_behind_heads(self.key(keys), other.key(keys))
     }
 
-    /// The key of its line, of all keys.
-    fn key<'k>(&self, keys: &'k [u8], lines: &[KeyedLine<'_>]) -> &'k [u8]
-        ensures { result.now ≡ entry_key keys.now lines.now self.now }
+    /// Its key, of all keys.
+    fn key<'k>(&self, keys: &'k [u8]) -> &'k [u8]
+        ensures { result.now ≡ entry_key keys.now self.now }
     {
-        match lines.get(self.place) {
-            Some(line) => line.key(keys),
-            None => &[],
-        }
+        let behind = keys.get(self.start..).unwrap_or(&[]);
+        behind.get(..self.length).unwrap_or(behind)
     }
 
-    /// Its line.
-    pub fn line<'a>(&self, lines: &[KeyedLine<'a>]) -> &'a [u8]
-        ensures { result.now ≡ entry_line lines.now self.now }
+    /// The line.
+    pub fn line(&self) -> &'a [u8]
+        ensures { result.now ≡ entry_line self.now }
     {
-        match lines.get(self.place) {
-            Some(line) => line.text(),
-            None => &[],
-        }
-    }
-
-    /// Whether its line is a strict version, as that tells.
-    pub fn is_strict(&self, lines: &[KeyedLine<'_>]) -> bool
-        requires { All TellsStrict lines.now }
-        ensures { IsTrue result → is_some (semver_of (entry_line lines.now self.now)) ≡ true }
-    {
-        match lines.get(self.place) {
-            Some(line) => line.is_strict(),
-            None => false,
-        }
+        self.line
     }
 }
 

@@ -2,7 +2,6 @@
 ghost use Rattle.std.specs.Prelude.{◌≡◌, IfOk};
 
 use crate::sort::entry::Entry;
-use crate::sort::keyed::KeyedLine;
 use crate::spelled::tie_breaker;
 use std::alloc::{AllocError, Global};
 use std::cmp::Ordering;
@@ -10,25 +9,25 @@ use versions::Versioning;
 
 /// A line with the version that it spells, where that isn't strict.
 #[derive(Drop)]
-pub struct Tied {
-    entry: Entry,
+pub struct Tied<'a> {
+    line: Entry<'a>,
     version: Option<Versioning>,
 }
 
-impl Tied {
+impl<'a> Tied<'a> {
     ghost use Rattle.version_lines.specs.Tied.{tied_cmp, tied_entry, IsTied};
 
     /// The line with its version, where that isn't strict. The error is that there is no memory for it.
-    pub fn read(alloc: Global, lines: &[KeyedLine<'_>], entry: Entry) -> Result<Tied, AllocError>
-        ensures line { IfOk result (λ tied. tied_entry tied ≡ entry) }
-        ensures read { IfOk result (IsTied lines.now) }
+    pub fn read(alloc: Global, line: Entry<'a>) -> Result<Tied<'a>, AllocError>
+        ensures line { IfOk result (λ tied. tied_entry tied ≡ line.entry) }
+        ensures read { IfOk result IsTied }
     {
-        let version = tie_breaker(alloc, entry.line(lines))?;
-        Ok(Tied { entry, version })
+        let version = tie_breaker(alloc, line.line())?;
+        Ok(Tied { line, version })
     }
 
     /// As the versions compare field by field, none before some.
-    pub fn compare(&self, other: &Tied) -> Ordering
+    pub fn compare(&self, other: &Tied<'_>) -> Ordering
         ensures { result ≡ tied_cmp self.now other.now }
     {
         match (&self.version, &other.version) {
@@ -40,9 +39,9 @@ impl Tied {
     }
 
     /// The line.
-    pub fn entry(&self) -> Entry
+    pub fn line(&self) -> Entry<'a>
         ensures { result ≡ tied_entry self.now }
     {
-        self.entry
+        self.line
     }
 }

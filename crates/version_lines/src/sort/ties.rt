@@ -4,57 +4,50 @@ ghost use Rattle.std.specs.List.{All};
 ghost use Rattle.std.specs.List.Sorted.{IsSorted};
 ghost use Rattle.std.specs.Ordering.{then_cmp};
 ghost use Rattle.version_lines.specs.Entry.{entry_cmp, entry_line, tie_cmp};
-ghost use Rattle.version_lines.specs.KeyedLine.{TellsStrict};
 ghost use Rattle.version_lines.specs.Sorting.{in_order, run_length};
 ghost use Rattle.versions.specs.SemVer.{semver_of};
 ghost use Rattle.version_lines.specs.Tied.{tied_cmp, tied_entry, IsTied};
 
+use crate::ideal::is_strict;
 use crate::sort::entry::Entry;
-use crate::sort::keyed::KeyedLine;
 use crate::sort::tied::Tied;
 use std::alloc::{AllocError, Global};
 
 /// Puts lines that stand in the order of their keys in the order of their versions: each run of lines with one key is
 /// put in order by their versions, where they aren't one and the same line, nor strict versions all of them.
-pub fn break_ties(
-    alloc: Global,
-    keys: &[u8],
-    lines: &[KeyedLine<'_>],
-    entries: &mut [Entry],
-) -> Result<(), AllocError>
-    requires tells { All TellsStrict lines.now }
-    requires sorted { IsSorted (entry_cmp keys.now lines.now) entries.old }
+pub fn break_ties(alloc: Global, keys: &[u8], entries: &mut [Entry<'_>]) -> Result<(), AllocError>
+    requires { IsSorted (entry_cmp keys.now) entries.old }
     ensures { OnOk result (entries.new
-        ≡ in_order (then_cmp (entry_cmp keys.now lines.now) (tie_cmp lines.now)) entries.old) }
+        ≡ in_order (then_cmp (entry_cmp keys.now) tie_cmp) entries.old) }
 {
     let mut start = 0;
     while start < entries.len() {
-        let end = run_end(keys, lines, entries, start);
-        settle(alloc, lines, &mut entries[start..end])?;
+        let end = run_end(keys, entries, start);
+        settle(alloc, &mut entries[start..end])?;
         start = end;
     }
     Ok(())
 }
 
 /// Where the run ends that starts at a place.
-fn run_end(keys: &[u8], lines: &[KeyedLine<'_>], entries: &[Entry], start: usize) -> usize
+fn run_end(keys: &[u8], entries: &[Entry<'_>], start: usize) -> usize
     requires { start < length entries.now }
     ensures within { (start < result) × (result ≤ length entries.now) }
-    ensures run { result ≡ start + run_length (entry_cmp keys.now lines.now) (drop start entries.now) }
+    ensures run { result ≡ start + run_length (entry_cmp keys.now) (drop start entries.now) }
 {
-    start + first_run(keys, lines, &entries[start..])
+    start + first_run(keys, &entries[start..])
 }
 
 /// How many lines from the first on have its key, where the lines stand in the order of their keys.
-fn first_run(keys: &[u8], lines: &[KeyedLine<'_>], entries: &[Entry]) -> usize
-    ensures { result ≡ run_length (entry_cmp keys.now lines.now) entries.now }
+fn first_run(keys: &[u8], entries: &[Entry<'_>]) -> usize
+    ensures { result ≡ run_length (entry_cmp keys.now) entries.now }
 {
     let [first, others @ ..] = entries else {
         return 0;
     };
     let mut count = 1;
     for other in others {
-        if first.compare(other, keys, lines).is_lt() {
+        if first.compare(other, keys).is_lt() {
             return count;
         }
         count += 1;
@@ -63,28 +56,27 @@ fn first_run(keys: &[u8], lines: &[KeyedLine<'_>], entries: &[Entry]) -> usize
 }
 
 /// Puts lines with one key in the order of their versions.
-fn settle(alloc: Global, lines: &[KeyedLine<'_>], run: &mut [Entry]) -> Result<(), AllocError>
-    requires { All TellsStrict lines.now }
-    ensures { OnOk result (run.new ≡ in_order (tie_cmp lines.now) run.old) }
+fn settle(alloc: Global, run: &mut [Entry<'_>]) -> Result<(), AllocError>
+    ensures { OnOk result (run.new ≡ in_order tie_cmp run.old) }
 {
-    if are_one_line(lines, run) || are_strict(lines, run) {
+    if are_one_line(run) || are_strict(run) {
         return Ok(());
     }
-    let mut tied = read_again(alloc, lines, run)?;
+    let mut tied = read_again(alloc, run)?;
     sort_tied(&mut tied)?;
     put_back(tied.as_slice(), run);
     Ok(())
 }
 
 /// Whether the lines are one and the same.
-fn are_one_line(lines: &[KeyedLine<'_>], run: &[Entry]) -> bool
-    ensures { IsTrue result → (line : List ℕ) × All (λ entry. entry_line lines.now entry ≡ line) run.now }
+fn are_one_line(run: &[Entry<'_>]) -> bool
+    ensures { IsTrue result → (line : List ℕ) × All (λ entry. entry_line entry ≡ line) run.now }
 {
     let [first, others @ ..] = run else {
         return true;
     };
     for other in others {
-        if other.line(lines) != first.line(lines) {
+        if other.line() != first.line() {
             return false;
         }
     }
@@ -92,12 +84,11 @@ fn are_one_line(lines: &[KeyedLine<'_>], run: &[Entry]) -> bool
 }
 
 /// Whether the lines are strict versions.
-fn are_strict(lines: &[KeyedLine<'_>], run: &[Entry]) -> bool
-    requires { All TellsStrict lines.now }
-    ensures { IsTrue result → All (λ entry. is_some (semver_of (entry_line lines.now entry)) ≡ true) run.now }
+fn are_strict(run: &[Entry<'_>]) -> bool
+    ensures { IsTrue result → All (λ entry. is_some (semver_of (entry_line entry)) ≡ true) run.now }
 {
     for entry in run {
-        if !entry.is_strict(lines) {
+        if !is_strict(entry.line()) {
             return false;
         }
     }
@@ -105,34 +96,30 @@ fn are_strict(lines: &[KeyedLine<'_>], run: &[Entry]) -> bool
 }
 
 /// The lines with what breaks their ties.
-fn read_again(
-    alloc: Global,
-    lines: &[KeyedLine<'_>],
-    run: &[Entry],
-) -> Result<Vec<Tied>, AllocError>
+fn read_again<'a>(alloc: Global, run: &[Entry<'a>]) -> Result<Vec<Tied<'a>>, AllocError>
     ensures lines { IfOk result (λ tied. map tied_entry tied.items ≡ run.now) }
-    ensures read { IfOk result (λ tied. All (IsTied lines.now) tied.items) }
+    ensures read { IfOk result (λ tied. All IsTied tied.items) }
 {
     let mut tied = Vec::with_capacity(alloc, run.len())?;
     for entry in run {
-        tied.push(Tied::read(alloc, lines, *entry)?)?;
+        tied.push(Tied::read(alloc, *entry)?)?;
     }
     Ok(tied)
 }
 
 /// Puts lines in the order of the versions that were read.
-fn sort_tied(tied: &mut Vec<Tied>) -> Result<(), AllocError>
+fn sort_tied(tied: &mut Vec<Tied<'_>>) -> Result<(), AllocError>
     ensures { OnOk result (tied.new.items ≡ in_order tied_cmp tied.old.items) }
 {
     tied.sort_by(Tied::compare)
 }
 
 /// Puts lines in the places of as many others.
-fn put_back(tied: &[Tied], run: &mut [Entry])
+fn put_back<'a>(tied: &[Tied<'a>], run: &mut [Entry<'a>])
     requires { length run.old ≡ length tied.now }
     ensures { run.new ≡ map tied_entry tied.now }
 {
     for (place, tied) in tied.iter().enumerate() {
-        run[place] = tied.entry();
+        run[place] = tied.line();
     }
 }

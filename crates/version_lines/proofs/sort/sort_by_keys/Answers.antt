@@ -8,8 +8,8 @@ use Rattle.version_lines.proofs.sort.sort_by_keys.Goals as goal
 
 pub returns : goal.returns
 returns c =
-    let cmp = entry_cmp c.args.keys.now c.args.lines.now in
-    let ranks = entry_ranks c.args.keys.now c.args.lines.now in
+    let cmp = entry_cmp c.args.keys.now in
+    let ranks = entry_ranks c.args.keys.now in
     on_ok_weaker c.sort_by.result
     (λ sorted. in_order-only cmp ranks _ _ (sorted _ ranks (always_returns_same _ _ _ (λ a r f2 called. search rules)))
     (c.sort_by.ensures.stable _ ranks (always_returns_same _ _ _ (λ a r f2 called. search rules))))

@@ -10,13 +10,13 @@ returns-in_err-buffer-clause-at_fault g c = GrowsAt-memory c.from_residual.resul
 
 pub returns-in_err-put_line-clause-at_fault : goal.returns-in_err-put_line-clause-at_fault
 returns-in_err-put_line-clause-at_fault g c =
-    let next = lines_output-entries c.args.lines.now c.args.entries.now c.loop-entry.entry-index _ c.line.result.now (search rules) c.line.ensures in
+    let next = lines_output-entries c.args.entries.now c.loop-entry.entry-index _ c.line.result.now (search rules) c.line.ensures in
     GrowsAt-write c.from_residual-in_err-put_line.result _ _ _ (search rules)
     (OnErr-always _ _ (AppendsProperBeginning-step _ _ _ c.loop-entry.buffer.items _ _ _ _ c.loop-entry.invariant next c.in_err-put_line.ensures.err))
 
 pub loop-entry-preserved : goal.loop-entry-preserved
 loop-entry-preserved g c =
-    let next = lines_output-entries c.args.lines.now c.args.entries.now c.loop-entry.entry-index _ c.line.result.now (search rules) c.line.ensures in
+    let next = lines_output-entries c.args.entries.now c.loop-entry.entry-index _ c.line.result.now (search rules) c.line.ensures in
     AppendsUpTo-step _ _ _ c.loop-entry.buffer.items _ _ _ _ _ c.loop-entry.invariant next c.in_ok-put_line.ensures.ok
 
 pub returns-clause-at_fault : goal.returns-clause-at_fault

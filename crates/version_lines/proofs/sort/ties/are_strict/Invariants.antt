@@ -6,4 +6,4 @@ use Rattle.version_lines.proofs.sort.ties.are_strict.Given as goal
 use Rattle.versions.specs.SemVer.{semver_of}
 
 abbrev pub invariant-loop-entry : goal.invariant-loop-entry
-invariant-loop-entry l = All (λ entry. is_some (semver_of (entry_line l.lines entry)) ≡ true) (take l.entry-index l.run)
+invariant-loop-entry l = All (λ entry. is_some (semver_of (entry_line entry)) ≡ true) (take l.entry-index l.run)

@@ -7,10 +7,10 @@ use Rattle.version_lines.proofs.sort.ties.break_ties.Goals as goal
 
 pub loop-start-init : goal.loop-start-init
 loop-start-init c =
-    done_to-start (entry_cmp c.args.keys.now c.args.lines.now) (tie_cmp c.args.lines.now) c.args.entries.now
-    (rises_from_sorted (entry_cmp c.args.keys.now c.args.lines.now) (entry_ranks c.args.keys.now c.args.lines.now) c.args.entries.now c.requires.sorted)
+    done_to-start (entry_cmp c.args.keys.now) tie_cmp c.args.entries.now
+    (rises_from_sorted (entry_cmp c.args.keys.now) (entry_ranks c.args.keys.now) c.args.entries.now c.requires)
 
 pub loop-start-preserved : goal.loop-start-preserved
 loop-start-preserved c =
-    done_to-run (entry_cmp c.args.keys.now c.args.lines.now) (tie_cmp c.args.lines.now) (entry_total c.args.keys.now c.args.lines.now) c.args.entries.now c.loop-start.entries _ c.settle.new.run c.loop-start.start c.run_end-end.result
+    done_to-run (entry_cmp c.args.keys.now) tie_cmp (entry_total c.args.keys.now) c.args.entries.now c.loop-start.entries _ c.settle.new.run c.loop-start.start c.run_end-end.result
     c.loop-start.invariant c.run_end-end.ensures.run c.in_ok-settle.ensures refl

@@ -5,7 +5,7 @@ use Rattle.version_lines.proofs.TieLemmas.{IsDoneTo}
 use Rattle.version_lines.proofs.sort.ties.break_ties.Given as goal
 
 abbrev pub invariant-loop-start : goal.invariant-loop-start
-invariant-loop-start l = IsDoneTo (entry_cmp l.keys l.lines) (tie_cmp l.lines) l.initial.entries l.entries l.start
+invariant-loop-start l = IsDoneTo (entry_cmp l.keys) tie_cmp l.initial.entries l.entries l.start
 
 abbrev pub decreases-loop-start : goal.decreases-loop-start
 decreases-loop-start l = length l.initial.entries - l.start

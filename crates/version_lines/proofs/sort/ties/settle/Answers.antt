@@ -9,8 +9,8 @@ use Rattle.version_lines.proofs.sort.ties.settle.Goals.{then-are_one_line-via-th
 pub returns-then-are_one_line : goal.returns-then-are_one_line
 returns-then-are_one_line c =
     elim c.then-are_one_line.branch [
-      | then-are_one_line-via-then-are_one_line w ↦ let (line, all) = w.if-are_one_line.ensures (search rules) in sym (in_order-one_line c.args.lines.now line c.args.run.now all)
-      | then-are_one_line-via-else-are_one_line+then-are_strict w ↦ sym (in_order-strict c.args.lines.now c.args.run.now (w.if-are_strict.ensures (search rules)))
+      | then-are_one_line-via-then-are_one_line w ↦ let (line, all) = w.if-are_one_line.ensures (search rules) in sym (in_order-one_line line c.args.run.now all)
+      | then-are_one_line-via-else-are_one_line+then-are_strict w ↦ sym (in_order-strict c.args.run.now (w.if-are_strict.ensures (search rules)))
     ]
 
 pub put_back-requires : goal.put_back-requires
@@ -22,4 +22,4 @@ put_back-requires c =
 pub returns : goal.returns
 returns c =
     c.put_back.ensures
-    ∙ in_order-tied_lines c.args.lines.now c.args.run.now c.in_ok-tied.tied.items _ c.in_ok-tied.ensures.lines c.in_ok-tied.ensures.read (c.as_slice.ensures.value ∙ c.in_ok-sort_tied.ensures)
+    ∙ in_order-tied_lines c.args.run.now c.in_ok-tied.tied.items _ c.in_ok-tied.ensures.lines c.in_ok-tied.ensures.read (c.as_slice.ensures.value ∙ c.in_ok-sort_tied.ensures)
