@@ -12,7 +12,6 @@ ghost use Rattle.version_lines.specs.Entry.{entry_cmp, entry_line, IsRead};
 
 mod entry;
 mod head;
-mod tied;
 mod ties;
 
 use crate::command::InputCommand;
