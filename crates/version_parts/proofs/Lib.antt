@@ -30,6 +30,7 @@ pub mod Runs
 pub mod ShortRuns
 pub mod Spelled
 pub mod Split
+pub mod Taken
 pub mod TextBytes
 pub mod Texts
 pub mod WholeReading

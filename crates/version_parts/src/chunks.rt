@@ -1,11 +1,12 @@
 //! The chunks of a general version, and its body: the chunks with the last part behind them.
 
-ghost use Rattle.std.specs.Prelude.{◌≡◌, ◌<◌, ◌-◌, ◌∷◌, ◌++◌, [], refl, IfOk, OnErr, Some};
+ghost use Rattle.std.specs.Prelude.{◌≡◌, ◌<◌, ◌-◌, ◌∷◌, ◌++◌, [], refl, IfNone, IfOk, IfSome, OnErr, Some};
 ghost use Rattle.std.proofs.Common.{ap};
 ghost use Rattle.std.specs.Cmp.{eq_by_cmp_equiv, on_equiv, on_per, on_total, partial_equiv_from_equiv, po};
 ghost use Rattle.std.specs.Option.{option_map};
 ghost use Rattle.std.specs.Ordering.{as_partial_cmp, eq_by_cmp, on};
 ghost use Rattle.version_parts.specs.Body.{body_front, chunks_front, plain_chunks, BodyOwns};
+ghost use Rattle.version_parts.specs.Chunk.{plain_chunk_ref};
 ghost use Rattle.version_parts.specs.Front.{Reads};
 ghost use Rattle.version_parts.specs.Last.{last_text, plain_last};
 ghost use Rattle.version_parts.specs.OrderLaws.{same_where_tied};
@@ -17,11 +18,11 @@ ghost use Rattle.version_parts.specs.Release.{release_fed, release_text};
 ghost use Rattle.version_parts.specs.ReleaseLaws.{release_total, releases_same};
 ghost use Rattle.version_parts.specs.ReleaseOrder.{release_cmp};
 
-use crate::chunk::{Chunk, Part};
+use crate::chunk::{Chunk, ChunkRef, Part};
 use crate::key::{ItemsLeft, compare_part_lists};
 use crate::last::{Last, LastRef};
 use crate::lists::{compare_lists, copy_list, write_dotted};
-use crate::scan::Dotted;
+use crate::scan::{Class, Dotted, after_mark};
 use serde::{Deserialize, Serialize};
 use std::alloc::{AllocError, Global};
 use std::cmp::Ordering;
@@ -158,6 +159,18 @@ impl<'a> BodyRef<'a> {
         ItemsLeft::spelled_by(self.list)
     }
 
+    /// Its parts, one after the other. Takes no memory.
+    #[tactic(auto, using(crate::proofs::ListBytes::parts_spelled))]
+    pub fn spelled_parts(&self) -> SpelledParts<'a>
+        ensures { chunk_parts result
+            ≡ chunk_parts self.now.0 ++ part_key (last_text self.now.1) ∷ [] }
+    {
+        SpelledParts {
+            text: self.list.text,
+            count: self.list.count,
+        }
+    }
+
     /// The body with texts of its own. A number alone takes no memory; the error is that there is no memory for more.
     pub fn build(&self, alloc: Global) -> Result<(Chunks, Last), AllocError>
         ensures ok { IfOk result (λ body. (plain_chunks body.0, plain_last body.1) ≡ self.now) }
@@ -166,5 +179,43 @@ impl<'a> BodyRef<'a> {
         let chunks = self.list.build::<Part>(alloc, self.list.count - 1)?;
         let last = self.last.build(alloc)?;
         Ok((Chunks(chunks), last))
+    }
+}
+
+/// The parts of a body that was scanned, seen as those that are still to come. It takes no memory.
+#[derive(Drop)]
+pub struct SpelledParts<'a> {
+    text: &'a str,
+    count: usize,
+}
+
+impl<'a> Model for SpelledParts<'a> {
+    ghost use Rattle.std.specs.Prelude.{List, take};
+    ghost use Rattle.version_parts.specs.Chunk.{part_front, PlainChunk};
+    ghost use Rattle.version_parts.specs.Front.{elements_at};
+
+    ghost Value = { List PlainChunk };
+
+    ghost view = { λ parts. take parts.count (elements_at part_front parts.text.now) };
+}
+
+impl<'a> SpelledParts<'a> {
+    /// The first of the parts, which is taken.
+    pub fn take_first(&mut self) -> Option<ChunkRef<'a>>
+        ensures some { IfSome result (λ part. self.old ≡ plain_chunk_ref part ∷ self.new) }
+        ensures none { IfNone result (self.old ≡ []) }
+    {
+        if self.count == 0 {
+            return None;
+        }
+        let (part, rest) = ChunkRef::scan(self.text, Class::Alphanumeric)?;
+        match after_mark(rest, b'.') {
+            Some(next) => {
+                self.text = next;
+                self.count -= 1;
+            }
+            None => self.count = 0,
+        }
+        Some(part)
     }
 }

@@ -14,8 +14,8 @@ mod release;
 pub mod scan;
 mod sep;
 
-pub use chunk::{Chunk, Part, ReleaseChunk};
-pub use chunks::{BodyRef, Chunks};
+pub use chunk::{Chunk, ChunkRef, Part, ReleaseChunk};
+pub use chunks::{BodyRef, Chunks, SpelledParts};
 pub use last::{Last, LastRef};
 pub use mchunk::{MChunk, MessyChunk, SectionRef};
 pub use release::{Release, ReleaseRef};
