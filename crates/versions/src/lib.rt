@@ -17,6 +17,7 @@ pub mod key;
 mod kind;
 mod laws;
 mod mess;
+mod numbers;
 mod op;
 mod optional;
 mod parts;
