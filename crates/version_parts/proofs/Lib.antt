@@ -6,6 +6,7 @@ pub mod Compare
 pub mod DigitRun
 pub mod Dotted
 pub mod DottedScan
+pub mod ElementsLeft
 pub mod Fed
 pub mod Growing
 pub mod InlineBytes
@@ -30,7 +31,6 @@ pub mod Runs
 pub mod ShortRuns
 pub mod Spelled
 pub mod Split
-pub mod Taken
 pub mod TextBytes
 pub mod Texts
 pub mod WholeReading

@@ -4,6 +4,7 @@
 
 mod chunk;
 mod chunks;
+pub mod elements;
 pub mod key;
 mod last;
 mod laws;
@@ -15,8 +16,8 @@ pub mod scan;
 mod sep;
 
 pub use chunk::{Chunk, ChunkRef, Part, ReleaseChunk};
-pub use chunks::{BodyRef, Chunks, SpelledParts};
+pub use chunks::{BodyRef, Chunks};
 pub use last::{Last, LastRef};
-pub use mchunk::{MChunk, MessyChunk, SectionRef};
+pub use mchunk::{MChunk, MChunkRef, MessyChunk, SectionRef};
 pub use release::{Release, ReleaseRef};
 pub use sep::Sep;

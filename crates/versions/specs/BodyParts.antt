@@ -1,7 +1,8 @@
 -- The parts of a general version, by where a walk over them is.
 use Rattle.std.specs.Prelude.{List, [], ◌∷◌, ◌++◌, map}
 use Rattle.std.specs.Option.{option_map_or}
-use Rattle.version_parts.specs.Chunk.{chunk_text, plain_chunk, plain_chunk_ref}
+use Rattle.version_parts.specs.Chunk.{chunk_text, part_front, plain_chunk, plain_chunk_ref}
+use Rattle.version_parts.specs.ElementsLeft.{elements_left}
 use Rattle.version_parts.specs.Last.{last_text, plain_last}
 use Rattle.version_parts.specs.PartKey.{PartKey, chunk_parts, part_key}
 use Rattle.versions.specs.declared.parts.BodyPart.{BodyPart}
@@ -23,4 +24,4 @@ built_left parts = chunk_parts (map plain_chunk parts.chunks.now) ++ option_map_
 -- the keys of the parts that are still to come
 abbrev pub parts_left : BodyParts → List PartKey
 parts_left (Built parts) = built_left parts
-parts_left (Spelled parts) = chunk_parts parts
+parts_left (Spelled parts) = chunk_parts (elements_left part_front parts)

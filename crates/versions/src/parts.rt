@@ -9,8 +9,9 @@ ghost use Rattle.versions.specs.VersionMatch.{is_plain_zero, PartsMatchCaret, Pa
 
 use crate::version::{Version, VersionRef};
 use std::cmp::Ordering;
+use version_parts::elements::ElementsLeft;
 use version_parts::key::{PartText, compare_parts};
-use version_parts::{Chunk, ChunkRef, Last, SpelledParts};
+use version_parts::{Chunk, ChunkRef, Last, Part};
 
 // A part of a general version: a chunk, which may be the last part as its text spells it, or the last part that a
 // version has.
@@ -74,7 +75,7 @@ impl<'a> BuiltParts<'a> {
 #[derive(Drop)]
 pub(crate) enum BodyParts<'a> {
     Built(BuiltParts<'a>),
-    Spelled(SpelledParts<'a>),
+    Spelled(ElementsLeft<'a>),
 }
 
 impl<'a> BodyParts<'a> {
@@ -103,7 +104,7 @@ impl<'a> BodyParts<'a> {
     {
         match self {
             BodyParts::Built(parts) => parts.take_first(),
-            BodyParts::Spelled(parts) => Some(BodyPart::Chunk(parts.take_first()?)),
+            BodyParts::Spelled(parts) => Some(BodyPart::Chunk(parts.next::<Part>()?)),
         }
     }
 }
