@@ -71,7 +71,7 @@ none_there none match = no_end match.before match.final (sym none ∙ match.whol
 -- the final parts, where there is no other
 pub finals : (w p : PartKey) → IsTrue (is_ge (part_cmp (Some p) (Some w))) ↔ PartsMatchTilde (w ∷ []) (p ∷ [])
 finals w p = (
-  λ at_least. record { before = []; wanted_final = w; final = p; wanted_whole = refl; whole = refl; not_below = (not_less _).0 at_least; },
+  λ at_least. record { before = []; wanted_final = w; final = p; wanted_whole = refl; whole = refl; not_below = (not_less _).0 at_least },
   λ match.
       let wanted_same = (finals_same [] match.before w match.wanted_final match.wanted_whole).1 in
       let same = (finals_same [] match.before p match.final match.whole).1 in
@@ -114,7 +114,7 @@ first_same w p next_wanted next wanted_more more = (
         → IsNotBelow wanted_final final → (w ≡ p) × PartsMatchTilde (next_wanted ∷ wanted_more) (next ∷ more)
     go [] wanted_final final wanted_whole whole above = cc whole
     go (b ∷ before) wanted_final final wanted_whole whole above =
-        (cc (wanted_whole, whole), record { before = before; wanted_final = wanted_final; final = final; wanted_whole = cc wanted_whole; whole = cc whole; not_below = above; })
+        (cc (wanted_whole, whole), record { before = before; wanted_final = wanted_final; final = final; wanted_whole = cc wanted_whole; whole = cc whole; not_below = above })
 
 -- the parts that were taken last are the same, and a further one is taken of both
 pub same_so_far : {all_wanted all wanted_more more : List PartKey} (w p next_wanted next : PartKey) → all_wanted ≡ next_wanted ∷ wanted_more → all ≡ next ∷ more
@@ -137,4 +137,5 @@ first_other wanted part wanted_whole whole tied other =
     rw (wanted_whole, whole) (λ match. (parts_same wanted part tied, rw other match), λ match. rw other at match.1)
 
 pub ruleset carets = (parts_differ, parts_same, first_other)
+
 pub ruleset tildes = (parts_differ, parts_same, none_wanted, none_there, wanted_is_shorter, wanted_is_longer, first_same, same_so_far, at_the_end)
