@@ -5,7 +5,6 @@ ghost use Rattle.versions.specs.Versioning.{versioning_of};
 
 use crate::answer::{Answer, Label};
 use crate::lines::LineCommand;
-use std::alloc::{AllocError, Global};
 use versions::VersioningRef;
 
 /// Labels each line by the kind of version that it is.
@@ -17,8 +16,8 @@ impl LineCommand for Show {
 
     ghost line_output = { λ _. show_line };
 
-    fn answer(&self, _: Global, line: &[u8]) -> Result<Answer, AllocError> {
-        Ok(answer_for(line))
+    fn answer(&self, line: &[u8]) -> Answer {
+        answer_for(line)
     }
 }
 
