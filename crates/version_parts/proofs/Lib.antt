@@ -4,6 +4,7 @@ pub mod ChunkReading
 pub mod Codes
 pub mod Compare
 pub mod DigitRun
+pub mod Digits
 pub mod Dotted
 pub mod DottedScan
 pub mod Fed
@@ -15,6 +16,7 @@ pub mod ListBytes
 pub mod MChunkReading
 pub mod Mapped
 pub mod NumberBytes
+pub mod Numbers
 pub mod NumeralReading
 pub mod Numerals
 pub mod OrderLemmas

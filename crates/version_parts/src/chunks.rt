@@ -7,7 +7,7 @@ ghost use Rattle.std.specs.Option.{option_map};
 ghost use Rattle.std.specs.Ordering.{as_partial_cmp, eq_by_cmp, on};
 ghost use Rattle.version_parts.specs.Body.{body_front, chunks_front, plain_chunks, BodyOwns};
 ghost use Rattle.version_parts.specs.Front.{Reads};
-ghost use Rattle.version_parts.specs.Last.{last_text, plain_last};
+ghost use Rattle.version_parts.specs.Last.{last_text, plain_last, plain_last_ref};
 ghost use Rattle.version_parts.specs.OrderLaws.{same_where_tied};
 ghost use Rattle.version_parts.specs.Codes.{items_bytes};
 ghost use Rattle.version_parts.specs.PartKey.{chunk_parts, part_bytes, part_key};
@@ -124,7 +124,6 @@ impl PartialOrd for Chunks {
 #[derive(Drop)]
 pub struct BodyRef<'a> {
     list: Dotted<'a>,
-    last: LastRef<'a>,
 }
 
 impl<'a> Model for BodyRef<'a> {
@@ -134,9 +133,9 @@ impl<'a> Model for BodyRef<'a> {
 
     ghost use Rattle.version_parts.specs.Body.{scanned_body, IsScannedBody};
 
-    ghost view = { λ body. scanned_body body.list body.last };
+    ghost view = { λ body. scanned_body body.list };
 
-    ghost invariant = { λ body. IsScannedBody body.list body.last };
+    ghost invariant = { λ body. IsScannedBody body.list };
 }
 
 impl<'a> BodyRef<'a> {
@@ -145,8 +144,17 @@ impl<'a> BodyRef<'a> {
         ensures { option_map (λ r. (r.0, r.1.now)) result ≡ body_front i.now }
     {
         let (list, rest) = Dotted::scan::<Part>(i)?;
-        let (last, _) = LastRef::scan(list.last)?;
-        Some((BodyRef { list, last }, rest))
+        Some((BodyRef { list }, rest))
+    }
+
+    /// Its last part. Takes no memory.
+    pub fn last(&self) -> LastRef<'a>
+        ensures { plain_last_ref result ≡ self.now.1 }
+    {
+        match LastRef::scan(self.list.last) {
+            Some((last, _)) => last,
+            None => LastRef::Numeric(0),
+        }
     }
 
     /// Its parts as they compare. Takes no memory.
@@ -164,7 +172,7 @@ impl<'a> BodyRef<'a> {
         ensures err { OnErr result (BodyOwns self.now) }
     {
         let chunks = self.list.build::<Part>(alloc, self.list.count - 1)?;
-        let last = self.last.build(alloc)?;
+        let last = self.last().build(alloc)?;
         Ok((Chunks(chunks), last))
     }
 }

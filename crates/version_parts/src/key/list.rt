@@ -14,7 +14,7 @@ ghost use Rattle.version_parts.specs.Pieces.{IsNext};
 ghost use Rattle.version_parts.specs.PartKey.{chunk_parts, mchunk_key_front, part_bytes, part_key, part_key_front, parts_bytes, section_parts, PartKey};
 ghost use Rattle.version_parts.specs.ReleaseOrder.{chunk_bytes};
 
-use crate::chunk::{Chunk, ChunkRef, Part, ReleaseChunk};
+use crate::chunk::{Chunk, ChunkText, Part, ReleaseChunk};
 use crate::key::PieceBytes;
 use crate::mchunk::{MChunk, MessyChunk};
 use crate::scan::{Class, Dotted, Element, after_mark, nonempty_run};
@@ -252,9 +252,10 @@ impl Code for Part {
     }
 
     #[inline(always)]
+    #[tactic(auto, using(crate::proofs::ShortRuns::classes_with_digits))]
     fn set_front_piece<'a>(piece: &mut PieceBytes<'a>, i: &'a str) -> Option<&'a str> {
-        let (chunk, rest) = ChunkRef::scan(i, Class::Alphanumeric)?;
-        piece.set_chunk_as_part(chunk);
+        let (chunk, rest) = ChunkText::scan(i, Class::Alphanumeric)?;
+        piece.set_chunk_text_as_part(chunk);
         Some(rest)
     }
 
@@ -315,9 +316,10 @@ impl Code for ReleaseChunk {
     }
 
     #[inline(always)]
+    #[tactic(auto, using(crate::proofs::ShortRuns::classes_with_digits))]
     fn set_front_piece<'a>(piece: &mut PieceBytes<'a>, i: &'a str) -> Option<&'a str> {
-        let (chunk, rest) = ChunkRef::scan(i, Class::Identifier)?;
-        piece.set_chunk(chunk);
+        let (chunk, rest) = ChunkText::scan(i, Class::Identifier)?;
+        piece.set_chunk_text(chunk);
         Some(rest)
     }
 
