@@ -29,6 +29,7 @@ pub mod ReleaseOrder
 pub mod Repeated
 pub mod RunFronts
 pub mod Runs
+pub mod Short
 pub mod ShortRuns
 pub mod Spelled
 pub mod Split

@@ -54,6 +54,16 @@ pub(crate) fn run_len(bytes: &[u8], class: Class) -> usize
     bytes.len()
 }
 
+// The longest run of a class at the front of some bytes, which may be empty, and the rest.
+#[tactic(auto, using(crate::proofs::Runs::runs_of_two))]
+#[inline(always)]
+pub(crate) fn split_bytes(bytes: &[u8], class: Class) -> (&[u8], &[u8])
+    ensures run { result.0.now ≡ take_while (contains class) bytes.now }
+    ensures rest { result.1.now ≡ drop (prefix_len (contains class) bytes.now) bytes.now }
+{
+    bytes.split_at(run_len(bytes, class))
+}
+
 // Whether a text begins with a byte of a class.
 #[inline(always)]
 pub(crate) fn begins_with(bytes: &[u8], class: Class) -> bool
