@@ -35,3 +35,9 @@ pub numeral_as_part : (text digits : List ℕ) → SpellsNumeral text (digits_va
 numeral_as_part text digits s bytes = rw (plain_number (digits_value 10 text) s.fits, bytes) refl
 
 pub ruleset numeral_part = (numeral_as_part)
+
+-- a numeral is what its value prints
+pub numeral_printed_text : (text : List ℕ) → SpellsNumeral text (digits_value 10 text) → text ≡ decimal (digits_value 10 text)
+numeral_printed_text text s = sym (numeral_printed text (digits_value 10 text) s)
+
+pub ruleset numeral_text = (numeral_printed_text)

@@ -337,7 +337,7 @@ impl<'a> Iterator for PieceBytes<'a> {
 // The digits of a numeral that count: 0 has none.
 #[tactic(auto, using(crate::proofs::Numbers::numeral_bytes))]
 #[inline(always)]
-fn counted_digits(numeral: &str) -> &[u8]
+pub(crate) fn counted_digits(numeral: &str) -> &[u8]
     requires { SpellsNumeral numeral.now (digits_value 10 numeral.now) }
     ensures bytes { number_bytes (digits_value 10 numeral.now)
         ≡ length result.now ∷ result.now }

@@ -5,10 +5,14 @@ ghost use Rattle.std.specs.List.{prefix_len};
 ghost use Rattle.version_parts.specs.declared.key.place.AfterNumber.{AfterNumber};
 ghost use Rattle.version_parts.specs.declared.key.place.AfterNumber.TheVariants.{Suffix, Text};
 ghost use Rattle.version_parts.specs.declared.key.place.Place.TheVariants.{Number, Rest, Split};
+ghost use Rattle.std.specs.Str.Parse.{digits_value};
+ghost use Rattle.version_parts.specs.NumberBytes.{number_bytes};
+ghost use Rattle.version_parts.specs.Numeral.{SpellsNumeral};
 ghost use Rattle.version_parts.specs.PartKey.{part_bytes, part_key};
 ghost use Rattle.version_parts.specs.Pieces.{place_bytes};
 ghost use Rattle.version_parts.specs.TextBytes.{text_bytes};
 
+use crate::key::piece::counted_digits;
 use crate::scan::{Class, begins_with, split_bytes};
 use arrayvec::ArrayVec;
 
@@ -59,6 +63,18 @@ pub fn put_number<'t>(key: &mut ShortKey, text: &'t [u8]) -> Result<&'t [u8], No
     put_byte(key, digits.len() as u8)?;
     put_bytes(key, digits)?;
     Ok(rest)
+}
+
+/// Puts the number that a numeral writes.
+#[inline(always)]
+pub(crate) fn put_numeral(key: &mut ShortKey, numeral: &str) -> Result<(), NotShort>
+    requires { SpellsNumeral numeral.now (digits_value 10 numeral.now) }
+    ensures { OnOk result (key.new.items
+        ≡ key.old.items ++ number_bytes (digits_value 10 numeral.now)) }
+{
+    let digits = counted_digits(numeral);
+    put_byte(key, digits.len() as u8)?;
+    put_bytes(key, digits)
 }
 
 // What stands behind the zeros that a text begins with.
