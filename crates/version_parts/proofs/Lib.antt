@@ -7,6 +7,7 @@ pub mod DigitRun
 pub mod Digits
 pub mod Dotted
 pub mod DottedScan
+pub mod ElementsLeft
 pub mod Fed
 pub mod Growing
 pub mod InlineBytes
