@@ -9,11 +9,12 @@ use Rattle.version_parts.specs.Bytes.{is_identifier_byte}
 use Rattle.version_parts.specs.declared.key.place.AfterNumber.{AfterNumber}
 use Rattle.version_parts.specs.declared.key.place.AfterNumber.TheVariants.{Nothing, Suffix, Text}
 use Rattle.version_parts.specs.declared.key.place.Place.TheVariants.{Length, Number, Numbered, Part, Rest, Split}
-use Rattle.version_parts.specs.DigitRun.{starts_with_digit}
+use Rattle.version_parts.specs.DigitRun.{run_value, starts_with_digit}
+use Rattle.version_parts.specs.NumberBytes.{number_bytes}
 use Rattle.version_parts.specs.PartKey.{part_bytes, part_key}
 use Rattle.version_parts.specs.Pieces.{after_number_bytes, place_bytes, run_bytes}
 use Rattle.version_parts.specs.TextBytes.{text_bytes}
-use Rattle.version_parts.proofs.PieceBytes.{identifiers_taken, is_zero, length_short, letters_taken, number_counted, numbered_some, part_of_number, part_of_word, split_digit, text_alone}
+use Rattle.version_parts.proofs.PieceBytes.{identifiers_taken, is_zero, length_short, letters_taken, number_alone, number_counted, numbered_some, part_of_number, part_of_word, split_digit, text_alone}
 use Rattle.version_parts.proofs.RunFronts.{list_all-take_while}
 
 no_rest : (rest : List ℕ) → true ≡ (length rest == 0) → rest ≡ []
@@ -98,3 +99,9 @@ module _ (text rest key mid before : List ℕ) (digit : starts_with_digit text �
   pub part_put_suffix : (third end : List ℕ) → (length rest == 0) ≡ false → third ≡ before ++ 1 ∷ [] → end ≡ third ++ place_bytes Split rest → end ≡ key ++ part_bytes (Some (part_key text))
   unfolding place_bytes
   part_put_suffix third end some t e = put_more before third end (1 ∷ []) (place_bytes Split rest) t e ∙ ap (λ (l : List ℕ). before ++ l) (sym (suffixed rest some)) ∙ sym numbered
+
+-- ---- numbers alone
+
+pub digits_put : (text rest key end : List ℕ) → key ++ place_bytes (Number Nothing) text ≡ end ++ place_bytes (Rest Nothing) rest → end ≡ key ++ number_bytes (run_value text)
+unfolding place_bytes after_number_bytes
+digits_put text rest key end e = sym (append-nil end) ∙ sym e ∙ ap (λ (l : List ℕ). key ++ l) (number_alone text)

@@ -1,17 +1,20 @@
 //! Short keys, written at once into an array from the texts that spell their pieces.
 
-ghost use Rattle.std.specs.Prelude.{◌≡◌, ◌==◌, ◌∷◌, ◌++◌, [], drop, length, IfOk, OnOk, Some};
+ghost use Rattle.std.specs.Prelude.{◌≡◌, ◌==◌, ◌∷◌, ◌++◌, [], drop, length, IfOk, None, OnOk, Some};
 ghost use Rattle.std.specs.List.{prefix_len};
 ghost use Rattle.version_parts.specs.declared.key.place.AfterNumber.{AfterNumber};
 ghost use Rattle.version_parts.specs.declared.key.place.AfterNumber.TheVariants.{Suffix, Text};
 ghost use Rattle.version_parts.specs.declared.key.place.Place.TheVariants.{Number, Rest, Split};
 ghost use Rattle.std.specs.Str.Parse.{digits_value};
+ghost use Rattle.version_parts.specs.DigitRun.{run_value};
 ghost use Rattle.version_parts.specs.NumberBytes.{number_bytes};
 ghost use Rattle.version_parts.specs.Numeral.{SpellsNumeral};
+ghost use Rattle.version_parts.specs.PartKey as plain;
 ghost use Rattle.version_parts.specs.PartKey.{part_bytes, part_key};
 ghost use Rattle.version_parts.specs.Pieces.{place_bytes};
 ghost use Rattle.version_parts.specs.TextBytes.{text_bytes};
 
+use crate::key::inline::InlineBytes;
 use crate::key::piece::counted_digits;
 use crate::scan::{Class, begins_with, split_bytes};
 use arrayvec::ArrayVec;
@@ -24,6 +27,7 @@ pub type ShortKey = ArrayVec<u8, SHORT>;
 
 /// What is said of a key that isn't written so: it is too long, or has bytes other than of letters, digits and hyphens.
 /// The array then holds a beginning that is of no use.
+#[derive(Clone, Copy, Drop)]
 pub struct NotShort;
 
 /// Puts a byte behind those of a key.
@@ -38,9 +42,9 @@ pub fn put_byte(key: &mut ShortKey, byte: u8) -> Result<(), NotShort>
     Ok(())
 }
 
-/// Puts bytes behind those of a key.
+// Puts bytes behind those of a key.
 #[inline(always)]
-pub fn put_bytes(key: &mut ShortKey, bytes: &[u8]) -> Result<(), NotShort>
+fn put_bytes(key: &mut ShortKey, bytes: &[u8]) -> Result<(), NotShort>
     ensures { OnOk result (key.new.items ≡ key.old.items ++ bytes.now) }
 {
     for byte in bytes {
@@ -49,9 +53,9 @@ pub fn put_bytes(key: &mut ShortKey, bytes: &[u8]) -> Result<(), NotShort>
     Ok(())
 }
 
-/// Puts the number that the digits at the front of a text write, and gives what stands behind them.
+// Puts the number that the digits at the front of a text write, and gives what stands behind them.
 #[inline(always)]
-pub fn put_number<'t>(key: &mut ShortKey, text: &'t [u8]) -> Result<&'t [u8], NotShort>
+fn put_number<'t>(key: &mut ShortKey, text: &'t [u8]) -> Result<&'t [u8], NotShort>
     ensures { IfOk result (λ rest. (after : AfterNumber)
         → key.old.items ++ place_bytes (Number after) text.now
         ≡ key.new.items ++ place_bytes (Rest after) rest.now) }
@@ -65,7 +69,35 @@ pub fn put_number<'t>(key: &mut ShortKey, text: &'t [u8]) -> Result<&'t [u8], No
     Ok(rest)
 }
 
-/// Puts the number that a numeral writes.
+/// Puts the bytes of a number: how many digits it has, and these.
+#[inline(always)]
+pub fn put_value(key: &mut ShortKey, number: u32) -> Result<(), NotShort>
+    ensures { OnOk result (key.new.items ≡ key.old.items ++ number_bytes number) }
+{
+    put_bytes(key, InlineBytes::number(number).as_slice())
+}
+
+/// Puts a plain number as a part.
+#[inline(always)]
+pub fn put_plain_part(key: &mut ShortKey, number: u32) -> Result<(), NotShort>
+    ensures { OnOk result (key.new.items
+        ≡ key.old.items ++ part_bytes (Some (plain.Number number None))) }
+{
+    put_byte(key, 3)?;
+    put_value(key, number)?;
+    put_byte(key, 2)?;
+    Ok(())
+}
+
+/// Puts the number that the digits at the front of a text write. They may be any number of digits.
+pub fn put_digits(key: &mut ShortKey, text: &str) -> Result<(), NotShort>
+    ensures { OnOk result (key.new.items ≡ key.old.items ++ number_bytes (run_value text.now)) }
+{
+    put_number(key, text.as_bytes())?;
+    Ok(())
+}
+
+// Puts the number that a numeral writes.
 #[inline(always)]
 pub(crate) fn put_numeral(key: &mut ShortKey, numeral: &str) -> Result<(), NotShort>
     requires { SpellsNumeral numeral.now (digits_value 10 numeral.now) }
@@ -89,8 +121,8 @@ fn without_zeros(text: &[u8]) -> &[u8]
     left
 }
 
-/// Puts the bytes of a text.
-pub fn put_text(key: &mut ShortKey, text: &[u8]) -> Result<(), NotShort>
+// Puts the bytes of a text.
+pub(crate) fn put_text(key: &mut ShortKey, text: &[u8]) -> Result<(), NotShort>
     ensures { OnOk result (key.new.items ≡ key.old.items ++ text_bytes text.now) }
 {
     let (run, rest) = split_bytes(text, Class::Identifier);
@@ -102,9 +134,9 @@ pub fn put_text(key: &mut ShortKey, text: &[u8]) -> Result<(), NotShort>
     Ok(())
 }
 
-/// Puts the bytes of a part, by its printed text.
+// Puts the bytes of a part, by its printed text.
 #[inline(always)]
-pub fn put_part(key: &mut ShortKey, text: &[u8]) -> Result<(), NotShort>
+pub(crate) fn put_part(key: &mut ShortKey, text: &[u8]) -> Result<(), NotShort>
     ensures { OnOk result (key.new.items
         ≡ key.old.items ++ part_bytes (Some (part_key text.now))) }
 {
