@@ -91,16 +91,6 @@ impl Chunk {
         }
     }
 
-    /// The printed text, byte after byte. Takes no memory.
-    pub fn part_text(&self) -> PartText<'_>
-        ensures { result ≡ chunk_text (plain_chunk self.now) }
-    {
-        match self {
-            Chunk::Numeric(number) => PartText::number(*number),
-            Chunk::Alphanum(text) => PartText::text(text.as_str()),
-        }
-    }
-
     /// A copy. A number takes no memory; the error is that there is no memory for a text.
     pub fn clone(&self, alloc: Global) -> Result<Chunk, AllocError>
         ensures ok { IfOk result (λ copy. plain_chunk copy ≡ plain_chunk self.now) }
@@ -114,8 +104,8 @@ impl Chunk {
 }
 
 impl Chunk {
-    // The same with its text lent.
-    pub(crate) fn lent(&self) -> ChunkRef<'_>
+    /// The same with its text lent. Takes no memory.
+    pub fn lent(&self) -> ChunkRef<'_>
         ensures { plain_chunk_ref result ≡ plain_chunk self.now }
     {
         match self {
@@ -205,7 +195,7 @@ fn after_letter(text: &str) -> Option<&str>
     }
 }
 
-/// A chunk that was scanned, with its text still in the input.
+/// A chunk whose text lies elsewhere, as one that was scanned, with its text still in the input.
 #[derive(Clone, Copy)]
 pub enum ChunkRef<'a> {
     /// A number without leading zeros.
@@ -226,6 +216,16 @@ impl<'a> ChunkRef<'a> {
                 Some((ChunkRef::Numeric(value_of_numeral(digits)), rest))
             }
             (ChunkText::Alphanum(text), rest) => Some((ChunkRef::Alphanum(text), rest)),
+        }
+    }
+
+    /// The printed text, byte after byte. Takes no memory.
+    pub fn part_text(self) -> PartText<'a>
+        ensures { result ≡ chunk_text (plain_chunk_ref self.entry) }
+    {
+        match self {
+            ChunkRef::Numeric(number) => PartText::number(number),
+            ChunkRef::Alphanum(text) => PartText::text(text),
         }
     }
 

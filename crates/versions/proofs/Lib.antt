@@ -16,13 +16,14 @@ pub mod OpReading
 pub mod Orders
 pub mod Precedence
 pub mod RequirementReading
+pub mod RequirementsAscii
 pub mod RequirementsReading
+pub mod ScannedLists
 pub mod SemVerOrder
 pub mod SemVerReading
 pub mod SortKey
 pub mod SpelledTexts
 pub mod SpelledKey
-pub mod SpelledMatch
 pub mod Tail
 pub mod Texts
 pub mod VersionMatch

@@ -1,13 +1,12 @@
 //! Versions of any kind, read off the texts that spell them.
 
-ghost use Rattle.std.specs.Prelude.{◌≡◌, ◌↔◌, ◌++◌, refl, IfOk, IsTrue, OnErr, OnOk, Some};
+ghost use Rattle.std.specs.Prelude.{◌≡◌, ◌++◌, refl, IfOk, OnErr, OnOk, Some};
 ghost use Rattle.std.specs.Cmp.{eq_by_cmp_equiv, on_equiv, on_per, on_total, partial_equiv_from_equiv, po};
 ghost use Rattle.std.specs.Option.{option_map};
 ghost use Rattle.std.specs.Ordering.{as_partial_cmp, eq_by_cmp, on};
 ghost use Rattle.versions.specs.Key.{key_of, precedence};
 ghost use Rattle.versions.specs.KeyBytes.{key_bytes};
 ghost use Rattle.versions.specs.Kind.{versioning_kind};
-ghost use Rattle.versions.specs.Matching.{IsOfKind};
 ghost use Rattle.versions.specs.Orders.{versioning_cmp};
 ghost use Rattle.versions.specs.OrdersLaws.{versioning_cmp_ties, versioning_cmp_total};
 ghost use Rattle.versions.specs.VersioningRef.{plain_versioning_ref};
@@ -164,19 +163,6 @@ impl<'a> VersioningRef<'a> {
             VersioningRef::Ideal(ideal) => KeyBytes::of_semver_ref(ideal),
             VersioningRef::General(general) => KeyBytes::of_version_ref(general),
             VersioningRef::Complex(complex) => KeyBytes::of_mess_ref(complex),
-        }
-    }
-
-    // Whether it is of the kind of a version.
-    pub(crate) fn is_of_kind(&self, version: &Versioning) -> bool
-        ensures { IsTrue result
-            ↔ IsOfKind (plain_versioning version.now) (plain_versioning_ref self.now) }
-    {
-        match (self, version) {
-            (VersioningRef::Ideal(_), Versioning::Ideal(_)) => true,
-            (VersioningRef::General(_), Versioning::General(_)) => true,
-            (VersioningRef::Complex(_), Versioning::Complex(_)) => true,
-            _ => false,
         }
     }
 
