@@ -3,7 +3,8 @@
 ghost use Rattle.std.specs.Prelude.{◌≡◌, ◌++◌, OnOk};
 ghost use Rattle.std.specs.Option.{option_map};
 ghost use Rattle.version_parts.specs.ReleaseOrder.{release_bytes};
-ghost use Rattle.versions.specs.Key.{key_of_mess, key_of_semver, key_of_version, sections_tail};
+ghost use Rattle.version_parts.specs.PartKey.{parts_bytes};
+ghost use Rattle.versions.specs.Key.{key_of_mess, key_of_semver, key_of_version, sections_tail, strict_body};
 ghost use Rattle.versions.specs.KeyBytes.{key_bytes};
 ghost use Rattle.versions.specs.KeyStream.{release_tail, sections_left, sections_of};
 ghost use Rattle.versions.specs.Mess.{plain_mess_ref};
@@ -27,11 +28,22 @@ pub fn put_semver(key: &mut ShortKey, ideal: &SemVerRef<'_>) -> Result<(), NotSh
         ≡ key.old.items ++ key_bytes (key_of_semver (plain_semver_ref ideal.now))) }
 {
     put_value(key, 0)?;
-    put_plain_part(key, ideal.major)?;
-    put_plain_part(key, ideal.minor)?;
-    put_plain_part(key, ideal.patch)?;
-    put_byte(key, 2)?;
+    put_three(key, ideal.major, ideal.minor, ideal.patch)?;
     put_release(key, PRE_RELEASE, &ideal.pre_rel)?;
+    Ok(())
+}
+
+// Puts the body of a strict version: its three numbers, and the end of the list.
+#[tactic(auto, using(crate::proofs::Tail::three_put))]
+#[inline(always)]
+fn put_three(key: &mut ShortKey, major: u32, minor: u32, patch: u32) -> Result<(), NotShort>
+    ensures { OnOk result (key.new.items
+        ≡ key.old.items ++ parts_bytes (strict_body major minor patch)) }
+{
+    put_plain_part(key, major)?;
+    put_plain_part(key, minor)?;
+    put_plain_part(key, patch)?;
+    put_byte(key, 2)?;
     Ok(())
 }
 
