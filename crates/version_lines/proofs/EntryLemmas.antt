@@ -14,6 +14,7 @@ use Rattle.std.proofs.lemmas.Cmp.{nat_list_cmp_total, on_total, then_total}
 use Rattle.std.proofs.lemmas.List.{drop-append-le, length-map, map-append, take-append-le}
 use Rattle.std.proofs.lemmas.List.Elements.{All-head, All-tail}
 use Rattle.std.proofs.lemmas.List.Sorted.{ranks_by}
+use Rattle.version_lines.specs.Head.{behind_heads_cmp}
 use Rattle.version_lines.specs.Entry.{entry_cmp, entry_key, entry_line, tie_cmp, IsRead}
 use Rattle.version_lines.specs.Lines.{lines_of, lines_output, whole_line}
 use Rattle.version_lines.specs.Sort.{bad_line, is_bad, line_cmp, sort_output}
@@ -123,10 +124,13 @@ lines_alike a b a_good b_good = versions_alike (versioning_of a) (versioning_of 
 
 -- the orders of entries are total
 
+behind_heads_total : IsTotalOrder behind_heads_cmp
+behind_heads_total = then_total (on_total (drop 16) nat_list_cmp_total) (on_total length nat_cmp_total)
+
 pub entry_total : (keys : List ℕ) → IsTotalOrder (entry_cmp keys)
 entry_total keys =
     then_total (on_total (λ (entry : Entry). entry.first) nat_cmp_total) (then_total (on_total (λ (entry : Entry). entry.second) nat_cmp_total)
-    (on_total (entry_key keys) nat_list_cmp_total))
+    (on_total (entry_key keys) behind_heads_total))
 
 pub entry_ranks : (keys : List ℕ) → IsStrictWeakOrder (λ a b. is_lt (entry_cmp keys a b))
 entry_ranks keys = ranks_by (entry_total keys) (λ (entry : Entry). entry)

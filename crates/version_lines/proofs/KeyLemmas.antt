@@ -1,5 +1,5 @@
 -- The keys of what lines and words spell.
-use Rattle.std.proofs.Common.{◌≡◌, ◌∙◌, ℕ, List, [], ◌∷◌, ◌++◌, Option, Some, None, refl, ap}
+use Rattle.std.proofs.Common.{◌≡◌, ◌∙◌, ℕ, List, [], ◌∷◌, ◌++◌, Option, Some, None, ap, sym}
 use Rattle.std.specs.Option.{option_map, option_map_or}
 use Rattle.std.specs.declared.cmp.Ordering.{Ordering}
 use Rattle.version_lines.specs.Comparison.{comparison_line, sign_text}
@@ -15,21 +15,15 @@ use Rattle.versions.proofs.Orders.{key_bytes_alone}
 abbrev pub key_of_spelled : Option PlainVersioning → Option (List ℕ)
 key_of_spelled = option_map (λ v. key_bytes (key_of v))
 
-pub line_key-some : (line bytes : List ℕ) → Some bytes ≡ key_of_spelled (versioning_of line) → line_key line ≡ bytes
-unfolding line_key
-line_key-some line bytes e = go (versioning_of line) e
-  where
-    go : (spelled : Option PlainVersioning) → Some bytes ≡ key_of_spelled spelled → option_map_or (λ v. key_bytes (key_of v)) spelled [] ≡ bytes
-    go None e = cc e
-    go (Some v) e = cc e
+-- the key of a line, by the version that it spells
 
-pub line_key-none : (line : List ℕ) → None ≡ key_of_spelled (versioning_of line) → line_key line ≡ []
+pub line_key-spelled : (line : List ℕ) (v : PlainVersioning) → Some v ≡ versioning_of line → line_key line ≡ key_bytes (key_of v)
 unfolding line_key
-line_key-none line e = go (versioning_of line) e
-  where
-    go : (spelled : Option PlainVersioning) → None ≡ key_of_spelled spelled → option_map_or (λ v. key_bytes (key_of v)) spelled [] ≡ []
-    go None e = refl
-    go (Some v) e = cc e
+line_key-spelled line v e = ap (λ (o : Option PlainVersioning). option_map_or (λ w. key_bytes (key_of w)) o []) (sym e)
+
+pub line_key-unspelled : (line : List ℕ) → None ≡ versioning_of line → line_key line ≡ []
+unfolding line_key
+line_key-unspelled line e = ap (λ (o : Option PlainVersioning). option_map_or (λ w. key_bytes (key_of w)) o []) (sym e)
 
 -- the line for two versions, by the bytes of their keys
 pub line_by_keys : (a b : Option PlainVersioning) (first second : List ℕ) (order : Ordering) → key_of_spelled a ≡ Some first → key_of_spelled b ≡ Some second

@@ -1,4 +1,4 @@
--- Lines that were read again, put in order, are the lines in the order of their versions.
+-- Lines with one key, in the order of their versions.
 use Rattle.std.proofs.Common.{◌≡◌, ◌≤◌, ◌-◌, ℕ, true, false, List, [], ◌∷◌, length, take, drop, get_or, map, Option, None, Some, is_some, refl, sym, ap, ◌∙◌, arith}
 use Rattle.std.specs.Cmp.{IsStrictWeakOrder}
 use Rattle.std.specs.Cmp.Lexicographic.{options_total}
@@ -12,9 +12,7 @@ use Rattle.std.proofs.lemmas.List.Sorted.{ranks_by}
 use Rattle.version_lines.specs.Entry.{entry_line, tie_cmp}
 use Rattle.version_lines.specs.Sorting.{in_order}
 use Rattle.version_lines.specs.Spelled.{line_tie_breaker, unless_strict}
-use Rattle.version_lines.specs.Tied.{tied_cmp, tied_entry, tied_version, IsTied}
 use Rattle.version_lines.specs.declared.sort.entry.Entry.{Entry}
-use Rattle.version_lines.specs.declared.sort.tied.Tied.{Tied}
 use Rattle.versions.specs.Mess.{PlainMess}
 use Rattle.versions.specs.SemVer.{PlainSemVer, semver_of}
 use Rattle.versions.specs.Version.{PlainVersion}
@@ -24,16 +22,8 @@ use Rattle.version_lines.proofs.EntryLemmas.{tie_total}
 use Rattle.version_lines.proofs.SortingLemmas.{AtLeast, Rises, below, in_order-map}
 use Rattle.version_lines.proofs.TieLemmas.{in_order-risen}
 
-pub tied_ranks : IsStrictWeakOrder (λ a b. is_lt (tied_cmp a b))
-tied_ranks = ranks_by (on_total tied_version (options_total versioning_plain_total)) (λ (tied : Tied). tied)
-
--- the lines of what was read and put in order
-pub in_order-tied_lines : (run : List Entry) (tied ordered : List Tied) → map tied_entry tied ≡ run → All IsTied tied → ordered ≡ in_order tied_cmp tied
-    → map tied_entry ordered ≡ in_order tie_cmp run
-in_order-tied_lines run tied ordered lines read sorted =
-    ap (map tied_entry) sorted
-    ∙ in_order-map IsTied tied_entry tied_cmp tie_cmp (λ a b a_read b_read. rw (a_read, b_read) refl) tied read
-    ∙ ap (in_order tie_cmp) lines
+pub tie_ranks : IsStrictWeakOrder (λ a b. is_lt (tie_cmp a b))
+tie_ranks = ranks_by tie_total (λ (entry : Entry). entry)
 
 -- lines that nothing tells apart are in order
 
@@ -70,15 +60,6 @@ pub in_order-strict : (run : List Entry) → All (λ entry. is_some (semver_of (
 in_order-strict run all =
     in_order-risen tie_cmp run (rises-level None run
     (All-weaker (λ entry. is_some (semver_of (entry_line entry)) ≡ true) (HasBreaker None) (λ entry strict. strict-no_breaker (semver_of (entry_line entry)) _ strict) run all))
-
--- what is spelled where no strict version is breaks ties
-pub breaker-of_others : (ideal : Option PlainSemVer) (general : Option PlainVersion) (complex : Option PlainMess) → is_some ideal ≡ false
-    → option_or (option_map Ideal ideal) (option_or (option_map General general) (option_map Complex complex))
-    ≡ option_and_then unless_strict (option_or (option_map Ideal ideal) (option_or (option_map General general) (option_map Complex complex)))
-breaker-of_others (Some v) general complex other = cc
-breaker-of_others None (Some v) complex other = refl
-breaker-of_others None None (Some m) other = refl
-breaker-of_others None None None other = refl
 
 -- lines behind the first that are the first, to the last of them
 pub one_line-from_first : (run : List Entry) (d : Entry) (i : ℕ) → 1 ≤ length run → length (take (length run - 1) (drop 1 run)) ≤ i

@@ -1,10 +1,9 @@
 -- A line as it is sorted, and where its key lies.
 use Rattle.std.specs.Prelude.{◌≡◌, ◌<◌, ◌≤◌, ◌+◌, ℕ, false, List, drop, length, take}
-use Rattle.std.specs.Cmp.Lexicographic.{slice_cmp}
 use Rattle.std.specs.List.{All}
 use Rattle.std.specs.Ordering.{nat_cmp, on, then_cmp}
 use Rattle.std.specs.declared.cmp.Ordering.{Ordering}
-use Rattle.version_lines.specs.Head.{head_number}
+use Rattle.version_lines.specs.Head.{behind_heads_cmp, head_number}
 use Rattle.version_lines.specs.Sort.{is_bad}
 use Rattle.version_lines.specs.Spelled.{line_key, line_tie_cmp}
 use Rattle.version_lines.specs.declared.sort.entry.Entry.{Entry}
@@ -26,11 +25,11 @@ pub record IsRead (keys : List ℕ) (entry : Entry) : Type 0 where
   pub first : entry.first ≡ head_number (line_key (entry_line entry))
   pub second : entry.second ≡ head_number (drop 8 (line_key (entry_line entry)))
 
--- by the second number, then by the key
+-- by the second number, then by what is behind the bytes of the two numbers
 abbrev pub behind_cmp : List ℕ → Entry → Entry → Ordering
-behind_cmp keys = then_cmp (on (λ (entry : Entry). entry.second) nat_cmp) (on (entry_key keys) (slice_cmp nat_cmp))
+behind_cmp keys = then_cmp (on (λ (entry : Entry). entry.second) nat_cmp) (on (entry_key keys) behind_heads_cmp)
 
--- by the first number, then by the second, then by the key
+-- by the first number, then by the second, then by what is behind
 abbrev pub entry_cmp : List ℕ → Entry → Entry → Ordering
 entry_cmp keys = then_cmp (on (λ (entry : Entry). entry.first) nat_cmp) (behind_cmp keys)
 

@@ -12,4 +12,3 @@ pub mod Run
 pub mod Sort
 pub mod Sorting
 pub mod Spelled
-pub mod Tied

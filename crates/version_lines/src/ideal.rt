@@ -4,7 +4,6 @@ ghost use Rattle.versions.specs.SemVer.{semver_of};
 
 use crate::answer::{Answer, Label};
 use crate::lines::LineCommand;
-use std::alloc::{AllocError, Global};
 use std::str;
 use versions::SemVer;
 
@@ -17,12 +16,12 @@ impl LineCommand for Ideal {
 
     ghost line_output = { λ _. ideal_line };
 
-    fn answer(&self, _: Global, line: &[u8]) -> Result<Answer, AllocError> {
-        Ok(if is_strict(line) {
+    fn answer(&self, line: &[u8]) -> Answer {
+        if is_strict(line) {
             Answer::Labelled(Label::Ideal)
         } else {
             Answer::NoVersion
-        })
+        }
     }
 }
 

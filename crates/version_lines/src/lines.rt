@@ -1,5 +1,5 @@
 //! Commands that answer each line of the input for itself.
-ghost use Rattle.std.specs.Prelude.{◌≡◌, ℕ, ◌<◌, List, ◌∷◌, ◌++◌, length, IfOk, OnOk, OnErr, IfErr, IsErrOf};
+ghost use Rattle.std.specs.Prelude.{◌≡◌, ℕ, ◌<◌, List, ◌∷◌, ◌++◌, length, OnOk, OnErr, IfErr, IsErrOf};
 ghost use Rattle.std.specs.Io.KnownBytes.{Appends};
 ghost use Rattle.version_lines.specs.Answer.{answer_text};
 ghost use Rattle.version_lines.specs.Fault.{ComesOfWriting};
@@ -10,7 +10,7 @@ use crate::answer::Answer;
 use crate::faults::Fault;
 use crate::output::{make_buffer, put, put_line, write_whole};
 use memchr::memchr;
-use std::alloc::{AllocError, Global};
+use std::alloc::Global;
 use std::io::Write;
 
 /// A command that answers each line for itself.
@@ -18,10 +18,9 @@ pub trait LineCommand {
     // What it writes for a line.
     ghost line_output: { Self → List ℕ → List ℕ };
 
-    /// The answer for a line. The error is that there is no memory to judge it.
-    fn answer(&self, alloc: Global, line: &[u8]) -> Result<Answer, AllocError>
-        ensures { IfOk result (λ answer. answer_text answer line.now
-            ≡ line_output self.now line.now) };
+    /// The answer for a line.
+    fn answer(&self, line: &[u8]) -> Answer
+        ensures { answer_text result line.now ≡ line_output self.now line.now };
 }
 
 /// Writes the answer for each line of the input.
@@ -45,7 +44,7 @@ pub fn write_lines<C: LineCommand, W: Write>(
     let mut rest = input;
     while !rest.is_empty() {
         let (line, after) = split_line(rest);
-        let answer = command.answer(alloc, line)?;
+        let answer = command.answer(line);
         put_answer(answer, line, writer, &mut buffer)?;
         rest = after;
     }

@@ -37,9 +37,9 @@ use std::io::{Read, Write};
 /// [`Fault::Read`] where that isn't the whole input. Nothing is flushed.
 ///
 /// It takes memory for the whole input and for two buffers of 64 KiB. `sort` takes it for the sort keys of all lines, in
-/// one list, for 48 bytes a line and as much again to sort them, and, a key at a time, for the versions that aren't
-/// strict of lines that have one key and aren't one line; `match` for its requirements, and for one version at a time;
-/// `key` for the sort key and the line; `cmp` for nothing more; and a word that is told for its copy.
+/// one list, and for 48 bytes a line and as much again to sort them; `key` for the sort key and the line; and a word that
+/// is told for its copy. `ideal`, `show`, `match` and `cmp` take it for nothing more: versions and requirements are read
+/// off their texts, and none is built.
 pub fn run<R: Read, W: Write>(
     alloc: Global,
     words: &[String],

@@ -5,9 +5,7 @@ ghost use Rattle.versions.specs.Versioning.{versioning_of};
 
 use crate::answer::{Answer, Label};
 use crate::lines::LineCommand;
-use std::alloc::{AllocError, Global};
-use std::str;
-use versions::{Mess, SemVer, Version};
+use versions::VersioningRef;
 
 /// Labels each line by the kind of version that it is.
 #[derive(Clone, Copy)]
@@ -18,32 +16,19 @@ impl LineCommand for Show {
 
     ghost line_output = { λ _. show_line };
 
-    fn answer(&self, _: Global, line: &[u8]) -> Result<Answer, AllocError> {
-        Ok(answer_for(line))
+    fn answer(&self, line: &[u8]) -> Answer {
+        answer_for(line)
     }
 }
 
-/// The label of a line. Takes no memory.
+/// The label of a line, by the kind of the version that it spells. Takes no memory.
 fn answer_for(line: &[u8]) -> Answer
     ensures { result ≡ show_answer (versioning_of line.now) }
 {
-    match str::from_utf8(line) {
-        Ok(text) => answer_for_text(text),
-        Err(_) => Answer::NoVersion,
-    }
-}
-
-/// The label of a text: of the first kind of version that it spells. Takes no memory.
-fn answer_for_text(text: &str) -> Answer
-    ensures { result ≡ show_answer (versioning_of text.now) }
-{
-    if SemVer::is_spelled_by(text) {
-        Answer::Labelled(Label::Ideal)
-    } else if Version::is_spelled_by(text) {
-        Answer::Labelled(Label::General)
-    } else if Mess::is_spelled_by(text) {
-        Answer::Labelled(Label::Complex)
-    } else {
-        Answer::NoVersion
+    match VersioningRef::from_bytes(line) {
+        Some(VersioningRef::Ideal(_)) => Answer::Labelled(Label::Ideal),
+        Some(VersioningRef::General(_)) => Answer::Labelled(Label::General),
+        Some(VersioningRef::Complex(_)) => Answer::Labelled(Label::Complex),
+        None => Answer::NoVersion,
     }
 }

@@ -12,7 +12,6 @@ ghost use Rattle.version_lines.specs.Entry.{entry_cmp, entry_line, IsRead};
 
 mod entry;
 mod head;
-mod tied;
 mod ties;
 
 use crate::command::InputCommand;
@@ -34,12 +33,23 @@ pub fn write_sorted<W: Write>(alloc: Global, input: &[u8], writer: &mut W) -> Re
         (GrowsAt (W.contents writer.old) (W.contents writer.new) (Some (sort_output input.now))) }
     ensures faults { IfErr result (ComesOfCommand (Some input.now) (OfInput InputCommand.Sort)) }
 {
-    let mut keys = Vec::new(alloc);
+    let mut keys = Vec::with_capacity(alloc, room_for_keys(input))?;
     let mut entries = read_entries(alloc, &mut keys, input)?;
     let keys = keys.as_slice();
     sort_by_keys(keys, &mut entries)?;
     break_ties(alloc, keys, entries.as_mut_slice())?;
     write_entries(alloc, entries.as_slice(), writer)
+}
+
+/// How many bytes the keys of all lines are made room for at first: the keys of versions are most often about twice as
+/// long as they. For more the room grows.
+fn room_for_keys(input: &[u8]) -> usize {
+    input.len().saturating_mul(2)
+}
+
+/// How many lines are made room for at first: versions are most often twelve bytes or longer. For more the room grows.
+fn room_for_lines(input: &[u8]) -> usize {
+    input.len() / 12
 }
 
 /// The lines, whose keys are put into a list, or the fault that tells the first that is no version.
@@ -52,7 +62,7 @@ fn read_entries<'a>(
     ensures read { IfOk result (λ entries. All (IsRead keys.new.items) entries.items) }
     ensures faults { IfErr result (ComesOfLines (bad_line (lines_of input.now))) }
 {
-    let mut entries = Vec::new(alloc);
+    let mut entries = Vec::with_capacity(alloc, room_for_lines(input))?;
     let mut rest = input;
     while !rest.is_empty() {
         let (line, after) = split_line(rest);

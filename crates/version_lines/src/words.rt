@@ -2,7 +2,7 @@
 ghost use Rattle.std.specs.Prelude.{◌≡◌, Some, IfErr, IfOk};
 ghost use Rattle.version_lines.specs.Fault.{ComesOfRequirements, ComesOfWords};
 ghost use Rattle.version_lines.specs.Run.{unless_requirements, unless_version};
-ghost use Rattle.versions.specs.Requirements.{plain_requirements, requirements_of};
+ghost use Rattle.versions.specs.Requirements.{requirements_of};
 ghost use Rattle.std.specs.Option.{option_map};
 ghost use Rattle.versions.specs.Key.{key_of};
 ghost use Rattle.versions.specs.KeyBytes.{key_bytes};
@@ -10,7 +10,7 @@ ghost use Rattle.versions.specs.Versioning.{versioning_of};
 
 use crate::faults::Fault;
 use std::alloc::Global;
-use versions::Requirements;
+use versions::RequirementsRef;
 use versions::key::KeyBytes;
 
 /// The bytes of the key of the version that a word spells; else the fault that holds a copy of the word.
@@ -26,11 +26,11 @@ pub fn key_of_word(alloc: Global, word: &str) -> Result<KeyBytes<'_>, Fault>
 }
 
 /// The list of requirements that a word spells, of one or more; else the fault that holds a copy of the word.
-pub fn requirements_of(alloc: Global, word: &str) -> Result<Requirements, Fault>
-    ensures ok { IfOk result (λ list. requirements_of word.now ≡ Some (plain_requirements list)) }
+pub fn requirements_of(alloc: Global, word: &str) -> Result<RequirementsRef<'_>, Fault>
+    ensures ok { IfOk result (λ list. requirements_of word.now ≡ Some list) }
     ensures faults { IfErr result (ComesOfRequirements (unless_requirements word.now)) }
 {
-    match Requirements::new(alloc, word)? {
+    match RequirementsRef::new(word) {
         Some(list) => Ok(list),
         None => Err(Fault::NotRequirement(String::from_str(alloc, word)?)),
     }

@@ -18,5 +18,3 @@ pub const NO_NUMBER: i32 = 6;
 pub const NO_ROOM: i32 = 7;
 /// An offset is bad, or the lengths of two arrays don't fit.
 pub const BAD_OFFSETS: i32 = 8;
-/// There is no memory.
-pub const NO_MEMORY: i32 = 9;

@@ -1,5 +1,6 @@
 //! A line as it is sorted.
-ghost use Rattle.std.specs.Prelude.{◌≡◌, ◌++◌, IfOk, IsTrue, MatchOption, OnOk};
+ghost use Rattle.std.specs.Prelude.{◌≡◌, ◌++◌, drop, IfOk, IsTrue, MatchOption, OnOk};
+ghost use Rattle.version_lines.specs.Head.{behind_heads_cmp};
 ghost use Rattle.version_lines.specs.Spelled.{line_key};
 
 use crate::sort::head::head;
@@ -44,6 +45,7 @@ impl<'a> Entry<'a> {
     }
 
     /// By their keys, the first bytes of which are looked at first.
+    #[inline(always)]
     pub fn compare(&self, other: &Entry<'_>, keys: &[u8]) -> Ordering
         ensures { result ≡ entry_cmp keys.now self.now other.now }
     {
@@ -53,14 +55,24 @@ impl<'a> Entry<'a> {
         }
     }
 
-    /// By the second bytes, and where those are the same by the whole keys.
+    /// By the second bytes, and where those are the same by what is behind them.
+    #[inline(always)]
     fn compare_behind(&self, other: &Entry<'_>, keys: &[u8]) -> Ordering
         ensures { result ≡ behind_cmp keys.now self.now other.now }
     {
         match self.second.cmp(&other.second) {
-            Ordering::Equal => self.key(keys).cmp(other.key(keys)),
+            Ordering::Equal => self.compare_keys(other, keys),
             order => order,
         }
+    }
+
+    /// By what is behind the first bytes of their keys. Never inlined, so that a sort takes in what is looked at first.
+    #[inline(never)]
+    fn compare_keys(&self, other: &Entry<'_>, keys: &[u8]) -> Ordering
+        ensures { result ≡ behind_heads_cmp
+            (entry_key keys.now self.now) (entry_key keys.now other.now) }
+    {
+        compare_behind_heads(self.key(keys), other.key(keys))
     }
 
     /// Its key, of all keys.
@@ -77,4 +89,26 @@ impl<'a> Entry<'a> {
     {
         self.line
     }
+}
+
+/// Two keys whose first sixteen bytes are the same, where those that are missing count as 0: by what is behind them, and
+/// where that is the same by how long they are.
+#[inline(always)]
+fn compare_behind_heads(a: &[u8], b: &[u8]) -> Ordering
+    ensures { result ≡ behind_heads_cmp a.now b.now }
+{
+    if a.len() <= 16 && b.len() <= 16 {
+        return a.len().cmp(&b.len());
+    }
+    match behind_heads(a).cmp(behind_heads(b)) {
+        Ordering::Equal => a.len().cmp(&b.len()),
+        order => order,
+    }
+}
+
+/// What is behind the first sixteen bytes of a key.
+fn behind_heads(key: &[u8]) -> &[u8]
+    ensures { result.now ≡ drop 16 key.now }
+{
+    key.get(16..).unwrap_or(&[])
 }

@@ -8,6 +8,16 @@ pub fn head(bytes: &[u8]) -> u64
     ensures value { result ≡ head_number bytes.now }
     ensures bytes { All (λ byte. byte < 256) bytes.now }
 {
+    match bytes.first_chunk::<8>() {
+        Some(first) => u64::from_be_bytes(*first),
+        None => head_of_few(bytes),
+    }
+}
+
+/// The same, a byte at a time, whether or not there are eight.
+fn head_of_few(bytes: &[u8]) -> u64
+    ensures { result ≡ head_number bytes.now }
+{
     u64::from_be_bytes([
         byte_at(bytes, 0),
         byte_at(bytes, 1),

@@ -1,16 +1,15 @@
 //! Lines whose keys tie, in the order of their versions.
-ghost use Rattle.std.specs.Prelude.{◌≡◌, ℕ, ◌<◌, ◌≤◌, ◌+◌, List, drop, is_some, length, map, true, IfOk, IsTrue, OnOk};
+ghost use Rattle.std.specs.Prelude.{◌≡◌, ℕ, ◌<◌, ◌≤◌, ◌+◌, List, drop, is_some, length, true, IsTrue, OnOk};
 ghost use Rattle.std.specs.List.{All};
 ghost use Rattle.std.specs.List.Sorted.{IsSorted};
 ghost use Rattle.std.specs.Ordering.{then_cmp};
 ghost use Rattle.version_lines.specs.Entry.{entry_cmp, entry_line, tie_cmp};
 ghost use Rattle.version_lines.specs.Sorting.{in_order, run_length};
 ghost use Rattle.versions.specs.SemVer.{semver_of};
-ghost use Rattle.version_lines.specs.Tied.{tied_cmp, tied_entry, IsTied};
 
 use crate::ideal::is_strict;
 use crate::sort::entry::Entry;
-use crate::sort::tied::Tied;
+use crate::spelled::compare_ties;
 use std::alloc::{AllocError, Global};
 
 /// Puts lines that stand in the order of their keys in the order of their versions: each run of lines with one key is
@@ -62,10 +61,7 @@ fn settle(alloc: Global, run: &mut [Entry<'_>]) -> Result<(), AllocError>
     if are_one_line(run) || are_strict(run) {
         return Ok(());
     }
-    let mut tied = read_again(alloc, run)?;
-    sort_tied(&mut tied)?;
-    put_back(tied.as_slice(), run);
-    Ok(())
+    run.sort_by(alloc, |a, b| compare_ties(a.line(), b.line()))
 }
 
 /// Whether the lines are one and the same.
@@ -93,33 +89,4 @@ fn are_strict(run: &[Entry<'_>]) -> bool
         }
     }
     true
-}
-
-/// The lines with what breaks their ties.
-fn read_again<'a>(alloc: Global, run: &[Entry<'a>]) -> Result<Vec<Tied<'a>>, AllocError>
-    ensures lines { IfOk result (λ tied. map tied_entry tied.items ≡ run.now) }
-    ensures read { IfOk result (λ tied. All IsTied tied.items) }
-{
-    let mut tied = Vec::with_capacity(alloc, run.len())?;
-    for entry in run {
-        tied.push(Tied::read(alloc, *entry)?)?;
-    }
-    Ok(tied)
-}
-
-/// Puts lines in the order of the versions that were read.
-fn sort_tied(tied: &mut Vec<Tied<'_>>) -> Result<(), AllocError>
-    ensures { OnOk result (tied.new.items ≡ in_order tied_cmp tied.old.items) }
-{
-    tied.sort_by(Tied::compare)
-}
-
-/// Puts lines in the places of as many others.
-fn put_back<'a>(tied: &[Tied<'a>], run: &mut [Entry<'a>])
-    requires { length run.old ≡ length tied.now }
-    ensures { run.new ≡ map tied_entry tied.now }
-{
-    for (place, tied) in tied.iter().enumerate() {
-        run[place] = tied.line();
-    }
 }

@@ -9,12 +9,12 @@ returns-in_err-buffer-clause-memory g c = λ _. (_, AppendsUpTo-start _ _)
 
 pub returns-in_err-put_answer-clause-write : goal.returns-in_err-put_answer-clause-write
 returns-in_err-put_answer-clause-write g c = λ _.
-    let first = lines_output-first (g.C.LineCommand.line_output c.args.command.now) c.loop-rest.rest.now c.split_line.result.0.now c.split_line.result.1.now _ c.split_line.ensures.lines c.in_ok-answer.ensures in
+    let first = lines_output-first (g.C.LineCommand.line_output c.args.command.now) c.loop-rest.rest.now c.split_line.result.0.now c.split_line.result.1.now _ c.split_line.ensures.lines c.answer-answer.ensures in
     AppendsProperBeginning-step _ _ _ c.loop-rest.buffer.items _ _ _ _ c.loop-rest.invariant first c.in_err-put_answer.ensures.err
 
 pub loop-rest-preserved : goal.loop-rest-preserved
 loop-rest-preserved g c =
-    let first = lines_output-first (g.C.LineCommand.line_output c.args.command.now) c.loop-rest.rest.now c.split_line.result.0.now c.split_line.result.1.now _ c.split_line.ensures.lines c.in_ok-answer.ensures in
+    let first = lines_output-first (g.C.LineCommand.line_output c.args.command.now) c.loop-rest.rest.now c.split_line.result.0.now c.split_line.result.1.now _ c.split_line.ensures.lines c.answer-answer.ensures in
     AppendsUpTo-step _ _ _ c.loop-rest.buffer.items _ _ _ _ _ c.loop-rest.invariant first c.in_ok-put_answer.ensures.ok
 
 pub returns-clause-write : goal.returns-clause-write

@@ -13,11 +13,11 @@ use Rattle.version_lines.proofs.TieLemmas.{in_order-written}
 use Rattle.version_lines.proofs.sort.write_sorted.Goals as goal
 
 pub returns-in_err-entries-clause-at_fault : goal.returns-in_err-entries-clause-at_fault
-returns-in_err-entries-clause-at_fault g c = GrowsAt-lines c.from_residual.result _ (bad_line (lines_of c.args.input.now)) _ (search rules)
+returns-in_err-entries-clause-at_fault g c = GrowsAt-lines c.from_residual-in_err-entries.result _ (bad_line (lines_of c.args.input.now)) _ (search rules)
 
 pub returns-in_err-entries-clause-faults : goal.returns-in_err-entries-clause-faults
 returns-in_err-entries-clause-faults g c =
-    IfErr-weaker c.from_residual.result (ComesOfLines (bad_line (lines_of c.args.input.now))) _ (ComesOfCommand-lines c.args.input.now) (search rules)
+    IfErr-weaker c.from_residual-in_err-entries.result (ComesOfLines (bad_line (lines_of c.args.input.now))) _ (ComesOfCommand-lines c.args.input.now) (search rules)
 
 pub returns-in_err-sort_by_keys-clause-at_fault : goal.returns-in_err-sort_by_keys-clause-at_fault
 returns-in_err-sort_by_keys-clause-at_fault g c = GrowsAt-memory c.from_residual-in_err-sort_by_keys.result _ _ (search rules)
@@ -51,3 +51,6 @@ pub returns-clause-faults : goal.returns-clause-faults
 returns-clause-faults g c =
     let none = ap bad_line (sym c.in_ok-entries.ensures.lines) ∙ bad_line-none _ _ c.in_ok-entries.ensures.read in
     IfErr-weaker c.write_entries.result _ _ (λ fault comes. ComesOfCommand-writing (Some c.args.input.now) (OfInput Sort) fault (record { versions = refl; requirements = refl; lines = none }) comes) c.write_entries.ensures.faults
+
+pub returns-in_err-keys-clause-at_fault : goal.returns-in_err-keys-clause-at_fault
+returns-in_err-keys-clause-at_fault g c = GrowsAt-memory c.from_residual.result _ _ (search rules)

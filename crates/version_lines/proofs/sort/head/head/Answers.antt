@@ -1,12 +1,13 @@
-use Rattle.std.proofs.Common.{◌<◌, ℕ, arith}
+use Rattle.std.proofs.Common.{◌<◌, ◌∙◌, ℕ, arith}
 use Rattle.std.proofs.lemmas.List.Elements.{All-from_get_or}
-use Rattle.version_lines.proofs.HeadLemmas.{head-from_bytes}
+use Rattle.version_lines.proofs.HeadLemmas.{head-from_chunk}
 use Rattle.version_lines.proofs.sort.head.head.Goals as goal
 
-pub returns-clause-value : goal.returns-clause-value
-returns-clause-value c =
-    rw (← head-from_bytes c.args.bytes.now, ← c.byte_at.ensures, ← c.byte_at-2.ensures, ← c.byte_at-3.ensures, ← c.byte_at-4.ensures, ← c.byte_at-5.ensures, ← c.byte_at-6.ensures, ← c.byte_at-7.ensures, ← c.byte_at-8.ensures)
-    c.from_be_bytes.ensures
+pub returns-in-Some-clause-value : goal.returns-in-Some-clause-value
+returns-in-Some-clause-value c = c.from_be_bytes.ensures ∙ head-from_chunk c.args.bytes.now c.in-Some.first.now c.in-Some.ensures.cases.enough c.in-Some.ensures.cases.same
 
-pub returns-clause-bytes : goal.returns-clause-bytes
-returns-clause-bytes c = All-from_get_or (λ (byte : ℕ). byte < 256) c.args.bytes.now 0 (λ i inside. omega (arith, c.type_inv.bytes i))
+pub returns-in-Some-clause-bytes : goal.returns-in-Some-clause-bytes
+returns-in-Some-clause-bytes c = All-from_get_or (λ (byte : ℕ). byte < 256) c.args.bytes.now 0 (λ i inside. omega (arith, c.type_inv.bytes i))
+
+pub returns-in-None-clause-bytes : goal.returns-in-None-clause-bytes
+returns-in-None-clause-bytes c = All-from_get_or (λ (byte : ℕ). byte < 256) c.args.bytes.now 0 (λ i inside. omega (arith, c.type_inv.bytes i))
