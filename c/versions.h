@@ -49,7 +49,7 @@ extern "C" {
 #define VERSIONS_NO_NUMBER 6       /* the version has no number at that place */
 #define VERSIONS_NO_ROOM 7         /* there is too little room for the keys */
 #define VERSIONS_BAD_OFFSETS 8     /* an offset is bad, or the lengths of two arrays don't fit */
-#define VERSIONS_NO_MEMORY 9       /* returned by no call, since none takes memory; the number stays taken */
+#define VERSIONS_NO_MEMORY 9       /* returned by no call, since none takes memory */
 
 /* The kinds. */
 #define VERSIONS_NONE 0    /* no version */

@@ -51,7 +51,7 @@ static void release(void *bytes) {
   if (munmap(base, whole) != 0) exit(2);
 }
 
-// The lines of standard input in one buffer, with their offsets; no line feed is in it. They are read without <stdio.h>,
+// The lines of standard input in one buffer, with their offsets; no line feed is in it. They aren't read by <stdio.h>,
 // which takes memory.
 struct lines {
   char *texts;
@@ -430,7 +430,8 @@ static void long_texts(void) {
 // each request for memory is counted, so nothing else may take memory here.
 static void without_memory(const struct lines *lines) {
   static const char *const lists[] = {
-      "*", "^1.2.3-a,<9,>0.1a", "~1.2.3-a,=1.2.3-rc.10", "^1.2,>=0:1.0-1", "~1:2.0rc1-3", "=10.2+0.93+1-1,<=2_a", "no list",
+      "*", "^1.2.3-a,<9,>0.1a", "~1.2.3-a,=1.2.3-rc.10", "^1.2,>=0:1.0-1", "~1:2.0rc1-3", "=10.2+0.93+1-1,<=2_a",
+      "no list",
   };
   size_t count = lines->count, room = 3 * lines->length + 5 * count;
   uint8_t *answers = (uint8_t *)block(count), *keys = (uint8_t *)block(room);
