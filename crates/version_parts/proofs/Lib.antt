@@ -6,6 +6,7 @@ pub mod Compare
 pub mod DigitRun
 pub mod Dotted
 pub mod DottedScan
+pub mod ElementsLeft
 pub mod Fed
 pub mod Growing
 pub mod InlineBytes

@@ -6,6 +6,7 @@ pub mod Codes
 pub mod Compare
 pub mod DigitRun
 pub mod Front
+pub mod ElementsLeft
 pub mod FrontLaws
 pub mod Grammar
 pub mod KeyLaws

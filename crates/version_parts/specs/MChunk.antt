@@ -11,6 +11,8 @@ use Rattle.std.specs.String.{string_bytes}
 use Rattle.std.specs.declared.cmp.Ordering.{Ordering}
 use Rattle.version_parts.specs.declared.mchunk.MChunk.{MChunk}
 use Rattle.version_parts.specs.declared.mchunk.MChunk.TheVariants as owned
+use Rattle.version_parts.specs.declared.mchunk.MChunkRef.{MChunkRef}
+use Rattle.version_parts.specs.declared.mchunk.MChunkRef.TheVariants as lent
 use Rattle.version_parts.specs.Bytes.{dot}
 use Rattle.version_parts.specs.DigitRun.{is_digits}
 use Rattle.version_parts.specs.Front.{◌>>=◌, Front, after_mark, run_front}
@@ -28,6 +30,12 @@ abbrev pub plain_mchunk : MChunk → PlainMChunk
 plain_mchunk (owned.Digits value text) = Digits value (string_bytes text)
 plain_mchunk (owned.Rev value text) = Rev value (string_bytes text)
 plain_mchunk (owned.Plain text) = Plain (string_bytes text)
+
+-- the chunk that was scanned
+abbrev pub plain_mchunk_ref : MChunkRef → PlainMChunk
+plain_mchunk_ref (lent.Digits value text) = Digits value text.now
+plain_mchunk_ref (lent.Rev value text) = Rev value text.now
+plain_mchunk_ref (lent.Plain text) = Plain text.now
 
 -- the printed text: the text itself
 abbrev pub mchunk_text : PlainMChunk → List ℕ

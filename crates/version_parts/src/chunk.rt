@@ -16,6 +16,7 @@ ghost use Rattle.version_parts.specs.OrderLaws.{same_where_tied};
 ghost use Rattle.version_parts.specs.ReleaseLaws.{chunk_total, chunks_same};
 ghost use Rattle.version_parts.specs.ReleaseOrder.{chunk_cmp};
 
+use crate::elements::Spelled;
 use crate::key::PartText;
 use crate::lists::ListItem;
 use crate::scan::{Class, Element, is_all_digits, split_run, unsigned};
@@ -174,16 +175,11 @@ impl Hash for Chunk {
     }
 }
 
-// The order of chunks within a release: numbers by value and below texts, texts by bytes (SemVer 2.0, section 11).
+// The order of chunks within a release.
 fn compare_chunks(a: &Chunk, b: &Chunk) -> Ordering
     ensures { result ≡ chunk_cmp (plain_chunk a.now) (plain_chunk b.now) }
 {
-    match (a, b) {
-        (Chunk::Numeric(a), Chunk::Numeric(b)) => a.cmp(b),
-        (Chunk::Numeric(_), Chunk::Alphanum(_)) => Ordering::Less,
-        (Chunk::Alphanum(_), Chunk::Numeric(_)) => Ordering::Greater,
-        (Chunk::Alphanum(a), Chunk::Alphanum(b)) => a.as_str().cmp(b.as_str()),
-    }
+    a.lent().compare(b.lent())
 }
 
 // The chunk at the front of a text whose runs are of the class, and the rest.
@@ -206,9 +202,9 @@ fn after_letter(text: &str) -> Option<&str>
     }
 }
 
-// A chunk that was scanned, with its text still in the input.
+/// A chunk that was scanned, with its text still in the input.
 #[derive(Clone, Copy)]
-pub(crate) enum ChunkRef<'a> {
+pub enum ChunkRef<'a> {
     Numeric(u32),
     Alphanum(&'a str),
 }
@@ -237,6 +233,41 @@ impl<'a> ChunkRef<'a> {
         match self {
             ChunkRef::Numeric(number) => Ok(Chunk::Numeric(number)),
             ChunkRef::Alphanum(text) => Ok(Chunk::Alphanum(String::from_str(alloc, text)?)),
+        }
+    }
+}
+
+impl<'a> ChunkRef<'a> {
+    /// The number of a `Numeric`. Takes no memory.
+    pub fn number(self) -> Option<u32>
+        ensures { result ≡ number_of (plain_chunk_ref self.entry) }
+    {
+        match self {
+            ChunkRef::Numeric(number) => Some(number),
+            ChunkRef::Alphanum(_) => None,
+        }
+    }
+
+    // The order of chunks within a release: numbers by value and below texts, texts by bytes (SemVer 2.0, section 11).
+    fn compare(self, other: ChunkRef<'_>) -> Ordering
+        ensures { result ≡ chunk_cmp (plain_chunk_ref self.entry) (plain_chunk_ref other.entry) }
+    {
+        match (self, other) {
+            (ChunkRef::Numeric(a), ChunkRef::Numeric(b)) => a.cmp(&b),
+            (ChunkRef::Numeric(_), ChunkRef::Alphanum(_)) => Ordering::Less,
+            (ChunkRef::Alphanum(_), ChunkRef::Numeric(_)) => Ordering::Greater,
+            (ChunkRef::Alphanum(a), ChunkRef::Alphanum(b)) => a.cmp(b),
+        }
+    }
+}
+
+impl<'a> fmt::Display for ChunkRef<'a> {
+    ghost output = { λ chunk. Some (chunk_text (plain_chunk_ref chunk)) };
+
+    fn fmt<W: fmt::Write>(&self, f: &mut fmt::Formatter<W>) -> fmt::Result {
+        match self {
+            ChunkRef::Numeric(number) => write!(f, "{number}"),
+            ChunkRef::Alphanum(text) => f.write_str(text),
         }
     }
 }
@@ -341,5 +372,57 @@ impl Element for Part {
 
     fn read(alloc: Global, i: &str) -> Result<Option<(Chunk, &str)>, AllocError> {
         Chunk::parse_without_hyphens(alloc, i)
+    }
+}
+
+impl<'a> Spelled<'a> for ReleaseChunk {
+    type Piece = ChunkRef<'a>;
+
+    ghost Plain = { PlainChunk };
+
+    ghost plain = { plain_chunk_ref };
+
+    ghost front = { chunk_front };
+
+    ghost text = { chunk_text };
+
+    ghost plain_cmp = { chunk_cmp };
+
+    ghost prints = { λ chunk. refl };
+
+    ghost consumes = { chunk_consumes is_identifier_byte };
+
+    fn scan(i: &'a str) -> Option<(ChunkRef<'a>, &'a str)> {
+        ChunkRef::scan(i, Class::Identifier)
+    }
+
+    fn compare(a: ChunkRef<'a>, b: ChunkRef<'a>) -> Ordering {
+        a.compare(b)
+    }
+}
+
+impl<'a> Spelled<'a> for Part {
+    type Piece = ChunkRef<'a>;
+
+    ghost Plain = { PlainChunk };
+
+    ghost plain = { plain_chunk_ref };
+
+    ghost front = { part_front };
+
+    ghost text = { chunk_text };
+
+    ghost plain_cmp = { chunk_cmp };
+
+    ghost prints = { λ chunk. refl };
+
+    ghost consumes = { chunk_consumes is_ascii_alphanumeric };
+
+    fn scan(i: &'a str) -> Option<(ChunkRef<'a>, &'a str)> {
+        ChunkRef::scan(i, Class::Alphanumeric)
+    }
+
+    fn compare(a: ChunkRef<'a>, b: ChunkRef<'a>) -> Ordering {
+        a.compare(b)
     }
 }

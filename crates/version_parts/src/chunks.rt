@@ -1,13 +1,17 @@
 //! The chunks of a general version, and its body: the chunks with the last part behind them.
 
-ghost use Rattle.std.specs.Prelude.{◌≡◌, ◌<◌, ◌-◌, ◌∷◌, ◌++◌, [], refl, IfOk, OnErr, Some};
+ghost use Rattle.std.specs.Prelude.{◌≡◌, ◌==◌, ◌<◌, ◌-◌, ◌∷◌, ◌++◌, [], if◌then◌else◌, length, refl, IfOk, OnErr, Some};
 ghost use Rattle.std.proofs.Common.{ap};
 ghost use Rattle.std.specs.Cmp.{eq_by_cmp_equiv, on_equiv, on_per, on_total, partial_equiv_from_equiv, po};
-ghost use Rattle.std.specs.Option.{option_map};
-ghost use Rattle.std.specs.Ordering.{as_partial_cmp, eq_by_cmp, on};
-ghost use Rattle.version_parts.specs.Body.{body_front, chunks_front, plain_chunks, BodyOwns};
+ghost use Rattle.std.specs.List.{slice_get};
+ghost use Rattle.std.specs.Option.{option_and_then, option_map};
+ghost use Rattle.std.specs.Ordering.{as_partial_cmp, eq_by_cmp, on, ordering_then};
+ghost use Rattle.version_parts.specs.Body.{body_front, body_text, chunks_front, plain_chunks, BodyOwns};
 ghost use Rattle.version_parts.specs.Front.{Reads};
-ghost use Rattle.version_parts.specs.Last.{last_text, plain_last};
+ghost use Rattle.version_parts.specs.Chunk.{number_of, part_front};
+ghost use Rattle.version_parts.specs.ElementsLeft.{elements_left};
+ghost use Rattle.version_parts.specs.Last.{first_number, last_text, plain_last};
+ghost use Rattle.version_parts.specs.LastOrder.{last_plain_cmp};
 ghost use Rattle.version_parts.specs.OrderLaws.{same_where_tied};
 ghost use Rattle.version_parts.specs.Codes.{items_bytes};
 ghost use Rattle.version_parts.specs.PartKey.{chunk_parts, part_bytes, part_key};
@@ -18,6 +22,7 @@ ghost use Rattle.version_parts.specs.ReleaseLaws.{release_total, releases_same};
 ghost use Rattle.version_parts.specs.ReleaseOrder.{release_cmp};
 
 use crate::chunk::{Chunk, Part};
+use crate::elements::{ElementsLeft, compare_elements, nth_element, write_elements};
 use crate::key::{ItemsLeft, compare_part_lists};
 use crate::last::{Last, LastRef};
 use crate::lists::{compare_lists, copy_list, write_dotted};
@@ -166,5 +171,50 @@ impl<'a> BodyRef<'a> {
         let chunks = self.list.build::<Part>(alloc, self.list.count - 1)?;
         let last = self.last.build(alloc)?;
         Ok((Chunks(chunks), last))
+    }
+}
+
+impl<'a> BodyRef<'a> {
+    /// How two bodies compare: chunk by chunk, and then by their last parts, field by field. Takes no memory.
+    pub fn compare(&self, other: &BodyRef<'_>) -> Ordering
+        ensures { result ≡ ordering_then (release_cmp self.now.0 other.now.0)
+            (last_plain_cmp self.now.1 other.now.1) }
+    {
+        let chunks = compare_elements::<Part>(self.chunks(), other.chunks());
+        match chunks {
+            Ordering::Equal => self.last.compare(other.last),
+            _ => chunks,
+        }
+    }
+
+    /// The number at a place of the chunks, counted from 0, and behind them that of the last part. Takes no memory.
+    pub fn nth(&self, n: usize) -> Option<u32>
+        ensures { result ≡ (if n == length self.now.0 then first_number self.now.1
+            else option_and_then number_of (slice_get self.now.0 n)) }
+    {
+        if n == self.list.count - 1 {
+            return self.last.first_number();
+        }
+        nth_element::<Part>(self.chunks(), n)?.number()
+    }
+
+    // Its chunks.
+    fn chunks(&self) -> ElementsLeft<'a>
+        ensures { elements_left part_front result ≡ self.now.0 }
+    {
+        ElementsLeft::of(self.list, self.list.count - 1)
+    }
+}
+
+impl<'a> fmt::Display for BodyRef<'a> {
+    ghost output = { λ body. Some (body_text body) };
+
+    fn fmt<W: fmt::Write>(&self, f: &mut fmt::Formatter<W>) -> fmt::Result {
+        if self.list.count > 1 {
+            write_elements::<Part, W>(self.chunks(), f)?;
+            f.write_str(".")?;
+        }
+        let last = self.last;
+        write!(f, "{last}")
     }
 }

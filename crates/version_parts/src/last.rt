@@ -74,10 +74,7 @@ impl Last {
     pub fn first_number(&self) -> Option<u32>
         ensures { result ≡ first_number (plain_last self.now) }
     {
-        match self {
-            Last::Numeric(number) | Last::Rc(number, _, _) | Last::Post(number, _) => Some(*number),
-            Last::Alphanum(_) => None,
-        }
+        self.lent().first_number()
     }
 
     /// Makes a piece the bytes of the part that it is. Takes no memory.
@@ -159,7 +156,7 @@ impl Hash for Last {
     ghost respects_eq = { λ a b tied. ap last_fed (same_where_tied lasts_same tied) };
 
     fn hash<H: Hasher>(&self, state: &mut H) {
-        state.write_u8(self.rank());
+        state.write_u8(self.lent().rank());
         match self {
             Last::Numeric(number) => number.hash(state),
             Last::Rc(first, text, second) => {
@@ -202,20 +199,6 @@ impl PartialOrd for Last {
     }
 }
 
-impl Last {
-    // The place of the variant among the four.
-    fn rank(&self) -> u8
-        ensures { result ≡ last_rank (plain_last self.now) }
-    {
-        match self {
-            Last::Numeric(_) => 0,
-            Last::Rc(_, _, _) => 1,
-            Last::Post(_, _) => 2,
-            Last::Alphanum(_) => 3,
-        }
-    }
-}
-
 impl ListItem for Last {
     ghost Plain = { PlainLast };
 
@@ -233,16 +216,7 @@ impl ListItem for Last {
 
     /// Variants and fields in the order of their declaration.
     fn compare(&self, other: &Last) -> Ordering {
-        match (self, other) {
-            (Last::Numeric(a), Last::Numeric(b)) => a.cmp(b),
-            (Last::Rc(a, s, b), Last::Rc(c, t, d)) => {
-                let texts = s.as_str().cmp(t.as_str());
-                a.cmp(c).then(texts).then(b.cmp(d))
-            }
-            (Last::Post(a, s), Last::Post(c, t)) => a.cmp(c).then(s.as_str().cmp(t.as_str())),
-            (Last::Alphanum(s), Last::Alphanum(t)) => s.as_str().cmp(t.as_str()),
-            (a, b) => a.rank().cmp(&b.rank()),
-        }
+        self.lent().compare(other.lent())
     }
 }
 
@@ -303,6 +277,60 @@ impl<'a> LastRef<'a> {
             }
             LastRef::Post(number, text) => Ok(Last::Post(number, String::from_str(alloc, text)?)),
             LastRef::Alphanum(text) => Ok(Last::Alphanum(String::from_str(alloc, text)?)),
+        }
+    }
+}
+
+impl<'a> LastRef<'a> {
+    /// The number that it begins with: that of `Numeric`, the first of `Rc`, or that of `Post`. Takes no memory.
+    pub fn first_number(self) -> Option<u32>
+        ensures { result ≡ first_number (plain_last_ref self.entry) }
+    {
+        match self {
+            LastRef::Numeric(number) | LastRef::Rc(number, _, _) | LastRef::Post(number, _) => {
+                Some(number)
+            }
+            LastRef::Alphanum(_) => None,
+        }
+    }
+
+    /// How two last parts compare: variants and fields in the order of their declaration. Takes no memory.
+    pub fn compare(self, other: LastRef<'_>) -> Ordering
+        ensures { result ≡ last_plain_cmp (plain_last_ref self.entry) (plain_last_ref other.entry) }
+    {
+        match (self, other) {
+            (LastRef::Numeric(a), LastRef::Numeric(b)) => a.cmp(&b),
+            (LastRef::Rc(a, s, b), LastRef::Rc(c, t, d)) => {
+                a.cmp(&c).then(s.cmp(t)).then(b.cmp(&d))
+            }
+            (LastRef::Post(a, s), LastRef::Post(c, t)) => a.cmp(&c).then(s.cmp(t)),
+            (LastRef::Alphanum(s), LastRef::Alphanum(t)) => s.cmp(t),
+            (a, b) => a.rank().cmp(&b.rank()),
+        }
+    }
+
+    // The place of the variant among the four.
+    fn rank(self) -> u8
+        ensures { result ≡ last_rank (plain_last_ref self.entry) }
+    {
+        match self {
+            LastRef::Numeric(_) => 0,
+            LastRef::Rc(_, _, _) => 1,
+            LastRef::Post(_, _) => 2,
+            LastRef::Alphanum(_) => 3,
+        }
+    }
+}
+
+impl<'a> fmt::Display for LastRef<'a> {
+    ghost output = { λ last. Some (last_text (plain_last_ref last)) };
+
+    fn fmt<W: fmt::Write>(&self, f: &mut fmt::Formatter<W>) -> fmt::Result {
+        match self {
+            LastRef::Numeric(number) => write!(f, "{number}"),
+            LastRef::Rc(first, text, second) => write!(f, "{first}{text}{second}"),
+            LastRef::Post(number, text) => write!(f, "{number}{text}"),
+            LastRef::Alphanum(text) => f.write_str(text),
         }
     }
 }

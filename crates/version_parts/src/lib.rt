@@ -4,6 +4,7 @@
 
 mod chunk;
 mod chunks;
+pub mod elements;
 pub mod key;
 mod last;
 mod laws;
@@ -14,9 +15,9 @@ mod release;
 pub mod scan;
 mod sep;
 
-pub use chunk::{Chunk, Part, ReleaseChunk};
+pub use chunk::{Chunk, ChunkRef, Part, ReleaseChunk};
 pub use chunks::{BodyRef, Chunks};
 pub use last::{Last, LastRef};
-pub use mchunk::{MChunk, MessyChunk, SectionRef};
+pub use mchunk::{MChunk, MChunkRef, MessyChunk, SectionRef};
 pub use release::{Release, ReleaseRef};
 pub use sep::Sep;

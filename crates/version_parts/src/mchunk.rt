@@ -1,20 +1,25 @@
 //! Chunks of a messy version: what stands between its dots and signs.
 
 ghost use Rattle.std.specs.Prelude.{◌≡◌, ◌≢◌, ◌<◌, ◌∷◌, [], refl, length, map, string_bytes, IfNone, IfOk, IfSome, Some};
-ghost use Rattle.std.specs.Option.{option_map};
+ghost use Rattle.std.specs.Cmp.Lexicographic.{slice_cmp};
+ghost use Rattle.std.specs.List.{join_with_byte, slice_get};
+ghost use Rattle.std.specs.Option.{option_and_then, option_map};
+ghost use Rattle.version_parts.specs.Bytes.{dot};
+ghost use Rattle.version_parts.specs.ElementsLeft.{elements_left};
 ghost use Rattle.std.proofs.Common.{ap};
 ghost use Rattle.std.specs.Cmp.{eq_by_cmp_equiv, on_equiv, on_per, on_total, partial_equiv_from_equiv, po};
 ghost use Rattle.std.specs.Ordering.{as_partial_cmp, eq_by_cmp, on};
 ghost use Rattle.version_parts.specs.DigitRun.{is_digits};
 ghost use Rattle.version_parts.specs.Front.{dotted_front, Reads};
 ghost use Rattle.version_parts.specs.FrontLaws.{mchunk_consumes};
-ghost use Rattle.version_parts.specs.MChunk.{chunk_before, digits_number, ends_chunk, mchunk_fed, mchunk_front, mchunk_plain_cmp, mchunk_rank, mchunk_text, mchunk_value, plain_mchunk, value_of_digits, value_of_revision, variant_of, PlainMChunk};
+ghost use Rattle.version_parts.specs.MChunk.{chunk_before, digits_number, ends_chunk, mchunk_fed, mchunk_front, mchunk_plain_cmp, mchunk_rank, mchunk_text, mchunk_value, plain_mchunk, plain_mchunk_ref, value_of_digits, value_of_revision, variant_of, PlainMChunk};
 ghost use Rattle.version_parts.specs.MChunkLaws.{mchunk_total, mchunks_same};
 ghost use Rattle.version_parts.specs.OrderLaws.{same_where_tied};
 ghost use Rattle.version_parts.specs.PartKey.{parts_bytes, section_parts};
 ghost use Rattle.version_parts.specs.PartOrder.{mchunk_cmp};
 ghost use Rattle.version_parts.specs.PartOrderLaws.{mchunk_cmp_ties, mchunk_cmp_total};
 
+use crate::elements::{ElementsLeft, Spelled, compare_elements, nth_element, write_elements};
 use crate::key::{ItemsLeft, ListLeft, PartText, compare_parts};
 use crate::lists::ListItem;
 use crate::scan::{Class, Dotted, Element, after_mark, is_all_digits, nonempty_run, value_of};
@@ -119,25 +124,14 @@ impl MChunk {
         }
     }
 
-    // The place of the kind among the kinds, as they are declared.
-    fn rank(&self) -> u8
-        ensures { result ≡ mchunk_rank (plain_mchunk self.now) }
+    // The same with its text lent.
+    fn lent(&self) -> MChunkRef<'_>
+        ensures { plain_mchunk_ref result ≡ plain_mchunk self.now }
     {
         match self {
-            MChunk::Digits(..) => 0,
-            MChunk::Rev(..) => 1,
-            MChunk::Plain(_) => 2,
-        }
-    }
-
-    // The value that stands beside the text, none being 0.
-    fn value(&self) -> u32
-        ensures { result ≡ mchunk_value (plain_mchunk self.now) }
-    {
-        match self {
-            MChunk::Digits(value, _) => *value,
-            MChunk::Rev(value, _) => *value,
-            MChunk::Plain(_) => 0,
+            MChunk::Digits(value, text) => MChunkRef::Digits(*value, text.as_str()),
+            MChunk::Rev(value, text) => MChunkRef::Rev(*value, text.as_str()),
+            MChunk::Plain(text) => MChunkRef::Plain(text.as_str()),
         }
     }
 
@@ -145,9 +139,7 @@ impl MChunk {
     fn compare_plain(&self, other: &MChunk) -> Ordering
         ensures { result ≡ mchunk_plain_cmp (plain_mchunk self.now) (plain_mchunk other.now) }
     {
-        let kinds = self.rank().cmp(&other.rank());
-        let values = kinds.then(self.value().cmp(&other.value()));
-        values.then(self.text().cmp(other.text()))
+        self.lent().compare(other.lent())
     }
 }
 
@@ -206,9 +198,10 @@ impl Hash for MChunk {
     ghost respects_eq = { λ a b tied. ap mchunk_fed (same_where_tied mchunks_same tied) };
 
     fn hash<H: Hasher>(&self, state: &mut H) {
-        state.write_u8(self.rank());
-        self.value().hash(state);
-        self.text().hash(state);
+        let chunk = self.lent();
+        state.write_u8(chunk.rank());
+        chunk.value().hash(state);
+        chunk.text().hash(state);
     }
 }
 
@@ -341,5 +334,169 @@ impl<'a> SectionRef<'a> {
     {
         let count = self.list.count;
         self.list.build::<MessyChunk>(alloc, count)
+    }
+}
+
+/// A chunk of a messy version that was scanned, with its text still in the input.
+#[derive(Clone, Copy)]
+pub enum MChunkRef<'a> {
+    Digits(u32, &'a str),
+    Rev(u32, &'a str),
+    Plain(&'a str),
+}
+
+impl<'a> MChunkRef<'a> {
+    // The chunk at the front of a text, and the rest.
+    #[tactic(auto, unfolding(crate::specs::MChunk::mchunk_front))]
+    fn scan(i: &'a str) -> Option<(MChunkRef<'a>, &'a str)>
+        ensures { option_map (λ r. (plain_mchunk_ref r.0, r.1.now)) result ≡ mchunk_front i.now }
+    {
+        let (run, rest) = nonempty_run(i, Class::Alphanumeric)?;
+        Some((MChunkRef::before(rest, run), rest))
+    }
+
+    // The chunk that a run is, before what follows it.
+    fn before(rest: &str, run: &'a str) -> MChunkRef<'a>
+        ensures { plain_mchunk_ref result ≡ chunk_before (run.now, rest.now) }
+    {
+        if ends_chunk(rest) {
+            MChunkRef::of(run)
+        } else {
+            MChunkRef::Plain(run)
+        }
+    }
+
+    // The chunk that a run of letters and digits is.
+    #[tactic(auto, unfolding(crate::specs::MChunk::variant_of))]
+    fn of(run: &'a str) -> MChunkRef<'a>
+        ensures { plain_mchunk_ref result ≡ variant_of run.now }
+    {
+        if let Some(value) = value_of_digits(run) {
+            return MChunkRef::Digits(value, run);
+        }
+        match value_of_revision(run) {
+            Some(value) => MChunkRef::Rev(value, run),
+            None => MChunkRef::Plain(run),
+        }
+    }
+
+    // The text that was read, and that is printed.
+    fn text(self) -> &'a str
+        ensures { result.now ≡ mchunk_text (plain_mchunk_ref self.entry) }
+    {
+        match self {
+            MChunkRef::Digits(_, text) => text,
+            MChunkRef::Rev(_, text) => text,
+            MChunkRef::Plain(text) => text,
+        }
+    }
+
+    /// The number of `Digits`. Takes no memory.
+    pub fn number(self) -> Option<u32>
+        ensures { result ≡ digits_number (plain_mchunk_ref self.entry) }
+    {
+        match self {
+            MChunkRef::Digits(value, _) => Some(value),
+            _ => None,
+        }
+    }
+
+    // The place of the kind among the kinds, as they are declared.
+    fn rank(self) -> u8
+        ensures { result ≡ mchunk_rank (plain_mchunk_ref self.entry) }
+    {
+        match self {
+            MChunkRef::Digits(..) => 0,
+            MChunkRef::Rev(..) => 1,
+            MChunkRef::Plain(_) => 2,
+        }
+    }
+
+    // The value that stands beside the text, none being 0.
+    fn value(self) -> u32
+        ensures { result ≡ mchunk_value (plain_mchunk_ref self.entry) }
+    {
+        match self {
+            MChunkRef::Digits(value, _) => value,
+            MChunkRef::Rev(value, _) => value,
+            MChunkRef::Plain(_) => 0,
+        }
+    }
+
+    // How two chunks compare, field by field.
+    fn compare(self, other: MChunkRef<'_>) -> Ordering
+        ensures { result
+            ≡ mchunk_plain_cmp (plain_mchunk_ref self.entry) (plain_mchunk_ref other.entry) }
+    {
+        let kinds = self.rank().cmp(&other.rank());
+        let values = kinds.then(self.value().cmp(&other.value()));
+        values.then(self.text().cmp(other.text()))
+    }
+}
+
+impl<'a> fmt::Display for MChunkRef<'a> {
+    ghost output = { λ chunk. Some (mchunk_text (plain_mchunk_ref chunk)) };
+
+    fn fmt<W: fmt::Write>(&self, f: &mut fmt::Formatter<W>) -> fmt::Result {
+        f.write_str(self.text())
+    }
+}
+
+impl<'a> Spelled<'a> for MessyChunk {
+    type Piece = MChunkRef<'a>;
+
+    ghost Plain = { PlainMChunk };
+
+    ghost plain = { plain_mchunk_ref };
+
+    ghost front = { mchunk_front };
+
+    ghost text = { mchunk_text };
+
+    ghost plain_cmp = { mchunk_plain_cmp };
+
+    ghost prints = { λ chunk. refl };
+
+    ghost consumes = { mchunk_consumes };
+
+    fn scan(i: &'a str) -> Option<(MChunkRef<'a>, &'a str)> {
+        MChunkRef::scan(i)
+    }
+
+    fn compare(a: MChunkRef<'a>, b: MChunkRef<'a>) -> Ordering {
+        a.compare(b)
+    }
+}
+
+impl<'a> SectionRef<'a> {
+    /// How two sections compare: chunk by chunk, field by field, the shorter first where one begins the other. Takes
+    /// no memory.
+    pub fn compare(&self, other: &SectionRef<'_>) -> Ordering
+        ensures { result ≡ slice_cmp mchunk_plain_cmp self.now other.now }
+    {
+        compare_elements::<MessyChunk>(self.elements(), other.elements())
+    }
+
+    /// The number of the chunk at a place, counted from 0, if it is digits. Takes no memory.
+    pub fn number_at(&self, at: usize) -> Option<u32>
+        ensures { result ≡ option_and_then digits_number (slice_get self.now at) }
+    {
+        nth_element::<MessyChunk>(self.elements(), at)?.number()
+    }
+
+    // Its chunks.
+    #[tactic(auto, using(crate::proofs::ElementsLeft::all_elements))]
+    fn elements(&self) -> ElementsLeft<'a>
+        ensures { elements_left mchunk_front result ≡ self.now }
+    {
+        ElementsLeft::of(self.list, self.list.count)
+    }
+}
+
+impl<'a> fmt::Display for SectionRef<'a> {
+    ghost output = { λ section. Some (join_with_byte dot (map mchunk_text section)) };
+
+    fn fmt<W: fmt::Write>(&self, f: &mut fmt::Formatter<W>) -> fmt::Result {
+        write_elements::<MessyChunk, W>(self.elements(), f)
     }
 }

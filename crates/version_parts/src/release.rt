@@ -6,6 +6,7 @@ ghost use Rattle.std.specs.Cmp.{eq_by_cmp_equiv, on_equiv, on_per, on_total, par
 ghost use Rattle.std.specs.Option.{option_map};
 ghost use Rattle.std.specs.Ordering.{as_partial_cmp, eq_by_cmp, on};
 ghost use Rattle.version_parts.specs.Chunk.{chunk_front, PlainChunk};
+ghost use Rattle.version_parts.specs.ElementsLeft.{elements_left};
 ghost use Rattle.version_parts.specs.Front.{elements_at, Reads};
 ghost use Rattle.version_parts.specs.OrderLaws.{same_where_tied};
 ghost use Rattle.version_parts.specs.Release.{plain_release, release_fed, release_front, release_text};
@@ -13,6 +14,7 @@ ghost use Rattle.version_parts.specs.ReleaseLaws.{release_total, releases_same};
 ghost use Rattle.version_parts.specs.ReleaseOrder.{release_bytes, release_cmp};
 
 use crate::chunk::{Chunk, ReleaseChunk};
+use crate::elements::{ElementsLeft, compare_elements, write_elements};
 use crate::key::{ItemsLeft, ListLeft};
 use crate::lists::{compare_lists, copy_list, write_dotted};
 use crate::scan::{Dotted, after_mark};
@@ -152,5 +154,30 @@ impl<'a> ReleaseRef<'a> {
     {
         let count = self.list.count;
         Ok(Release(self.list.build::<ReleaseChunk>(alloc, count)?))
+    }
+}
+
+impl<'a> ReleaseRef<'a> {
+    /// How two releases compare: chunk by chunk, as [`Release`]s do. Takes no memory.
+    pub fn compare(&self, other: &ReleaseRef<'_>) -> Ordering
+        ensures { result ≡ release_cmp self.now other.now }
+    {
+        compare_elements::<ReleaseChunk>(self.elements(), other.elements())
+    }
+
+    // Its chunks.
+    #[tactic(auto, using(crate::proofs::ElementsLeft::all_elements))]
+    fn elements(&self) -> ElementsLeft<'a>
+        ensures { elements_left chunk_front result ≡ self.now }
+    {
+        ElementsLeft::of(self.list, self.list.count)
+    }
+}
+
+impl<'a> fmt::Display for ReleaseRef<'a> {
+    ghost output = { λ release. Some (release_text release) };
+
+    fn fmt<W: fmt::Write>(&self, f: &mut fmt::Formatter<W>) -> fmt::Result {
+        write_elements::<ReleaseChunk, W>(self.elements(), f)
     }
 }

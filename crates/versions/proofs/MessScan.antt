@@ -8,7 +8,8 @@ use Rattle.std.specs.declared.alloc.AllocError.{AllocError}
 use Rattle.version_parts.specs.Front.{Reads, repeated}
 use Rattle.version_parts.proofs.DottedScan.{nothing_before, read_before}
 use Rattle.version_parts.proofs.Repeated.{cases_Option, repeated-None, repeated-next}
-use Rattle.versions.specs.Mess.{Further, PlainMess, Section, further_front, mess_front, mess_of, plain_mess, section_front}
+use Rattle.version_parts.specs.Sep.{PlainSep, sep_front}
+use Rattle.versions.specs.Mess.{Further, PlainMess, Section, further_front, further_in, mess_front, mess_of, plain_mess, section_front}
 use Rattle.versions.specs.declared.mess.Mess.{Mess}
 use Rattle.versions.proofs.MessReading.{further_shrinks, mess_front-None, mess_front-Some}
 
@@ -88,3 +89,44 @@ pub reads_err : (r : Result (Option (Mess × Bor (List ℕ))) AllocError) (front
     → Reads plain_mess (λ m. Unit {0}) r front
 reads_err (Ok answer) front err some = cc err
 reads_err (Err e) front err some = some
+
+-- ---- one after another
+
+pub further_none : (text : List ℕ) → further_front text ≡ None → all_further text ≡ ([], text)
+further_none text none = repeated-None further_front text (length text) none
+
+pub unsigned : (text : List ℕ) → None ≡ sep_front text → further_front text ≡ None
+unfolding further_front
+unsigned text e = rw (← e) refl
+
+pub unread : (text behind : List ℕ) (sign : PlainSep) → Some (sign, behind) ≡ sep_front text → None ≡ section_front behind → further_front text ≡ None
+unfolding further_front
+unread text behind sign e f = rw (← e, ← f) refl
+
+one_read : (text behind rest : List ℕ) (sign : PlainSep) (section : Section) → Some (sign, behind) ≡ sep_front text → Some (section, rest) ≡ section_front behind
+    → further_front text ≡ Some ((sign, section), rest)
+unfolding further_front
+one_read text behind rest sign section e f = rw (← e, ← f) refl
+
+pub further_next : (text behind rest : List ℕ) (sign : PlainSep) (section : Section) → Some (sign, behind) ≡ sep_front text → Some (section, rest) ≡ section_front behind
+    → (all_further text).0 ≡ (sign, section) ∷ (all_further rest).0
+further_next text behind rest sign section e f =
+    ap (λ (p : List Further × List ℕ). p.0) (repeated-next further_front further_shrinks text (sign, section) rest (one_read text behind rest sign section e f))
+
+-- the same of the further sections alone
+
+pub in_next : (text behind rest : List ℕ) (sign : PlainSep) (section : Section) → Some (sign, behind) ≡ sep_front text → Some (section, rest) ≡ section_front behind
+    → further_in text ≡ (sign, section) ∷ further_in rest
+in_next = further_next
+
+pub in_shorter : (text behind rest : List ℕ) (sign : PlainSep) (section : Section) → Some (sign, behind) ≡ sep_front text → Some (section, rest) ≡ section_front behind
+    → length rest < length text
+in_shorter text behind rest sign section e f = further_shrinks text (sign, section) rest (one_read text behind rest sign section e f)
+
+pub in_unsigned : (text : List ℕ) → None ≡ sep_front text → further_in text ≡ []
+in_unsigned text e = ap (λ (p : List Further × List ℕ). p.0) (further_none text (unsigned text e))
+
+pub in_unread : (text behind : List ℕ) (sign : PlainSep) → Some (sign, behind) ≡ sep_front text → None ≡ section_front behind → further_in text ≡ []
+in_unread text behind sign e f = ap (λ (p : List Further × List ℕ). p.0) (further_none text (unread text behind sign e f))
+
+pub ruleset first_further = (in_next, in_shorter, in_unsigned, in_unread)

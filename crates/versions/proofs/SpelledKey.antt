@@ -15,13 +15,12 @@ use Rattle.version_parts.specs.PartKey.{PartKey, chunk_parts, part_bytes, parts_
 use Rattle.version_parts.specs.Sep.{PlainSep, Colon, Hyphen, Plus, Underscore, Tilde, sep_front, sep_of}
 use Rattle.version_parts.specs.declared.chunk.Chunk.{Chunk}
 use Rattle.version_parts.proofs.ListBytes.{chunk_parts-map, key_of_chunk}
-use Rattle.version_parts.proofs.Repeated.{cases_Option, repeated-None, repeated-next}
+use Rattle.version_parts.proofs.Repeated.{cases_Option}
 use Rattle.versions.specs.Key.{key_behind_epoch, key_of_sections, section_epoch}
 use Rattle.versions.specs.KeyBytes.{further_bytes}
-use Rattle.versions.specs.Mess.{Further, Section, further_front, section_front}
+use Rattle.versions.specs.Mess.{Further, Section, section_front}
 use Rattle.versions.proofs.Epoch.{digits_alone}
-use Rattle.versions.proofs.MessReading.{further_shrinks}
-use Rattle.versions.proofs.MessScan.{all_further}
+use Rattle.versions.proofs.MessScan.{all_further, further_next, further_none, unread, unsigned}
 
 -- the parts of a body, and the last one behind them
 last_written : (keys : List PartKey) (last : PartKey) → items_bytes part_bytes keys ++ (part_bytes (Some last) ++ part_bytes None) ≡ parts_bytes (keys ++ last ∷ [])
@@ -34,27 +33,6 @@ pub parts_written : (chunks : List Chunk) (last : PartKey)
 parts_written chunks last = last_written (map key_of_chunk chunks) last ∙ ap (λ keys. parts_bytes (keys ++ last ∷ [])) (chunk_parts-map chunks)
 
 -- ---- further sections
-
-further_none : (text : List ℕ) → further_front text ≡ None → all_further text ≡ ([], text)
-further_none text none = repeated-None further_front text (length text) none
-
-unsigned : (text : List ℕ) → None ≡ sep_front text → further_front text ≡ None
-unfolding further_front
-unsigned text e = rw (← e) refl
-
-unread : (text behind : List ℕ) (sign : PlainSep) → Some (sign, behind) ≡ sep_front text → None ≡ section_front behind → further_front text ≡ None
-unfolding further_front
-unread text behind sign e f = rw (← e, ← f) refl
-
-read : (text behind rest : List ℕ) (sign : PlainSep) (section : Section) → Some (sign, behind) ≡ sep_front text → Some (section, rest) ≡ section_front behind
-    → further_front text ≡ Some ((sign, section), rest)
-unfolding further_front
-read text behind rest sign section e f = rw (← e, ← f) refl
-
-further_next : (text behind rest : List ℕ) (sign : PlainSep) (section : Section) → Some (sign, behind) ≡ sep_front text → Some (section, rest) ≡ section_front behind
-    → (all_further text).0 ≡ (sign, section) ∷ (all_further rest).0
-further_next text behind rest sign section e f =
-    ap (λ (p : List Further × List ℕ). p.0) (repeated-next further_front further_shrinks text (sign, section) rest (read text behind rest sign section e f))
 
 pub next_spelled : (text behind rest : List ℕ) (sign : PlainSep) (section : Section) → Some (sign, behind) ≡ sep_front text → Some (section, rest) ≡ section_front behind
     → further_bytes (all_further text).0 ≡ 2 ∷ (parts_bytes (section_parts section) ++ further_bytes (all_further rest).0)

@@ -6,6 +6,7 @@ pub mod Key
 pub mod KeyBytes
 pub mod KeyLaws
 pub mod KeyStream
+pub mod Kind
 pub mod Matching
 pub mod MatchingLaws
 pub mod Mess

@@ -1,14 +1,16 @@
 //! Messy versions. However many sections there are, every call goes along them by a loop.
 
-ghost use Rattle.std.specs.Prelude.{◌≡◌, refl, [], Some, IfOk, IfSome, IsSome, OnErr, length, map};
+ghost use Rattle.std.specs.Prelude.{◌≡◌, ◌<◌, ◌∷◌, refl, [], Some, IfNone, IfOk, IfSome, IsSome, OnErr, length, map};
 ghost use Rattle.std.specs.Option.{is_some, option_map};
 ghost use Rattle.std.proofs.Common.{ap};
 ghost use Rattle.std.specs.Cmp.{eq_by_cmp_equiv, on_equiv, on_per, on_total, partial_equiv_from_equiv, po};
+ghost use Rattle.std.specs.Cmp.Lexicographic.{slice_cmp};
 ghost use Rattle.std.specs.Ordering.{as_partial_cmp, eq_by_cmp, on};
 ghost use Rattle.version_parts.specs.Front.{repeated, Reads};
 ghost use Rattle.version_parts.specs.OrderLaws.{same_where_tied};
+ghost use Rattle.version_parts.specs.Sep.{plain_sep};
 ghost use Rattle.versions.specs.Errors.{IllegalMess, ReadsOr};
-ghost use Rattle.versions.specs.Mess.{behind_colons, further_front, mess_fed, mess_front, mess_of, mess_plain_cmp, mess_text, nth_number, plain_further, plain_mess, plain_mess_ref, plain_section, section_front, PlainMess, SpellsMess};
+ghost use Rattle.versions.specs.Mess.{behind_colons, further_front, further_in, further_plain_cmp, mess_fed, mess_front, mess_of, mess_plain_cmp, mess_text, nth_number, plain_further, plain_mess, plain_mess_ref, plain_section, section_front, PlainMess, SpellsMess};
 ghost use Rattle.versions.specs.MessLaws.{mess_total, messes_same};
 ghost use Rattle.versions.specs.Orders.{mess_cmp};
 ghost use Rattle.versions.specs.OrdersLaws.{mess_cmp_ties, mess_cmp_total};
@@ -305,10 +307,10 @@ fn read_whole(alloc: Global, s: &str) -> Result<Option<Mess>, AllocError>
     }
 }
 
-// A messy version that was scanned, with its texts still in the input: its first section, and the text of those behind
-// it, each behind its sign.
+/// A messy version that was scanned, with its texts still in the input: its first section, and the text of those behind
+/// it, each behind its sign.
 #[derive(Drop)]
-pub(crate) struct MessRef<'a> {
+pub struct MessRef<'a> {
     pub(crate) first: SectionRef<'a>,
     pub(crate) rest: &'a str,
 }
@@ -393,4 +395,101 @@ fn read_all_further(alloc: Global, i: &str) -> Result<(Vec<(Sep, Vec<MChunk>)>, 
         rest = after;
     }
     Ok((more, rest))
+}
+
+impl<'a> MessRef<'a> {
+    // How two versions compare, field by field.
+    pub(crate) fn compare_plain(&self, other: &MessRef<'_>) -> Ordering
+        ensures { result ≡ mess_plain_cmp (plain_mess_ref self.now) (plain_mess_ref other.now) }
+    {
+        let sections = self.first.compare(&other.first);
+        match sections {
+            Ordering::Equal => compare_further(self.rest, other.rest),
+            _ => sections,
+        }
+    }
+
+    // The number of the chunk at `x` in the first section that no colon follows, if it is digits.
+    pub(crate) fn nth(&self, x: usize) -> Option<u32>
+        ensures { result ≡ nth_number (plain_mess_ref self.now) x }
+    {
+        let mut behind = None;
+        let mut rest = self.rest;
+        'sections: while let Some((Sep::Colon, section, after)) = scan_further(rest) {
+            behind = Some(section);
+            rest = after;
+        }
+        match behind {
+            Some(section) => section.number_at(x),
+            None => self.first.number_at(x),
+        }
+    }
+}
+
+/// The text that was read.
+impl<'a> fmt::Display for MessRef<'a> {
+    ghost output = { λ m. Some (mess_text (plain_mess_ref m)) };
+
+    fn fmt<W: fmt::Write>(&self, f: &mut fmt::Formatter<W>) -> fmt::Result {
+        let first = &self.first;
+        write!(f, "{first}")?;
+        let mut rest = self.rest;
+        'sections: while let Some((sign, section, after)) = scan_further(rest) {
+            write!(f, "{sign}{section}")?;
+            rest = after;
+        }
+        Ok(())
+    }
+}
+
+// How the further sections at the front of two texts compare, field by field, fewer first.
+fn compare_further(a: &str, b: &str) -> Ordering
+    ensures { result ≡ slice_cmp further_plain_cmp (further_in a.now) (further_in b.now) }
+{
+    let (mut a, mut b) = (a, b);
+    'sections: loop {
+        match (scan_further(a), scan_further(b)) {
+            (Some((sign, section, after)), Some((other_sign, other, other_after))) => {
+                let ordering = compare_sections(sign, &section, other_sign, &other);
+                if ordering != Ordering::Equal {
+                    return ordering;
+                }
+                a = after;
+                b = other_after;
+            }
+            (Some(_), None) => return Ordering::Greater,
+            (None, Some(_)) => return Ordering::Less,
+            (None, None) => return Ordering::Equal,
+        }
+    }
+}
+
+// How two sections behind their signs compare: by the signs, then chunk by chunk.
+fn compare_sections(
+    sign: Sep,
+    section: &SectionRef<'_>,
+    other_sign: Sep,
+    other: &SectionRef<'_>,
+) -> Ordering
+    ensures { result ≡ further_plain_cmp (plain_sep sign, section.now)
+        (plain_sep other_sign, other.now) }
+{
+    let signs = sign.compare_plain(other_sign);
+    match signs {
+        Ordering::Equal => section.compare(other),
+        _ => signs,
+    }
+}
+
+// The sign and the section at the front of a text, and the rest.
+#[tactic(auto, using(crate::proofs::MessScan::first_further))]
+fn scan_further(i: &str) -> Option<(Sep, SectionRef<'_>, &str)>
+    ensures some { IfSome result (λ r. further_in i.now
+        ≡ (plain_sep r.0, r.1) ∷ further_in r.2.now) }
+    ensures shorter { IfSome result (λ r. length r.2.now < length i.now) }
+    ensures none { IfNone result (further_in i.now ≡ []) }
+{
+    let (sign, behind) = scan::sign(i)?;
+    let (section, rest) = SectionRef::scan(behind)?;
+    Some((sign, section, rest))
 }

@@ -231,7 +231,7 @@ fn asks_for_scanned(
             if !spelled.is_of_kind(wanted) {
                 return Ok(false);
             }
-            Ok(asks_for(op, wanted, &spelled.build(alloc)?))
+            Ok(asks_for(op, wanted, &spelled.to_owned(alloc)?))
         }
         Op::Wildcard => Ok(true),
     }

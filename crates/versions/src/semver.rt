@@ -12,11 +12,13 @@ ghost use Rattle.versions.specs.Errors.{IllegalSemver, ReadsOr};
 ghost use Rattle.versions.specs.SemVerLaws.{fed_alike, semver_total};
 ghost use Rattle.versions.specs.SemVerMatch.{numbers, MatchesCaret, MatchesTilde};
 ghost use Rattle.versions.specs.SemVerOrder.{semver_cmp};
+ghost use Rattle.versions.specs.Versioning.{semver_nth};
 ghost use Rattle.versions.specs.SemVer.{plain_semver, semver_fed, plain_semver_ref, semver_front, semver_of, semver_text, SemVerOwns, PlainSemVer, SpellsSemVer};
 
 use crate::errors::{Error, ReadError};
 use crate::optional::{
-    build_release, copy_meta, copy_release, copy_text, optional_meta, optional_release, write_tail,
+    build_release, copy_meta, copy_release, copy_text, optional_meta, optional_release,
+    write_spelled_tail, write_tail,
 };
 use crate::reading::or_illegal;
 use crate::version::Version;
@@ -244,9 +246,9 @@ fn read_whole(alloc: Global, s: &str) -> Result<Option<SemVer>, AllocError>
     }
 }
 
-// A strict version that was scanned, with its texts still in the input.
+/// A strict version that was scanned, with its texts still in the input.
 #[derive(Drop)]
-pub(crate) struct SemVerRef<'a> {
+pub struct SemVerRef<'a> {
     pub(crate) major: u32,
     pub(crate) minor: u32,
     pub(crate) patch: u32,
@@ -299,5 +301,57 @@ impl<'a> SemVerRef<'a> {
             pre_rel: build_release(alloc, &self.pre_rel)?,
             meta: copy_text(alloc, self.meta)?,
         })
+    }
+}
+
+impl<'a> SemVerRef<'a> {
+    // How two versions compare, as `SemVer`s do: metadata is not looked at.
+    pub(crate) fn compare_plain(&self, other: &SemVerRef<'_>) -> Ordering
+        ensures { result ≡ semver_cmp (plain_semver_ref self.now) (plain_semver_ref other.now) }
+    {
+        let numbers = self
+            .major
+            .cmp(&other.major)
+            .then(self.minor.cmp(&other.minor));
+        let numbers = numbers.then(self.patch.cmp(&other.patch));
+        match numbers {
+            Ordering::Equal => compare_spelled_pre_releases(&self.pre_rel, &other.pre_rel),
+            _ => numbers,
+        }
+    }
+
+    // Major, minor and patch at 0, 1 and 2.
+    pub(crate) fn nth(&self, n: usize) -> Option<u32>
+        ensures { result ≡ semver_nth (plain_semver_ref self.now) n }
+    {
+        match n {
+            0 => Some(self.major),
+            1 => Some(self.minor),
+            2 => Some(self.patch),
+            _ => None,
+        }
+    }
+}
+
+// A pre-release that was scanned is below none (SemVer 2.0, section 11).
+fn compare_spelled_pre_releases(a: &Option<ReleaseRef<'_>>, b: &Option<ReleaseRef<'_>>) -> Ordering
+    ensures { result ≡ none_last_cmp release_cmp a.now b.now }
+{
+    match (a, b) {
+        (Some(a), Some(b)) => a.compare(b),
+        (Some(_), None) => Ordering::Less,
+        (None, Some(_)) => Ordering::Greater,
+        (None, None) => Ordering::Equal,
+    }
+}
+
+/// The text that was read.
+impl<'a> fmt::Display for SemVerRef<'a> {
+    ghost output = { λ v. Some (semver_text (plain_semver_ref v)) };
+
+    fn fmt<W: fmt::Write>(&self, f: &mut fmt::Formatter<W>) -> fmt::Result {
+        let (major, minor, patch) = (self.major, self.minor, self.patch);
+        write!(f, "{major}.{minor}.{patch}")?;
+        write_spelled_tail(f, &self.pre_rel, self.meta)
     }
 }

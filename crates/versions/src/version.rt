@@ -3,13 +3,15 @@
 ghost use Rattle.std.specs.Prelude.{◌≡◌, ◌↔◌, refl, IfOk, IfSome, IsSomeAnd, IsTrue, None, OnErr, Some, []};
 ghost use Rattle.std.proofs.Common.{ap};
 ghost use Rattle.std.specs.Cmp.{eq_by_cmp_equiv, on_equiv, on_per, on_total, partial_equiv_from_equiv, po};
-ghost use Rattle.std.specs.Option.{is_some, option_map};
+ghost use Rattle.std.specs.Option.{is_some, option_cmp, option_map};
 ghost use Rattle.std.specs.Ordering.{as_partial_cmp, eq_by_cmp, on};
 ghost use Rattle.version_parts.specs.Body.{plain_chunks};
 ghost use Rattle.version_parts.specs.Front.{optional, Reads};
 ghost use Rattle.version_parts.specs.Last as plain;
+ghost use Rattle.version_parts.specs.Lists.{bytes_cmp};
 ghost use Rattle.version_parts.specs.OrderLaws.{same_where_tied};
 ghost use Rattle.version_parts.specs.PartKey.{chunk_parts, list_cmp};
+ghost use Rattle.version_parts.specs.ReleaseOrder.{release_cmp};
 ghost use Rattle.versions.specs.Errors.{IllegalVersion, ReadsOr};
 ghost use Rattle.versions.specs.Key.{key_of_version, precedence};
 ghost use Rattle.versions.specs.Orders.{version_cmp};
@@ -22,7 +24,8 @@ ghost use Rattle.versions.specs.VersionOrder.{version_plain_cmp};
 use crate::errors::{Error, ReadError};
 use crate::key::{KeyBytes, compare_keys};
 use crate::optional::{
-    build_release, copy_meta, copy_release, copy_text, optional_meta, optional_release, write_tail,
+    build_release, copy_meta, copy_release, copy_text, optional_meta, optional_release,
+    write_spelled_tail, write_tail,
 };
 use crate::parts::{BodyParts, parts_match_caret};
 use crate::reading::or_illegal;
@@ -300,9 +303,9 @@ fn read_whole(alloc: Global, s: &str) -> Result<Option<Version>, AllocError>
     }
 }
 
-// A general version that was scanned, with its texts still in the input.
+/// A general version that was scanned, with its texts still in the input.
 #[derive(Drop)]
-pub(crate) struct VersionRef<'a> {
+pub struct VersionRef<'a> {
     pub(crate) epoch: Option<u32>,
     pub(crate) body: BodyRef<'a>,
     pub(crate) release: Option<ReleaseRef<'a>>,
@@ -374,4 +377,72 @@ fn scan_epoch(i: &str) -> Option<(u32, &str)>
 {
     let (number, rest) = scan::unsigned(i)?;
     Some((number, scan::after_mark(rest, b':')?))
+}
+
+impl<'a> VersionRef<'a> {
+    // How two versions compare field by field, none before some.
+    pub(crate) fn compare_plain(&self, other: &VersionRef<'_>) -> Ordering
+        ensures { result ≡ version_plain_cmp (plain_version_ref self.now)
+            (plain_version_ref other.now) }
+    {
+        let epochs = self.epoch.cmp(&other.epoch);
+        if epochs != Ordering::Equal {
+            return epochs;
+        }
+        let bodies = self.body.compare(&other.body);
+        if bodies != Ordering::Equal {
+            return bodies;
+        }
+        let releases = compare_spelled_releases(&self.release, &other.release);
+        if releases != Ordering::Equal {
+            return releases;
+        }
+        compare_meta(self.meta, other.meta)
+    }
+
+    // The number at a place of the body, counted from 0.
+    pub(crate) fn nth(&self, n: usize) -> Option<u32>
+        ensures { result ≡ version_nth (plain_version_ref self.now) n }
+    {
+        self.body.nth(n)
+    }
+}
+
+// None is below any metadata.
+fn compare_meta(a: Option<&str>, b: Option<&str>) -> Ordering
+    ensures { result ≡ option_cmp bytes_cmp (option_map (λ text. text.now) a.entry)
+        (option_map (λ text. text.now) b.entry) }
+{
+    match (a, b) {
+        (Some(a), Some(b)) => a.cmp(b),
+        (Some(_), None) => Ordering::Greater,
+        (None, Some(_)) => Ordering::Less,
+        (None, None) => Ordering::Equal,
+    }
+}
+
+// None is below a release that was scanned.
+fn compare_spelled_releases(a: &Option<ReleaseRef<'_>>, b: &Option<ReleaseRef<'_>>) -> Ordering
+    ensures { result ≡ option_cmp release_cmp a.now b.now }
+{
+    match (a, b) {
+        (Some(a), Some(b)) => a.compare(b),
+        (Some(_), None) => Ordering::Greater,
+        (None, Some(_)) => Ordering::Less,
+        (None, None) => Ordering::Equal,
+    }
+}
+
+/// The text that was read.
+impl<'a> fmt::Display for VersionRef<'a> {
+    ghost output = { λ v. Some (version_text (plain_version_ref v)) };
+
+    fn fmt<W: fmt::Write>(&self, f: &mut fmt::Formatter<W>) -> fmt::Result {
+        if let Some(epoch) = self.epoch {
+            write!(f, "{epoch}:")?;
+        }
+        let body = &self.body;
+        write!(f, "{body}")?;
+        write_spelled_tail(f, &self.release, self.meta)
+    }
 }

@@ -10,6 +10,7 @@ ghost use Rattle.version_parts.specs.Lists.{bytes_cmp};
 ghost use Rattle.versions.specs.Errors.{IllegalVersioning, ReadsOr};
 ghost use Rattle.versions.specs.Key.{key_of, precedence, Key};
 ghost use Rattle.versions.specs.KeyBytes.{key_bytes};
+ghost use Rattle.versions.specs.Kind.{versioning_kind};
 ghost use Rattle.versions.specs.Orders.{versioning_cmp};
 ghost use Rattle.versions.specs.OrdersLaws.{versioning_cmp_ties, versioning_cmp_total};
 ghost use Rattle.versions.specs.SemVer.{plain_semver, PlainSemVer};
@@ -20,6 +21,7 @@ ghost use Rattle.versions.specs.VersioningLaws.{versioning_plain_total, versions
 
 use crate::errors::{Error, ReadError};
 use crate::key::{KeyBytes, compare_keys, key_list};
+use crate::kind::Kind;
 use crate::mess::Mess;
 use crate::reading::or_illegal;
 use crate::semver::SemVer;
@@ -70,7 +72,7 @@ impl Versioning {
     pub fn is_spelled_by(s: &str) -> bool
         ensures { result ≡ is_some (versioning_of s.now) }
     {
-        SemVer::is_spelled_by(s) || Version::is_spelled_by(s) || Mess::is_spelled_by(s)
+        VersioningRef::new(s).is_some()
     }
 
     /// The version that the whole text spells; else `Illegal`, with `IllegalVersioning` and the whole text in it.
@@ -130,6 +132,17 @@ impl Versioning {
         ensures { result ≡ is_complex (plain_versioning self.now) }
     {
         matches!(self, Versioning::Complex(_))
+    }
+
+    /// Its kind. Takes no memory.
+    pub fn kind(&self) -> Kind
+        ensures { result ≡ versioning_kind (plain_versioning self.now) }
+    {
+        match self {
+            Versioning::Ideal(_) => Kind::Ideal,
+            Versioning::General(_) => Kind::General,
+            Versioning::Complex(_) => Kind::Complex,
+        }
     }
 
     /// The number at a place, counted from 0: major, minor and patch of a strict version, and of the other kinds what
@@ -232,7 +245,7 @@ fn read_whole(alloc: Global, s: &str) -> Result<Option<Versioning>, AllocError>
     ensures err { OnErr result (IsSomeAnd (versioning_of s.now) VersioningOwns) }
 {
     match VersioningRef::new(s) {
-        Some(spelled) => Ok(Some(spelled.build(alloc)?)),
+        Some(spelled) => Ok(Some(spelled.to_owned(alloc)?)),
         None => Ok(None),
     }
 }

@@ -1,44 +1,129 @@
 //! A version of any kind as a text spells it, which values and keys are made of.
 
-ghost use Rattle.std.specs.Prelude.{◌≡◌, ◌↔◌, IfOk, IsTrue, OnErr};
+ghost use Rattle.std.specs.Prelude.{◌≡◌, ◌↔◌, refl, IfOk, IsTrue, OnErr, Some};
+ghost use Rattle.std.specs.Cmp.{eq_by_cmp_equiv, on_equiv, on_per, on_total, partial_equiv_from_equiv, po};
 ghost use Rattle.std.specs.Option.{option_map};
-ghost use Rattle.versions.specs.Key.{key_of};
+ghost use Rattle.std.specs.Ordering.{as_partial_cmp, eq_by_cmp, on};
+ghost use Rattle.versions.specs.Key.{key_of, precedence};
 ghost use Rattle.versions.specs.KeyBytes.{key_bytes};
+ghost use Rattle.versions.specs.Kind.{versioning_kind};
 ghost use Rattle.versions.specs.Matching.{IsOfKind};
+ghost use Rattle.versions.specs.Orders.{versioning_cmp};
+ghost use Rattle.versions.specs.OrdersLaws.{versioning_cmp_ties, versioning_cmp_total};
 ghost use Rattle.versions.specs.VersioningRef.{plain_versioning_ref};
-ghost use Rattle.versions.specs.Versioning.{plain_versioning, versioning_of, VersioningOwns};
+ghost use Rattle.versions.specs.Versioning.{kind_rank, plain_versioning, versioning_nth, versioning_of, versioning_plain_cmp, versioning_text, VersioningOwns};
+ghost use Rattle.versions.specs.VersioningLaws.{versioning_plain_total};
 
-use crate::key::KeyBytes;
+use crate::key::{KeyBytes, compare_keys};
+use crate::kind::Kind;
+use crate::mess::MessRef;
+use crate::semver::SemVerRef;
+use crate::version::VersionRef;
 use crate::versioning::Versioning;
-use crate::{mess, semver, version};
 use std::alloc::{AllocError, Global};
+use std::cmp::Ordering;
+use std::{fmt, str};
 
-// A version that was scanned, with its texts still in the input.
+/// A version of the first kind that fits its text, read off that text: a [`Versioning`] that owns nothing. No call but
+/// `to_owned` takes memory.
 #[derive(Drop)]
-pub(crate) enum VersioningRef<'a> {
-    Ideal(semver::SemVerRef<'a>),
-    General(version::VersionRef<'a>),
-    Complex(mess::MessRef<'a>),
+pub enum VersioningRef<'a> {
+    /// A strict version, as `1.2.3-rc.1`.
+    Ideal(SemVerRef<'a>),
+    /// A general version, as `1:2.0rc1-3`.
+    General(VersionRef<'a>),
+    /// A messy version, as `10.2+0.93+1-1`.
+    Complex(MessRef<'a>),
 }
 
 impl<'a> VersioningRef<'a> {
-    // The version that the whole text spells, of the first kind that holds it.
+    /// The version that the whole text spells: of the first of the strict, general and messy kinds whose grammar holds
+    /// it, or None where none does. Takes no memory.
     #[inline(always)]
-    pub(crate) fn new(s: &'a str) -> Option<VersioningRef<'a>>
+    pub fn new(s: &'a str) -> Option<VersioningRef<'a>>
         ensures { option_map plain_versioning_ref result ≡ versioning_of s.now }
     {
-        if let Some(ideal) = semver::SemVerRef::new(s) {
+        if let Some(ideal) = SemVerRef::new(s) {
             return Some(VersioningRef::Ideal(ideal));
         }
-        if let Some(general) = version::VersionRef::new(s) {
+        if let Some(general) = VersionRef::new(s) {
             return Some(VersioningRef::General(general));
         }
-        Some(VersioningRef::Complex(mess::MessRef::new(s)?))
+        Some(VersioningRef::Complex(MessRef::new(s)?))
     }
 
-    // The bytes of its key.
+    /// The version that bytes spell, as `new` reads their text. Bytes that are no UTF-8 spell none. Takes no memory.
+    pub fn from_bytes(bytes: &'a [u8]) -> Option<VersioningRef<'a>>
+        ensures { option_map plain_versioning_ref result ≡ versioning_of bytes.now }
+    {
+        match str::from_utf8(bytes) {
+            Ok(text) => VersioningRef::new(text),
+            Err(_) => None,
+        }
+    }
+
+    /// Its kind. Takes no memory.
+    pub fn kind(&self) -> Kind
+        ensures { result ≡ versioning_kind (plain_versioning_ref self.now) }
+    {
+        match self {
+            VersioningRef::Ideal(_) => Kind::Ideal,
+            VersioningRef::General(_) => Kind::General,
+            VersioningRef::Complex(_) => Kind::Complex,
+        }
+    }
+
+    /// The number at a place, counted from 0: major, minor and patch of a strict version; of a general one the chunks,
+    /// and behind them the number that the last part begins with; of a messy one the chunks of the first section that
+    /// no colon follows. None where no number stands there. Takes no memory; the time grows with the version's text.
+    pub fn nth(&self, n: usize) -> Option<u32>
+        ensures { result ≡ versioning_nth (plain_versioning_ref self.now) n }
+    {
+        match self {
+            VersioningRef::Ideal(ideal) => ideal.nth(n),
+            VersioningRef::General(general) => general.nth(n),
+            VersioningRef::Complex(complex) => complex.nth(n),
+        }
+    }
+
+    /// How two versions compare in the one order of all versions, by their keys (docs/ORDER.md). `Ord` breaks its ties.
+    /// Takes no memory.
+    #[tactic(auto, using(crate::proofs::Orders::key_bytes_alone))]
+    pub fn precedence(&self, other: &VersioningRef<'_>) -> Ordering
+        ensures { result ≡ precedence (key_of (plain_versioning_ref self.now))
+            (key_of (plain_versioning_ref other.now)) }
+    {
+        compare_keys(self.key_bytes(), other.key_bytes())
+    }
+
+    /// How two versions compare by their kinds, and then field by field, which breaks the ties of precedence. Takes no
+    /// memory.
+    pub fn compare_plain(&self, other: &VersioningRef<'_>) -> Ordering
+        ensures { result ≡ versioning_plain_cmp (plain_versioning_ref self.now)
+            (plain_versioning_ref other.now) }
+    {
+        match (self, other) {
+            (VersioningRef::Ideal(a), VersioningRef::Ideal(b)) => a.compare_plain(b),
+            (VersioningRef::General(a), VersioningRef::General(b)) => a.compare_plain(b),
+            (VersioningRef::Complex(a), VersioningRef::Complex(b)) => a.compare_plain(b),
+            (a, b) => a.rank().cmp(&b.rank()),
+        }
+    }
+
+    // The place of its kind among the three.
+    fn rank(&self) -> u8
+        ensures { result ≡ kind_rank (plain_versioning_ref self.now) }
+    {
+        match self {
+            VersioningRef::Ideal(_) => 0,
+            VersioningRef::General(_) => 1,
+            VersioningRef::Complex(_) => 2,
+        }
+    }
+
+    /// The bytes of its key, one after another, which order as precedence does. Takes no memory.
     #[inline(always)]
-    pub(crate) fn key_bytes(&self) -> KeyBytes<'a>
+    pub fn key_bytes(&self) -> KeyBytes<'a>
         ensures { result ≡ key_bytes (key_of (plain_versioning_ref self.now)) }
     {
         match self {
@@ -61,8 +146,9 @@ impl<'a> VersioningRef<'a> {
         }
     }
 
-    // The version with texts of its own.
-    pub(crate) fn build(&self, alloc: Global) -> Result<Versioning, AllocError>
+    /// The version with texts of its own, which outlives the text that was read. Three plain numbers take no memory;
+    /// otherwise the error is that there is no memory for it.
+    pub fn to_owned(&self, alloc: Global) -> Result<Versioning, AllocError>
         ensures ok { IfOk result (λ v. plain_versioning v ≡ plain_versioning_ref self.now) }
         ensures err { OnErr result (VersioningOwns (plain_versioning_ref self.now)) }
     {
@@ -71,5 +157,66 @@ impl<'a> VersioningRef<'a> {
             VersioningRef::General(general) => Ok(Versioning::General(general.build(alloc)?)),
             VersioningRef::Complex(complex) => Ok(Versioning::Complex(complex.build(alloc)?)),
         }
+    }
+}
+
+/// The printed text of the [`Versioning`] that it is: the text that was read.
+impl<'a> fmt::Display for VersioningRef<'a> {
+    ghost output = { λ v. Some (versioning_text (plain_versioning_ref v)) };
+
+    fn fmt<W: fmt::Write>(&self, f: &mut fmt::Formatter<W>) -> fmt::Result {
+        match self {
+            VersioningRef::Ideal(ideal) => write!(f, "{ideal}"),
+            VersioningRef::General(general) => write!(f, "{general}"),
+            VersioningRef::Complex(complex) => write!(f, "{complex}"),
+        }
+    }
+}
+
+/// Of one kind, and equal as that kind is: in every field, but for the metadata of strict versions. Takes no memory.
+impl<'a> PartialEq for VersioningRef<'a> {
+    ghost eq = { on plain_versioning_ref (eq_by_cmp versioning_plain_cmp) };
+
+    ghost laws = { on_per plain_versioning_ref
+        (partial_equiv_from_equiv (eq_by_cmp_equiv versioning_plain_total)) };
+
+    fn eq(&self, other: &VersioningRef<'a>) -> bool {
+        self.compare_plain(other).is_eq()
+    }
+}
+
+impl<'a> Eq for VersioningRef<'a> {
+    ghost laws = { on_equiv plain_versioning_ref (eq_by_cmp_equiv versioning_plain_total) };
+}
+
+/// By precedence; where that ties, the strict before the general and that before the messy, and of one kind field by
+/// field, but for the metadata of strict versions. Takes no memory.
+impl<'a> Ord for VersioningRef<'a> {
+    ghost cmp = { on plain_versioning_ref versioning_cmp };
+
+    ghost total = { on_total plain_versioning_ref versioning_cmp_total };
+
+    ghost matches_partial_cmp = { λ a b. refl };
+
+    ghost matches_eq = { λ a b. versioning_cmp_ties (plain_versioning_ref a)
+        (plain_versioning_ref b) };
+
+    fn cmp(&self, other: &VersioningRef<'a>) -> Ordering {
+        let keys = self.precedence(other);
+        match keys {
+            Ordering::Equal => self.compare_plain(other),
+            _ => keys,
+        }
+    }
+}
+
+impl<'a> PartialOrd for VersioningRef<'a> {
+    ghost partial_cmp = { as_partial_cmp (on plain_versioning_ref versioning_cmp) };
+
+    ghost laws = { po (on_total plain_versioning_ref versioning_cmp_total)
+        (λ a b. versioning_cmp_ties (plain_versioning_ref a) (plain_versioning_ref b)) };
+
+    fn partial_cmp(&self, other: &VersioningRef<'a>) -> Option<Ordering> {
+        Some(self.cmp(other))
     }
 }

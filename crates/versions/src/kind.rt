@@ -1,0 +1,28 @@
+//! The kinds of versions.
+
+ghost use Rattle.std.specs.Prelude.{◌≡◌};
+ghost use Rattle.std.specs.Option.{option_map};
+ghost use Rattle.versions.specs.Kind.{versioning_kind};
+ghost use Rattle.versions.specs.Versioning.{versioning_of};
+
+use crate::versioning_ref::VersioningRef;
+
+/// The kind of a version: the first of the three whose grammar holds its text.
+#[derive(Clone, Copy, Debug, PartialEq, Eq, PartialOrd, Ord, Hash)]
+pub enum Kind {
+    /// Strict, as `1.2.3-rc.1`.
+    Ideal,
+    /// General, as `1:2.0rc1-3`.
+    General,
+    /// Messy, as `10.2+0.93+1-1`.
+    Complex,
+}
+
+impl Kind {
+    /// The kind of the version that the whole text spells, or None where it spells none. Takes no memory.
+    pub fn of(text: &str) -> Option<Kind>
+        ensures { result ≡ option_map versioning_kind (versioning_of text.now) }
+    {
+        Some(VersioningRef::new(text)?.kind())
+    }
+}
