@@ -2,7 +2,7 @@
 
 use std::test::Fail;
 use vectors_support::{any, holds, prints};
-use versions::{Op, Requirement, Requirements};
+use versions::{Op, Requirement, RequirementRef, Requirements, RequirementsRef, VersioningRef};
 
 // A requirement or a list in each row, and then versions: those behind a `!` it doesn't match.
 const TILDES_AND_CARETS: &str = "\
@@ -92,15 +92,49 @@ fn values_built_by_hand(rt: HostRuntime) -> Result<(), Fail> {
     Ok(())
 }
 
+// What a list keeps of bytes: those that spell a version that it asks for.
+#[test]
+fn bytes_that_spell_no_version_are_not_kept(_rt: HostRuntime) -> Result<(), Fail> {
+    let any = RequirementsRef::new("*").ok_or("no list")?;
+    let strict = RequirementsRef::new("^1.2.3,*").ok_or("no list")?;
+    for (text, kept, kept_strict) in KEPT {
+        holds(any.keeps(text) == kept, format_args!("* of {text:?}"))?;
+        holds(
+            strict.keeps(text) == kept_strict,
+            format_args!("^1.2.3,* of {text:?}"),
+        )?;
+    }
+    Ok(())
+}
+
+// Bytes, and whether `*` and `^1.2.3,*` keep them.
+const KEPT: [(&[u8], bool, bool); 6] = [
+    (b"1.3.0", true, true),
+    (b"1.3", true, false),
+    (b"1.3_a", true, false),
+    (b"1.3.0 ", false, false),
+    (b"", false, false),
+    (b"1.3.0-\xff", false, false),
+];
+
 // Fails where a version of a row is matched, or isn't, against what the row says.
 fn match_those(rt: &impl AllocGlobal, rows: &str) -> Result<(), Fail> {
     for row in rows.lines() {
         let (text, words) = row.split_once(' ').ok_or("no version")?;
         for word in words.split(' ') {
-            let matched = matches(rt, text, word.trim_start_matches('!'))?;
+            let wanted = !word.starts_with('!');
+            let version = word.trim_start_matches('!');
             holds(
-                matched != word.starts_with('!'),
-                format_args!("{text} of {word}: {matched}"),
+                matches(rt, text, version)? == wanted,
+                format_args!("{text} of {version}"),
+            )?;
+            holds(
+                matches_spelled(text, version)? == wanted,
+                format_args!("{text} of the text {version}"),
+            )?;
+            holds(
+                keeps(text, version)? == wanted,
+                format_args!("the list {text} of the text {version}"),
             )?;
         }
     }
@@ -116,4 +150,21 @@ fn matches(rt: &impl AllocGlobal, text: &str, version: &str) -> Result<bool, Fai
     }
     let requirement = Requirement::new(rt.alloc(), text)?;
     Ok(requirement.ok_or("no requirement")?.matches(&version))
+}
+
+// The same off the texts.
+fn matches_spelled(text: &str, version: &str) -> Result<bool, Fail> {
+    let version = VersioningRef::new(version).ok_or("no version")?;
+    if text.contains(',') {
+        let list = RequirementsRef::new(text).ok_or("no list")?;
+        return Ok(list.matches(&version));
+    }
+    let requirement = RequirementRef::new(text).ok_or("no requirement")?;
+    Ok(requirement.matches(&version))
+}
+
+// Whether the list that a text is keeps a version, both off their bytes.
+fn keeps(text: &str, version: &str) -> Result<bool, Fail> {
+    let list = RequirementsRef::from_bytes(text.as_bytes()).ok_or("no list")?;
+    Ok(list.keeps(version.as_bytes()))
 }

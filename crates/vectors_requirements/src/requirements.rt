@@ -5,7 +5,7 @@ use std::alloc::AllocError;
 use std::hash::Hash;
 use std::test::Fail;
 use vectors_support::{answered, are_apart, columns, hash_of, prints, shown};
-use versions::{Op, Requirement, Requirements};
+use versions::{Op, Requirement, RequirementRef, Requirements, RequirementsRef};
 
 const READ: &str =
     r#"Requirement::new|=1.2.3.4|Some(Requirement { op: Exact, version: Some(General(Version { epoch: None, chunks: Chunks([Numeric(1), Numeric(2), Numeric(3)]), last: Numeric(4), release: None, meta: None })) })
@@ -34,6 +34,26 @@ fn what_is_read_and_what_is_not(rt: HostRuntime) -> Result<(), Fail> {
         let (call, text, wanted) = columns(row)?;
         let answer = answer(&rt, call, text)?;
         assert_eq!(rt; answer.as_str(), wanted, "{call} {text}");
+    }
+    Ok(())
+}
+
+// Texts that are no lists, between bars.
+const UNREAD: &str = "|,|,*|=1.0.0,|=1.0.0,,*|*1|=|=>1.0|1.2.3|*, *|>=1.0,1.2.3,*";
+
+#[test]
+fn what_is_no_list_is_none_off_its_text_either(rt: HostRuntime) -> Result<(), Fail> {
+    for text in UNREAD.split('|') {
+        assert!(rt; !Requirements::is_spelled_by(text), "{text}");
+        assert!(rt; RequirementsRef::new(text).is_none(), "{text}");
+        assert!(rt;
+            RequirementsRef::from_bytes(text.as_bytes()).is_none(),
+            "{text}"
+        );
+    }
+    assert!(rt; RequirementsRef::from_bytes(b"*,\xff").is_none());
+    for text in ["*1", "=", "=>1.0", "", "=1.0.0,*"] {
+        assert!(rt; RequirementRef::new(text).is_none(), "{text}");
     }
     Ok(())
 }

@@ -82,6 +82,13 @@ body_spelled count text body e split =
     ∙ all_taken part_bytes count (chunk_parts parts) (e ∙ sym (length-map parts (λ chunk. part_key (chunk_text chunk))))
     ∙ ap (items_bytes part_bytes) whole
 
+-- all the parts of a body, of which the last is taken apart
+pub parts_spelled : (count : ℕ) (text : List ℕ) (body : List PlainChunk × PlainLast) → count ≡ length (elements_at part_front text) → body_of (elements_at part_front text) ≡ Some body
+    → chunk_parts (take count (elements_at part_front text)) ≡ chunk_parts body.0 ++ part_key (last_text body.1) ∷ []
+parts_spelled count text body e split =
+    let parts = elements_at part_front text in
+    ap (λ n. chunk_parts (take n parts)) e ∙ ap chunk_parts (take-length parts) ∙ body_whole parts body split
+
 -- the chunk of a section that has one alone keeps the run there
 pub only_chunk : (text run rest : List ℕ) → Some (run, rest) ≡ run_front is_ascii_alphanumeric text → length (elements_at mchunk_front text) ≡ 1
     → (chunk : PlainMChunk) × (elements_at mchunk_front text ≡ chunk ∷ []) × (mchunk_text chunk ≡ run)

@@ -89,16 +89,6 @@ impl Chunk {
         }
     }
 
-    /// The printed text, byte after byte. Takes no memory.
-    pub fn part_text(&self) -> PartText<'_>
-        ensures { result ≡ chunk_text (plain_chunk self.now) }
-    {
-        match self {
-            Chunk::Numeric(number) => PartText::number(*number),
-            Chunk::Alphanum(text) => PartText::text(text.as_str()),
-        }
-    }
-
     /// A copy. A number takes no memory; the error is that there is no memory for a text.
     pub fn clone(&self, alloc: Global) -> Result<Chunk, AllocError>
         ensures ok { IfOk result (λ copy. plain_chunk copy ≡ plain_chunk self.now) }
@@ -112,8 +102,8 @@ impl Chunk {
 }
 
 impl Chunk {
-    // The same with its text lent.
-    pub(crate) fn lent(&self) -> ChunkRef<'_>
+    /// The same with its text lent. Takes no memory.
+    pub fn lent(&self) -> ChunkRef<'_>
         ensures { plain_chunk_ref result ≡ plain_chunk self.now }
     {
         match self {
@@ -202,7 +192,7 @@ fn after_letter(text: &str) -> Option<&str>
     }
 }
 
-/// A chunk that was scanned, with its text still in the input.
+/// A chunk whose text lies elsewhere, as one that was scanned, with its text still in the input.
 #[derive(Clone, Copy)]
 pub enum ChunkRef<'a> {
     Numeric(u32),
@@ -223,6 +213,16 @@ impl<'a> ChunkRef<'a> {
         }
         let (number, rest) = unsigned(i)?;
         Some((ChunkRef::Numeric(number), rest))
+    }
+
+    /// The printed text, byte after byte. Takes no memory.
+    pub fn part_text(self) -> PartText<'a>
+        ensures { result ≡ chunk_text (plain_chunk_ref self.entry) }
+    {
+        match self {
+            ChunkRef::Numeric(number) => PartText::number(number),
+            ChunkRef::Alphanum(text) => PartText::text(text),
+        }
     }
 
     // The chunk with a text of its own. A number takes no memory.

@@ -198,6 +198,15 @@ impl<'a> BodyRef<'a> {
         nth_element::<Part>(self.chunks(), n)?.number()
     }
 
+    /// Its parts: its chunks, and the last part as the chunk that spells it. Takes no memory.
+    #[tactic(auto, using(crate::proofs::ListBytes::parts_spelled))]
+    pub fn spelled_parts(&self) -> ElementsLeft<'a>
+        ensures { chunk_parts (elements_left part_front result)
+            ≡ chunk_parts self.now.0 ++ part_key (last_text self.now.1) ∷ [] }
+    {
+        ElementsLeft::of(self.list, self.list.count)
+    }
+
     // Its chunks.
     fn chunks(&self) -> ElementsLeft<'a>
         ensures { elements_left part_front result ≡ self.now.0 }

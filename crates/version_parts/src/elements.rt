@@ -66,8 +66,8 @@ impl<'a> ElementsLeft<'a> {
         }
     }
 
-    // Takes the next element, where there is one.
-    fn next<E: Spelled<'a>>(&mut self) -> Option<E::Piece>
+    /// Takes the next element, where there is one. Takes no memory.
+    pub fn next<E: Spelled<'a>>(&mut self) -> Option<E::Piece>
         ensures some { IfSome result (λ piece. elements_left E.front self.old
             ≡ E.plain piece ∷ elements_left E.front self.new) }
         ensures none { IfNone result (elements_left E.front self.old ≡ []) }

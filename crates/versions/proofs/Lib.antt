@@ -16,7 +16,9 @@ pub mod OpReading
 pub mod Orders
 pub mod Precedence
 pub mod RequirementReading
+pub mod RequirementsAscii
 pub mod RequirementsReading
+pub mod ScannedLists
 pub mod SemVerOrder
 pub mod SemVerReading
 pub mod SortKey

@@ -6,11 +6,11 @@ use Rattle.std.specs.Ordering.{is_eq, is_ge, is_ne}
 use Rattle.std.specs.declared.cmp.Ordering.{Ordering}
 use Rattle.std.specs.declared.cmp.Ordering.TheVariants.{Less, Equal, Greater}
 use Rattle.version_parts.proofs.DottedScan.{split_last-append}
-use Rattle.version_parts.proofs.Orders.{list_equal, part_equal}
+use Rattle.version_parts.proofs.Orders.{part_equal}
 use Rattle.version_parts.proofs.PartKey.{part_key-decimal}
 use Rattle.version_parts.specs.Lists.{split_last}
-use Rattle.version_parts.specs.PartKey.{PartKey, Number, Word, list_cmp, part_cmp, part_key}
-use Rattle.versions.specs.VersionMatch.{PartsMatchCaret, PartsMatchTilde, PartsNotBelow, is_plain_zero}
+use Rattle.version_parts.specs.PartKey.{PartKey, Number, Word, part_cmp, part_key}
+use Rattle.versions.specs.VersionMatch.{IsNotBelow, PartsMatchCaret, PartsMatchTilde, PartsNotBelow, is_plain_zero}
 
 -- ---- what an order of two parts says
 
@@ -57,31 +57,75 @@ finals_same {X} xs ys x y e =
     let pair : ◌≡◌ {A = List X × X} (xs, x) (ys, y) = cc split in
     (ap (λ p. p.0) pair, ap (λ p. p.1) pair)
 
--- parts of which all but the final ones are the same match where the final one isn't below
-pub tilde : (wanted_before before : List PartKey) (wanted_final final : PartKey) → list_cmp wanted_before before ≡ Equal
-    → IsTrue (is_ge (part_cmp (Some final) (Some wanted_final))) ↔ PartsMatchTilde (wanted_before ++ wanted_final ∷ []) (before ++ final ∷ [])
-tilde wanted_before before wanted_final final tied = (
-  λ at_least. record {
-    before = before;
-    wanted_final = wanted_final;
-    final = final;
-    wanted_whole = ap (λ xs. xs ++ wanted_final ∷ []) ((list_equal wanted_before before).0 tied);
-    whole = refl;
-    not_below = (not_less _).0 at_least;
-  },
+no_end : (xs : List PartKey) (x : PartKey) → ¬ ([] ≡ xs ++ x ∷ [])
+no_end [] x e = cc e
+no_end (y ∷ xs) x e = cc e
+
+-- each list has a final part
+pub none_wanted : {wanted parts : List PartKey} → wanted ≡ [] → ¬ PartsMatchTilde wanted parts
+none_wanted none match = no_end match.before match.wanted_final (sym none ∙ match.wanted_whole)
+
+pub none_there : {wanted parts : List PartKey} → parts ≡ [] → ¬ PartsMatchTilde wanted parts
+none_there none match = no_end match.before match.final (sym none ∙ match.whole)
+
+-- the final parts, where there is no other
+pub finals : (w p : PartKey) → IsTrue (is_ge (part_cmp (Some p) (Some w))) ↔ PartsMatchTilde (w ∷ []) (p ∷ [])
+finals w p = (
+  λ at_least. record { before = []; wanted_final = w; final = p; wanted_whole = refl; whole = refl; not_below = (not_less _).0 at_least },
   λ match.
-      let wanted_same = (finals_same wanted_before match.before wanted_final match.wanted_final match.wanted_whole).1 in
-      let same = (finals_same before match.before final match.final match.whole).1 in
+      let wanted_same = (finals_same [] match.before w match.wanted_final match.wanted_whole).1 in
+      let same = (finals_same [] match.before p match.final match.whole).1 in
       (not_less _).1 (rw (wanted_same, same) match.not_below),
 )
 
--- others don't
-pub no_tilde : (wanted_before before : List PartKey) (wanted_final final : PartKey) → ¬ (list_cmp wanted_before before ≡ Equal)
-    → ¬ PartsMatchTilde (wanted_before ++ wanted_final ∷ []) (before ++ final ∷ [])
-no_tilde wanted_before before wanted_final final differ match =
-    let wanted_same = (finals_same wanted_before match.before wanted_final match.wanted_final match.wanted_whole).0 in
-    let same = (finals_same before match.before final match.final match.whole).0 in
-    differ ((list_equal wanted_before before).1 (wanted_same ∙ sym same))
+-- one list has a further part, and the other has none
+pub wanted_is_shorter : (w p next : PartKey) (more : List PartKey) → ¬ PartsMatchTilde (w ∷ []) (p ∷ next ∷ more)
+wanted_is_shorter w p next more match = go match.before match.wanted_whole match.whole
+  where
+    go : (before : List PartKey) → w ∷ [] ≡ before ++ match.wanted_final ∷ [] → p ∷ next ∷ more ≡ before ++ match.final ∷ [] → ⊥
+    go [] e whole = cc whole
+    go (b ∷ before) e whole = no_end before match.wanted_final (cc e)
+
+pub wanted_is_longer : (w p next : PartKey) (more : List PartKey) → ¬ PartsMatchTilde (w ∷ next ∷ more) (p ∷ [])
+wanted_is_longer w p next more match = go match.before match.wanted_whole match.whole
+  where
+    go : (before : List PartKey) → w ∷ next ∷ more ≡ before ++ match.wanted_final ∷ [] → p ∷ [] ≡ before ++ match.final ∷ [] → ⊥
+    go [] whole e = cc whole
+    go (b ∷ before) whole e = no_end before match.final (cc e)
+
+-- both have a further part: the first ones are the same, and those behind them match
+pub first_same : (w p next_wanted next : PartKey) (wanted_more more : List PartKey)
+    → PartsMatchTilde (w ∷ next_wanted ∷ wanted_more) (p ∷ next ∷ more) ↔ ((w ≡ p) × PartsMatchTilde (next_wanted ∷ wanted_more) (next ∷ more))
+first_same w p next_wanted next wanted_more more = (
+  λ match. go match.before match.wanted_final match.final match.wanted_whole match.whole match.not_below,
+  λ both.
+      let match = both.1 in
+      record {
+        before = w ∷ match.before;
+        wanted_final = match.wanted_final;
+        final = match.final;
+        wanted_whole = ap (λ (l : List PartKey). w ∷ l) match.wanted_whole;
+        whole = cc (both.0, match.whole);
+        not_below = match.not_below;
+      },
+)
+  where
+    go : (before : List PartKey) (wanted_final final : PartKey) → w ∷ next_wanted ∷ wanted_more ≡ before ++ wanted_final ∷ [] → p ∷ next ∷ more ≡ before ++ final ∷ []
+        → IsNotBelow wanted_final final → (w ≡ p) × PartsMatchTilde (next_wanted ∷ wanted_more) (next ∷ more)
+    go [] wanted_final final wanted_whole whole above = cc whole
+    go (b ∷ before) wanted_final final wanted_whole whole above =
+        (cc (wanted_whole, whole), record { before = before; wanted_final = wanted_final; final = final; wanted_whole = cc wanted_whole; whole = cc whole; not_below = above })
+
+-- the parts that were taken last are the same, and a further one is taken of both
+pub same_so_far : {all_wanted all wanted_more more : List PartKey} (w p next_wanted next : PartKey) → all_wanted ≡ next_wanted ∷ wanted_more → all ≡ next ∷ more
+    → is_ne (part_cmp (Some p) (Some w)) ≡ false → PartsMatchTilde (w ∷ all_wanted) (p ∷ all) ↔ PartsMatchTilde (next_wanted ∷ wanted_more) (next ∷ more)
+same_so_far {all_wanted} {all} {wanted_more} {more} w p next_wanted next wanted_whole whole tied =
+    let both = first_same w p next_wanted next wanted_more more in
+    rw (wanted_whole, whole) (λ match. (both.0 match).1, λ match. both.1 (parts_same w p tied, match))
+
+-- they are the final ones of both
+pub at_the_end : {all_wanted all : List PartKey} (w p : PartKey) → all_wanted ≡ [] → all ≡ [] → IsTrue (is_ge (part_cmp (Some p) (Some w))) ↔ PartsMatchTilde (w ∷ all_wanted) (p ∷ all)
+at_the_end w p wanted_none none = rw (wanted_none, none) (finals w p)
 
 -- ---- a caret
 
@@ -93,3 +137,5 @@ first_other wanted part wanted_whole whole tied other =
     rw (wanted_whole, whole) (λ match. (parts_same wanted part tied, rw other match), λ match. rw other at match.1)
 
 pub ruleset carets = (parts_differ, parts_same, first_other)
+
+pub ruleset tildes = (parts_differ, parts_same, none_wanted, none_there, wanted_is_shorter, wanted_is_longer, first_same, same_so_far, at_the_end)

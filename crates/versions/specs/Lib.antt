@@ -15,7 +15,9 @@ pub mod Op
 pub mod Orders
 pub mod OrdersLaws
 pub mod Requirement
+pub mod RequirementRef
 pub mod Requirements
+pub mod RequirementsRef
 pub mod SemVer
 pub mod SemVerLaws
 pub mod SemVerMatch

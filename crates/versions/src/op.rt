@@ -1,9 +1,11 @@
 //! The operators of requirements.
 
-ghost use Rattle.std.specs.Prelude.{◌≡◌, Some};
+ghost use Rattle.std.specs.Prelude.{◌≡◌, ◌↔◌, IsTrue, Some};
 ghost use Rattle.std.specs.Option.{option_map};
+ghost use Rattle.versions.specs.Matching.{AsksOrder};
 ghost use Rattle.versions.specs.Op.{after_word, op_front, op_text};
 
+use std::cmp::Ordering;
 use std::fmt;
 use version_parts::scan::after_mark;
 
@@ -67,6 +69,22 @@ impl Op {
             Op::Tilde => after_mark(i, b'~'),
             Op::Caret => after_mark(i, b'^'),
             Op::Wildcard => after_mark(i, b'*'),
+        }
+    }
+
+    // Whether a comparison asks for what stands so to the wanted version. The other operators ask for none by its order.
+    pub(crate) fn asks_order(self, order: Ordering) -> bool
+        ensures { IsTrue result ↔ AsksOrder self order }
+    {
+        match self {
+            Op::Greater => order.is_gt(),
+            Op::GreaterEq => order.is_ge(),
+            Op::Less => order.is_lt(),
+            Op::LessEq => order.is_le(),
+            Op::Exact => false,
+            Op::Tilde => false,
+            Op::Caret => false,
+            Op::Wildcard => false,
         }
     }
 }

@@ -1,21 +1,23 @@
-//! The parts of a general version, one after the other, and whether a caret asks for them.
+//! The parts of a general version, one after the other, and whether a tilde or a caret asks for them.
 
 ghost use Rattle.std.specs.Prelude.{◌≡◌, ◌∷◌, ◌↔◌, [], IfNone, IfSome, IsTrue, Some};
 ghost use Rattle.version_parts.specs.PartKey.{part_cmp, part_key};
-ghost use Rattle.versions.specs.BodyParts.{key_of_part, parts_left};
+ghost use Rattle.versions.specs.BodyParts.{built_left, key_of_part, parts_left};
 ghost use Rattle.versions.specs.Key.{key_of_version};
-ghost use Rattle.versions.specs.Version.{plain_version};
-ghost use Rattle.versions.specs.VersionMatch.{is_plain_zero, PartsMatchCaret, PartsNotBelow};
+ghost use Rattle.versions.specs.Version.{plain_version, plain_version_ref};
+ghost use Rattle.versions.specs.VersionMatch.{is_plain_zero, PartsMatchCaret, PartsMatchTilde, PartsNotBelow};
 
-use crate::version::Version;
+use crate::version::{Version, VersionRef};
 use std::cmp::Ordering;
+use version_parts::elements::ElementsLeft;
 use version_parts::key::{PartText, compare_parts};
-use version_parts::{Chunk, Last};
+use version_parts::{Chunk, ChunkRef, Last, Part};
 
-// A part of a general version: a chunk, or the last part.
+// A part of a general version: a chunk, which may be the last part as its text spells it, or the last part that a
+// version has.
 #[derive(Clone, Copy)]
 enum BodyPart<'a> {
-    Chunk(&'a Chunk),
+    Chunk(ChunkRef<'a>),
     Last(&'a Last),
 }
 
@@ -47,22 +49,51 @@ impl<'a> BodyPart<'a> {
     }
 }
 
-/// The parts of a general version that are still to come: its chunks, and the last part behind them. Takes no memory.
+// The parts of a built version that are still to come: its chunks, and the last part behind them, if it isn't taken.
 #[derive(Drop)]
-pub struct BodyParts<'a> {
+pub(crate) struct BuiltParts<'a> {
     chunks: &'a [Chunk],
     last: Option<&'a Last>,
 }
 
+impl<'a> BuiltParts<'a> {
+    // The first of the parts, which is taken.
+    fn take_first(&mut self) -> Option<BodyPart<'a>>
+        ensures some { IfSome result
+            (λ part. built_left self.old ≡ key_of_part part ∷ built_left self.new) }
+        ensures none { IfNone result (built_left self.old ≡ []) }
+    {
+        if let Some((first, rest)) = self.chunks.split_first() {
+            self.chunks = rest;
+            return Some(BodyPart::Chunk(first.lent()));
+        }
+        Some(BodyPart::Last(self.last.take()?))
+    }
+}
+
+// The parts of a general version that are still to come, off the version or off the text that spells it.
+#[derive(Drop)]
+pub(crate) enum BodyParts<'a> {
+    Built(BuiltParts<'a>),
+    Spelled(ElementsLeft<'a>),
+}
+
 impl<'a> BodyParts<'a> {
-    /// All parts of a version.
-    pub fn of(version: &'a Version) -> BodyParts<'a>
+    // All parts of a version.
+    pub(crate) fn of(version: &'a Version) -> BodyParts<'a>
         ensures { parts_left result ≡ (key_of_version (plain_version version.now)).body }
     {
-        BodyParts {
+        BodyParts::Built(BuiltParts {
             chunks: version.chunks.0.as_slice(),
             last: Some(&version.last),
-        }
+        })
+    }
+
+    // All parts of a version that was scanned.
+    pub(crate) fn spelled_by(version: &VersionRef<'a>) -> BodyParts<'a>
+        ensures { parts_left result ≡ (key_of_version (plain_version_ref version.now)).body }
+    {
+        BodyParts::Spelled(version.body.spelled_parts())
     }
 
     // The first of the parts, which is taken.
@@ -71,18 +102,42 @@ impl<'a> BodyParts<'a> {
             (λ part. parts_left self.old ≡ key_of_part part ∷ parts_left self.new) }
         ensures none { IfNone result (parts_left self.old ≡ []) }
     {
-        if let Some((first, rest)) = self.chunks.split_first() {
-            self.chunks = rest;
-            return Some(BodyPart::Chunk(first));
+        match self {
+            BodyParts::Built(parts) => parts.take_first(),
+            BodyParts::Spelled(parts) => Some(BodyPart::Chunk(parts.next::<Part>()?)),
         }
-        Some(BodyPart::Last(self.last.take()?))
     }
 }
 
-/// Whether each wanted part has one at its place: the same for the plain zeros in front and for the first other part,
-/// and for each part behind that, one that is not below it. Takes no memory.
+// Whether there are equally many parts, of which all but the final ones are the same and the final one is not below the
+// wanted one. Takes no memory.
+#[tactic(auto, using(crate::proofs::VersionMatch::tildes))]
+pub(crate) fn parts_match_tilde(mut wanted: BodyParts<'_>, mut parts: BodyParts<'_>) -> bool
+    ensures { IsTrue result ↔ PartsMatchTilde (parts_left wanted.entry) (parts_left parts.entry) }
+{
+    let Some(mut wanted_last) = wanted.take_first() else {
+        return false;
+    };
+    let Some(mut last) = parts.take_first() else {
+        return false;
+    };
+    while let Some(next_wanted) = wanted.take_first() {
+        let Some(next) = parts.take_first() else {
+            return false;
+        };
+        if last.compare(wanted_last).is_ne() {
+            return false;
+        }
+        wanted_last = next_wanted;
+        last = next;
+    }
+    parts.take_first().is_none() && last.compare(wanted_last).is_ge()
+}
+
+// Whether each wanted part has one at its place: the same for the plain zeros in front and for the first other part,
+// and for each part behind that, one that is not below it. Takes no memory.
 #[tactic(auto, using(crate::proofs::VersionMatch::carets))]
-pub fn parts_match_caret(mut wanted: BodyParts<'_>, mut parts: BodyParts<'_>) -> bool
+pub(crate) fn parts_match_caret(mut wanted: BodyParts<'_>, mut parts: BodyParts<'_>) -> bool
     ensures { IsTrue result ↔ PartsMatchCaret (parts_left wanted.entry) (parts_left parts.entry) }
 {
     while let Some(wanted_part) = wanted.take_first() {

@@ -4,7 +4,7 @@ ghost use Rattle.std.specs.Prelude.{◌≡◌, ◌↔◌, IfOk, IfSome, IsSomeAn
 ghost use Rattle.std.specs.Option.{is_some, option_map};
 ghost use Rattle.version_parts.specs.Front.{Reads};
 ghost use Rattle.versions.specs.Errors.{IllegalOp, ReadsOr};
-ghost use Rattle.versions.specs.Matching.{AnswersFor, AsksOrder, IsConvex, IsOfKind, LooksAt, LooksAtVersions, Matches, MatchesCaret, MatchesOp, MatchesTilde};
+ghost use Rattle.versions.specs.Matching.{AnswersFor, IsConvex, IsOfKind, LooksAt, LooksAtVersions, Matches, MatchesCaret, MatchesOp, MatchesTilde};
 ghost use Rattle.versions.specs.Requirement.{plain_requirement, requirement_front, requirement_of, requirement_text, PlainRequirement, RequirementOwns, SpellsRequirement};
 ghost use Rattle.versions.specs.VersioningRef.{plain_versioning_ref};
 ghost use Rattle.versions.specs.Versioning.{plain_versioning, versioning_of};
@@ -17,7 +17,6 @@ use crate::reading::or_illegal;
 use crate::versioning::Versioning;
 use crate::versioning_ref::VersioningRef;
 use std::alloc::{AllocError, Global};
-use std::cmp::Ordering;
 use std::fmt;
 
 /// An operator, and the version that it stands before, as `^1.2.3`; or `*` alone. docs/REQUIREMENTS.md has the rules.
@@ -201,7 +200,7 @@ fn asks_for(op: Op, wanted: &Versioning, version: &Versioning) -> bool
     match op {
         Op::Exact => version == wanted,
         Op::Greater | Op::GreaterEq | Op::Less | Op::LessEq => {
-            asks_order(op, version.precedence(wanted))
+            op.asks_order(version.precedence(wanted))
         }
         Op::Tilde => matches_tilde(wanted, version),
         Op::Caret => matches_caret(wanted, version),
@@ -225,7 +224,7 @@ fn asks_for_scanned(
     match op {
         Op::Greater | Op::GreaterEq | Op::Less | Op::LessEq => {
             let order = compare_keys(spelled.key_bytes(), wanted.key_bytes());
-            Ok(asks_order(op, order))
+            Ok(op.asks_order(order))
         }
         Op::Exact | Op::Tilde | Op::Caret => {
             if !spelled.is_of_kind(wanted) {
@@ -234,22 +233,6 @@ fn asks_for_scanned(
             Ok(asks_for(op, wanted, &spelled.to_owned(alloc)?))
         }
         Op::Wildcard => Ok(true),
-    }
-}
-
-// Whether a comparison asks for what stands so to the wanted version.
-fn asks_order(op: Op, order: Ordering) -> bool
-    ensures { IsTrue result ↔ AsksOrder op order }
-{
-    match op {
-        Op::Greater => order.is_gt(),
-        Op::GreaterEq => order.is_ge(),
-        Op::Less => order.is_lt(),
-        Op::LessEq => order.is_le(),
-        Op::Exact => false,
-        Op::Tilde => false,
-        Op::Caret => false,
-        Op::Wildcard => false,
     }
 }
 

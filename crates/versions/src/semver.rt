@@ -16,6 +16,7 @@ ghost use Rattle.versions.specs.Versioning.{semver_nth};
 ghost use Rattle.versions.specs.SemVer.{plain_semver, semver_fed, plain_semver_ref, semver_front, semver_of, semver_text, SemVerOwns, PlainSemVer, SpellsSemVer};
 
 use crate::errors::{Error, ReadError};
+use crate::numbers::{Numbers, numbers_match_caret, numbers_match_tilde};
 use crate::optional::{
     build_release, copy_meta, copy_release, copy_text, optional_meta, optional_release,
     write_spelled_tail, write_tail,
@@ -124,7 +125,7 @@ impl SemVer {
         ensures { IsTrue result
             ↔ MatchesTilde (numbers (plain_semver self.now)) (numbers (plain_semver other.now)) }
     {
-        self.major == other.major && self.minor == other.minor && self.patch <= other.patch
+        numbers_match_tilde(self.numbers(), other.numbers())
     }
 
     /// Whether `^self` asks for `other`: the first of the three numbers that is not 0 in both is equal, and what
@@ -133,13 +134,14 @@ impl SemVer {
         ensures { IsTrue result
             ↔ MatchesCaret (numbers (plain_semver self.now)) (numbers (plain_semver other.now)) }
     {
-        if self.major == 0 && other.major == 0 {
-            if self.minor == 0 && other.minor == 0 {
-                return self.patch == other.patch;
-            }
-            return self.minor == other.minor && self.patch <= other.patch;
-        }
-        self.major == other.major && (self.minor, self.patch) <= (other.minor, other.patch)
+        numbers_match_caret(self.numbers(), other.numbers())
+    }
+
+    // The numbers: major, minor and patch.
+    fn numbers(&self) -> Numbers
+        ensures { result ≡ numbers (plain_semver self.now) }
+    {
+        (self.major, self.minor, self.patch)
     }
 }
 
@@ -287,6 +289,29 @@ impl<'a> SemVerRef<'a> {
             meta,
         };
         Some((version, rest))
+    }
+
+    // Whether `~self` asks for `other`, by the rule of strict versions.
+    pub(crate) fn matches_tilde(&self, other: &SemVerRef<'_>) -> bool
+        ensures { IsTrue result ↔ MatchesTilde (numbers (plain_semver_ref self.now))
+            (numbers (plain_semver_ref other.now)) }
+    {
+        numbers_match_tilde(self.numbers(), other.numbers())
+    }
+
+    // Whether `^self` asks for `other`, by the rule of strict versions.
+    pub(crate) fn matches_caret(&self, other: &SemVerRef<'_>) -> bool
+        ensures { IsTrue result ↔ MatchesCaret (numbers (plain_semver_ref self.now))
+            (numbers (plain_semver_ref other.now)) }
+    {
+        numbers_match_caret(self.numbers(), other.numbers())
+    }
+
+    // The numbers: major, minor and patch.
+    fn numbers(&self) -> Numbers
+        ensures { result ≡ numbers (plain_semver_ref self.now) }
+    {
+        (self.major, self.minor, self.patch)
     }
 
     // The version with texts of its own.

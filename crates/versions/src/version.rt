@@ -10,7 +10,6 @@ ghost use Rattle.version_parts.specs.Front.{optional, Reads};
 ghost use Rattle.version_parts.specs.Last as plain;
 ghost use Rattle.version_parts.specs.Lists.{bytes_cmp};
 ghost use Rattle.version_parts.specs.OrderLaws.{same_where_tied};
-ghost use Rattle.version_parts.specs.PartKey.{chunk_parts, list_cmp};
 ghost use Rattle.version_parts.specs.ReleaseOrder.{release_cmp};
 ghost use Rattle.versions.specs.Errors.{IllegalVersion, ReadsOr};
 ghost use Rattle.versions.specs.Key.{key_of_version, precedence};
@@ -18,7 +17,7 @@ ghost use Rattle.versions.specs.Orders.{version_cmp};
 ghost use Rattle.versions.specs.OrdersLaws.{version_cmp_ties, version_cmp_total};
 ghost use Rattle.versions.specs.Version.{epoch_front, plain_version_ref, plain_version, version_fed, version_front, version_nth, version_of, version_text, PlainVersion, SpellsVersion, VersionOwns};
 ghost use Rattle.versions.specs.VersionLaws.{version_plain_total, versions_same};
-ghost use Rattle.versions.specs.VersionMatch.{epoch_and_parts, MatchesCaret, MatchesTilde, PartsMatchTilde};
+ghost use Rattle.versions.specs.VersionMatch.{epoch_and_parts, MatchesCaret, MatchesTilde};
 ghost use Rattle.versions.specs.VersionOrder.{version_plain_cmp};
 
 use crate::errors::{Error, ReadError};
@@ -27,14 +26,13 @@ use crate::optional::{
     build_release, copy_meta, copy_release, copy_text, optional_meta, optional_release,
     write_spelled_tail, write_tail,
 };
-use crate::parts::{BodyParts, parts_match_caret};
+use crate::parts::{BodyParts, parts_match_caret, parts_match_tilde};
 use crate::reading::or_illegal;
 use serde::{Deserialize, Serialize};
 use std::alloc::{AllocError, Global};
 use std::cmp::Ordering;
 use std::fmt;
 use std::hash::{Hash, Hasher};
-use version_parts::key::{compare_part_lists, compare_parts};
 use version_parts::lists::{ListItem, compare_lists};
 use version_parts::{BodyRef, Chunks, Last, Release, ReleaseRef, scan};
 
@@ -191,7 +189,8 @@ impl Version {
             ↔ MatchesTilde (epoch_and_parts (plain_version self.now))
             (epoch_and_parts (plain_version other.now)) }
     {
-        self.epoch_number() == other.epoch_number() && self.parts_match_tilde(other)
+        self.epoch_number() == other.epoch_number()
+            && parts_match_tilde(BodyParts::of(self), BodyParts::of(other))
     }
 
     /// Whether `^self` asks for `other`: the same epoch, none being 0, and at the place of each part of `self` a part
@@ -205,25 +204,6 @@ impl Version {
     {
         self.epoch_number() == other.epoch_number()
             && parts_match_caret(BodyParts::of(self), BodyParts::of(other))
-    }
-
-    // Whether there are equally many parts, of which all but the final ones are the same and the final one is not
-    // below.
-    fn parts_match_tilde(&self, other: &Version) -> bool
-        ensures { IsTrue result
-            ↔ PartsMatchTilde (epoch_and_parts (plain_version self.now)).1
-            (epoch_and_parts (plain_version other.now)).1 }
-    {
-        self.compare_chunks(other).is_eq()
-            && compare_parts(other.last.part_text(), self.last.part_text()).is_ge()
-    }
-
-    // How the chunks compare as lists of parts.
-    fn compare_chunks(&self, other: &Version) -> Ordering
-        ensures { result ≡ list_cmp (chunk_parts (plain_chunks self.now.chunks))
-            (chunk_parts (plain_chunks other.now.chunks)) }
-    {
-        compare_part_lists(self.chunks.0.as_slice(), other.chunks.0.as_slice())
     }
 
     // The epoch, none being 0.
@@ -341,6 +321,33 @@ impl<'a> VersionRef<'a> {
             meta,
         };
         Some((version, rest))
+    }
+
+    // Whether `~self` asks for `other`, by the rule of general versions.
+    pub(crate) fn matches_tilde(&self, other: &VersionRef<'_>) -> bool
+        ensures { IsTrue result
+            ↔ MatchesTilde (epoch_and_parts (plain_version_ref self.now))
+            (epoch_and_parts (plain_version_ref other.now)) }
+    {
+        self.epoch_number() == other.epoch_number()
+            && parts_match_tilde(BodyParts::spelled_by(self), BodyParts::spelled_by(other))
+    }
+
+    // Whether `^self` asks for `other`, by the rule of general versions.
+    pub(crate) fn matches_caret(&self, other: &VersionRef<'_>) -> bool
+        ensures { IsTrue result
+            ↔ MatchesCaret (epoch_and_parts (plain_version_ref self.now))
+            (epoch_and_parts (plain_version_ref other.now)) }
+    {
+        self.epoch_number() == other.epoch_number()
+            && parts_match_caret(BodyParts::spelled_by(self), BodyParts::spelled_by(other))
+    }
+
+    // The epoch, none being 0.
+    fn epoch_number(&self) -> u32
+        ensures { result ≡ (epoch_and_parts (plain_version_ref self.now)).0 }
+    {
+        self.epoch.unwrap_or(0)
     }
 
     // The version with texts of its own.
