@@ -195,7 +195,9 @@ fn after_letter(text: &str) -> Option<&str>
 /// A chunk whose text lies elsewhere, as one that was scanned, with its text still in the input.
 #[derive(Clone, Copy)]
 pub enum ChunkRef<'a> {
+    /// A number without leading zeros.
     Numeric(u32),
+    /// A text that is not all digits.
     Alphanum(&'a str),
 }
 

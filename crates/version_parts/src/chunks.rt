@@ -187,7 +187,8 @@ impl<'a> BodyRef<'a> {
         }
     }
 
-    /// The number at a place of the chunks, counted from 0, and behind them that of the last part. Takes no memory.
+    /// The number at a place of the chunks, counted from 0, and behind them that which the last part begins with: None
+    /// where no number stands there, and past the end. Takes no memory.
     pub fn nth(&self, n: usize) -> Option<u32>
         ensures { result ≡ (if n == length self.now.0 then first_number self.now.1
             else option_and_then number_of (slice_get self.now.0 n)) }

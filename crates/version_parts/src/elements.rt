@@ -50,7 +50,9 @@ pub trait Spelled<'a> {
 /// The elements of a list that are still to come: so many of those at the front of a text.
 #[derive(Clone, Copy)]
 pub struct ElementsLeft<'a> {
+    /// The text from the next element on.
     pub text: &'a str,
+    /// How many are wanted at most.
     pub count: usize,
 }
 
@@ -108,7 +110,7 @@ pub fn compare_elements<'a, E: Spelled<'a>>(a: ElementsLeft<'a>, b: ElementsLeft
     }
 }
 
-/// The element at a place, counted from 0. Takes no memory.
+/// The element at a place, counted from 0, or None past the end. Takes no memory; those before it are gone over.
 pub fn nth_element<'a, E: Spelled<'a>>(list: ElementsLeft<'a>, at: usize) -> Option<E::Piece>
     ensures { option_map E.plain result ≡ slice_get (elements_left E.front list.entry) at }
 {

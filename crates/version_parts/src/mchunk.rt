@@ -340,8 +340,11 @@ impl<'a> SectionRef<'a> {
 /// A chunk of a messy version that was scanned, with its text still in the input.
 #[derive(Clone, Copy)]
 pub enum MChunkRef<'a> {
+    /// Digits of a value below 2^32, and their text.
     Digits(u32, &'a str),
+    /// A revision: the value of its digits, and the whole text.
     Rev(u32, &'a str),
+    /// Any other text.
     Plain(&'a str),
 }
 
@@ -477,7 +480,8 @@ impl<'a> SectionRef<'a> {
         compare_elements::<MessyChunk>(self.elements(), other.elements())
     }
 
-    /// The number of the chunk at a place, counted from 0, if it is digits. Takes no memory.
+    /// The number of the chunk at a place, counted from 0, or None where that is no digits and past the end. Takes no
+    /// memory.
     pub fn number_at(&self, at: usize) -> Option<u32>
         ensures { result ≡ option_and_then digits_number (slice_get self.now at) }
     {

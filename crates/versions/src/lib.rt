@@ -4,7 +4,8 @@
 //! A general version (`Version`) is what most packages carry: parts joined by dots, perhaps with an epoch before them,
 //! a release and metadata, as in `1:2.0rc1-3`. A messy version (`Mess`) is whatever else is made of letters, digits and
 //! single signs, as `10.2+0.93+1-1`. A `Versioning` is the first of these that fits. A `Requirement`, as `^1.2.3`, asks
-//! for versions, and a list of them, a `Requirements`, for those that each member asks for.
+//! for versions, and a list of them, a `Requirements`, for those that each member asks for. A `VersioningRef` is a version
+//! that stays in its text: its kind, order, key and numbers are read there, without memory.
 //!
 //! In a JSON document each of the last three is a string, by `serialize_pretty` and `deserialize_pretty`, or `serialize`
 //! and `deserialize`. `SemVer`, `Version`, and the parts of all versions, have the forms that serde derives.

@@ -248,7 +248,9 @@ fn read_whole(alloc: Global, s: &str) -> Result<Option<SemVer>, AllocError>
     }
 }
 
-/// A strict version that was scanned, with its texts still in the input.
+/// A strict version that was scanned, with its texts still in the input: what a [`VersioningRef`] holds of that kind.
+///
+/// [`VersioningRef`]: crate::VersioningRef
 #[derive(Drop)]
 pub struct SemVerRef<'a> {
     pub(crate) major: u32,

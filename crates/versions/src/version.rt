@@ -283,7 +283,9 @@ fn read_whole(alloc: Global, s: &str) -> Result<Option<Version>, AllocError>
     }
 }
 
-/// A general version that was scanned, with its texts still in the input.
+/// A general version that was scanned, with its texts still in the input: what a [`VersioningRef`] holds of that kind.
+///
+/// [`VersioningRef`]: crate::VersioningRef
 #[derive(Drop)]
 pub struct VersionRef<'a> {
     pub(crate) epoch: Option<u32>,

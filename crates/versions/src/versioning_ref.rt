@@ -1,4 +1,4 @@
-//! A version of any kind as a text spells it, which values and keys are made of.
+//! Versions of any kind, read off the texts that spell them.
 
 ghost use Rattle.std.specs.Prelude.{◌≡◌, ◌↔◌, refl, IfOk, IsTrue, OnErr, Some};
 ghost use Rattle.std.specs.Cmp.{eq_by_cmp_equiv, on_equiv, on_per, on_total, partial_equiv_from_equiv, po};
@@ -24,8 +24,9 @@ use std::alloc::{AllocError, Global};
 use std::cmp::Ordering;
 use std::{fmt, str};
 
-/// A version of the first kind that fits its text, read off that text: a [`Versioning`] that owns nothing. No call but
-/// `to_owned` takes memory.
+/// A version of the first kind that fits its text, read off that text: a [`Versioning`] that owns nothing and lives as
+/// long as the text. It compares, prints and counts as that one does. No call but `to_owned` takes memory, and each
+/// takes time that grows with the text.
 #[derive(Drop)]
 pub enum VersioningRef<'a> {
     /// A strict version, as `1.2.3-rc.1`.
@@ -52,7 +53,8 @@ impl<'a> VersioningRef<'a> {
         Some(VersioningRef::Complex(MessRef::new(s)?))
     }
 
-    /// The version that bytes spell, as `new` reads their text. Bytes that are no UTF-8 spell none. Takes no memory.
+    /// The version that bytes spell, as `new` reads their text, or None where they spell none: bytes that are no UTF-8
+    /// never do. Takes no memory.
     pub fn from_bytes(bytes: &'a [u8]) -> Option<VersioningRef<'a>>
         ensures { option_map plain_versioning_ref result ≡ versioning_of bytes.now }
     {
