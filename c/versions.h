@@ -15,14 +15,14 @@
  * length, so that nothing behind it is ever looked at: n + 1 for offsets, n for one answer a text.
  *
  * Owning. Nothing is kept and nothing is handed out: all that a call reads and writes is the caller's, and is free
- * again when the call returns. What is written to must overlap with nothing else that the call is passed.
+ * again when the call returns. What is written to must overlap with nothing else that the call is passed. No call takes
+ * memory.
  *
  * Statuses. A call returns VERSIONS_OK or says what is wrong, and what it was to write is written only where it
  * returns VERSIONS_OK, unless its own words say otherwise. A pointer to one number may not be null.
  *
  * Threads. The library has no state: any thread may make any call at any time, on memory of which no other thread
- * changes anything meanwhile. A call that may want memory takes it by malloc, gives it back by free before it returns,
- * and must not be made in a signal handler; the others take none.
+ * changes anything meanwhile. So may a signal handler.
  *
  * Other languages. The names below are functions of the library, which bear these signatures. In C and C++ they are
  * macros, too, that pass a null pointer on as one to an empty text. Who calls the functions themselves, as by a foreign
@@ -49,7 +49,7 @@ extern "C" {
 #define VERSIONS_NO_NUMBER 6       /* the version has no number at that place */
 #define VERSIONS_NO_ROOM 7         /* there is too little room for the keys */
 #define VERSIONS_BAD_OFFSETS 8     /* an offset is bad, or the lengths of two arrays don't fit */
-#define VERSIONS_NO_MEMORY 9       /* malloc gave no memory */
+#define VERSIONS_NO_MEMORY 9       /* returned by no call, since none takes memory */
 
 /* The kinds. */
 #define VERSIONS_NONE 0    /* no version */
@@ -58,21 +58,21 @@ extern "C" {
 #define VERSIONS_COMPLEX 3 /* as 10.2+0.93+1-1 */
 
 /*
- * The kind of a text: VERSIONS_NONE, VERSIONS_IDEAL, VERSIONS_GENERAL or VERSIONS_COMPLEX. Takes no memory.
+ * The kind of a text: VERSIONS_NONE, VERSIONS_IDEAL, VERSIONS_GENERAL or VERSIONS_COMPLEX.
  */
 int versions_kind(const char *text, size_t text_len);
 
 /*
  * How two versions compare by precedence, the one order of all kinds: *order becomes -1, 0 or 1 where the first is
- * below, level with or above the second. Different texts may be level, as 1.0.0+a and 1.0.0+b. Takes no memory.
+ * below, level with or above the second. Different texts may be level, as 1.0.0+a and 1.0.0+b.
  * Returns VERSIONS_OK, VERSIONS_NO_VERSION_A, VERSIONS_NO_VERSION_B or VERSIONS_NO_VERSION_AB.
  */
 int versions_compare(const char *a, size_t a_len, const char *b, size_t b_len, int32_t *order);
 
 /*
  * The same with ties broken, by kind and then field by field, so that *order is 0 only where the two are the same
- * version but for the metadata of strict ones. May want memory, and does so only where precedence ties.
- * Returns as versions_compare does, or VERSIONS_NO_MEMORY.
+ * version but for the metadata of strict ones.
+ * Returns as versions_compare does.
  */
 int versions_compare_total(const char *a, size_t a_len, const char *b, size_t b_len, int32_t *order);
 
@@ -82,33 +82,32 @@ int versions_compare_total(const char *a, size_t a_len, const char *b, size_t b_
  *
  * `key` has room for `room` bytes. *key_len becomes the whole length of the key, also at VERSIONS_NO_ROOM, where no
  * byte of `key` is written; then room for *key_len bytes is enough, as room for versions_sort_key_bound(text_len) is
- * for every text of the length. A room of 0, whose `key` may be null, asks for the length alone. Takes no memory.
+ * for every text of the length. A room of 0, whose `key` may be null, asks for the length alone.
  * Returns VERSIONS_OK, VERSIONS_NO_VERSION or VERSIONS_NO_ROOM.
  */
 int versions_sort_key(const char *text, size_t text_len, uint8_t *key, size_t room, size_t *key_len);
 
 /*
  * A room that is enough for the key of every text of the length: 3 * text_len + 5, or SIZE_MAX where that would be
- * more. Takes no memory.
+ * more.
  */
 size_t versions_sort_key_bound(size_t text_len);
 
 /*
- * Whether a list of requirements, as >=1.1.1,<2.0.0, asks for a version: *matches becomes true or false. May want
- * memory, for the list and, at =, ~ and ^, for the version.
- * Returns VERSIONS_OK, VERSIONS_NO_REQUIREMENTS (whatever the text is), VERSIONS_NO_VERSION or VERSIONS_NO_MEMORY.
+ * Whether a list of requirements, as >=1.1.1,<2.0.0, asks for a version: *matches becomes true or false.
+ * Returns VERSIONS_OK, VERSIONS_NO_REQUIREMENTS (whatever the text is) or VERSIONS_NO_VERSION.
  */
 int versions_matches(const char *list, size_t list_len, const char *text, size_t text_len, bool *matches);
 
 /*
  * The number at a place of a version, counted from 0: major, minor and patch of a strict one, and of the other kinds
- * those parts that are plain numbers. May want memory.
- * Returns VERSIONS_OK, VERSIONS_NO_VERSION, VERSIONS_NO_NUMBER or VERSIONS_NO_MEMORY.
+ * those parts that are plain numbers.
+ * Returns VERSIONS_OK, VERSIONS_NO_VERSION or VERSIONS_NO_NUMBER.
  */
 int versions_nth(const char *text, size_t text_len, size_t n, uint32_t *number);
 
 /*
- * The kind of each of n texts, as versions_kind gives it: offsets_len is n + 1, and kinds_len is n. Takes no memory.
+ * The kind of each of n texts, as versions_kind gives it: offsets_len is n + 1, and kinds_len is n.
  * Returns VERSIONS_OK or VERSIONS_BAD_OFFSETS.
  */
 int versions_kinds(const char *texts, size_t texts_len, const int64_t *offsets, size_t offsets_len, uint8_t *kinds,
@@ -117,7 +116,7 @@ int versions_kinds(const char *texts, size_t texts_len, const int64_t *offsets, 
 /*
  * The sort keys of n texts, one behind another: offsets_len and key_offsets_len are n + 1, the key of the text of place
  * i is the bytes of `keys` from key_offsets[i] up to key_offsets[i + 1], and key_offsets[0] is 0. A text that is no
- * version has an empty key, which no version has. Nothing behind the last key is written. Takes no memory.
+ * version has an empty key, which no version has. Nothing behind the last key is written.
  *
  * `keys` has room for `room` bytes. At VERSIONS_NO_ROOM key_offsets are written all the same, and key_offsets[n] is the
  * room that all keys need; what `keys` then holds is not told. A room of 0, whose `keys` may be null, asks for the
@@ -129,9 +128,8 @@ int versions_sort_keys(const char *texts, size_t texts_len, const int64_t *offse
 
 /*
  * Whether a list of requirements asks for each of n texts: offsets_len is n + 1, matches_len is n, and matches[i]
- * becomes 1 where it does, 0 where it doesn't, and 2 where the text is no version. May want memory, as versions_matches
- * does; at VERSIONS_NO_MEMORY some of `matches` may have been written.
- * Returns VERSIONS_OK, VERSIONS_NO_REQUIREMENTS, VERSIONS_BAD_OFFSETS (whatever the list is) or VERSIONS_NO_MEMORY.
+ * becomes 1 where it does, 0 where it doesn't, and 2 where the text is no version.
+ * Returns VERSIONS_OK, VERSIONS_NO_REQUIREMENTS or VERSIONS_BAD_OFFSETS (whatever the list is).
  */
 int versions_match_all(const char *list, size_t list_len, const char *texts, size_t texts_len, const int64_t *offsets,
                        size_t offsets_len, uint8_t *matches, size_t matches_len);

@@ -38,15 +38,6 @@ static struct text text_of(sqlite3_value *value) {
   return text;
 }
 
-/* What a status says that isn't VERSIONS_OK: no version gives NULL, and so does no number. */
-static void give_none(sqlite3_context *context, int status) {
-  if (status == VERSIONS_NO_MEMORY) {
-    sqlite3_result_error_nomem(context);
-  } else {
-    sqlite3_result_null(context);
-  }
-}
-
 static void version_key(sqlite3_context *context, int count, sqlite3_value **values) {
   struct text text = text_of(values[0]);
   size_t room = versions_sort_key_bound(text.len), len;
@@ -118,7 +109,7 @@ static void version_matches(sqlite3_context *context, int count, sqlite3_value *
   } else if (status == VERSIONS_NO_REQUIREMENTS) {
     give_no_requirement(context, values[0]);
   } else {
-    give_none(context, status);
+    sqlite3_result_null(context);
   }
 }
 
@@ -126,16 +117,15 @@ static void version_nth(sqlite3_context *context, int count, sqlite3_value **val
   struct text text = text_of(values[0]);
   sqlite3_int64 place = sqlite3_value_int64(values[1]);
   uint32_t number;
-  int status;
   (void)count;
   if (!text.bytes) {
     sqlite3_result_error_nomem(context);
   } else if (sqlite3_value_type(values[1]) != SQLITE_INTEGER || place < 0) {
     sqlite3_result_null(context);
-  } else if ((status = versions_nth(text.bytes, text.len, (size_t)place, &number)) == VERSIONS_OK) {
+  } else if (versions_nth(text.bytes, text.len, (size_t)place, &number) == VERSIONS_OK) {
     sqlite3_result_int64(context, number);
   } else {
-    give_none(context, status);
+    sqlite3_result_null(context);
   }
 }
 
@@ -146,7 +136,7 @@ static int compare_bytes(struct text a, struct text b) {
   return order ? order : (a.len > b.len) - (a.len < b.len);
 }
 
-/* Takes no memory, so it can't fail, as a collation may not. */
+/* The library takes no memory, so this can't fail, as a collation may not. */
 static int collate(void *none, int a_len, const void *a_bytes, int b_len, const void *b_bytes) {
   struct text a = {a_bytes, (size_t)a_len}, b = {b_bytes, (size_t)b_len};
   int32_t order = 0;

@@ -5,7 +5,7 @@
 //   threads   the same answers from eight threads at once
 //   edges     what needs no lines: null pointers, rooms, offsets, bytes that are no text, and every status
 //   long      texts of megabytes
-//   refused N the call N of those that want memory, once
+//   memory    every call, where nothing else takes memory
 // A call for many texts and the single call have to agree wherever both are made. It ends with status 1 where something
 // fails, and says what. It is compiled as C and as C++.
 #ifndef _GNU_SOURCE
@@ -51,7 +51,8 @@ static void release(void *bytes) {
   if (munmap(base, whole) != 0) exit(2);
 }
 
-// The lines of standard input in one buffer, with their offsets; no line feed is in it.
+// The lines of standard input in one buffer, with their offsets; no line feed is in it. They aren't read by <stdio.h>,
+// which takes memory.
 struct lines {
   char *texts;
   int64_t *offsets;
@@ -59,11 +60,12 @@ struct lines {
 };
 
 static struct lines read_lines(void) {
-  size_t room = 1 << 20, used = 0, got;
+  size_t room = 1 << 20, used = 0;
+  ssize_t got;
   char *all = (char *)block(room);
   struct lines lines;
-  while ((got = fread(all + used, 1, room - used, stdin)) > 0) {
-    used += got;
+  while ((got = read(STDIN_FILENO, all + used, room - used)) > 0) {
+    used += (size_t)got;
     if (used == room) {
       char *more = (char *)block(2 * room);
       memcpy(more, all, used);
@@ -424,57 +426,60 @@ static void long_texts(void) {
   long_text("a", 10 * million, VERSIONS_GENERAL, 1 + 1 + 10 * million + 1 + 1 + 3 + 1 + 1);
 }
 
-// Makes a call that wants memory, and returns its status; -1 where there is none of that number.
-static int refused(int call) {
-  static const char texts[] = "1.2.3-rc.10+x1.2a2.0_1-x";
-  static const int64_t offsets[] = {0, 13, 17, 24};
-  static uint8_t answers[3];
-  int32_t order = 77;
-  uint32_t number = 77;
-  bool matches = true;
-  int status;
-  switch (call) {
-    case 1:
-      status = versions_compare_total("1.0.0-a+x", 9, "1.0.0-a+y", 9, &order);
-      CHECK(order == (status == VERSIONS_OK ? 0 : 77));
-      return status;
-    case 2:
-      status = versions_compare_total("1.0_1-a", 7, "1.00_1-a", 8, &order);
-      CHECK(status == VERSIONS_OK ? order == 1 || order == -1 : order == 77);
-      return status;
-    case 3:
-      status = versions_nth("1.2.3-rc.1+x", 12, 2, &number);
-      CHECK(number == (status == VERSIONS_OK ? 3u : 77u));
-      return status;
-    case 4:
-      status = versions_nth("1.2_a", 5, 1, &number);
-      CHECK(number == (status == VERSIONS_OK ? 2u : 77u));
-      return status;
-    case 5:
-      status = versions_matches("^1.2.3-a,<9,>0.1a", 17, "1.2.3-rc.10+x", 13, &matches);
-      CHECK(matches);
-      return status;
-    case 6:
-      return versions_match_all("~1.2.3-a,=1.2.3-rc.10", 21, texts, 24, offsets, 4, answers, 3);
-    default:
-      return -1;
+// Every call on every line, with lists of each operator, and on texts whose answers are known. tests/c runs this where
+// each request for memory is counted, so nothing else may take memory here.
+static void without_memory(const struct lines *lines) {
+  static const char *const lists[] = {
+      "*", "^1.2.3-a,<9,>0.1a", "~1.2.3-a,=1.2.3-rc.10", "^1.2,>=0:1.0-1", "~1:2.0rc1-3", "=10.2+0.93+1-1,<=2_a",
+      "no list",
+  };
+  size_t count = lines->count, room = 3 * lines->length + 5 * count;
+  uint8_t *answers = (uint8_t *)block(count), *keys = (uint8_t *)block(room);
+  int64_t *key_offsets = (int64_t *)block((count + 1) * sizeof(int64_t));
+  release(summed((void *)lines));
+  CHECK(versions_kinds(lines->texts, lines->length, lines->offsets, count + 1, answers, count) == VERSIONS_OK);
+  for (size_t line = 0; line < count; line++) {
+    const char *text = text_of(lines, line);
+    size_t length = length_of(lines, line), key_length = 0;
+    int32_t order = 77;
+    uint32_t number = 77;
+    int is_version = answers[line] != VERSIONS_NONE;
+    CHECK(versions_compare_total(text, length, text, length, &order) == status_of(is_version, is_version));
+    CHECK(order == (is_version ? 0 : 77));
+    CHECK((versions_sort_key(text, length, keys, room, &key_length) == VERSIONS_OK) == is_version);
+    for (size_t place = 0; place < 4; place++) {
+      CHECK((versions_nth(text, length, place, &number) == VERSIONS_NO_VERSION) == !is_version);
+    }
   }
-}
+  CHECK(versions_sort_keys(lines->texts, lines->length, lines->offsets, count + 1, keys, room, key_offsets,
+                           count + 1) == VERSIONS_OK);
+  for (size_t i = 0; i < sizeof lists / sizeof *lists; i++) {
+    size_t length = strlen(lists[i]);
+    int wanted = i + 1 < sizeof lists / sizeof *lists ? VERSIONS_OK : VERSIONS_NO_REQUIREMENTS;
+    bool matches = false;
+    CHECK(versions_match_all(lists[i], length, lines->texts, lines->length, lines->offsets, count + 1, answers,
+                             count) == wanted);
+    for (size_t line = 0; line < count; line++) {
+      int status = versions_matches(lists[i], length, text_of(lines, line), length_of(lines, line), &matches);
+      CHECK(wanted != VERSIONS_OK ? status == wanted
+                                  : answers[line] == 2 ? status == VERSIONS_NO_VERSION : matches == answers[line]);
+    }
+  }
+  release(answers);
+  release(keys);
+  release(key_offsets);
 
-// What takes no memory, once each.
-static void without_memory(void) {
-  static const int64_t offsets[] = {0, 5, 8};
-  uint8_t bytes[64];
-  int64_t key_offsets[3];
-  int32_t order;
-  size_t length;
-  CHECK(versions_kind("1.0_1-x", 7) == VERSIONS_COMPLEX);
-  CHECK(versions_compare("1.0_1-x", 7, "1.0_1-y", 7, &order) == VERSIONS_OK && order == -1);
-  CHECK(versions_compare_total("1.0_1-x", 7, "1.0_1-y", 7, &order) == VERSIONS_OK && order == -1);
-  CHECK(versions_sort_key("1.0_1-x", 7, bytes, sizeof bytes, &length) == VERSIONS_OK);
-  CHECK(versions_sort_key("1.0_1-x", 7, bytes, 3, &length) == VERSIONS_NO_ROOM);
-  CHECK(versions_kinds("1.2.31.2", 8, offsets, 3, bytes, 2) == VERSIONS_OK);
-  CHECK(versions_sort_keys("1.2.31.2", 8, offsets, 3, bytes, sizeof bytes, key_offsets, 3) == VERSIONS_OK);
+  // Ties that are broken field by field, or stay; numbers; and matches.
+  int32_t order = 77, turned = 77;
+  uint32_t number = 77;
+  bool matches = false;
+  CHECK(versions_compare_total("1.0.0-a+x", 9, "1.0.0-a+y", 9, &order) == VERSIONS_OK && order == 0);
+  CHECK(versions_compare("1.0_1-a", 7, "1.00_1-a", 8, &order) == VERSIONS_OK && order == 0);
+  CHECK(versions_compare_total("1.0_1-a", 7, "1.00_1-a", 8, &order) == VERSIONS_OK && (order == 1 || order == -1));
+  CHECK(versions_compare_total("1.00_1-a", 8, "1.0_1-a", 7, &turned) == VERSIONS_OK && turned == -order);
+  CHECK(versions_nth("1.2.3-rc.1+x", 12, 2, &number) == VERSIONS_OK && number == 3);
+  CHECK(versions_nth("1.2_a", 5, 1, &number) == VERSIONS_OK && number == 2);
+  CHECK(versions_matches("^1.2.3-a,<9,>0.1a", 17, "1.2.3-rc.10+x", 13, &matches) == VERSIONS_OK && matches);
 }
 
 int main(int count, char **words) {
@@ -483,19 +488,14 @@ int main(int count, char **words) {
     edges();
   } else if (strcmp(word, "long") == 0) {
     long_texts();
-  } else if (strcmp(word, "refused") == 0) {
-    // Nothing else may take memory here.
-    int status = 0;
-    if (strcmp(words[2], "none") == 0) without_memory();
-    else status = refused(atoi(words[2]));
-    if (failures == 0) return status < 0 ? 100 : status;
   } else {
     struct lines lines = read_lines();
     if (strcmp(word, "show") == 0) show(&lines);
     else if (strcmp(word, "compare") == 0) compare(&lines);
     else if (strcmp(word, "match") == 0) match(&lines, words[2]);
     else if (strcmp(word, "threads") == 0) threads(&lines);
-    else CHECK(!"usage: show, compare, match R, threads, edges, long or refused N");
+    else if (strcmp(word, "memory") == 0) without_memory(&lines);
+    else CHECK(!"usage: show, compare, match R, threads, edges, long or memory");
     free_lines(&lines);
   }
   return failures == 0 ? 0 : 99;

@@ -173,23 +173,17 @@ class Arrow(Many):
         self.assertRaisesRegex(ValueError, "fewer bits", versions.kinds, array)
 
 
-class Memory(unittest.TestCase):
-    def test_want_of_memory_is_told(self):
+class Statuses(unittest.TestCase):
+    def test_a_status_that_is_none_is_told(self):
         calls = {
-            "compare_total": lambda: versions.compare_total("1.0", "0:1.0"),
-            "matches": lambda: versions.Requirement("*").matches("1.0"),
-            "nth": lambda: versions.Version("1.0").nth(0),
+            "kinds": lambda: versions.kinds(["1"]),
+            "sort_keys": lambda: versions.sort_keys(["1"]),
             "match_all": lambda: versions.match_all("^1.0", ["1.0"]),
         }
         for name, call in calls.items():
             call()
-            with self.subTest(name), mock.patch.object(_library, name, return_value=_library.NO_MEMORY):
-                # `Requirement` asks the library for all of a list of no texts.
-                self.assertRaises(MemoryError, call)
-
-    def test_a_status_that_is_none_is_told(self):
-        with mock.patch.object(_library, "kinds", return_value=99):
-            self.assertRaisesRegex(RuntimeError, "99", versions.kinds, ["1"])
+            with self.subTest(name), mock.patch.object(_library, name, return_value=99):
+                self.assertRaisesRegex(RuntimeError, "99", call)
 
 
 class Threads(unittest.TestCase):
@@ -223,7 +217,7 @@ class Package(unittest.TestCase):
         header = os.path.join(os.path.dirname(__file__), "..", "..", "c", "versions.h")
         with open(header, encoding="utf-8") as file:
             statuses = dict(re.findall(r"#define VERSIONS_(\w+) (\d+)", file.read()))
-        for name in ("OK", "NO_VERSION_B", "NO_REQUIREMENTS", "NO_NUMBER", "BAD_OFFSETS", "NO_MEMORY"):
+        for name in ("OK", "NO_VERSION_B", "NO_REQUIREMENTS", "NO_NUMBER", "BAD_OFFSETS"):
             self.assertEqual(getattr(_library, name), int(statuses[name]), name)
         for name, number in (("NONE", 0), ("IDEAL", 1), ("GENERAL", 2), ("COMPLEX", 3)):
             self.assertEqual(int(statuses[name]), number)

@@ -11,7 +11,6 @@ NO_VERSION_B = 3
 NO_REQUIREMENTS = 5
 NO_NUMBER = 6
 BAD_OFFSETS = 8
-NO_MEMORY = 9
 
 # Bytes that are no UTF-8, and so no version.
 NO_TEXT = b"\xff"
@@ -63,8 +62,6 @@ def encoded(text: str) -> bytes:
 
 def fail(status: int) -> NoReturn:
     """Raises what a status says that is no fault of a text."""
-    if status == NO_MEMORY:
-        raise MemoryError("versions: there is no memory")
     if status == BAD_OFFSETS:
         raise ValueError("offsets of texts descend, are negative or leave their buffer")
     raise RuntimeError(f"versions: the library answered with status {status}")

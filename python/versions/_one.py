@@ -62,8 +62,8 @@ def compare(a: str, b: str) -> int:
 def compare_total(a: str, b: str) -> int:
     """The same with ties broken, by kind and then field by field, as `vers sort` orders its lines.
 
-    It is 0 only where both are the same version but for the metadata of strict ones. `ValueError` with the first text
-    that is no version, and `MemoryError` where two that tie can't be built.
+    It is 0 only where both are the same version but for the metadata of strict ones. Takes no memory but for the texts
+    in UTF-8. `ValueError` with the first text that is no version.
 
     >>> compare_total("1.0", "0:1.0"), compare_total("1.0.0+a", "1.0.0+b")
     (-1, 0)
@@ -79,8 +79,6 @@ def _compared(call: Any, a: str, b: str) -> int:
     status = call(first, len(first), second, len(second), byref(order))
     if status == _library.OK:
         return order.value
-    if status == _library.NO_MEMORY:
-        _library.fail(status)
     raise _library.not_a_version(b if status == _library.NO_VERSION_B else a)
 
 
@@ -96,8 +94,6 @@ def nth(text: str, n: int) -> Optional[int]:
         return number.value
     if status == _library.NO_NUMBER:
         return None
-    if status == _library.NO_MEMORY:
-        _library.fail(status)
     raise _library.not_a_version(text)
 
 
@@ -109,6 +105,4 @@ def matches(requirement: str, text: str) -> bool:
         return answer.value
     if status == _library.NO_REQUIREMENTS:
         raise _library.not_a_requirement(requirement)
-    if status == _library.NO_MEMORY:
-        _library.fail(status)
     raise _library.not_a_version(text)

@@ -37,7 +37,7 @@ class Requirement:
     def matches(self, version: Union[str, Version]) -> bool:
         """Whether it asks for a version, or for the one that a text is.
 
-        `ValueError` with the text where that is none, and `MemoryError`.
+        `ValueError` with the text where that is none.
         """
         return _one.matches(self._text, _text_of(version))
 
@@ -94,8 +94,7 @@ class Requirement:
 def match_all(requirement: Union[str, Requirement], texts: Texts) -> list[Optional[bool]]:
     """Whether a requirement asks for each of many texts, and None for no version, in one call of the library.
 
-    `texts` is what `kinds` takes, and so is the memory. `ValueError` with the requirement where it is none, and
-    `MemoryError`.
+    `texts` is what `kinds` takes, and so is the memory. `ValueError` with the requirement where it is none.
 
     >>> match_all(">=1.1.1,<2.0.0", ["1.5", "2.0.0", "1..2", None])
     [True, False, None, None]

@@ -74,7 +74,7 @@ class Version:
         """The number at a place counted from 0, or None where there is none.
 
         Of a strict version these are major, minor and patch, and of others those parts that are plain numbers.
-        `ValueError` where n is negative, and `MemoryError`.
+        `ValueError` where n is negative.
 
         >>> [Version("1.2.3-4").nth(n) for n in range(4)]
         [1, 2, 3, None]

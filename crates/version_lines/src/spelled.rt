@@ -40,7 +40,7 @@ pub fn add_key(keys: &mut Vec<u8>, line: &[u8]) -> Result<bool, AllocError>
 {
     match VersioningRef::from_bytes(line) {
         Some(version) => {
-            version.key_bytes().append_to(keys)?;
+            version.append_key(keys)?;
             Ok(true)
         }
         None => Ok(false),

@@ -4,6 +4,7 @@ pub mod ChunkReading
 pub mod Codes
 pub mod Compare
 pub mod DigitRun
+pub mod Digits
 pub mod Dotted
 pub mod DottedScan
 pub mod ElementsLeft
@@ -16,6 +17,7 @@ pub mod ListBytes
 pub mod MChunkReading
 pub mod Mapped
 pub mod NumberBytes
+pub mod Numbers
 pub mod NumeralReading
 pub mod Numerals
 pub mod OrderLemmas
@@ -28,6 +30,7 @@ pub mod ReleaseOrder
 pub mod Repeated
 pub mod RunFronts
 pub mod Runs
+pub mod Short
 pub mod ShortRuns
 pub mod Spelled
 pub mod Split

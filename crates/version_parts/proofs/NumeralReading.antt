@@ -1,9 +1,11 @@
 -- Numerals: the front of an unsigned number reads what is spelled, and nothing else.
-use Rattle.std.proofs.Common.{◌≡◌, ◌==◌, ◌^◌, ℕ, ◌<◌, true, List, [], ◌∷◌, ◌++◌, length, Some, None, nat_lt, refl, sym, ap, ◌∙◌, arith, inl, inr}
+use Rattle.std.proofs.Common.{◌≡◌, ◌==◌, ◌^◌, ℕ, ◌<◌, true, false, List, [], ◌∷◌, ◌++◌, length, Some, None, nat_lt, refl, sym, ap, ◌∙◌, arith, inl, inr}
 use Rattle.std.proofs.lemmas.Bool.{cases_Bool, eqb-true, ltb-true, lt-ltb}
 use Rattle.std.proofs.lemmas.Fmt.{decimal-digits_value}
 use Rattle.std.specs.Char.{is_ascii_digit}
 use Rattle.std.specs.Fmt.{decimal}
+use Rattle.std.proofs.lemmas.Str.Parse.{digits_value_short}
+use Rattle.std.specs.List.{list_all}
 use Rattle.std.specs.Option.{option_and_then}
 use Rattle.std.specs.Str.Parse.{digits_value}
 use Rattle.version_parts.specs.Front.{after_mark, run_front}
@@ -62,7 +64,7 @@ unsigned_sound text n rest e = elim (cases_Option (after_mark 48 text)) [
 ]
 
 -- a numeral that begins with 0 is 0
-only_zero : (d : ℕ) (digits : List ℕ) → (d == 48) ≡ true → HasNoLeadingZero (d ∷ digits) → digits ≡ []
+pub only_zero : (d : ℕ) (digits : List ℕ) → (d == 48) ≡ true → HasNoLeadingZero (d ∷ digits) → digits ≡ []
 only_zero d [] same h = refl
 only_zero d (c ∷ digits) same h = cc (h, same)
 
@@ -93,3 +95,35 @@ numeral_printed [] n s = absurd s.canonical
 numeral_printed (d ∷ digits) n s =
     let fits : digits_value 10 (d ∷ digits) < 2 ^ 64 = rw s.value (omega (arith, s.fits)) in
     ap decimal (sym s.value) ∙ decimal-digits_value digits_model (d ∷ digits) s.digits (omega arith) (λ begun. only_digit d digits begun s.canonical) fits
+
+-- ---- a numeral by its digits
+
+pub numeral_zero : (text tail : List ℕ) → Some tail ≡ after_mark 48 text → Some (0, tail) ≡ unsigned_front text
+numeral_zero text tail e = sym (unsigned-zero text tail (sym e))
+
+pub zero_spelled : SpellsNumeral (48 ∷ []) (digits_value 10 (48 ∷ []))
+zero_spelled = zero_numeral
+
+pub numeral_run : (text run rest : List ℕ) → None ≡ after_mark 48 text → Some (run, rest) ≡ run_front is_ascii_digit text → nat_lt (digits_value 10 run) (2 ^ 32) ≡ true
+    → Some (digits_value 10 run, rest) ≡ unsigned_front text
+numeral_run text run rest none e fits = rw (unsigned-run text (sym none), ← e, fits) refl
+
+pub numeral_none : (text : List ℕ) → None ≡ after_mark 48 text → None ≡ run_front is_ascii_digit text → None ≡ unsigned_front text
+numeral_none text none e = rw (unsigned-run text (sym none), ← e) refl
+
+pub numeral_large : (text run rest : List ℕ) → None ≡ after_mark 48 text → Some (run, rest) ≡ run_front is_ascii_digit text → nat_lt (digits_value 10 run) (2 ^ 32) ≡ false
+    → None ≡ unsigned_front text
+numeral_large text run rest none e large = rw (unsigned-run text (sym none), ← e, large) refl
+
+pub run_spelled : (text run rest : List ℕ) → None ≡ after_mark 48 text → Some (run, rest) ≡ run_front is_ascii_digit text → nat_lt (digits_value 10 run) (2 ^ 32) ≡ true
+    → SpellsNumeral run (digits_value 10 run)
+run_spelled text run rest none e fits =
+    let read = reads_run is_ascii_digit text run rest (sym e) in
+    record { digits = read.all; canonical = no_leading_zero run rest (rw read.whole at (sym none)) read.some; value = refl; fits = ltb-true _ _ fits }
+
+pub nine_digits : (digits : List ℕ) → list_all is_ascii_digit digits ≡ true → length digits < 10 → true ≡ nat_lt (digits_value 10 digits) (2 ^ 32)
+nine_digits digits all short =
+    let value : digits_value 10 digits < 10 ^ 9 = digits_value_short digits_model digits 9 all (omega arith) in
+    sym (lt-ltb _ _ (omega (arith, value)))
+
+pub ruleset numerals_read = (numeral_zero, zero_spelled, numeral_run, numeral_none, numeral_large, run_spelled)

@@ -141,7 +141,7 @@ digits_behind n (c ∷ digits) some all =
     digits_behind m digits (omega arith) (second_so _ _ all) ∙ step
 
 -- a run that doesn't begin with 0 is the digits of its number
-digits_of_run : (digits : List ℕ) → list_all is_ascii_digit digits ≡ true → begins is_zero digits ≡ false → digit_bytes (digits_value 10 digits) ≡ digits
+pub digits_of_run : (digits : List ℕ) → list_all is_ascii_digit digits ≡ true → begins is_zero digits ≡ false → digit_bytes (digits_value 10 digits) ≡ digits
 digits_of_run [] all canonical = refl
 digits_of_run (c ∷ digits) all canonical =
     let digit : is_ascii_digit c ≡ true = first_so _ _ all in

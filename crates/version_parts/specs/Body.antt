@@ -1,14 +1,13 @@
 -- Bodies of general versions: one part or more, joined by dots, of which the last is read by rules of its own.
 use Rattle.std.specs.Prelude.{◌≡◌, ◌<◌, ◌-◌, ◌++◌, ◌∷◌, ◌⊎◌, ℕ, List, [], length, map, take, Option, Some}
-use Rattle.std.specs.Option.{option_map}
+use Rattle.std.specs.Option.{option_map, option_map_or}
 use Rattle.version_parts.specs.declared.chunks.Chunks.{Chunks}
-use Rattle.version_parts.specs.declared.last.LastRef.{LastRef}
 use Rattle.version_parts.specs.declared.scan.Dotted.{Dotted}
 use Rattle.version_parts.specs.Bytes.{dot}
 use Rattle.version_parts.specs.Chunk.{PlainChunk, SpellsPart, part_front, plain_chunk}
 use Rattle.version_parts.specs.Front.{◌>>=◌, Front, dotted_front, elements_at}
 use Rattle.version_parts.specs.Grammar.{SpellsDotted}
-use Rattle.version_parts.specs.Last.{IsLastOf, LastOwns, PlainLast, last_of, last_text, plain_last_ref}
+use Rattle.version_parts.specs.Last.{IsLastOf, LastOwns, Numeric, PlainLast, last_of, last_text}
 use Rattle.version_parts.specs.Lists.{split_last}
 use Rattle.version_parts.specs.Release.{release_text}
 
@@ -54,11 +53,15 @@ body_text body = chunks_text body.0 ++ last_text body.1
 abbrev pub BodyOwns : PlainBody → Type 0
 BodyOwns body = (0 < length body.0) ⊎ LastOwns body.1
 
+-- the last part that the part at the front of a text is; 0 where there is none
+abbrev pub last_at : List ℕ → PlainLast
+last_at text = option_map_or (λ p. last_of p.0) (part_front text) (Numeric 0)
+
 -- the body that a list of parts was scanned as: its parts but for the last one, and that one
-abbrev pub scanned_body : Dotted → LastRef → PlainBody
-scanned_body list last = (take (list.count - 1) (elements_at part_front list.text.now), plain_last_ref last)
+abbrev pub scanned_body : Dotted → PlainBody
+scanned_body list = (take (list.count - 1) (elements_at part_front list.text.now), last_at list.last.now)
 
 -- the list counts its parts, of which there is one, and the body is what they make
-abbrev pub IsScannedBody : Dotted → LastRef → Type 0
-IsScannedBody list last = (0 < list.count) × (list.count ≡ length (elements_at part_front list.text.now))
-    × (body_of (elements_at part_front list.text.now) ≡ Some (scanned_body list last))
+abbrev pub IsScannedBody : Dotted → Type 0
+IsScannedBody list = (0 < list.count) × (list.count ≡ length (elements_at part_front list.text.now))
+    × (body_of (elements_at part_front list.text.now) ≡ Some (scanned_body list))

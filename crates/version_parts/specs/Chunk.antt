@@ -1,17 +1,20 @@
 -- Chunks: a numeral, or a nonempty run of letters and digits that isn't all digits. In a release the run may have
 -- hyphens too (SemVer 2.0, section 9); in a general version, where chunks are also called parts, it has none.
-use Rattle.std.specs.Prelude.{◌≡◌, ◌++◌, ℕ, Bool, List, [], ◌∷◌, Option, Some, None, true, false, drop, if◌then◌else◌}
+use Rattle.std.specs.Prelude.{◌≡◌, ⊤, ◌++◌, ℕ, Bool, List, [], ◌∷◌, Option, Some, None, true, false, drop, if◌then◌else◌}
 use Rattle.std.specs.Char.{is_ascii_alphabetic, is_ascii_alphanumeric, is_ascii_digit}
 use Rattle.std.specs.Fmt.{decimal}
 use Rattle.std.specs.Hash as fed
 use Rattle.std.specs.Hash.{HashWrites}
 use Rattle.std.specs.List.{list_all, prefix_len, take_while}
 use Rattle.std.specs.Option.{option_map}
+use Rattle.std.specs.Str.Parse.{digits_value}
 use Rattle.std.specs.String.{string_bytes}
 use Rattle.version_parts.specs.declared.chunk.Chunk.{Chunk}
 use Rattle.version_parts.specs.declared.chunk.Chunk.TheVariants as owned
 use Rattle.version_parts.specs.declared.chunk.ChunkRef.{ChunkRef}
 use Rattle.version_parts.specs.declared.chunk.ChunkRef.TheVariants as lent
+use Rattle.version_parts.specs.declared.chunk.ChunkText.{ChunkText}
+use Rattle.version_parts.specs.declared.chunk.ChunkText.TheVariants as spelled
 use Rattle.version_parts.specs.Bytes.{is_identifier_byte}
 use Rattle.version_parts.specs.Front.{◌>>=◌, Front, map_value}
 use Rattle.version_parts.specs.Numeral.{SpellsNumeral, unsigned_front}
@@ -30,6 +33,15 @@ plain_chunk (owned.Alphanum text) = Alphanum (string_bytes text)
 abbrev pub plain_chunk_ref : ChunkRef → PlainChunk
 plain_chunk_ref (lent.Numeric n) = Numeric n
 plain_chunk_ref (lent.Alphanum text) = Alphanum text.now
+
+-- the chunk that stands in a text so, and that the digits of a numeral are one
+abbrev pub chunk_of_text : ChunkText → PlainChunk
+chunk_of_text (spelled.Numeral digits) = Numeric (digits_value 10 digits.now)
+chunk_of_text (spelled.Alphanum text) = Alphanum text.now
+
+abbrev pub IsChunkText : ChunkText → Type 0
+IsChunkText (spelled.Numeral digits) = SpellsNumeral digits.now (digits_value 10 digits.now)
+IsChunkText (spelled.Alphanum text) = ⊤
 
 -- the text spells the chunk, whose runs are of bytes that pass the test
 abbrev pub SpellsChunkOf : (ℕ → Bool) → List ℕ → PlainChunk → Type 0

@@ -1,5 +1,5 @@
 -- The classes of bytes that the scans read runs of.
-use Rattle.std.specs.Prelude.{ℕ, Bool}
+use Rattle.std.specs.Prelude.{◌≡◌, ℕ, Bool, true}
 use Rattle.std.specs.Char.{is_ascii_alphabetic, is_ascii_alphanumeric, is_ascii_digit}
 use Rattle.version_parts.specs.Bytes.{is_identifier_byte, is_metadata_byte}
 use Rattle.version_parts.specs.declared.scan.Class.{Class}
@@ -12,3 +12,7 @@ contains Letter b = is_ascii_alphabetic b
 contains Alphanumeric b = is_ascii_alphanumeric b
 contains Identifier b = is_identifier_byte b
 contains Metadata b = is_metadata_byte b
+
+-- a class that all digits are of
+abbrev pub HasDigits : (ℕ → Bool) → Type 0
+HasDigits test = (b : ℕ) → is_ascii_digit b ≡ true → test b ≡ true

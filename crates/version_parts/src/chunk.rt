@@ -1,17 +1,17 @@
 //! Chunks: what stands between the dots of a release or of a general version.
 
-ghost use Rattle.std.specs.Prelude.{◌≡◌, ◌<◌, ℕ, refl, length, true, IsTrue, Some, IfOk, OnErr};
-ghost use Rattle.std.specs.Char.{is_ascii_alphanumeric, is_ascii_digit};
+ghost use Rattle.std.specs.Prelude.{◌≡◌, refl, Some, IfOk, IfSome, OnErr};
+ghost use Rattle.std.specs.Char.{is_ascii_alphanumeric};
 ghost use Rattle.std.specs.Option.{option_map};
 ghost use Rattle.std.proofs.Common.{ap};
 ghost use Rattle.std.specs.Cmp.{eq_by_cmp_equiv, on_equiv, on_per, partial_equiv_from_equiv};
 ghost use Rattle.std.specs.Ordering.{eq_by_cmp, on};
 ghost use Rattle.version_parts.specs.Bytes.{is_identifier_byte};
-ghost use Rattle.version_parts.specs.Chunk.{after_letter, chunk_fed, chunk_front, chunk_front_of, chunk_text, digits_behind_letter, lenient_digits, number_of, part_front, plain_chunk, plain_chunk_ref, ChunkOwns, PlainChunk};
-ghost use Rattle.version_parts.specs.Class.{contains};
+ghost use Rattle.version_parts.specs.Chunk.{after_letter, chunk_fed, chunk_front, chunk_front_of, chunk_of_text, chunk_text, digits_behind_letter, lenient_digits, number_of, part_front, plain_chunk, plain_chunk_ref, ChunkOwns, IsChunkText, PlainChunk};
+ghost use Rattle.version_parts.specs.Class.{contains, HasDigits};
 ghost use Rattle.version_parts.specs.Front.{Reads};
 ghost use Rattle.version_parts.specs.FrontLaws.{chunk_consumes};
-ghost use Rattle.version_parts.specs.Numeral.{unsigned_front, HasNoLeadingZero};
+ghost use Rattle.version_parts.specs.Numeral.{unsigned_front};
 ghost use Rattle.version_parts.specs.OrderLaws.{same_where_tied};
 ghost use Rattle.version_parts.specs.ReleaseLaws.{chunk_total, chunks_same};
 ghost use Rattle.version_parts.specs.ReleaseOrder.{chunk_cmp};
@@ -19,7 +19,7 @@ ghost use Rattle.version_parts.specs.ReleaseOrder.{chunk_cmp};
 use crate::elements::Spelled;
 use crate::key::PartText;
 use crate::lists::ListItem;
-use crate::scan::{Class, Element, is_all_digits, split_run, unsigned};
+use crate::scan::{Class, Element, begins_with, numeral, split_run, unsigned, value_of_numeral};
 use serde::{Deserialize, Serialize};
 use std::alloc::{AllocError, Global};
 use std::cmp::Ordering;
@@ -40,6 +40,7 @@ impl Chunk {
     /// The chunk of a release at the front of a text, and the rest: the longest run of letters, digits and hyphens
     /// is `Alphanum`; where it is all digits, a number is read from the same place. None and `Numeric` take no
     /// memory; the text of an `Alphanum` is copied, and the error is that there is no memory for it.
+    #[tactic(auto, using(crate::proofs::ShortRuns::classes_with_digits))]
     pub fn parse(alloc: Global, i: &str) -> Result<Option<(Chunk, &str)>, AllocError>
         ensures { Reads plain_chunk ChunkOwns result (chunk_front i.now) }
     {
@@ -48,6 +49,7 @@ impl Chunk {
 
     /// The part of a general version at the front of a text, and the rest: as [`Chunk::parse`], with a run of
     /// letters and digits alone.
+    #[tactic(auto, using(crate::proofs::ShortRuns::classes_with_digits))]
     pub fn parse_without_hyphens(
         alloc: Global,
         i: &str,
@@ -174,6 +176,7 @@ fn compare_chunks(a: &Chunk, b: &Chunk) -> Ordering
 
 // The chunk at the front of a text whose runs are of the class, and the rest.
 fn read_chunk(alloc: Global, i: &str, class: Class) -> Result<Option<(Chunk, &str)>, AllocError>
+    requires { HasDigits (contains class) }
     ensures { Reads plain_chunk ChunkOwns result (chunk_front_of (contains class) i.now) }
 {
     let Some((piece, rest)) = ChunkRef::scan(i, class) else {
@@ -203,18 +206,17 @@ pub enum ChunkRef<'a> {
 
 impl<'a> ChunkRef<'a> {
     // The chunk at the front of a text whose runs are of the class, and the rest. Takes no memory.
-    #[tactic(auto, unfolding(crate::specs::Chunk::chunk_front_of))]
-    #[inline(always)]
     pub(crate) fn scan(i: &'a str, class: Class) -> Option<(ChunkRef<'a>, &'a str)>
+        requires { HasDigits (contains class) }
         ensures { option_map (λ r. (plain_chunk_ref r.0, r.1.now)) result
             ≡ chunk_front_of (contains class) i.now }
     {
-        let (run, rest) = split_run(i, class);
-        if !is_all_digits(run) {
-            return Some((ChunkRef::Alphanum(run), rest));
+        match ChunkText::scan(i, class)? {
+            (ChunkText::Numeral(digits), rest) => {
+                Some((ChunkRef::Numeric(value_of_numeral(digits)), rest))
+            }
+            (ChunkText::Alphanum(text), rest) => Some((ChunkRef::Alphanum(text), rest)),
         }
-        let (number, rest) = unsigned(i)?;
-        Some((ChunkRef::Numeric(number), rest))
     }
 
     /// The printed text, byte after byte. Takes no memory.
@@ -274,35 +276,57 @@ impl<'a> fmt::Display for ChunkRef<'a> {
     }
 }
 
-// What stands behind the chunk at the front of a text whose runs are of the class, which has all digits. Of a run of at
-// most nine digits the value isn't looked at, since that is below 2 ^ 32.
-#[tactic(auto, unfolding(crate::specs::Chunk::chunk_front_of))]
+// A chunk as it stands in its text: a numeral, by its digits, or another run.
+#[derive(Clone, Copy)]
+pub(crate) enum ChunkText<'a> {
+    Numeral(&'a str),
+    Alphanum(&'a str),
+}
+
+impl<'a> ChunkText<'a> {
+    // The chunk at the front of a text whose runs are of the class, which has all digits, and the rest.
+    #[inline(always)]
+    pub(crate) fn scan(i: &'a str, class: Class) -> Option<(ChunkText<'a>, &'a str)>
+        requires { HasDigits (contains class) }
+        ensures chunk { option_map (λ r. (chunk_of_text r.0, r.1.now)) result
+            ≡ chunk_front_of (contains class) i.now }
+        ensures numeral { IfSome result (λ r. IsChunkText r.0) }
+    {
+        let (_, behind) = split_run(i, Class::Digit);
+        if begins_with(behind.as_bytes(), class) {
+            let (run, rest) = split_run(i, class);
+            return Some((ChunkText::Alphanum(run), rest));
+        }
+        match numeral(i) {
+            Some((digits, rest)) => Some((ChunkText::Numeral(digits), rest)),
+            None => None,
+        }
+    }
+}
+
+impl<'a> ChunkText<'a> {
+    // The text.
+    #[tactic(auto, using(crate::proofs::Numbers::numeral_text))]
+    #[inline(always)]
+    pub(crate) fn text(self) -> &'a str
+        requires { IsChunkText self }
+        ensures { result.now ≡ chunk_text (chunk_of_text self.entry) }
+    {
+        match self {
+            ChunkText::Numeral(digits) => digits,
+            ChunkText::Alphanum(text) => text,
+        }
+    }
+}
+
+// What stands behind the chunk at the front of a text whose runs are of the class, which has all digits.
 #[inline(always)]
 fn skip_chunk(i: &str, class: Class) -> Option<&str>
-    requires { (b : ℕ) → is_ascii_digit b ≡ true → contains class b ≡ true }
+    requires { HasDigits (contains class) }
     ensures { option_map (λ r. r.now) result
         ≡ option_map (λ p. p.1) (chunk_front_of (contains class) i.now) }
 {
-    let (run, rest) = split_run(i, class);
-    if !is_all_digits(run) {
-        return Some(rest);
-    }
-    if is_short_numeral(run) {
-        return Some(rest);
-    }
-    Some(unsigned(i)?.1)
-}
-
-// Whether a run of digits is a numeral of at most nine.
-#[inline(always)]
-fn is_short_numeral(run: &str) -> bool
-    ensures { IsTrue result → (length run.now < 10) × HasNoLeadingZero run.now }
-{
-    match run.as_bytes() {
-        [] => false,
-        [_] => true,
-        [first, ..] => *first != b'0' && run.len() < 10,
-    }
+    Some(ChunkText::scan(i, class)?.1)
 }
 
 impl ListItem for Chunk {
@@ -341,7 +365,7 @@ impl Element for ReleaseChunk {
 
     ghost consumes = { chunk_consumes is_identifier_byte };
 
-    #[tactic(auto, using(crate::proofs::ShortRuns::digits_identify))]
+    #[tactic(auto, using(crate::proofs::ShortRuns::classes_with_digits))]
     fn skip(i: &str) -> Option<&str> {
         skip_chunk(i, Class::Identifier)
     }
@@ -367,7 +391,7 @@ impl Element for Part {
 
     ghost consumes = { chunk_consumes is_ascii_alphanumeric };
 
-    #[tactic(auto, using(crate::proofs::ShortRuns::digits_alphanumeric))]
+    #[tactic(auto, using(crate::proofs::ShortRuns::classes_with_digits))]
     fn skip(i: &str) -> Option<&str> {
         skip_chunk(i, Class::Alphanumeric)
     }

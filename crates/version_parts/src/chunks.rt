@@ -10,7 +10,7 @@ ghost use Rattle.version_parts.specs.Body.{body_front, body_text, chunks_front, 
 ghost use Rattle.version_parts.specs.Front.{Reads};
 ghost use Rattle.version_parts.specs.Chunk.{number_of, part_front};
 ghost use Rattle.version_parts.specs.ElementsLeft.{elements_left};
-ghost use Rattle.version_parts.specs.Last.{first_number, last_text, plain_last};
+ghost use Rattle.version_parts.specs.Last.{first_number, last_text, plain_last, plain_last_ref};
 ghost use Rattle.version_parts.specs.LastOrder.{last_plain_cmp};
 ghost use Rattle.version_parts.specs.OrderLaws.{same_where_tied};
 ghost use Rattle.version_parts.specs.Codes.{items_bytes};
@@ -129,7 +129,6 @@ impl PartialOrd for Chunks {
 #[derive(Drop)]
 pub struct BodyRef<'a> {
     list: Dotted<'a>,
-    last: LastRef<'a>,
 }
 
 impl<'a> Model for BodyRef<'a> {
@@ -139,9 +138,9 @@ impl<'a> Model for BodyRef<'a> {
 
     ghost use Rattle.version_parts.specs.Body.{scanned_body, IsScannedBody};
 
-    ghost view = { λ body. scanned_body body.list body.last };
+    ghost view = { λ body. scanned_body body.list };
 
-    ghost invariant = { λ body. IsScannedBody body.list body.last };
+    ghost invariant = { λ body. IsScannedBody body.list };
 }
 
 impl<'a> BodyRef<'a> {
@@ -150,8 +149,17 @@ impl<'a> BodyRef<'a> {
         ensures { option_map (λ r. (r.0, r.1.now)) result ≡ body_front i.now }
     {
         let (list, rest) = Dotted::scan::<Part>(i)?;
-        let (last, _) = LastRef::scan(list.last)?;
-        Some((BodyRef { list, last }, rest))
+        Some((BodyRef { list }, rest))
+    }
+
+    /// Its last part. Takes no memory.
+    pub fn last(&self) -> LastRef<'a>
+        ensures { plain_last_ref result ≡ self.now.1 }
+    {
+        match LastRef::scan(self.list.last) {
+            Some((last, _)) => last,
+            None => LastRef::Numeric(0),
+        }
     }
 
     /// Its parts as they compare. Takes no memory.
@@ -169,7 +177,7 @@ impl<'a> BodyRef<'a> {
         ensures err { OnErr result (BodyOwns self.now) }
     {
         let chunks = self.list.build::<Part>(alloc, self.list.count - 1)?;
-        let last = self.last.build(alloc)?;
+        let last = self.last().build(alloc)?;
         Ok((Chunks(chunks), last))
     }
 }
@@ -182,7 +190,7 @@ impl<'a> BodyRef<'a> {
     {
         let chunks = compare_elements::<Part>(self.chunks(), other.chunks());
         match chunks {
-            Ordering::Equal => self.last.compare(other.last),
+            Ordering::Equal => self.last().compare(other.last()),
             _ => chunks,
         }
     }
@@ -194,7 +202,7 @@ impl<'a> BodyRef<'a> {
             else option_and_then number_of (slice_get self.now.0 n)) }
     {
         if n == self.list.count - 1 {
-            return self.last.first_number();
+            return self.last().first_number();
         }
         nth_element::<Part>(self.chunks(), n)?.number()
     }
@@ -224,7 +232,7 @@ impl<'a> fmt::Display for BodyRef<'a> {
             write_elements::<Part, W>(self.chunks(), f)?;
             f.write_str(".")?;
         }
-        let last = self.last;
+        let last = self.last();
         write!(f, "{last}")
     }
 }

@@ -231,6 +231,7 @@ pub enum LastRef<'a> {
 
 impl<'a> LastRef<'a> {
     /// The last part that the part at the front of a text is, and the rest. Takes no memory.
+    #[tactic(auto, using(crate::proofs::ShortRuns::classes_with_digits))]
     pub fn scan(i: &'a str) -> Option<(LastRef<'a>, &'a str)>
         ensures { option_map (λ r. (plain_last_ref r.0, r.1.now)) result
             ≡ map_value last_of (part_front i.now) }

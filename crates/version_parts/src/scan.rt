@@ -1,16 +1,16 @@
 //! Scans: what a reader reads, as pieces of its input, without memory. The crate of the kinds stands on them.
 
-ghost use Rattle.std.specs.Prelude.{◌≡◌, ◌<◌, ◌^◌, List, drop, length, map, take, true, IfOk, IfSome, OnErr, Some, SomeIff};
+ghost use Rattle.std.specs.Prelude.{◌≡◌, ◌<◌, ◌^◌, List, drop, length, map, nat_lt, take, true, IfOk, IfSome, OnErr, Some, SomeIff};
 ghost use Rattle.std.specs.Option.{option_map};
 ghost use Rattle.std.specs.Char.{is_ascii_alphanumeric, is_ascii_digit};
 ghost use Rattle.std.specs.List.{list_all, prefix_len, take_while};
 ghost use Rattle.std.specs.Str.Parse.{digits_value};
 ghost use Rattle.version_parts.specs.Bytes.{dot, is_identifier_byte};
 ghost use Rattle.version_parts.specs.Class.{contains};
-ghost use Rattle.version_parts.specs.Front.{after_mark, behind, dotted_front, elements_at, run_front, Consumes, Front, Reads};
+ghost use Rattle.version_parts.specs.Front.{after_mark, begins, behind, dotted_front, elements_at, run_front, Consumes, Front, Reads};
 ghost use Rattle.version_parts.specs.Lists.{split_last};
 ghost use Rattle.version_parts.specs.Metadata.{meta_front};
-ghost use Rattle.version_parts.specs.Numeral.{unsigned_front};
+ghost use Rattle.version_parts.specs.Numeral.{unsigned_front, SpellsNumeral};
 ghost use Rattle.version_parts.specs.Sep.{plain_sep, sep_front};
 
 use crate::sep::Sep;
@@ -52,6 +52,27 @@ pub(crate) fn run_len(bytes: &[u8], class: Class) -> usize
         }
     }
     bytes.len()
+}
+
+// The longest run of a class at the front of some bytes, which may be empty, and the rest.
+#[tactic(auto, using(crate::proofs::Runs::runs_of_two))]
+#[inline(always)]
+pub(crate) fn split_bytes(bytes: &[u8], class: Class) -> (&[u8], &[u8])
+    ensures run { result.0.now ≡ take_while (contains class) bytes.now }
+    ensures rest { result.1.now ≡ drop (prefix_len (contains class) bytes.now) bytes.now }
+{
+    bytes.split_at(run_len(bytes, class))
+}
+
+// Whether a text begins with a byte of a class.
+#[inline(always)]
+pub(crate) fn begins_with(bytes: &[u8], class: Class) -> bool
+    ensures { result ≡ begins (contains class) bytes.now }
+{
+    match bytes {
+        [first, ..] => class.contains(*first),
+        [] => false,
+    }
 }
 
 // The longest run of a class at the front of a text, which may be empty, and the rest.
@@ -98,15 +119,59 @@ pub fn after_mark(i: &str, mark: u8) -> Option<&str>
 /// The number at the start of a text, and the rest. A text that starts with `0` gives 0 and leaves all after that one
 /// digit; else the longest run of digits is read whole. None without a digit, and for a value above 4294967295. Takes
 /// no memory.
-#[tactic(auto, unfolding(crate::specs::Numeral::unsigned_front))]
 pub fn unsigned(i: &str) -> Option<(u32, &str)>
     ensures { option_map (λ r. (r.0, r.1.now)) result ≡ unsigned_front i.now }
 {
+    let (digits, rest) = numeral(i)?;
+    Some((value_of_numeral(digits), rest))
+}
+
+// The numeral at the start of a text, which is read as a number is, by its digits, and the rest.
+#[tactic(auto, using(crate::proofs::NumeralReading::numerals_read))]
+#[inline(always)]
+pub(crate) fn numeral(i: &str) -> Option<(&str, &str)>
+    ensures read { option_map (λ r. (digits_value 10 r.0.now, r.1.now)) result
+        ≡ unsigned_front i.now }
+    ensures numeral { IfSome result
+        (λ r. SpellsNumeral r.0.now (digits_value 10 r.0.now)) }
+{
     if let Some(rest) = after_mark(i, b'0') {
-        return Some((0, rest));
+        return Some(("0", rest));
     }
-    let (digits, rest) = nonempty_run(i, Class::Digit)?;
-    Some((value_of(digits)?, rest))
+    let Some((digits, rest)) = nonempty_run(i, Class::Digit) else {
+        return None;
+    };
+    if is_below_limit(digits) {
+        return Some((digits, rest));
+    }
+    None
+}
+
+// Whether the value of a run of digits is below 2 ^ 32, as that of nine digits is.
+#[tactic(auto, using(crate::proofs::NumeralReading::nine_digits))]
+#[inline(always)]
+fn is_below_limit(digits: &str) -> bool
+    requires some { 0 < length digits.now }
+    requires all { list_all is_ascii_digit digits.now ≡ true }
+    ensures { result ≡ nat_lt (digits_value 10 digits.now) (2 ^ 32) }
+{
+    if digits.len() < 10 {
+        return true;
+    }
+    value_of(digits).is_some()
+}
+
+// The value of a numeral.
+#[inline(always)]
+pub(crate) fn value_of_numeral(digits: &str) -> u32
+    requires { SpellsNumeral digits.now (digits_value 10 digits.now) }
+    ensures { result ≡ digits_value 10 digits.now }
+{
+    let mut value = 0;
+    for digit in digits.as_bytes() {
+        value = value * 10 + u32::from(*digit - b'0');
+    }
+    value
 }
 
 /// The longest nonempty run of letters and digits at the start of a text, and the rest. Takes no memory.

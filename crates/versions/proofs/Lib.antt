@@ -24,7 +24,6 @@ pub mod SemVerReading
 pub mod SortKey
 pub mod SpelledTexts
 pub mod SpelledKey
-pub mod SpelledMatch
 pub mod Tail
 pub mod Texts
 pub mod VersionMatch

@@ -1,7 +1,6 @@
 -- Which versions a requirement asks for, and a list of requirements.
 use Rattle.std.specs.Prelude.{◌≡◌, ◌↔◌, ⊤, Bool, List, Option, None, Some, IsTrue, MatchOption}
 use Rattle.std.specs.List.{All}
-use Rattle.std.specs.Option.{IsSomeAnd}
 use Rattle.std.specs.Ordering.{eq_by_cmp}
 use Rattle.std.specs.declared.cmp.Ordering.{Ordering}
 use Rattle.std.specs.declared.cmp.Ordering.TheVariants as ordering
@@ -15,7 +14,7 @@ use Rattle.versions.specs.SemVerMatch.{numbers}
 use Rattle.versions.specs.SemVerOrder.{semver_cmp}
 use Rattle.versions.specs.VersionMatch as general
 use Rattle.versions.specs.VersionMatch.{epoch_and_parts}
-use Rattle.versions.specs.Versioning.{PlainVersioning, Ideal, General, kind_rank, versioning_plain_cmp}
+use Rattle.versions.specs.Versioning.{PlainVersioning, Ideal, General, versioning_plain_cmp}
 
 -- two strict versions, or two general ones, by the rule of their kind
 abbrev pub MatchesTilde : PlainVersioning → PlainVersioning → Type 0
@@ -58,21 +57,6 @@ AsksOrder GreaterEq order = ¬ (order ≡ ordering.Less)
 AsksOrder Less order = order ≡ ordering.Less
 AsksOrder LessEq order = ¬ (order ≡ ordering.Greater)
 AsksOrder _ order = ⊥
-
--- an operator that looks at the version itself, and not at its key alone
-abbrev pub LooksAtVersions : Op → Type 0
-LooksAtVersions Exact = ⊤
-LooksAtVersions Tilde = ⊤
-LooksAtVersions Caret = ⊤
-LooksAtVersions _ = ⊥
-
--- a version of the kind that is wanted
-abbrev pub IsOfKind : PlainVersioning → PlainVersioning → Type 0
-IsOfKind wanted v = kind_rank v ≡ kind_rank wanted
-
--- a requirement that looks at a version itself: by such an operator, before a version of that kind
-abbrev pub LooksAt : PlainRequirement → PlainVersioning → Type 0
-LooksAt r v = LooksAtVersions r.op × IsSomeAnd r.version (λ wanted. IsOfKind wanted v)
 
 -- the answer for what a text spells: none where that is no version, else whether the set has it
 abbrev pub AnswersFor : (PlainVersioning → Type 0) → Option Bool → Option PlainVersioning → Type 0

@@ -22,6 +22,7 @@ ghost use Rattle.versions.specs.Versioning.{plain_versioning, versioning_of};
 
 mod list;
 mod sections;
+pub(crate) mod short;
 mod tail;
 
 use crate::mess::{self, Mess};

@@ -4,18 +4,15 @@ ghost use Rattle.std.specs.Prelude.{◌≡◌, ◌↔◌, IfOk, IfSome, IsSomeAn
 ghost use Rattle.std.specs.Option.{is_some, option_map};
 ghost use Rattle.version_parts.specs.Front.{Reads};
 ghost use Rattle.versions.specs.Errors.{IllegalOp, ReadsOr};
-ghost use Rattle.versions.specs.Matching.{AnswersFor, IsConvex, IsOfKind, LooksAt, LooksAtVersions, Matches, MatchesCaret, MatchesOp, MatchesTilde};
+ghost use Rattle.versions.specs.Matching.{IsConvex, Matches, MatchesCaret, MatchesOp, MatchesTilde};
 ghost use Rattle.versions.specs.Requirement.{plain_requirement, requirement_front, requirement_of, requirement_text, PlainRequirement, RequirementOwns, SpellsRequirement};
-ghost use Rattle.versions.specs.VersioningRef.{plain_versioning_ref};
-ghost use Rattle.versions.specs.Versioning.{plain_versioning, versioning_of};
+ghost use Rattle.versions.specs.Versioning.{plain_versioning};
 ghost use Rattle.versions.specs.declared.op.Op.TheVariants.{Wildcard};
 
 use crate::errors::{Error, ReadError};
-use crate::key::compare_keys;
 use crate::op::Op;
 use crate::reading::or_illegal;
 use crate::versioning::Versioning;
-use crate::versioning_ref::VersioningRef;
 use std::alloc::{AllocError, Global};
 use std::fmt;
 
@@ -121,40 +118,6 @@ impl Requirement {
         }
     }
 
-    /// Whether it asks for the version that the whole text spells; None where it spells none. A comparison (`>`, `>=`,
-    /// `<`, `<=`) is held against the key of the text, and `*` asks for any, without memory; `=`, `~` and `^` ask for
-    /// versions of one kind, and look at one of that kind itself, where the error is that there is no memory for it.
-    pub fn matches_spelled(&self, alloc: Global, s: &str) -> Result<Option<bool>, AllocError>
-        ensures set { IfOk result (λ answer. AnswersFor
-            (Matches (plain_requirement self.now)) answer (versioning_of s.now)) }
-
-        // Memory is wanted only where the text spells a version that is looked at itself.
-        ensures memory { OnErr result
-            (IsSomeAnd (versioning_of s.now) (LooksAt (plain_requirement self.now))) }
-    {
-        match VersioningRef::new(s) {
-            Some(spelled) => Ok(Some(self.matches_scanned(alloc, &spelled)?)),
-            None => Ok(None),
-        }
-    }
-
-    // Whether it asks for the version that was scanned.
-    pub(crate) fn matches_scanned(
-        &self,
-        alloc: Global,
-        spelled: &VersioningRef<'_>,
-    ) -> Result<bool, AllocError>
-        ensures set { IfOk result (λ asked. IsTrue asked
-            ↔ Matches (plain_requirement self.now) (plain_versioning_ref spelled.now)) }
-        ensures memory { OnErr result
-            (LooksAt (plain_requirement self.now) (plain_versioning_ref spelled.now)) }
-    {
-        match &self.version {
-            Some(wanted) => asks_for_scanned(alloc, self.op, wanted, spelled),
-            None => Ok(self.op == Op::Wildcard),
-        }
-    }
-
     // An operator before a version.
     fn of(op: Op, version: Versioning) -> Requirement
         ensures { plain_requirement result
@@ -205,34 +168,6 @@ fn asks_for(op: Op, wanted: &Versioning, version: &Versioning) -> bool
         Op::Tilde => matches_tilde(wanted, version),
         Op::Caret => matches_caret(wanted, version),
         Op::Wildcard => true,
-    }
-}
-
-// Whether an operator before one version asks for the one that was scanned.
-#[tactic(auto, using(crate::proofs::SpelledMatch::held_against_scanned))]
-fn asks_for_scanned(
-    alloc: Global,
-    op: Op,
-    wanted: &Versioning,
-    spelled: &VersioningRef<'_>,
-) -> Result<bool, AllocError>
-    ensures set { IfOk result (λ asked. IsTrue asked
-        ↔ MatchesOp op (plain_versioning wanted.now) (plain_versioning_ref spelled.now)) }
-    ensures memory { OnErr result (LooksAtVersions op
-        × IsOfKind (plain_versioning wanted.now) (plain_versioning_ref spelled.now)) }
-{
-    match op {
-        Op::Greater | Op::GreaterEq | Op::Less | Op::LessEq => {
-            let order = compare_keys(spelled.key_bytes(), wanted.key_bytes());
-            Ok(op.asks_order(order))
-        }
-        Op::Exact | Op::Tilde | Op::Caret => {
-            if !spelled.is_of_kind(wanted) {
-                return Ok(false);
-            }
-            Ok(asks_for(op, wanted, &spelled.to_owned(alloc)?))
-        }
-        Op::Wildcard => Ok(true),
     }
 }
 

@@ -1,19 +1,17 @@
 //! Lists of requirements, as `>=1.1.1,<2.0.0`.
 
-ghost use Rattle.std.specs.Prelude.{◌≡◌, ◌↔◌, IfOk, IfSome, IsSome, IsSomeAnd, IsTrue, List, OnErr, Some};
-ghost use Rattle.std.specs.List.{Any};
+ghost use Rattle.std.specs.Prelude.{◌≡◌, ◌↔◌, IfOk, IfSome, IsSome, IsTrue, List, OnErr, Some};
 ghost use Rattle.std.specs.Option.{is_some, option_map};
 ghost use Rattle.versions.specs.Errors.{IllegalOp, ReadsOr};
-ghost use Rattle.versions.specs.Matching.{AnswersFor, IsConvex, LooksAt, MatchesAll};
+ghost use Rattle.versions.specs.Matching.{IsConvex, MatchesAll};
 ghost use Rattle.versions.specs.Requirement.{plain_requirement, PlainRequirement};
 ghost use Rattle.versions.specs.Requirements.{plain_requirements, requirements_of, requirements_text, SpellsRequirements};
-ghost use Rattle.versions.specs.Versioning.{plain_versioning, versioning_of};
+ghost use Rattle.versions.specs.Versioning.{plain_versioning};
 
 use crate::errors::{Error, ReadError};
 use crate::reading::or_illegal;
 use crate::requirement::Requirement;
 use crate::versioning::Versioning;
-use crate::versioning_ref::VersioningRef;
 use std::alloc::{AllocError, Global};
 use std::fmt;
 
@@ -88,31 +86,6 @@ impl Requirements {
             }
         }
         true
-    }
-}
-
-impl Requirements {
-    /// Whether each member asks for the version that the whole text spells; None where it spells none. The text is scanned
-    /// once, and the members are held against it in turn, up to the first that doesn't ask for it: comparisons against
-    /// its key and `*` without memory, and `=`, `~` and `^` against the version itself, where that is of the kind that
-    /// they ask for; the error is that there is no memory for it.
-    pub fn matches_spelled(&self, alloc: Global, s: &str) -> Result<Option<bool>, AllocError>
-        ensures set { IfOk result (λ answer. AnswersFor
-            (MatchesAll (plain_requirements self.now)) answer (versioning_of s.now)) }
-
-        // Memory is wanted only where the text spells a version that a member looks at itself.
-        ensures memory { OnErr result (IsSomeAnd (versioning_of s.now)
-            (λ v. Any (λ r. LooksAt (plain_requirement r) v) self.now.0.items)) }
-    {
-        let Some(spelled) = VersioningRef::new(s) else {
-            return Ok(None);
-        };
-        for requirement in &self.0 {
-            if !requirement.matches_scanned(alloc, &spelled)? {
-                return Ok(Some(false));
-            }
-        }
-        Ok(Some(true))
     }
 }
 

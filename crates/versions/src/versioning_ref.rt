@@ -1,19 +1,19 @@
 //! Versions of any kind, read off the texts that spell them.
 
-ghost use Rattle.std.specs.Prelude.{◌≡◌, ◌↔◌, refl, IfOk, IsTrue, OnErr, Some};
+ghost use Rattle.std.specs.Prelude.{◌≡◌, ◌++◌, refl, IfOk, IfSome, OnErr, OnOk, Some};
 ghost use Rattle.std.specs.Cmp.{eq_by_cmp_equiv, on_equiv, on_per, on_total, partial_equiv_from_equiv, po};
 ghost use Rattle.std.specs.Option.{option_map};
 ghost use Rattle.std.specs.Ordering.{as_partial_cmp, eq_by_cmp, on};
 ghost use Rattle.versions.specs.Key.{key_of, precedence};
 ghost use Rattle.versions.specs.KeyBytes.{key_bytes};
 ghost use Rattle.versions.specs.Kind.{versioning_kind};
-ghost use Rattle.versions.specs.Matching.{IsOfKind};
 ghost use Rattle.versions.specs.Orders.{versioning_cmp};
 ghost use Rattle.versions.specs.OrdersLaws.{versioning_cmp_ties, versioning_cmp_total};
 ghost use Rattle.versions.specs.VersioningRef.{plain_versioning_ref};
 ghost use Rattle.versions.specs.Versioning.{kind_rank, plain_versioning, versioning_nth, versioning_of, versioning_plain_cmp, versioning_text, VersioningOwns};
 ghost use Rattle.versions.specs.VersioningLaws.{versioning_plain_total};
 
+use crate::key::short::{put_mess, put_semver, put_version};
 use crate::key::{KeyBytes, compare_keys};
 use crate::kind::Kind;
 use crate::mess::MessRef;
@@ -23,6 +23,7 @@ use crate::versioning::Versioning;
 use std::alloc::{AllocError, Global};
 use std::cmp::Ordering;
 use std::{fmt, str};
+use version_parts::key::{NotShort, ShortKey};
 
 /// A version of the first kind that fits its text, read off that text: a [`Versioning`] that owns nothing and lives as
 /// long as the text. It compares, prints and counts as that one does. No call but `to_owned` takes memory, and each
@@ -95,7 +96,49 @@ impl<'a> VersioningRef<'a> {
         ensures { result ≡ precedence (key_of (plain_versioning_ref self.now))
             (key_of (plain_versioning_ref other.now)) }
     {
+        if let (Some(key), Some(other_key)) = (self.short_key(), other.short_key()) {
+            return key.as_slice().cmp(other_key.as_slice());
+        }
         compare_keys(self.key_bytes(), other.key_bytes())
+    }
+
+    /// Puts the bytes of its key behind those of a list. The error is that there is no memory for all of them; the list
+    /// then has a beginning of them behind its own.
+    pub fn append_key(&self, list: &mut Vec<u8>) -> Result<(), AllocError>
+        ensures ok { OnOk result (list.new.items
+            ≡ list.old.items ++ key_bytes (key_of (plain_versioning_ref self.now))) }
+    {
+        match self.short_key() {
+            Some(key) => list.extend_from_slice(key.as_slice()),
+            None => self.key_bytes().append_to(list),
+        }
+    }
+
+    /// The bytes of its key in an array, which is the quickest way to them. None where it has no room for them: it has room
+    /// for 128, and a caller then goes by `key_bytes`. Takes no memory.
+    #[inline(always)]
+    pub fn short_key(&self) -> Option<ShortKey>
+        ensures { IfSome result (λ key. key.items
+            ≡ key_bytes (key_of (plain_versioning_ref self.now))) }
+    {
+        let mut key = ShortKey::new();
+        match self.put_key(&mut key) {
+            Ok(()) => Some(key),
+            Err(NotShort) => None,
+        }
+    }
+
+    // Puts its key behind what a short key has.
+    #[inline(always)]
+    fn put_key(&self, key: &mut ShortKey) -> Result<(), NotShort>
+        ensures { OnOk result (key.new.items
+            ≡ key.old.items ++ key_bytes (key_of (plain_versioning_ref self.now))) }
+    {
+        match self {
+            VersioningRef::Ideal(ideal) => put_semver(key, ideal),
+            VersioningRef::General(general) => put_version(key, general),
+            VersioningRef::Complex(complex) => put_mess(key, complex),
+        }
     }
 
     /// How two versions compare by their kinds, and then field by field, which breaks the ties of precedence. Takes no
@@ -132,19 +175,6 @@ impl<'a> VersioningRef<'a> {
             VersioningRef::Ideal(ideal) => KeyBytes::of_semver_ref(ideal),
             VersioningRef::General(general) => KeyBytes::of_version_ref(general),
             VersioningRef::Complex(complex) => KeyBytes::of_mess_ref(complex),
-        }
-    }
-
-    // Whether it is of the kind of a version.
-    pub(crate) fn is_of_kind(&self, version: &Versioning) -> bool
-        ensures { IsTrue result
-            ↔ IsOfKind (plain_versioning version.now) (plain_versioning_ref self.now) }
-    {
-        match (self, version) {
-            (VersioningRef::Ideal(_), Versioning::Ideal(_)) => true,
-            (VersioningRef::General(_), Versioning::General(_)) => true,
-            (VersioningRef::Complex(_), Versioning::Complex(_)) => true,
-            _ => false,
         }
     }
 

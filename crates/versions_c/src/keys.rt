@@ -4,12 +4,14 @@ ghost use Rattle.std.specs.Prelude.{◌≡◌, ◌≢◌, ◌↔◌, ◌+◌, �
 ghost use Rattle.versions.specs.Key.{key_of};
 ghost use Rattle.versions.specs.KeyBytes.{key_bytes};
 ghost use Rattle.versions.specs.Versioning.{versioning_of, PlainVersioning};
+ghost use Rattle.versions.specs.VersioningRef.{plain_versioning_ref};
 ghost use Rattle.versions_c.specs.Keys.{all_keys, key_status, keys_before, length_past, put_at, room_for, room_status, saturated, saturated_offset, spelled_key, AreKeyOffsets};
 ghost use Rattle.versions_c.specs.Offsets.{AreOffsets};
 
 use crate::offsets::{are_offsets, text_at};
 use crate::spelled::key_of;
 use crate::status::{BAD_OFFSETS, NO_ROOM, NO_VERSION, OK};
+use versions::VersioningRef;
 use versions::key::KeyBytes;
 
 // The largest offset that C has.
@@ -44,10 +46,10 @@ pub extern "C" fn versions_sort_key(text: &[u8], key: &mut [u8], key_len: &mut u
         *key_len = length;
         return NO_ROOM;
     }
-    let Some(bytes) = key_of(text) else {
+    let Some(version) = VersioningRef::from_bytes(text) else {
         return NO_VERSION;
     };
-    *key_len = put(key, 0, bytes);
+    *key_len = put_key(key, 0, &version);
     OK
 }
 
@@ -111,8 +113,8 @@ fn put_all(
     let mut end: usize = 0;
     key_offsets[0] = 0;
     for place in 0..count {
-        if let Some(key) = key_of(text_at(texts, offsets, count, place)) {
-            end = put(keys, end, key);
+        if let Some(version) = VersioningRef::from_bytes(text_at(texts, offsets, count, place)) {
+            end = put_key(keys, end, &version);
         }
         key_offsets[place + 1] = (end as u64).min(LARGEST);
     }
@@ -150,6 +152,37 @@ fn length_of(key: KeyBytes<'_>) -> usize
         length = length.saturating_add(1);
     }
     length
+}
+
+// Writes the key of a version from a place on, as far as there is room, and gives the place behind it.
+fn put_key(keys: &mut [u8], start: usize, version: &VersioningRef<'_>) -> usize
+    ensures bytes { keys.new ≡ put_at keys.old start
+        (key_bytes (key_of (plain_versioning_ref version.now))) }
+    ensures end { result ≡ saturated (start
+        + length (key_bytes (key_of (plain_versioning_ref version.now)))) }
+{
+    match version.short_key() {
+        Some(key) => put_bytes(keys, start, key.as_slice()),
+        None => put(keys, start, version.key_bytes()),
+    }
+}
+
+// Writes bytes from a place on, as far as there is room, and gives the place behind them.
+#[tactic(auto, using(crate::proofs::Putting::put_nothing, crate::proofs::Putting::put_past, crate::proofs::Putting::put_first))]
+fn put_bytes(keys: &mut [u8], start: usize, bytes: &[u8]) -> usize
+    ensures bytes { keys.new ≡ put_at keys.old start bytes.now }
+    ensures end { result ≡ saturated (start + length bytes.now) }
+{
+    let mut end = start;
+    let mut rest = bytes;
+    while let Some((byte, behind)) = rest.split_first() {
+        if end < keys.len() {
+            keys[end] = *byte;
+        }
+        end = end.saturating_add(1);
+        rest = behind;
+    }
+    end
 }
 
 // Writes a key from a place on, as far as there is room, and gives the place behind it.

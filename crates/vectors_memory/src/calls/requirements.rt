@@ -19,18 +19,6 @@ pub fn make_all(table: &mut Table<'_>) -> io::Result<()> {
         Requirement::new,
         Requirement::clone,
     )?;
-    table.borrows(
-        "Requirement::matches_spelled",
-        "^1.2.3",
-        Requirement::new,
-        |wanted: &Requirement, alloc| wanted.matches_spelled(alloc, "1.4.0-rc"),
-    )?;
-    table.borrows(
-        "Requirement::matches_spelled, without memory",
-        TEXT,
-        Requirement::new,
-        |wanted: &Requirement, alloc| wanted.matches_spelled(alloc, "1:3_a"),
-    )?;
     table.reads("Requirement::new, without memory", "*", Requirement::new)?;
     table.reads(
         "Requirement::new, without memory",
@@ -45,12 +33,6 @@ pub fn make_all(table: &mut Table<'_>) -> io::Result<()> {
         LIST,
         Requirements::new,
         Requirements::clone,
-    )?;
-    table.borrows(
-        "Requirements::matches_spelled",
-        LIST,
-        Requirements::new,
-        |wanted: &Requirements, alloc| wanted.matches_spelled(alloc, "2.b"),
     )?;
     table.reads(
         "Requirements::new, without memory",

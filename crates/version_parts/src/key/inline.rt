@@ -77,6 +77,15 @@ impl InlineBytes {
         self.put(byte);
     }
 
+    /// Becomes two bytes.
+    #[inline(always)]
+    pub(crate) fn set_two(&mut self, first: u8, second: u8)
+        ensures { self.new ≡ first ∷ second ∷ [] }
+    {
+        self.set_byte(second);
+        self.put(first);
+    }
+
     /// Becomes a plain number as a part.
     #[inline(always)]
     pub(crate) fn set_plain_part(&mut self, number: u32)

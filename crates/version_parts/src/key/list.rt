@@ -1,9 +1,9 @@
 //! Lists in keys: their items one after another, off a list or off the text that spells it, and their end.
 
-ghost use Rattle.std.specs.Prelude.{◌≡◌, ◌∷◌, ◌++◌, [], List, ℕ, Option, Some, None, map, take, if◌then◌else◌, IfNone};
+ghost use Rattle.std.specs.Prelude.{◌≡◌, ◌∷◌, ◌++◌, [], List, ℕ, Option, Some, None, map, take, if◌then◌else◌, IfNone, IfOk, OnOk};
 ghost use Rattle.std.specs.Iterator.{item_count, YieldsFirst};
 ghost use Rattle.version_parts.specs.Bytes.{is_identifier_byte};
-ghost use Rattle.version_parts.specs.Chunk.{chunk_front, chunk_text, plain_chunk, PlainChunk};
+ghost use Rattle.version_parts.specs.Chunk.{chunk_front, chunk_of_text, chunk_text, plain_chunk, IsChunkText, PlainChunk};
 ghost use Rattle.version_parts.specs.Codes.{items_bytes, list_bytes};
 ghost use Rattle.version_parts.specs.Front.{elements_at, map_value, Consumes, Front};
 ghost use Rattle.version_parts.specs.FrontLaws.{chunk_consumes};
@@ -14,8 +14,9 @@ ghost use Rattle.version_parts.specs.Pieces.{IsNext};
 ghost use Rattle.version_parts.specs.PartKey.{chunk_parts, mchunk_key_front, part_bytes, part_key, part_key_front, parts_bytes, section_parts, PartKey};
 ghost use Rattle.version_parts.specs.ReleaseOrder.{chunk_bytes};
 
-use crate::chunk::{Chunk, ChunkRef, Part, ReleaseChunk};
+use crate::chunk::{Chunk, ChunkText, Part, ReleaseChunk};
 use crate::key::PieceBytes;
+use crate::key::short::{NotShort, ShortKey, put_byte, put_numeral, put_part, put_text};
 use crate::mchunk::{MChunk, MessyChunk};
 use crate::scan::{Class, Dotted, Element, after_mark, nonempty_run};
 use std::marker::Model;
@@ -42,6 +43,12 @@ pub trait Code: Element {
         ensures read { option_map (λ rest. (piece.new, rest.now)) result
             ≡ map_value (λ key. bytes (Some key)) (key_front i.now) }
         ensures unread { IfNone result (piece.new ≡ piece.old) };
+
+    /// Puts the item at the front of a text behind a short key, and gives the rest. Takes no memory.
+    fn put_front<'a>(short: &mut ShortKey, i: &'a str) -> Result<&'a str, NotShort>
+        ensures { IfOk result (λ rest. (put : List ℕ)
+            × (short.new.items ≡ short.old.items ++ put)
+            × (Some (put, rest.now) ≡ map_value (λ key. bytes (Some key)) (key_front i.now))) };
 
     /// The byte behind the last item.
     fn end() -> u8
@@ -122,6 +129,40 @@ impl<'a, C: Code> ItemsLeft<'a, C> {
     }
 }
 
+impl<'a, C: Code> ItemsLeft<'a, C> {
+    /// Puts what is still to come behind a short key, where it lies in a text. Takes no memory.
+    #[inline(always)]
+    pub fn put(self, key: &mut ShortKey) -> Result<(), NotShort>
+        ensures { OnOk result (key.new.items ≡ key.old.items ++ self.entry) }
+    {
+        let mut left = self;
+        while left.put_next(key)? {}
+        Ok(())
+    }
+
+    // Puts the next item behind a short key, where there is one and it lies in a text.
+    #[inline(always)]
+    fn put_next(&mut self, key: &mut ShortKey) -> Result<bool, NotShort>
+        ensures { IfOk result (λ more. (put : List ℕ) × (key.new.items ≡ key.old.items ++ put)
+            × IsNext more self.old self.new [] put) }
+    {
+        if !self.items.is_empty() {
+            return Err(NotShort);
+        }
+        if self.count == 0 {
+            return Ok(false);
+        }
+        let rest = C::put_front(key, self.text)?;
+        let Some(next) = after_mark(rest, b'.') else {
+            self.count = 0;
+            return Ok(true);
+        };
+        self.text = next;
+        self.count -= 1;
+        Ok(true)
+    }
+}
+
 /// What is still to come of a list: its items, and its end. It takes no memory.
 #[derive(Drop)]
 pub struct ListLeft<'a, C: Code> {
@@ -172,6 +213,20 @@ impl<'a, C: Code> ListLeft<'a, C> {
         self.ended = true;
         piece.set_byte(C::end());
         true
+    }
+}
+
+impl<'a, C: Code> ListLeft<'a, C> {
+    /// Puts what is still to come behind a short key, where it lies in a text. Takes no memory.
+    #[inline(always)]
+    pub fn put(self, key: &mut ShortKey) -> Result<(), NotShort>
+        ensures { OnOk result (key.new.items ≡ key.old.items ++ self.entry) }
+    {
+        self.items.put(key)?;
+        if !self.ended {
+            put_byte(key, C::end())?;
+        }
+        Ok(())
     }
 }
 
@@ -252,10 +307,21 @@ impl Code for Part {
     }
 
     #[inline(always)]
+    #[tactic(auto, using(crate::proofs::ShortRuns::classes_with_digits))]
     fn set_front_piece<'a>(piece: &mut PieceBytes<'a>, i: &'a str) -> Option<&'a str> {
-        let (chunk, rest) = ChunkRef::scan(i, Class::Alphanumeric)?;
-        piece.set_chunk_as_part(chunk);
+        let (chunk, rest) = ChunkText::scan(i, Class::Alphanumeric)?;
+        piece.set_chunk_text_as_part(chunk);
         Some(rest)
+    }
+
+    #[inline(always)]
+    #[tactic(auto, using(crate::proofs::ShortRuns::classes_with_digits))]
+    fn put_front<'a>(short: &mut ShortKey, i: &'a str) -> Result<&'a str, NotShort> {
+        let Some((chunk, rest)) = ChunkText::scan(i, Class::Alphanumeric) else {
+            return Err(NotShort);
+        };
+        put_part(short, chunk.text().as_bytes())?;
+        Ok(rest)
     }
 
     fn end() -> u8 {
@@ -290,6 +356,15 @@ impl Code for MessyChunk {
         Some(rest)
     }
 
+    #[inline(always)]
+    fn put_front<'a>(short: &mut ShortKey, i: &'a str) -> Result<&'a str, NotShort> {
+        let Some((run, rest)) = nonempty_run(i, Class::Alphanumeric) else {
+            return Err(NotShort);
+        };
+        put_part(short, run.as_bytes())?;
+        Ok(rest)
+    }
+
     fn end() -> u8 {
         2
     }
@@ -315,13 +390,43 @@ impl Code for ReleaseChunk {
     }
 
     #[inline(always)]
+    #[tactic(auto, using(crate::proofs::ShortRuns::classes_with_digits))]
     fn set_front_piece<'a>(piece: &mut PieceBytes<'a>, i: &'a str) -> Option<&'a str> {
-        let (chunk, rest) = ChunkRef::scan(i, Class::Identifier)?;
-        piece.set_chunk(chunk);
+        let (chunk, rest) = ChunkText::scan(i, Class::Identifier)?;
+        piece.set_chunk_text(chunk);
         Some(rest)
+    }
+
+    #[inline(always)]
+    #[tactic(auto, using(crate::proofs::ShortRuns::classes_with_digits))]
+    fn put_front<'a>(short: &mut ShortKey, i: &'a str) -> Result<&'a str, NotShort> {
+        let Some((chunk, rest)) = ChunkText::scan(i, Class::Identifier) else {
+            return Err(NotShort);
+        };
+        put_chunk(short, chunk)?;
+        Ok(rest)
     }
 
     fn end() -> u8 {
         1
+    }
+}
+
+// Puts a chunk of a release behind a short key.
+#[inline(always)]
+fn put_chunk(key: &mut ShortKey, chunk: ChunkText<'_>) -> Result<(), NotShort>
+    requires { IsChunkText chunk }
+    ensures { OnOk result (key.new.items
+        ≡ key.old.items ++ chunk_bytes (Some (chunk_of_text chunk.entry))) }
+{
+    match chunk {
+        ChunkText::Numeral(digits) => {
+            put_byte(key, 2)?;
+            put_numeral(key, digits)
+        }
+        ChunkText::Alphanum(text) => {
+            put_byte(key, 3)?;
+            put_text(key, text.as_bytes())
+        }
     }
 }

@@ -1,17 +1,19 @@
 //! The bytes of one piece of a key: of a part, of a number or of a text.
 
-ghost use Rattle.std.specs.Prelude.{◌≡◌, ◌∷◌, ◌++◌, [], List, ℕ, Some, None, OnErr, OnOk};
+ghost use Rattle.std.specs.Prelude.{◌≡◌, ◌<◌, ◌≤◌, ◌∷◌, ◌++◌, [], length, List, ℕ, Some, None, OnErr, OnOk};
 ghost use Rattle.std.specs.Iterator.{item_count, YieldsFirst};
-ghost use Rattle.version_parts.specs.Chunk.{chunk_text, plain_chunk_ref};
+ghost use Rattle.std.specs.Str.Parse.{digits_value};
+ghost use Rattle.version_parts.specs.Chunk.{chunk_of_text, chunk_text, plain_chunk_ref, IsChunkText};
 ghost use Rattle.version_parts.specs.DigitRun.{run_value};
 ghost use Rattle.version_parts.specs.Lists.{Growing, GrowsWithin};
 ghost use Rattle.version_parts.specs.NumberBytes.{number_bytes};
+ghost use Rattle.version_parts.specs.Numeral.{SpellsNumeral};
 ghost use Rattle.version_parts.specs.PartKey.{part_bytes, part_key, Number};
 ghost use Rattle.version_parts.specs.Pieces.{GonePast, after_number_bytes, place_bytes};
 ghost use Rattle.version_parts.specs.ReleaseOrder.{chunk_bytes};
 ghost use Rattle.version_parts.specs.TextBytes.{text_bytes};
 
-use crate::chunk::ChunkRef;
+use crate::chunk::{ChunkRef, ChunkText};
 use crate::key::PartText;
 use crate::key::inline::InlineBytes;
 use crate::key::place::{AfterNumber, Place, run_step};
@@ -208,6 +210,66 @@ impl<'a> PieceBytes<'a> {
         }
     }
 
+    // Becomes the bytes of a chunk of a release, as it stands in its text.
+    #[tactic(auto, using(crate::proofs::PieceBytes::alone))]
+    #[inline(always)]
+    pub(crate) fn set_chunk_text(&mut self, chunk: ChunkText<'a>)
+        requires { IsChunkText chunk }
+        ensures { self.new ≡ chunk_bytes (Some (chunk_of_text chunk.entry)) }
+    {
+        match chunk {
+            ChunkText::Numeral(digits) => {
+                let digits = counted_digits(digits);
+                self.set_digits(2, digits);
+            }
+            ChunkText::Alphanum(text) => {
+                self.ready.set_byte(3);
+                self.run = &[];
+                self.text.set_text(text);
+                self.place = Place::Rest(AfterNumber::Text);
+            }
+        }
+    }
+
+    // Becomes the bytes of a chunk as a part, as it stands in its text.
+    #[tactic(auto, using(crate::proofs::Numbers::numeral_part))]
+    #[inline(always)]
+    pub(crate) fn set_chunk_text_as_part(&mut self, chunk: ChunkText<'a>)
+        requires { IsChunkText chunk }
+        ensures { self.new ≡ part_bytes (Some (part_key (chunk_text (chunk_of_text chunk.entry)))) }
+    {
+        match chunk {
+            ChunkText::Numeral(digits) => {
+                self.set_ended_digits(3, counted_digits(digits), 2);
+            }
+            ChunkText::Alphanum(text) => self.set_text_part(text),
+        }
+    }
+
+    // Becomes a mark, how many digits there are, and these.
+    #[tactic(auto, unfolding(crate::specs::Pieces::place_bytes, crate::specs::Pieces::after_number_bytes))]
+    #[inline(always)]
+    fn set_digits(&mut self, mark: u8, digits: &'a [u8])
+        requires { length digits.now < 256 }
+        ensures { self.new ≡ mark ∷ length digits.now ∷ digits.now }
+    {
+        self.ready.set_two(mark, digits.len() as u8);
+        self.run = digits;
+        self.place = Place::Rest(AfterNumber::Nothing);
+    }
+
+    // Becomes a mark, how many digits there are, these, and a byte behind them.
+    #[tactic(auto, unfolding(crate::specs::Pieces::place_bytes))]
+    #[inline(always)]
+    fn set_ended_digits(&mut self, mark: u8, digits: &'a [u8], end: u8)
+        requires { length digits.now < 256 }
+        ensures { self.new ≡ mark ∷ length digits.now ∷ (digits.now ++ end ∷ []) }
+    {
+        self.ready.set_two(mark, digits.len() as u8);
+        self.run = digits;
+        self.place = Place::End(end);
+    }
+
     /// Goes past bytes at the front of both that are the same, perhaps not all of them. Takes no memory.
     #[inline(always)]
     pub fn pass_same(&mut self, other: &mut PieceBytes<'_>)
@@ -269,6 +331,21 @@ impl<'a> Iterator for PieceBytes<'a> {
         }
         (self.run, self.place) = run_step(step.place, &mut self.text);
         Some(step.byte)
+    }
+}
+
+// The digits of a numeral that count: 0 has none.
+#[tactic(auto, using(crate::proofs::Numbers::numeral_bytes))]
+#[inline(always)]
+pub(crate) fn counted_digits(numeral: &str) -> &[u8]
+    requires { SpellsNumeral numeral.now (digits_value 10 numeral.now) }
+    ensures bytes { number_bytes (digits_value 10 numeral.now)
+        ≡ length result.now ∷ result.now }
+    ensures short { length result.now ≤ 10 }
+{
+    match numeral.as_bytes() {
+        [b'0', ..] => &[],
+        digits => digits,
     }
 }
 

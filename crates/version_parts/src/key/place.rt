@@ -36,6 +36,8 @@ pub(crate) enum Place {
     Digit(AfterNumber),
     // What is read after a number.
     Rest(AfterNumber),
+    // One byte, and nothing of the text.
+    End(u8),
 }
 
 // A byte that is given out, the one that has to follow it, and where the stream is after the two.
@@ -76,7 +78,7 @@ impl Step {
 
 impl Place {
     // The next byte of a text that is read so, if there is one.
-    #[tactic(auto, unfolding(crate::specs::Pieces::place_bytes))]
+    #[tactic(auto, unfolding(crate::specs::Pieces::place_bytes, crate::specs::Pieces::after_number_bytes))]
     pub(crate) fn step(self, text: &mut PartText<'_>) -> Option<Step>
         ensures some { IfSome result
             (λ step. place_bytes self text.old ≡ step_bytes step text.new) }
@@ -94,6 +96,7 @@ impl Place {
                 Some(Step::to(digit, within_run(after, text)))
             }
             Place::Rest(after) => rest_step(after, text),
+            Place::End(byte) => Some(Step::to(byte, Place::Rest(AfterNumber::Nothing))),
         }
     }
 }

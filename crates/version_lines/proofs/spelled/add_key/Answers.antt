@@ -2,10 +2,10 @@ use Rattle.std.proofs.Common.{ℕ, List, ◌++◌, sym, ap, ◌∙◌, append-ni
 use Rattle.version_lines.proofs.KeyLemmas.{line_key-spelled, line_key-unspelled}
 use Rattle.version_lines.proofs.spelled.add_key.Goals as goal
 
-pub returns-in_ok-append_to-in-Some-clause-key : goal.returns-in_ok-append_to-in-Some-clause-key
-returns-in_ok-append_to-in-Some-clause-key c =
-    c.in_ok-append_to-in-Some.ensures.ok
-    ∙ ap (λ (l : List ℕ). c.args.keys.now.items ++ l) (c.key_bytes.ensures ∙ sym (line_key-spelled c.args.line.now _ c.in-Some.ensures))
+pub returns-in_ok-append_key-in-Some-clause-key : goal.returns-in_ok-append_key-in-Some-clause-key
+returns-in_ok-append_key-in-Some-clause-key c =
+    c.in_ok-append_key-in-Some.ensures.ok
+    ∙ ap (λ (l : List ℕ). c.args.keys.now.items ++ l) (sym (line_key-spelled c.args.line.now _ c.in-Some.ensures))
 
 pub returns-in-None-clause-key : goal.returns-in-None-clause-key
 returns-in-None-clause-key c =

@@ -1,5 +1,9 @@
-use Rattle.std.proofs.Common.{◌≡◌, ◌∙◌, ◌+◌, sym, refl, length, arith}
+use Rattle.std.proofs.Common.{◌≡◌, ◌∙◌, ◌+◌, ap, sym, refl, length, arith}
 use Rattle.std.proofs.lemmas.List.{length-set}
+use Rattle.std.specs.Option.{option_map}
+use Rattle.versions.specs.Key.{key_of}
+use Rattle.versions.specs.KeyBytes.{key_bytes}
+use Rattle.versions.specs.VersioningRef.{plain_versioning_ref}
 use Rattle.versions_c.specs.Keys.{keys_before, put_at, saturated}
 use Rattle.versions_c.proofs.Putting.{first_told, next_told, no_more_key, one_more_key, put_nothing}
 use Rattle.versions_c.proofs.keys.put_all.Goals as goal
@@ -18,11 +22,11 @@ loop-place-preserved c =
     let offsets = c.args.offsets.now in
     let i = c.loop-place.place in
     let before = c.loop-place.invariant in
-    let both : (c.match-key_of.end ≡ saturated (length (keys_before texts offsets (i + 1)))) × (c.match-key_of.keys ≡ put_at c.args.keys.now 0 (keys_before texts offsets (i + 1))) =
-    elim c.match-key_of.branch [
-      | in-Some w ↦ one_more_key texts offsets c.args.keys.now i c.text_at.result.now w.in-Some.key c.loop-place.keys c.match-key_of.keys c.loop-place.end c.match-key_of.end
-          (omega arith) c.text_at.ensures w.in-Some.ensures before.ended before.written (w.end-is ∙ w.put-end.ensures.end) (w.keys-is ∙ w.put-end.ensures.bytes)
-      | in_default w ↦ no_more_key texts offsets c.args.keys.now i c.text_at.result.now c.match-key_of.keys c.match-key_of.end c.text_at.ensures (sym w.in_default.is ∙ c.key_of.ensures)
+    let both : (c.match-from_bytes.end ≡ saturated (length (keys_before texts offsets (i + 1)))) × (c.match-from_bytes.keys ≡ put_at c.args.keys.now 0 (keys_before texts offsets (i + 1))) =
+    elim c.match-from_bytes.branch [
+      | in-Some w ↦ one_more_key texts offsets c.args.keys.now i c.text_at.result.now (key_bytes (key_of (plain_versioning_ref w.in-Some.version))) c.loop-place.keys c.match-from_bytes.keys c.loop-place.end c.match-from_bytes.end
+          (omega arith) c.text_at.ensures (ap (option_map (λ v. key_bytes (key_of v))) w.in-Some.ensures) before.ended before.written (w.end-is ∙ w.put_key-end.ensures.end) (w.keys-is ∙ w.put_key-end.ensures.bytes)
+      | in_default w ↦ no_more_key texts offsets c.args.keys.now i c.text_at.result.now c.match-from_bytes.keys c.match-from_bytes.end c.text_at.ensures (ap (option_map (λ v. key_bytes (key_of v))) w.in_default.ensures)
           (w.end-is ∙ before.ended) (w.keys-is ∙ before.written)
     ] in
     record {

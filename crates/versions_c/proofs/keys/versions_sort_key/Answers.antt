@@ -1,6 +1,13 @@
+use Rattle.std.proofs.Common.{ap}
+use Rattle.std.specs.Option.{option_map}
+use Rattle.versions.specs.Key.{key_of}
+use Rattle.versions.specs.KeyBytes.{key_bytes}
+use Rattle.versions.specs.VersioningRef.{plain_versioning_ref}
 use Rattle.versions_c.specs.Keys.{spelled_key}
 use Rattle.versions_c.proofs.Putting.{fitting_key}
 use Rattle.versions_c.proofs.keys.versions_sort_key.Goals as goal
 
 pub returns-clause-key : goal.returns-clause-key
-returns-clause-key c = λ ok. fitting_key (spelled_key c.args.text.now) c.in-Some-key_of.bytes c.args.key.now c.put.new.keys c.in-Some-key_of.ensures c.in_default.ensures c.put.ensures.bytes
+returns-clause-key c =
+    let version = plain_versioning_ref c.in-Some-from_bytes.version in
+    λ ok. fitting_key (spelled_key c.args.text.now) (key_bytes (key_of version)) c.args.key.now c.put_key.new.keys (ap (option_map (λ v. key_bytes (key_of v))) c.in-Some-from_bytes.ensures) c.in_default.ensures c.put_key.ensures.bytes
