@@ -43,7 +43,7 @@ unfolding place_bytes
 number_put text left digits rest key mid end l r d short m e after =
     let counted : prefix_len is_ascii_digit left ≡ length digits = sym (length-prefix_len is_ascii_digit left) ∙ ap (λ (xs : List ℕ). length xs) (sym r) in
     let bytes = number_counted after text ∙ ap (λ (xs : List ℕ). place_bytes (Length (prefix_len is_ascii_digit xs) after) xs) (sym l) ∙ ap (λ n. place_bytes (Length n after) left) counted
-        ∙ length_short (length digits) after left short in
+    ∙ length_short (length digits) after left short in
     let run : run_bytes after left ≡ digits ++ after_number_bytes after rest = sym (λ i. r i ++ after_number_bytes after (d i)) in
     ap (λ (xs : List ℕ). key ++ xs) (bytes ∙ ap (λ (xs : List ℕ). length digits ∷ xs) run) ∙ sym (append_assoc key (length digits ∷ digits) (after_number_bytes after rest))
     ∙ ap (λ (xs : List ℕ). xs ++ after_number_bytes after rest) (sym (put_more key mid end (length digits ∷ []) digits m e))
@@ -72,7 +72,7 @@ module _ (text letters rest key before mid : List ℕ) (r : letters ≡ take_whi
       e ∙ ap (λ (l : List ℕ). fourth ++ l) (sym (text_alone behind)) ∙ sym n ∙ ap (λ (l : List ℕ). l ++ place_bytes (Number Text) rest) put
       ∙ append_assoc key ((letters ++ 0 ∷ []) ++ 1 ∷ []) (place_bytes (Number Text) rest)
       ∙ ap (λ (l : List ℕ). key ++ l) (append_assoc (letters ++ 0 ∷ []) (1 ∷ []) (place_bytes (Number Text) rest) ∙ append_assoc letters (0 ∷ []) (1 ∷ place_bytes (Number Text) rest)
-          ∙ ap (λ (l : List ℕ). letters ++ l) (sym steps) ∙ sym taken)
+      ∙ ap (λ (l : List ℕ). letters ++ l) (sym steps) ∙ sym taken)
 
 -- ---- parts
 

@@ -145,6 +145,7 @@ impl<'a> Model for BodyRef<'a> {
 
 impl<'a> BodyRef<'a> {
     /// The body at the front of a text, and the rest. Takes no memory.
+    #[inline(always)]
     pub fn scan(i: &'a str) -> Option<(BodyRef<'a>, &'a str)>
         ensures { option_map (λ r. (r.0, r.1.now)) result ≡ body_front i.now }
     {

@@ -133,6 +133,7 @@ impl<'a> Model for ReleaseRef<'a> {
 
 impl<'a> ReleaseRef<'a> {
     /// The release at the front of a text, and the rest. Takes no memory.
+    #[inline(always)]
     pub fn scan(i: &'a str) -> Option<(ReleaseRef<'a>, &'a str)>
         ensures { option_map (λ r. (r.0, r.1.now)) result ≡ release_front i.now }
     {

@@ -106,6 +106,7 @@ pub(crate) fn nonempty_run(i: &str, class: Class) -> Option<(&str, &str)>
 }
 
 /// What stands behind the byte `mark`, where the text starts with it.
+#[inline(always)]
 pub fn after_mark(i: &str, mark: u8) -> Option<&str>
     requires { mark < 128 }
     ensures { option_map (λ r. r.now) result ≡ after_mark mark i.now }
@@ -198,6 +199,7 @@ pub(crate) fn value_of(digits: &str) -> Option<u32>
 }
 
 /// The build metadata at the front of a text, without its plus and still in the input, and the rest.
+#[inline(always)]
 pub fn metadata(i: &str) -> Option<(&str, &str)>
     ensures { option_map (λ r. (r.0.now, r.1.now)) result ≡ meta_front i.now }
 {
@@ -255,6 +257,7 @@ pub struct Dotted<'a> {
 impl<'a> Dotted<'a> {
     /// The dotted list of one element or more at the front of a text, and the rest. It stops before a dot behind
     /// which no element can be read. Takes no memory.
+    #[inline(always)]
     pub fn scan<E: Element>(i: &'a str) -> Option<(Dotted<'a>, &'a str)>
         ensures elements { option_map (λ r. (elements_at E.front r.0.text.now, r.1.now)) result
             ≡ dotted_front E.front i.now }
@@ -299,6 +302,7 @@ impl<'a> Dotted<'a> {
 }
 
 // The text from the element behind a dot on, and what stands behind that element.
+#[inline(always)]
 fn skip_further<E: Element>(i: &str) -> Option<(&str, &str)>
     ensures next { IfSome result (λ r. after_mark dot i.now ≡ Some r.0.now) }
     ensures after { option_map (λ r. r.1.now) result

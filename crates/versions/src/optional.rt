@@ -15,6 +15,7 @@ use version_parts::{Release, ReleaseRef, scan};
 
 // The release at the front of a text, if there is one, and the rest.
 #[tactic(auto, unfolding(version_parts::specs::Front::optional))]
+#[inline(always)]
 pub(crate) fn optional_release(i: &str) -> (Option<ReleaseRef<'_>>, &str)
     ensures { (result.0, result.1.now) ≡ optional release_front i.now }
 {
@@ -26,6 +27,7 @@ pub(crate) fn optional_release(i: &str) -> (Option<ReleaseRef<'_>>, &str)
 
 // The metadata at the front of a text, if there is any, and the rest.
 #[tactic(auto, unfolding(version_parts::specs::Front::optional))]
+#[inline(always)]
 pub(crate) fn optional_meta(i: &str) -> (Option<&str>, &str)
     ensures { (option_map (λ text. text.now) result.0, result.1.now) ≡ optional meta_front i.now }
 {

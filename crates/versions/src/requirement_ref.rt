@@ -5,11 +5,14 @@ ghost use Rattle.std.specs.Option.{option_map};
 ghost use Rattle.versions.specs.Matching.{Matches, MatchesCaret, MatchesOp, MatchesTilde};
 ghost use Rattle.versions.specs.Requirement.{requirement_of};
 ghost use Rattle.versions.specs.RequirementRef.{plain_requirement_ref};
+ghost use Rattle.versions.specs.Key.{key_of, precedence};
 ghost use Rattle.versions.specs.VersioningRef.{plain_versioning_ref};
 ghost use Rattle.versions.specs.Versioning.{is_ideal, PlainVersioning};
 
+use crate::key::compare_keys;
 use crate::op::Op;
 use crate::versioning_ref::VersioningRef;
+use std::cmp::Ordering;
 
 /// A requirement, read off its text: a [`Requirement`](crate::Requirement) that owns nothing. No call takes memory.
 /// docs/REQUIREMENTS.md has the rules.
@@ -68,12 +71,21 @@ fn asks_for(op: Op, wanted: &VersioningRef<'_>, version: &VersioningRef<'_>) -> 
     match op {
         Op::Exact => version == wanted,
         Op::Greater | Op::GreaterEq | Op::Less | Op::LessEq => {
-            op.asks_order(version.precedence(wanted))
+            op.asks_order(order_of(version, wanted))
         }
         Op::Tilde => matches_tilde(wanted, version),
         Op::Caret => matches_caret(wanted, version),
         Op::Wildcard => true,
     }
+}
+
+// How a version stands to a wanted one in precedence. Most differ early, so their keys are compared piece by piece.
+#[tactic(auto, using(crate::proofs::Orders::key_bytes_alone))]
+fn order_of(version: &VersioningRef<'_>, wanted: &VersioningRef<'_>) -> Ordering
+    ensures { result ≡ precedence (key_of (plain_versioning_ref version.now))
+        (key_of (plain_versioning_ref wanted.now)) }
+{
+    compare_keys(version.key_bytes(), wanted.key_bytes())
 }
 
 // Whether `~wanted` asks for a version.

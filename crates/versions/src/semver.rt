@@ -275,6 +275,7 @@ impl<'a> SemVerRef<'a> {
 
     // The strict version at the front of a text, and the rest.
     #[tactic(auto, unfolding(crate::specs::SemVer::semver_front))]
+    #[inline(always)]
     fn scan(i: &'a str) -> Option<(SemVerRef<'a>, &'a str)>
         ensures { option_map (λ r. (plain_semver_ref r.0, r.1.now)) result ≡ semver_front i.now }
     {

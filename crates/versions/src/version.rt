@@ -309,6 +309,7 @@ impl<'a> VersionRef<'a> {
 
     // The general version at the front of a text, and the rest.
     #[tactic(auto, unfolding(crate::specs::Version::version_front))]
+    #[inline(always)]
     fn scan(i: &'a str) -> Option<(VersionRef<'a>, &'a str)>
         ensures { option_map (λ r. (plain_version_ref r.0, r.1.now)) result ≡ version_front i.now }
     {
@@ -370,6 +371,7 @@ impl<'a> VersionRef<'a> {
 
 // The epoch at the front of a text, if there is one, and the rest.
 #[tactic(auto, unfolding(version_parts::specs::Front::optional))]
+#[inline(always)]
 fn optional_epoch(i: &str) -> (Option<u32>, &str)
     ensures { (result.0, result.1.now) ≡ optional epoch_front i.now }
 {
@@ -381,6 +383,7 @@ fn optional_epoch(i: &str) -> (Option<u32>, &str)
 
 // The number and the colon at the front of a text, and the rest.
 #[tactic(auto, unfolding(crate::specs::Version::epoch_front))]
+#[inline(always)]
 fn scan_epoch(i: &str) -> Option<(u32, &str)>
     ensures { option_map (λ r. (r.0, r.1.now)) result ≡ epoch_front i.now }
 {

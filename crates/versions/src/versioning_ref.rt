@@ -56,6 +56,7 @@ impl<'a> VersioningRef<'a> {
 
     /// The version that bytes spell, as `new` reads their text, or None where they spell none: bytes that are no UTF-8
     /// never do. Takes no memory.
+    #[inline(always)]
     pub fn from_bytes(bytes: &'a [u8]) -> Option<VersioningRef<'a>>
         ensures { option_map plain_versioning_ref result ≡ versioning_of bytes.now }
     {
