@@ -3,7 +3,7 @@
 use crate::table::Table;
 use std::alloc::{AllocError, Global};
 use std::io;
-use versions::{Error, Versioning};
+use versions::{Error, Versioning, VersioningRef};
 
 const IDEAL: &str = "1.2.3-rc.1+x86";
 
@@ -32,6 +32,14 @@ pub fn make_all(table: &mut Table<'_>) -> io::Result<()> {
             Versioning::clone,
         )?;
     }
+    for text in [IDEAL, GENERAL, COMPLEX] {
+        table.reads("VersioningRef::to_owned", text, own)?;
+    }
+    table.reads(
+        "VersioningRef::to_owned, without memory",
+        "4294967295.0.0",
+        own,
+    )?;
     for text in ["1.2.3", LONG, "1:2:3"] {
         table.borrows(
             "Versioning::sort_key",
@@ -44,6 +52,13 @@ pub fn make_all(table: &mut Table<'_>) -> io::Result<()> {
         table.reads("Versioning::new, without memory", text, Versioning::new)?;
     }
     copy_errors(table)
+}
+
+fn own(alloc: Global, text: &str) -> Result<Option<Versioning>, AllocError> {
+    match VersioningRef::new(text) {
+        Some(version) => Ok(Some(version.to_owned(alloc)?)),
+        None => Ok(None),
+    }
 }
 
 fn copy_errors(table: &mut Table<'_>) -> io::Result<()> {
