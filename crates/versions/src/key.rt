@@ -37,7 +37,7 @@ use std::cmp::Ordering;
 use std::marker::Model;
 use std::mem;
 use tail::{BARE, PRE_RELEASE, RELEASE, SECTIONS, TailLeft};
-pub use version_parts::key::compare_bytes;
+pub use version_parts::key::{NotShort, SHORT, ShortKey, compare_bytes};
 use version_parts::key::{ListLeft, PieceBytes};
 use version_parts::scan::{after_mark, is_all_digits};
 use version_parts::{MChunk, MessyChunk, Release, ReleaseChunk, ReleaseRef, SectionRef, Sep};

@@ -5,10 +5,12 @@ ghost use Rattle.std.specs.Option.{is_some, option_map, IsSomeAnd};
 ghost use Rattle.versions.specs.Matching.{MatchesAll};
 ghost use Rattle.versions.specs.Requirement.{requirement_of};
 ghost use Rattle.versions.specs.Requirements.{requirements_of};
+ghost use Rattle.versions.specs.RequirementRef.{IsItsKey};
 ghost use Rattle.versions.specs.RequirementsRef.{before_others, members_of, Keeps};
 ghost use Rattle.versions.specs.VersioningRef.{plain_versioning_ref};
 ghost use Rattle.versions.specs.Versioning.{versioning_of};
 
+use crate::key::{NotShort, ShortKey};
 use crate::requirement_ref::RequirementRef;
 use crate::requirements::Requirements;
 use crate::semver::SemVerRef;
@@ -21,6 +23,8 @@ use std::str;
 #[derive(Drop)]
 pub struct RequirementsRef<'a> {
     first: RequirementRef<'a>,
+    // The key of its version, where that is short.
+    key: Option<ShortKey>,
     // The text of the others, behind the first comma.
     others: Option<&'a str>,
 }
@@ -29,12 +33,13 @@ impl<'a> Model for RequirementsRef<'a> {
     ghost use Rattle.std.specs.Prelude.{List};
     ghost use Rattle.versions.specs.Requirement.{PlainRequirement};
     ghost use Rattle.versions.specs.RequirementsRef.{scanned_requirements, AreMembers};
+    ghost use Rattle.versions.specs.RequirementRef.{IsItsKey};
 
     ghost Value = { List PlainRequirement };
 
     ghost view = { λ list. scanned_requirements list.first list.others };
 
-    ghost invariant = { λ list. AreMembers list.others };
+    ghost invariant = { λ list. AreMembers list.others × IsItsKey list.key list.first };
 }
 
 impl<'a> RequirementsRef<'a> {
@@ -48,7 +53,8 @@ impl<'a> RequirementsRef<'a> {
         if !are_members(others) {
             return None;
         }
-        Some(RequirementsRef { first, others })
+        let key = short_key(&first);
+        Some(RequirementsRef { first, key, others })
     }
 
     /// The list that bytes spell, as `new` reads their text. Bytes that are no UTF-8 spell none. Takes no memory.
@@ -66,7 +72,7 @@ impl<'a> RequirementsRef<'a> {
     pub fn matches(&self, version: &VersioningRef<'_>) -> bool
         ensures { IsTrue result ↔ MatchesAll self.now (plain_versioning_ref version.now) }
     {
-        self.first.matches(version) && each_asks_for(self.others, version)
+        self.first.matches_by(&self.key, version) && each_asks_for(self.others, version)
     }
 
     /// Whether bytes spell a version that each member asks for. Where the first member is a tilde or a caret of a strict
@@ -92,6 +98,18 @@ impl<'a> RequirementsRef<'a> {
             return Some(VersioningRef::Ideal(SemVerRef::new(text)?));
         }
         VersioningRef::new(text)
+    }
+}
+
+// The key of a requirement's version, where it has one and that is short.
+fn short_key(requirement: &RequirementRef<'_>) -> Option<ShortKey>
+    ensures { IsItsKey result requirement.now }
+{
+    let mut key = ShortKey::new();
+    let version = requirement.version.as_ref()?;
+    match version.put_key(&mut key) {
+        Ok(()) => Some(key),
+        Err(NotShort) => None,
     }
 }
 

@@ -1,6 +1,6 @@
 //! Versions of any kind, read off the texts that spell them.
 
-ghost use Rattle.std.specs.Prelude.{◌≡◌, ◌++◌, refl, IfOk, IfSome, OnErr, OnOk, Some};
+ghost use Rattle.std.specs.Prelude.{◌≡◌, ◌++◌, refl, IfOk, OnErr, OnOk, Some};
 ghost use Rattle.std.specs.Cmp.{eq_by_cmp_equiv, on_equiv, on_per, on_total, partial_equiv_from_equiv, po};
 ghost use Rattle.std.specs.Option.{option_map};
 ghost use Rattle.std.specs.Ordering.{as_partial_cmp, eq_by_cmp, on};
@@ -97,7 +97,8 @@ impl<'a> VersioningRef<'a> {
         ensures { result ≡ precedence (key_of (plain_versioning_ref self.now))
             (key_of (plain_versioning_ref other.now)) }
     {
-        if let (Some(key), Some(other_key)) = (self.short_key(), other.short_key()) {
+        let (mut key, mut other_key) = (ShortKey::new(), ShortKey::new());
+        if self.put_key(&mut key).is_ok() && other.put_key(&mut other_key).is_ok() {
             return key.as_slice().cmp(other_key.as_slice());
         }
         compare_keys(self.key_bytes(), other.key_bytes())
@@ -109,29 +110,17 @@ impl<'a> VersioningRef<'a> {
         ensures ok { OnOk result (list.new.items
             ≡ list.old.items ++ key_bytes (key_of (plain_versioning_ref self.now))) }
     {
-        match self.short_key() {
-            Some(key) => list.extend_from_slice(key.as_slice()),
-            None => self.key_bytes().append_to(list),
-        }
-    }
-
-    /// The bytes of its key in an array, which is the quickest way to them. None where it has no room for them: it has room
-    /// for 128, and a caller then goes by `key_bytes`. Takes no memory.
-    #[inline(always)]
-    pub fn short_key(&self) -> Option<ShortKey>
-        ensures { IfSome result (λ key. key.items
-            ≡ key_bytes (key_of (plain_versioning_ref self.now))) }
-    {
         let mut key = ShortKey::new();
         match self.put_key(&mut key) {
-            Ok(()) => Some(key),
-            Err(NotShort) => None,
+            Ok(()) => list.extend_from_slice(key.as_slice()),
+            Err(NotShort) => self.key_bytes().append_to(list),
         }
     }
 
-    // Puts its key behind what a short key has.
+    /// Puts the bytes of its key behind those of an array, which is the quickest way to them. The error is that the array
+    /// has no room for them: a caller then goes by `key_bytes`. Takes no memory.
     #[inline(always)]
-    fn put_key(&self, key: &mut ShortKey) -> Result<(), NotShort>
+    pub fn put_key(&self, key: &mut ShortKey) -> Result<(), NotShort>
         ensures { OnOk result (key.new.items
             ≡ key.old.items ++ key_bytes (key_of (plain_versioning_ref self.now))) }
     {

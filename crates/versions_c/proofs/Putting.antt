@@ -1,5 +1,5 @@
 -- Bytes written over a room, byte by byte and list by list.
-use Rattle.std.proofs.Common.{◌≡◌, ◌∙◌, ◌+◌, ◌-◌, ◌<◌, ◌≤◌, ◌^◌, ℕ, zero, suc, Bool, true, false, List, [], ◌∷◌, ◌++◌, drop, get_or, length, nat_eq, set, Option, Some, None, IfSome, nat_le, if◌then◌else◌, refl, ap, sym, arith}
+use Rattle.std.proofs.Common.{◌≡◌, ◌∙◌, ◌+◌, ◌-◌, ◌<◌, ◌≤◌, ◌^◌, ℕ, zero, suc, Bool, true, false, List, [], ◌∷◌, ◌++◌, drop, take, get_or, length, nat_eq, set, Option, Some, None, IfSome, nat_le, if◌then◌else◌, refl, ap, sym, arith}
 use Rattle.std.proofs.lemmas.Bool.Decides.{nat_tests}
 use Rattle.std.proofs.lemmas.List.{append-nil, get_or-set_other, get_or-set_same, length-append}
 use Rattle.std.specs.Option.{unwrap_or}
@@ -43,6 +43,12 @@ put_fits [] [] fits = refl
 put_fits [] (b ∷ bytes) fits = absurd (omega (arith, fits))
 put_fits (x ∷ room) [] fits = refl
 put_fits (x ∷ room) (b ∷ bytes) fits = ap (λ (l : List ℕ). b ∷ l) (put_fits room bytes (omega (arith, fits)))
+
+-- and so where it begins at a later place
+pub put_within : (room : List ℕ) (start : ℕ) (bytes : List ℕ) → start + length bytes ≤ length room → take start room ++ (bytes ++ drop (length bytes) (drop start room)) ≡ put_at room start bytes
+put_within room zero bytes fits = sym (put_fits room bytes (omega (arith, fits)))
+put_within [] (suc start) bytes fits = absurd (omega (arith, fits))
+put_within (x ∷ room) (suc start) bytes fits = ap (λ (l : List ℕ). x ∷ l) (put_within room start bytes (omega (arith, fits)))
 
 pub length-put : (room : List ℕ) (start : ℕ) (bytes : List ℕ) → length (put_at room start bytes) ≡ length room
 length-put [] start bytes = refl

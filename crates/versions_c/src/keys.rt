@@ -12,7 +12,7 @@ use crate::offsets::{are_offsets, text_at};
 use crate::spelled::key_of;
 use crate::status::{BAD_OFFSETS, NO_ROOM, NO_VERSION, OK};
 use versions::VersioningRef;
-use versions::key::KeyBytes;
+use versions::key::{KeyBytes, NotShort, ShortKey};
 
 // The largest offset that C has.
 const LARGEST: u64 = 0x7FFF_FFFF_FFFF_FFFF;
@@ -161,9 +161,10 @@ fn put_key(keys: &mut [u8], start: usize, version: &VersioningRef<'_>) -> usize
     ensures end { result ≡ saturated (start
         + length (key_bytes (key_of (plain_versioning_ref version.now)))) }
 {
-    match version.short_key() {
-        Some(key) => put_bytes(keys, start, key.as_slice()),
-        None => put(keys, start, version.key_bytes()),
+    let mut key = ShortKey::new();
+    match version.put_key(&mut key) {
+        Ok(()) => put_bytes(keys, start, key.as_slice()),
+        Err(NotShort) => put(keys, start, version.key_bytes()),
     }
 }
 
@@ -173,6 +174,11 @@ fn put_bytes(keys: &mut [u8], start: usize, bytes: &[u8]) -> usize
     ensures bytes { keys.new ≡ put_at keys.old start bytes.now }
     ensures end { result ≡ saturated (start + length bytes.now) }
 {
+    if start <= keys.len() && bytes.len() <= keys.len() - start {
+        let end = start + bytes.len();
+        keys[start..end].copy_from_slice(bytes);
+        return end;
+    }
     let mut end = start;
     let mut rest = bytes;
     while let Some((byte, behind)) = rest.split_first() {
