@@ -11,6 +11,7 @@ use version_parts::{
     BodyRef, Chunk, Chunks, Last, LastRef, MChunk, MessyChunk, Part, Release, ReleaseChunk,
     ReleaseRef, SectionRef,
 };
+use versions::VersioningRef;
 use versions::key::KeyBytes;
 
 pub fn make_all(table: &mut Table<'_>) -> io::Result<()> {
@@ -63,7 +64,9 @@ fn scanned(table: &mut Table<'_>) -> io::Result<()> {
 fn streams(table: &mut Table<'_>) -> io::Result<()> {
     table.reads("PieceBytes::append_to", "7rc12", part_bytes)?;
     table.reads("KeyBytes::append_to", "1.2.3-rc.1", key_bytes)?;
-    table.reads("KeyBytes::append_to", "1:2_a", key_bytes)
+    table.reads("KeyBytes::append_to", "1:2_a", key_bytes)?;
+    table.reads("VersioningRef::append_key", "1.2.3-rc.1", written_key)?;
+    table.reads("VersioningRef::append_key", "1:2_a", written_key)
 }
 
 fn build_last(alloc: Global, text: &str) -> Result<Option<Last>, AllocError> {
@@ -113,5 +116,14 @@ fn key_bytes(alloc: Global, text: &str) -> Result<Option<Vec<u8>>, AllocError> {
     };
     let mut list = Vec::new(alloc);
     key.append_to(&mut list)?;
+    Ok(Some(list))
+}
+
+fn written_key(alloc: Global, text: &str) -> Result<Option<Vec<u8>>, AllocError> {
+    let Some(version) = VersioningRef::new(text) else {
+        return Ok(None);
+    };
+    let mut list = Vec::new(alloc);
+    version.append_key(&mut list)?;
     Ok(Some(list))
 }
