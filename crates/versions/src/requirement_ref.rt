@@ -106,6 +106,9 @@ fn order_of(
     ensures { result ≡ precedence (key_of (plain_versioning_ref version.now))
         (key_of (plain_versioning_ref wanted.now)) }
 {
+    if let Some(order) = version.strict_order(wanted) {
+        return order;
+    }
     if let Some(wanted_key) = key {
         let mut own = ShortKey::new();
         if version.put_key(&mut own).is_ok() {

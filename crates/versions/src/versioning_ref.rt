@@ -1,6 +1,6 @@
 //! Versions of any kind, read off the texts that spell them.
 
-ghost use Rattle.std.specs.Prelude.{◌≡◌, ◌++◌, refl, IfOk, OnErr, OnOk, Some};
+ghost use Rattle.std.specs.Prelude.{◌≡◌, ◌++◌, refl, IfOk, IfSome, OnErr, OnOk, Some};
 ghost use Rattle.std.specs.Cmp.{eq_by_cmp_equiv, on_equiv, on_per, on_total, partial_equiv_from_equiv, po};
 ghost use Rattle.std.specs.Option.{option_map};
 ghost use Rattle.std.specs.Ordering.{as_partial_cmp, eq_by_cmp, on};
@@ -97,11 +97,28 @@ impl<'a> VersioningRef<'a> {
         ensures { result ≡ precedence (key_of (plain_versioning_ref self.now))
             (key_of (plain_versioning_ref other.now)) }
     {
+        if let Some(order) = self.strict_order(other) {
+            return order;
+        }
         let (mut key, mut other_key) = (ShortKey::new(), ShortKey::new());
         if self.put_key(&mut key).is_ok() && other.put_key(&mut other_key).is_ok() {
             return key.as_slice().cmp(other_key.as_slice());
         }
         compare_keys(self.key_bytes(), other.key_bytes())
+    }
+
+    // How two strict versions compare, which takes no key. None where not both are strict.
+    #[tactic(auto, using(crate::proofs::Orders::laws))]
+    #[inline(always)]
+    pub(crate) fn strict_order(&self, other: &VersioningRef<'_>) -> Option<Ordering>
+        ensures { IfSome result (λ order. order
+            ≡ precedence (key_of (plain_versioning_ref self.now))
+            (key_of (plain_versioning_ref other.now))) }
+    {
+        match (self, other) {
+            (VersioningRef::Ideal(a), VersioningRef::Ideal(b)) => Some(a.compare_plain(b)),
+            _ => None,
+        }
     }
 
     /// Puts the bytes of its key behind those of a list. The error is that there is no memory for all of them; the list
