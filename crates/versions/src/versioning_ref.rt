@@ -4,6 +4,7 @@ ghost use Rattle.std.specs.Prelude.{◌≡◌, ◌++◌, refl, IfOk, IfSome, OnE
 ghost use Rattle.std.specs.Cmp.{eq_by_cmp_equiv, on_equiv, on_per, on_total, partial_equiv_from_equiv, po};
 ghost use Rattle.std.specs.Option.{option_map};
 ghost use Rattle.std.specs.Ordering.{as_partial_cmp, eq_by_cmp, on};
+ghost use Rattle.version_parts.specs.Lists.{GrowsWithin};
 ghost use Rattle.versions.specs.Key.{key_of, precedence};
 ghost use Rattle.versions.specs.KeyBytes.{key_bytes};
 ghost use Rattle.versions.specs.Kind.{versioning_kind};
@@ -126,16 +127,20 @@ impl<'a> VersioningRef<'a> {
     pub fn append_key(&self, list: &mut Vec<u8>) -> Result<(), AllocError>
         ensures ok { OnOk result (list.new.items
             ≡ list.old.items ++ key_bytes (key_of (plain_versioning_ref self.now))) }
+        ensures err { OnErr result (GrowsWithin list.old.items list.new.items
+            (key_bytes (key_of (plain_versioning_ref self.now)))) }
     {
         let mut key = ShortKey::new();
         match self.put_key(&mut key) {
-            Ok(()) => list.extend_from_slice(key.as_slice()),
-            Err(NotShort) => self.key_bytes().append_to(list),
+            Ok(()) => list.extend_from_slice(key.as_slice())?,
+            Err(NotShort) => self.key_bytes().append_to(list)?,
         }
+        Ok(())
     }
 
-    /// Puts the bytes of its key behind those of an array, which is the quickest way to them. The error is that the array
-    /// has no room for them: a caller then goes by `key_bytes`. Takes no memory.
+    /// Puts the bytes of its key behind those of an array, which is the quickest way to them. It gives up where the array
+    /// has no room for them, and a caller then goes by `key_bytes`; that it gives up nowhere else is no part of its
+    /// contract, and what the array holds then is of no use. Takes no memory.
     #[inline(always)]
     pub fn put_key(&self, key: &mut ShortKey) -> Result<(), NotShort>
         ensures { OnOk result (key.new.items
