@@ -7,10 +7,9 @@ ghost use Rattle.version_lines.specs.Lines.{line_feed};
 ghost use Rattle.version_lines.specs.Run.{bad_word};
 
 use crate::faults::Fault;
-use crate::words::key_of_word;
+use crate::words::version_of_word;
 use std::alloc::Global;
 use std::cmp::Ordering;
-use versions::key::compare_keys;
 
 /// The line that says how the version of the first word stands to that of the second. The first word is judged
 /// before the second.
@@ -19,9 +18,9 @@ pub fn comparison(alloc: Global, first: &str, second: &str) -> Result<&'static [
     ensures ok { OnOk result (bad_word (Cmp first.now second.now) ≡ None) }
     ensures faults { IfErr result (ComesOfWords (bad_word (Cmp first.now second.now))) }
 {
-    let first = key_of_word(alloc, first)?;
-    let second = key_of_word(alloc, second)?;
-    Ok(line_for(compare_keys(first, second)))
+    let first = version_of_word(alloc, first)?;
+    let second = version_of_word(alloc, second)?;
+    Ok(line_for(first.precedence(&second)))
 }
 
 /// The sign of an ordering, and a line feed.

@@ -6,7 +6,7 @@ ghost use Rattle.version_lines.specs.Fault.{ComesOfWords};
 ghost use Rattle.version_lines.specs.Run.{bad_word};
 
 use crate::faults::Fault;
-use crate::words::key_of_word;
+use crate::words::version_of_word;
 use std::alloc::Global;
 
 /// The line that has the sort key of a word's version, in hexadecimal.
@@ -16,7 +16,7 @@ pub fn key_line(alloc: Global, word: &str) -> Result<String, Fault>
     ensures faults { IfErr result (ComesOfWords (bad_word (Key word.now))) }
 {
     let mut key = Vec::new(alloc);
-    key_of_word(alloc, word)?.append_to(&mut key)?;
+    version_of_word(alloc, word)?.append_key(&mut key)?;
     let mut line = hex::encode(alloc, key.as_slice())?;
     line.push('\n')?;
     Ok(line)

@@ -1,26 +1,22 @@
-//! The keys of the versions, and the requirements, that words spell.
+//! The versions and the requirements that words spell.
 ghost use Rattle.std.specs.Prelude.{◌≡◌, Some, IfErr, IfOk};
 ghost use Rattle.version_lines.specs.Fault.{ComesOfRequirements, ComesOfWords};
 ghost use Rattle.version_lines.specs.Run.{unless_requirements, unless_version};
 ghost use Rattle.versions.specs.Requirements.{requirements_of};
-ghost use Rattle.std.specs.Option.{option_map};
-ghost use Rattle.versions.specs.Key.{key_of};
-ghost use Rattle.versions.specs.KeyBytes.{key_bytes};
 ghost use Rattle.versions.specs.Versioning.{versioning_of};
+ghost use Rattle.versions.specs.VersioningRef.{plain_versioning_ref};
 
 use crate::faults::Fault;
 use std::alloc::Global;
-use versions::RequirementsRef;
-use versions::key::KeyBytes;
+use versions::{RequirementsRef, VersioningRef};
 
-/// The bytes of the key of the version that a word spells; else the fault that holds a copy of the word.
-pub fn key_of_word(alloc: Global, word: &str) -> Result<KeyBytes<'_>, Fault>
-    ensures ok { IfOk result (λ key. option_map
-        (λ v. key_bytes (key_of v)) (versioning_of word.now) ≡ Some key) }
+/// The version that a word spells; else the fault that holds a copy of the word.
+pub fn version_of_word(alloc: Global, word: &str) -> Result<VersioningRef<'_>, Fault>
+    ensures ok { IfOk result (λ v. versioning_of word.now ≡ Some (plain_versioning_ref v)) }
     ensures faults { IfErr result (ComesOfWords (unless_version word.now)) }
 {
-    match KeyBytes::spelled_by(word) {
-        Some(key) => Ok(key),
+    match VersioningRef::new(word) {
+        Some(version) => Ok(version),
         None => Err(Fault::NotVersion(String::from_str(alloc, word)?)),
     }
 }

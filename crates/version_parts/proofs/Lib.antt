@@ -23,6 +23,7 @@ pub mod Numerals
 pub mod OrderLemmas
 pub mod Orders
 pub mod PartKey
+pub mod PartCompare
 pub mod Past
 pub mod PieceBytes
 pub mod Printing

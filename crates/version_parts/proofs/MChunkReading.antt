@@ -128,7 +128,7 @@ pub mchunk_front-Some : (text run rest : List ℕ) → run_front is_ascii_alphan
 unfolding mchunk_front
 mchunk_front-Some text run rest e = rw e refl
 
-mchunk_front-None : (text : List ℕ) → run_front is_ascii_alphanumeric text ≡ None → mchunk_front text ≡ None
+pub mchunk_front-None : (text : List ℕ) → run_front is_ascii_alphanumeric text ≡ None → mchunk_front text ≡ None
 unfolding mchunk_front
 mchunk_front-None text e = rw e refl
 

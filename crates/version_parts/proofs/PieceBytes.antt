@@ -152,7 +152,7 @@ digits_of_run (c ∷ digits) all canonical =
     let first : digit_bytes n ≡ c ∷ [] = one_digit n some (omega (arith, d.0)) ∙ ap (λ k. digit_char k ∷ []) same ∙ ap (λ (b : ℕ). b ∷ []) d.1 in
     digits_behind n digits some (second_so _ _ all) ∙ ap (λ (l : List ℕ). l ++ digits) first
 
-take_while-all : (test : ℕ → Bool) (run : List ℕ) → list_all test run ≡ true → take_while test run ≡ run
+pub take_while-all : (test : ℕ → Bool) (run : List ℕ) → list_all test run ≡ true → take_while test run ≡ run
 take_while-all test [] all = refl
 take_while-all test (b ∷ run) all =
     let first : test b ≡ true = first_so _ _ all in

@@ -304,21 +304,6 @@ impl<'a> ChunkText<'a> {
     }
 }
 
-impl<'a> ChunkText<'a> {
-    // The text.
-    #[tactic(auto, using(crate::proofs::Numbers::numeral_text))]
-    #[inline(always)]
-    pub(crate) fn text(self) -> &'a str
-        requires { IsChunkText self }
-        ensures { result.now ≡ chunk_text (chunk_of_text self.entry) }
-    {
-        match self {
-            ChunkText::Numeral(digits) => digits,
-            ChunkText::Alphanum(text) => text,
-        }
-    }
-}
-
 // What stands behind the chunk at the front of a text whose runs are of the class, which has all digits.
 #[inline(always)]
 fn skip_chunk(i: &str, class: Class) -> Option<&str>

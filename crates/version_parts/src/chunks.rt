@@ -17,6 +17,7 @@ ghost use Rattle.version_parts.specs.Codes.{items_bytes};
 ghost use Rattle.version_parts.specs.PartKey.{chunk_parts, part_bytes, part_key};
 ghost use Rattle.version_parts.specs.PartOrder.{chunks_cmp};
 ghost use Rattle.version_parts.specs.PartOrderLaws.{chunks_cmp_ties, chunks_cmp_total};
+ghost use Rattle.version_parts.specs.PartRef.{parts_left};
 ghost use Rattle.version_parts.specs.Release.{release_fed, release_text};
 ghost use Rattle.version_parts.specs.ReleaseLaws.{release_total, releases_same};
 ghost use Rattle.version_parts.specs.ReleaseOrder.{release_cmp};
@@ -26,6 +27,7 @@ use crate::elements::{ElementsLeft, compare_elements, nth_element, write_element
 use crate::key::{ItemsLeft, compare_part_lists};
 use crate::last::{Last, LastRef};
 use crate::lists::{compare_lists, copy_list, write_dotted};
+use crate::part::PartsRef;
 use crate::scan::Dotted;
 use serde::{Deserialize, Serialize};
 use std::alloc::{AllocError, Global};
@@ -208,7 +210,17 @@ impl<'a> BodyRef<'a> {
         nth_element::<Part>(self.chunks(), n)?.number()
     }
 
+    /// Its parts as they compare with those of any version. Takes no memory.
+    #[inline(always)]
+    pub fn compared_parts(&self) -> PartsRef<'a>
+        ensures { parts_left result
+            ≡ chunk_parts self.now.0 ++ part_key (last_text self.now.1) ∷ [] }
+    {
+        PartsRef::General(self.spelled_parts())
+    }
+
     /// Its parts: its chunks, and the last part as the chunk that spells it. Takes no memory.
+    #[inline(always)]
     #[tactic(auto, using(crate::proofs::ListBytes::parts_spelled))]
     pub fn spelled_parts(&self) -> ElementsLeft<'a>
         ensures { chunk_parts (elements_left part_front result)

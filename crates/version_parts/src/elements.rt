@@ -69,6 +69,7 @@ impl<'a> ElementsLeft<'a> {
     }
 
     /// Takes the next element, where there is one. Takes no memory.
+    #[inline(always)]
     pub fn next<E: Spelled<'a>>(&mut self) -> Option<E::Piece>
         ensures some { IfSome result (λ piece. elements_left E.front self.old
             ≡ E.plain piece ∷ elements_left E.front self.new) }

@@ -1,7 +1,7 @@
 //! Streams of the bytes by which parts, lists of parts and releases compare. None of them takes memory.
 
 mod compare;
-mod inline;
+pub(crate) mod inline;
 mod list;
 mod piece;
 mod place;

@@ -11,6 +11,7 @@ mod laws;
 pub mod lists;
 mod mchunk;
 pub mod parsers;
+pub mod part;
 mod release;
 pub mod scan;
 mod sep;

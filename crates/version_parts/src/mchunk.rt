@@ -18,10 +18,12 @@ ghost use Rattle.version_parts.specs.OrderLaws.{same_where_tied};
 ghost use Rattle.version_parts.specs.PartKey.{parts_bytes, section_parts};
 ghost use Rattle.version_parts.specs.PartOrder.{mchunk_cmp};
 ghost use Rattle.version_parts.specs.PartOrderLaws.{mchunk_cmp_ties, mchunk_cmp_total};
+ghost use Rattle.version_parts.specs.PartRef.{parts_left};
 
 use crate::elements::{ElementsLeft, Spelled, compare_elements, nth_element, write_elements};
 use crate::key::{ItemsLeft, ListLeft, PartText, compare_parts};
 use crate::lists::ListItem;
+use crate::part::PartsRef;
 use crate::scan::{Class, Dotted, Element, after_mark, is_all_digits, nonempty_run, value_of};
 use crate::sep::Sep;
 use serde::{Deserialize, Serialize};
@@ -486,6 +488,14 @@ impl<'a> SectionRef<'a> {
         ensures { result ≡ option_and_then digits_number (slice_get self.now at) }
     {
         nth_element::<MessyChunk>(self.elements(), at)?.number()
+    }
+
+    /// Its chunks as they compare with the parts of any version. Takes no memory.
+    #[inline(always)]
+    pub fn compared_parts(&self) -> PartsRef<'a>
+        ensures { parts_left result ≡ section_parts self.now }
+    {
+        PartsRef::Messy(self.elements())
     }
 
     // Its chunks.

@@ -141,6 +141,14 @@ impl<'a> ReleaseRef<'a> {
         Some((ReleaseRef { list }, rest))
     }
 
+    /// The same release. Takes no memory.
+    #[inline(always)]
+    pub fn lent(&self) -> ReleaseRef<'a>
+        ensures { result ≡ self.now }
+    {
+        ReleaseRef { list: self.list }
+    }
+
     /// The chunks as they compare, and their end. Takes no memory.
     #[tactic(auto, using(crate::proofs::ListBytes::list_spelled))]
     pub fn left(&self) -> ListLeft<'a, ReleaseChunk>

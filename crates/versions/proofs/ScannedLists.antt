@@ -56,9 +56,12 @@ module _ (v : PlainVersioning) (list member : List ℕ) (r : PlainRequirement) (
   text_first_decides other = rw split_so (first_decides v r others other)
 
 -- the same of a list that has others
+pub first_asks : (v : PlainVersioning) (r : PlainRequirement) (list : List PlainRequirement) → Matches r v → MatchesAll list v ↔ MatchesAll (r ∷ list) v
+first_asks v r list asks = (λ all. All-cons (λ q. Matches q v) r list asks all, λ all. All-tail (λ q. Matches q v) r list all)
+
 pub all_ask : (v : PlainVersioning) (r : PlainRequirement) (others : Option (List PlainRequirement)) → IsSome others → Matches r v → Asked v others ↔ MatchesAll (r ∷ unwrap_or others []) v
 all_ask v r None some asks = cc some
-all_ask v r (Some list) some asks = (λ all. All-cons (λ q. Matches q v) r list asks all, λ all. All-tail (λ q. Matches q v) r list all)
+all_ask v r (Some list) some asks = first_asks v r list asks
 
 pub first_asks_not : (v : PlainVersioning) (r : PlainRequirement) (list : List PlainRequirement) → ¬ (Matches r v) → ¬ (MatchesAll (r ∷ list) v)
 first_asks_not v r list other all = other (All-head (λ q. Matches q v) r list all)

@@ -24,6 +24,7 @@ pub mod SemVerMatch
 pub mod SemVerOrder
 pub mod VersioningRef
 pub mod Tail
+pub mod TailRef
 pub mod Texts
 pub mod Version
 pub mod VersionLaws

@@ -1,4 +1,4 @@
--- The list of requirements that was scanned: its first member, and the text of the others behind the first comma.
+-- The list of requirements that was scanned: its first two members, and the text of the others after the second comma.
 use Rattle.std.specs.Prelude.{ℕ, List, [], ◌∷◌, Option, Some, None, IsSome}
 use Rattle.std.specs.Borrow.{Bor}
 use Rattle.std.specs.Option.{IsSomeAnd, option_map, unwrap_or}
@@ -19,9 +19,14 @@ members_of (Some text) = requirements_of text.now
 abbrev pub before_others : Option PlainRequirement → Option (List PlainRequirement) → Option (List PlainRequirement)
 before_others member others = member >>= λ r. option_map (λ list. r ∷ list) others
 
+-- the second member, if there is one, and the others
+abbrev pub from_second : Option RequirementRef → Option (Bor (List ℕ)) → List PlainRequirement
+from_second None others = []
+from_second (Some second) others = plain_requirement_ref second ∷ unwrap_or (members_of others) []
+
 -- the list that was scanned
-abbrev pub scanned_requirements : RequirementRef → Option (Bor (List ℕ)) → List PlainRequirement
-scanned_requirements first others = plain_requirement_ref first ∷ unwrap_or (members_of others) []
+abbrev pub scanned_requirements : RequirementRef → Option RequirementRef → Option (Bor (List ℕ)) → List PlainRequirement
+scanned_requirements first second others = plain_requirement_ref first ∷ from_second second others
 
 -- the others are members
 abbrev pub AreMembers : Option (Bor (List ℕ)) → Type 0

@@ -23,6 +23,7 @@ ghost use Rattle.versions.specs.Versioning.{plain_versioning, versioning_of};
 mod list;
 mod sections;
 pub(crate) mod short;
+pub(crate) mod spelled;
 mod tail;
 
 use crate::mess::{self, Mess};

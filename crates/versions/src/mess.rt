@@ -483,7 +483,8 @@ fn compare_sections(
 
 // The sign and the section at the front of a text, and the rest.
 #[tactic(auto, using(crate::proofs::MessScan::first_further))]
-fn scan_further(i: &str) -> Option<(Sep, SectionRef<'_>, &str)>
+#[inline(always)]
+pub(crate) fn scan_further(i: &str) -> Option<(Sep, SectionRef<'_>, &str)>
     ensures some { IfSome result (λ r. further_in i.now
         ≡ (plain_sep r.0, r.1) ∷ further_in r.2.now) }
     ensures shorter { IfSome result (λ r. length r.2.now < length i.now) }

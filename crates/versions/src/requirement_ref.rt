@@ -4,15 +4,12 @@ ghost use Rattle.std.specs.Prelude.{◌≡◌, ◌↔◌, IsTrue};
 ghost use Rattle.std.specs.Option.{option_map};
 ghost use Rattle.versions.specs.Matching.{Matches, MatchesCaret, MatchesOp, MatchesTilde};
 ghost use Rattle.versions.specs.Requirement.{requirement_of};
-ghost use Rattle.versions.specs.RequirementRef.{plain_requirement_ref, IsItsKey, IsKeyOf};
-ghost use Rattle.versions.specs.Key.{key_of, precedence};
+ghost use Rattle.versions.specs.RequirementRef.{plain_requirement_ref};
 ghost use Rattle.versions.specs.VersioningRef.{plain_versioning_ref};
 ghost use Rattle.versions.specs.Versioning.{is_ideal, PlainVersioning};
 
-use crate::key::{ShortKey, compare_keys};
 use crate::op::Op;
 use crate::versioning_ref::VersioningRef;
-use std::cmp::Ordering;
 
 /// A requirement, read off its text: a [`Requirement`](crate::Requirement) that owns nothing. No call takes memory.
 /// docs/REQUIREMENTS.md has the rules.
@@ -45,17 +42,8 @@ impl<'a> RequirementRef<'a> {
         ensures { IsTrue result
             ↔ Matches (plain_requirement_ref self.now) (plain_versioning_ref version.now) }
     {
-        self.matches_by(&None, version)
-    }
-
-    // The same, where the key of its own version is ready.
-    pub(crate) fn matches_by(&self, key: &Option<ShortKey>, version: &VersioningRef<'_>) -> bool
-        requires { IsItsKey key.now self.now }
-        ensures { IsTrue result
-            ↔ Matches (plain_requirement_ref self.now) (plain_versioning_ref version.now) }
-    {
         match &self.version {
-            Some(wanted) => asks_for(self.op, wanted, key, version),
+            Some(wanted) => asks_for(self.op, wanted, version),
             None => self.op == Op::Wildcard,
         }
     }
@@ -72,50 +60,20 @@ impl<'a> RequirementRef<'a> {
     }
 }
 
-// Whether an operator before one version, whose key may be ready, asks for another.
-fn asks_for(
-    op: Op,
-    wanted: &VersioningRef<'_>,
-    key: &Option<ShortKey>,
-    version: &VersioningRef<'_>,
-) -> bool
-    requires { IsKeyOf key.now (plain_versioning_ref wanted.now) }
+// Whether an operator before one version asks for another.
+fn asks_for(op: Op, wanted: &VersioningRef<'_>, version: &VersioningRef<'_>) -> bool
     ensures { IsTrue result
         ↔ MatchesOp op (plain_versioning_ref wanted.now) (plain_versioning_ref version.now) }
 {
     match op {
         Op::Exact => version == wanted,
         Op::Greater | Op::GreaterEq | Op::Less | Op::LessEq => {
-            op.asks_order(order_of(version, wanted, key))
+            op.asks_order(version.precedence(wanted))
         }
         Op::Tilde => matches_tilde(wanted, version),
         Op::Caret => matches_caret(wanted, version),
         Op::Wildcard => true,
     }
-}
-
-// How a version stands to a wanted one, whose key may be ready, in precedence. Where it isn't, the two keys are compared
-// piece by piece, since most differ early.
-#[tactic(auto, using(crate::proofs::Orders::key_bytes_alone))]
-fn order_of(
-    version: &VersioningRef<'_>,
-    wanted: &VersioningRef<'_>,
-    key: &Option<ShortKey>,
-) -> Ordering
-    requires { IsKeyOf key.now (plain_versioning_ref wanted.now) }
-    ensures { result ≡ precedence (key_of (plain_versioning_ref version.now))
-        (key_of (plain_versioning_ref wanted.now)) }
-{
-    if let Some(order) = version.strict_order(wanted) {
-        return order;
-    }
-    if let Some(wanted_key) = key {
-        let mut own = ShortKey::new();
-        if version.put_key(&mut own).is_ok() {
-            return own.as_slice().cmp(wanted_key.as_slice());
-        }
-    }
-    compare_keys(version.key_bytes(), wanted.key_bytes())
 }
 
 // Whether `~wanted` asks for a version.

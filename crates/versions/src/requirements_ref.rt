@@ -5,12 +5,10 @@ ghost use Rattle.std.specs.Option.{is_some, option_map, IsSomeAnd};
 ghost use Rattle.versions.specs.Matching.{MatchesAll};
 ghost use Rattle.versions.specs.Requirement.{requirement_of};
 ghost use Rattle.versions.specs.Requirements.{requirements_of};
-ghost use Rattle.versions.specs.RequirementRef.{IsItsKey};
-ghost use Rattle.versions.specs.RequirementsRef.{before_others, members_of, Keeps};
+ghost use Rattle.versions.specs.RequirementsRef.{before_others, from_second, members_of, AreMembers, Keeps};
 ghost use Rattle.versions.specs.VersioningRef.{plain_versioning_ref};
 ghost use Rattle.versions.specs.Versioning.{versioning_of};
 
-use crate::key::{NotShort, ShortKey};
 use crate::requirement_ref::RequirementRef;
 use crate::requirements::Requirements;
 use crate::semver::SemVerRef;
@@ -19,13 +17,12 @@ use std::marker::Model;
 use std::str;
 
 /// Requirements that have to be met all, read off their text: a [`Requirements`](crate::Requirements) that owns nothing.
-/// No call takes memory. The first member is scanned once, and the others each time that it is their turn.
+/// No call takes memory. The first two members are scanned once, and the others each time that it is their turn.
 #[derive(Drop)]
 pub struct RequirementsRef<'a> {
     first: RequirementRef<'a>,
-    // The key of its version, where that is short.
-    key: Option<ShortKey>,
-    // The text of the others, behind the first comma.
+    second: Option<RequirementRef<'a>>,
+    // The text of the others, after the second comma.
     others: Option<&'a str>,
 }
 
@@ -33,13 +30,12 @@ impl<'a> Model for RequirementsRef<'a> {
     ghost use Rattle.std.specs.Prelude.{List};
     ghost use Rattle.versions.specs.Requirement.{PlainRequirement};
     ghost use Rattle.versions.specs.RequirementsRef.{scanned_requirements, AreMembers};
-    ghost use Rattle.versions.specs.RequirementRef.{IsItsKey};
 
     ghost Value = { List PlainRequirement };
 
-    ghost view = { λ list. scanned_requirements list.first list.others };
+    ghost view = { λ list. scanned_requirements list.first list.second list.others };
 
-    ghost invariant = { λ list. AreMembers list.others × IsItsKey list.key list.first };
+    ghost invariant = { λ list. AreMembers list.others };
 }
 
 impl<'a> RequirementsRef<'a> {
@@ -50,11 +46,23 @@ impl<'a> RequirementsRef<'a> {
     {
         let (first, others) = split_first(s);
         let first = RequirementRef::new(first)?;
+        let Some(others) = others else {
+            return Some(RequirementsRef {
+                first,
+                second: None,
+                others: None,
+            });
+        };
+        let (second, others) = split_first(others);
+        let second = RequirementRef::new(second)?;
         if !are_members(others) {
             return None;
         }
-        let key = short_key(&first);
-        Some(RequirementsRef { first, key, others })
+        Some(RequirementsRef {
+            first,
+            second: Some(second),
+            others,
+        })
     }
 
     /// The list that bytes spell, as `new` reads their text. Bytes that are no UTF-8 spell none. Takes no memory.
@@ -72,7 +80,7 @@ impl<'a> RequirementsRef<'a> {
     pub fn matches(&self, version: &VersioningRef<'_>) -> bool
         ensures { IsTrue result ↔ MatchesAll self.now (plain_versioning_ref version.now) }
     {
-        self.first.matches_by(&self.key, version) && each_asks_for(self.others, version)
+        self.first.matches(version) && second_and_others_ask(&self.second, self.others, version)
     }
 
     /// Whether bytes spell a version that each member asks for. Where the first member is a tilde or a caret of a strict
@@ -101,18 +109,6 @@ impl<'a> RequirementsRef<'a> {
     }
 }
 
-// The key of a requirement's version, where it has one and that is short.
-fn short_key(requirement: &RequirementRef<'_>) -> Option<ShortKey>
-    ensures { IsItsKey result requirement.now }
-{
-    let mut key = ShortKey::new();
-    let version = requirement.version.as_ref()?;
-    match version.put_key(&mut key) {
-        Ok(()) => Some(key),
-        Err(NotShort) => None,
-    }
-}
-
 // The text before the first comma of a list, and what stands behind it, if there is one.
 fn split_first(list: &str) -> (&str, Option<&str>)
     ensures members { requirements_of list.now
@@ -131,6 +127,22 @@ fn are_members(text: Option<&str>) -> bool
 {
     match text {
         Some(text) => Requirements::is_spelled_by(text),
+        None => true,
+    }
+}
+
+// Whether the second member, if there is one, and each of the others ask for a version.
+fn second_and_others_ask(
+    second: &Option<RequirementRef<'_>>,
+    others: Option<&str>,
+    version: &VersioningRef<'_>,
+) -> bool
+    requires { AreMembers others }
+    ensures { IsTrue result ↔ MatchesAll (from_second second.now others.entry)
+        (plain_versioning_ref version.now) }
+{
+    match second {
+        Some(second) => second.matches(version) && each_asks_for(others, version),
         None => true,
     }
 }

@@ -5,17 +5,20 @@ ghost use Rattle.std.specs.Cmp.{eq_by_cmp_equiv, on_equiv, on_per, on_total, par
 ghost use Rattle.std.specs.Option.{option_map};
 ghost use Rattle.std.specs.Ordering.{as_partial_cmp, eq_by_cmp, on};
 ghost use Rattle.version_parts.specs.Lists.{GrowsWithin};
+ghost use Rattle.version_parts.specs.PartRef.{number_ref_value, parts_left};
 ghost use Rattle.versions.specs.Key.{key_of, precedence};
 ghost use Rattle.versions.specs.KeyBytes.{key_bytes};
 ghost use Rattle.versions.specs.Kind.{versioning_kind};
 ghost use Rattle.versions.specs.Orders.{versioning_cmp};
 ghost use Rattle.versions.specs.OrdersLaws.{versioning_cmp_ties, versioning_cmp_total};
+ghost use Rattle.versions.specs.TailRef.{tail_ref};
 ghost use Rattle.versions.specs.VersioningRef.{plain_versioning_ref};
 ghost use Rattle.versions.specs.Versioning.{kind_rank, plain_versioning, versioning_nth, versioning_of, versioning_plain_cmp, versioning_text, VersioningOwns};
 ghost use Rattle.versions.specs.VersioningLaws.{versioning_plain_total};
 
 use crate::key::short::{put_mess, put_semver, put_version};
-use crate::key::{KeyBytes, compare_keys};
+use crate::key::spelled::{TailRef, start_of_mess};
+use crate::key::KeyBytes;
 use crate::kind::Kind;
 use crate::mess::MessRef;
 use crate::semver::SemVerRef;
@@ -25,6 +28,7 @@ use std::alloc::{AllocError, Global};
 use std::cmp::Ordering;
 use std::{fmt, str};
 use version_parts::key::{NotShort, ShortKey};
+use version_parts::part::{NumberRef, PartsRef};
 
 /// A version of the first kind that fits its text, read off that text: a [`Versioning`] that owns nothing and lives as
 /// long as the text. It compares, prints and counts as that one does. No call but `to_owned` takes memory, and each
@@ -93,32 +97,55 @@ impl<'a> VersioningRef<'a> {
 
     /// How two versions compare in the one order of all versions, by their keys (docs/ORDER.md). `Ord` breaks its ties.
     /// Takes no memory.
-    #[tactic(auto, using(crate::proofs::Orders::key_bytes_alone))]
+    #[tactic(auto, using(crate::proofs::Orders::laws))]
     pub fn precedence(&self, other: &VersioningRef<'_>) -> Ordering
         ensures { result ≡ precedence (key_of (plain_versioning_ref self.now))
             (key_of (plain_versioning_ref other.now)) }
     {
-        if let Some(order) = self.strict_order(other) {
-            return order;
+        if let (VersioningRef::Ideal(a), VersioningRef::Ideal(b)) = (self, other) {
+            return a.compare_plain(b);
         }
-        let (mut key, mut other_key) = (ShortKey::new(), ShortKey::new());
-        if self.put_key(&mut key).is_ok() && other.put_key(&mut other_key).is_ok() {
-            return key.as_slice().cmp(other_key.as_slice());
+        let (epoch, body) = self.key_start();
+        let (other_epoch, other_body) = other.key_start();
+        let epochs = epoch.compare(other_epoch);
+        if epochs != Ordering::Equal {
+            return epochs;
         }
-        compare_keys(self.key_bytes(), other.key_bytes())
+        let bodies = body.compare(other_body);
+        if bodies != Ordering::Equal {
+            return bodies;
+        }
+        self.key_tail().compare(&other.key_tail())
     }
 
-    // How two strict versions compare, which takes no key. None where not both are strict.
-    #[tactic(auto, using(crate::proofs::Orders::laws))]
+    // What its key begins with: the epoch, and the parts of the body.
     #[inline(always)]
-    pub(crate) fn strict_order(&self, other: &VersioningRef<'_>) -> Option<Ordering>
-        ensures { IfSome result (λ order. order
-            ≡ precedence (key_of (plain_versioning_ref self.now))
-            (key_of (plain_versioning_ref other.now))) }
+    fn key_start(&self) -> (NumberRef<'a>, PartsRef<'a>)
+        ensures epoch { number_ref_value result.0
+            ≡ (key_of (plain_versioning_ref self.now)).epoch }
+        ensures body { parts_left result.1 ≡ (key_of (plain_versioning_ref self.now)).body }
     {
-        match (self, other) {
-            (VersioningRef::Ideal(a), VersioningRef::Ideal(b)) => Some(a.compare_plain(b)),
-            _ => None,
+        match self {
+            VersioningRef::Ideal(ideal) => {
+                let numbers = PartsRef::Three(ideal.major, ideal.minor, ideal.patch);
+                (NumberRef::Value(0), numbers)
+            }
+            VersioningRef::General(general) => {
+                let epoch = general.epoch.unwrap_or(0);
+                (NumberRef::Value(epoch), general.body.compared_parts())
+            }
+            VersioningRef::Complex(complex) => start_of_mess(complex),
+        }
+    }
+
+    // What its key ends with.
+    fn key_tail(&self) -> TailRef<'a>
+        ensures { tail_ref result ≡ (key_of (plain_versioning_ref self.now)).tail }
+    {
+        match self {
+            VersioningRef::Ideal(ideal) => TailRef::of_semver(ideal),
+            VersioningRef::General(general) => TailRef::of_version(general),
+            VersioningRef::Complex(complex) => TailRef::of_mess(complex),
         }
     }
 

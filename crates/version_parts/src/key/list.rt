@@ -16,7 +16,9 @@ ghost use Rattle.version_parts.specs.ReleaseOrder.{chunk_bytes};
 
 use crate::chunk::{Chunk, ChunkText, Part, ReleaseChunk};
 use crate::key::PieceBytes;
-use crate::key::short::{NotShort, ShortKey, put_byte, put_numeral, put_part, put_text};
+use crate::key::short::{
+    NotShort, ShortKey, put_byte, put_numeral, put_numeral_part, put_part, put_text,
+};
 use crate::mchunk::{MChunk, MessyChunk};
 use crate::scan::{Class, Dotted, Element, after_mark, nonempty_run};
 use std::marker::Model;
@@ -320,7 +322,7 @@ impl Code for Part {
         let Some((chunk, rest)) = ChunkText::scan(i, Class::Alphanumeric) else {
             return Err(NotShort);
         };
-        put_part(short, chunk.text().as_bytes())?;
+        put_chunk_as_part(short, chunk)?;
         Ok(rest)
     }
 
@@ -429,4 +431,19 @@ fn put_chunk(key: &mut ShortKey, chunk: ChunkText<'_>) -> Result<(), NotShort>
             put_text(key, text.as_bytes())
         }
     }
+}
+
+// Puts a chunk of a general version behind a short key, as a part.
+#[tactic(auto, using(crate::proofs::ListBytes::plain_number))]
+#[inline(always)]
+fn put_chunk_as_part(key: &mut ShortKey, chunk: ChunkText<'_>) -> Result<(), NotShort>
+    requires { IsChunkText chunk }
+    ensures { OnOk result (key.new.items
+        ≡ key.old.items ++ part_bytes (Some (part_key (chunk_text (chunk_of_text chunk.entry))))) }
+{
+    match chunk {
+        ChunkText::Numeral(digits) => put_numeral_part(key, digits)?,
+        ChunkText::Alphanum(text) => put_part(key, text.as_bytes())?,
+    }
+    Ok(())
 }

@@ -16,6 +16,7 @@ ghost use Rattle.version_parts.specs.TextBytes.{text_bytes};
 
 use crate::key::inline::InlineBytes;
 use crate::key::piece::counted_digits;
+use crate::part::number::without_zeros;
 use crate::scan::{Class, begins_with, split_bytes};
 use arrayvec::ArrayVec;
 
@@ -109,16 +110,17 @@ pub(crate) fn put_numeral(key: &mut ShortKey, numeral: &str) -> Result<(), NotSh
     put_bytes(key, digits)
 }
 
-// What stands behind the zeros that a text begins with.
+// Puts the number that a numeral writes as a plain part.
 #[inline(always)]
-fn without_zeros(text: &[u8]) -> &[u8]
-    ensures { result.now ≡ drop (prefix_len (λ b. b == 48) text.now) text.now }
+pub(crate) fn put_numeral_part(key: &mut ShortKey, numeral: &str) -> Result<(), NotShort>
+    requires { SpellsNumeral numeral.now (digits_value 10 numeral.now) }
+    ensures { OnOk result (key.new.items
+        ≡ key.old.items ++ part_bytes (Some (plain.Number (digits_value 10 numeral.now) None))) }
 {
-    let mut left = text;
-    while let [b'0', rest @ ..] = left {
-        left = rest;
-    }
-    left
+    put_byte(key, 3)?;
+    put_numeral(key, numeral)?;
+    put_byte(key, 2)?;
+    Ok(())
 }
 
 // Puts the bytes of a text.

@@ -1,9 +1,8 @@
-use Rattle.std.proofs.Common.{IsTrue, List, [], refl, subst}
-use Rattle.std.specs.Option.{unwrap_or}
+use Rattle.std.proofs.Common.{IsTrue, List, refl, subst}
 use Rattle.versions.specs.Matching.{MatchesAll}
 use Rattle.versions.specs.Requirement.{PlainRequirement}
 use Rattle.versions.specs.RequirementRef.{plain_requirement_ref}
-use Rattle.versions.specs.RequirementsRef.{members_of}
+use Rattle.versions.specs.RequirementsRef.{from_second}
 use Rattle.versions.specs.Versioning.{PlainVersioning, is_ideal}
 use Rattle.versions.proofs.ScannedLists.{none_strict, strict_by_first}
 use Rattle.versions.proofs.requirements_ref.RequirementsRef.candidate.Goals as goal
@@ -11,7 +10,7 @@ use Rattle.versions.proofs.requirements_ref.RequirementsRef.candidate.Goals as g
 pub returns-in_err-new : goal.returns-in_err-new
 returns-in_err-new c =
     let list = c.self.inside in
-    let strict = strict_by_first (plain_requirement_ref list.first) (unwrap_or (members_of list.others) []) (c.if-asks_for_strict_alone.ensures refl) in
+    let strict = strict_by_first (plain_requirement_ref list.first) (from_second list.second list.others) (c.if-asks_for_strict_alone.ensures refl) in
     let asked = subst (λ (list : List PlainRequirement). (v : PlainVersioning) → MatchesAll list v → IsTrue (is_ideal v)) c.self.view_is strict in
     let unkept = none_strict c.args.self.now c.args.text.now asked c.in_err-new.ensures in
     rw c.from_residual.ensures (λ kept. absurd kept, λ kept. absurd (unkept kept))

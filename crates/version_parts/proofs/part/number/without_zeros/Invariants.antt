@@ -1,6 +1,6 @@
 use Rattle.std.proofs.Common.{◌≡◌, ◌==◌, drop, length}
 use Rattle.std.specs.List.{prefix_len}
-use Rattle.version_parts.proofs.key.short.without_zeros.Given as goal
+use Rattle.version_parts.proofs.part.number.without_zeros.Given as goal
 
 -- without its zeros, what is left is the same
 abbrev pub invariant-loop-left : goal.invariant-loop-left
