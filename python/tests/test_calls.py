@@ -208,6 +208,15 @@ class Threads(unittest.TestCase):
 
 
 class Package(unittest.TestCase):
+    def test_a_processor_that_lacks_something_is_an_import_error(self):
+        calls = mock.Mock()
+        calls.versions_processor_suffices.return_value = False
+        with mock.patch.object(_library.ctypes, "CDLL", return_value=calls):
+            self.assertRaisesRegex(ImportError, "x86-64-v2", _library._load)
+        calls.versions_processor_suffices.return_value = True
+        with mock.patch.object(_library.ctypes, "CDLL", return_value=calls):
+            self.assertIs(_library._load(), calls)
+
     def test_names(self):
         for name in versions.__all__:
             self.assertTrue(hasattr(versions, name), name)
