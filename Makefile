@@ -2,9 +2,9 @@
 #   make                             proves and builds what isn't built yet, or is older than its sources
 #   make install                     the same, and installs it below PREFIX, which is /usr/local where it isn't set
 #   make uninstall                   removes what `make install` with the same settings installs; folders stay
-# BINDIR, LIBDIR, INCLUDEDIR and MANDIR choose other folders than those below PREFIX. DESTDIR stands before each path, and
-# what is installed doesn't name it. C_LIBRARY is a folder that c/build has built, and VERS the program; what is set is
-# installed as it is. EXTENSION is the file in which the extension of SQLite is built.
+# BINDIR, LIBDIR, INCLUDEDIR and MANDIR choose other folders than those below PREFIX. DESTDIR stands before each path,
+# and what is installed doesn't name it. C_LIBRARY is a folder that c/build has built, and VERS the program; what is set
+# is installed as it is. EXTENSION is the file in which the extension of SQLite is built.
 PREFIX ?= /usr/local
 BINDIR ?= $(PREFIX)/bin
 LIBDIR ?= $(PREFIX)/lib

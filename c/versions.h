@@ -13,12 +13,12 @@
  * buffer; the first needn't be 0, and the last needn't be the buffer's length. Each array is passed with its own
  * length, so that nothing behind it is ever looked at: n + 1 for offsets, n for one answer a text.
  *
- * Null pointers. A null pointer with length 0 is an empty text or an empty array. Any other null pointer is a fault: the
- * call returns VERSIONS_NULL, whatever else is wrong, and reads and writes nothing.
+ * Null pointers. A null pointer with length 0 is an empty text or an empty array. Any other null pointer is a fault:
+ * the call returns VERSIONS_NULL, whatever else is wrong, and reads and writes nothing.
  *
- * Owning. Nothing is kept and nothing is handed out: all that a call reads and writes is the caller's, and is free
- * again when the call returns. What is written to must overlap with nothing else that the call is passed. No call takes
- * memory.
+ * Owning. Nothing is kept, and nothing is handed out but the constant texts of versions_status_text and
+ * versions_version: all else that a call reads and writes is the caller's, and is free again when the call returns.
+ * What is written to must overlap with nothing else that the call is passed. No call takes memory.
  *
  * Statuses. A call returns VERSIONS_OK or says what is wrong, and what it was to write is written only where it
  * returns VERSIONS_OK, unless its own words say otherwise.
@@ -114,11 +114,11 @@ int versions_matches(const char *list, size_t list_len, const char *text, size_t
 /*
  * The number at a place of a version, counted from 0.
  *
- * An ideal version has three: major, minor and patch. A general version has a place for each part between its epoch and
- * its release. A part that is a number gives that number. The last part also gives the number that it begins with, where
- * letters follow that number, and after them nothing or one more number: 1.7d-15 has 7 at place 1, and 2rc1 has 2 at
- * place 0. A complex version has a place for each part of the first section that no colon follows, and a part that is
- * digits alone gives their number: 1:20.0026.1_0-2 has 26 at place 1. Any other part has no number.
+ * An ideal version has three: major, minor and patch. A general version has a place for each part between its epoch
+ * and its release. A part that is a number gives that number. The last part also gives the number that it begins with,
+ * where letters follow that number, and after them nothing or one more number: 1.7d-15 has 7 at place 1, and 2rc1 has 2
+ * at place 0. A complex version has a place for each part of the first section that no colon follows, and a part that
+ * is digits alone gives their number: 1:20.0026.1_0-2 has 26 at place 1. Any other part has no number.
  * Returns VERSIONS_OK, VERSIONS_NO_VERSION or VERSIONS_NO_NUMBER.
  */
 int versions_nth(const char *text, size_t text_len, size_t n, uint32_t *number);

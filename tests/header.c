@@ -1,5 +1,5 @@
-// What the header has to leave to whoever includes it. tests/c compiles this with every warning, as C and as C++ of each
-// standard, links the library, and runs it.
+// What the header has to leave to whoever includes it. tests/c compiles this with every warning, as C and as C++ of
+// each standard, links the library, and runs it.
 #include <versions.h>
 #include <versions.h>  // Once more is no fault.
 

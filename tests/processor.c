@@ -2,7 +2,7 @@
 #include <cpuid.h>
 #include <stdio.h>
 
-// What the processor says of itself in the register ecx, by leaf 1 and by leaf 0x80000001, and whether it has that leaf.
+// What the processor answers in the register ecx for leaf 1 and for leaf 0x80000001, and whether it has these leaves.
 static unsigned features, more_features;
 static int has_features, has_more_features;
 
