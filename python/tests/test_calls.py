@@ -1,5 +1,6 @@
 """Calls on one text and on many: what they answer, and what they say of what is no text."""
 
+import importlib.metadata
 import os
 import re
 import threading
@@ -222,10 +223,12 @@ class Package(unittest.TestCase):
             self.assertTrue(hasattr(versions, name), name)
             self.assertTrue(name == "Kind" or getattr(versions, name).__doc__, name)
 
-    def test_statuses_are_those_of_the_header(self):
+    def test_version_and_statuses_are_those_of_the_header(self):
         header = os.path.join(os.path.dirname(__file__), "..", "..", "c", "versions.h")
         with open(header, encoding="utf-8") as file:
-            statuses = dict(re.findall(r"#define VERSIONS_(\w+) (\d+)", file.read()))
+            text = file.read()
+        self.assertIn(f'#define VERSIONS_VERSION "{importlib.metadata.version("versions")}"\n', text)
+        statuses = dict(re.findall(r"#define VERSIONS_(\w+) (\d+)", text))
         for name in ("OK", "NO_VERSION_B", "NO_REQUIREMENTS", "NO_NUMBER", "BAD_OFFSETS"):
             self.assertEqual(getattr(_library, name), int(statuses[name]), name)
         for name, number in (("NONE", 0), ("IDEAL", 1), ("GENERAL", 2), ("COMPLEX", 3)):
