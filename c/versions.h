@@ -5,28 +5,32 @@
  * documentation's. Link with -lversions.
  *
  * Texts. A text is a pointer and a length in bytes. No byte 0 is needed behind it, and a byte 0 in it is a byte like
- * any other. A null pointer with length 0 is the empty text. Every text of every length is answered; one that is not
- * UTF-8 is no version. A version is of the first of three kinds that fits: ideal (strict, as SemVer 2.0 has it),
- * general, complex.
+ * any other. Every text of every length is answered; one that is not UTF-8 is no version. A version is of the first of
+ * three kinds that fits: ideal (strict, as SemVer 2.0 has it), general, complex.
  *
  * Many texts. They lie in one buffer, as in a large binary array of Apache Arrow: n + 1 offsets, the text of place i
  * being the bytes from offsets[i] up to offsets[i + 1]. Offsets don't descend, are not negative and lie within the
  * buffer; the first needn't be 0, and the last needn't be the buffer's length. Each array is passed with its own
  * length, so that nothing behind it is ever looked at: n + 1 for offsets, n for one answer a text.
  *
- * Owning. Nothing is kept and nothing is handed out: all that a call reads and writes is the caller's, and is free
- * again when the call returns. What is written to must overlap with nothing else that the call is passed. No call takes
- * memory.
+ * Null pointers. A null pointer with length 0 is an empty text or an empty array. Any other null pointer is a fault:
+ * the call returns VERSIONS_NULL, whatever else is wrong, and reads and writes nothing.
+ *
+ * Owning. Nothing is kept, and nothing is handed out but the constant texts of versions_status_text and
+ * versions_version: all else that a call reads and writes is the caller's, and is free again when the call returns.
+ * What is written to must overlap with nothing else that the call is passed. No call takes memory.
  *
  * Statuses. A call returns VERSIONS_OK or says what is wrong, and what it was to write is written only where it
- * returns VERSIONS_OK, unless its own words say otherwise. A pointer to one number may not be null.
+ * returns VERSIONS_OK, unless its own words say otherwise.
  *
  * Threads. The library has no state: any thread may make any call at any time, on memory of which no other thread
  * changes anything meanwhile. So may a signal handler.
  *
- * Other languages. The names below are functions of the library, which bear these signatures. In C and C++ they are
- * macros, too, that pass a null pointer on as one to an empty text. Who calls the functions themselves, as by a foreign
- * function interface, passes no null pointer, whatever the length.
+ * Other languages. Each call is a function of the library, and no macro. A foreign function interface calls it by the
+ * same rules as C does.
+ *
+ * Processor. The library needs a processor of the level x86-64-v2; versions_processor_suffices answers whether this is
+ * one.
  */
 #ifndef VERSIONS_H
 #define VERSIONS_H
@@ -39,6 +43,12 @@
 extern "C" {
 #endif
 
+/* The version of the library that this header is of. c/build reads it here. */
+#define VERSIONS_VERSION "0.1.0"
+#define VERSIONS_VERSION_MAJOR 0
+#define VERSIONS_VERSION_MINOR 1
+#define VERSIONS_VERSION_PATCH 0
+
 /* The statuses. */
 #define VERSIONS_OK 0
 #define VERSIONS_NO_VERSION 1      /* the text is no version */
@@ -50,6 +60,7 @@ extern "C" {
 #define VERSIONS_NO_ROOM 7         /* there is too little room for the keys */
 #define VERSIONS_BAD_OFFSETS 8     /* an offset is bad, or the lengths of two arrays don't fit */
 #define VERSIONS_NO_MEMORY 9       /* returned by no call, since none takes memory */
+#define VERSIONS_NULL 10           /* a pointer is null, and what it should point to is not empty */
 
 /* The kinds. */
 #define VERSIONS_NONE 0    /* no version */
@@ -58,7 +69,8 @@ extern "C" {
 #define VERSIONS_COMPLEX 3 /* as 10.2+0.93+1-1 */
 
 /*
- * The kind of a text: VERSIONS_NONE, VERSIONS_IDEAL, VERSIONS_GENERAL or VERSIONS_COMPLEX.
+ * The kind of a text: VERSIONS_NONE, VERSIONS_IDEAL, VERSIONS_GENERAL or VERSIONS_COMPLEX. This call returns no status;
+ * where text is null and text_len is not 0, it returns -VERSIONS_NULL, which is no kind.
  */
 int versions_kind(const char *text, size_t text_len);
 
@@ -100,8 +112,13 @@ size_t versions_sort_key_bound(size_t text_len);
 int versions_matches(const char *list, size_t list_len, const char *text, size_t text_len, bool *matches);
 
 /*
- * The number at a place of a version, counted from 0: major, minor and patch of a strict one, and of the other kinds
- * those parts that are plain numbers.
+ * The number at a place of a version, counted from 0.
+ *
+ * An ideal version has three: major, minor and patch. A general version has a place for each part between its epoch
+ * and its release. A part that is a number gives that number. The last part also gives the number that it begins with,
+ * where letters follow that number, and after them nothing or one more number: 1.7d-15 has 7 at place 1, and 2rc1 has 2
+ * at place 0. A complex version has a place for each part of the first section that no colon follows, and a part that
+ * is digits alone gives their number: 1:20.0026.1_0-2 has 26 at place 1. Any other part has no number.
  * Returns VERSIONS_OK, VERSIONS_NO_VERSION or VERSIONS_NO_NUMBER.
  */
 int versions_nth(const char *text, size_t text_len, size_t n, uint32_t *number);
@@ -134,53 +151,25 @@ int versions_sort_keys(const char *texts, size_t texts_len, const int64_t *offse
 int versions_match_all(const char *list, size_t list_len, const char *texts, size_t texts_len, const int64_t *offsets,
                        size_t offsets_len, uint8_t *matches, size_t matches_len);
 
+/*
+ * What a status says, in English; never null. The text is the library's, and lasts as long as the library is loaded.
+ */
+const char *versions_status_text(int status);
+
+/*
+ * The version of the library that was loaded, as VERSIONS_VERSION is that of the header.
+ */
+const char *versions_version(void);
+
+/*
+ * Whether this processor has all instructions of the level x86-64-v2: SSE4.2 and what it implies, POPCNT, CMPXCHG16B
+ * and LAHF. On a processor that lacks one of them no call may be made but this one, versions_status_text and
+ * versions_version. A program that loads the library while it runs asks this first.
+ */
+bool versions_processor_suffices(void);
+
 #ifdef __cplusplus
 }
 #endif
-
-/* What a status says, in English; never null. */
-static inline const char *versions_status_text(int status) {
-  switch (status) {
-    case VERSIONS_OK: return "no fault";
-    case VERSIONS_NO_VERSION: return "the text is no version";
-    case VERSIONS_NO_VERSION_A: return "the first text is no version";
-    case VERSIONS_NO_VERSION_B: return "the second text is no version";
-    case VERSIONS_NO_VERSION_AB: return "neither text is a version";
-    case VERSIONS_NO_REQUIREMENTS: return "the list is no list of requirements";
-    case VERSIONS_NO_NUMBER: return "the version has no number at that place";
-    case VERSIONS_NO_ROOM: return "there is too little room for the keys";
-    case VERSIONS_BAD_OFFSETS: return "an offset is bad, or the lengths of two arrays don't fit";
-    case VERSIONS_NO_MEMORY: return "there is no memory";
-    default: return "not a status of this library";
-  }
-}
-
-/* Guards: the library is passed no null pointer, so that an empty text or an empty array may be one here. */
-static inline const char *versions_guard_text(const char *text) { return text != NULL ? text : ""; }
-
-static inline uint8_t *versions_guard_bytes(uint8_t *bytes) {
-  static uint8_t none;
-  return bytes != NULL ? bytes : &none;
-}
-
-#define versions_kind(text, text_len) versions_kind(versions_guard_text(text), (text_len))
-#define versions_compare(a, a_len, b, b_len, order) \
-  versions_compare(versions_guard_text(a), (a_len), versions_guard_text(b), (b_len), (order))
-#define versions_compare_total(a, a_len, b, b_len, order) \
-  versions_compare_total(versions_guard_text(a), (a_len), versions_guard_text(b), (b_len), (order))
-#define versions_sort_key(text, text_len, key, room, key_len) \
-  versions_sort_key(versions_guard_text(text), (text_len), versions_guard_bytes(key), (room), (key_len))
-#define versions_matches(list, list_len, text, text_len, matches) \
-  versions_matches(versions_guard_text(list), (list_len), versions_guard_text(text), (text_len), (matches))
-#define versions_nth(text, text_len, n, number) versions_nth(versions_guard_text(text), (text_len), (n), (number))
-#define versions_kinds(texts, texts_len, offsets, offsets_len, kinds, kinds_len) \
-  versions_kinds(versions_guard_text(texts), (texts_len), (offsets), (offsets_len), versions_guard_bytes(kinds), \
-                 (kinds_len))
-#define versions_sort_keys(texts, texts_len, offsets, offsets_len, keys, room, key_offsets, key_offsets_len) \
-  versions_sort_keys(versions_guard_text(texts), (texts_len), (offsets), (offsets_len), versions_guard_bytes(keys), \
-                     (room), (key_offsets), (key_offsets_len))
-#define versions_match_all(list, list_len, texts, texts_len, offsets, offsets_len, matches, matches_len) \
-  versions_match_all(versions_guard_text(list), (list_len), versions_guard_text(texts), (texts_len), (offsets), \
-                     (offsets_len), versions_guard_bytes(matches), (matches_len))
 
 #endif

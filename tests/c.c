@@ -3,7 +3,7 @@
 //   compare   how each line compares with the one behind it: by precedence, and with ties broken
 //   match R   for each line 1, 0 or 2, as versions_match_all has it
 //   threads   the same answers from eight threads at once
-//   edges     what needs no lines: null pointers, rooms, offsets, bytes that are no text, and every status
+//   edges     what needs no lines: null pointers, rooms, offsets, bytes that are no text, every status, the version
 //   long      texts of megabytes
 //   memory    every call, where nothing else takes memory
 // A call for many texts and the single call have to agree wherever both are made. It ends with status 1 where something
@@ -304,8 +304,67 @@ static void refused_offsets(const int64_t *offsets, size_t offsets_length, size_
   for (size_t i = 0; i < 5; i++) CHECK(key_offsets[i] == 77);
 }
 
+// A null pointer whose length isn't 0 is refused, whatever else is wrong, and nothing is written.
+static void refused_null_pointers(void) {
+  const int64_t offsets[] = {0, 5}, descending[] = {5, 0};
+  int32_t order = 77;
+  bool matches = true;
+  uint32_t number = 77;
+  size_t length = 77;
+  uint8_t answers[8];
+  int64_t key_offsets[2] = {77, 77};
+  memset(answers, 77, sizeof answers);
+  CHECK(versions_kind(NULL, 1) == -VERSIONS_NULL);
+  CHECK(versions_kind(NULL, SIZE_MAX) == -VERSIONS_NULL);
+
+  CHECK(versions_compare(NULL, 1, "1", 1, &order) == VERSIONS_NULL);
+  CHECK(versions_compare("1", 1, NULL, SIZE_MAX, &order) == VERSIONS_NULL);
+  CHECK(versions_compare("", 0, NULL, 1, &order) == VERSIONS_NULL);
+  CHECK(versions_compare("1", 1, "2", 1, NULL) == VERSIONS_NULL);
+  CHECK(versions_compare_total(NULL, 1, "1", 1, &order) == VERSIONS_NULL);
+  CHECK(versions_compare_total("1", 1, NULL, SIZE_MAX, &order) == VERSIONS_NULL);
+  CHECK(versions_compare_total("", 0, NULL, 1, &order) == VERSIONS_NULL);
+  CHECK(versions_compare_total("1", 1, "2", 1, NULL) == VERSIONS_NULL);
+  CHECK(order == 77);
+
+  CHECK(versions_sort_key(NULL, 5, answers, sizeof answers, &length) == VERSIONS_NULL);
+  CHECK(versions_sort_key("1.2.3", 5, NULL, 20, &length) == VERSIONS_NULL);
+  CHECK(versions_sort_key("1.2.3", 5, NULL, 1, &length) == VERSIONS_NULL);
+  CHECK(versions_sort_key("", 0, NULL, 1, &length) == VERSIONS_NULL);
+  CHECK(versions_sort_key("1.2.3", 5, answers, sizeof answers, NULL) == VERSIONS_NULL);
+  CHECK(versions_sort_key("1.2.3", 5, NULL, 0, NULL) == VERSIONS_NULL);
+  CHECK(length == 77);
+
+  CHECK(versions_matches(NULL, 1, "1", 1, &matches) == VERSIONS_NULL);
+  CHECK(versions_matches("*", 1, NULL, 1, &matches) == VERSIONS_NULL);
+  CHECK(versions_matches("no list", 7, NULL, 1, &matches) == VERSIONS_NULL);
+  CHECK(versions_matches("*", 1, "1", 1, NULL) == VERSIONS_NULL);
+  CHECK(matches);
+  CHECK(versions_nth(NULL, 1, 0, &number) == VERSIONS_NULL);
+  CHECK(versions_nth("1", 1, 0, NULL) == VERSIONS_NULL);
+  CHECK(versions_nth("", 0, 0, NULL) == VERSIONS_NULL);
+  CHECK(number == 77);
+
+  CHECK(versions_kinds(NULL, 5, offsets, 2, answers, 1) == VERSIONS_NULL);
+  CHECK(versions_kinds("1.2.3", 5, NULL, 2, answers, 1) == VERSIONS_NULL);
+  CHECK(versions_kinds("1.2.3", 5, offsets, 2, NULL, 1) == VERSIONS_NULL);
+  CHECK(versions_kinds("1.2.3", 5, descending, 2, NULL, 1) == VERSIONS_NULL);
+  CHECK(versions_sort_keys(NULL, 5, offsets, 2, answers, sizeof answers, key_offsets, 2) == VERSIONS_NULL);
+  CHECK(versions_sort_keys("1.2.3", 5, NULL, 2, answers, sizeof answers, key_offsets, 2) == VERSIONS_NULL);
+  CHECK(versions_sort_keys("1.2.3", 5, offsets, 2, NULL, 20, key_offsets, 2) == VERSIONS_NULL);
+  CHECK(versions_sort_keys("1.2.3", 5, offsets, 2, answers, sizeof answers, NULL, 2) == VERSIONS_NULL);
+  CHECK(versions_sort_keys("1.2.3", 5, descending, 2, NULL, 20, key_offsets, 2) == VERSIONS_NULL);
+  CHECK(versions_match_all(NULL, 1, "1.2.3", 5, offsets, 2, answers, 1) == VERSIONS_NULL);
+  CHECK(versions_match_all("*", 1, NULL, 5, offsets, 2, answers, 1) == VERSIONS_NULL);
+  CHECK(versions_match_all("*", 1, "1.2.3", 5, NULL, 2, answers, 1) == VERSIONS_NULL);
+  CHECK(versions_match_all("*", 1, "1.2.3", 5, offsets, 2, NULL, 1) == VERSIONS_NULL);
+  CHECK(versions_match_all("no list", 7, "1.2.3", 5, descending, 2, NULL, 1) == VERSIONS_NULL);
+  for (size_t i = 0; i < sizeof answers; i++) CHECK(answers[i] == 77);
+  CHECK(key_offsets[0] == 77 && key_offsets[1] == 77);
+}
+
 static void edges(void) {
-  // Null pointers, and bytes that are no text.
+  // Null pointers to empty texts, and bytes that are no text.
   int32_t order = 77;
   bool matches = true;
   uint32_t number = 77;
@@ -351,6 +410,10 @@ static void edges(void) {
   CHECK(versions_nth("1:2:3.4", 7, 0, &number) == VERSIONS_OK && number == 3);
   CHECK(versions_nth("1:2:3.4", 7, 1, &number) == VERSIONS_OK && number == 4);
   CHECK(versions_nth("1:2:3.4", 7, 2, &number) == VERSIONS_NO_NUMBER && number == 4);
+  CHECK(versions_nth("1:20.0026.1_0-2", 15, 1, &number) == VERSIONS_OK && number == 26);
+  CHECK(versions_nth("1.7d-15", 7, 1, &number) == VERSIONS_OK && number == 7);
+  CHECK(versions_nth("2rc1", 4, 0, &number) == VERSIONS_OK && number == 2);
+  CHECK(versions_nth("1.7d.3", 6, 1, &number) == VERSIONS_NO_NUMBER && number == 2);
 
   // Rooms. No text of three bytes has a longer key than 1_1.
   CHECK(versions_sort_key_bound(0) == 5);
@@ -366,6 +429,9 @@ static void edges(void) {
   CHECK(versions_match_all("*", 1, NULL, 0, one_offset, 1, NULL, 0) == VERSIONS_OK);
   CHECK(versions_sort_keys(NULL, 0, one_offset, 1, NULL, 0, key_offsets, 1) == VERSIONS_OK && key_offsets[0] == 0);
   CHECK(versions_kinds("1.2.31.2", 8, last, 1, NULL, 0) == VERSIONS_OK);
+  CHECK(versions_kinds(NULL, 0, NULL, 0, NULL, 0) == VERSIONS_BAD_OFFSETS);
+  CHECK(versions_match_all("*", 1, NULL, 0, NULL, 0, NULL, 0) == VERSIONS_BAD_OFFSETS);
+  CHECK(versions_sort_keys(NULL, 0, NULL, 0, NULL, 0, NULL, 0) == VERSIONS_BAD_OFFSETS);
   CHECK(versions_kinds("???1.2.31.2???", 14, apart, 4, answers, 3) == VERSIONS_OK);
   CHECK(answers[0] == VERSIONS_IDEAL && answers[1] == VERSIONS_NONE && answers[2] == VERSIONS_GENERAL && answers[3] == 77);
   CHECK(versions_match_all("1.2", 3, "???1.2.31.2???", 14, apart, 4, answers, 3) == VERSIONS_NO_REQUIREMENTS);
@@ -388,10 +454,17 @@ static void edges(void) {
   refused_offsets(good, 0, 0);
 
   // Every status has a text of its own.
-  for (int a = VERSIONS_OK; a <= VERSIONS_NO_MEMORY + 1; a++) {
+  for (int a = VERSIONS_OK; a <= VERSIONS_NULL + 1; a++) {
     CHECK(strlen(versions_status_text(a)) > 5);
     for (int b = VERSIONS_OK; b < a; b++) CHECK(strcmp(versions_status_text(a), versions_status_text(b)) != 0);
   }
+
+  // The version, and the processor, which makes all the other calls.
+  char version[40];
+  snprintf(version, sizeof version, "%d.%d.%d", VERSIONS_VERSION_MAJOR, VERSIONS_VERSION_MINOR, VERSIONS_VERSION_PATCH);
+  CHECK(strcmp(version, VERSIONS_VERSION) == 0);
+  CHECK(strcmp(versions_version(), VERSIONS_VERSION) == 0);
+  CHECK(versions_processor_suffices());
 }
 
 // Every call on a text of many bytes, made of a piece again and again with one byte behind it.
@@ -486,6 +559,7 @@ int main(int count, char **words) {
   const char *word = count > 1 ? words[1] : "";
   if (strcmp(word, "edges") == 0) {
     edges();
+    refused_null_pointers();
   } else if (strcmp(word, "long") == 0) {
     long_texts();
   } else {

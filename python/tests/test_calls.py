@@ -1,5 +1,6 @@
 """Calls on one text and on many: what they answer, and what they say of what is no text."""
 
+import importlib.metadata
 import os
 import re
 import threading
@@ -208,15 +209,26 @@ class Threads(unittest.TestCase):
 
 
 class Package(unittest.TestCase):
+    def test_a_processor_that_lacks_something_is_an_import_error(self):
+        calls = mock.Mock()
+        calls.versions_processor_suffices.return_value = False
+        with mock.patch.object(_library.ctypes, "CDLL", return_value=calls):
+            self.assertRaisesRegex(ImportError, "x86-64-v2", _library._load)
+        calls.versions_processor_suffices.return_value = True
+        with mock.patch.object(_library.ctypes, "CDLL", return_value=calls):
+            self.assertIs(_library._load(), calls)
+
     def test_names(self):
         for name in versions.__all__:
             self.assertTrue(hasattr(versions, name), name)
             self.assertTrue(name == "Kind" or getattr(versions, name).__doc__, name)
 
-    def test_statuses_are_those_of_the_header(self):
+    def test_version_and_statuses_are_those_of_the_header(self):
         header = os.path.join(os.path.dirname(__file__), "..", "..", "c", "versions.h")
         with open(header, encoding="utf-8") as file:
-            statuses = dict(re.findall(r"#define VERSIONS_(\w+) (\d+)", file.read()))
+            text = file.read()
+        self.assertIn(f'#define VERSIONS_VERSION "{importlib.metadata.version("versions")}"\n', text)
+        statuses = dict(re.findall(r"#define VERSIONS_(\w+) (\d+)", text))
         for name in ("OK", "NO_VERSION_B", "NO_REQUIREMENTS", "NO_NUMBER", "BAD_OFFSETS"):
             self.assertEqual(getattr(_library, name), int(statuses[name]), name)
         for name, number in (("NONE", 0), ("IDEAL", 1), ("GENERAL", 2), ("COMPLEX", 3)):

@@ -19,9 +19,13 @@ NO_TEXT = b"\xff"
 def _load() -> ctypes.CDLL:
     path = os.path.join(os.path.dirname(os.path.abspath(__file__)), "libversions.so")
     try:
-        return ctypes.CDLL(path)
+        calls = ctypes.CDLL(path)
     except OSError as error:
         raise ImportError(f"{error}; the wheel that python/build makes has it") from error
+    calls.versions_processor_suffices.restype = ctypes.c_bool
+    if not calls.versions_processor_suffices():
+        raise ImportError("versions needs a processor of the level x86-64-v2, which has SSE4.2 and POPCNT")
+    return calls
 
 
 # A CDLL lets other threads of Python go on while one of its calls is under way.

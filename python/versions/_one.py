@@ -83,7 +83,7 @@ def _compared(call: Any, a: str, b: str) -> int:
 
 
 def nth(text: str, n: int) -> Optional[int]:
-    """The number of a version at a place counted from 0, or None where there is none; `ValueError` for no version."""
+    """What `Version.nth` gives; `ValueError` for no version."""
     place = index(n)
     if place < 0:
         raise ValueError(f"places are counted from 0: {n}")

@@ -73,11 +73,16 @@ class Version:
     def nth(self, n: int) -> Optional[int]:
         """The number at a place counted from 0, or None where there is none.
 
-        Of a strict version these are major, minor and patch, and of others those parts that are plain numbers.
-        `ValueError` where n is negative.
+        A strict version has three: major, minor and patch. A general version has a place for each part between its
+        epoch and its release. A part that is a number gives that number. The last part also gives the number that it
+        begins with, where letters follow that number, and after them nothing or one more number. A messy version has a
+        place for each part of the first section that no colon follows, and a part that is digits alone gives their
+        number. `ValueError` where n is negative.
 
         >>> [Version("1.2.3-4").nth(n) for n in range(4)]
         [1, 2, 3, None]
+        >>> Version("1.7d-15").nth(1), Version("2rc1").nth(0), Version("1:20.0026.1_0-2").nth(1)
+        (7, 2, 26)
         """
         return _one.nth(self._text, n)
 

@@ -1,0 +1,120 @@
+/*
+ * versions.c: the functions of versions.h. Each refuses a null pointer where there should be something to read or to
+ * write, and passes everything else to the proved function of crates/versions_c that answers.
+ */
+#include "versions.h"
+
+#include <cpuid.h>
+
+/*
+ * The proved functions. In crates/versions_c they are named as the functions below; c/build puts proved_ before each
+ * name. A slice of Rust is never null, also where it is empty.
+ */
+int proved_versions_kind(const char *text, size_t text_len);
+int proved_versions_compare(const char *a, size_t a_len, const char *b, size_t b_len, int32_t *order);
+int proved_versions_compare_total(const char *a, size_t a_len, const char *b, size_t b_len, int32_t *order);
+int proved_versions_sort_key(const char *text, size_t text_len, uint8_t *key, size_t room, size_t *key_len);
+size_t proved_versions_sort_key_bound(size_t text_len);
+int proved_versions_matches(const char *list, size_t list_len, const char *text, size_t text_len, bool *matches);
+int proved_versions_nth(const char *text, size_t text_len, size_t n, uint32_t *number);
+int proved_versions_kinds(const char *texts, size_t texts_len, const int64_t *offsets, size_t offsets_len,
+                          uint8_t *kinds, size_t kinds_len);
+int proved_versions_sort_keys(const char *texts, size_t texts_len, const int64_t *offsets, size_t offsets_len,
+                              uint8_t *keys, size_t room, int64_t *key_offsets, size_t key_offsets_len);
+int proved_versions_match_all(const char *list, size_t list_len, const char *texts, size_t texts_len,
+                              const int64_t *offsets, size_t offsets_len, uint8_t *matches, size_t matches_len);
+
+/* Where an empty array begins whose pointer is null. It is aligned for each type, and is neither read nor written. */
+static uint64_t nothing;
+
+/* Whether a pointer is null and len says that there is something to read or to write. */
+static bool lacks(const void *pointer, size_t len) { return pointer == NULL && len != 0; }
+
+/* A pointer that isn't null, to read from. */
+static const void *from(const void *pointer) { return pointer != NULL ? pointer : &nothing; }
+
+/* A pointer that isn't null, to write to. */
+static void *to(void *pointer) { return pointer != NULL ? pointer : &nothing; }
+
+int versions_kind(const char *text, size_t text_len) {
+  if (lacks(text, text_len)) return -VERSIONS_NULL;
+  return proved_versions_kind(from(text), text_len);
+}
+
+int versions_compare(const char *a, size_t a_len, const char *b, size_t b_len, int32_t *order) {
+  if (lacks(a, a_len) || lacks(b, b_len) || order == NULL) return VERSIONS_NULL;
+  return proved_versions_compare(from(a), a_len, from(b), b_len, order);
+}
+
+int versions_compare_total(const char *a, size_t a_len, const char *b, size_t b_len, int32_t *order) {
+  if (lacks(a, a_len) || lacks(b, b_len) || order == NULL) return VERSIONS_NULL;
+  return proved_versions_compare_total(from(a), a_len, from(b), b_len, order);
+}
+
+int versions_sort_key(const char *text, size_t text_len, uint8_t *key, size_t room, size_t *key_len) {
+  if (lacks(text, text_len) || lacks(key, room) || key_len == NULL) return VERSIONS_NULL;
+  return proved_versions_sort_key(from(text), text_len, to(key), room, key_len);
+}
+
+size_t versions_sort_key_bound(size_t text_len) { return proved_versions_sort_key_bound(text_len); }
+
+int versions_matches(const char *list, size_t list_len, const char *text, size_t text_len, bool *matches) {
+  if (lacks(list, list_len) || lacks(text, text_len) || matches == NULL) return VERSIONS_NULL;
+  return proved_versions_matches(from(list), list_len, from(text), text_len, matches);
+}
+
+int versions_nth(const char *text, size_t text_len, size_t n, uint32_t *number) {
+  if (lacks(text, text_len) || number == NULL) return VERSIONS_NULL;
+  return proved_versions_nth(from(text), text_len, n, number);
+}
+
+int versions_kinds(const char *texts, size_t texts_len, const int64_t *offsets, size_t offsets_len, uint8_t *kinds,
+                   size_t kinds_len) {
+  if (lacks(texts, texts_len) || lacks(offsets, offsets_len) || lacks(kinds, kinds_len)) return VERSIONS_NULL;
+  return proved_versions_kinds(from(texts), texts_len, from(offsets), offsets_len, to(kinds), kinds_len);
+}
+
+int versions_sort_keys(const char *texts, size_t texts_len, const int64_t *offsets, size_t offsets_len, uint8_t *keys,
+                       size_t room, int64_t *key_offsets, size_t key_offsets_len) {
+  if (lacks(texts, texts_len) || lacks(offsets, offsets_len) || lacks(keys, room) ||
+      lacks(key_offsets, key_offsets_len)) {
+    return VERSIONS_NULL;
+  }
+  return proved_versions_sort_keys(from(texts), texts_len, from(offsets), offsets_len, to(keys), room, to(key_offsets),
+                                   key_offsets_len);
+}
+
+int versions_match_all(const char *list, size_t list_len, const char *texts, size_t texts_len, const int64_t *offsets,
+                       size_t offsets_len, uint8_t *matches, size_t matches_len) {
+  if (lacks(list, list_len) || lacks(texts, texts_len) || lacks(offsets, offsets_len) || lacks(matches, matches_len)) {
+    return VERSIONS_NULL;
+  }
+  return proved_versions_match_all(from(list), list_len, from(texts), texts_len, from(offsets), offsets_len,
+                                   to(matches), matches_len);
+}
+
+const char *versions_status_text(int status) {
+  switch (status) {
+    case VERSIONS_OK: return "no fault";
+    case VERSIONS_NO_VERSION: return "the text is no version";
+    case VERSIONS_NO_VERSION_A: return "the first text is no version";
+    case VERSIONS_NO_VERSION_B: return "the second text is no version";
+    case VERSIONS_NO_VERSION_AB: return "neither text is a version";
+    case VERSIONS_NO_REQUIREMENTS: return "the list is no list of requirements";
+    case VERSIONS_NO_NUMBER: return "the version has no number at that place";
+    case VERSIONS_NO_ROOM: return "there is too little room for the keys";
+    case VERSIONS_BAD_OFFSETS: return "an offset is bad, or the lengths of two arrays don't fit";
+    case VERSIONS_NO_MEMORY: return "there is no memory";
+    case VERSIONS_NULL: return "a pointer is null, and what it should point to is not empty";
+    default: return "not a status of this library";
+  }
+}
+
+const char *versions_version(void) { return VERSIONS_VERSION; }
+
+bool versions_processor_suffices(void) {
+  const unsigned level = bit_SSE3 | bit_SSSE3 | bit_CMPXCHG16B | bit_SSE4_1 | bit_SSE4_2 | bit_POPCNT;
+  unsigned eax, ebx, ecx, edx, extended;
+  return __get_cpuid(1, &eax, &ebx, &ecx, &edx) && (ecx & level) == level &&
+         __get_cpuid(0x80000001, &eax, &ebx, &extended, &edx) && (extended & bit_LAHF_LM) != 0;
+}

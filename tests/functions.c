@@ -1,0 +1,139 @@
+// Tries c/versions.c by itself: what its functions pass to the proved ones, in whose place stand others here, and what
+// versions_processor_suffices answers of processors that lack something. tests/c compiles and runs it.
+#include <cpuid.h>
+#include <stdio.h>
+
+// What the processor answers in the register ecx for leaf 1 and for leaf 0x80000001, and whether it has these leaves.
+static unsigned features, more_features;
+static int has_features, has_more_features;
+
+static int answered(unsigned leaf, unsigned *eax, unsigned *ebx, unsigned *ecx, unsigned *edx) {
+  *eax = *ebx = *edx = ~0u;
+  *ecx = leaf == 1 ? features : leaf == 0x80000001u ? more_features : 0;
+  return leaf == 1 ? has_features : leaf == 0x80000001u && has_more_features;
+}
+
+#define __get_cpuid answered
+#include "../c/versions.c"
+
+static int failures;
+
+static void check(const char *name, bool holds) {
+  if (holds) return;
+  failures++;
+  fprintf(stderr, "FAILED: %s\n", name);
+}
+
+// What stands for the proved functions: none of its pointers may be null, nor lie at an odd place.
+enum { PASSED = 55 };
+
+static void check_pointer(const void *pointer) {
+  check("a pointer is not null", pointer != NULL);
+  check("a pointer is aligned", (uintptr_t)pointer % sizeof(uint64_t) == 0);
+}
+
+int proved_versions_kind(const char *text, size_t text_len) {
+  check_pointer(text);
+  return text_len == 0 ? PASSED : 0;
+}
+
+int proved_versions_compare(const char *a, size_t a_len, const char *b, size_t b_len, int32_t *order) {
+  check_pointer(a);
+  check_pointer(b);
+  return a_len == 0 && b_len == 0 && order != NULL ? PASSED : 0;
+}
+
+int proved_versions_compare_total(const char *a, size_t a_len, const char *b, size_t b_len, int32_t *order) {
+  return proved_versions_compare(a, a_len, b, b_len, order);
+}
+
+int proved_versions_sort_key(const char *text, size_t text_len, uint8_t *key, size_t room, size_t *key_len) {
+  check_pointer(text);
+  check_pointer(key);
+  return text_len == 0 && room == 0 && key_len != NULL ? PASSED : 0;
+}
+
+size_t proved_versions_sort_key_bound(size_t text_len) { return text_len; }
+
+int proved_versions_matches(const char *list, size_t list_len, const char *text, size_t text_len, bool *matches) {
+  check_pointer(list);
+  check_pointer(text);
+  return list_len == 0 && text_len == 0 && matches != NULL ? PASSED : 0;
+}
+
+int proved_versions_nth(const char *text, size_t text_len, size_t n, uint32_t *number) {
+  check_pointer(text);
+  return text_len == 0 && n == 7 && number != NULL ? PASSED : 0;
+}
+
+int proved_versions_kinds(const char *texts, size_t texts_len, const int64_t *offsets, size_t offsets_len,
+                          uint8_t *kinds, size_t kinds_len) {
+  check_pointer(texts);
+  check_pointer(offsets);
+  check_pointer(kinds);
+  return texts_len == 0 && offsets_len == 0 && kinds_len == 0 ? PASSED : 0;
+}
+
+int proved_versions_sort_keys(const char *texts, size_t texts_len, const int64_t *offsets, size_t offsets_len,
+                              uint8_t *keys, size_t room, int64_t *key_offsets, size_t key_offsets_len) {
+  check_pointer(key_offsets);
+  return key_offsets_len == 0 ? proved_versions_kinds(texts, texts_len, offsets, offsets_len, keys, room) : 0;
+}
+
+int proved_versions_match_all(const char *list, size_t list_len, const char *texts, size_t texts_len,
+                              const int64_t *offsets, size_t offsets_len, uint8_t *matches, size_t matches_len) {
+  check_pointer(list);
+  return list_len == 0 ? proved_versions_kinds(texts, texts_len, offsets, offsets_len, matches, matches_len) : 0;
+}
+
+// A null pointer to nothing is passed on as another one.
+static void null_pointers(void) {
+  int32_t order;
+  size_t length;
+  bool matches;
+  uint32_t number;
+  check("kind", versions_kind(NULL, 0) == PASSED);
+  check("compare", versions_compare(NULL, 0, NULL, 0, &order) == PASSED);
+  check("compare_total", versions_compare_total(NULL, 0, NULL, 0, &order) == PASSED);
+  check("sort_key", versions_sort_key(NULL, 0, NULL, 0, &length) == PASSED);
+  check("sort_key_bound", versions_sort_key_bound(77) == 77);
+  check("matches", versions_matches(NULL, 0, NULL, 0, &matches) == PASSED);
+  check("nth", versions_nth(NULL, 0, 7, &number) == PASSED);
+  check("kinds", versions_kinds(NULL, 0, NULL, 0, NULL, 0) == PASSED);
+  check("sort_keys", versions_sort_keys(NULL, 0, NULL, 0, NULL, 0, NULL, 0) == PASSED);
+  check("match_all", versions_match_all(NULL, 0, NULL, 0, NULL, 0, NULL, 0) == PASSED);
+}
+
+// The level x86-64-v2 as the System V ABI for AMD64 has it, by the bits of Intel's and AMD's manuals.
+static void processors(void) {
+  static const struct {
+    const char *name;
+    unsigned bit;
+  } level[] = {{"SSE3", 0}, {"SSSE3", 9}, {"CMPXCHG16B", 13}, {"SSE4.1", 19}, {"SSE4.2", 20}, {"POPCNT", 23}};
+  has_features = has_more_features = 1;
+  features = 0;
+  more_features = 1;
+  for (size_t i = 0; i < sizeof level / sizeof *level; i++) features |= 1u << level[i].bit;
+  check("the level and nothing more", versions_processor_suffices());
+  more_features = ~0u;
+  for (size_t i = 0; i < sizeof level / sizeof *level; i++) {
+    features = ~(1u << level[i].bit);
+    check(level[i].name, !versions_processor_suffices());
+  }
+  features = ~0u;
+  check("every feature", versions_processor_suffices());
+  more_features = ~1u;
+  check("LAHF", !versions_processor_suffices());
+  more_features = ~0u;
+  has_more_features = 0;
+  check("no leaf 0x80000001", !versions_processor_suffices());
+  has_more_features = 1;
+  has_features = 0;
+  check("no leaf 1", !versions_processor_suffices());
+}
+
+int main(void) {
+  null_pointers();
+  processors();
+  return failures == 0 ? 0 : 1;
+}
