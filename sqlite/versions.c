@@ -369,15 +369,22 @@ static int define_aggregate(sqlite3 *db, const char *name, const int32_t *better
                                         best_inverse, NULL);
 }
 
+/* What is missing here, without which none of this can be called; null where nothing is. */
+static const char *missing(void) {
+  if (sqlite3_libversion_number() < 3031000) return "SQLite 3.31 or later";
+#ifdef VERSIONS_VERSION
+  if (!versions_processor_suffices()) return "a processor of the level x86-64-v2";
+#endif
+  return NULL;
+}
+
 EXPORTED int sqlite3_versions_init(sqlite3 *db, char **fault, const sqlite3_api_routines *routines) {
   int status;
   SQLITE_EXTENSION_INIT2(routines);
-#ifdef VERSIONS_VERSION
-  if (!versions_processor_suffices()) {
-    if (fault) *fault = sqlite3_mprintf("the functions on versions need a processor of the level x86-64-v2");
+  if (missing()) {
+    if (fault) *fault = sqlite3_mprintf("the functions on versions need %s", missing());
     return SQLITE_ERROR;
   }
-#endif
   status = define_functions(db);
   if (status == SQLITE_OK) status = define_aggregate(db, "version_max", &above);
   if (status == SQLITE_OK) status = define_aggregate(db, "version_min", &below);

@@ -1,10 +1,13 @@
 // A program of tests/sqlite, for what the program sqlite3 has no statement for:
 //   refused EXTENSION      loads it and makes statements, where SQLite is refused one request for memory after another
 //   interrupted EXTENSION  interrupts windows, sooner and later
-//   loading EXTENSION      loads it where a load fails midway, and again where a statement runs
+//   loading EXTENSION      loads it where a load fails midway, again where a statement runs, and into an old SQLite
 // Each ends with no memory of SQLite's taken. It ends with status 1 where something fails, and says what.
-#include <sqlite3.h>
+// It is no extension itself, and calls SQLite as a program does.
+#define SQLITE_CORE 1
+#include <sqlite3ext.h>
 
+#include <dlfcn.h>
 #include <stdbool.h>
 #include <stdio.h>
 #include <stdlib.h>
@@ -234,6 +237,42 @@ static void try_loading(void) {
   close_all(db);
 }
 
+// The calls that SQLite hands to an extension.
+static const sqlite3_api_routines *calls;
+
+static int keep_calls(sqlite3 *db, char **fault, const sqlite3_api_routines *given) {
+  (void)db, (void)fault;
+  calls = given;
+  return SQLITE_OK;
+}
+
+static int old_number(void) { return 3030001; }
+
+// An SQLite that says it is 3.30.1, and has none of the calls that define something.
+static void try_old(void) {
+  static sqlite3_api_routines old;
+  int (*load)(sqlite3 *, char **, const sqlite3_api_routines *);
+  void *library = dlopen(extension, RTLD_NOW), *found = library ? dlsym(library, "sqlite3_versions_init") : NULL;
+  CHECK(sqlite3_auto_extension((void (*)(void))keep_calls) == SQLITE_OK);
+  sqlite3 *db = opened(encodings[0]);
+  char *fault = NULL;
+  sqlite3_reset_auto_extension();
+  CHECK(found && calls);
+  if (found && calls) {
+    old = *calls;
+    old.libversion_number = old_number;
+    old.create_function_v2 = NULL;
+    old.create_window_function = NULL;
+    old.create_collation_v2 = NULL;
+    memcpy(&load, &found, sizeof load);
+    CHECK(load(db, &fault, &old) == SQLITE_ERROR);
+    CHECK(fault && strcmp(fault, "the functions on versions need SQLite 3.31 or later") == 0);
+    sqlite3_free(fault);
+    CHECK(load(db, NULL, &old) == SQLITE_ERROR);
+  }
+  close_all(db);
+}
+
 int main(int count, char **words) {
   if (count != 3) return 2;
   extension = words[2];
@@ -244,6 +283,7 @@ int main(int count, char **words) {
     try_interrupted();
   } else if (strcmp(words[1], "loading") == 0) {
     try_loading();
+    try_old();
   } else {
     return 2;
   }
