@@ -4,21 +4,36 @@
  *   version_key(text)                    the sort key, a BLOB that orders as versions do by precedence
  *   version_kind(text)                   'ideal', 'general' or 'complex'
  *   version_compare(a, b)                -1, 0 or 1 where a is below, level with or above b by precedence
- *   version_matches(requirement, text)   1 or 0: whether a requirement, or each of a list, asks for a version
+ *   version_compare_total(a, b)          the same with ties broken
+ *   version_matches(requirement, text)   1 or 0: whether a version matches a requirement, or each of a list
  *   version_nth(text, n)                 the number at a place, counted from 0
+ *   version_max(text)                    aggregate and window function: the greatest version of the rows
+ *   version_min(text)                    the least
+ *   versions_version()                   the version of the library
  *   COLLATE VERSION                      by precedence, and where that ties by bytes; what is no version comes last
  *
  * Each function gives NULL where a value is no version: NULL, a number and a BLOB are none, and neither is a text that
- * isn't UTF-8. A number isn't taken for its text, since 1.10 is 1.1 by then. version_matches fails where the
- * requirement is none. All are deterministic and without effects, so they stand in indexes and generated columns.
+ * isn't UTF-8. A number isn't taken for its text, since 1.10 is 1.1 by then. The aggregates skip such values.
+ * version_matches fails where the requirement is none. All are deterministic and without effects, so they stand in
+ * indexes and generated columns.
  *
- * What versions are is found by the library alone, of which this file only carries texts.
+ * All memory is SQLite's: keys, the texts that an aggregate keeps, and messages. The other functions take none.
+ *
+ * What versions are is found by the library alone, to which this file only passes texts.
  */
 #include "versions.h"
 
 #include <sqlite3ext.h>
 #include <string.h>
 SQLITE_EXTENSION_INIT1
+
+#ifdef _WIN32
+#define EXPORTED __declspec(dllexport)
+#elif defined(__GNUC__)
+#define EXPORTED __attribute__((visibility("default")))
+#else
+#define EXPORTED
+#endif
 
 struct text {
   const char *bytes;
@@ -28,7 +43,7 @@ struct text {
 /* No UTF-8, and so no version. */
 static const struct text no_text = {"\xff", 1};
 
-/* A value's text in UTF-8; one of another type has none. NULL bytes where memory is wanting. */
+/* A value's text in UTF-8; one of another type has none. Null bytes where SQLite is out of memory. */
 static struct text text_of(sqlite3_value *value) {
   struct text text = no_text;
   if (sqlite3_value_type(value) == SQLITE_TEXT) {
@@ -38,18 +53,30 @@ static struct text text_of(sqlite3_value *value) {
   return text;
 }
 
-static void version_key(sqlite3_context *context, int count, sqlite3_value **values) {
-  struct text text = text_of(values[0]);
-  size_t room = versions_sort_key_bound(text.len), len;
-  uint8_t *key = text.bytes ? sqlite3_malloc64(room) : NULL;
-  (void)count;
-  if (!key) {
-    sqlite3_result_error_nomem(context);
-  } else if (versions_sort_key(text.bytes, text.len, key, room, &len) == VERSIONS_OK) {
+/* A key that is too long for the stack, in memory of its length. */
+static void give_long_key(sqlite3_context *context, struct text text, size_t len) {
+  uint8_t *key = sqlite3_malloc64(len);
+  if (key && versions_sort_key(text.bytes, text.len, key, len, &len) == VERSIONS_OK) {
     sqlite3_result_blob64(context, key, len, sqlite3_free);
   } else {
     sqlite3_free(key);
-    sqlite3_result_null(context);
+    sqlite3_result_error_nomem(context);
+  }
+}
+
+static void version_key(sqlite3_context *context, int count, sqlite3_value **values) {
+  struct text text = text_of(values[0]);
+  uint8_t key[256];
+  size_t len;
+  (void)count;
+  if (!text.bytes) {
+    sqlite3_result_error_nomem(context);
+    return;
+  }
+  switch (versions_sort_key(text.bytes, text.len, key, sizeof key, &len)) {
+    case VERSIONS_OK: sqlite3_result_blob64(context, key, len, SQLITE_TRANSIENT); break;
+    case VERSIONS_NO_ROOM: give_long_key(context, text, len); break;
+    default: sqlite3_result_null(context);
   }
 }
 
@@ -65,35 +92,73 @@ static void version_kind(sqlite3_context *context, int count, sqlite3_value **va
   }
 }
 
-static void version_compare(sqlite3_context *context, int count, sqlite3_value **values) {
+/* versions_compare or versions_compare_total */
+typedef int comparison(const char *, size_t, const char *, size_t, int32_t *);
+
+static void give_order(sqlite3_context *context, sqlite3_value **values, comparison *compare) {
   struct text a = text_of(values[0]), b = text_of(values[1]);
   int32_t order;
-  (void)count;
   if (!a.bytes || !b.bytes) {
     sqlite3_result_error_nomem(context);
-  } else if (versions_compare(a.bytes, a.len, b.bytes, b.len, &order) == VERSIONS_OK) {
+  } else if (compare(a.bytes, a.len, b.bytes, b.len, &order) == VERSIONS_OK) {
     sqlite3_result_int(context, order);
   } else {
     sqlite3_result_null(context);
   }
 }
 
-/* Fails with the text that is no requirement. */
-static void give_no_requirement(sqlite3_context *context, sqlite3_value *value) {
-  const unsigned char *text = sqlite3_value_text(value);
-  char *told = sqlite3_mprintf("not a requirement: %s", text ? (const char *)text : "");
-  if (told) {
-    sqlite3_result_error(context, told, -1);
+static void version_compare(sqlite3_context *context, int count, sqlite3_value **values) {
+  (void)count;
+  give_order(context, values, versions_compare);
+}
+
+static void version_compare_total(sqlite3_context *context, int count, sqlite3_value **values) {
+  (void)count;
+  give_order(context, values, versions_compare_total);
+}
+
+/* A text between quotes: its first 60 bytes, and how many follow. What isn't printable ASCII is written \xHH. */
+static void append_quoted(sqlite3_str *message, struct text text) {
+  const size_t most = 60, shown = text.len < most ? text.len : most;
+  size_t at;
+  sqlite3_str_appendchar(message, 1, '\'');
+  for (at = 0; at < shown; at++) {
+    unsigned char byte = (unsigned char)text.bytes[at];
+    if (byte < ' ' || byte > '~' || byte == '\'' || byte == '\\') {
+      sqlite3_str_appendf(message, "\\x%02x", byte);
+    } else {
+      sqlite3_str_appendchar(message, 1, (char)byte);
+    }
+  }
+  sqlite3_str_appendchar(message, 1, '\'');
+  if (text.len > shown) {
+    sqlite3_str_appendf(message, " and %lld bytes more", (sqlite3_int64)(text.len - shown));
+  }
+}
+
+/* Fails with the text that is no requirement, or with the type of a value that is no text. */
+static void give_no_requirement(sqlite3_context *context, struct text text, int type) {
+  sqlite3_str *message = sqlite3_str_new(NULL);
+  char *said;
+  sqlite3_str_appendall(message, "not a requirement: ");
+  switch (type) {
+    case SQLITE_INTEGER: sqlite3_str_appendall(message, "a value of type integer"); break;
+    case SQLITE_FLOAT: sqlite3_str_appendall(message, "a value of type real"); break;
+    case SQLITE_BLOB: sqlite3_str_appendall(message, "a value of type blob"); break;
+    default: append_quoted(message, text);
+  }
+  said = sqlite3_str_finish(message);
+  if (said) {
+    sqlite3_result_error(context, said, -1);
   } else {
     sqlite3_result_error_nomem(context);
   }
-  sqlite3_free(told);
+  sqlite3_free(said);
 }
 
 static void version_matches(sqlite3_context *context, int count, sqlite3_value **values) {
   struct text list = text_of(values[0]), text = text_of(values[1]);
   bool matches;
-  int status;
   (void)count;
   if (sqlite3_value_type(values[0]) == SQLITE_NULL) {
     sqlite3_result_null(context);
@@ -103,13 +168,10 @@ static void version_matches(sqlite3_context *context, int count, sqlite3_value *
     sqlite3_result_error_nomem(context);
     return;
   }
-  status = versions_matches(list.bytes, list.len, text.bytes, text.len, &matches);
-  if (status == VERSIONS_OK) {
-    sqlite3_result_int(context, matches);
-  } else if (status == VERSIONS_NO_REQUIREMENTS) {
-    give_no_requirement(context, values[0]);
-  } else {
-    sqlite3_result_null(context);
+  switch (versions_matches(list.bytes, list.len, text.bytes, text.len, &matches)) {
+    case VERSIONS_OK: sqlite3_result_int(context, matches); break;
+    case VERSIONS_NO_REQUIREMENTS: give_no_requirement(context, list, sqlite3_value_type(values[0])); break;
+    default: sqlite3_result_null(context);
   }
 }
 
@@ -129,16 +191,141 @@ static void version_nth(sqlite3_context *context, int count, sqlite3_value **val
   }
 }
 
+/*
+ * version_max and version_min. A row can be the best of the window, now or after earlier rows have left it, only where
+ * no later row is better. The texts of such rows are the candidates, in the order of the rows: none is better than the
+ * one before it, and the first is the best of the window. Rows leave in the order in which they came.
+ */
+struct candidate {
+  struct candidate *before, *after;
+  sqlite3_int64 row; /* the last of the rows that have this text one after another, counted from 1 */
+  size_t len;
+  char bytes[];
+};
+
+struct window {
+  struct candidate *first, *last;
+  sqlite3_int64 came, left; /* how many rows */
+};
+
+/* What a version has to be to another that it is better than: the data of each of the two functions. */
+static const int32_t above = 1, below = -1;
+
+static bool is_better(sqlite3_context *context, struct text text, const struct candidate *than) {
+  const int32_t *better = sqlite3_user_data(context);
+  int32_t order;
+  int status = versions_compare_total(text.bytes, text.len, than->bytes, than->len, &order);
+  return status == VERSIONS_OK && order == *better;
+}
+
+static bool has_text(const struct candidate *candidate, struct text text) {
+  return candidate->len == text.len && memcmp(candidate->bytes, text.bytes, text.len) == 0;
+}
+
+static void drop_first(struct window *window) {
+  struct candidate *first = window->first;
+  window->first = first->after;
+  if (window->first) {
+    window->first->before = NULL;
+  } else {
+    window->last = NULL;
+  }
+  sqlite3_free(first);
+}
+
+static void drop_last(struct window *window) {
+  struct candidate *last = window->last;
+  window->last = last->before;
+  if (window->last) {
+    window->last->after = NULL;
+  } else {
+    window->first = NULL;
+  }
+  sqlite3_free(last);
+}
+
+/* Whether there was memory for it. */
+static bool append(struct window *window, struct text text) {
+  struct candidate *last = sqlite3_malloc64(sizeof *last + text.len);
+  if (!last) return false;
+  last->before = window->last;
+  last->after = NULL;
+  last->row = window->came;
+  last->len = text.len;
+  memcpy(last->bytes, text.bytes, text.len);
+  if (window->last) {
+    window->last->after = last;
+  } else {
+    window->first = last;
+  }
+  window->last = last;
+  return true;
+}
+
+static void best_step(sqlite3_context *context, int count, sqlite3_value **values) {
+  struct window *window = sqlite3_aggregate_context(context, sizeof *window);
+  struct text text = text_of(values[0]);
+  (void)count;
+  if (!window || !text.bytes) {
+    sqlite3_result_error_nomem(context);
+    return;
+  }
+  window->came++;
+  if (versions_kind(text.bytes, text.len) == VERSIONS_NONE) return;
+  while (window->last && is_better(context, text, window->last)) drop_last(window);
+  if (window->last && has_text(window->last, text)) {
+    window->last->row = window->came;
+  } else if (!append(window, text)) {
+    sqlite3_result_error_nomem(context);
+  }
+}
+
+static void best_inverse(sqlite3_context *context, int count, sqlite3_value **values) {
+  struct window *window = sqlite3_aggregate_context(context, 0);
+  (void)count;
+  (void)values;
+  if (!window) return;
+  window->left++;
+  if (window->first && window->first->row == window->left) drop_first(window);
+}
+
+static void best_value(sqlite3_context *context) {
+  const struct window *window = sqlite3_aggregate_context(context, 0);
+  if (window && window->first) {
+    sqlite3_result_text64(context, window->first->bytes, window->first->len, SQLITE_TRANSIENT, SQLITE_UTF8);
+  } else {
+    sqlite3_result_null(context);
+  }
+}
+
+/* SQLite calls this once for each window, also where the statement fails or is interrupted. */
+static void best_final(sqlite3_context *context) {
+  struct window *window = sqlite3_aggregate_context(context, 0);
+  best_value(context);
+  while (window && window->first) drop_first(window);
+}
+
+static void give_library_version(sqlite3_context *context, int count, sqlite3_value **values) {
+  (void)count;
+  (void)values;
+  sqlite3_result_text(context, versions_version(), -1, SQLITE_STATIC);
+}
+
+/* A text of a collation: SQLite may pass an empty one as a null pointer. */
+static struct text passed(const void *bytes, int len) {
+  struct text text = {bytes ? bytes : "", (size_t)len};
+  return text;
+}
+
 /* By bytes, the shorter first where one begins the other. */
 static int compare_bytes(struct text a, struct text b) {
-  size_t both = a.len < b.len ? a.len : b.len;
-  int order = both ? memcmp(a.bytes, b.bytes, both) : 0;
+  int order = memcmp(a.bytes, b.bytes, a.len < b.len ? a.len : b.len);
   return order ? order : (a.len > b.len) - (a.len < b.len);
 }
 
 /* The library takes no memory, so this can't fail, as a collation may not. */
 static int collate(void *none, int a_len, const void *a_bytes, int b_len, const void *b_bytes) {
-  struct text a = {a_bytes, (size_t)a_len}, b = {b_bytes, (size_t)b_len};
+  struct text a = passed(a_bytes, a_len), b = passed(b_bytes, b_len);
   int32_t order = 0;
   (void)none;
   switch (versions_compare(a.bytes, a.len, b.bytes, b.len, &order)) {
@@ -148,12 +335,9 @@ static int collate(void *none, int a_len, const void *a_bytes, int b_len, const 
   }
 }
 
-#ifdef _WIN32
-__declspec(dllexport)
-#elif defined(__GNUC__)
-__attribute__((visibility("default")))
-#endif
-int sqlite3_versions_init(sqlite3 *db, char **fault, const sqlite3_api_routines *routines) {
+static const int flags = SQLITE_UTF8 | SQLITE_DETERMINISTIC | SQLITE_INNOCUOUS;
+
+static int define_functions(sqlite3 *db) {
   static const struct {
     const char *name;
     int count;
@@ -162,20 +346,50 @@ int sqlite3_versions_init(sqlite3 *db, char **fault, const sqlite3_api_routines 
       {"version_key", 1, version_key},
       {"version_kind", 1, version_kind},
       {"version_compare", 2, version_compare},
+      {"version_compare_total", 2, version_compare_total},
       {"version_matches", 2, version_matches},
       {"version_nth", 2, version_nth},
+      {"versions_version", 0, give_library_version},
   };
-  const int flags = SQLITE_UTF8 | SQLITE_DETERMINISTIC | SQLITE_INNOCUOUS;
   int status = SQLITE_OK;
   size_t at;
-  (void)fault;
-  SQLITE_EXTENSION_INIT2(routines);
   for (at = 0; at < sizeof functions / sizeof *functions && status == SQLITE_OK; at++) {
     status = sqlite3_create_function_v2(db, functions[at].name, functions[at].count, flags, NULL, functions[at].call,
                                         NULL, NULL, NULL);
   }
-  if (status == SQLITE_OK) {
-    status = sqlite3_create_collation_v2(db, "VERSION", SQLITE_UTF8, NULL, collate, NULL);
-  }
   return status;
 }
+
+static int define_aggregate(sqlite3 *db, const char *name, const int32_t *better) {
+  return sqlite3_create_window_function(db, name, 1, flags, (void *)better, best_step, best_final, best_value,
+                                        best_inverse, NULL);
+}
+
+/* What is missing here, without which none of this can be called; null where nothing is. */
+static const char *missing(void) {
+  if (sqlite3_libversion_number() < 3031000) return "SQLite 3.31 or later";
+  if (!versions_processor_suffices()) return "a processor of the level x86-64-v2";
+  return NULL;
+}
+
+EXPORTED int sqlite3_versions_init(sqlite3 *db, char **fault, const sqlite3_api_routines *routines) {
+  int status;
+  SQLITE_EXTENSION_INIT2(routines);
+  if (missing()) {
+    if (fault) *fault = sqlite3_mprintf("the functions on versions need %s", missing());
+    return SQLITE_ERROR;
+  }
+  status = define_functions(db);
+  if (status == SQLITE_OK) status = define_aggregate(db, "version_max", &above);
+  if (status == SQLITE_OK) status = define_aggregate(db, "version_min", &below);
+  if (status == SQLITE_OK) status = sqlite3_create_collation_v2(db, "VERSION", SQLITE_UTF8, NULL, collate, NULL);
+  if (status != SQLITE_OK && fault) *fault = sqlite3_mprintf("%s", sqlite3_errmsg(db));
+  return status;
+}
+
+#ifndef SQLITE_CORE
+/* The name by which SQLite finds it whatever its file is called. */
+EXPORTED int sqlite3_extension_init(sqlite3 *db, char **fault, const sqlite3_api_routines *routines) {
+  return sqlite3_versions_init(db, fault, routines);
+}
+#endif
