@@ -127,6 +127,19 @@ int versions_sort_keys(const char *texts, size_t texts_len, const int64_t *offse
                        size_t room, int64_t *key_offsets, size_t key_offsets_len);
 
 /*
+ * The places of n texts in the order of their versions: every place from 0 to n - 1 is written to `order` once, that of
+ * the least version first. The order is that of versions_compare_total. Texts that it ties stand by their places, as
+ * after a stable sort. Texts that are no version stand last, by their places too.
+ *
+ * The sort goes by keys: `keys`, room and key_offsets are those of versions_sort_keys, and get what that call writes.
+ * offsets_len and key_offsets_len are n + 1, and order_len is n. A room of 0, whose `keys` may be null, asks for the
+ * offsets alone, and is enough where no text is a version. It takes O(n log n) comparisons of keys at worst.
+ * Returns VERSIONS_OK, VERSIONS_NO_ROOM, where `order` is not written, or VERSIONS_BAD_OFFSETS, where nothing is.
+ */
+int versions_sort(const char *texts, size_t texts_len, const int64_t *offsets, size_t offsets_len, uint8_t *keys,
+                  size_t room, int64_t *key_offsets, size_t key_offsets_len, uint64_t *order, size_t order_len);
+
+/*
  * Whether a list of requirements asks for each of n texts: offsets_len is n + 1, matches_len is n, and matches[i]
  * becomes 1 where it does, 0 where it doesn't, and 2 where the text is no version.
  * Returns VERSIONS_OK, VERSIONS_NO_REQUIREMENTS or VERSIONS_BAD_OFFSETS (whatever the list is).
@@ -163,6 +176,11 @@ static inline uint8_t *versions_guard_bytes(uint8_t *bytes) {
   return bytes != NULL ? bytes : &none;
 }
 
+static inline uint64_t *versions_guard_places(uint64_t *places) {
+  static uint64_t none;
+  return places != NULL ? places : &none;
+}
+
 #define versions_kind(text, text_len) versions_kind(versions_guard_text(text), (text_len))
 #define versions_compare(a, a_len, b, b_len, order) \
   versions_compare(versions_guard_text(a), (a_len), versions_guard_text(b), (b_len), (order))
@@ -182,5 +200,9 @@ static inline uint8_t *versions_guard_bytes(uint8_t *bytes) {
 #define versions_match_all(list, list_len, texts, texts_len, offsets, offsets_len, matches, matches_len) \
   versions_match_all(versions_guard_text(list), (list_len), versions_guard_text(texts), (texts_len), (offsets), \
                      (offsets_len), versions_guard_bytes(matches), (matches_len))
+#define versions_sort(texts, texts_len, offsets, offsets_len, keys, room, key_offsets, key_offsets_len, order, \
+                      order_len) \
+  versions_sort(versions_guard_text(texts), (texts_len), (offsets), (offsets_len), versions_guard_bytes(keys), (room), \
+                (key_offsets), (key_offsets_len), versions_guard_places(order), (order_len))
 
 #endif
