@@ -21,6 +21,9 @@ int proved_versions_kinds(const char *texts, size_t texts_len, const int64_t *of
                           uint8_t *kinds, size_t kinds_len);
 int proved_versions_sort_keys(const char *texts, size_t texts_len, const int64_t *offsets, size_t offsets_len,
                               uint8_t *keys, size_t room, int64_t *key_offsets, size_t key_offsets_len);
+int proved_versions_sort(const char *texts, size_t texts_len, const int64_t *offsets, size_t offsets_len, uint8_t *keys,
+                         size_t room, int64_t *key_offsets, size_t key_offsets_len, uint64_t *order,
+                         size_t order_len);
 int proved_versions_match_all(const char *list, size_t list_len, const char *texts, size_t texts_len,
                               const int64_t *offsets, size_t offsets_len, uint8_t *matches, size_t matches_len);
 
@@ -82,6 +85,16 @@ int versions_sort_keys(const char *texts, size_t texts_len, const int64_t *offse
   }
   return proved_versions_sort_keys(from(texts), texts_len, from(offsets), offsets_len, to(keys), room, to(key_offsets),
                                    key_offsets_len);
+}
+
+int versions_sort(const char *texts, size_t texts_len, const int64_t *offsets, size_t offsets_len, uint8_t *keys,
+                  size_t room, int64_t *key_offsets, size_t key_offsets_len, uint64_t *order, size_t order_len) {
+  if (lacks(texts, texts_len) || lacks(offsets, offsets_len) || lacks(keys, room) ||
+      lacks(key_offsets, key_offsets_len) || lacks(order, order_len)) {
+    return VERSIONS_NULL;
+  }
+  return proved_versions_sort(from(texts), texts_len, from(offsets), offsets_len, to(keys), room, to(key_offsets),
+                              key_offsets_len, to(order), order_len);
 }
 
 int versions_match_all(const char *list, size_t list_len, const char *texts, size_t texts_len, const int64_t *offsets,

@@ -144,6 +144,19 @@ int versions_sort_keys(const char *texts, size_t texts_len, const int64_t *offse
                        size_t room, int64_t *key_offsets, size_t key_offsets_len);
 
 /*
+ * The places of n texts in the order of their versions: every place from 0 to n - 1 is written to `order` once, that of
+ * the least version first. The order is that of versions_compare_total. Texts that it ties stand by their places, as
+ * after a stable sort. Texts that are no version stand last, by their places too.
+ *
+ * The sort goes by keys: `keys`, room and key_offsets are those of versions_sort_keys, and get what that call writes.
+ * offsets_len and key_offsets_len are n + 1, and order_len is n. A room of 0, whose `keys` may be null, asks for the
+ * offsets alone, and is enough where no text is a version. It takes O(n log n) comparisons of keys at worst.
+ * Returns VERSIONS_OK, VERSIONS_NO_ROOM, where `order` is not written, or VERSIONS_BAD_OFFSETS, where nothing is.
+ */
+int versions_sort(const char *texts, size_t texts_len, const int64_t *offsets, size_t offsets_len, uint8_t *keys,
+                  size_t room, int64_t *key_offsets, size_t key_offsets_len, uint64_t *order, size_t order_len);
+
+/*
  * Whether a list of requirements asks for each of n texts: offsets_len is n + 1, matches_len is n, and matches[i]
  * becomes 1 where it does, 0 where it doesn't, and 2 where the text is no version.
  * Returns VERSIONS_OK, VERSIONS_NO_REQUIREMENTS or VERSIONS_BAD_OFFSETS (whatever the list is).

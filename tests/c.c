@@ -2,9 +2,11 @@
 //   show      the kind of each line, its sort key in hexadecimal, and its first four numbers
 //   compare   how each line compares with the one behind it: by precedence, and with ties broken
 //   match R   for each line 1, 0 or 2, as versions_match_all has it
+//   sort      the lines in the order of versions_sort
 //   threads   the same answers from eight threads at once
 //   edges     what needs no lines: null pointers, rooms, offsets, bytes that are no text, every status, the version
 //   long      texts of megabytes
+//   many      a hundred thousand texts
 //   memory    every call, where nothing else takes memory
 // A call for many texts and the single call have to agree wherever both are made. It ends with status 1 where something
 // fails, and says what. It is compiled as C and as C++.
@@ -254,10 +256,66 @@ static void match(const struct lines *lines, const char *list) {
   release(matches);
 }
 
+static void sort(const struct lines *lines) {
+  size_t count = lines->count;
+  int64_t *told = (int64_t *)block((count + 1) * sizeof(int64_t));
+  int64_t *key_offsets = (int64_t *)block((count + 1) * sizeof(int64_t));
+  uint64_t *order = (uint64_t *)block(count * sizeof(uint64_t));
+  versions_sort_keys(lines->texts, lines->length, lines->offsets, count + 1, NULL, 0, told, count + 1);
+  size_t all = (size_t)told[count];
+  uint8_t *wanted = (uint8_t *)block(all), *keys = (uint8_t *)block(all + 3);
+  CHECK(versions_sort_keys(lines->texts, lines->length, lines->offsets, count + 1, wanted, all, told, count + 1) ==
+        VERSIONS_OK);
+
+  // In a room that is too small by one byte nothing is sorted, but it is told how much they need.
+  for (size_t i = 0; i < count; i++) order[i] = 77;
+  if (all > 0) {
+    CHECK(versions_sort(lines->texts, lines->length, lines->offsets, count + 1, keys, all - 1, key_offsets, count + 1,
+                        order, count) == VERSIONS_NO_ROOM);
+    CHECK(memcmp(key_offsets, told, (count + 1) * sizeof(int64_t)) == 0);
+    for (size_t i = 0; i < count; i++) CHECK(order[i] == 77);
+  }
+
+  // The keys are those of versions_sort_keys, and what is behind them stays as it was.
+  memset(keys, 170, all + 3);
+  memset(key_offsets, 0, (count + 1) * sizeof(int64_t));
+  CHECK(versions_sort(lines->texts, lines->length, lines->offsets, count + 1, keys, all + 3, key_offsets, count + 1,
+                      order, count) == VERSIONS_OK);
+  CHECK(memcmp(key_offsets, told, (count + 1) * sizeof(int64_t)) == 0);
+  CHECK(memcmp(keys, wanted, all) == 0);
+  for (size_t i = all; i < all + 3; i++) CHECK(keys[i] == 170);
+
+  for (size_t i = 0; i < count; i++) {
+    CHECK(order[i] < count);
+    fwrite(text_of(lines, order[i]), 1, length_of(lines, order[i]), stdout);
+    printf("\n");
+  }
+  release(told);
+  release(key_offsets);
+  release(order);
+  release(wanted);
+  release(keys);
+}
+
+// The places of all lines in their order, as one number.
+static uint64_t summed_order(const struct lines *lines) {
+  size_t count = lines->count, room = 3 * lines->length + 5 * count;
+  uint8_t *keys = (uint8_t *)block(room);
+  int64_t *key_offsets = (int64_t *)block((count + 1) * sizeof(int64_t));
+  uint64_t *order = (uint64_t *)block(count * sizeof(uint64_t)), sum = 0;
+  CHECK(versions_sort(lines->texts, lines->length, lines->offsets, count + 1, keys, room, key_offsets, count + 1, order,
+                      count) == VERSIONS_OK);
+  for (size_t i = 0; i < count; i++) sum = sum * 31 + order[i];
+  release(keys);
+  release(key_offsets);
+  release(order);
+  return sum;
+}
+
 // What one thread answers of all lines, as one number.
 static void *summed(void *argument) {
   const struct lines *lines = (const struct lines *)argument;
-  uint64_t sum = 0;
+  uint64_t sum = summed_order(lines);
   for (size_t line = 0; line + 1 < lines->count; line++) {
     const char *a = text_of(lines, line), *b = text_of(lines, line + 1);
     size_t a_length = length_of(lines, line), b_length = length_of(lines, line + 1), key_length = 0;
@@ -292,6 +350,7 @@ static void threads(struct lines *lines) {
 static void refused_offsets(const int64_t *offsets, size_t offsets_length, size_t count) {
   uint8_t answers[4], keys[64];
   int64_t key_offsets[5] = {77, 77, 77, 77, 77};
+  uint64_t order[4] = {77, 77, 77, 77};
   memset(answers, 77, sizeof answers);
   memset(keys, 77, sizeof keys);
   CHECK(versions_kinds("1.2.31.2", 8, offsets, offsets_length, answers, count) == VERSIONS_BAD_OFFSETS);
@@ -299,9 +358,23 @@ static void refused_offsets(const int64_t *offsets, size_t offsets_length, size_
   CHECK(versions_match_all("no list", 7, "1.2.31.2", 8, offsets, offsets_length, answers, count) == VERSIONS_BAD_OFFSETS);
   CHECK(versions_sort_keys("1.2.31.2", 8, offsets, offsets_length, keys, sizeof keys, key_offsets, count + 1) ==
         VERSIONS_BAD_OFFSETS);
+  CHECK(versions_sort("1.2.31.2", 8, offsets, offsets_length, keys, sizeof keys, key_offsets, count + 1, order,
+                      count) == VERSIONS_BAD_OFFSETS);
   for (size_t i = 0; i < sizeof answers; i++) CHECK(answers[i] == 77);
   for (size_t i = 0; i < sizeof keys; i++) CHECK(keys[i] == 77);
   for (size_t i = 0; i < 5; i++) CHECK(key_offsets[i] == 77);
+  for (size_t i = 0; i < 4; i++) CHECK(order[i] == 77);
+}
+
+// Texts in one buffer, whose sorted places are known.
+static void sorted(const char *texts, const int64_t *offsets, size_t count, const uint64_t *wanted) {
+  uint8_t keys[256];
+  int64_t key_offsets[9];
+  uint64_t order[9] = {77, 77, 77, 77, 77, 77, 77, 77, 77};
+  CHECK(versions_sort(texts, strlen(texts), offsets, count + 1, keys, sizeof keys, key_offsets, count + 1, order,
+                      count) == VERSIONS_OK);
+  for (size_t i = 0; i < count; i++) CHECK(order[i] == wanted[i]);
+  CHECK(order[count] == 77);
 }
 
 // A null pointer whose length isn't 0 is refused, whatever else is wrong, and nothing is written.
@@ -313,6 +386,7 @@ static void refused_null_pointers(void) {
   size_t length = 77;
   uint8_t answers[8];
   int64_t key_offsets[2] = {77, 77};
+  uint64_t place = 77;
   memset(answers, 77, sizeof answers);
   CHECK(versions_kind(NULL, 1) == -VERSIONS_NULL);
   CHECK(versions_kind(NULL, SIZE_MAX) == -VERSIONS_NULL);
@@ -354,6 +428,13 @@ static void refused_null_pointers(void) {
   CHECK(versions_sort_keys("1.2.3", 5, offsets, 2, NULL, 20, key_offsets, 2) == VERSIONS_NULL);
   CHECK(versions_sort_keys("1.2.3", 5, offsets, 2, answers, sizeof answers, NULL, 2) == VERSIONS_NULL);
   CHECK(versions_sort_keys("1.2.3", 5, descending, 2, NULL, 20, key_offsets, 2) == VERSIONS_NULL);
+  CHECK(versions_sort(NULL, 5, offsets, 2, answers, sizeof answers, key_offsets, 2, &place, 1) == VERSIONS_NULL);
+  CHECK(versions_sort("1.2.3", 5, NULL, 2, answers, sizeof answers, key_offsets, 2, &place, 1) == VERSIONS_NULL);
+  CHECK(versions_sort("1.2.3", 5, offsets, 2, NULL, 20, key_offsets, 2, &place, 1) == VERSIONS_NULL);
+  CHECK(versions_sort("1.2.3", 5, offsets, 2, answers, sizeof answers, NULL, 2, &place, 1) == VERSIONS_NULL);
+  CHECK(versions_sort("1.2.3", 5, offsets, 2, answers, sizeof answers, key_offsets, 2, NULL, 1) == VERSIONS_NULL);
+  CHECK(versions_sort("1.2.3", 5, descending, 2, answers, sizeof answers, key_offsets, 2, NULL, 1) == VERSIONS_NULL);
+  CHECK(place == 77);
   CHECK(versions_match_all(NULL, 1, "1.2.3", 5, offsets, 2, answers, 1) == VERSIONS_NULL);
   CHECK(versions_match_all("*", 1, NULL, 5, offsets, 2, answers, 1) == VERSIONS_NULL);
   CHECK(versions_match_all("*", 1, "1.2.3", 5, NULL, 2, answers, 1) == VERSIONS_NULL);
@@ -438,6 +519,41 @@ static void edges(void) {
   CHECK(versions_match_all("<1.2.3", 6, "???1.2.31.2???", 14, apart, 4, answers, 3) == VERSIONS_OK);
   CHECK(answers[0] == 0 && answers[1] == 2 && answers[2] == 1 && answers[3] == 77);
 
+  // Places in order. No text, one, and texts none of which is a version, which need no room.
+  const int64_t nowhere[] = {0, 0, 0, 0};
+  uint64_t places[4] = {77, 77, 77, 77};
+  CHECK(versions_sort(NULL, 0, one_offset, 1, NULL, 0, key_offsets, 1, NULL, 0) == VERSIONS_OK);
+  CHECK(versions_sort("1.2.31.2", 8, last, 1, NULL, 0, key_offsets, 1, NULL, 0) == VERSIONS_OK);
+  CHECK(versions_sort(NULL, 0, nowhere, 4, NULL, 0, key_offsets, 4, places, 3) == VERSIONS_OK);
+  CHECK(places[0] == 0 && places[1] == 1 && places[2] == 2 && places[3] == 77);
+  CHECK(versions_sort("???1.2.31.2???", 14, apart, 4, NULL, 0, key_offsets, 4, places, 3) == VERSIONS_NO_ROOM);
+  CHECK(places[0] == 0 && places[1] == 1 && places[2] == 2 && places[3] == 77);
+  const int64_t alone[] = {3, 8};
+  const uint64_t the_one[] = {0}, the_last_first[] = {2, 0, 1};
+  sorted("???1.2.31.2???", alone, 1, the_one);
+  sorted("???1.2.31.2???", apart, 3, the_last_first);
+  // A tie that is broken by kind, and metadata of strict versions, which breaks none; no version is last.
+  const int64_t ties[] = {0, 5, 6, 9, 16, 19, 26, 26}, twice[] = {0, 5, 8, 13, 14, 17};
+  const uint64_t ties_broken[] = {2, 4, 0, 3, 5, 1, 6}, twice_in_turn[] = {1, 4, 0, 2, 3};
+  sorted("0:1.0?1.01.0.1+b1.01.0.1+a", ties, 7, ties_broken);
+  sorted("2.0.01.02.0.0?1.0", twice, 5, twice_in_turn);
+
+  // As many offsets of keys as of texts, and a place for each text.
+  const int64_t two[] = {0, 5, 8};
+  uint8_t room[64];
+  memset(room, 77, sizeof room);
+  for (int i = 0; i < 5; i++) key_offsets[i] = 77;
+  for (size_t more = 0; more < 5; more++) {
+    for (size_t many = 0; many < 5; many++) {
+      if (more == 3 && many == 2) continue;
+      CHECK(versions_sort("1.2.31.2", 8, two, 3, room, sizeof room, key_offsets, more, places, many) ==
+            VERSIONS_BAD_OFFSETS);
+    }
+  }
+  CHECK(places[0] == 0 && places[1] == 1 && places[2] == 2 && places[3] == 77);
+  for (size_t i = 0; i < sizeof room; i++) CHECK(room[i] == 77);
+  for (int i = 0; i < 5; i++) CHECK(key_offsets[i] == 77);
+
   // Offsets that are bad in each way, and arrays whose lengths don't fit.
   const int64_t negative[] = {-1, 5, 8}, lowest[] = {INT64_MIN, 5, 8}, descending[] = {5, 0, 8}, past[] = {0, 5, 9},
                 largest[] = {0, 5, INT64_MAX}, negative_last[] = {0, 5, -1}, good[] = {0, 5, 8}, nothing[] = {-1};
@@ -497,6 +613,58 @@ static void long_texts(void) {
   long_text("1_", million, VERSIONS_COMPLEX, versions_sort_key_bound(2 * million + 1));
   long_text("1.", million, VERSIONS_GENERAL, 1 + 4 * (million + 1) + 1 + 1);
   long_text("a", 10 * million, VERSIONS_GENERAL, 1 + 1 + 10 * million + 1 + 1 + 3 + 1 + 1);
+}
+
+// The ranks of texts by their places: rising, falling, scattered, all alike, two in turn, and some or all no version.
+static size_t rising(size_t place, size_t count) { return (void)count, place; }
+static size_t falling(size_t place, size_t count) { return count - place; }
+static size_t scattered(size_t place, size_t count) { return place * 7919 % count; }
+static size_t level(size_t place, size_t count) { return (void)place, (void)count, 0; }
+static size_t in_turn(size_t place, size_t count) { return (void)count, place % 2; }
+static size_t with_none(size_t place, size_t count) { return place % 3 == 0 ? SIZE_MAX : scattered(place, count) / 10; }
+static size_t none(size_t place, size_t count) { return (void)place, (void)count, SIZE_MAX; }
+
+// A hundred thousand texts that have these ranks, each with metadata of its own. By rank, and then by place, they have
+// one order.
+static void many_texts(size_t (*rank_of)(size_t, size_t)) {
+  size_t count = 100000, used = 0, room = 64 * count;
+  char *texts = (char *)block(room);
+  int64_t *offsets = (int64_t *)block((count + 1) * sizeof(int64_t));
+  int64_t *key_offsets = (int64_t *)block((count + 1) * sizeof(int64_t));
+  uint8_t *keys = (uint8_t *)block(3 * room), *seen = (uint8_t *)block(count);
+  uint64_t *order = (uint64_t *)block(count * sizeof(uint64_t));
+  offsets[0] = 0;
+  for (size_t place = 0; place < count; place++) {
+    size_t rank = rank_of(place, count);
+    used += (size_t)(rank == SIZE_MAX ? snprintf(texts + used, 64, "?%zu", count - place)
+                                      : snprintf(texts + used, 64, "1.0.%zu+%zu", rank, count - place));
+    offsets[place + 1] = (int64_t)used;
+  }
+  CHECK(versions_sort(texts, room, offsets, count + 1, keys, 3 * room, key_offsets, count + 1, order, count) ==
+        VERSIONS_OK);
+  memset(seen, 0, count);
+  for (size_t i = 0; i < count; i++) {
+    CHECK(order[i] < count && !seen[order[i]]++);
+    if (i == 0) continue;
+    size_t before = rank_of(order[i - 1], count), rank = rank_of(order[i], count);
+    CHECK(before < rank || (before == rank && order[i - 1] < order[i]));
+  }
+  release(texts);
+  release(offsets);
+  release(key_offsets);
+  release(keys);
+  release(seen);
+  release(order);
+}
+
+static void many(void) {
+  many_texts(rising);
+  many_texts(falling);
+  many_texts(scattered);
+  many_texts(level);
+  many_texts(in_turn);
+  many_texts(with_none);
+  many_texts(none);
 }
 
 // Every call on every line, with lists of each operator, and on texts whose answers are known. tests/c runs this where
@@ -562,14 +730,17 @@ int main(int count, char **words) {
     refused_null_pointers();
   } else if (strcmp(word, "long") == 0) {
     long_texts();
+  } else if (strcmp(word, "many") == 0) {
+    many();
   } else {
     struct lines lines = read_lines();
     if (strcmp(word, "show") == 0) show(&lines);
     else if (strcmp(word, "compare") == 0) compare(&lines);
     else if (strcmp(word, "match") == 0) match(&lines, words[2]);
+    else if (strcmp(word, "sort") == 0) sort(&lines);
     else if (strcmp(word, "threads") == 0) threads(&lines);
     else if (strcmp(word, "memory") == 0) without_memory(&lines);
-    else CHECK(!"usage: show, compare, match R, threads, edges, long or memory");
+    else CHECK(!"usage: show, compare, match R, sort, threads, edges, long, many or memory");
     free_lines(&lines);
   }
   return failures == 0 ? 0 : 99;

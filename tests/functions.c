@@ -80,6 +80,14 @@ int proved_versions_sort_keys(const char *texts, size_t texts_len, const int64_t
   return key_offsets_len == 0 ? proved_versions_kinds(texts, texts_len, offsets, offsets_len, keys, room) : 0;
 }
 
+int proved_versions_sort(const char *texts, size_t texts_len, const int64_t *offsets, size_t offsets_len, uint8_t *keys,
+                         size_t room, int64_t *key_offsets, size_t key_offsets_len, uint64_t *order,
+                         size_t order_len) {
+  check_pointer(order);
+  if (order_len != 0) return 0;
+  return proved_versions_sort_keys(texts, texts_len, offsets, offsets_len, keys, room, key_offsets, key_offsets_len);
+}
+
 int proved_versions_match_all(const char *list, size_t list_len, const char *texts, size_t texts_len,
                               const int64_t *offsets, size_t offsets_len, uint8_t *matches, size_t matches_len) {
   check_pointer(list);
@@ -101,6 +109,7 @@ static void null_pointers(void) {
   check("nth", versions_nth(NULL, 0, 7, &number) == PASSED);
   check("kinds", versions_kinds(NULL, 0, NULL, 0, NULL, 0) == PASSED);
   check("sort_keys", versions_sort_keys(NULL, 0, NULL, 0, NULL, 0, NULL, 0) == PASSED);
+  check("sort", versions_sort(NULL, 0, NULL, 0, NULL, 0, NULL, 0, NULL, 0) == PASSED);
   check("match_all", versions_match_all(NULL, 0, NULL, 0, NULL, 0, NULL, 0) == PASSED);
 }
 

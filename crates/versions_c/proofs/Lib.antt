@@ -1,5 +1,6 @@
 pub mod Answers
 pub mod KeyLength
 pub mod OffsetsRead
+pub mod Ordered
 pub mod PartLength
 pub mod Putting

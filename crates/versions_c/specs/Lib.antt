@@ -4,3 +4,4 @@ pub mod Matching
 pub mod Numbers
 pub mod Offsets
 pub mod Order
+pub mod Sorting

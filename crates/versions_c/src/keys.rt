@@ -87,11 +87,34 @@ pub extern "C" fn versions_sort_keys(
     if key_offsets.len() != offsets.len() || !are_offsets(offsets, texts.len(), count) {
         return BAD_OFFSETS;
     }
-    if put_all(texts, offsets, count, keys, key_offsets) <= keys.len() {
+    if put_keys(texts, offsets, count, keys, key_offsets) {
         OK
     } else {
         NO_ROOM
     }
+}
+
+/// Writes the keys of all texts, as far as there is room, and where they begin and end, and says whether there is room
+/// for all of them.
+pub fn put_keys(
+    texts: &[u8],
+    offsets: &[u64],
+    count: usize,
+    keys: &mut [u8],
+    key_offsets: &mut [u64],
+) -> bool
+    requires offsets { AreOffsets offsets.now (length texts.now) count }
+    requires as_many { length key_offsets.old ≡ count + 1 }
+    ensures room { IsTrue result
+        ↔ (length (keys_before texts.now offsets.now count) ≤ length keys.old) }
+    ensures keys { IsTrue result → keys.new
+        ≡ keys_before texts.now offsets.now count
+        ++ drop (length (keys_before texts.now offsets.now count)) keys.old }
+    ensures key_offsets { (i : ℕ) → i ≤ count
+        → slice_index key_offsets.new i
+        ≡ saturated_offset (length (keys_before texts.now offsets.now i)) }
+{
+    put_all(texts, offsets, count, keys, key_offsets) <= keys.len()
 }
 
 // Writes the keys of all texts, as far as there is room, and where they begin and end, and gives the place behind them.

@@ -8,5 +8,6 @@ mod matching;
 mod numbers;
 mod offsets;
 mod order;
+mod sorting;
 mod spelled;
 mod status;
