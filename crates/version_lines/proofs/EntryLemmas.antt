@@ -1,5 +1,5 @@
 -- Lines as they are sorted: they are versions, their keys stay where they lie, and in order they are the lines in order.
-use Rattle.std.proofs.Common.{◌≡◌, ℕ, ◌+◌, ◌<◌, ◌≤◌, true, false, not, nat_lt, List, [], ◌∷◌, ◌++◌, length, take, drop, get_or, map, Option, Some, None, is_some, refl, sym, ap, ◌∙◌, arith, append-nil, append_assoc, length-append, length-drop, add-one}
+use Rattle.std.proofs.Common.{◌≡◌, ℕ, ◌+◌, ◌<◌, ◌≤◌, true, false, not, nat_lt, List, [], ◌∷◌, ◌++◌, length, take, drop, get_or, map, Option, Some, None, is_some, refl, sym, subst, ap, ◌∙◌, arith, append-nil, append_assoc, length-append, length-drop, add-one}
 use Rattle.std.specs.Cmp.{IsStrictWeakOrder, IsTotalOrder, nat_cmp_total}
 use Rattle.std.specs.Cmp.Lexicographic.{options_total, slice_cmp}
 use Rattle.std.specs.List.{All, prefix_len}
@@ -11,14 +11,15 @@ use Rattle.std.specs.declared.cmp.Ordering.TheVariants.{Less, Equal, Greater}
 use Rattle.std.proofs.Math.Seq.{drop-cons}
 use Rattle.std.proofs.lemmas.Bool.{le-ltb, lt-ltb}
 use Rattle.std.proofs.lemmas.Cmp.{nat_list_cmp_total, on_total, then_total}
-use Rattle.std.proofs.lemmas.List.{drop-append-le, length-map, map-append, take-append-le}
+use Rattle.std.proofs.lemmas.List.{drop-append-le, length-map, length-take, map-append, take-append-le}
 use Rattle.std.proofs.lemmas.List.Elements.{All-head, All-tail}
+use Rattle.std.proofs.lemmas.List.Quantifiers.{all_pairs_push}
 use Rattle.std.proofs.lemmas.List.Sorted.{ranks_by}
 use Rattle.version_lines.specs.Head.{behind_heads_cmp}
-use Rattle.version_lines.specs.Entry.{entry_cmp, entry_key, entry_line, tie_cmp, IsRead}
+use Rattle.version_lines.specs.Entry.{entry_cmp, entry_key, entry_line, tie_cmp, AreInTurn, IsRead}
 use Rattle.version_lines.specs.Lines.{lines_of, lines_output, whole_line}
 use Rattle.version_lines.specs.Sort.{bad_line, is_bad, line_cmp, sort_output}
-use Rattle.version_lines.specs.Sorting.{in_order}
+use Rattle.version_lines.specs.Sorting.{in_order, TiesRise}
 use Rattle.version_lines.specs.Spelled.{line_key, line_tie_breaker, line_tie_cmp, unless_strict}
 use Rattle.version_lines.specs.declared.sort.entry.Entry.{Entry}
 use Rattle.versions.proofs.Orders.{key_bytes_alone}
@@ -30,6 +31,8 @@ use Rattle.versions.specs.OrdersLaws.{versioning_cmp_total}
 use Rattle.versions.specs.Versioning.{Complex, General, Ideal, PlainVersioning, versioning_of, versioning_plain_cmp}
 use Rattle.versions.specs.VersioningLaws.{versioning_plain_total}
 use Rattle.version_lines.proofs.HeadLemmas.{heads_first}
+use Rattle.version_lines.proofs.KeyLemmas.{line_key-some}
+use Rattle.version_lines.proofs.PlaceLemmas.{ties_rise-in_order}
 use Rattle.version_lines.proofs.SortingLemmas.{AreAlike, in_order-map, in_order-sorted}
 use Rattle.version_lines.proofs.TieLemmas.{in_order-twice}
 
@@ -109,6 +112,18 @@ read-more keys more entry read =
       second = read.second;
     }
 
+-- no key is empty
+length-some : (keys : List ℕ) (entry : Entry) → IsRead keys entry → 0 < entry.length
+length-some keys entry read =
+    omega (arith, line_key-some (entry_line entry) read.good, ap length read.key, length-take entry.length (drop entry.start keys))
+
+-- an entry behind others, whose key lies behind theirs, is in turn
+pub in_turn-added : (after entries : List Entry) (entry : Entry) (keys : List ℕ) → AreInTurn entries → All (IsRead keys) entries → entry.start ≡ length keys
+    → after ≡ entries ++ entry ∷ [] → AreInTurn after
+in_turn-added after entries entry keys in_turn read last added =
+    subst AreInTurn (sym added) (all_pairs_push (λ (a b : Entry). a.start < b.start) entries entry in_turn
+    (λ k d inside. omega (arith, last, (read k d inside).within, length-some keys _ (read k d inside))))
+
 -- the orders of lines are total
 
 pub line_total : IsTotalOrder line_cmp
@@ -150,6 +165,11 @@ entries_alike keys a b a_read b_read =
 pub entries-sorted : (keys : List ℕ) (entries by_keys : List Entry) → by_keys ≡ in_order (entry_cmp keys) entries → IsSorted (entry_cmp keys) by_keys
 entries-sorted keys entries by_keys sorted = rw sorted (in_order-sorted (entry_cmp keys) (entry_ranks keys) entries)
 
+-- and those whose keys tie stand as they did
+pub entries-ties_rise : (keys : List ℕ) (entries by_keys : List Entry) → by_keys ≡ in_order (entry_cmp keys) entries → AreInTurn entries
+    → TiesRise (entry_cmp keys) (λ (entry : Entry). entry.start) by_keys
+entries-ties_rise keys entries by_keys sorted in_turn = rw sorted (ties_rise-in_order (entry_cmp keys) (λ (entry : Entry). entry.start) entries in_turn)
+
 -- the output for the lines from a place on is the line there, and then the output for those behind it
 pub lines_output-entries : (entries : List Entry) (i : ℕ) (d : Entry) (line : List ℕ) → i < length entries → line ≡ entry_line (get_or entries i d)
     → lines_output whole_line (map entry_line (drop i entries)) ≡ whole_line line ++ lines_output whole_line (map entry_line (drop (i + 1) entries))
@@ -157,13 +177,16 @@ lines_output-entries entries i d line inside same =
     ap (λ es. lines_output whole_line (map entry_line es)) (drop-cons entries i d inside)
     ∙ rw (add-one i, same) refl
 
--- the lines of entries that were put in the order of their keys, and then where those tie in that of their versions, are
--- the lines in order
-pub sort_output-entries : (input kept keys : List ℕ) (entries by_keys ordered : List Entry) → map entry_line entries ≡ lines_of input → All (IsRead kept) entries → keys ≡ kept
-    → by_keys ≡ in_order (entry_cmp keys) entries → ordered ≡ in_order (then_cmp (entry_cmp keys) tie_cmp) by_keys
-    → lines_output whole_line (map entry_line ordered) ≡ sort_output input
-sort_output-entries input kept keys entries by_keys ordered lines read same sorted settled =
+-- put in the order of their keys, and then where those tie in that of their versions
+pub in_order-settled : (keys : List ℕ) (entries by_keys ordered : List Entry) → by_keys ≡ in_order (entry_cmp keys) entries → ordered ≡ in_order (then_cmp (entry_cmp keys) tie_cmp) by_keys
+    → ordered ≡ in_order (then_cmp (entry_cmp keys) tie_cmp) entries
+in_order-settled keys entries by_keys ordered sorted settled =
+    settled ∙ ap (in_order (then_cmp (entry_cmp keys) tie_cmp)) sorted ∙ in_order-twice (entry_cmp keys) tie_cmp (entry_total keys) tie_total entries
+
+-- the lines of entries in order are the lines in order
+pub sort_output-entries : (input kept keys : List ℕ) (entries ordered : List Entry) → map entry_line entries ≡ lines_of input → All (IsRead kept) entries → keys ≡ kept
+    → ordered ≡ in_order (then_cmp (entry_cmp keys) tie_cmp) entries → lines_output whole_line (map entry_line ordered) ≡ sort_output input
+sort_output-entries input kept keys entries ordered lines read same once =
     let fine = then_cmp (entry_cmp keys) tie_cmp in
-    let once : ordered ≡ in_order fine entries = settled ∙ ap (in_order fine) sorted ∙ in_order-twice (entry_cmp keys) tie_cmp (entry_total keys) tie_total entries in
     ap (λ es. lines_output whole_line (map entry_line es)) once
     ∙ ap (lines_output whole_line) (in_order-map (IsRead keys) entry_line fine line_cmp (entries_alike keys) entries (rw same read) ∙ ap (in_order line_cmp) lines)

@@ -4,6 +4,7 @@ mod KeyLemmas
 mod LinesLemmas
 mod MatchingLemmas
 mod OutputLemmas
+mod PlaceLemmas
 mod RunLemmas
 mod SortingLemmas
 mod TieLemmas

@@ -26,7 +26,7 @@ below cmp x y = is_lt (cmp x y)
 
 -- the list in order has the same elements
 
-put-permutes : {X : Type 0} (cmp : X → X → Ordering) (x : X) (xs : List X) → IsPermutation (x ∷ xs) (put_in_order cmp x xs)
+pub put-permutes : {X : Type 0} (cmp : X → X → Ordering) (x : X) (xs : List X) → IsPermutation (x ∷ xs) (put_in_order cmp x xs)
 put-permutes cmp x [] = IsPermutation-refl (x ∷ [])
 put-permutes cmp x (y ∷ ys) =
     let later : IsPermutation (x ∷ y ∷ ys) (y ∷ put_in_order cmp x ys) =
@@ -44,16 +44,16 @@ pub by_test : {P : Type 0} (b : Bool) → (b ≡ true → P) → (b ≡ false �
 by_test true passes fails = passes refl
 by_test false passes fails = fails refl
 
-neither : (a b : Bool) → (not a && not b) ≡ true → (a ≡ false) × (b ≡ false)
+pub neither : (a b : Bool) → (not a && not b) ≡ true → (a ≡ false) × (b ≡ false)
 neither true b none = absurd (true≢false (sym none))
 neither false true none = absurd (true≢false (sym none))
 neither false false none = (refl, refl)
 
 -- the head of equal lists
-head-is : {X : Type 0} {x y : X} {xs ys : List X} → x ∷ xs ≡ y ∷ ys → x ≡ y
+pub head-is : {X : Type 0} {x y : X} {xs ys : List X} → x ∷ xs ≡ y ∷ ys → x ≡ y
 head-is e = cc
 
-tail-is : {X : Type 0} {x y : X} {xs ys : List X} → x ∷ xs ≡ y ∷ ys → xs ≡ ys
+pub tail-is : {X : Type 0} {x y : X} {xs ys : List X} → x ∷ xs ≡ y ∷ ys → xs ≡ ys
 tail-is e = cc
 
 -- those that tie stay as they stood

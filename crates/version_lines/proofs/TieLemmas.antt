@@ -82,7 +82,7 @@ in_order-tied {X} R S total x run tied =
 
 -- the first run of a list that rises
 
-not_less : (o : Ordering) → is_lt o ≡ false → is_lt (ordering_reverse o) ≡ false → o ≡ Equal
+pub not_less : (o : Ordering) → is_lt o ≡ false → is_lt (ordering_reverse o) ≡ false → o ≡ Equal
 not_less Less not_below not_above = cc
 not_less Equal not_below not_above = refl
 not_less Greater not_below not_above = cc
@@ -99,7 +99,7 @@ all_above R total x y (z ∷ zs) up (first, others) =
     let above : below R x z ≡ true = by_test (below R x z) (λ is. is) (λ fails. absurd (true≢false (sym up ∙ (ranks total).chain x z y fails first))) in
     All-cons (λ z. R x z ≡ Less) z zs (less (R x z) above) (all_above R total x y zs up others)
 
-run_ties : {X : Type 0} (R : X → X → Ordering) → IsTotalOrder R → (x : X) (xs : List X) → AtLeast (below R) x xs
+pub run_ties : {X : Type 0} (R : X → X → Ordering) → IsTotalOrder R → (x : X) (xs : List X) → AtLeast (below R) x xs
     → All (λ y. R x y ≡ Equal) (take (prefix_len (λ y. not (is_lt (R x y))) xs) xs)
 run_ties R total x [] least = All-nil (λ y. R x y ≡ Equal)
 run_ties R total x (y ∷ ys) (first, others) =
@@ -175,11 +175,12 @@ rises-drop lt (suc n) (x ∷ xs) (least, up) = rises-drop lt n xs up
 pub record IsDoneTo {X : Type 0} (R S : X → X → Ordering) (list now : List X) (place : ℕ) : Type 0 where
   pub same : length now ≡ length list
   pub within : place ≤ length now
+  pub stays : drop place now ≡ drop place list
   pub rises : Rises (below R) (drop place now)
   pub whole : in_order (then_cmp R S) list ≡ take place now ++ in_order (then_cmp R S) (drop place now)
 
 pub done_to-start : {X : Type 0} (R S : X → X → Ordering) (list : List X) → Rises (below R) list → IsDoneTo R S list list 0
-done_to-start R S list up = record { same = refl; within = omega arith; rises = up; whole = refl }
+done_to-start R S list up = record { same = refl; within = omega arith; stays = refl; rises = up; whole = refl }
 
 done_to-next : {X : Type 0} (R S : X → X → Ordering) → IsTotalOrder R → (list now after run : List X) (place n : ℕ) → IsDoneTo R S list now place
     → n ≡ run_length R (drop place now) → run ≡ in_order S (take n (drop place now)) → after ≡ put_mid place n now run → IsDoneTo R S list after (place + n)
@@ -195,6 +196,7 @@ done_to-next R S total list now after run place n so_far first settled put =
     record {
       same = same ∙ so_far.same;
       within = omega (arith, ap length done, length-append (take place now) run, length-take-le place now so_far.within, many, length-take (place + n) after);
+      stays = behind ∙ ap (drop n) so_far.stays ∙ drop-drop n place list;
       rises = let P : List _ → Type 0 = Rises (below R) in subst P (sym behind) (rises-drop (below R) n left so_far.rises);
       whole = so_far.whole
           ∙ ap (λ l. take place now ++ l) (in_order-first_run R S total left so_far.rises ∙ rw (← first, ← settled, ← behind) refl)

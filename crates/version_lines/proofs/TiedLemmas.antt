@@ -1,23 +1,26 @@
 -- Lines with one key, in the order of their versions.
-use Rattle.std.proofs.Common.{◌≡◌, ◌≤◌, ◌-◌, ℕ, true, false, List, [], ◌∷◌, length, take, drop, get_or, map, Option, None, Some, is_some, refl, sym, ap, ◌∙◌, arith}
+use Rattle.std.proofs.Common.{◌≡◌, ◌≤◌, ◌-◌, ◌&&◌, ℕ, Bool, true, false, IsTrue, List, [], ◌∷◌, ◌++◌, length, take, drop, get_or, Option, None, Some, is_some, refl, sym, ap, ◌∙◌, arith}
 use Rattle.std.specs.Cmp.{IsStrictWeakOrder}
-use Rattle.std.specs.Cmp.Lexicographic.{options_total}
 use Rattle.std.specs.List.{All}
 use Rattle.std.specs.Option.{option_and_then, option_cmp, option_map, option_or}
-use Rattle.std.specs.Ordering.{is_lt}
-use Rattle.std.proofs.lemmas.Cmp.{on_total, tied_itself}
-use Rattle.std.proofs.lemmas.List.Elements.{All-cons, All-head, All-same, All-tail, All-weaker}
-use Rattle.std.proofs.lemmas.List.{take_all}
+use Rattle.std.specs.Ordering.{is_lt, ordering_then, then_cmp}
+use Rattle.std.specs.declared.cmp.Ordering.TheVariants.{Equal}
+use Rattle.std.proofs.lemmas.Cmp.{tied_itself}
+use Rattle.std.proofs.lemmas.List.Elements.{All-cons, All-head, All-push, All-same, All-tail, All-weaker}
+use Rattle.std.proofs.lemmas.List.{map-id, take_all}
 use Rattle.std.proofs.lemmas.List.Sorted.{ranks_by}
-use Rattle.version_lines.specs.Entry.{entry_line, tie_cmp}
+use Rattle.version_parts.specs.OrderLaws.{then_equal}
+use Rattle.version_lines.specs.Entry.{entry_cmp, entry_line, tie_cmp, IsStrict}
 use Rattle.version_lines.specs.Sorting.{in_order}
 use Rattle.version_lines.specs.Spelled.{line_tie_breaker, unless_strict}
 use Rattle.version_lines.specs.declared.sort.entry.Entry.{Entry}
-use Rattle.versions.specs.Mess.{PlainMess}
+use Rattle.versions.specs.Kind.{versioning_kind}
+use Rattle.versions.specs.declared.kind.Kind.{Kind}
+use Rattle.versions.specs.declared.kind.Kind.TheVariants as kind
+use Rattle.versions.specs.Mess.{PlainMess, mess_of}
 use Rattle.versions.specs.SemVer.{PlainSemVer, semver_of}
-use Rattle.versions.specs.Version.{PlainVersion}
-use Rattle.versions.specs.Versioning.{Complex, General, Ideal, PlainVersioning, versioning_plain_cmp}
-use Rattle.versions.specs.VersioningLaws.{versioning_plain_total}
+use Rattle.versions.specs.Version.{PlainVersion, version_of}
+use Rattle.versions.specs.Versioning.{Complex, General, Ideal, PlainVersioning, versioning_of, versioning_plain_cmp}
 use Rattle.version_lines.proofs.EntryLemmas.{tie_total}
 use Rattle.version_lines.proofs.SortingLemmas.{AtLeast, Rises, below, in_order-map}
 use Rattle.version_lines.proofs.TieLemmas.{in_order-risen}
@@ -60,6 +63,37 @@ pub in_order-strict : (run : List Entry) → All (λ entry. is_some (semver_of (
 in_order-strict run all =
     in_order-risen tie_cmp run (rises-level None run
     (All-weaker (λ entry. is_some (semver_of (entry_line entry)) ≡ true) (HasBreaker None) (λ entry strict. strict-no_breaker (semver_of (entry_line entry)) _ strict) run all))
+
+-- of a version whose kind is the strict one
+pub strict_kind : (ideal : Option PlainSemVer) (general : Option PlainVersion) (complex : Option PlainMess) (known : Kind)
+    → Some known ≡ option_map versioning_kind (option_or (option_map Ideal ideal) (option_or (option_map General general) (option_map Complex complex)))
+    → known ≡ kind.Ideal → is_some ideal ≡ true
+strict_kind (Some v) general complex known spelled is = refl
+strict_kind None (Some v) complex known spelled is = cc (spelled, is)
+strict_kind None None (Some m) known spelled is = cc (spelled, is)
+strict_kind None None None known spelled is = cc spelled
+
+-- one more line of which is known that it is strict
+pub all_strict-added : (after entries : List Entry) (entry : Entry) (line : List ℕ) (known : Kind) (others it : Bool) → IsTrue (others && it) → (IsTrue others → All IsStrict entries)
+    → (IsTrue it → known ≡ kind.Ideal) → Some known ≡ option_map versioning_kind (versioning_of line) → entry_line entry ≡ line → after ≡ entries ++ entry ∷ [] → All IsStrict after
+all_strict-added after entries entry line known false it both strict is spelled same added = cc both
+all_strict-added after entries entry line known true false both strict is spelled same added = cc both
+all_strict-added after entries entry line known true true both strict is spelled same added =
+    let here : IsStrict entry = rw same (strict_kind (semver_of line) (version_of line) (mess_of line) known spelled (is both)) in
+    All-same IsStrict after (entries ++ entry ∷ []) added (All-push IsStrict entries entry (strict both) here)
+
+-- of strict versions nothing breaks the tie
+strict_tie : (a b : Entry) → IsStrict a → IsStrict b → tie_cmp a b ≡ Equal
+strict_tie a b a_strict b_strict =
+    rw (strict-no_breaker (semver_of (entry_line a)) _ a_strict, strict-no_breaker (semver_of (entry_line b)) _ b_strict) refl
+
+-- so strict versions in the order of their keys are in order
+pub in_order-all_strict : (keys : List ℕ) (entries : List Entry) → All IsStrict entries → in_order (entry_cmp keys) entries ≡ in_order (then_cmp (entry_cmp keys) tie_cmp) entries
+in_order-all_strict keys entries all =
+    let fine = then_cmp (entry_cmp keys) tie_cmp in
+    let alike = λ (a b : Entry) (a_strict : IsStrict a) (b_strict : IsStrict b).
+    sym (ap (ordering_then (entry_cmp keys a b)) (strict_tie a b a_strict b_strict) ∙ then_equal (entry_cmp keys a b)) in
+    sym (map-id (in_order (entry_cmp keys) entries)) ∙ in_order-map IsStrict (λ entry. entry) (entry_cmp keys) fine alike entries all ∙ ap (in_order fine) (map-id entries)
 
 -- lines behind the first that are the first, to the last of them
 pub one_line-from_first : (run : List Entry) (d : Entry) (i : ℕ) → 1 ≤ length run → length (take (length run - 1) (drop 1 run)) ≤ i

@@ -1,12 +1,13 @@
 -- A line as it is sorted, and where its key lies.
-use Rattle.std.specs.Prelude.{◌≡◌, ◌<◌, ◌≤◌, ◌+◌, ℕ, false, List, drop, length, take}
-use Rattle.std.specs.List.{All}
+use Rattle.std.specs.Prelude.{◌≡◌, ◌<◌, ◌≤◌, ◌+◌, ℕ, false, true, List, drop, is_some, length, take}
+use Rattle.std.specs.List.{All, AllPairs}
 use Rattle.std.specs.Ordering.{nat_cmp, on, then_cmp}
 use Rattle.std.specs.declared.cmp.Ordering.{Ordering}
 use Rattle.version_lines.specs.Head.{behind_heads_cmp, head_number}
 use Rattle.version_lines.specs.Sort.{is_bad}
 use Rattle.version_lines.specs.Spelled.{line_key, line_tie_cmp}
 use Rattle.version_lines.specs.declared.sort.entry.Entry.{Entry}
+use Rattle.versions.specs.SemVer.{semver_of}
 
 -- the line of an entry
 abbrev pub entry_line : Entry → List ℕ
@@ -32,6 +33,18 @@ behind_cmp keys = then_cmp (on (λ (entry : Entry). entry.second) nat_cmp) (on (
 -- by the first number, then by the second, then by what is behind
 abbrev pub entry_cmp : List ℕ → Entry → Entry → Ordering
 entry_cmp keys = then_cmp (on (λ (entry : Entry). entry.first) nat_cmp) (behind_cmp keys)
+
+-- the line is a strict version
+abbrev pub IsStrict : Entry → Type 0
+IsStrict entry = is_some (semver_of (entry_line entry)) ≡ true
+
+-- by where their keys lie
+abbrev pub turn_cmp : Entry → Entry → Ordering
+turn_cmp = on (λ (entry : Entry). entry.start) nat_cmp
+
+-- the keys of lines that stand as in the input lie one behind another
+abbrev pub AreInTurn : List Entry → Type 0
+AreInTurn = AllPairs (λ (a b : Entry). a.start < b.start)
 
 -- by what breaks ties of keys
 abbrev pub tie_cmp : Entry → Entry → Ordering

@@ -1,8 +1,9 @@
 -- A list in order.
-use Rattle.std.specs.List.{prefix_len}
-use Rattle.std.specs.Prelude.{ℕ, ◌+◌, List, [], ◌∷◌, if◌then◌else◌, not}
+use Rattle.std.specs.List.{All, prefix_len}
+use Rattle.std.specs.Prelude.{◌≡◌, ⊤, ℕ, ◌+◌, ◌<◌, List, [], ◌∷◌, if◌then◌else◌, not}
 use Rattle.std.specs.Ordering.{is_lt}
 use Rattle.std.specs.declared.cmp.Ordering.{Ordering}
+use Rattle.std.specs.declared.cmp.Ordering.TheVariants.{Equal}
 
 -- an element put in front of the first one that isn't below it
 abbrev pub put_in_order : {X : Type 0} → (X → X → Ordering) → X → List X → List X
@@ -18,3 +19,8 @@ in_order cmp (x ∷ xs) = put_in_order cmp x (in_order cmp xs)
 abbrev pub run_length : {X : Type 0} → (X → X → Ordering) → List X → ℕ
 run_length cmp [] = 0
 run_length cmp (x ∷ xs) = 1 + prefix_len (λ y. not (is_lt (cmp x y))) xs
+
+-- of elements that tie, the earlier has the lower place
+abbrev pub TiesRise : {X : Type 0} → (X → X → Ordering) → (X → ℕ) → List X → Type 0
+TiesRise cmp place [] = ⊤
+TiesRise cmp place (x ∷ xs) = All (λ y. cmp x y ≡ Equal → place x < place y) xs × TiesRise cmp place xs

@@ -87,7 +87,9 @@ fn add_line(buffer: &mut Vec<u8>, label: &[u8], line: &[u8])
     requires { vec_len buffer.old + length label.now + length line.now < vec_capacity buffer.old }
     ensures { buffer.new.items ≡ buffer.old.items ++ labelled_line label.now line.now }
 {
-    buffer.extend_from_slice(label).unwrap();
+    if !label.is_empty() {
+        buffer.extend_from_slice(label).unwrap();
+    }
     buffer.extend_from_slice(line).unwrap();
     buffer.push_reserved(b'\n');
 }

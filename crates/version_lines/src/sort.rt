@@ -1,14 +1,15 @@
 //! The command `sort`: the lines in the order of their versions.
-ghost use Rattle.std.specs.Prelude.{◌≡◌, ◌⊎◌, [], ◌∷◌, ◌++◌, Some, None, IfErr, IfOk, OnOk, IsErr, map};
+ghost use Rattle.std.specs.Prelude.{◌≡◌, ◌⊎◌, [], ◌∷◌, ◌++◌, Some, None, IfErr, IfOk, OnOk, IsErr, IsTrue, map};
 ghost use Rattle.std.specs.Io.KnownBytes.{Appends, Keeps};
 ghost use Rattle.std.specs.List.{All};
+ghost use Rattle.std.specs.Ordering.{then_cmp};
 ghost use Rattle.version_lines.specs.Fault.{ComesOfLines, ComesOfWriting};
 ghost use Rattle.version_lines.specs.Lines.{lines_of, lines_output, whole_line};
 ghost use Rattle.version_lines.specs.Command.{OfInput};
 ghost use Rattle.version_lines.specs.Run.{ComesOfCommand, GrowsAt};
 ghost use Rattle.version_lines.specs.Sort.{bad_line, sort_output};
 ghost use Rattle.version_lines.specs.Sorting.{in_order};
-ghost use Rattle.version_lines.specs.Entry.{entry_cmp, entry_line, IsRead};
+ghost use Rattle.version_lines.specs.Entry.{entry_cmp, entry_line, tie_cmp, AreInTurn, IsRead, IsStrict};
 
 mod entry;
 mod head;
@@ -22,6 +23,7 @@ use entry::Entry;
 use std::alloc::{AllocError, Global};
 use std::io::Write;
 use ties::break_ties;
+use versions::Kind;
 
 /// Writes the lines of the input in the order of their versions, each of which has to be one.
 pub fn write_sorted<W: Write>(alloc: Global, input: &[u8], writer: &mut W) -> Result<(), Fault>
@@ -34,10 +36,8 @@ pub fn write_sorted<W: Write>(alloc: Global, input: &[u8], writer: &mut W) -> Re
     ensures faults { IfErr result (ComesOfCommand (Some input.now) (OfInput InputCommand.Sort)) }
 {
     let mut keys = Vec::with_capacity(alloc, room_for_keys(input))?;
-    let mut entries = read_entries(alloc, &mut keys, input)?;
-    let keys = keys.as_slice();
-    sort_by_keys(keys, &mut entries)?;
-    break_ties(alloc, keys, entries.as_mut_slice())?;
+    let (mut entries, are_strict) = read_entries(alloc, &mut keys, input)?;
+    put_in_order(keys.as_slice(), &mut entries, are_strict);
     write_entries(alloc, entries.as_slice(), writer)
 }
 
@@ -52,27 +52,42 @@ fn room_for_lines(input: &[u8]) -> usize {
     input.len() / 12
 }
 
-/// The lines, whose keys are put into a list, or the fault that tells the first that is no version.
+/// The lines, whose keys are put into a list, and whether each is a strict version; or the fault that tells the first
+/// that is no version.
 fn read_entries<'a>(
     alloc: Global,
     keys: &mut Vec<u8>,
     input: &'a [u8],
-) -> Result<Vec<Entry<'a>>, Fault>
-    ensures lines { IfOk result (λ entries. map entry_line entries.items ≡ lines_of input.now) }
-    ensures read { IfOk result (λ entries. All (IsRead keys.new.items) entries.items) }
+) -> Result<(Vec<Entry<'a>>, bool), Fault>
+    ensures lines { IfOk result (λ read. map entry_line read.0.items ≡ lines_of input.now) }
+    ensures read { IfOk result (λ read. All (IsRead keys.new.items) read.0.items) }
+    ensures in_turn { IfOk result (λ read. AreInTurn read.0.items) }
+    ensures strict { IfOk result (λ read. IsTrue read.1 → All IsStrict read.0.items) }
     ensures faults { IfErr result (ComesOfLines (bad_line (lines_of input.now))) }
 {
     let mut entries = Vec::with_capacity(alloc, room_for_lines(input))?;
+    let mut are_strict = true;
     let mut rest = input;
     while !rest.is_empty() {
         let (line, after) = split_line(rest);
-        let Some(entry) = Entry::read(keys, line)? else {
+        let Some((entry, kind)) = Entry::read(keys, line)? else {
             return Err(Fault::BadLine(entries.len() + 1));
         };
         add(&mut entries, entry)?;
+        are_strict &= is_ideal(kind);
         rest = after;
     }
-    Ok(entries)
+    Ok((entries, are_strict))
+}
+
+/// Whether the kind is the strict one.
+fn is_ideal(kind: Kind) -> bool
+    ensures { IsTrue result → kind ≡ Kind.Ideal }
+{
+    match kind {
+        Kind::Ideal => true,
+        Kind::General | Kind::Complex => false,
+    }
 }
 
 /// Adds a line behind the others.
@@ -83,11 +98,26 @@ fn add<'a>(entries: &mut Vec<Entry<'a>>, entry: Entry<'a>) -> Result<(), AllocEr
     Ok(())
 }
 
-/// Puts the lines in the order of their keys.
-fn sort_by_keys(keys: &[u8], entries: &mut Vec<Entry<'_>>) -> Result<(), AllocError>
-    ensures { OnOk result (entries.new.items ≡ in_order (entry_cmp keys.now) entries.old.items) }
+/// Puts lines that stand as in the input in the order of their versions. Where all of them are strict, their keys alone
+/// decide. Takes no memory.
+fn put_in_order(keys: &[u8], entries: &mut Vec<Entry<'_>>, are_strict: bool)
+    requires in_turn { AreInTurn entries.old.items }
+    requires strict { IsTrue are_strict → All IsStrict entries.old.items }
+    ensures { entries.new.items
+        ≡ in_order (then_cmp (entry_cmp keys.now) tie_cmp) entries.old.items }
 {
-    entries.sort_by(|a, b| a.compare(b, keys))
+    sort_by_keys(keys, entries);
+    if !are_strict {
+        break_ties(keys, entries.as_mut_slice());
+    }
+}
+
+/// Puts lines that stand as in the input in the order of their keys. Takes no memory.
+fn sort_by_keys(keys: &[u8], entries: &mut Vec<Entry<'_>>)
+    requires { AreInTurn entries.old.items }
+    ensures { entries.new.items ≡ in_order (entry_cmp keys.now) entries.old.items }
+{
+    entries.sort_unstable_by(|a, b| a.compare_in_turn(b, keys));
 }
 
 /// Writes the lines as they stand.

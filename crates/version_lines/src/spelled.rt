@@ -1,7 +1,8 @@
 //! What a line spells: a version, and the key of that.
-ghost use Rattle.std.specs.Prelude.{◌≡◌, ◌++◌, is_some, IfOk, OnOk};
+ghost use Rattle.std.specs.Prelude.{◌≡◌, ◌++◌, IfOk, OnOk};
 ghost use Rattle.std.specs.Option.{option_map};
 ghost use Rattle.version_lines.specs.Spelled.{line_key, line_tie_breaker, line_tie_cmp};
+ghost use Rattle.versions.specs.Kind.{versioning_kind};
 ghost use Rattle.versions.specs.Versioning.{versioning_of};
 ghost use Rattle.versions.specs.VersioningRef.{plain_versioning_ref};
 
@@ -32,17 +33,17 @@ fn tie_breaker(line: &[u8]) -> Option<VersioningRef<'_>>
     }
 }
 
-/// Adds the key of the version that a line spells to other keys, and says whether it spells one. The error is that there
-/// is no memory for it.
-pub fn add_key(keys: &mut Vec<u8>, line: &[u8]) -> Result<bool, AllocError>
-    ensures spells { IfOk result (λ spells. spells ≡ is_some (versioning_of line.now)) }
+/// Adds the key of the version that a line spells to other keys, and gives the kind of that version, or None where the
+/// line spells none. The error is that there is no memory for the key.
+pub fn add_key(keys: &mut Vec<u8>, line: &[u8]) -> Result<Option<Kind>, AllocError>
+    ensures kind { IfOk result (λ kind. kind ≡ option_map versioning_kind (versioning_of line.now)) }
     ensures key { OnOk result (keys.new.items ≡ keys.old.items ++ line_key line.now) }
 {
     match VersioningRef::from_bytes(line) {
         Some(version) => {
             version.append_key(keys)?;
-            Ok(true)
+            Ok(Some(version.kind()))
         }
-        None => Ok(false),
+        None => Ok(None),
     }
 }

@@ -1,5 +1,5 @@
 -- Which versions a requirement asks for, and a list of requirements.
-use Rattle.std.specs.Prelude.{◌≡◌, ◌↔◌, ⊤, Bool, List, Option, None, Some, IsTrue, MatchOption}
+use Rattle.std.specs.Prelude.{◌≡◌, ⊤, List, IsTrue, MatchOption}
 use Rattle.std.specs.List.{All}
 use Rattle.std.specs.Ordering.{eq_by_cmp}
 use Rattle.std.specs.declared.cmp.Ordering.{Ordering}
@@ -57,9 +57,3 @@ AsksOrder GreaterEq order = ¬ (order ≡ ordering.Less)
 AsksOrder Less order = order ≡ ordering.Less
 AsksOrder LessEq order = ¬ (order ≡ ordering.Greater)
 AsksOrder _ order = ⊥
-
--- the answer for what a text spells: none where that is no version, else whether the set has it
-abbrev pub AnswersFor : (PlainVersioning → Type 0) → Option Bool → Option PlainVersioning → Type 0
-AnswersFor Holds None None = ⊤
-AnswersFor Holds (Some asked) (Some v) = IsTrue asked ↔ Holds v
-AnswersFor Holds answer spelled = ⊥

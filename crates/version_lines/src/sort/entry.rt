@@ -1,12 +1,17 @@
 //! A line as it is sorted.
-ghost use Rattle.std.specs.Prelude.{◌≡◌, ◌++◌, drop, IfOk, IsTrue, MatchOption, OnOk};
+ghost use Rattle.std.specs.Prelude.{◌≡◌, ◌++◌, drop, length, IfOk, IfSome, IsTrue, MatchOption, OnOk, Some};
+ghost use Rattle.std.specs.Option.{option_map};
+ghost use Rattle.std.specs.Ordering.{then_cmp};
 ghost use Rattle.version_lines.specs.Head.{behind_heads_cmp};
 ghost use Rattle.version_lines.specs.Spelled.{line_key};
+ghost use Rattle.versions.specs.Kind.{versioning_kind};
+ghost use Rattle.versions.specs.Versioning.{versioning_of};
 
 use crate::sort::head::head;
-use crate::spelled::add_key;
+use crate::spelled::{add_key, compare_ties};
 use std::alloc::AllocError;
 use std::cmp::Ordering;
+use versions::Kind;
 
 /// A line that is a version, where its key lies among the keys of all lines, which are one list, and the first bytes of
 /// the key, by which most lines are told apart.
@@ -20,28 +25,32 @@ pub struct Entry<'a> {
 }
 
 impl<'a> Entry<'a> {
-    ghost use Rattle.version_lines.specs.Entry.{behind_cmp, entry_cmp, entry_key, entry_line, IsRead};
+    ghost use Rattle.version_lines.specs.Entry.{behind_cmp, entry_cmp, entry_key, entry_line, tie_cmp, turn_cmp, IsRead};
     ghost use Rattle.version_lines.specs.Sort.{is_bad};
 
-    /// The line, whose key is added to the keys of others, where it is a version. The error is that there is no memory
-    /// for the key.
-    pub fn read(keys: &mut Vec<u8>, line: &'a [u8]) -> Result<Option<Entry<'a>>, AllocError>
+    /// The line, whose key is added to the keys of others, and the kind of its version, where it is one. The error is that
+    /// there is no memory for the key.
+    pub fn read(keys: &mut Vec<u8>, line: &'a [u8]) -> Result<Option<(Entry<'a>, Kind)>, AllocError>
         ensures key { OnOk result (keys.new.items ≡ keys.old.items ++ line_key line.now) }
         ensures read { IfOk result (λ read. MatchOption read (IsTrue (is_bad line.now))
-            (λ entry. (entry_line entry ≡ line.now) × IsRead keys.new.items entry)) }
+            (λ e. (entry_line e.0 ≡ line.now) × IsRead keys.new.items e.0)) }
+        ensures last { IfOk result (λ read. IfSome read (λ e. e.0.start ≡ length keys.old.items)) }
+        ensures kind { IfOk result (λ read. IfSome read (λ e.
+            Some e.1 ≡ option_map versioning_kind (versioning_of line.now))) }
     {
         let start = keys.len();
-        if !add_key(keys, line)? {
+        let Some(kind) = add_key(keys, line)? else {
             return Ok(None);
-        }
+        };
         let key = &keys.as_slice()[start..];
-        Ok(Some(Entry {
+        let entry = Entry {
             first: head(key),
             second: head(key.get(8..).unwrap_or(&[])),
             line,
             start,
             length: key.len(),
-        }))
+        };
+        Ok(Some((entry, kind)))
     }
 
     /// By their keys, the first bytes of which are looked at first.
@@ -53,6 +62,21 @@ impl<'a> Entry<'a> {
             Ordering::Equal => self.compare_behind(other, keys),
             order => order,
         }
+    }
+
+    /// The same, and where the keys tie by where they lie: of two lines, that which was read first comes first.
+    #[inline(always)]
+    pub fn compare_in_turn(&self, other: &Entry<'_>, keys: &[u8]) -> Ordering
+        ensures { result ≡ then_cmp (entry_cmp keys.now) turn_cmp self.now other.now }
+    {
+        self.compare(other, keys).then(self.start.cmp(&other.start))
+    }
+
+    /// By what breaks the ties of keys, and where that ties too by where the keys lie.
+    pub fn compare_ties_in_turn(&self, other: &Entry<'_>) -> Ordering
+        ensures { result ≡ then_cmp tie_cmp turn_cmp self.now other.now }
+    {
+        compare_ties(self.line, other.line).then(self.start.cmp(&other.start))
     }
 
     /// By the second bytes, and where those are the same by what is behind them.

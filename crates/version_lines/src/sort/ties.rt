@@ -1,31 +1,28 @@
 //! Lines whose keys tie, in the order of their versions.
-ghost use Rattle.std.specs.Prelude.{◌≡◌, ℕ, ◌<◌, ◌≤◌, ◌+◌, List, drop, is_some, length, true, IsTrue, OnOk};
+ghost use Rattle.std.specs.Prelude.{◌≡◌, ℕ, ◌<◌, ◌≤◌, ◌+◌, List, drop, length, IsTrue};
 ghost use Rattle.std.specs.List.{All};
 ghost use Rattle.std.specs.List.Sorted.{IsSorted};
 ghost use Rattle.std.specs.Ordering.{then_cmp};
-ghost use Rattle.version_lines.specs.Entry.{entry_cmp, entry_line, tie_cmp};
-ghost use Rattle.version_lines.specs.Sorting.{in_order, run_length};
-ghost use Rattle.versions.specs.SemVer.{semver_of};
+ghost use Rattle.version_lines.specs.Entry.{entry_cmp, entry_line, tie_cmp, AreInTurn, IsStrict};
+ghost use Rattle.version_lines.specs.Sorting.{in_order, run_length, TiesRise};
 
 use crate::ideal::is_strict;
 use crate::sort::entry::Entry;
-use crate::spelled::compare_ties;
-use std::alloc::{AllocError, Global};
 
 /// Puts lines that stand in the order of their keys in the order of their versions: each run of lines with one key is
-/// put in order by their versions, where they aren't one and the same line, nor strict versions all of them.
-pub fn break_ties(alloc: Global, keys: &[u8], entries: &mut [Entry<'_>]) -> Result<(), AllocError>
-    requires { IsSorted (entry_cmp keys.now) entries.old }
-    ensures { OnOk result (entries.new
-        ≡ in_order (then_cmp (entry_cmp keys.now) tie_cmp) entries.old) }
+/// put in order by their versions, where they aren't one and the same line, nor strict versions all of them. Lines with
+/// one key stand as in the input. Takes no memory.
+pub fn break_ties(keys: &[u8], entries: &mut [Entry<'_>])
+    requires sorted { IsSorted (entry_cmp keys.now) entries.old }
+    requires in_turn { TiesRise (entry_cmp keys.now) (λ entry. entry.start) entries.old }
+    ensures { entries.new ≡ in_order (then_cmp (entry_cmp keys.now) tie_cmp) entries.old }
 {
     let mut start = 0;
     while start < entries.len() {
         let end = run_end(keys, entries, start);
-        settle(alloc, &mut entries[start..end])?;
+        settle(&mut entries[start..end]);
         start = end;
     }
-    Ok(())
 }
 
 /// Where the run ends that starts at a place.
@@ -54,14 +51,15 @@ fn first_run(keys: &[u8], entries: &[Entry<'_>]) -> usize
     count
 }
 
-/// Puts lines with one key in the order of their versions.
-fn settle(alloc: Global, run: &mut [Entry<'_>]) -> Result<(), AllocError>
-    ensures { OnOk result (run.new ≡ in_order tie_cmp run.old) }
+/// Puts lines with one key, which stand as in the input, in the order of their versions.
+fn settle(run: &mut [Entry<'_>])
+    requires { AreInTurn run.old }
+    ensures { run.new ≡ in_order tie_cmp run.old }
 {
     if are_one_line(run) || are_strict(run) {
-        return Ok(());
+        return;
     }
-    run.sort_by(alloc, |a, b| compare_ties(a.line(), b.line()))
+    run.sort_unstable_by(|a, b| a.compare_ties_in_turn(b));
 }
 
 /// Whether the lines are one and the same.
@@ -81,7 +79,7 @@ fn are_one_line(run: &[Entry<'_>]) -> bool
 
 /// Whether the lines are strict versions.
 fn are_strict(run: &[Entry<'_>]) -> bool
-    ensures { IsTrue result → All (λ entry. is_some (semver_of (entry_line entry)) ≡ true) run.now }
+    ensures { IsTrue result → All IsStrict run.now }
 {
     for entry in run {
         if !is_strict(entry.line()) {

@@ -1,16 +1,15 @@
 use Rattle.std.proofs.Common.{rules}
 use Rattle.std.proofs.lemmas.Fn.{always_returns_same}
-use Rattle.std.proofs.lemmas.Result.{on_ok_weaker}
+use Rattle.std.proofs.lemmas.List.Sorted.{ranks_by}
 use Rattle.version_lines.specs.Entry.{entry_cmp}
-use Rattle.version_lines.proofs.EntryLemmas.{entry_ranks}
-use Rattle.version_lines.proofs.SortingLemmas.{in_order-only}
+use Rattle.version_lines.specs.declared.sort.entry.Entry.{Entry}
+use Rattle.version_lines.proofs.EntryLemmas.{entry_total}
+use Rattle.version_lines.proofs.PlaceLemmas.{in_order-by_place, placed_total}
 use Rattle.version_lines.proofs.sort.sort_by_keys.Goals as goal
 
 pub returns : goal.returns
 returns c =
-    let cmp = entry_cmp c.args.keys.now in
-    let ranks = entry_ranks c.args.keys.now in
-    on_ok_weaker c.sort_by.result
-    (λ sorted. in_order-only cmp ranks _ _ (sorted _ ranks (always_returns_same _ _ _ (λ a r f2 called. search rules)))
-    (c.sort_by.ensures.stable _ ranks (always_returns_same _ _ _ (λ a r f2 called. search rules))))
-    c.sort_by.ensures.sorted
+    let keys = c.args.keys.now in
+    let ranks = ranks_by (placed_total (entry_cmp keys) (λ (entry : Entry). entry.start) (entry_total keys)) (λ (entry : Entry). entry) in
+    in_order-by_place (entry_cmp keys) (λ (entry : Entry). entry.start) (entry_total keys) _ _ c.requires c.sort_unstable_by.ensures.permutation
+    (c.sort_unstable_by.ensures.sorted _ ranks (always_returns_same _ _ _ (λ a r f2 called. search rules)))

@@ -1,15 +1,12 @@
 use Rattle.std.proofs.Common.{Some, inl, rules, refl, ap, sym, ◌∙◌}
 use Rattle.std.proofs.lemmas.Result.{IfErr-weaker}
-use Rattle.std.specs.Ordering.{then_cmp}
 use Rattle.version_lines.specs.Command.{OfInput}
-use Rattle.version_lines.specs.Entry.{entry_cmp, tie_cmp}
 use Rattle.version_lines.specs.Fault.{ComesOfLines}
 use Rattle.version_lines.specs.Lines.{lines_of}
 use Rattle.version_lines.specs.Sort.{bad_line}
 use Rattle.version_lines.specs.declared.command.InputCommand.TheVariants.{Sort}
-use Rattle.version_lines.proofs.EntryLemmas.{bad_line-none, entries-sorted, sort_output-entries}
+use Rattle.version_lines.proofs.EntryLemmas.{bad_line-none, sort_output-entries}
 use Rattle.version_lines.proofs.RunLemmas.{ComesOfCommand-lines, ComesOfCommand-writing, GrowsAt-lines, GrowsAt-memory}
-use Rattle.version_lines.proofs.TieLemmas.{in_order-written}
 use Rattle.version_lines.proofs.sort.write_sorted.Goals as goal
 
 pub returns-in_err-entries-clause-at_fault : goal.returns-in_err-entries-clause-at_fault
@@ -19,21 +16,10 @@ pub returns-in_err-entries-clause-faults : goal.returns-in_err-entries-clause-fa
 returns-in_err-entries-clause-faults g c =
     IfErr-weaker c.from_residual-in_err-entries.result (ComesOfLines (bad_line (lines_of c.args.input.now))) _ (ComesOfCommand-lines c.args.input.now) (search rules)
 
-pub returns-in_err-sort_by_keys-clause-at_fault : goal.returns-in_err-sort_by_keys-clause-at_fault
-returns-in_err-sort_by_keys-clause-at_fault g c = GrowsAt-memory c.from_residual-in_err-sort_by_keys.result _ _ (search rules)
-
-pub returns-in_err-break_ties-clause-at_fault : goal.returns-in_err-break_ties-clause-at_fault
-returns-in_err-break_ties-clause-at_fault g c = GrowsAt-memory c.from_residual-in_err-break_ties.result _ _ (search rules)
-
-pub break_ties-requires : goal.break_ties-requires
-break_ties-requires g c =
-    entries-sorted c.as_slice-keys.result.now c.in_ok-entries.entries.items c.as_mut_slice.result.now (c.as_mut_slice.ensures.value ∙ c.in_ok-sort_by_keys.ensures)
-
 pub returns-clause-written : goal.returns-clause-written
 returns-clause-written g c =
-    let by_keys = c.as_mut_slice.ensures.value ∙ c.in_ok-sort_by_keys.ensures in
-    let settled = c.as_slice.ensures.value ∙ in_order-written (then_cmp (entry_cmp c.as_slice-keys.result.now) tie_cmp) _ c.as_mut_slice.result.now _ _ c.in_ok-break_ties.ensures c.as_mut_slice.ensures.len in
-    let output = sort_output-entries c.args.input.now c.read_entries.new.keys.items c.as_slice-keys.result.now c.in_ok-entries.entries.items _ _ c.in_ok-entries.ensures.lines c.in_ok-entries.ensures.read c.as_slice-keys.ensures.value by_keys settled in
+    let settled = c.as_slice-2.ensures.value ∙ c.put_in_order.ensures in
+    let output = sort_output-entries c.args.input.now c.read_entries.new.keys.items c.as_slice.result.now _ _ c.in_ok-entries.ensures.lines c.in_ok-entries.ensures.read c.as_slice.ensures.value settled in
     rw (← output) c.write_entries.ensures.written
 
 pub returns-clause-judged_first : goal.returns-clause-judged_first
@@ -42,9 +28,8 @@ returns-clause-judged_first g c =
 
 pub returns-clause-at_fault : goal.returns-clause-at_fault
 returns-clause-at_fault g c =
-    let by_keys = c.as_mut_slice.ensures.value ∙ c.in_ok-sort_by_keys.ensures in
-    let settled = c.as_slice.ensures.value ∙ in_order-written (then_cmp (entry_cmp c.as_slice-keys.result.now) tie_cmp) _ c.as_mut_slice.result.now _ _ c.in_ok-break_ties.ensures c.as_mut_slice.ensures.len in
-    let output = sort_output-entries c.args.input.now c.read_entries.new.keys.items c.as_slice-keys.result.now c.in_ok-entries.entries.items _ _ c.in_ok-entries.ensures.lines c.in_ok-entries.ensures.read c.as_slice-keys.ensures.value by_keys settled in
+    let settled = c.as_slice-2.ensures.value ∙ c.put_in_order.ensures in
+    let output = sort_output-entries c.args.input.now c.read_entries.new.keys.items c.as_slice.result.now _ _ c.in_ok-entries.ensures.lines c.in_ok-entries.ensures.read c.as_slice.ensures.value settled in
     rw (← output) c.write_entries.ensures.at_fault
 
 pub returns-clause-faults : goal.returns-clause-faults

@@ -1,4 +1,4 @@
-use Rattle.std.proofs.Common.{◌≡◌, ◌∙◌, ◌∷◌, ◌++◌, ℕ, List, [], Less, Equal, Greater, nat_cmp, refl, sym}
+use Rattle.std.proofs.Common.{◌≡◌, ◌∙◌, ◌++◌, Less, Equal, Greater, nat_cmp, refl, sym}
 use Rattle.version_parts.specs.Lists.{bytes_cmp}
 use Rattle.version_parts.proofs.Compare.{first_differ, first_same, past_same}
 use Rattle.versions.specs.KeyStream.{list_left, tail_left}

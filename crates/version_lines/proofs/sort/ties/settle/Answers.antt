@@ -1,9 +1,11 @@
 use Rattle.std.proofs.Common.{rules, sym}
 use Rattle.std.proofs.lemmas.Fn.{always_returns_same}
-use Rattle.std.proofs.lemmas.Result.{on_ok_weaker}
+use Rattle.std.proofs.lemmas.List.Sorted.{ranks_by}
 use Rattle.version_lines.specs.Entry.{tie_cmp}
-use Rattle.version_lines.proofs.SortingLemmas.{in_order-only}
-use Rattle.version_lines.proofs.TiedLemmas.{in_order-one_line, in_order-strict, tie_ranks}
+use Rattle.version_lines.specs.declared.sort.entry.Entry.{Entry}
+use Rattle.version_lines.proofs.EntryLemmas.{tie_total}
+use Rattle.version_lines.proofs.PlaceLemmas.{in_order-by_place, placed_total}
+use Rattle.version_lines.proofs.TiedLemmas.{in_order-one_line, in_order-strict}
 use Rattle.version_lines.proofs.sort.ties.settle.Goals as goal
 use Rattle.version_lines.proofs.sort.ties.settle.Goals.{then-are_one_line-via-then-are_one_line, then-are_one_line-via-else-are_one_line+then-are_strict}
 
@@ -16,7 +18,6 @@ returns-then-are_one_line c =
 
 pub returns : goal.returns
 returns c =
-    on_ok_weaker c.sort_by.result
-    (λ sorted. in_order-only tie_cmp tie_ranks _ _ (sorted _ tie_ranks (always_returns_same _ _ _ (λ a r f2 called. search rules)))
-    (c.sort_by.ensures.stable _ tie_ranks (always_returns_same _ _ _ (λ a r f2 called. search rules))))
-    c.sort_by.ensures.sorted
+    let ranks = ranks_by (placed_total tie_cmp (λ (entry : Entry). entry.start) tie_total) (λ (entry : Entry). entry) in
+    in_order-by_place tie_cmp (λ (entry : Entry). entry.start) tie_total _ _ c.requires c.sort_unstable_by.ensures.permutation
+    (c.sort_unstable_by.ensures.sorted _ ranks (always_returns_same _ _ _ (λ a r f2 called. search rules)))
