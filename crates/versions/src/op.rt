@@ -30,30 +30,24 @@ pub enum Op {
     Wildcard,
 }
 
-// The operators in the order in which they are tried: of two that begin alike, the longer first.
-const TRIED: [Op; 8] = [
-    Op::Exact,
-    Op::GreaterEq,
-    Op::Greater,
-    Op::LessEq,
-    Op::Less,
-    Op::Tilde,
-    Op::Caret,
-    Op::Wildcard,
-];
-
 impl Op {
     // The operator at the front of a text, and the rest.
     #[tactic(auto, unfolding(crate::specs::Op::op_front))]
     pub(crate) fn scan(i: &str) -> Option<(Op, &str)>
         ensures { option_map (λ r. (r.0, r.1.now)) result ≡ op_front i.now }
     {
-        for op in TRIED {
-            if let Some(rest) = op.strip(i) {
-                return Some((op, rest));
-            }
-        }
-        None
+        let op = match i.as_bytes() {
+            [b'=', ..] => Op::Exact,
+            [b'>', b'=', ..] => Op::GreaterEq,
+            [b'>', ..] => Op::Greater,
+            [b'<', b'=', ..] => Op::LessEq,
+            [b'<', ..] => Op::Less,
+            [b'~', ..] => Op::Tilde,
+            [b'^', ..] => Op::Caret,
+            [b'*', ..] => Op::Wildcard,
+            _ => return None,
+        };
+        Some((op, op.strip(i)?))
     }
 
     // What stands behind the operator, where a text begins with it.
