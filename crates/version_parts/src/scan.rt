@@ -120,6 +120,7 @@ pub fn after_mark(i: &str, mark: u8) -> Option<&str>
 /// The number at the start of a text, and the rest. A text that starts with `0` gives 0 and leaves all after that one
 /// digit; else the longest run of digits is read whole. None without a digit, and for a value above 4294967295. Takes
 /// no memory.
+#[inline(always)]
 pub fn unsigned(i: &str) -> Option<(u32, &str)>
     ensures { option_map (λ r. (r.0, r.1.now)) result ≡ unsigned_front i.now }
 {
@@ -128,9 +129,27 @@ pub fn unsigned(i: &str) -> Option<(u32, &str)>
 }
 
 // The numeral at the start of a text, which is read as a number is, by its digits, and the rest.
-#[tactic(auto, using(crate::proofs::NumeralReading::numerals_read))]
 #[inline(always)]
 pub(crate) fn numeral(i: &str) -> Option<(&str, &str)>
+    ensures read { option_map (λ r. (digits_value 10 r.0.now, r.1.now)) result
+        ≡ unsigned_front i.now }
+    ensures numeral { IfSome result
+        (λ r. SpellsNumeral r.0.now (digits_value 10 r.0.now)) }
+{
+    let (digits, rest) = split_run(i, Class::Digit);
+    numeral_of_run(i, digits, rest)
+}
+
+// The same, where the longest run of digits at the start of the text and what follows it are known.
+#[tactic(auto, using(crate::proofs::NumeralReading::numerals_read))]
+#[inline(always)]
+pub(crate) fn numeral_of_run<'a>(
+    i: &'a str,
+    digits: &'a str,
+    rest: &'a str,
+) -> Option<(&'a str, &'a str)>
+    requires run { digits.now ≡ take_while is_ascii_digit i.now }
+    requires rest { rest.now ≡ drop (prefix_len is_ascii_digit i.now) i.now }
     ensures read { option_map (λ r. (digits_value 10 r.0.now, r.1.now)) result
         ≡ unsigned_front i.now }
     ensures numeral { IfSome result
@@ -139,9 +158,9 @@ pub(crate) fn numeral(i: &str) -> Option<(&str, &str)>
     if let Some(rest) = after_mark(i, b'0') {
         return Some(("0", rest));
     }
-    let Some((digits, rest)) = nonempty_run(i, Class::Digit) else {
+    if digits.is_empty() {
         return None;
-    };
+    }
     if is_below_limit(digits) {
         return Some((digits, rest));
     }
