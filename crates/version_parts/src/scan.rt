@@ -128,9 +128,9 @@ pub fn unsigned(i: &str) -> Option<(u32, &str)>
     Some((value_of_numeral(digits), rest))
 }
 
-// The numeral at the start of a text, which is read as a number is, by its digits, and the rest.
+/// The number at the start of a text, as [`unsigned`] reads it, by its digits, and the rest. Takes no memory.
 #[inline(always)]
-pub(crate) fn numeral(i: &str) -> Option<(&str, &str)>
+pub fn numeral(i: &str) -> Option<(&str, &str)>
     ensures read { option_map (λ r. (digits_value 10 r.0.now, r.1.now)) result
         ≡ unsigned_front i.now }
     ensures numeral { IfSome result
@@ -181,9 +181,9 @@ fn is_below_limit(digits: &str) -> bool
     value_of(digits).is_some()
 }
 
-// The value of a numeral.
+/// The value of a numeral. Takes no memory.
 #[inline(always)]
-pub(crate) fn value_of_numeral(digits: &str) -> u32
+pub fn value_of_numeral(digits: &str) -> u32
     requires { SpellsNumeral digits.now (digits_value 10 digits.now) }
     ensures { result ≡ digits_value 10 digits.now }
 {
@@ -208,7 +208,9 @@ pub fn hyphenated_alphanums(i: &str) -> Option<(&str, &str)>
     nonempty_run(i, Class::Identifier)
 }
 
-// The value of a run of digits, if it is below 2 ^ 32.
+// The value of a run of digits, if it is below 2 ^ 32. Few runs have the ten digits that want it, so it isn't inlined
+// into each scan.
+#[inline(never)]
 pub(crate) fn value_of(digits: &str) -> Option<u32>
     requires some { 0 < length digits.now }
     requires all { list_all is_ascii_digit digits.now ≡ true }

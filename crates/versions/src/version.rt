@@ -387,8 +387,9 @@ fn optional_epoch(i: &str) -> (Option<u32>, &str)
 fn scan_epoch(i: &str) -> Option<(u32, &str)>
     ensures { option_map (λ r. (r.0, r.1.now)) result ≡ epoch_front i.now }
 {
-    let (number, rest) = scan::unsigned(i)?;
-    Some((number, scan::after_mark(rest, b':')?))
+    let (number, rest) = scan::numeral(i)?;
+    let rest = scan::after_mark(rest, b':')?;
+    Some((scan::value_of_numeral(number), rest))
 }
 
 impl<'a> VersionRef<'a> {
