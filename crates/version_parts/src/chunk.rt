@@ -367,7 +367,6 @@ impl Element for ReleaseChunk {
     ghost consumes = { chunk_consumes is_identifier_byte };
 
     #[tactic(auto, using(crate::proofs::ShortRuns::classes_with_digits))]
-    #[inline(always)]
     fn skip(i: &str) -> Option<&str> {
         skip_chunk(i, Class::Identifier)
     }
@@ -394,7 +393,6 @@ impl Element for Part {
     ghost consumes = { chunk_consumes is_ascii_alphanumeric };
 
     #[tactic(auto, using(crate::proofs::ShortRuns::classes_with_digits))]
-    #[inline(always)]
     fn skip(i: &str) -> Option<&str> {
         skip_chunk(i, Class::Alphanumeric)
     }

@@ -269,7 +269,6 @@ impl Element for MessyChunk {
     ghost consumes = { mchunk_consumes };
 
     #[tactic(auto, unfolding(crate::specs::MChunk::mchunk_front))]
-    #[inline(always)]
     fn skip(i: &str) -> Option<&str> {
         Some(nonempty_run(i, Class::Alphanumeric)?.1)
     }
