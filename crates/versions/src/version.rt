@@ -385,8 +385,8 @@ fn scan_body(i: &str) -> Option<(Option<u32>, BodyRef<'_>, &str)>
     }
 }
 
-// The same, for a text with an epoch. Few have one, so it isn't inlined into each scan.
-#[inline(never)]
+// The same, for a text with an epoch.
+#[inline(always)]
 fn scan_body_and_epoch(i: &str) -> Option<(Option<u32>, BodyRef<'_>, &str)>
     ensures epoch { IfSome result (λ r. r.0 ≡ (optional epoch_front i.now).0) }
     ensures body { option_map (λ r. (r.1, r.2.now)) result
