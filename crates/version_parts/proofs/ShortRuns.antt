@@ -1,5 +1,5 @@
 -- Chunks by the digits that they begin with: what follows these tells whether the chunk is a numeral.
-use Rattle.std.proofs.Common.{◌≡◌, ◌+◌, ◌-◌, ◌<◌, ◌≤◌, ℕ, length, Bool, true, false, List, [], ◌∷◌, inl, inr, drop, Option, Some, None, refl, sym, ap, arith, one-add}
+use Rattle.std.proofs.Common.{◌≡◌, ◌+◌, ◌-◌, ◌<◌, ◌≤◌, ℕ, length, Bool, true, false, List, [], ◌∷◌, inl, inr, drop, Some, refl, sym, arith, one-add}
 use Rattle.std.proofs.lemmas.Bool.{cases_Bool}
 use Rattle.std.proofs.lemmas.Bool.Decides.{nat_tests}
 use Rattle.std.proofs.lemmas.List.{length-drop}
@@ -7,7 +7,7 @@ use Rattle.std.proofs.lemmas.List.Sums.{prefix_len-le-length}
 use Rattle.std.specs.Char.{is_ascii_alphanumeric, is_ascii_digit}
 use Rattle.std.specs.List.{list_all, prefix_len, take_while}
 use Rattle.version_parts.specs.Bytes.{is_identifier_byte}
-use Rattle.version_parts.specs.Chunk.{Alphanum, Numeric, PlainChunk, chunk_front_of}
+use Rattle.version_parts.specs.Chunk.{Alphanum, Numeric, chunk_front_of}
 use Rattle.version_parts.specs.Class.{HasDigits}
 use Rattle.version_parts.specs.Front.{begins, map_value}
 use Rattle.version_parts.specs.Numeral.{unsigned_front}

@@ -1,6 +1,5 @@
-use Rattle.std.proofs.Common.{◌≡◌, Some, sym}
+use Rattle.std.proofs.Common.{sym}
 use Rattle.std.specs.Char.{is_ascii_digit}
-use Rattle.version_parts.specs.Front.{run_front}
 use Rattle.version_parts.proofs.NumeralReading.{numeral_large, numeral_none, numeral_run, run_spelled}
 use Rattle.version_parts.proofs.RunFronts.{list_all-take_while, run_front-empty, run_front-some}
 use Rattle.version_parts.proofs.scan.numeral_of_run.Goals as goal

@@ -1,10 +1,9 @@
-use Rattle.std.proofs.Common.{◌≡◌, ◌-◌, ◌∙◌, ◌<◌, ◌≤◌, ℕ, List, length, ap, sym}
-use Rattle.std.specs.List.{prefix_len}
+use Rattle.std.proofs.Common.{◌≡◌, ◌∙◌, ap}
 use Rattle.version_parts.specs.Chunk.{Numeric}
 use Rattle.version_parts.specs.Class.{contains}
 use Rattle.version_parts.specs.Front.{map_value}
 use Rattle.version_parts.proofs.Runs.{run_boundary}
-use Rattle.version_parts.proofs.ShortRuns.{behind_digits, behind_more, more_by_rests, no_more_by_rests, numeral_scanned, run_by_rests, run_scanned}
+use Rattle.version_parts.proofs.ShortRuns.{behind_more, more_by_rests, no_more_by_rests, numeral_scanned, run_by_rests, run_scanned}
 use Rattle.version_parts.proofs.chunk.ChunkText.scan.Goals as goal
 
 pub split_at-requires : goal.split_at-requires
