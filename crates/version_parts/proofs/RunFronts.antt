@@ -1,5 +1,5 @@
 -- What the front of a run reads, and that it reads each run that ends.
-use Rattle.std.proofs.Common.{◌≡◌, ◌≢◌, ◌==◌, ℕ, ◌<◌, Bool, true, false, List, [], ◌∷◌, ◌++◌, length, drop, Some, refl, sym, ap, ◌∙◌, arith, inl, inr, one-add}
+use Rattle.std.proofs.Common.{◌≡◌, ◌≢◌, ◌==◌, ℕ, ◌<◌, Bool, true, false, List, [], ◌∷◌, ◌++◌, length, drop, Some, None, refl, sym, ap, ◌∙◌, arith, inl, inr, one-add}
 use Rattle.std.proofs.lemmas.Bool.{cases_Bool, eqb-false, eqb-true, ne_eqb}
 use Rattle.std.proofs.lemmas.List.{drop_at, take-append-drop, take_at}
 use Rattle.std.specs.Cmp.{first_so, second_so}
@@ -69,6 +69,16 @@ prefix_len-append test (b ∷ run) rest all ends =
     let more : prefix_len test (run ++ rest) ≡ length run = prefix_len-append test run rest (second_so _ _ all) ends in
     let first : test b ≡ true = first_so _ _ all in
     rw first (omega arith)
+
+-- the same of a run that is known
+pub run_front-empty : (test : ℕ → Bool) (text run : List ℕ) → run ≡ take_while test text → (length run == 0) ≡ true → run_front test text ≡ None
+unfolding run_front
+run_front-empty test text run e none = rw (rw e at none) refl
+
+pub run_front-some : (test : ℕ → Bool) (text run rest : List ℕ) → run ≡ take_while test text → rest ≡ drop (prefix_len test text) text → (length run == 0) ≡ false
+    → run_front test text ≡ Some (run, rest)
+unfolding run_front
+run_front-some test text run rest e f some = rw (e, f) (rw (rw e at some) refl)
 
 pub run_front-reads : (test : ℕ → Bool) (run rest : List ℕ) → list_all test run ≡ true → 0 < length run → begins test rest ≡ false → run_front test (run ++ rest) ≡ Some (run, rest)
 unfolding run_front

@@ -19,7 +19,7 @@ ghost use Rattle.version_parts.specs.ReleaseOrder.{chunk_cmp};
 use crate::elements::Spelled;
 use crate::key::PartText;
 use crate::lists::ListItem;
-use crate::scan::{Class, Element, begins_with, numeral, split_run, unsigned, value_of_numeral};
+use crate::scan::{Class, Element, numeral_of_run, split_run, unsigned, value_of_numeral};
 use serde::{Deserialize, Serialize};
 use std::alloc::{AllocError, Global};
 use std::cmp::Ordering;
@@ -292,12 +292,13 @@ impl<'a> ChunkText<'a> {
             ≡ chunk_front_of (contains class) i.now }
         ensures numeral { IfSome result (λ r. IsChunkText r.0) }
     {
-        let (_, behind) = split_run(i, Class::Digit);
-        if begins_with(behind.as_bytes(), class) {
-            let (run, rest) = split_run(i, class);
+        let (digits, behind) = split_run(i, Class::Digit);
+        let (_, rest) = split_run(behind, class);
+        if rest.len() < behind.len() {
+            let (run, rest) = i.split_at(i.len() - rest.len());
             return Some((ChunkText::Alphanum(run), rest));
         }
-        match numeral(i) {
+        match numeral_of_run(i, digits, behind) {
             Some((digits, rest)) => Some((ChunkText::Numeral(digits), rest)),
             None => None,
         }

@@ -120,6 +120,7 @@ pub fn after_mark(i: &str, mark: u8) -> Option<&str>
 /// The number at the start of a text, and the rest. A text that starts with `0` gives 0 and leaves all after that one
 /// digit; else the longest run of digits is read whole. None without a digit, and for a value above 4294967295. Takes
 /// no memory.
+#[inline(always)]
 pub fn unsigned(i: &str) -> Option<(u32, &str)>
     ensures { option_map (λ r. (r.0, r.1.now)) result ≡ unsigned_front i.now }
 {
@@ -127,10 +128,28 @@ pub fn unsigned(i: &str) -> Option<(u32, &str)>
     Some((value_of_numeral(digits), rest))
 }
 
-// The numeral at the start of a text, which is read as a number is, by its digits, and the rest.
+/// The number at the start of a text, as [`unsigned`] reads it, by its digits, and the rest. Takes no memory.
+#[inline(always)]
+pub fn numeral(i: &str) -> Option<(&str, &str)>
+    ensures read { option_map (λ r. (digits_value 10 r.0.now, r.1.now)) result
+        ≡ unsigned_front i.now }
+    ensures numeral { IfSome result
+        (λ r. SpellsNumeral r.0.now (digits_value 10 r.0.now)) }
+{
+    let (digits, rest) = split_run(i, Class::Digit);
+    numeral_of_run(i, digits, rest)
+}
+
+// The same, where the longest run of digits at the start of the text and what follows it are known.
 #[tactic(auto, using(crate::proofs::NumeralReading::numerals_read))]
 #[inline(always)]
-pub(crate) fn numeral(i: &str) -> Option<(&str, &str)>
+pub(crate) fn numeral_of_run<'a>(
+    i: &'a str,
+    digits: &'a str,
+    rest: &'a str,
+) -> Option<(&'a str, &'a str)>
+    requires run { digits.now ≡ take_while is_ascii_digit i.now }
+    requires rest { rest.now ≡ drop (prefix_len is_ascii_digit i.now) i.now }
     ensures read { option_map (λ r. (digits_value 10 r.0.now, r.1.now)) result
         ≡ unsigned_front i.now }
     ensures numeral { IfSome result
@@ -139,9 +158,9 @@ pub(crate) fn numeral(i: &str) -> Option<(&str, &str)>
     if let Some(rest) = after_mark(i, b'0') {
         return Some(("0", rest));
     }
-    let Some((digits, rest)) = nonempty_run(i, Class::Digit) else {
+    if digits.is_empty() {
         return None;
-    };
+    }
     if is_below_limit(digits) {
         return Some((digits, rest));
     }
@@ -162,9 +181,9 @@ fn is_below_limit(digits: &str) -> bool
     value_of(digits).is_some()
 }
 
-// The value of a numeral.
+/// The value of a numeral. Takes no memory.
 #[inline(always)]
-pub(crate) fn value_of_numeral(digits: &str) -> u32
+pub fn value_of_numeral(digits: &str) -> u32
     requires { SpellsNumeral digits.now (digits_value 10 digits.now) }
     ensures { result ≡ digits_value 10 digits.now }
 {
@@ -189,7 +208,9 @@ pub fn hyphenated_alphanums(i: &str) -> Option<(&str, &str)>
     nonempty_run(i, Class::Identifier)
 }
 
-// The value of a run of digits, if it is below 2 ^ 32.
+// The value of a run of digits, if it is below 2 ^ 32. Few runs have the ten digits that want it, so it isn't inlined
+// into each scan.
+#[inline(never)]
 pub(crate) fn value_of(digits: &str) -> Option<u32>
     requires some { 0 < length digits.now }
     requires all { list_all is_ascii_digit digits.now ≡ true }

@@ -7,12 +7,14 @@ use Rattle.std.specs.Char.{is_ascii_alphanumeric}
 use Rattle.std.specs.Cmp.{first_so, second_so}
 use Rattle.std.specs.List.{list_all}
 use Rattle.std.specs.Str.{IsAscii, IsUtf8}
-use Rattle.version_parts.specs.Body.{PlainBody, body_front}
+use Rattle.version_parts.specs.Body.{PlainBody, SpellsBody, body_front}
 use Rattle.version_parts.specs.Bytes.{colon, dot, hyphen, is_identifier_byte, is_metadata_byte, plus}
-use Rattle.version_parts.specs.Chunk.{chunk_front}
+use Rattle.version_parts.specs.Chunk.{Numeric, chunk_front}
 use Rattle.version_parts.specs.Front.{after_mark, dotted_front, optional, run_front}
+use Rattle.version_parts.specs.Last as last
+use Rattle.version_parts.specs.Grammar.{SpellsDotted}
 use Rattle.version_parts.specs.Metadata.{SpellsMetadata, meta_front}
-use Rattle.version_parts.specs.Numeral.{unsigned_front}
+use Rattle.version_parts.specs.Numeral.{SpellsNumeral, unsigned_front}
 use Rattle.version_parts.specs.Reading.{EndsList, EndsRun, IsPrinted, IsSound}
 use Rattle.version_parts.specs.Release.{SpellsRelease, release_front, release_text}
 use Rattle.version_parts.proofs.Ascii.{IsAscii-nil, metadata_run_ascii, sign_ascii}
@@ -92,6 +94,48 @@ epoch_sound text = elim (cases_Option (unsigned_front text)) [
           (read.0, refl, read.2),
         )
   ]
+]
+
+numeral_body : (text : List ℕ) (n : ℕ) → SpellsNumeral text n → SpellsBody text ([], last.Numeric n)
+unfolding SpellsDotted
+numeral_body text n s = record { part = Numeric n; parts_are = s; last_is = refl }
+
+-- an epoch is a body, which the colon follows
+epoch_body : (text : List ℕ) (epoch : ℕ × List ℕ) → epoch_front text ≡ Some epoch → body_front text ≡ Some (([], last.Numeric epoch.0), colon ∷ epoch.1)
+epoch_body text epoch e = elim (cases_Option (unsigned_front text)) [
+  | inl none ↦ cc (epoch_front-None text none, e)
+  | inr number ↦ elim (cases_Option (after_mark colon number.0.1)) [
+    | inl none ↦ cc (epoch_front-unmarked text number.0 number.1 none, e)
+    | inr rest ↦
+        let read = unsigned_sound text number.0.0 number.0.1 number.1 in
+        let mark : number.0.1 ≡ colon ∷ rest.0 = marked colon number.0.1 rest.0 rest.1 in
+        let same : (number.0.0, rest.0) ≡ epoch = cc (sym (epoch_front-Some text number.0 rest.0 number.1 rest.1) ∙ e) in
+        let spelled = numeral_body read.0 number.0.0 read.2 in
+        let in_pieces : text ≡ read.0 ++ colon ∷ rest.0 = read.1 ∙ ap (λ (l : List ℕ). read.0 ++ l) mark in
+        let body = ap body_front in_pieces ∙ body_complete read.0 ([], last.Numeric number.0.0) (colon ∷ rest.0) spelled (refl, refl) in
+        subst (λ (p : ℕ × List ℕ). body_front text ≡ Some (([], last.Numeric p.0), colon ∷ p.1)) same body
+  ]
+]
+
+no_epoch : (text : List ℕ) (body : PlainBody × List ℕ) → body_front text ≡ Some body → after_mark colon body.1 ≡ None → optional epoch_front text ≡ (None, text)
+no_epoch text body e ends = elim (cases_Option (epoch_front text)) [
+  | inl none ↦ optional-None epoch_front text none
+  | inr epoch ↦
+      let same : (([], last.Numeric epoch.0.0), colon ∷ epoch.0.1) ≡ body = cc (sym (epoch_body text epoch.0 epoch.1) ∙ e) in
+      cc (rw (← same) at ends)
+]
+
+pub epoch_unread : (text : List ℕ) (body : PlainBody × List ℕ) → Some body ≡ body_front text → None ≡ after_mark colon body.1 → None ≡ (optional epoch_front text).0
+epoch_unread text body e ends = rw (no_epoch text body (sym e) (sym ends)) refl
+
+pub body_alone : (text : List ℕ) (body : PlainBody × List ℕ) → Some body ≡ body_front text → None ≡ after_mark colon body.1 → Some body ≡ body_front (optional epoch_front text).1
+body_alone text body e ends = rw (no_epoch text body (sym e) (sym ends)) e
+
+-- where no body is read at the front, none is behind an epoch
+pub body_unread : (text : List ℕ) → None ≡ body_front text → None ≡ body_front (optional epoch_front text).1
+body_unread text e = elim (cases_Option (epoch_front text)) [
+  | inl none ↦ rw (optional-None epoch_front text none) e
+  | inr epoch ↦ cc (sym (epoch_body text epoch.0 epoch.1) ∙ sym e)
 ]
 
 -- a text without a colon

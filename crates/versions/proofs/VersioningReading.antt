@@ -1,6 +1,6 @@
 -- Versions of any kind: what is read is spelled by the first kind that fits, and prints as it is spelled.
-use Rattle.std.proofs.Common.{◌≡◌, List, ℕ, Some, None, IsSome, refl, inl, inr}
-use Rattle.std.specs.Str.{IsAscii, IsUtf8}
+use Rattle.std.proofs.Common.{◌≡◌, List, ℕ, Some, None, IsSome, refl, inl, inr, arith}
+use Rattle.std.specs.Str.{IsAscii, IsNotAscii, IsUtf8}
 use Rattle.version_parts.specs.Reading.{IsPrinted}
 use Rattle.version_parts.proofs.Dotted.{cases_Option}
 use Rattle.version_parts.proofs.WholeReading.{spelled_utf8}
@@ -73,4 +73,11 @@ pub versioning_of-None : (bytes : List ℕ) → ¬ (IsUtf8 bytes) → versioning
 versioning_of-None bytes other = elim (cases_Option (versioning_of bytes)) [
   | inl none ↦ none
   | inr one ↦ absurd (other (versioning_of-IsUtf8 bytes (rw one.1 refl)))
+]
+
+-- nor do bytes past ASCII
+pub past_ascii-None : (bytes : List ℕ) → IsNotAscii bytes → versioning_of bytes ≡ None
+past_ascii-None bytes other = elim (cases_Option (versioning_of bytes)) [
+  | inl none ↦ none
+  | inr one ↦ absurd (omega (arith, other.1, versioning_ascii bytes one.0 (versioning_of-spells bytes one.0 one.1) other.0))
 ]

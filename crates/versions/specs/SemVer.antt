@@ -4,6 +4,7 @@ use Rattle.std.specs.Fmt.{decimal}
 use Rattle.std.specs.Hash as fed
 use Rattle.std.specs.Hash.{HashWrites}
 use Rattle.std.specs.Option.{option_map}
+use Rattle.std.specs.Str.Parse.{digits_value}
 use Rattle.std.specs.String.{string_bytes}
 use Rattle.version_parts.specs.Bytes.{dot, hyphen, plus}
 use Rattle.version_parts.specs.Chunk.{PlainChunk}
@@ -14,6 +15,7 @@ use Rattle.version_parts.specs.Numeral.{SpellsNumeral, unsigned_front}
 use Rattle.version_parts.specs.Release.{SpellsRelease, plain_release, release_fed, release_front, release_text}
 use Rattle.versions.specs.declared.semver.SemVerRef.{SemVerRef}
 use Rattle.versions.specs.declared.semver.SemVer.{SemVer}
+use Rattle.versions.specs.declared.semver.SemVerText.{SemVerText}
 
 -- a strict version, apart from where its texts lie
 pub record PlainSemVer : Type 0 where
@@ -42,6 +44,20 @@ plain_semver_ref p = record {
   pre_rel = p.pre_rel;
   meta = option_map (λ text. text.now) p.meta;
 }
+
+-- the version that stands in a text so, and that the digits of its numbers are numerals
+abbrev pub semver_of_text : SemVerText → PlainSemVer
+semver_of_text p = record {
+  major = digits_value 10 p.major.now;
+  minor = digits_value 10 p.minor.now;
+  patch = digits_value 10 p.patch.now;
+  pre_rel = p.pre_rel;
+  meta = option_map (λ text. text.now) p.meta;
+}
+
+abbrev pub IsSemVerText : SemVerText → Type 0
+IsSemVerText p = SpellsNumeral p.major.now (digits_value 10 p.major.now) × SpellsNumeral p.minor.now (digits_value 10 p.minor.now)
+    × SpellsNumeral p.patch.now (digits_value 10 p.patch.now)
 
 -- The text spells the version: three numerals joined by dots, then a release behind a hyphen or none, then
 -- metadata behind a plus or none.

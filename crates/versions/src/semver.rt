@@ -13,7 +13,7 @@ ghost use Rattle.versions.specs.SemVerLaws.{fed_alike, semver_total};
 ghost use Rattle.versions.specs.SemVerMatch.{numbers, MatchesCaret, MatchesTilde};
 ghost use Rattle.versions.specs.SemVerOrder.{semver_cmp};
 ghost use Rattle.versions.specs.Versioning.{semver_nth};
-ghost use Rattle.versions.specs.SemVer.{plain_semver, semver_fed, plain_semver_ref, semver_front, semver_of, semver_text, SemVerOwns, PlainSemVer, SpellsSemVer};
+ghost use Rattle.versions.specs.SemVer.{plain_semver, semver_fed, plain_semver_ref, semver_front, semver_of, semver_of_text, semver_text, IsSemVerText, SemVerOwns, PlainSemVer, SpellsSemVer};
 
 use crate::errors::{Error, ReadError};
 use crate::numbers::{Numbers, numbers_match_caret, numbers_match_tilde};
@@ -86,10 +86,10 @@ impl SemVer {
     pub fn parse(alloc: Global, i: &str) -> Result<Option<(SemVer, &str)>, AllocError>
         ensures { Reads plain_semver SemVerOwns result (semver_front i.now) }
     {
-        let Some((version, rest)) = SemVerRef::scan(i) else {
+        let Some((version, rest)) = SemVerText::scan(i) else {
             return Ok(None);
         };
-        Ok(Some((version.build(alloc)?, rest)))
+        Ok(Some((version.read().build(alloc)?, rest)))
     }
 
     /// A copy, with the same in every field, metadata included. Three plain numbers take no memory; the error is that
@@ -267,31 +267,10 @@ impl<'a> SemVerRef<'a> {
     pub(crate) fn new(s: &'a str) -> Option<SemVerRef<'a>>
         ensures { option_map plain_semver_ref result ≡ semver_of s.now }
     {
-        match SemVerRef::scan(s) {
-            Some((version, rest)) if rest.is_empty() => Some(version),
+        match SemVerText::scan(s) {
+            Some((version, rest)) if rest.is_empty() => Some(version.read()),
             _ => None,
         }
-    }
-
-    // The strict version at the front of a text, and the rest.
-    #[tactic(auto, unfolding(crate::specs::SemVer::semver_front))]
-    #[inline(always)]
-    fn scan(i: &'a str) -> Option<(SemVerRef<'a>, &'a str)>
-        ensures { option_map (λ r. (plain_semver_ref r.0, r.1.now)) result ≡ semver_front i.now }
-    {
-        let (major, rest) = scan::unsigned(i)?;
-        let (minor, rest) = scan::unsigned(scan::after_mark(rest, b'.')?)?;
-        let (patch, rest) = scan::unsigned(scan::after_mark(rest, b'.')?)?;
-        let (pre_rel, rest) = optional_release(rest);
-        let (meta, rest) = optional_meta(rest);
-        let version = SemVerRef {
-            major,
-            minor,
-            patch,
-            pre_rel,
-            meta,
-        };
-        Some((version, rest))
     }
 
     // Whether `~self` asks for `other`, by the rule of strict versions.
@@ -329,6 +308,56 @@ impl<'a> SemVerRef<'a> {
             pre_rel: build_release(alloc, &self.pre_rel)?,
             meta: copy_text(alloc, self.meta)?,
         })
+    }
+}
+
+// A strict version as it stands in its text: its numbers by their digits. These are read once the whole text is scanned.
+#[derive(Drop)]
+pub(crate) struct SemVerText<'a> {
+    major: &'a str,
+    minor: &'a str,
+    patch: &'a str,
+    pre_rel: Option<ReleaseRef<'a>>,
+    meta: Option<&'a str>,
+}
+
+impl<'a> SemVerText<'a> {
+    // The strict version at the front of a text, and the rest.
+    #[tactic(auto, unfolding(crate::specs::SemVer::semver_front))]
+    #[inline(always)]
+    fn scan(i: &'a str) -> Option<(SemVerText<'a>, &'a str)>
+        ensures version { option_map (λ r. (semver_of_text r.0, r.1.now)) result
+            ≡ semver_front i.now }
+        ensures numerals { IfSome result (λ r. IsSemVerText r.0) }
+    {
+        let (major, rest) = scan::numeral(i)?;
+        let (minor, rest) = scan::numeral(scan::after_mark(rest, b'.')?)?;
+        let (patch, rest) = scan::numeral(scan::after_mark(rest, b'.')?)?;
+        let (pre_rel, rest) = optional_release(rest);
+        let (meta, rest) = optional_meta(rest);
+        let version = SemVerText {
+            major,
+            minor,
+            patch,
+            pre_rel,
+            meta,
+        };
+        Some((version, rest))
+    }
+
+    // The same with its numbers read.
+    #[inline(always)]
+    fn read(self) -> SemVerRef<'a>
+        requires { IsSemVerText self }
+        ensures { plain_semver_ref result ≡ semver_of_text self.entry }
+    {
+        SemVerRef {
+            major: scan::value_of_numeral(self.major),
+            minor: scan::value_of_numeral(self.minor),
+            patch: scan::value_of_numeral(self.patch),
+            pre_rel: self.pre_rel,
+            meta: self.meta,
+        }
     }
 }
 

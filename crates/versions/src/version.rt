@@ -5,7 +5,7 @@ ghost use Rattle.std.proofs.Common.{ap};
 ghost use Rattle.std.specs.Cmp.{eq_by_cmp_equiv, on_equiv, on_per, on_total, partial_equiv_from_equiv, po};
 ghost use Rattle.std.specs.Option.{is_some, option_cmp, option_map};
 ghost use Rattle.std.specs.Ordering.{as_partial_cmp, eq_by_cmp, on};
-ghost use Rattle.version_parts.specs.Body.{plain_chunks};
+ghost use Rattle.version_parts.specs.Body.{body_front, plain_chunks};
 ghost use Rattle.version_parts.specs.Front.{optional, Reads};
 ghost use Rattle.version_parts.specs.Last as plain;
 ghost use Rattle.version_parts.specs.Lists.{bytes_cmp};
@@ -313,8 +313,7 @@ impl<'a> VersionRef<'a> {
     fn scan(i: &'a str) -> Option<(VersionRef<'a>, &'a str)>
         ensures { option_map (λ r. (plain_version_ref r.0, r.1.now)) result ≡ version_front i.now }
     {
-        let (epoch, rest) = optional_epoch(i);
-        let (body, rest) = BodyRef::scan(rest)?;
+        let (epoch, body, rest) = scan_body(i)?;
         let (release, rest) = optional_release(rest);
         let (meta, rest) = optional_meta(rest);
         let version = VersionRef {
@@ -369,6 +368,37 @@ impl<'a> VersionRef<'a> {
     }
 }
 
+// The epoch at the front of a text, if there is one, the body behind it, and the rest. An epoch is a body too, which a
+// colon follows: a text without one is scanned once.
+#[inline(always)]
+fn scan_body(i: &str) -> Option<(Option<u32>, BodyRef<'_>, &str)>
+    ensures epoch { IfSome result (λ r. r.0 ≡ (optional epoch_front i.now).0) }
+    ensures body { option_map (λ r. (r.1, r.2.now)) result
+        ≡ body_front (optional epoch_front i.now).1 }
+{
+    let Some((body, rest)) = BodyRef::scan(i) else {
+        return None;
+    };
+    match scan::after_mark(rest, b':') {
+        Some(_) => scan_body_and_epoch(i),
+        None => Some((None, body, rest)),
+    }
+}
+
+// The same, for a text with an epoch.
+#[inline(always)]
+fn scan_body_and_epoch(i: &str) -> Option<(Option<u32>, BodyRef<'_>, &str)>
+    ensures epoch { IfSome result (λ r. r.0 ≡ (optional epoch_front i.now).0) }
+    ensures body { option_map (λ r. (r.1, r.2.now)) result
+        ≡ body_front (optional epoch_front i.now).1 }
+{
+    let (epoch, rest) = optional_epoch(i);
+    let Some((body, rest)) = BodyRef::scan(rest) else {
+        return None;
+    };
+    Some((epoch, body, rest))
+}
+
 // The epoch at the front of a text, if there is one, and the rest.
 #[tactic(auto, unfolding(version_parts::specs::Front::optional))]
 #[inline(always)]
@@ -387,8 +417,9 @@ fn optional_epoch(i: &str) -> (Option<u32>, &str)
 fn scan_epoch(i: &str) -> Option<(u32, &str)>
     ensures { option_map (λ r. (r.0, r.1.now)) result ≡ epoch_front i.now }
 {
-    let (number, rest) = scan::unsigned(i)?;
-    Some((number, scan::after_mark(rest, b':')?))
+    let (number, rest) = scan::numeral(i)?;
+    let rest = scan::after_mark(rest, b':')?;
+    Some((scan::value_of_numeral(number), rest))
 }
 
 impl<'a> VersionRef<'a> {

@@ -65,10 +65,10 @@ impl<'a> VersioningRef<'a> {
     pub fn from_bytes(bytes: &'a [u8]) -> Option<VersioningRef<'a>>
         ensures { option_map plain_versioning_ref result ≡ versioning_of bytes.now }
     {
-        match str::from_utf8(bytes) {
-            Ok(text) => VersioningRef::new(text),
-            Err(_) => None,
+        if !bytes.is_ascii() {
+            return None;
         }
+        VersioningRef::new(unsafe { str::from_utf8_unchecked(bytes) })
     }
 
     /// Its kind. Takes no memory.
