@@ -4,8 +4,7 @@ ghost use Rattle.versions.specs.SemVer.{semver_of};
 
 use crate::answer::{Answer, Label};
 use crate::lines::LineCommand;
-use std::str;
-use versions::SemVer;
+use versions::SemVerRef;
 
 /// Labels the lines that are strict versions.
 #[derive(Clone, Copy)]
@@ -29,8 +28,5 @@ impl LineCommand for Ideal {
 pub fn is_strict(line: &[u8]) -> bool
     ensures { result ≡ is_some (semver_of line.now) }
 {
-    match str::from_utf8(line) {
-        Ok(text) => SemVer::is_spelled_by(text),
-        Err(_) => false,
-    }
+    SemVerRef::from_bytes(line).is_some()
 }

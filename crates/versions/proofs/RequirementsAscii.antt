@@ -1,8 +1,8 @@
--- A list of requirements is ASCII, so bytes that are no text spell none.
+-- A list of requirements is ASCII.
 use Rattle.std.proofs.Common.{◌≡◌, ℕ, zero, suc, ◌<◌, List, [], ◌∷◌, Option, Some, None, inl, inr, arith}
-use Rattle.std.proofs.lemmas.Str.{IsAscii-append, IsUtf8-from_ascii}
+use Rattle.std.proofs.lemmas.Str.{IsAscii-append}
 use Rattle.std.specs.List.{AllZip, join_with_byte}
-use Rattle.std.specs.Str.{IsAscii, IsUtf8}
+use Rattle.std.specs.Str.{IsAscii, IsNotAscii}
 use Rattle.version_parts.proofs.Ascii.{IsAscii-nil, metadata_run_ascii, sign_ascii}
 use Rattle.version_parts.proofs.Dotted.{cases_Option}
 use Rattle.versions.specs.declared.op.Op.{Op}
@@ -46,11 +46,12 @@ members_ascii (text ∷ next ∷ members) (r ∷ list) z =
     IsAscii-append text (comma ∷ join_with_byte comma (next ∷ members)) (requirement_ascii text r z.0)
     (cons_ascii comma (join_with_byte comma (next ∷ members)) (omega arith) (members_ascii (next ∷ members) list z.1))
 
--- bytes that are no text spell no list
-pub requirements_of-None : (bytes : List ℕ) → ¬ (IsUtf8 bytes) → requirements_of bytes ≡ None
-requirements_of-None bytes other = elim (cases_Option (requirements_of bytes)) [
+-- bytes past ASCII spell no list
+pub requirements_past_ascii : (bytes : List ℕ) → IsNotAscii bytes → requirements_of bytes ≡ None
+requirements_past_ascii bytes other = elim (cases_Option (requirements_of bytes)) [
   | inl none ↦ none
   | inr one ↦
       let s = requirements_of-spells bytes one.0 one.1 in
-      absurd (other (IsUtf8-from_ascii bytes (rw s.whole (members_ascii s.members one.0 s.members_are))))
+      let ascii : IsAscii bytes = rw s.whole (members_ascii s.members one.0 s.members_are) in
+      absurd (omega (arith, other.1, ascii other.0))
 ]

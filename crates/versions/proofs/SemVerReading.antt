@@ -1,8 +1,8 @@
 -- Strict versions: their front reads what is spelled and nothing else, and they print as they are spelled.
-use Rattle.std.proofs.Common.{◌≡◌, IsSome, ◌==◌, ℕ, Bool, false, List, [], ◌∷◌, ◌++◌, Option, Some, None, refl, sym, ap, subst, ◌∙◌, inl, inr, append-nil, append_assoc}
+use Rattle.std.proofs.Common.{◌≡◌, ◌==◌, ℕ, Bool, false, List, [], ◌∷◌, ◌++◌, Option, Some, None, refl, sym, ap, subst, ◌∙◌, inl, inr, append-nil, append_assoc, arith}
 use Rattle.std.proofs.lemmas.Str.{IsAscii-append}
 use Rattle.std.specs.Char.{is_ascii_digit}
-use Rattle.std.specs.Str.{IsAscii, IsUtf8}
+use Rattle.std.specs.Str.{IsAscii, IsNotAscii}
 use Rattle.version_parts.specs.Bytes.{dot, hyphen, is_identifier_byte, is_metadata_byte, plus}
 use Rattle.version_parts.specs.Chunk.{chunk_front}
 use Rattle.version_parts.specs.Front.{begins, behind, dotted_front, optional, run_front}
@@ -15,7 +15,7 @@ use Rattle.version_parts.proofs.Ascii.{IsAscii-nil, metadata_run_ascii, sign_asc
 use Rattle.version_parts.proofs.ChunkReading.{metadata_complete, metadata_sound, optional_complete, optional_sound, release_complete, release_printed, release_sound}
 use Rattle.version_parts.proofs.Dotted.{behind-Some, cases_Option}
 use Rattle.version_parts.proofs.NumeralReading.{numeral_printed, unsigned_complete, unsigned_sound}
-use Rattle.version_parts.proofs.WholeReading.{read_whole, spelled_once, spelled_utf8, whole_read, whole_spelled}
+use Rattle.version_parts.proofs.WholeReading.{read_whole, spelled_once, whole_read, whole_spelled}
 use Rattle.versions.specs.SemVer.{PlainSemVer, SpellsSemVer, optional_text, plain_semver, semver_front, semver_of, semver_text}
 use Rattle.versions.proofs.SpelledTexts.{of_semver}
 
@@ -149,6 +149,9 @@ semver_of-spells = read_whole SpellsSemVer semver_front semver_sound semver_comp
 pub semver_ascii : (text : List ℕ) (v : PlainSemVer) → SpellsSemVer text v → IsAscii text
 semver_ascii = of_semver IsAscii IsAscii-nil IsAscii-append metadata_run_ascii sign_ascii
 
--- a text that spells a version is UTF-8
-pub semver_of-IsUtf8 : (text : List ℕ) → IsSome (semver_of text) → IsUtf8 text
-semver_of-IsUtf8 = spelled_utf8 plain_semver SpellsSemVer semver_of semver_of-spells semver_of-Some semver_ascii
+-- bytes past ASCII spell none
+pub semver_past_ascii : (bytes : List ℕ) → IsNotAscii bytes → semver_of bytes ≡ None
+semver_past_ascii bytes other = elim (cases_Option (semver_of bytes)) [
+  | inl none ↦ none
+  | inr one ↦ absurd (omega (arith, other.1, semver_ascii bytes one.0 (semver_of-spells bytes one.0 one.1) other.0))
+]

@@ -64,18 +64,7 @@ versioning_ascii text (Ideal v) s = semver_ascii text v s
 versioning_ascii text (General v) s = version_ascii text v s.0
 versioning_ascii text (Complex m) s = mess_ascii text m s.0
 
--- a text that spells a version is UTF-8
-versioning_of-IsUtf8 : (text : List ℕ) → IsSome (versioning_of text) → IsUtf8 text
-versioning_of-IsUtf8 = spelled_utf8 plain_versioning SpellsVersioning versioning_of versioning_of-spells versioning_of-Some versioning_ascii
-
--- bytes that are no text spell none
-pub versioning_of-None : (bytes : List ℕ) → ¬ (IsUtf8 bytes) → versioning_of bytes ≡ None
-versioning_of-None bytes other = elim (cases_Option (versioning_of bytes)) [
-  | inl none ↦ none
-  | inr one ↦ absurd (other (versioning_of-IsUtf8 bytes (rw one.1 refl)))
-]
-
--- nor do bytes past ASCII
+-- bytes past ASCII spell none
 pub past_ascii-None : (bytes : List ℕ) → IsNotAscii bytes → versioning_of bytes ≡ None
 past_ascii-None bytes other = elim (cases_Option (versioning_of bytes)) [
   | inl none ↦ none

@@ -1,10 +1,12 @@
-//! What the calls named `from_str` share.
+//! What calls that read a text or bytes share.
 
 ghost use Rattle.std.specs.Prelude.{◌≡◌, string_bytes, String, IfSome, IfNone, IsErrAnd};
+ghost use Rattle.std.specs.Str.{IsNotAscii};
 ghost use Rattle.versions.specs.Errors.{plain_error, IsIllegal, PlainError};
 
 use crate::errors::{Error, ReadError};
 use std::alloc::Global;
+use std::str;
 
 // The value that was read, and else the error that `wrong` makes of a copy of the text; want of memory, if there is
 // none for that copy.
@@ -25,4 +27,16 @@ pub(crate) fn or_illegal<T: Drop, F: FnOnce(String) -> Error + Drop>(
         Some(value) => Ok(value),
         None => Err(ReadError::Illegal(wrong(String::from_str(alloc, s)?))),
     }
+}
+
+// The text that bytes are, where all of them are ASCII. No other bytes spell a version.
+#[inline(always)]
+pub(crate) fn ascii_text(bytes: &[u8]) -> Option<&str>
+    ensures some { IfSome result (λ text. text.now ≡ bytes.now) }
+    ensures none { IfNone result (IsNotAscii bytes.now) }
+{
+    if !bytes.is_ascii() {
+        return None;
+    }
+    Some(unsafe { str::from_utf8_unchecked(bytes) })
 }

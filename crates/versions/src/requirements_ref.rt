@@ -9,12 +9,12 @@ ghost use Rattle.versions.specs.RequirementsRef.{before_others, from_second, mem
 ghost use Rattle.versions.specs.VersioningRef.{plain_versioning_ref};
 ghost use Rattle.versions.specs.Versioning.{versioning_of};
 
+use crate::reading::ascii_text;
 use crate::requirement_ref::RequirementRef;
 use crate::requirements::Requirements;
 use crate::semver::SemVerRef;
 use crate::versioning_ref::VersioningRef;
 use std::marker::Model;
-use std::str;
 
 /// Requirements that have to be met all, read off their text: a [`Requirements`](crate::Requirements) that owns nothing.
 /// No call takes memory. The first two members are scanned once, and the others each time that it is their turn.
@@ -69,10 +69,7 @@ impl<'a> RequirementsRef<'a> {
     pub fn from_bytes(bytes: &'a [u8]) -> Option<RequirementsRef<'a>>
         ensures { result ≡ requirements_of bytes.now }
     {
-        match str::from_utf8(bytes) {
-            Ok(text) => RequirementsRef::new(text),
-            Err(_) => None,
-        }
+        RequirementsRef::new(ascii_text(bytes)?)
     }
 
     /// Whether each member asks for a version. The members are held against it in turn, up to the first that doesn't ask
@@ -88,24 +85,21 @@ impl<'a> RequirementsRef<'a> {
     pub fn keeps(&self, text: &[u8]) -> bool
         ensures { IsTrue result ↔ Keeps self.now (versioning_of text.now) }
     {
-        let Ok(text) = str::from_utf8(text) else {
-            return false;
-        };
         match self.candidate(text) {
             Some(version) => self.matches(&version),
             None => false,
         }
     }
 
-    // The version that a text spells, unless it is of a kind that isn't asked for.
-    fn candidate<'t>(&self, text: &'t str) -> Option<VersioningRef<'t>>
+    // The version that bytes spell, unless it is of a kind that isn't asked for.
+    fn candidate<'t>(&self, text: &'t [u8]) -> Option<VersioningRef<'t>>
         ensures { Keeps self.now (option_map plain_versioning_ref result)
             ↔ Keeps self.now (versioning_of text.now) }
     {
         if self.first.asks_for_strict_alone() {
-            return Some(VersioningRef::Ideal(SemVerRef::new(text)?));
+            return Some(VersioningRef::Ideal(SemVerRef::from_bytes(text)?));
         }
-        VersioningRef::new(text)
+        VersioningRef::from_bytes(text)
     }
 }
 

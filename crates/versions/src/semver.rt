@@ -21,7 +21,7 @@ use crate::optional::{
     build_release, copy_meta, copy_release, copy_text, optional_meta, optional_release,
     write_spelled_tail, write_tail,
 };
-use crate::reading::or_illegal;
+use crate::reading::{ascii_text, or_illegal};
 use crate::version::Version;
 use serde::{Deserialize, Serialize};
 use std::alloc::{AllocError, Global};
@@ -271,6 +271,15 @@ impl<'a> SemVerRef<'a> {
             Some((version, rest)) if rest.is_empty() => Some(version.read()),
             _ => None,
         }
+    }
+
+    /// The strict version that bytes spell, or None where they spell none: bytes that are no UTF-8 never do. Takes no
+    /// memory.
+    #[inline(always)]
+    pub fn from_bytes(bytes: &'a [u8]) -> Option<SemVerRef<'a>>
+        ensures { option_map plain_semver_ref result ≡ semver_of bytes.now }
+    {
+        SemVerRef::new(ascii_text(bytes)?)
     }
 
     // Whether `~self` asks for `other`, by the rule of strict versions.

@@ -21,12 +21,13 @@ use crate::key::spelled::{TailRef, start_of_mess};
 use crate::key::KeyBytes;
 use crate::kind::Kind;
 use crate::mess::MessRef;
+use crate::reading::ascii_text;
 use crate::semver::SemVerRef;
 use crate::version::VersionRef;
 use crate::versioning::Versioning;
 use std::alloc::{AllocError, Global};
 use std::cmp::Ordering;
-use std::{fmt, str};
+use std::fmt;
 use version_parts::key::{NotShort, ShortKey};
 use version_parts::part::{NumberRef, PartsRef};
 
@@ -65,10 +66,7 @@ impl<'a> VersioningRef<'a> {
     pub fn from_bytes(bytes: &'a [u8]) -> Option<VersioningRef<'a>>
         ensures { option_map plain_versioning_ref result ≡ versioning_of bytes.now }
     {
-        if !bytes.is_ascii() {
-            return None;
-        }
-        VersioningRef::new(unsafe { str::from_utf8_unchecked(bytes) })
+        VersioningRef::new(ascii_text(bytes)?)
     }
 
     /// Its kind. Takes no memory.

@@ -1,6 +1,6 @@
-use Rattle.std.proofs.Common.{refl}
-use Rattle.versions.proofs.RequirementsAscii.{requirements_of-None}
+use Rattle.std.proofs.Common.{sym}
+use Rattle.versions.proofs.RequirementsAscii.{requirements_past_ascii}
 use Rattle.versions.proofs.requirements_ref.RequirementsRef.from_bytes.Goals as goal
 
-pub returns-in-Err : goal.returns-in-Err
-returns-in-Err c = rw (requirements_of-None c.args.bytes.now c.in-Err.ensures.cases.0) refl
+pub returns-in_err-ascii_text : goal.returns-in_err-ascii_text
+returns-in_err-ascii_text c = rw c.from_residual.ensures (sym (requirements_past_ascii c.args.bytes.now c.in_err-ascii_text.ensures.none))
