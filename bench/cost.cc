@@ -1,10 +1,14 @@
 // Makes one call of versions.h, or a comparison of librpm or libapt-pkg, on the lines of standard input, for bench/cost
 // to count its instructions:
 //   cost CALL ROUNDS
-// A round makes the call for each line; a comparison takes the line and the next, and behind the last the first.
+// A round makes the call for each line; a comparison takes the line and the next, and behind the last the first. A round
+// of versions_sort_keys or versions_sort is one call for all lines, and one of qsort is versions_sort_keys and the C
+// library's sort by the keys, with ties by place.
 #include <versions.h>
 
+#include <algorithm>
 #include <cstdlib>
+#include <cstring>
 #include <iostream>
 #include <string>
 #include <vector>
@@ -69,10 +73,59 @@ static const struct {
 #endif
 };
 
+// All lines in one buffer, and the rooms for what is made of them.
+static std::string texts;
+static std::vector<int64_t> offsets{0}, key_offsets;
+static std::vector<uint8_t> keys;
+static std::vector<uint64_t> order;
+
+static long sort_keys() {
+  return versions_sort_keys(texts.data(), texts.size(), offsets.data(), offsets.size(), keys.data(), keys.size(),
+                            key_offsets.data(), key_offsets.size());
+}
+
+static long sort() {
+  versions_sort(texts.data(), texts.size(), offsets.data(), offsets.size(), keys.data(), keys.size(),
+                key_offsets.data(), key_offsets.size(), order.data(), order.size());
+  return static_cast<long>(order[0]);
+}
+
+static int by_key(const void *a, const void *b) {
+  uint64_t x = *static_cast<const uint64_t *>(a), y = *static_cast<const uint64_t *>(b);
+  int64_t length = key_offsets[x + 1] - key_offsets[x], other = key_offsets[y + 1] - key_offsets[y];
+  int bytes = std::memcmp(&keys[key_offsets[x]], &keys[key_offsets[y]], std::min(length, other));
+  if (bytes != 0) return bytes;
+  return length != other ? (length > other) - (length < other) : (x > y) - (x < y);
+}
+
+static long sort_by_qsort() {
+  sort_keys();
+  for (size_t i = 0; i < order.size(); i++) order[i] = i;
+  std::qsort(order.data(), order.size(), sizeof(uint64_t), by_key);
+  return static_cast<long>(order[0]);
+}
+
+static const struct {
+  const char *name;
+  long (*call)();
+} calls_for_all[] = {{"versions_sort_keys", sort_keys}, {"versions_sort", sort}, {"qsort", sort_by_qsort}};
+
 int main(int count, char **words) {
   std::vector<std::string> lines;
-  for (std::string line; std::getline(std::cin, line);) lines.push_back(line);
+  for (std::string line; std::getline(std::cin, line);) {
+    lines.push_back(line);
+    texts += line;
+    offsets.push_back(static_cast<int64_t>(texts.size()));
+  }
   if (count != 3 || lines.empty()) return 2;
+  keys.resize(3 * texts.size() + 5 * lines.size());
+  key_offsets.resize(offsets.size());
+  order.resize(lines.size());
+  for (const auto &[name, call] : calls_for_all) {
+    if (words[1] != std::string(name)) continue;
+    for (int rounds = std::atoi(words[2]); rounds > 0; rounds--) answers = answers + call();
+    return 0;
+  }
   lines.push_back(lines.front());
   for (const auto &[name, call] : calls) {
     if (words[1] != std::string(name)) continue;

@@ -1,6 +1,7 @@
 pub mod Answers
 pub mod KeyLength
 pub mod OffsetsRead
+pub mod OneOrder
 pub mod Ordered
 pub mod PartLength
 pub mod Putting

@@ -4,6 +4,7 @@
 
 mod keys;
 mod kinds;
+mod laws;
 mod matching;
 mod numbers;
 mod offsets;

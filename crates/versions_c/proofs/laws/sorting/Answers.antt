@@ -1,0 +1,5 @@
+use Rattle.versions_c.proofs.OneOrder.{one_order}
+use Rattle.versions_c.proofs.laws.sorting.Goals as goal
+
+pub returns : goal.returns
+returns c = record { only = one_order }
