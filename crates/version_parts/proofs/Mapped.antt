@@ -1,7 +1,7 @@
 -- What is read of a list where each element is made into something.
-use Rattle.std.proofs.Common.{◌≡◌, ℕ, zero, suc, List, ◌∷◌, length, map, Some, None, refl, ap, inl, inr}
+use Rattle.std.proofs.Common.{◌≡◌, ℕ, zero, suc, List, length, map, refl, inl, inr}
 use Rattle.version_parts.specs.Bytes.{dot}
-use Rattle.version_parts.specs.Front.{Front, after_mark, behind, dotted_front, elements_at, further, map_value, repeated}
+use Rattle.version_parts.specs.Front.{Front, after_mark, behind, elements_at, further, map_value, repeated}
 use Rattle.version_parts.proofs.Dotted.{cases_Option, listed, unlisted}
 
 module _ {X Y : Type 0} (f : X → Y) (front : Front X) where

@@ -1,12 +1,11 @@
 -- The bytes of a numeral, from its digits as they stand in a text.
-use Rattle.std.proofs.Common.{◌≡◌, ◌∙◌, ◌≤◌, ◌<◌, ◌^◌, ◌==◌, ℕ, false, true, List, [], ◌∷◌, ◌++◌, length, Some, None, inl, inr, refl, sym, ap, arith}
-use Rattle.std.proofs.lemmas.Bool.{cases_Bool, eqb-true}
+use Rattle.std.proofs.Common.{◌≡◌, ◌∙◌, ◌≤◌, ◌<◌, ℕ, false, List, [], ◌∷◌, ◌++◌, length, Some, refl, sym, ap, arith}
 use Rattle.std.specs.Fmt.{decimal}
 use Rattle.std.specs.Str.Parse.{digits_value}
 use Rattle.version_parts.specs.Front.{begins}
-use Rattle.version_parts.specs.NumberBytes.{length_bytes, number_bytes}
+use Rattle.version_parts.specs.NumberBytes.{number_bytes}
 use Rattle.version_parts.specs.Numeral.{SpellsNumeral}
-use Rattle.version_parts.specs.PartKey.{Number, part_bytes, part_key}
+use Rattle.version_parts.specs.PartKey.{part_bytes, part_key}
 use Rattle.version_parts.proofs.InlineBytes.{ten_digits}
 use Rattle.version_parts.proofs.ListBytes.{plain_number}
 use Rattle.version_parts.proofs.NumberBytes.{length_bytes-short, number_bytes-digits, number_bytes-zero}

@@ -1,11 +1,11 @@
 -- Parts compared by their slices.
-use Rattle.std.proofs.Common.{◌≡◌, ◌∙◌, ◌==◌, ◌<◌, ◌^◌, ℕ, false, true, List, [], ◌∷◌, ◌++◌, drop, length, refl, sym, ap, inl, inr, append-nil, arith, one-add}
+use Rattle.std.proofs.Common.{◌≡◌, ◌∙◌, ◌==◌, ◌<◌, ◌^◌, ℕ, true, List, [], ◌∷◌, ◌++◌, drop, length, refl, sym, ap, inl, inr, append-nil, arith, one-add}
 use Rattle.std.proofs.lemmas.Bool.{cases_Bool, eqb-true}
 use Rattle.std.specs.Char.{is_ascii_digit}
 use Rattle.std.specs.Cmp.{second_so}
 use Rattle.std.specs.Fmt.{decimal}
 use Rattle.std.proofs.lemmas.Fmt.{decimal_is_IsNumeral}
-use Rattle.std.specs.List.{list_all, prefix_len, take_while}
+use Rattle.std.specs.List.{list_all, prefix_len}
 use Rattle.std.specs.Ordering.{nat_cmp, ordering_then}
 use Rattle.std.specs.Str.Parse.{digits_value}
 use Rattle.std.specs.declared.cmp.Ordering.{Ordering}
@@ -14,8 +14,7 @@ use Rattle.version_parts.proofs.NumberBytes.{length_writes, number_bytes-digits,
 use Rattle.version_parts.proofs.PieceBytes.{digits_of_run, is_zero, take_while-all}
 use Rattle.version_parts.proofs.DigitRun.{decimal-digits}
 use Rattle.version_parts.specs.DigitRun.{run_value}
-use Rattle.version_parts.proofs.RunFronts.{begins-drop, list_all-take_while}
-use Rattle.version_parts.specs.Front.{begins}
+use Rattle.version_parts.proofs.RunFronts.{begins-drop}
 use Rattle.version_parts.specs.Lists.{bytes_cmp}
 use Rattle.version_parts.specs.NumberBytes.{length_bytes, number_bytes}
 

@@ -1,5 +1,5 @@
 -- Short keys: what has been put is the bytes that are told, step by step.
-use Rattle.std.proofs.Common.{◌≡◌, ◌∙◌, ◌<◌, ◌≤◌, ◌==◌, ℕ, Bool, false, true, List, [], ◌∷◌, ◌++◌, drop, length, Some, refl, sym, ap, arith, append_assoc, append-nil}
+use Rattle.std.proofs.Common.{◌≡◌, ◌∙◌, ◌<◌, ◌==◌, ℕ, Bool, false, true, List, [], ◌∷◌, ◌++◌, drop, length, Some, refl, sym, ap, append_assoc, append-nil}
 use Rattle.std.proofs.lemmas.Bool.{eqb-true}
 use Rattle.std.proofs.lemmas.List.{nil_from_length, take-append-drop}
 use Rattle.std.proofs.lemmas.List.Folds.{length-prefix_len}
@@ -8,7 +8,7 @@ use Rattle.std.specs.List.{prefix_len, take_while}
 use Rattle.version_parts.specs.Bytes.{is_identifier_byte}
 use Rattle.version_parts.specs.declared.key.place.AfterNumber.{AfterNumber}
 use Rattle.version_parts.specs.declared.key.place.AfterNumber.TheVariants.{Nothing, Suffix, Text}
-use Rattle.version_parts.specs.declared.key.place.Place.TheVariants.{Length, Number, Numbered, Part, Rest, Split}
+use Rattle.version_parts.specs.declared.key.place.Place.TheVariants.{Length, Number, Part, Rest, Split}
 use Rattle.version_parts.specs.DigitRun.{run_value, starts_with_digit}
 use Rattle.version_parts.specs.NumberBytes.{number_bytes}
 use Rattle.version_parts.specs.PartKey.{part_bytes, part_key}

@@ -16,7 +16,7 @@ use Rattle.version_parts.proofs.ChunkReading.{metadata_complete, metadata_sound,
 use Rattle.version_parts.proofs.Dotted.{behind-Some, cases_Option}
 use Rattle.version_parts.proofs.NumeralReading.{numeral_printed, unsigned_complete, unsigned_sound}
 use Rattle.version_parts.proofs.WholeReading.{read_whole, spelled_once, whole_read, whole_spelled}
-use Rattle.versions.specs.SemVer.{PlainSemVer, SpellsSemVer, optional_text, plain_semver, semver_front, semver_of, semver_text}
+use Rattle.versions.specs.SemVer.{PlainSemVer, SpellsSemVer, optional_text, semver_front, semver_of, semver_text}
 use Rattle.versions.proofs.SpelledTexts.{of_semver}
 
 -- what the front gives behind three numbers

@@ -1,13 +1,12 @@
 -- Versions of any kind: what is read is spelled by the first kind that fits, and prints as it is spelled.
-use Rattle.std.proofs.Common.{◌≡◌, List, ℕ, Some, None, IsSome, refl, inl, inr, arith}
-use Rattle.std.specs.Str.{IsAscii, IsNotAscii, IsUtf8}
+use Rattle.std.proofs.Common.{◌≡◌, List, ℕ, Some, None, refl, inl, inr, arith}
+use Rattle.std.specs.Str.{IsAscii, IsNotAscii}
 use Rattle.version_parts.specs.Reading.{IsPrinted}
 use Rattle.version_parts.proofs.Dotted.{cases_Option}
-use Rattle.version_parts.proofs.WholeReading.{spelled_utf8}
 use Rattle.versions.specs.Mess.{mess_of}
 use Rattle.versions.specs.SemVer.{PlainSemVer, SpellsSemVer, semver_of}
 use Rattle.versions.specs.Version.{PlainVersion, SpellsVersion, version_of}
-use Rattle.versions.specs.Versioning.{PlainVersioning, Ideal, General, Complex, SpellsVersioning, plain_versioning, versioning_of, versioning_text}
+use Rattle.versions.specs.Versioning.{PlainVersioning, Ideal, General, Complex, SpellsVersioning, versioning_of, versioning_text}
 use Rattle.versions.proofs.MessReading.{mess_of-Some, mess_of-spells, mess_ascii, mess_printed}
 use Rattle.versions.proofs.SemVerReading.{semver_ascii, semver_of-Some, semver_of-spells, semver_printed}
 use Rattle.versions.proofs.VersionReading.{version_ascii, version_of-Some, version_of-spells, version_printed}

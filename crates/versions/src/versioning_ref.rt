@@ -16,9 +16,9 @@ ghost use Rattle.versions.specs.VersioningRef.{plain_versioning_ref};
 ghost use Rattle.versions.specs.Versioning.{kind_rank, plain_versioning, versioning_nth, versioning_of, versioning_plain_cmp, versioning_text, VersioningOwns};
 ghost use Rattle.versions.specs.VersioningLaws.{versioning_plain_total};
 
+use crate::key::KeyBytes;
 use crate::key::short::{put_mess, put_semver, put_version};
 use crate::key::spelled::{TailRef, start_of_mess};
-use crate::key::KeyBytes;
 use crate::kind::Kind;
 use crate::mess::MessRef;
 use crate::reading::ascii_text;

@@ -1,4 +1,4 @@
-use Rattle.std.proofs.Common.{◌≡◌, ◌+◌, ◌*◌, ◌-◌, ◌<◌, ◌^◌, arith, get_or}
+use Rattle.std.proofs.Common.{arith}
 use Rattle.version_parts.proofs.Digits.{next_fits, next_value}
 use Rattle.version_parts.proofs.scan.value_of_numeral.Goals as goal
 

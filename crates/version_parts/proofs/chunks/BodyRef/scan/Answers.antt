@@ -1,4 +1,4 @@
-use Rattle.std.proofs.Common.{◌≡◌, ◌∙◌, ◌-◌, List, ℕ, take, Some, refl, sym, ap}
+use Rattle.std.proofs.Common.{◌≡◌, ◌∙◌, ◌-◌, ℕ, take, Some, refl, sym, ap}
 use Rattle.version_parts.specs.Body.{last_at}
 use Rattle.version_parts.specs.Chunk.{part_front}
 use Rattle.version_parts.specs.Front.{elements_at}

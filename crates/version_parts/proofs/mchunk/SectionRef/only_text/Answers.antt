@@ -1,4 +1,4 @@
-use Rattle.std.proofs.Common.{length, sym, ap, ◌∙◌}
+use Rattle.std.proofs.Common.{sym, ◌∙◌}
 use Rattle.version_parts.proofs.ListBytes.{no_chunk, only_chunk}
 use Rattle.version_parts.proofs.mchunk.SectionRef.only_text.Goals as goal
 

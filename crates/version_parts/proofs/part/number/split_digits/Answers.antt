@@ -1,4 +1,3 @@
-use Rattle.std.proofs.Common.{◌≡◌}
 use Rattle.std.specs.Char.{is_ascii_digit}
 use Rattle.version_parts.proofs.RunFronts.{list_all-take_while}
 use Rattle.version_parts.proofs.part.number.split_digits.Goals as goal
