@@ -173,6 +173,8 @@ SQL_FUNCTION(version_compare_total) {
 
 static Datum matches(FunctionCallInfo fcinfo, Span list, Span span) {
   bool matches = false;
+  /* to plan a query, the server calls this many times without a look at whether the statement is cancelled */
+  CHECK_FOR_INTERRUPTS();
   switch (versions_matches(list.bytes, list.len, span.bytes, span.len, &matches)) {
     case VERSIONS_OK: PG_RETURN_BOOL(matches);
     case VERSIONS_NO_REQUIREMENTS:
