@@ -348,7 +348,7 @@ static int compare_abbreviated(Datum a, Datum b, SortSupport sort) {
 
 static int compare_in_sort(Datum a, Datum b, SortSupport sort) { return order_of_values(a, b); }
 
-/* To make a key takes half of what a comparison of two texts takes, so the sort never goes on without keys. */
+/* To make a key takes less than to compare two texts does once, so the sort never goes on without keys. */
 static bool never_abort(int count, SortSupport sort) { return false; }
 
 SQL_FUNCTION(version_sortsupport) {
