@@ -52,16 +52,6 @@ PG_MODULE_MAGIC;
   PG_FUNCTION_INFO_V1(name); \
   Datum name(PG_FUNCTION_ARGS)
 
-PGDLLEXPORT void _PG_init(void);
-
-/* PostgreSQL calls this where it loads the file, and loads nothing where it fails. */
-void _PG_init(void) {
-  if (!versions_processor_suffices()) {
-    ereport(ERROR, (errcode(ERRCODE_FEATURE_NOT_SUPPORTED),
-                    errmsg("the extension versions needs a processor of the level x86-64-v2")));
-  }
-}
-
 /* Bytes of a text or of a version. */
 typedef struct {
   const char *bytes;
@@ -251,12 +241,16 @@ static int32_t order_of(Span a, Span b) {
   return order;
 }
 
-/* Of two values, of which either may be compressed or stored elsewhere. */
+/* Frees the text of a value where it was compressed or stored elsewhere. */
+static void free_copy(text *version, Datum value) {
+  if ((Pointer)version != DatumGetPointer(value)) pfree(version);
+}
+
 static int order_of_values(Datum a, Datum b) {
   text *first = DatumGetTextPP(a), *second = DatumGetTextPP(b);
   int32_t order = order_of(span_of(first), span_of(second));
-  if ((Pointer)first != DatumGetPointer(a)) pfree(first);
-  if ((Pointer)second != DatumGetPointer(b)) pfree(second);
+  free_copy(first, a);
+  free_copy(second, b);
   return order;
 }
 
@@ -281,7 +275,7 @@ static bytea *key_of_value(Datum value, KeyRoom *room) {
   text *version = DatumGetTextPP(value);
   bytea *key = key_of(span_of(version), room);
   if (!key) report_damage(span_of(version));
-  if ((Pointer)version != DatumGetPointer(value)) pfree(version);
+  free_copy(version, value);
   return key;
 }
 
@@ -310,21 +304,30 @@ SQL_FUNCTION(version_hash_extended) {
 
 StaticAssertDecl(sizeof(Datum) == 8, "a processor that the library runs on has 64 bits");
 
-/* The code of one byte: its last bits. Codes order as the bytes do, and none begins another. */
-static unsigned code_of_byte(unsigned char byte, int *bits) {
-  *bits = byte < 4 ? 3 : byte < '0' ? 12 : byte <= '9' ? 5 : 13;
-  return byte < 4 ? byte : byte < '0' ? 0x800 | byte : byte <= '9' ? 0x12 + (byte - '0') : 0x1c00 | byte;
+/* The code of each byte: the first bits of a number. Codes order as the bytes do, and none begins another. */
+static struct {
+  uint64 code;
+  int bits;
+} codes[256];
+
+static void make_codes(void) {
+  unsigned byte;
+  for (byte = 0; byte < lengthof(codes); byte++) {
+    int bits = byte < 4 ? 3 : byte < '0' ? 12 : byte <= '9' ? 5 : 13;
+    uint64 code = byte < 4 ? byte : byte < '0' ? 0x800 | byte : byte <= '9' ? 0x12 + (byte - '0') : 0x1c00 | byte;
+    codes[byte].code = code << (64 - bits);
+    codes[byte].bits = bits;
+  }
 }
 
 /* The first 64 bits of the code of a key, with bits 0 after one that is shorter. */
 static uint64 beginning_of_code(const bytea *key) {
-  const char *byte = VARDATA(key), *end = byte + (VARSIZE(key) - VARHDRSZ);
+  const unsigned char *byte = (const unsigned char *)VARDATA(key), *end = byte + (VARSIZE(key) - VARHDRSZ);
   uint64 beginning = 0;
-  int left = 64, bits;
-  for (; byte < end && left > 0; byte++) {
-    uint64 code = code_of_byte((unsigned char)*byte, &bits);
-    beginning |= bits <= left ? code << (left - bits) : code >> (bits - left);
-    left -= bits;
+  int bits = 0;
+  for (; byte < end && bits < 64; byte++) {
+    beginning |= codes[*byte].code >> bits;
+    bits += codes[*byte].bits;
   }
   return beginning;
 }
@@ -346,13 +349,60 @@ static int compare_abbreviated(Datum a, Datum b, SortSupport sort) {
 #define compare_abbreviated ssup_datum_unsigned_cmp
 #endif
 
-static int compare_in_sort(Datum a, Datum b, SortSupport sort) { return order_of_values(a, b); }
+/*
+ * Where the codes are equal, a sort compares few versions many times: those of many rows, or of one group. So it keeps the
+ * keys of the last ones, each in a place that the version's text chooses, and compares these. Long versions are compared
+ * by their texts.
+ */
+typedef struct {
+  uint8 len, key_len; /* no version is empty */
+  char version[62];
+  uint8 key[128];
+} KeptKey;
+
+enum { PLACES = 256 };
+
+static KeptKey *place_of(KeptKey *kept, Span version) {
+  return &kept[DatumGetUInt32(hash_any((const unsigned char *)version.bytes, (int)version.len)) % PLACES];
+}
+
+/* Whether the place has the key of a version, now or before. */
+static bool keeps_key(KeptKey *place, Span version) {
+  size_t key_len;
+  if (version.len > sizeof place->version) return false;
+  if (place->len == version.len && memcmp(place->version, version.bytes, version.len) == 0) return true;
+  place->len = 0;
+  if (versions_sort_key(version.bytes, version.len, place->key, sizeof place->key, &key_len) != VERSIONS_OK) return false;
+  memcpy(place->version, version.bytes, version.len);
+  place->len = (uint8)version.len;
+  place->key_len = (uint8)key_len;
+  return true;
+}
+
+static int order_by_kept_keys(KeptKey *kept, Span a, Span b) {
+  KeptKey *first, *second;
+  if (a.len == b.len && memcmp(a.bytes, b.bytes, a.len) == 0) return 0;
+  first = place_of(kept, a);
+  second = place_of(kept, b);
+  if (first == second || !keeps_key(first, a) || !keeps_key(second, b)) return order_of(a, b);
+  /* no key begins another */
+  return memcmp(first->key, second->key, Min(first->key_len, second->key_len));
+}
+
+static int compare_in_sort(Datum a, Datum b, SortSupport sort) {
+  text *first = DatumGetTextPP(a), *second = DatumGetTextPP(b);
+  int order = order_by_kept_keys(sort->ssup_extra, span_of(first), span_of(second));
+  free_copy(first, a);
+  free_copy(second, b);
+  return order;
+}
 
 /* To make a key takes less than to compare two texts does once, so the sort never goes on without keys. */
 static bool never_abort(int count, SortSupport sort) { return false; }
 
 SQL_FUNCTION(version_sortsupport) {
   SortSupport sort = (SortSupport)PG_GETARG_POINTER(0);
+  sort->ssup_extra = MemoryContextAllocZero(sort->ssup_cxt, PLACES * sizeof(KeptKey));
   sort->comparator = compare_in_sort;
   if (sort->abbreviate) {
     sort->abbrev_converter = abbreviate;
@@ -477,4 +527,15 @@ SQL_FUNCTION(version_matches_support) {
     conditions = conditions_of((SupportRequestIndexCondition *)request);
   }
   PG_RETURN_POINTER(conditions);
+}
+
+PGDLLEXPORT void _PG_init(void);
+
+/* PostgreSQL calls this where it loads the file, and loads nothing where it fails. */
+void _PG_init(void) {
+  if (!versions_processor_suffices()) {
+    ereport(ERROR, (errcode(ERRCODE_FEATURE_NOT_SUPPORTED),
+                    errmsg("the extension versions needs a processor of the level x86-64-v2")));
+  }
+  make_codes();
 }
