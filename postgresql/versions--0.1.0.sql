@@ -1,5 +1,5 @@
--- versions--0.1.0.sql: functions on versions, and a type of them with its operators and indexes. A further version of the
--- extension adds a file versions--0.1.0--NEXT.sql with what changes; ALTER EXTENSION versions UPDATE runs it.
+-- versions--0.1.0.sql: functions on versions, and a type of them with its operators and indexes. A further version of
+-- the extension adds a file versions--0.1.0--NEXT.sql with what changes; ALTER EXTENSION versions UPDATE runs it.
 \echo Use "CREATE EXTENSION versions" to load this file. \quit
 
 -- Functions on texts. They give NULL where a text is no version. Each reads its texts anew, which costs as much as ten

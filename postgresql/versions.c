@@ -229,10 +229,12 @@ SQL_FUNCTION(version_of_text) {
 
 /* The order of the type, by precedence. */
 
+static bool are_same(Span a, Span b) { return a.len == b.len && memcmp(a.bytes, b.bytes, a.len) == 0; }
+
 /* How two values of the type compare. Equal bytes are found without a look at what they spell. */
 static int32_t order_of(Span a, Span b) {
   int32_t order = 0;
-  if (a.len == b.len && memcmp(a.bytes, b.bytes, a.len) == 0) return 0;
+  if (are_same(a, b)) return 0;
   switch (versions_compare(a.bytes, a.len, b.bytes, b.len, &order)) {
     case VERSIONS_OK: break;
     case VERSIONS_NO_VERSION_B: report_damage(b); break;
@@ -296,10 +298,9 @@ SQL_FUNCTION(version_hash_extended) {
 }
 
 /*
- * A sort goes by 64 bits for each key, and compares versions only where these are equal. They are the beginning of a code
- * of the key that orders as its bytes do. The bytes 0 to 3 and the digits, of which most keys consist, have short codes:
- * so it tells apart what differs in the first eleven to twenty bytes of a key, where the bytes themselves would do so
- * in the first eight.
+ * A sort goes by 64 bits for each key, and compares versions only where these are equal. They are the first bits of a
+ * code of the key that orders as its bytes do. The bytes 0 to 3 and the digits, of which most keys consist, have short
+ * codes. So it tells apart most keys that differ in the first sixteen bytes, where eight bytes would be 64 bits.
  */
 
 StaticAssertDecl(sizeof(Datum) == 8, "a processor that the library runs on has 64 bits");
@@ -350,9 +351,9 @@ static int compare_abbreviated(Datum a, Datum b, SortSupport sort) {
 #endif
 
 /*
- * Where the codes are equal, a sort compares few versions many times: those of many rows, or of one group. So it keeps the
- * keys of the last ones, each in a place that the version's text chooses, and compares these. Long versions are compared
- * by their texts.
+ * Where these bits are equal, a sort compares few versions many times, such as the pre-releases of one version in many
+ * rows. So it keeps the keys of the last versions, each in a place that the version's text chooses, and compares those.
+ * Long versions are compared by their texts.
  */
 typedef struct {
   uint8 len, key_len; /* no version is empty */
@@ -368,20 +369,20 @@ static KeptKey *place_of(KeptKey *kept, Span version) {
 
 /* Whether the place has the key of a version, now or before. */
 static bool keeps_key(KeptKey *place, Span version) {
-  size_t key_len;
+  size_t len;
   if (version.len > sizeof place->version) return false;
   if (place->len == version.len && memcmp(place->version, version.bytes, version.len) == 0) return true;
   place->len = 0;
-  if (versions_sort_key(version.bytes, version.len, place->key, sizeof place->key, &key_len) != VERSIONS_OK) return false;
+  if (versions_sort_key(version.bytes, version.len, place->key, sizeof place->key, &len) != VERSIONS_OK) return false;
   memcpy(place->version, version.bytes, version.len);
   place->len = (uint8)version.len;
-  place->key_len = (uint8)key_len;
+  place->key_len = (uint8)len;
   return true;
 }
 
 static int order_by_kept_keys(KeptKey *kept, Span a, Span b) {
   KeptKey *first, *second;
-  if (a.len == b.len && memcmp(a.bytes, b.bytes, a.len) == 0) return 0;
+  if (are_same(a, b)) return 0;
   first = place_of(kept, a);
   second = place_of(kept, b);
   if (first == second || !keeps_key(first, a) || !keeps_key(second, b)) return order_of(a, b);
@@ -486,13 +487,14 @@ static Bounds bounds_of(Span list) {
 /* The condition that a column fulfils a bound, put behind others, where the family of the index has the comparison. */
 static List *append_condition(List *conditions, Bound bound, Node *column, Oid family) {
   Oid type = exprType(column), operator;
-  Const *version;
+  Const *constant;
+  text *version;
   if (bound.comparison == InvalidStrategy) return conditions;
   operator = get_opfamily_member(family, type, type, (int16)bound.comparison);
   if (!OidIsValid(operator)) return conditions;
-  version = makeConst(type, -1, InvalidOid, -1,
-                      PointerGetDatum(cstring_to_text_with_len(bound.version.bytes, (int)bound.version.len)), false, false);
-  return lappend(conditions, make_opclause(operator, BOOLOID, false, (Expr *)copyObject(column), (Expr *)version,
+  version = cstring_to_text_with_len(bound.version.bytes, (int)bound.version.len);
+  constant = makeConst(type, -1, InvalidOid, -1, PointerGetDatum(version), false, false);
+  return lappend(conditions, make_opclause(operator, BOOLOID, false, (Expr *)copyObject(column), (Expr *)constant,
                                            InvalidOid, InvalidOid));
 }
 
