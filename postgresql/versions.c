@@ -367,12 +367,11 @@ static KeptKey *place_of(KeptKey *kept, Span version) {
   return &kept[DatumGetUInt32(hash_any((const unsigned char *)version.bytes, (int)version.len)) % PLACES];
 }
 
-/* Whether the place has the key of a version, now or before. */
+/* Whether the place has the key of a version, which is put there where it fits. */
 static bool keeps_key(KeptKey *place, Span version) {
   size_t len;
   if (version.len > sizeof place->version) return false;
   if (place->len == version.len && memcmp(place->version, version.bytes, version.len) == 0) return true;
-  place->len = 0;
   if (versions_sort_key(version.bytes, version.len, place->key, sizeof place->key, &len) != VERSIONS_OK) return false;
   memcpy(place->version, version.bytes, version.len);
   place->len = (uint8)version.len;
