@@ -1,22 +1,16 @@
--- Versions of packages, in ranges of their sort keys. The bounds are keys too, in hexadecimal, which psql is given.
--- Texts compare by their bytes, so that versions whose keys tie come in one order in every database.
+-- Versions of packages, in ranges of versions.
+CREATE EXTENSION versions;
+
 CREATE TABLE packages (
-  name text COLLATE "C" NOT NULL,
-  version text COLLATE "C" NOT NULL,
-  key bytea NOT NULL, -- versions.sort_key(version)
-  UNIQUE (name, version, key)
-) PARTITION BY RANGE (key);
+  name text NOT NULL,
+  version version NOT NULL
+) PARTITION BY RANGE (version);
 
-CREATE TABLE packages_below_2 PARTITION OF packages FOR VALUES FROM (MINVALUE) TO (decode(:'key_of_2', 'hex'));
-CREATE TABLE packages_from_2 PARTITION OF packages
-  FOR VALUES FROM (decode(:'key_of_2', 'hex')) TO (decode(:'key_of_10', 'hex'));
-CREATE TABLE packages_from_10 PARTITION OF packages
-  FOR VALUES FROM (decode(:'key_of_10', 'hex')) TO (decode(:'key_of_1_0', 'hex'));
-CREATE TABLE packages_with_epoch PARTITION OF packages FOR VALUES FROM (decode(:'key_of_1_0', 'hex')) TO (MAXVALUE);
+CREATE TABLE packages_below_2 PARTITION OF packages FOR VALUES FROM (MINVALUE) TO ('2');
+CREATE TABLE packages_from_2 PARTITION OF packages FOR VALUES FROM ('2') TO ('10');
+CREATE TABLE packages_from_10 PARTITION OF packages FOR VALUES FROM ('10') TO ('1:0');
+CREATE TABLE packages_with_epoch PARTITION OF packages FOR VALUES FROM ('1:0') TO (MAXVALUE);
 
--- What is oldest, newest or between two versions, and the newest of each package.
-CREATE INDEX packages_by_key ON packages (key, version);
-CREATE INDEX packages_newest ON packages (name, key DESC, version DESC);
-
--- The versions that a requirement asks for, where that is no range of keys.
-CREATE TABLE asked_for (version text COLLATE "C" PRIMARY KEY);
+-- What is oldest, newest or matches a requirement, and the newest of each package.
+CREATE INDEX packages_by_version ON packages (version);
+CREATE INDEX packages_newest ON packages (name, version DESC);
