@@ -17,10 +17,6 @@ use Rattle.versions.specs.Tail.{tail_bytes}
 use Rattle.versions.specs.Versioning.{PlainVersioning, versioning_of}
 use Rattle.versions.proofs.Orders.{key_bytes_alone}
 
--- the bytes of the key of a version, if there is one
-abbrev pub key_of_spelled : Option PlainVersioning → Option (List ℕ)
-key_of_spelled = option_map (λ v. key_bytes (key_of v))
-
 -- the key of a line, by the version that it spells
 
 pub line_key-spelled : (line : List ℕ) (v : PlainVersioning) → Some v ≡ versioning_of line → line_key line ≡ key_bytes (key_of v)
@@ -50,14 +46,3 @@ spelled-some (Some v) good = key_bytes-some (key_of v)
 pub line_key-some : (line : List ℕ) → is_bad line ≡ false → 0 < length (line_key line)
 unfolding line_key
 line_key-some line good = spelled-some (versioning_of line) good
-
--- the line for two versions, by the bytes of their keys
-pub line_by_keys : (a b : Option PlainVersioning) (first second : List ℕ) (order : Ordering) → key_of_spelled a ≡ Some first → key_of_spelled b ≡ Some second
-    → order ≡ bytes_cmp first second → sign_text order ++ line_feed ∷ [] ≡ comparison_line a b
-line_by_keys None b first second order e f stands = cc e
-line_by_keys (Some v) None first second order e f stands = cc f
-line_by_keys (Some v) (Some w) first second order e f stands =
-    let one : first ≡ key_bytes (key_of v) = cc e in
-    let other : second ≡ key_bytes (key_of w) = cc f in
-    let keys = stands ∙ ap (λ (l : List ℕ). bytes_cmp l second) one ∙ ap (bytes_cmp (key_bytes (key_of v))) other ∙ key_bytes_alone (key_of v) (key_of w) in
-    ap (λ (o : Ordering). sign_text o ++ line_feed ∷ []) keys

@@ -37,8 +37,9 @@ use std::io::{Read, Write};
 /// [`Fault::Read`] where that isn't the whole input. Nothing is flushed.
 ///
 /// It takes memory for the whole input and for two buffers of 64 KiB. `sort` takes it for the sort keys of all lines, in
-/// one list, and for 48 bytes a line; `key` for the sort key and the line; and a word that is told for its copy. `ideal`, `show`, `match` and `cmp` take it for nothing more: versions and requirements are read
-/// off their texts, and none is built.
+/// one list, and for 48 bytes a line; `key` for the sort key and the line; and a word that is told for its copy. `ideal`,
+/// `show`, `match` and `cmp` take it for nothing more: versions and requirements are read off their texts, and none is
+/// built.
 pub fn run<R: Read, W: Write>(
     alloc: Global,
     words: &[String],

@@ -1,5 +1,5 @@
 -- The bytes of a numeral, from its digits as they stand in a text.
-use Rattle.std.proofs.Common.{◌≡◌, ◌∙◌, ◌≤◌, ◌<◌, ℕ, false, List, [], ◌∷◌, ◌++◌, length, Some, refl, sym, ap, arith}
+use Rattle.std.proofs.Common.{◌≡◌, ◌∙◌, ◌≤◌, ◌<◌, ℕ, false, List, [], ◌∷◌, ◌++◌, length, Some, refl, ap, arith}
 use Rattle.std.specs.Fmt.{decimal}
 use Rattle.std.specs.Str.Parse.{digits_value}
 use Rattle.version_parts.specs.Front.{begins}
@@ -34,9 +34,3 @@ pub numeral_as_part : (text digits : List ℕ) → SpellsNumeral text (digits_va
 numeral_as_part text digits s bytes = rw (plain_number (digits_value 10 text) s.fits, bytes) refl
 
 pub ruleset numeral_part = (numeral_as_part)
-
--- a numeral is what its value prints
-pub numeral_printed_text : (text : List ℕ) → SpellsNumeral text (digits_value 10 text) → text ≡ decimal (digits_value 10 text)
-numeral_printed_text text s = sym (numeral_printed text (digits_value 10 text) s)
-
-pub ruleset numeral_text = (numeral_printed_text)

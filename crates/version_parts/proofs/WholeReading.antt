@@ -1,13 +1,10 @@
 -- Whole texts: what follows of a front that reads what is spelled and nothing else.
-use Rattle.std.proofs.Common.{◌≡◌, ◌==◌, ◌∙◌, List, ℕ, [], length, Option, Some, None, Result, Ok, Err, IfOk, IfSome, OnErr, IsSome, IsSomeAnd, true, refl, sym, ap, subst, inl, inr, append-nil}
-use Rattle.std.proofs.lemmas.Bool.{cases_Bool, eqb-true, false≢true}
+use Rattle.std.proofs.Common.{◌≡◌, ◌==◌, ◌∙◌, List, ℕ, [], length, Option, Some, None, Result, Ok, Err, IfOk, IfSome, OnErr, IsSomeAnd, true, refl, sym, ap, subst, inl, inr, append-nil}
+use Rattle.std.proofs.lemmas.Bool.{cases_Bool, eqb-true}
 use Rattle.std.proofs.lemmas.List.{nil_from_length}
-use Rattle.std.proofs.lemmas.Str.{IsUtf8-from_ascii}
 use Rattle.std.specs.Option.{is_some, option_map}
-use Rattle.std.specs.Str.{IsAscii, IsUtf8}
 use Rattle.version_parts.specs.Front.{Front, whole}
 use Rattle.version_parts.specs.Reading.{IsPrinted, IsSound}
-use Rattle.version_parts.proofs.Dotted.{cases_Option}
 
 -- a value is read from the whole text where the front leaves no rest
 pub whole-Some : {X : Type 0} (read : Option (X × List ℕ)) (x : X) → whole read ≡ Some x → read ≡ Some (x, [])
@@ -76,10 +73,3 @@ module _ {V X : Type 0} (view : V → X) (Spells : List ℕ → X → Type 0) (v
       → OnErr r ((x : X) × Spells text x × Owns x)
   clause_memory Owns text (Ok o) h = tt
   clause_memory Owns text (Err x) h = owned Owns text (value_of text) refl h
-
-  -- a text that spells something of ASCII is UTF-8
-  pub spelled_utf8 : ((text : List ℕ) (x : X) → Spells text x → IsAscii text) → (text : List ℕ) → IsSome (value_of text) → IsUtf8 text
-  spelled_utf8 ascii text some = elim (cases_Option (value_of text)) [
-    | inl none ↦ absurd (false≢true (rw none at some))
-    | inr one ↦ IsUtf8-from_ascii text (ascii text one.0 (spelled text one.0 one.1))
-  ]

@@ -23,7 +23,7 @@ use Rattle.version_parts.proofs.ChunkReading.{metadata_complete, metadata_sound,
 use Rattle.version_parts.proofs.Dotted.{cases_Option}
 use Rattle.version_parts.proofs.NumeralReading.{numeral_printed, unsigned_complete, unsigned_sound}
 use Rattle.version_parts.proofs.Spelled.{all_weaker, of_body, of_metadata, of_optional, of_release}
-use Rattle.version_parts.proofs.WholeReading.{read_whole, spelled_once, spelled_utf8, whole_read, whole_spelled}
+use Rattle.version_parts.proofs.WholeReading.{read_whole, spelled_once, whole_read, whole_spelled}
 use Rattle.versions.specs.Version.{PlainVersion, SpellsEpoch, SpellsVersion, epoch_front, epoch_text, plain_version, version_front, version_of, version_text}
 use Rattle.versions.proofs.SemVerReading.{optional_begins, optional_printed}
 use Rattle.versions.proofs.SpelledTexts.{of_version}
@@ -274,7 +274,3 @@ version_printed text v s =
 
 pub version_ascii : (text : List ℕ) (v : PlainVersion) → SpellsVersion text v → IsAscii text
 version_ascii = of_version IsAscii IsAscii-nil IsAscii-append metadata_run_ascii sign_ascii
-
--- a text that spells a version is UTF-8
-pub version_of-IsUtf8 : (text : List ℕ) → IsSome (version_of text) → IsUtf8 text
-version_of-IsUtf8 = spelled_utf8 plain_version SpellsVersion version_of version_of-spells version_of-Some version_ascii
