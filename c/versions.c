@@ -17,6 +17,8 @@ int proved_versions_sort_key(const char *text, size_t text_len, uint8_t *key, si
 size_t proved_versions_sort_key_bound(size_t text_len);
 int proved_versions_matches(const char *list, size_t list_len, const char *text, size_t text_len, bool *matches);
 int proved_versions_nth(const char *text, size_t text_len, size_t n, uint32_t *number);
+int proved_versions_epoch(const char *text, size_t text_len, uint32_t *epoch);
+int proved_versions_is_prerelease(const char *text, size_t text_len, bool *is_prerelease);
 int proved_versions_kinds(const char *texts, size_t texts_len, const int64_t *offsets, size_t offsets_len,
                           uint8_t *kinds, size_t kinds_len);
 int proved_versions_sort_keys(const char *texts, size_t texts_len, const int64_t *offsets, size_t offsets_len,
@@ -71,6 +73,16 @@ int versions_nth(const char *text, size_t text_len, size_t n, uint32_t *number) 
   return proved_versions_nth(from(text), text_len, n, number);
 }
 
+int versions_epoch(const char *text, size_t text_len, uint32_t *epoch) {
+  if (lacks(text, text_len) || epoch == NULL) return VERSIONS_NULL;
+  return proved_versions_epoch(from(text), text_len, epoch);
+}
+
+int versions_is_prerelease(const char *text, size_t text_len, bool *is_prerelease) {
+  if (lacks(text, text_len) || is_prerelease == NULL) return VERSIONS_NULL;
+  return proved_versions_is_prerelease(from(text), text_len, is_prerelease);
+}
+
 int versions_kinds(const char *texts, size_t texts_len, const int64_t *offsets, size_t offsets_len, uint8_t *kinds,
                    size_t kinds_len) {
   if (lacks(texts, texts_len) || lacks(offsets, offsets_len) || lacks(kinds, kinds_len)) return VERSIONS_NULL;
@@ -114,7 +126,7 @@ const char *versions_status_text(int status) {
     case VERSIONS_NO_VERSION_B: return "the second text is no version";
     case VERSIONS_NO_VERSION_AB: return "neither text is a version";
     case VERSIONS_NO_REQUIREMENTS: return "the list is no list of requirements";
-    case VERSIONS_NO_NUMBER: return "the version has no number at that place";
+    case VERSIONS_NO_NUMBER: return "the version has no number at that place, or no epoch";
     case VERSIONS_NO_ROOM: return "there is too little room for the keys";
     case VERSIONS_BAD_OFFSETS: return "an offset is bad, or the lengths of two arrays don't fit";
     case VERSIONS_NO_MEMORY: return "there is no memory";

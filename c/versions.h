@@ -56,7 +56,7 @@ extern "C" {
 #define VERSIONS_NO_VERSION_B 3    /* of two texts, the second is no version */
 #define VERSIONS_NO_VERSION_AB 4   /* neither of two texts is a version */
 #define VERSIONS_NO_REQUIREMENTS 5 /* the list is no list of requirements */
-#define VERSIONS_NO_NUMBER 6       /* the version has no number at that place */
+#define VERSIONS_NO_NUMBER 6       /* the version has no number at that place, or no epoch */
 #define VERSIONS_NO_ROOM 7         /* there is too little room for the keys */
 #define VERSIONS_BAD_OFFSETS 8     /* an offset is bad, or the lengths of two arrays don't fit */
 #define VERSIONS_NO_MEMORY 9       /* returned by no call, since none takes memory */
@@ -122,6 +122,20 @@ int versions_matches(const char *list, size_t list_len, const char *text, size_t
  * Returns VERSIONS_OK, VERSIONS_NO_VERSION or VERSIONS_NO_NUMBER.
  */
 int versions_nth(const char *text, size_t text_len, size_t n, uint32_t *number);
+
+/*
+ * The epoch of a general version: the number before its colon, as 1 of 1:2.0-3.
+ * Returns VERSIONS_OK, VERSIONS_NO_VERSION, or VERSIONS_NO_NUMBER for a general version without an epoch and for every
+ * version of another kind.
+ */
+int versions_epoch(const char *text, size_t text_len, uint32_t *epoch);
+
+/*
+ * Whether a version is a pre-release: *is_prerelease becomes true for an ideal version with a pre-release, as
+ * 1.2.0-rc.1 (SemVer 2.0, section 9), and false for every other version.
+ * Returns VERSIONS_OK or VERSIONS_NO_VERSION.
+ */
+int versions_is_prerelease(const char *text, size_t text_len, bool *is_prerelease);
 
 /*
  * The kind of each of n texts, as versions_kind gives it: offsets_len is n + 1, and kinds_len is n.

@@ -136,6 +136,26 @@ static uint8_t *key_of(const char *text, size_t length, size_t *key_length) {
   return key;
 }
 
+// The epoch of a text of this kind, by the text: general versions alone have one, and a colon only after it.
+static void check_epoch(const char *text, size_t length, int kind) {
+  bool has_one = kind == VERSIONS_GENERAL && memchr(text, ':', length) != NULL;
+  int missing = kind == VERSIONS_NONE ? VERSIONS_NO_VERSION : VERSIONS_NO_NUMBER;
+  uint32_t wanted = has_one ? 0 : 77, epoch = 77;
+  for (size_t i = 0; has_one && text[i] != ':'; i++) wanted = 10 * wanted + (uint32_t)(text[i] - '0');
+  CHECK(versions_epoch(text, length, &epoch) == (has_one ? VERSIONS_OK : missing));
+  CHECK(epoch == wanted);
+}
+
+// Whether a text of this kind is a pre-release, by the text: an ideal version with a hyphen before any plus sign.
+static void check_prerelease(const char *text, size_t length, int kind) {
+  const char *plus = (const char *)memchr(text, '+', length);
+  size_t until = plus != NULL ? (size_t)(plus - text) : length;
+  bool wanted = kind == VERSIONS_IDEAL && memchr(text, '-', until) != NULL, answer = !wanted;
+  int status = versions_is_prerelease(text, length, &answer);
+  CHECK(status == (kind == VERSIONS_NONE ? VERSIONS_NO_VERSION : VERSIONS_OK));
+  CHECK(answer == (kind == VERSIONS_NONE ? !wanted : wanted));
+}
+
 static void show(const struct lines *lines) {
   static const char *const names[] = {"none", "ideal", "general", "complex"};
   size_t count = lines->count, behind = 0;
@@ -188,6 +208,8 @@ static void show(const struct lines *lines) {
       }
     }
     printf("\n");
+    check_epoch(text, length, kind);
+    check_prerelease(text, length, kind);
     release(text);
   }
   CHECK(behind == all);
@@ -417,7 +439,12 @@ static void refused_null_pointers(void) {
   CHECK(versions_nth(NULL, 1, 0, &number) == VERSIONS_NULL);
   CHECK(versions_nth("1", 1, 0, NULL) == VERSIONS_NULL);
   CHECK(versions_nth("", 0, 0, NULL) == VERSIONS_NULL);
+  CHECK(versions_epoch(NULL, 1, &number) == VERSIONS_NULL);
+  CHECK(versions_epoch("1:2", 3, NULL) == VERSIONS_NULL);
   CHECK(number == 77);
+  CHECK(versions_is_prerelease(NULL, 1, &matches) == VERSIONS_NULL);
+  CHECK(versions_is_prerelease("1.2.3", 5, NULL) == VERSIONS_NULL);
+  CHECK(matches);
 
   CHECK(versions_kinds(NULL, 5, offsets, 2, answers, 1) == VERSIONS_NULL);
   CHECK(versions_kinds("1.2.3", 5, NULL, 2, answers, 1) == VERSIONS_NULL);
@@ -495,6 +522,30 @@ static void edges(void) {
   CHECK(versions_nth("1.7d-15", 7, 1, &number) == VERSIONS_OK && number == 7);
   CHECK(versions_nth("2rc1", 4, 0, &number) == VERSIONS_OK && number == 2);
   CHECK(versions_nth("1.7d.3", 6, 1, &number) == VERSIONS_NO_NUMBER && number == 2);
+
+  // Epochs, which general versions alone have. 4294967296 is no number below 2^32, and 1:2:3 is complex.
+  number = 77;
+  CHECK(versions_epoch(NULL, 0, &number) == VERSIONS_NO_VERSION);
+  CHECK(versions_epoch("1:", 2, &number) == VERSIONS_NO_VERSION);
+  CHECK(versions_epoch("1.2.3", 5, &number) == VERSIONS_NO_NUMBER);
+  CHECK(versions_epoch("1.2", 3, &number) == VERSIONS_NO_NUMBER);
+  CHECK(versions_epoch("1:2:3", 5, &number) == VERSIONS_NO_NUMBER);
+  CHECK(versions_epoch("4294967296:1", 12, &number) == VERSIONS_NO_NUMBER);
+  CHECK(number == 77);
+  CHECK(versions_epoch("1:2.0rc1-3", 10, &number) == VERSIONS_OK && number == 1);
+  CHECK(versions_epoch("0:7", 3, &number) == VERSIONS_OK && number == 0);
+  CHECK(versions_epoch("4294967295:1", 12, &number) == VERSIONS_OK && number == UINT32_MAX);
+
+  // Pre-releases, which strict versions alone are. Metadata is none.
+  matches = true;
+  CHECK(versions_is_prerelease("", 0, &matches) == VERSIONS_NO_VERSION && matches);
+  CHECK(versions_is_prerelease("1.2.3-", 6, &matches) == VERSIONS_NO_VERSION && matches);
+  CHECK(versions_is_prerelease("1.2.3", 5, &matches) == VERSIONS_OK && !matches);
+  CHECK(versions_is_prerelease("1.2.3-rc.1", 10, &matches) == VERSIONS_OK && matches);
+  CHECK(versions_is_prerelease("1.2.3+a-b", 9, &matches) == VERSIONS_OK && !matches);
+  CHECK(versions_is_prerelease("1.2.3-0+a", 9, &matches) == VERSIONS_OK && matches);
+  CHECK(versions_is_prerelease("1.2-1", 5, &matches) == VERSIONS_OK && !matches);
+  CHECK(versions_is_prerelease("1.2.3-06", 8, &matches) == VERSIONS_OK && !matches);
 
   // Rooms. No text of three bytes has a longer key than 1_1.
   CHECK(versions_sort_key_bound(0) == 5);
@@ -691,6 +742,8 @@ static void without_memory(const struct lines *lines) {
     for (size_t place = 0; place < 4; place++) {
       CHECK((versions_nth(text, length, place, &number) == VERSIONS_NO_VERSION) == !is_version);
     }
+    check_epoch(text, length, answers[line]);
+    check_prerelease(text, length, answers[line]);
   }
   CHECK(versions_sort_keys(lines->texts, lines->length, lines->offsets, count + 1, keys, room, key_offsets,
                            count + 1) == VERSIONS_OK);

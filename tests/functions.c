@@ -66,6 +66,16 @@ int proved_versions_nth(const char *text, size_t text_len, size_t n, uint32_t *n
   return text_len == 0 && n == 7 && number != NULL ? PASSED : 0;
 }
 
+int proved_versions_epoch(const char *text, size_t text_len, uint32_t *epoch) {
+  check_pointer(text);
+  return text_len == 0 && epoch != NULL ? PASSED : 0;
+}
+
+int proved_versions_is_prerelease(const char *text, size_t text_len, bool *is_prerelease) {
+  check_pointer(text);
+  return text_len == 0 && is_prerelease != NULL ? PASSED : 0;
+}
+
 int proved_versions_kinds(const char *texts, size_t texts_len, const int64_t *offsets, size_t offsets_len,
                           uint8_t *kinds, size_t kinds_len) {
   check_pointer(texts);
@@ -107,6 +117,8 @@ static void null_pointers(void) {
   check("sort_key_bound", versions_sort_key_bound(77) == 77);
   check("matches", versions_matches(NULL, 0, NULL, 0, &matches) == PASSED);
   check("nth", versions_nth(NULL, 0, 7, &number) == PASSED);
+  check("epoch", versions_epoch(NULL, 0, &number) == PASSED);
+  check("is_prerelease", versions_is_prerelease(NULL, 0, &matches) == PASSED);
   check("kinds", versions_kinds(NULL, 0, NULL, 0, NULL, 0) == PASSED);
   check("sort_keys", versions_sort_keys(NULL, 0, NULL, 0, NULL, 0, NULL, 0) == PASSED);
   check("sort", versions_sort(NULL, 0, NULL, 0, NULL, 0, NULL, 0, NULL, 0) == PASSED);

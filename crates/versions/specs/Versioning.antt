@@ -2,7 +2,7 @@
 use Rattle.std.specs.Prelude.{◌≡◌, ℕ, Bool, true, false, List, ◌++◌, ◌==◌, if◌then◌else◌, Option, Some, None}
 use Rattle.std.specs.Hash as fed
 use Rattle.std.specs.Hash.{HashWrites}
-use Rattle.std.specs.Option.{option_map, option_or}
+use Rattle.std.specs.Option.{is_some, option_map, option_or}
 use Rattle.std.specs.Ordering.{nat_cmp}
 use Rattle.std.specs.declared.cmp.Ordering.{Ordering}
 use Rattle.version_parts.specs.Front.{Front, map_value}
@@ -73,6 +73,16 @@ abbrev pub versioning_nth : PlainVersioning → ℕ → Option ℕ
 versioning_nth (Ideal v) n = semver_nth v n
 versioning_nth (General v) n = version_nth v n
 versioning_nth (Complex m) n = nth_number m n
+
+-- the number before the colon of a general version; a version of another kind has no epoch of its own
+abbrev pub versioning_epoch : PlainVersioning → Option ℕ
+versioning_epoch (General v) = v.epoch
+versioning_epoch _ = None
+
+-- whether it is a pre-release, which only a strict version can be (SemVer 2.0, section 9)
+abbrev pub is_prerelease : PlainVersioning → Bool
+is_prerelease (Ideal v) = is_some v.pre_rel
+is_prerelease _ = false
 
 -- the place of a kind among the three
 abbrev pub kind_rank : PlainVersioning → ℕ

@@ -13,7 +13,7 @@ ghost use Rattle.versions.specs.Orders.{versioning_cmp};
 ghost use Rattle.versions.specs.OrdersLaws.{versioning_cmp_ties, versioning_cmp_total};
 ghost use Rattle.versions.specs.TailRef.{tail_ref};
 ghost use Rattle.versions.specs.VersioningRef.{plain_versioning_ref};
-ghost use Rattle.versions.specs.Versioning.{kind_rank, plain_versioning, versioning_nth, versioning_of, versioning_plain_cmp, versioning_text, VersioningOwns};
+ghost use Rattle.versions.specs.Versioning.{is_prerelease, kind_rank, plain_versioning, versioning_epoch, versioning_nth, versioning_of, versioning_plain_cmp, versioning_text, VersioningOwns};
 ghost use Rattle.versions.specs.VersioningLaws.{versioning_plain_total};
 
 use crate::key::KeyBytes;
@@ -90,6 +90,28 @@ impl<'a> VersioningRef<'a> {
             VersioningRef::Ideal(ideal) => ideal.nth(n),
             VersioningRef::General(general) => general.nth(n),
             VersioningRef::Complex(complex) => complex.nth(n),
+        }
+    }
+
+    /// The epoch of a general version: the number before its colon. None for a general version without an epoch, and for
+    /// every strict or messy version. Doesn't allocate.
+    pub fn epoch(&self) -> Option<u32>
+        ensures { result ≡ versioning_epoch (plain_versioning_ref self.now) }
+    {
+        match self {
+            VersioningRef::General(general) => general.epoch,
+            _ => None,
+        }
+    }
+
+    /// Whether it is a strict version with a pre-release, such as `1.2.0-rc.1` (SemVer 2.0, section 9). False for every
+    /// general or messy version: their texts don't say which of them are pre-releases. Doesn't allocate.
+    pub fn is_prerelease(&self) -> bool
+        ensures { result ≡ is_prerelease (plain_versioning_ref self.now) }
+    {
+        match self {
+            VersioningRef::Ideal(ideal) => ideal.pre_rel.is_some(),
+            _ => false,
         }
     }
 

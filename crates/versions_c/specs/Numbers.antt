@@ -1,9 +1,9 @@
 -- The numbers of a version.
 use Rattle.std.specs.Prelude.{ℕ, ℤ, Option, Some, None, is_some, if◌then◌else◌}
-use Rattle.versions.specs.Versioning.{PlainVersioning, versioning_nth}
+use Rattle.versions.specs.Versioning.{PlainVersioning}
 use Rattle.versions_c.specs.declared.status.TheConstants.{OK, NO_NUMBER, NO_VERSION}
 
--- what is said of a text and a place
-abbrev pub nth_status : Option PlainVersioning → ℕ → ℤ
-nth_status None n = NO_VERSION
-nth_status (Some v) n = if is_some (versioning_nth v n) then OK else NO_NUMBER
+-- the status for a text, by the number that its version has or lacks
+abbrev pub number_status : Option PlainVersioning → (PlainVersioning → Option ℕ) → ℤ
+number_status None number = NO_VERSION
+number_status (Some v) number = if is_some (number v) then OK else NO_NUMBER

@@ -1,13 +1,14 @@
 //! Which kind a text is.
 
-ghost use Rattle.std.specs.Prelude.{◌≡◌, ◌<◌, ℕ, length, pos, slice_index};
-ghost use Rattle.versions.specs.Versioning.{versioning_of};
-ghost use Rattle.versions_c.specs.Kinds.{kind_of};
+ghost use Rattle.std.specs.Prelude.{◌≡◌, ◌≢◌, ◌<◌, ℕ, if◌then◌else◌, length, pos, slice_index, IfSome};
+ghost use Rattle.versions.specs.Versioning.{is_prerelease, versioning_of};
+ghost use Rattle.versions_c.specs.Kinds.{kind_of, version_status};
 ghost use Rattle.versions_c.specs.Offsets.{text_at, AreOffsets};
 
 use crate::offsets::{are_offsets, text_at};
 use crate::spelled::kind_of;
-use crate::status::{BAD_OFFSETS, OK};
+use crate::status::{BAD_OFFSETS, NO_VERSION, OK};
+use versions::VersioningRef;
 
 /// The kind of a text.
 #[unsafe(no_mangle)]
@@ -15,6 +16,21 @@ pub extern "C" fn versions_kind(text: &[u8]) -> i32
     ensures { result ≡ pos (kind_of (versioning_of text.now)) }
 {
     kind_of(text) as i32
+}
+
+/// Whether a version is a pre-release.
+#[unsafe(no_mangle)]
+pub extern "C" fn versions_is_prerelease(text: &[u8], answer: &mut u8) -> i32
+    ensures status { result ≡ version_status (versioning_of text.now) }
+    ensures answer { result ≡ OK → IfSome (versioning_of text.now)
+        (λ v. answer.new ≡ (if is_prerelease v then 1 else 0)) }
+    ensures kept { result ≢ OK → answer.new ≡ answer.old }
+{
+    let Some(version) = VersioningRef::from_bytes(text) else {
+        return NO_VERSION;
+    };
+    *answer = version.is_prerelease() as u8;
+    OK
 }
 
 /// The kind of each text.
