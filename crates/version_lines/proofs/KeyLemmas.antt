@@ -1,21 +1,16 @@
 -- The keys of what lines and words spell.
-use Rattle.std.proofs.Common.{◌≡◌, ◌∙◌, ℕ, ◌/◌, ◌%◌, ◌<◌, false, not, List, [], ◌∷◌, ◌++◌, length, length-append, map, replicate, Option, Some, None, is_some, ap, arith, sym}
+use Rattle.std.proofs.Common.{◌≡◌, ℕ, ◌/◌, ◌%◌, ◌<◌, false, not, List, [], ◌∷◌, ◌++◌, length, length-append, map, replicate, Option, Some, None, is_some, ap, arith, sym}
 use Rattle.std.specs.Char.{digit_char}
 use Rattle.std.specs.Int.Digits.{digits_of}
-use Rattle.std.specs.Option.{option_map, option_map_or}
-use Rattle.std.specs.declared.cmp.Ordering.{Ordering}
-use Rattle.version_lines.specs.Comparison.{comparison_line, sign_text}
-use Rattle.version_lines.specs.Lines.{line_feed}
+use Rattle.std.specs.Option.{option_map_or}
 use Rattle.version_lines.specs.Sort.{is_bad}
 use Rattle.version_lines.specs.Spelled.{line_key}
-use Rattle.version_parts.specs.Lists.{bytes_cmp}
 use Rattle.version_parts.specs.NumberBytes.{length_bytes, number_bytes}
 use Rattle.version_parts.specs.PartKey.{parts_bytes}
 use Rattle.versions.specs.Key.{Key, key_of}
 use Rattle.versions.specs.KeyBytes.{key_bytes}
 use Rattle.versions.specs.Tail.{tail_bytes}
 use Rattle.versions.specs.Versioning.{PlainVersioning, versioning_of}
-use Rattle.versions.proofs.Orders.{key_bytes_alone}
 
 -- the key of a line, by the version that it spells
 

@@ -1,12 +1,12 @@
 -- General versions: their front reads what is spelled and nothing else, and they print as they are spelled.
-use Rattle.std.proofs.Common.{◌≡◌, ◌==◌, ◌∙◌, ℕ, Bool, true, false, not, List, [], ◌∷◌, ◌++◌, Option, Some, None, IsSome, refl, sym, ap, subst, arith, inl, inr, append-nil, append_assoc}
+use Rattle.std.proofs.Common.{◌≡◌, ◌==◌, ◌∙◌, ℕ, Bool, true, false, not, List, [], ◌∷◌, ◌++◌, Option, Some, None, refl, sym, ap, subst, arith, inl, inr, append-nil, append_assoc}
 use Rattle.std.proofs.lemmas.Bool.{cases_Bool, eqb-true}
 use Rattle.std.proofs.lemmas.Bool.Decides.{nat_tests}
 use Rattle.std.proofs.lemmas.Str.{IsAscii-append}
 use Rattle.std.specs.Char.{is_ascii_alphanumeric}
 use Rattle.std.specs.Cmp.{first_so, second_so}
 use Rattle.std.specs.List.{list_all}
-use Rattle.std.specs.Str.{IsAscii, IsUtf8}
+use Rattle.std.specs.Str.{IsAscii}
 use Rattle.version_parts.specs.Body.{PlainBody, SpellsBody, body_front}
 use Rattle.version_parts.specs.Bytes.{colon, dot, hyphen, is_identifier_byte, is_metadata_byte, plus}
 use Rattle.version_parts.specs.Chunk.{Numeric, chunk_front}
@@ -24,7 +24,7 @@ use Rattle.version_parts.proofs.Dotted.{cases_Option}
 use Rattle.version_parts.proofs.NumeralReading.{numeral_printed, unsigned_complete, unsigned_sound}
 use Rattle.version_parts.proofs.Spelled.{all_weaker, of_body, of_metadata, of_optional, of_release}
 use Rattle.version_parts.proofs.WholeReading.{read_whole, spelled_once, whole_read, whole_spelled}
-use Rattle.versions.specs.Version.{PlainVersion, SpellsEpoch, SpellsVersion, epoch_front, epoch_text, plain_version, version_front, version_of, version_text}
+use Rattle.versions.specs.Version.{PlainVersion, SpellsEpoch, SpellsVersion, epoch_front, epoch_text, version_front, version_of, version_text}
 use Rattle.versions.proofs.SemVerReading.{optional_begins, optional_printed}
 use Rattle.versions.proofs.SpelledTexts.{of_version}
 
