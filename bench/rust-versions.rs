@@ -1,6 +1,6 @@
-//! The Rust crate `versions` 8.0.1 as a program with the commands `ideal`, `show`, `sort` and `match` of `vers`, for
-//! the scripts that compare the two. It is the `src/main.rs` of a project with the dependency `versions = "=8.0.1"`,
-//! built by `cargo build --release`.
+//! The Rust crate `versions` 8.0.1 as a program with the commands `ideal`, `show`, `sort` and
+//! `match` of `vers`, for the scripts that compare the two. It is the `src/main.rs` of a project
+//! with the dependency `versions = "=8.0.1"`, built by `cargo build --release`.
 
 use std::io::{self, BufWriter, Read, Write};
 use versions::{Requirement, SemVer, Versioning};
@@ -24,14 +24,17 @@ fn main() -> io::Result<()> {
             None => writeln!(out, "none"),
         }),
         "sort" => {
-            let mut versions: Vec<Versioning> = lines.map(|line| Versioning::new(line).unwrap()).collect();
+            let mut versions: Vec<Versioning> =
+                lines.map(|line| Versioning::new(line).unwrap()).collect();
             versions.sort();
             versions.iter().try_for_each(|v| writeln!(out, "{v}"))
         }
         "match" => {
             let wanted = Requirement::new(&words[1]).unwrap();
             let is_wanted = |line: &str| Versioning::new(line).is_some_and(|v| wanted.matches(&v));
-            lines.filter(|line| is_wanted(line)).try_for_each(|line| writeln!(out, "{line}"))
+            lines
+                .filter(|line| is_wanted(line))
+                .try_for_each(|line| writeln!(out, "{line}"))
         }
         word => panic!("no such command: {word}"),
     }
