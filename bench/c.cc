@@ -1,6 +1,5 @@
-// Times the calls of versions.h on the lines of standard input, in nanoseconds of the processor's time, and beside them
-// the comparisons of librpm and of libapt-pkg, where bench/c found these. One call of a comparison takes a line and the
-// one behind it.
+// Times the calls of versions.h on the lines of standard input, in nanoseconds of processor time, and the comparisons
+// of librpm and of libapt-pkg if bench/c found their headers. A comparison takes a line and the next.
 #include <versions.h>
 
 #include <cstdio>
@@ -18,7 +17,7 @@
 
 static std::vector<std::string> lines;
 
-// The sum of what the calls answer, so that none is left out.
+// The sum of the results, so that the compiler leaves no call out.
 static volatile long answers;
 
 static double seconds() {

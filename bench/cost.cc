@@ -1,9 +1,9 @@
 // Makes one call of versions.h, or a comparison of librpm or libapt-pkg, on the lines of standard input, for bench/cost
 // to count its instructions:
 //   cost CALL ROUNDS
-// A round makes the call for each line; a comparison takes the line and the next, and behind the last the first. A round
-// of versions_sort_keys or versions_sort is one call for all lines, and one of qsort is versions_sort_keys and the C
-// library's sort by the keys, with ties by place.
+// A round makes the call for each line. A comparison takes a line and the next, and the last line and the first.
+// A round of versions_sort_keys or versions_sort is one call for all lines. A round of qsort is versions_sort_keys and
+// the C library's sort by the keys, with ties by place.
 #include <versions.h>
 
 #include <algorithm>
@@ -19,10 +19,10 @@
 #include <apt-pkg/debversion.h>
 #endif
 
-// The sum of what the calls answer, so that none is left out.
+// The sum of the results, so that the compiler leaves no call out.
 static volatile long answers;
 
-// What a call answers for a line and the next.
+// The result of a call for a line and the next.
 using Call = long (*)(const std::string &, const std::string &);
 
 static long kind(const std::string &a, const std::string &) { return versions_kind(a.data(), a.size()); }
@@ -73,7 +73,7 @@ static const struct {
 #endif
 };
 
-// All lines in one buffer, and the rooms for what is made of them.
+// All lines in one buffer, and the buffers for the results.
 static std::string texts;
 static std::vector<int64_t> offsets{0}, key_offsets;
 static std::vector<uint8_t> keys;

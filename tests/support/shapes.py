@@ -120,13 +120,13 @@ class Shapes:
         return self.random.choice((self.strict, self.general, self.messy))()
 
     def odd(self):
-        """A good line with one piece between that no version has."""
+        """A good line with an added piece that no version has."""
         line = self.good().encode()
         at = self.random.randrange(len(line) + 1)
         return line[:at] + self.random.choice(ODD) + line[at:]
 
     def spoiled(self):
-        """A good line of which a byte or two went, came, changed places, or came twice."""
+        """A good line with a byte or two deleted, added, swapped or doubled."""
         line = bytearray(self.good().encode())
         for _ in range(self.random.randrange(1, 3)):
             at = self.random.randrange(len(line)) if line else 0
@@ -167,13 +167,13 @@ class Shapes:
         return list(lines)
 
     def requirements(self):
-        """Operators, and the strict versions behind them."""
+        """Operators, and the strict versions after them."""
         drawn = [self.strict() for _ in range(VERSIONS_OF_EACH_OPERATOR * len(OPERATORS))]
         pairs = list(zip(OPERATORS * VERSIONS_OF_EACH_OPERATOR, drawn))
         return pairs + [(op, version) for op in OPERATORS for version in USUAL] + [("*", "")]
 
     def requirement_texts(self, lines):
-        """Operators, right and wrong ones, and lines behind them that can be a program's words."""
+        """Operators, right and wrong ones, and lines after them that can be a program's words."""
         operators = (*OPERATORS, *OPERATORS, "*", "", "=>", "==", "!=", "> ")
         words = [line for line in self.random.sample(lines, len(lines) // 2) if line.isascii() and b"\0" not in line]
         return [(self.random.choice(operators), word) for word in words[:REQUIREMENT_TEXTS]] + [("*", b"")]
