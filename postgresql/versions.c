@@ -88,7 +88,7 @@ static const char *quoted(Span span) {
 /* Only a file that was damaged has such a value of the type. */
 static void report_damage(Span span) {
   ereport(ERROR,
-          (errcode(ERRCODE_DATA_CORRUPTED), errmsg("a value of type version is no version: %s", quoted(span))));
+          (errcode(ERRCODE_DATA_CORRUPTED), errmsg("a value of type version is not a version: %s", quoted(span))));
 }
 
 /* Keys. */
