@@ -1,5 +1,5 @@
-// Ways in which a program may use the header's names. tests/c compiles this with every warning, in each standard of C and
-// C++, links the library, and runs it.
+// Ways in which a program may use the header's names. tests/c compiles this with every warning, in each standard of C
+// and C++, links the library, and runs it.
 #include <versions.h>
 #include <versions.h>  // Including it twice is allowed.
 
