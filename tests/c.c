@@ -108,37 +108,37 @@ static size_t length_of(const struct lines *lines, size_t line) {
 // The key of a text in a block of exactly its length, or NULL. Checks that a buffer of size 0, or one byte too small,
 // stays unchanged, and that nothing after the key is written.
 static uint8_t *key_of(const char *text, size_t length, size_t *key_length) {
-  size_t bound = versions_sort_key_bound(length), told = 77;
-  int status = versions_sort_key(text, length, NULL, 0, &told);
+  size_t bound = versions_sort_key_bound(length), needed = 77;
+  int status = versions_sort_key(text, length, NULL, 0, &needed);
   if (status == VERSIONS_NO_VERSION) {
-    CHECK(told == 77);
+    CHECK(needed == 77);
     CHECK(versions_kind(text, length) == VERSIONS_NONE);
     return NULL;
   }
   CHECK(status == VERSIONS_NO_ROOM);
-  CHECK(0 < told && told <= bound);
-  *key_length = told;
+  CHECK(0 < needed && needed <= bound);
+  *key_length = needed;
 
-  uint8_t *key = (uint8_t *)block(told);
-  memset(key, 170, told);
-  CHECK(versions_sort_key(text, length, key, told - 1, key_length) == VERSIONS_NO_ROOM);
-  CHECK(*key_length == told);
-  for (size_t i = 0; i < told; i++) CHECK(key[i] == 170);
-  CHECK(versions_sort_key(text, length, key, told, key_length) == VERSIONS_OK);
-  CHECK(*key_length == told);
+  uint8_t *key = (uint8_t *)block(needed);
+  memset(key, 170, needed);
+  CHECK(versions_sort_key(text, length, key, needed - 1, key_length) == VERSIONS_NO_ROOM);
+  CHECK(*key_length == needed);
+  for (size_t i = 0; i < needed; i++) CHECK(key[i] == 170);
+  CHECK(versions_sort_key(text, length, key, needed, key_length) == VERSIONS_OK);
+  CHECK(*key_length == needed);
 
   uint8_t *other = (uint8_t *)block(bound + 3);
   memset(other, 170, bound + 3);
   CHECK(versions_sort_key(text, length, other, bound + 3, key_length) == VERSIONS_OK);
-  CHECK(*key_length == told && memcmp(key, other, told) == 0);
-  for (size_t i = told; i < bound + 3; i++) CHECK(other[i] == 170);
+  CHECK(*key_length == needed && memcmp(key, other, needed) == 0);
+  for (size_t i = needed; i < bound + 3; i++) CHECK(other[i] == 170);
   release(other);
   return key;
 }
 
 static void show(const struct lines *lines) {
   static const char *const names[] = {"none", "ideal", "general", "complex"};
-  size_t count = lines->count, behind = 0;
+  size_t count = lines->count, key_end = 0;
   uint8_t *kinds = (uint8_t *)block(count);
   int64_t *key_offsets = (int64_t *)block((count + 1) * sizeof(int64_t));
   CHECK(versions_kinds(lines->texts, lines->length, lines->offsets, count + 1, kinds, count) == VERSIONS_OK);
@@ -162,19 +162,19 @@ static void show(const struct lines *lines) {
     memcpy(text, text_of(lines, line), length);
     int kind = versions_kind(text, length);
     CHECK(kind == kinds[line]);
-    CHECK((size_t)key_offsets[line] == behind);
+    CHECK((size_t)key_offsets[line] == key_end);
     printf("%s", names[kind]);
 
     uint8_t *key = key_of(text, length, &key_length);
     CHECK((key != NULL) == (kind != VERSIONS_NONE));
     if (key != NULL) {
       CHECK(key_length == (size_t)(key_offsets[line + 1] - key_offsets[line]));
-      CHECK(memcmp(key, keys + behind, key_length) == 0);
+      CHECK(memcmp(key, keys + key_end, key_length) == 0);
       printf(" ");
       for (size_t i = 0; i < key_length; i++) printf("%02x", key[i]);
     }
     release(key);
-    behind = (size_t)key_offsets[line + 1];
+    key_end = (size_t)key_offsets[line + 1];
 
     for (size_t place = 0; place < 4; place++) {
       uint32_t number = 77;
@@ -190,7 +190,7 @@ static void show(const struct lines *lines) {
     printf("\n");
     release(text);
   }
-  CHECK(behind == all);
+  CHECK(key_end == all);
   release(kinds);
   release(keys);
   release(key_offsets);
@@ -258,13 +258,13 @@ static void match(const struct lines *lines, const char *list) {
 
 static void sort(const struct lines *lines) {
   size_t count = lines->count;
-  int64_t *told = (int64_t *)block((count + 1) * sizeof(int64_t));
+  int64_t *needed = (int64_t *)block((count + 1) * sizeof(int64_t));
   int64_t *key_offsets = (int64_t *)block((count + 1) * sizeof(int64_t));
   uint64_t *order = (uint64_t *)block(count * sizeof(uint64_t));
-  versions_sort_keys(lines->texts, lines->length, lines->offsets, count + 1, NULL, 0, told, count + 1);
-  size_t all = (size_t)told[count];
+  versions_sort_keys(lines->texts, lines->length, lines->offsets, count + 1, NULL, 0, needed, count + 1);
+  size_t all = (size_t)needed[count];
   uint8_t *wanted = (uint8_t *)block(all), *keys = (uint8_t *)block(all + 3);
-  CHECK(versions_sort_keys(lines->texts, lines->length, lines->offsets, count + 1, wanted, all, told, count + 1) ==
+  CHECK(versions_sort_keys(lines->texts, lines->length, lines->offsets, count + 1, wanted, all, needed, count + 1) ==
         VERSIONS_OK);
 
   // If the buffer is one byte too small, nothing is sorted, but the needed size is returned.
@@ -272,7 +272,7 @@ static void sort(const struct lines *lines) {
   if (all > 0) {
     CHECK(versions_sort(lines->texts, lines->length, lines->offsets, count + 1, keys, all - 1, key_offsets, count + 1,
                         order, count) == VERSIONS_NO_ROOM);
-    CHECK(memcmp(key_offsets, told, (count + 1) * sizeof(int64_t)) == 0);
+    CHECK(memcmp(key_offsets, needed, (count + 1) * sizeof(int64_t)) == 0);
     for (size_t i = 0; i < count; i++) CHECK(order[i] == 77);
   }
 
@@ -281,7 +281,7 @@ static void sort(const struct lines *lines) {
   memset(key_offsets, 0, (count + 1) * sizeof(int64_t));
   CHECK(versions_sort(lines->texts, lines->length, lines->offsets, count + 1, keys, all + 3, key_offsets, count + 1,
                       order, count) == VERSIONS_OK);
-  CHECK(memcmp(key_offsets, told, (count + 1) * sizeof(int64_t)) == 0);
+  CHECK(memcmp(key_offsets, needed, (count + 1) * sizeof(int64_t)) == 0);
   CHECK(memcmp(keys, wanted, all) == 0);
   for (size_t i = all; i < all + 3; i++) CHECK(keys[i] == 170);
 
@@ -290,7 +290,7 @@ static void sort(const struct lines *lines) {
     fwrite(text_of(lines, order[i]), 1, length_of(lines, order[i]), stdout);
     printf("\n");
   }
-  release(told);
+  release(needed);
   release(key_offsets);
   release(order);
   release(wanted);
@@ -587,7 +587,7 @@ static void edges(void) {
 
 // Makes every call on a long text: a piece many times, and one more byte.
 static void long_text(const char *piece, size_t times, int kind, size_t key_length) {
-  size_t piece_length = strlen(piece), length = piece_length * times + 1, told = 0;
+  size_t piece_length = strlen(piece), length = piece_length * times + 1, needed = 0;
   char *text = (char *)block(length);
   for (size_t i = 0; i < times; i++) memcpy(text + i * piece_length, piece, piece_length);
   text[length - 1] = '1';
@@ -595,9 +595,9 @@ static void long_text(const char *piece, size_t times, int kind, size_t key_leng
   int32_t order = 77, total = 77;
   CHECK(versions_compare(text, length, text, length, &order) == VERSIONS_OK && order == 0);
   CHECK(versions_compare_total(text, length, text, length, &total) == VERSIONS_OK && total == 0);
-  CHECK(versions_sort_key(text, length, NULL, 0, &told) == VERSIONS_NO_ROOM && told == key_length);
-  uint8_t *key = (uint8_t *)block(told);
-  CHECK(versions_sort_key(text, length, key, told, &told) == VERSIONS_OK && told == key_length);
+  CHECK(versions_sort_key(text, length, NULL, 0, &needed) == VERSIONS_NO_ROOM && needed == key_length);
+  uint8_t *key = (uint8_t *)block(needed);
+  CHECK(versions_sort_key(text, length, key, needed, &needed) == VERSIONS_OK && needed == key_length);
   release(key);
   bool matches = false;
   CHECK(versions_matches("*", 1, text, length, &matches) == VERSIONS_OK && matches);
