@@ -1,10 +1,10 @@
-# Builds and installs the program, the library for C, the extension of SQLite, and the manual pages:
-#   make                             proves and builds what isn't built yet, or is older than its sources
-#   make install                     the same, and installs it below PREFIX, which is /usr/local where it isn't set
-#   make uninstall                   removes what `make install` with the same settings installs; folders stay
-# BINDIR, LIBDIR, INCLUDEDIR and MANDIR choose other folders than those below PREFIX. DESTDIR stands before each path,
-# and what is installed doesn't name it. C_LIBRARY is a folder that c/build has built, and VERS the program; what is set
-# is installed as it is. EXTENSION is the file in which the extension of SQLite is built.
+# Builds and installs the program, the C library, the SQLite extension and the manual pages:
+#   make                             proves and builds what is missing or older than its sources
+#   make install                     does the same, and installs everything below PREFIX, by default /usr/local
+#   make uninstall                   removes the files that `make install` with the same settings installs
+# BINDIR, LIBDIR, INCLUDEDIR and MANDIR choose other folders than those below PREFIX. DESTDIR is prepended to each path,
+# and no installed file contains it. C_LIBRARY is a folder of c/build, and VERS the program; if set, they are installed
+# unchanged. EXTENSION is the file that the SQLite extension is built into.
 PREFIX ?= /usr/local
 BINDIR ?= $(PREFIX)/bin
 LIBDIR ?= $(PREFIX)/lib
@@ -12,7 +12,7 @@ INCLUDEDIR ?= $(PREFIX)/include
 MANDIR ?= $(PREFIX)/share/man
 EXTENSION ?= sqlite/out/versions.so
 
-# sources CRATE ..: what a crate is made from
+# sources CRATE ..: the files of crates
 sources = $(shell find $(addprefix crates/,$(1)) -name out -prune -o -type f -print)
 
 ifndef C_LIBRARY
@@ -28,7 +28,7 @@ $(VERS): crates.txt $(call sources,version_parts versions version_lines vers)
 	touch $(VERS)
 endif
 
-# Two proofs can't go on in one crate at once.
+# Two proofs cannot run in one crate at once.
 .NOTPARALLEL:
 .DEFAULT_GOAL := all
 .PHONY: all install uninstall
@@ -37,7 +37,7 @@ all: $(C_LIBRARY)/versions.pc $(VERS) $(EXTENSION)
 $(EXTENSION): sqlite/build sqlite/versions.c $(C_LIBRARY)/versions.pc
 	C_LIBRARY='$(C_LIBRARY)' sqlite/build $(@D)
 
-# The folders, and where the others lie from that of versions.pc, so that the whole can be moved.
+# The folders. versions.pc names them by paths relative to its own, so that the installed tree can be moved.
 bin = $(DESTDIR)$(BINDIR)
 lib = $(DESTDIR)$(LIBDIR)
 include = $(DESTDIR)$(INCLUDEDIR)

@@ -1,14 +1,14 @@
 /*
- * versions.c: the functions of versions.h. Each refuses a null pointer where there should be something to read or to
- * write, and passes everything else to the proved function of crates/versions_c that answers.
+ * versions.c: the functions of versions.h. Each returns VERSIONS_NULL if a pointer is null that should point to
+ * something, and otherwise calls the proved function of crates/versions_c.
  */
 #include "versions.h"
 
 #include <cpuid.h>
 
 /*
- * The proved functions. In crates/versions_c they are named as the functions below; c/build puts proved_ before each
- * name. A slice of Rust is never null, also where it is empty.
+ * The proved functions. crates/versions_c exports them under the names of the functions below, and c/build adds the
+ * prefix proved_. Their pointers are never null, because a slice in Rust is never null, even if it is empty.
  */
 int proved_versions_kind(const char *text, size_t text_len);
 int proved_versions_compare(const char *a, size_t a_len, const char *b, size_t b_len, int32_t *order);
@@ -29,16 +29,16 @@ int proved_versions_sort(const char *texts, size_t texts_len, const int64_t *off
 int proved_versions_match_all(const char *list, size_t list_len, const char *texts, size_t texts_len,
                               const int64_t *offsets, size_t offsets_len, uint8_t *matches, size_t matches_len);
 
-/* Where an empty array begins whose pointer is null. It is aligned for each type, and is neither read nor written. */
+/* Stands in for a null pointer to an empty array. It is aligned for each type, and is neither read nor written. */
 static uint64_t nothing;
 
-/* Whether a pointer is null and len says that there is something to read or to write. */
+/* Whether a pointer is null although len is not 0. */
 static bool lacks(const void *pointer, size_t len) { return pointer == NULL && len != 0; }
 
-/* A pointer that isn't null, to read from. */
+/* The pointer, or one that is not null, to read from. */
 static const void *from(const void *pointer) { return pointer != NULL ? pointer : &nothing; }
 
-/* A pointer that isn't null, to write to. */
+/* The pointer, or one that is not null, to write to. */
 static void *to(void *pointer) { return pointer != NULL ? pointer : &nothing; }
 
 int versions_kind(const char *text, size_t text_len) {
@@ -120,16 +120,16 @@ int versions_match_all(const char *list, size_t list_len, const char *texts, siz
 
 const char *versions_status_text(int status) {
   switch (status) {
-    case VERSIONS_OK: return "no fault";
-    case VERSIONS_NO_VERSION: return "the text is no version";
-    case VERSIONS_NO_VERSION_A: return "the first text is no version";
-    case VERSIONS_NO_VERSION_B: return "the second text is no version";
+    case VERSIONS_OK: return "success";
+    case VERSIONS_NO_VERSION: return "the text is not a version";
+    case VERSIONS_NO_VERSION_A: return "the first text is not a version";
+    case VERSIONS_NO_VERSION_B: return "the second text is not a version";
     case VERSIONS_NO_VERSION_AB: return "neither text is a version";
-    case VERSIONS_NO_REQUIREMENTS: return "the list is no list of requirements";
+    case VERSIONS_NO_REQUIREMENTS: return "the list does not parse as a list of requirements";
     case VERSIONS_NO_NUMBER: return "the version has no number at that place, or no epoch";
-    case VERSIONS_NO_ROOM: return "there is too little room for the keys";
-    case VERSIONS_BAD_OFFSETS: return "an offset is bad, or the lengths of two arrays don't fit";
-    case VERSIONS_NO_MEMORY: return "there is no memory";
+    case VERSIONS_NO_ROOM: return "the buffer for keys is too small";
+    case VERSIONS_BAD_OFFSETS: return "an offset is bad, or the lengths of two arrays do not match";
+    case VERSIONS_NO_MEMORY: return "memory allocation failed";
     case VERSIONS_NULL: return "a pointer is null, and what it should point to is not empty";
     default: return "not a status of this library";
   }

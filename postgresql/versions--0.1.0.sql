@@ -1,11 +1,11 @@
--- versions--0.1.0.sql: functions on versions, and a type of them with its operators and indexes. A further version of
--- the extension adds a file versions--0.1.0--NEXT.sql with what changes; ALTER EXTENSION versions UPDATE runs it.
+-- versions--0.1.0.sql: functions on versions, and the type version with its operators and indexes. A later version of
+-- the extension adds a file versions--0.1.0--NEXT.sql with the changes, which ALTER EXTENSION versions UPDATE runs.
 \echo Use "CREATE EXTENSION versions" to load this file. \quit
 
--- Functions on texts. They give NULL where a text is no version. Each reads its texts anew, which costs as much as ten
--- operators of numbers.
+-- Functions on texts. They return NULL if a text is not a version. Each parses its texts, which costs as much as ten
+-- operators on numbers.
 
--- The sort key: bytes that order as versions do by precedence.
+-- The sort key: bytes that sort by precedence.
 CREATE FUNCTION version_key(text) RETURNS bytea
   AS 'MODULE_PATHNAME' LANGUAGE C IMMUTABLE STRICT PARALLEL SAFE COST 10;
 
@@ -13,7 +13,7 @@ CREATE FUNCTION version_key(text) RETURNS bytea
 CREATE FUNCTION version_kind(text) RETURNS text
   AS 'MODULE_PATHNAME' LANGUAGE C IMMUTABLE STRICT PARALLEL SAFE COST 10;
 
--- -1, 0 or 1 where the first is below, level with or above the second by precedence
+-- -1, 0 or 1 if the first is before, equal to or after the second by precedence
 CREATE FUNCTION version_compare(text, text) RETURNS integer
   AS 'MODULE_PATHNAME' LANGUAGE C IMMUTABLE STRICT PARALLEL SAFE COST 10;
 
@@ -21,19 +21,19 @@ CREATE FUNCTION version_compare(text, text) RETURNS integer
 CREATE FUNCTION version_compare_total(text, text) RETURNS integer
   AS 'MODULE_PATHNAME' LANGUAGE C IMMUTABLE STRICT PARALLEL SAFE COST 10;
 
--- Whether a version matches a requirement, or each of a list with commas between; an error where that is none.
+-- Whether a version matches a requirement, or a comma-separated list of requirements. Fails if that does not parse.
 CREATE FUNCTION version_matches(requirement text, version text) RETURNS boolean
   AS 'MODULE_PATHNAME' LANGUAGE C IMMUTABLE STRICT PARALLEL SAFE COST 10;
 
--- The number at a place, counted from 0; NULL where there is none.
+-- The number at a place, counted from 0; NULL if the version has no number there.
 CREATE FUNCTION version_nth(text, place integer) RETURNS bigint
   AS 'MODULE_PATHNAME' LANGUAGE C IMMUTABLE STRICT PARALLEL SAFE COST 10;
 
--- The version of the library that the extension holds.
+-- The version of the library that the extension contains.
 CREATE FUNCTION versions_version() RETURNS text
   AS 'MODULE_PATHNAME', 'version_of_library' LANGUAGE C STABLE STRICT PARALLEL SAFE;
 
--- The type: the text of a version, as it was written. What it prints and sends is what a text does.
+-- The type: the text of a version, unchanged. Its output and send functions are those of text.
 
 CREATE TYPE version;
 
@@ -54,7 +54,7 @@ CREATE TYPE version (
   LIKE = text
 );
 
--- No cast is implicit: else a comparison of a version with a text would go by the text.
+-- No cast is implicit. Otherwise a comparison of a version with a text would compare texts.
 CREATE FUNCTION version(text) RETURNS version
   AS 'MODULE_PATHNAME', 'version_of_text' LANGUAGE C IMMUTABLE STRICT PARALLEL SAFE COST 10;
 CREATE CAST (text AS version) WITH FUNCTION version(text) AS ASSIGNMENT;
@@ -75,7 +75,7 @@ CREATE FUNCTION version_compare_total(version, version) RETURNS integer
 CREATE FUNCTION version_nth(version, place integer) RETURNS bigint
   AS 'MODULE_PATHNAME' LANGUAGE C IMMUTABLE STRICT PARALLEL SAFE COST 10;
 
--- Requirements. An index on versions is scanned between the bounds that =, >=, >, <= and < set in a list.
+-- Requirements. An index on versions is scanned between the bounds that =, >=, >, <= and < of a list set.
 
 CREATE FUNCTION version_matches_support(internal) RETURNS internal
   AS 'MODULE_PATHNAME' LANGUAGE C IMMUTABLE STRICT PARALLEL SAFE;
@@ -84,13 +84,13 @@ CREATE FUNCTION version_matches(requirement text, version version) RETURNS boole
 CREATE FUNCTION version_matched_by(version version, requirement text) RETURNS boolean
   AS 'MODULE_PATHNAME' LANGUAGE C IMMUTABLE STRICT PARALLEL SAFE COST 10 SUPPORT version_matches_support;
 
--- The estimate holds the requirement against the versions that ANALYZE has kept.
+-- The estimate tests the requirement on the versions that ANALYZE has sampled.
 CREATE OPERATOR ~ (
   LEFTARG = version, RIGHTARG = text, FUNCTION = version_matched_by,
   RESTRICT = matchingsel, JOIN = matchingjoinsel
 );
 
--- The order, by precedence. Versions that are level are equal, as 1.0 and 0:1.0.
+-- The order, by precedence. Versions that tie are equal, such as 1.0 and 0:1.0.
 
 CREATE FUNCTION version_lt(version, version) RETURNS boolean
   AS 'MODULE_PATHNAME' LANGUAGE C IMMUTABLE STRICT PARALLEL SAFE COST 10;
@@ -130,7 +130,7 @@ CREATE OPERATOR > (
   RESTRICT = scalargtsel, JOIN = scalargtjoinsel
 );
 
--- Indexes. The b-tree class doesn't say that equal versions are one image, so an index keeps each as it was written.
+-- Indexes. The b-tree class does not declare that equal versions have equal images, so an index keeps each unchanged.
 
 CREATE FUNCTION version_cmp(version, version) RETURNS integer
   AS 'MODULE_PATHNAME' LANGUAGE C IMMUTABLE STRICT PARALLEL SAFE COST 10;
@@ -155,7 +155,7 @@ CREATE OPERATOR CLASS version_ops DEFAULT FOR TYPE version USING hash AS
   FUNCTION 1 version_hash(version),
   FUNCTION 2 version_hash_extended(version, bigint);
 
--- The greatest and the least of versions, which go by an index where there is one.
+-- The greatest and the least version, from an index if there is one.
 
 CREATE FUNCTION version_larger(version, version) RETURNS version
   AS 'MODULE_PATHNAME' LANGUAGE C IMMUTABLE STRICT PARALLEL SAFE COST 10;

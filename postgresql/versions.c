@@ -1,14 +1,14 @@
 /*
- * versions.c: versions in PostgreSQL, functions on texts and a type. The Makefile builds it, and versions--0.1.0.sql
- * declares to PostgreSQL what is here and says what each function gives.
+ * versions.c: versions in PostgreSQL, as functions on texts and as a type. The Makefile builds it. versions--0.1.0.sql
+ * declares the functions to PostgreSQL and describes their results.
  *
- * A value of the type is the text of a version, as it was written: its representation is that of `text`. Versions are
- * ASCII, and in each encoding that a server may have a byte of ASCII is that character. So a text is passed to the
- * library as it is: where it has a byte past ASCII it is no version in any of them.
+ * A value of the type is the text of a version, unchanged: its representation is that of `text`. Versions are ASCII,
+ * and in every server encoding an ASCII byte is that character. So texts are passed to the library unconverted: a text
+ * with a byte that is not ASCII is not a version in any encoding.
  *
- * All memory is PostgreSQL's, so that it is freed also where an error ends the statement. The library takes none.
+ * All memory is PostgreSQL's, so it is freed even if an error ends the statement. The library does not allocate.
  *
- * What versions and requirements are is found by the library alone, to which this file only passes texts.
+ * The library alone decides what versions and requirements are. This file only passes texts to it.
  */
 #include "postgres.h"
 
@@ -39,20 +39,20 @@
 
 PG_MODULE_MAGIC;
 
-/* PostgreSQL 15 and earlier have errors alone that end the statement. */
+/* In PostgreSQL 15 and earlier every error ends the statement. */
 #ifndef ereturn
 #define ereturn(context, value, ...) ereport(ERROR, __VA_ARGS__)
 #endif
 
 /*
- * A function that SQL may call. No other name is seen from outside. None of these functions calls another by its name,
- * which in the server's process may be that of another extension's.
+ * Defines a function that SQL may call. Only these names are exported. No such function calls another by its name,
+ * since another extension in the server's process may export the same name.
  */
 #define SQL_FUNCTION(name)   \
   PG_FUNCTION_INFO_V1(name); \
   Datum name(PG_FUNCTION_ARGS)
 
-/* Bytes of a text or of a version. */
+/* The bytes of a text or of a version. */
 typedef struct {
   const char *bytes;
   size_t len;
@@ -65,7 +65,10 @@ static Span span_of(const text *value) {
 
 static bool is_version(Span span) { return versions_kind(span.bytes, span.len) != VERSIONS_NONE; }
 
-/* A text between quotes: its first 60 bytes, and how many follow. What isn't printable ASCII is written \xHH. */
+/*
+ * Returns the first 60 bytes of a text in quotes, and the number of further bytes. Quotes, backslashes and bytes that
+ * are not printable ASCII become \xHH.
+ */
 static const char *quoted(Span span) {
   const size_t most = 60, shown = span.len < most ? span.len : most;
   StringInfoData said;
@@ -85,10 +88,10 @@ static const char *quoted(Span span) {
   return said.data;
 }
 
-/* Only a file that was damaged has such a value of the type. */
+/* Fails for a value of the type that is not a version. Only a damaged file has one. */
 static void report_damage(Span span) {
   ereport(ERROR,
-          (errcode(ERRCODE_DATA_CORRUPTED), errmsg("a value of type version is no version: %s", quoted(span))));
+          (errcode(ERRCODE_DATA_CORRUPTED), errmsg("a value of type version is not a version: %s", quoted(span))));
 }
 
 /* Keys. */
@@ -99,7 +102,7 @@ typedef union {
   char bytes[VARHDRSZ + 256];
 } KeyRoom;
 
-/* The key of a text, in the room where it fits and else in memory of its length; NULL where the text is no version. */
+/* The key of a text: in the room if it fits, otherwise in memory of its length. NULL if the text is not a version. */
 static bytea *key_of(Span span, KeyRoom *room) {
   bytea *key = &room->key;
   size_t len;
@@ -118,7 +121,7 @@ static void free_key(bytea *key, KeyRoom *room) {
   if (key != &room->key) pfree(key);
 }
 
-/* Functions on texts. Those on versions are the same, since a version is kept as its text. */
+/* Functions on texts. The functions on versions are the same, since a version is stored as its text. */
 
 SQL_FUNCTION(version_key) {
   KeyRoom room;
@@ -139,7 +142,7 @@ SQL_FUNCTION(version_kind) {
 /* versions_compare or versions_compare_total */
 typedef int Comparison(const char *, size_t, const char *, size_t, int32_t *);
 
-/* How the first two arguments compare, which have to be freed in a function of an index. */
+/* Compares the first two arguments, and frees their copies, as functions of an index have to. */
 static int compare_arguments(FunctionCallInfo fcinfo, Comparison *compare, int32_t *order) {
   text *first = PG_GETARG_TEXT_PP(0), *second = PG_GETARG_TEXT_PP(1);
   Span a = span_of(first), b = span_of(second);
@@ -163,7 +166,7 @@ SQL_FUNCTION(version_compare_total) {
 
 static Datum matches(FunctionCallInfo fcinfo, Span list, Span span) {
   bool matches = false;
-  /* to plan a query, the server calls this many times without a look at whether the statement is cancelled */
+  /* the planner calls this many times without checking whether the statement is cancelled */
   CHECK_FOR_INTERRUPTS();
   switch (versions_matches(list.bytes, list.len, span.bytes, span.len, &matches)) {
     case VERSIONS_OK: PG_RETURN_BOOL(matches);
@@ -177,7 +180,7 @@ SQL_FUNCTION(version_matches) {
   return matches(fcinfo, span_of(PG_GETARG_TEXT_PP(0)), span_of(PG_GETARG_TEXT_PP(1)));
 }
 
-/* The same with the version first, for the operator. */
+/* The same with the version first, for the operator ~. */
 SQL_FUNCTION(version_matched_by) {
   return matches(fcinfo, span_of(PG_GETARG_TEXT_PP(1)), span_of(PG_GETARG_TEXT_PP(0)));
 }
@@ -192,7 +195,7 @@ SQL_FUNCTION(version_nth) {
 
 SQL_FUNCTION(version_of_library) { PG_RETURN_TEXT_P(cstring_to_text(versions_version())); }
 
-/* The type: its input, from a C string, from a client in binary and from a text. */
+/* The type: its input from a C string, from a client in binary, and from a text. */
 
 SQL_FUNCTION(version_in) {
   char *bytes = PG_GETARG_CSTRING(0);
@@ -231,7 +234,7 @@ SQL_FUNCTION(version_of_text) {
 
 static bool are_same(Span a, Span b) { return a.len == b.len && memcmp(a.bytes, b.bytes, a.len) == 0; }
 
-/* How two values of the type compare. Equal bytes are found without a look at what they spell. */
+/* Compares two values of the type. Equal bytes are not parsed. */
 static int32_t order_of(Span a, Span b) {
   int32_t order = 0;
   if (are_same(a, b)) return 0;
@@ -243,7 +246,7 @@ static int32_t order_of(Span a, Span b) {
   return order;
 }
 
-/* Frees the text of a value where it was compressed or stored elsewhere. */
+/* Frees the text of a value if it is a copy, of a compressed value or of a value stored out of line. */
 static void free_copy(text *version, Datum value) {
   if ((Pointer)version != DatumGetPointer(value)) pfree(version);
 }
@@ -266,11 +269,11 @@ SQL_FUNCTION(version_ne) { PG_RETURN_BOOL(ORDER_OF_ARGUMENTS != 0); }
 SQL_FUNCTION(version_ge) { PG_RETURN_BOOL(ORDER_OF_ARGUMENTS >= 0); }
 SQL_FUNCTION(version_gt) { PG_RETURN_BOOL(ORDER_OF_ARGUMENTS > 0); }
 
-/* The first where both are level. */
+/* The first if both compare equal. */
 SQL_FUNCTION(version_larger) { PG_RETURN_DATUM(PG_GETARG_DATUM(ORDER_OF_ARGUMENTS >= 0 ? 0 : 1)); }
 SQL_FUNCTION(version_smaller) { PG_RETURN_DATUM(PG_GETARG_DATUM(ORDER_OF_ARGUMENTS <= 0 ? 0 : 1)); }
 
-/* Hashes go by the key, so that versions that are level have one hash. */
+/* Hashes are of keys, so that versions that tie have the same hash. */
 
 /* The key of a value of the type. */
 static bytea *key_of_value(Datum value, KeyRoom *room) {
@@ -298,14 +301,14 @@ SQL_FUNCTION(version_hash_extended) {
 }
 
 /*
- * A sort goes by 64 bits for each key, and compares versions only where these are equal. They are the first bits of a
- * code of the key that orders as its bytes do. The bytes 0 to 3 and the digits, of which most keys consist, have short
- * codes. So it tells apart most keys that differ in the first sixteen bytes, where eight bytes would be 64 bits.
+ * A sort compares 64 bits of each key, and compares versions only if these bits are equal. They are the first bits of a
+ * code of the key that sorts as the key's bytes do. The bytes 0 to 3 and the digits, which most keys consist of, have
+ * short codes. So 64 bits, eight plain bytes, distinguish most keys that differ in their first sixteen bytes.
  */
 
 StaticAssertDecl(sizeof(Datum) == 8, "a processor that the library runs on has 64 bits");
 
-/* The code of each byte: the first bits of a number. Codes order as the bytes do, and none begins another. */
+/* The code of each byte: the first bits of a number. Codes sort as the bytes do, and no code is a prefix of another. */
 static struct {
   uint64 code;
   int bits;
@@ -321,7 +324,7 @@ static void make_codes(void) {
   }
 }
 
-/* The first 64 bits of the code of a key, with bits 0 after one that is shorter. */
+/* The first 64 bits of the code of a key; a shorter code is followed by 0 bits. */
 static uint64 beginning_of_code(const bytea *key) {
   const unsigned char *byte = (const unsigned char *)VARDATA(key), *end = byte + (VARSIZE(key) - VARHDRSZ);
   uint64 beginning = 0;
@@ -346,17 +349,17 @@ static int compare_abbreviated(Datum a, Datum b, SortSupport sort) {
   return a < b ? -1 : a > b;
 }
 #else
-/* PostgreSQL sorts quicker by this function, which it knows. */
+/* PostgreSQL has a faster sort for this function. */
 #define compare_abbreviated ssup_datum_unsigned_cmp
 #endif
 
 /*
- * Where these bits are equal, a sort compares few versions many times, such as the pre-releases of one version in many
- * rows. So it keeps the keys of the last versions, each in a place that the version's text chooses, and compares those.
+ * If these bits are equal, a sort compares few versions many times, such as the pre-releases of one version in many
+ * rows. So it keeps the keys of recent versions, each at a place given by a hash of its text, and compares these keys.
  * Long versions are compared by their texts.
  */
 typedef struct {
-  uint8 len, key_len; /* no version is empty */
+  uint8 len, key_len; /* len 0 is an unused place: no version is empty */
   char version[62];
   uint8 key[128];
 } KeptKey;
@@ -367,7 +370,7 @@ static KeptKey *place_of(KeptKey *kept, Span version) {
   return &kept[DatumGetUInt32(hash_any((const unsigned char *)version.bytes, (int)version.len)) % PLACES];
 }
 
-/* Whether the place has the key of a version, which is put there where it fits. */
+/* Puts the key of a version at the place if it fits. Returns whether the key is there. */
 static bool keeps_key(KeptKey *place, Span version) {
   size_t len;
   if (version.len > sizeof place->version) return false;
@@ -385,7 +388,7 @@ static int order_by_kept_keys(KeptKey *kept, Span a, Span b) {
   first = place_of(kept, a);
   second = place_of(kept, b);
   if (first == second || !keeps_key(first, a) || !keeps_key(second, b)) return order_of(a, b);
-  /* no key begins another */
+  /* no key is a prefix of another */
   return memcmp(first->key, second->key, Min(first->key_len, second->key_len));
 }
 
@@ -397,7 +400,7 @@ static int compare_in_sort(Datum a, Datum b, SortSupport sort) {
   return order;
 }
 
-/* To make a key takes less than to compare two texts does once, so the sort never goes on without keys. */
+/* Making a key costs less than comparing two texts once, so a sort never gives up its keys. */
 static bool never_abort(int count, SortSupport sort) { return false; }
 
 SQL_FUNCTION(version_sortsupport) {
@@ -414,12 +417,12 @@ SQL_FUNCTION(version_sortsupport) {
 }
 
 /*
- * Requirements by an index. Where the operators =, >=, >, <= and < stand in a list, what it matches lies between
- * bounds: what = matches is level with its version, and the others are the comparisons of the type. So a scan of the
- * index goes from bound to bound. Each row is then held against the whole list, so that no bound has to be exact.
+ * Requirements by an index. The operators =, >=, >, <= and < of a list set bounds for the versions that it matches: a
+ * version that = matches compares equal to its version, and the others are the comparisons of the type. An index is
+ * scanned between the bounds. Each row is then tested against the whole list, so the bounds need not be exact.
  */
 
-/* A bound on one side: the comparison with its version. Without a comparison there is none. */
+/* A bound on one side: a comparison with a version. InvalidStrategy means that there is no bound. */
 typedef struct {
   Span version;
   StrategyNumber comparison;
@@ -429,7 +432,7 @@ typedef struct {
   Bound lower, upper;
 } Bounds;
 
-/* Takes a bound in place of another, where that is none or less tight: not so far above (1), or below (-1). */
+/* Replaces a bound if there is none or if the version is tighter: above it for tighter 1, below it for -1. */
 static void tighten(Bound *bound, Span version, StrategyNumber comparison, int32_t tighter) {
   if (comparison == InvalidStrategy || !is_version(version)) return;
   if (bound->comparison == InvalidStrategy || order_of(version, bound->version) == tighter) {
@@ -438,7 +441,7 @@ static void tighten(Bound *bound, Span version, StrategyNumber comparison, int32
   }
 }
 
-/* Takes what one member of a list says of the bounds. */
+/* Tightens the bounds by one member of a list. */
 static void tighten_by_member(Bounds *bounds, Span member) {
   static const struct {
     const char *operator;
@@ -468,7 +471,7 @@ static bool is_list_of_requirements(Span list) {
   return versions_matches(list.bytes, list.len, some_version.bytes, some_version.len, &matches) == VERSIONS_OK;
 }
 
-/* The bounds of a list, whose members stand between commas. What is no list has none, and fails where it is used. */
+/* The bounds of a list, split at its commas. A list that does not parse has no bounds, and fails when it is used. */
 static Bounds bounds_of(Span list) {
   Bounds bounds = {{{NULL, 0}, InvalidStrategy}, {{NULL, 0}, InvalidStrategy}};
   if (!is_list_of_requirements(list)) return bounds;
@@ -483,7 +486,7 @@ static Bounds bounds_of(Span list) {
   }
 }
 
-/* The condition that a column fulfils a bound, put behind others, where the family of the index has the comparison. */
+/* Appends the condition that a column meets a bound, if the operator family of the index has the comparison. */
 static List *append_condition(List *conditions, Bound bound, Node *column, Oid family) {
   Oid type = exprType(column), operator;
   Const *constant;
@@ -503,7 +506,7 @@ static List *arguments_of(Node *call) {
   return NIL;
 }
 
-/* The conditions by which an index is scanned for what matches, where the requirement is known when it is planned. */
+/* The conditions of an index scan for matching versions, if the requirement is known at planning time. */
 static List *conditions_of(SupportRequestIndexCondition *request) {
   List *arguments = arguments_of(request->node), *conditions = NIL;
   Node *column, *requirement;
@@ -512,7 +515,7 @@ static List *conditions_of(SupportRequestIndexCondition *request) {
   column = list_nth(arguments, request->indexarg);
   requirement = list_nth(arguments, 1 - request->indexarg);
   if (!IsA(requirement, Const) || ((Const *)requirement)->constisnull) return NIL;
-  /* the requirement is a text, and the column is none */
+  /* the requirement is a text, and the column is not */
   if (exprType(requirement) != TEXTOID || exprType(column) == TEXTOID) return NIL;
   bounds = bounds_of(span_of(DatumGetTextPP(((Const *)requirement)->constvalue)));
   conditions = append_condition(conditions, bounds.lower, column, request->opfamily);
@@ -532,7 +535,7 @@ SQL_FUNCTION(version_matches_support) {
 
 PGDLLEXPORT void _PG_init(void);
 
-/* PostgreSQL calls this where it loads the file, and loads nothing where it fails. */
+/* PostgreSQL calls this when it loads the file. If it fails, no function of the file can be called. */
 void _PG_init(void) {
   if (!versions_processor_suffices()) {
     ereport(ERROR, (errcode(ERRCODE_FEATURE_NOT_SUPPORTED),

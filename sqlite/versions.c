@@ -1,25 +1,25 @@
 /*
- * versions.c: functions on versions, and an order of them, as a loadable extension of SQLite. sqlite/build builds it.
+ * versions.c: functions on versions and a collation, as a loadable extension of SQLite. sqlite/build builds it.
  *
- *   version_key(text)                    the sort key, a BLOB that orders as versions do by precedence
+ *   version_key(text)                    the sort key, a BLOB that sorts by precedence
  *   version_kind(text)                   'ideal', 'general' or 'complex'
- *   version_compare(a, b)                -1, 0 or 1 where a is below, level with or above b by precedence
+ *   version_compare(a, b)                -1, 0 or 1 if a is before, equal to or after b by precedence
  *   version_compare_total(a, b)          the same with ties broken
- *   version_matches(requirement, text)   1 or 0: whether a version matches a requirement, or each of a list
+ *   version_matches(requirement, text)   1 or 0: whether a version matches a requirement or a list of requirements
  *   version_nth(text, n)                 the number at a place, counted from 0
  *   version_max(text)                    aggregate and window function: the greatest version of the rows
- *   version_min(text)                    the least
+ *   version_min(text)                    the least version of the rows
  *   versions_version()                   the version of the library
- *   COLLATE VERSION                      by precedence, and where that ties by bytes; what is no version comes last
+ *   COLLATE VERSION                      by precedence, then by bytes; texts that are not versions come last
  *
- * Each function gives NULL where a value is no version: NULL, a number and a BLOB are none, and neither is a text that
- * isn't UTF-8. A number isn't taken for its text, since 1.10 is 1.1 by then. The aggregates skip such values.
- * version_matches fails where the requirement is none. All are deterministic and without effects, so they stand in
- * indexes and generated columns.
+ * Each function returns NULL if a value is not a version. NULL, numbers, BLOBs and texts that are not UTF-8 are not
+ * versions. A number is not converted to text, since 1.10 is already 1.1. The aggregates skip values that are not
+ * versions. version_matches fails if the requirement does not parse. All functions are deterministic and have no side
+ * effects, so indexes and generated columns can use them.
  *
- * All memory is SQLite's: keys, the texts that an aggregate keeps, and messages. The other functions take none.
+ * All memory is SQLite's: keys, the texts that an aggregate keeps, and messages. The other functions do not allocate.
  *
- * What versions are is found by the library alone, to which this file only passes texts.
+ * The library alone decides what versions are and how they compare. This file only passes texts to it.
  */
 #include "versions.h"
 
@@ -40,10 +40,10 @@ struct text {
   size_t len;
 };
 
-/* No UTF-8, and so no version. */
+/* Not UTF-8, and so not a version. */
 static const struct text no_text = {"\xff", 1};
 
-/* A value's text in UTF-8; one of another type has none. Null bytes where SQLite is out of memory. */
+/* The text of a value, in UTF-8; no_text for another type. Its bytes are null on allocation failure. */
 static struct text text_of(sqlite3_value *value) {
   struct text text = no_text;
   if (sqlite3_value_type(value) == SQLITE_TEXT) {
@@ -53,7 +53,7 @@ static struct text text_of(sqlite3_value *value) {
   return text;
 }
 
-/* A key that is too long for the stack, in memory of its length. */
+/* Returns a key that is too long for the stack, in memory of its length. */
 static void give_long_key(sqlite3_context *context, struct text text, size_t len) {
   uint8_t *key = sqlite3_malloc64(len);
   if (key && versions_sort_key(text.bytes, text.len, key, len, &len) == VERSIONS_OK) {
@@ -87,7 +87,7 @@ static void version_kind(sqlite3_context *context, int count, sqlite3_value **va
   if (!text.bytes) {
     sqlite3_result_error_nomem(context);
   } else {
-    /* a null name gives NULL */
+    /* A null name returns NULL. */
     sqlite3_result_text(context, names[versions_kind(text.bytes, text.len)], -1, SQLITE_STATIC);
   }
 }
@@ -117,7 +117,10 @@ static void version_compare_total(sqlite3_context *context, int count, sqlite3_v
   give_order(context, values, versions_compare_total);
 }
 
-/* A text between quotes: its first 60 bytes, and how many follow. What isn't printable ASCII is written \xHH. */
+/*
+ * Appends the first 60 bytes of a text in quotes, and the number of further bytes. Quotes, backslashes and bytes that
+ * are not printable ASCII become \xHH.
+ */
 static void append_quoted(sqlite3_str *message, struct text text) {
   const size_t most = 60, shown = text.len < most ? text.len : most;
   size_t at;
@@ -136,7 +139,7 @@ static void append_quoted(sqlite3_str *message, struct text text) {
   }
 }
 
-/* Fails with the text that is no requirement, or with the type of a value that is no text. */
+/* Fails with the text that does not parse as a requirement, or with the type of a value that is not a text. */
 static void give_no_requirement(sqlite3_context *context, struct text text, int type) {
   sqlite3_str *message = sqlite3_str_new(NULL);
   char *said;
@@ -192,23 +195,23 @@ static void version_nth(sqlite3_context *context, int count, sqlite3_value **val
 }
 
 /*
- * version_max and version_min. A row can be the best of the window, now or after earlier rows have left it, only where
- * no later row is better. The texts of such rows are the candidates, in the order of the rows: none is better than the
- * one before it, and the first is the best of the window. Rows leave in the order in which they came.
+ * version_max and version_min. A row is a candidate if no later row is better: only then can it be the best row of the
+ * window, now or after earlier rows leave. The candidates are kept in the order of their rows. No candidate is better
+ * than the candidate before it, so the first is the best. Rows leave in the order in which they came.
  */
 struct candidate {
   struct candidate *before, *after;
-  sqlite3_int64 row; /* the last of the rows that have this text one after another, counted from 1 */
+  sqlite3_int64 row; /* the last of consecutive rows with this text, counted from 1 */
   size_t len;
   char bytes[];
 };
 
 struct window {
   struct candidate *first, *last;
-  sqlite3_int64 came, left; /* how many rows */
+  sqlite3_int64 came, left; /* numbers of rows */
 };
 
-/* What a version has to be to another that it is better than: the data of each of the two functions. */
+/* The result of a comparison with a worse version: the user data of version_max and of version_min. */
 static const int32_t above = 1, below = -1;
 
 static bool is_better(sqlite3_context *context, struct text text, const struct candidate *than) {
@@ -244,7 +247,7 @@ static void drop_last(struct window *window) {
   sqlite3_free(last);
 }
 
-/* Whether there was memory for it. */
+/* Appends a candidate. Returns false on allocation failure. */
 static bool append(struct window *window, struct text text) {
   struct candidate *last = sqlite3_malloc64(sizeof *last + text.len);
   if (!last) return false;
@@ -298,7 +301,7 @@ static void best_value(sqlite3_context *context) {
   }
 }
 
-/* SQLite calls this once for each window, also where the statement fails or is interrupted. */
+/* SQLite calls this once for each window, even if the statement fails or is interrupted. */
 static void best_final(sqlite3_context *context) {
   struct window *window = sqlite3_aggregate_context(context, 0);
   best_value(context);
@@ -311,19 +314,19 @@ static void give_library_version(sqlite3_context *context, int count, sqlite3_va
   sqlite3_result_text(context, versions_version(), -1, SQLITE_STATIC);
 }
 
-/* A text of a collation: SQLite may pass an empty one as a null pointer. */
+/* A text that SQLite passes to a collation. An empty text may be a null pointer. */
 static struct text passed(const void *bytes, int len) {
   struct text text = {bytes ? bytes : "", (size_t)len};
   return text;
 }
 
-/* By bytes, the shorter first where one begins the other. */
+/* By bytes, the shorter first if it is a prefix of the other. */
 static int compare_bytes(struct text a, struct text b) {
   int order = memcmp(a.bytes, b.bytes, a.len < b.len ? a.len : b.len);
   return order ? order : (a.len > b.len) - (a.len < b.len);
 }
 
-/* The library takes no memory, so this can't fail, as a collation may not. */
+/* A collation must not fail. This cannot, since the library does not allocate. */
 static int collate(void *none, int a_len, const void *a_bytes, int b_len, const void *b_bytes) {
   struct text a = passed(a_bytes, a_len), b = passed(b_bytes, b_len);
   int32_t order = 0;
@@ -365,7 +368,7 @@ static int define_aggregate(sqlite3 *db, const char *name, const int32_t *better
                                         best_inverse, NULL);
 }
 
-/* What is missing here, without which none of this can be called; null where nothing is. */
+/* A requirement of the extension that is not met here; null if all are met. */
 static const char *missing(void) {
   if (sqlite3_libversion_number() < 3031000) return "SQLite 3.31 or later";
   if (!versions_processor_suffices()) return "a processor of the level x86-64-v2";
@@ -388,7 +391,7 @@ EXPORTED int sqlite3_versions_init(sqlite3 *db, char **fault, const sqlite3_api_
 }
 
 #ifndef SQLITE_CORE
-/* The name by which SQLite finds it whatever its file is called. */
+/* The entry point that SQLite tries for any file name. */
 EXPORTED int sqlite3_extension_init(sqlite3 *db, char **fault, const sqlite3_api_routines *routines) {
   return sqlite3_versions_init(db, fault, routines);
 }

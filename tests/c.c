@@ -1,15 +1,15 @@
-// The program of tests/c. It links the library, and makes its calls on the lines of standard input:
-//   show      the kind of each line, its sort key in hexadecimal, and its first four numbers
-//   compare   how each line compares with the one behind it: by precedence, and with ties broken
-//   match R   for each line 1, 0 or 2, as versions_match_all has it
-//   sort      the lines in the order of versions_sort
-//   threads   the same answers from eight threads at once
-//   edges     what needs no lines: null pointers, rooms, offsets, bytes that are no text, every status, the version
+// The program of tests/c. It links the library and makes its calls on the lines of standard input:
+//   show      prints the kind of each line, its sort key in hexadecimal, and its first four numbers
+//   compare   prints how each line compares with the next line: by precedence, and with ties broken
+//   match R   prints 1, 0 or 2 for each line, as versions_match_all writes
+//   sort      prints the lines in the order of versions_sort
+//   threads   checks that eight threads at once get the same results
+//   edges     needs no lines: null pointers, buffer sizes, offsets, bytes that are not UTF-8, every status, the version
 //   long      texts of megabytes
 //   many      a hundred thousand texts
-//   memory    every call, where nothing else takes memory
-// A call for many texts and the single call have to agree wherever both are made. It ends with status 1 where something
-// fails, and says what. It is compiled as C and as C++.
+//   memory    makes every call, and allocates nothing itself
+// A call for many texts and the call for one text must agree wherever both are made. The program prints each check that
+// fails, and its status is then not 0. It is compiled as C and as C++.
 #ifndef _GNU_SOURCE
 #define _GNU_SOURCE
 #endif
@@ -32,8 +32,8 @@ static int failures;
     } \
   } while (0)
 
-// Memory that ends where a page begins that may be neither read nor written. So a byte too many ends the program, also
-// where the library takes it, into which the sanitizers don't see. In front of it stand its mapping and how long that is.
+// Memory that ends at a page that may be neither read nor written. So an access one byte too far ends the program, even
+// in the library, which the sanitizers do not see into. The address and the length of the mapping are stored before it.
 static void *block(size_t size) {
   size_t page = (size_t)sysconf(_SC_PAGESIZE), whole = (size / page + 3) * page;
   char *base = (char *)mmap(NULL, whole, PROT_READ | PROT_WRITE, MAP_PRIVATE | MAP_ANONYMOUS, -1, 0);
@@ -53,8 +53,8 @@ static void release(void *bytes) {
   if (munmap(base, whole) != 0) exit(2);
 }
 
-// The lines of standard input in one buffer, with their offsets; no line feed is in it. They aren't read by <stdio.h>,
-// which takes memory.
+// The lines of standard input in one buffer without line feeds, with their offsets. They are not read by <stdio.h>,
+// which allocates.
 struct lines {
   char *texts;
   int64_t *offsets;
@@ -105,33 +105,33 @@ static size_t length_of(const struct lines *lines, size_t line) {
   return (size_t)(lines->offsets[line + 1] - lines->offsets[line]);
 }
 
-// The key of a text in a block of exactly its length, or NULL. A room that is too small by one byte, or that has none,
-// has to be left as it was, and any other to keep what is behind the key.
+// The key of a text in a block of exactly its length, or NULL. Checks that a buffer of size 0, or one byte too small,
+// stays unchanged, and that nothing after the key is written.
 static uint8_t *key_of(const char *text, size_t length, size_t *key_length) {
-  size_t bound = versions_sort_key_bound(length), told = 77;
-  int status = versions_sort_key(text, length, NULL, 0, &told);
+  size_t bound = versions_sort_key_bound(length), needed = 77;
+  int status = versions_sort_key(text, length, NULL, 0, &needed);
   if (status == VERSIONS_NO_VERSION) {
-    CHECK(told == 77);
+    CHECK(needed == 77);
     CHECK(versions_kind(text, length) == VERSIONS_NONE);
     return NULL;
   }
   CHECK(status == VERSIONS_NO_ROOM);
-  CHECK(0 < told && told <= bound);
-  *key_length = told;
+  CHECK(0 < needed && needed <= bound);
+  *key_length = needed;
 
-  uint8_t *key = (uint8_t *)block(told);
-  memset(key, 170, told);
-  CHECK(versions_sort_key(text, length, key, told - 1, key_length) == VERSIONS_NO_ROOM);
-  CHECK(*key_length == told);
-  for (size_t i = 0; i < told; i++) CHECK(key[i] == 170);
-  CHECK(versions_sort_key(text, length, key, told, key_length) == VERSIONS_OK);
-  CHECK(*key_length == told);
+  uint8_t *key = (uint8_t *)block(needed);
+  memset(key, 170, needed);
+  CHECK(versions_sort_key(text, length, key, needed - 1, key_length) == VERSIONS_NO_ROOM);
+  CHECK(*key_length == needed);
+  for (size_t i = 0; i < needed; i++) CHECK(key[i] == 170);
+  CHECK(versions_sort_key(text, length, key, needed, key_length) == VERSIONS_OK);
+  CHECK(*key_length == needed);
 
   uint8_t *other = (uint8_t *)block(bound + 3);
   memset(other, 170, bound + 3);
   CHECK(versions_sort_key(text, length, other, bound + 3, key_length) == VERSIONS_OK);
-  CHECK(*key_length == told && memcmp(key, other, told) == 0);
-  for (size_t i = told; i < bound + 3; i++) CHECK(other[i] == 170);
+  CHECK(*key_length == needed && memcmp(key, other, needed) == 0);
+  for (size_t i = needed; i < bound + 3; i++) CHECK(other[i] == 170);
   release(other);
   return key;
 }
@@ -158,7 +158,7 @@ static void check_prerelease(const char *text, size_t length, int kind) {
 
 static void show(const struct lines *lines) {
   static const char *const names[] = {"none", "ideal", "general", "complex"};
-  size_t count = lines->count, behind = 0;
+  size_t count = lines->count, key_end = 0;
   uint8_t *kinds = (uint8_t *)block(count);
   int64_t *key_offsets = (int64_t *)block((count + 1) * sizeof(int64_t));
   CHECK(versions_kinds(lines->texts, lines->length, lines->offsets, count + 1, kinds, count) == VERSIONS_OK);
@@ -176,25 +176,25 @@ static void show(const struct lines *lines) {
                            count + 1) == VERSIONS_OK);
 
   for (size_t line = 0; line < count; line++) {
-    // A copy, so that nothing stands behind the text.
+    // A copy, so that no byte follows the text.
     size_t length = length_of(lines, line), key_length = 0;
     char *text = (char *)block(length);
     memcpy(text, text_of(lines, line), length);
     int kind = versions_kind(text, length);
     CHECK(kind == kinds[line]);
-    CHECK((size_t)key_offsets[line] == behind);
+    CHECK((size_t)key_offsets[line] == key_end);
     printf("%s", names[kind]);
 
     uint8_t *key = key_of(text, length, &key_length);
     CHECK((key != NULL) == (kind != VERSIONS_NONE));
     if (key != NULL) {
       CHECK(key_length == (size_t)(key_offsets[line + 1] - key_offsets[line]));
-      CHECK(memcmp(key, keys + behind, key_length) == 0);
+      CHECK(memcmp(key, keys + key_end, key_length) == 0);
       printf(" ");
       for (size_t i = 0; i < key_length; i++) printf("%02x", key[i]);
     }
     release(key);
-    behind = (size_t)key_offsets[line + 1];
+    key_end = (size_t)key_offsets[line + 1];
 
     for (size_t place = 0; place < 4; place++) {
       uint32_t number = 77;
@@ -212,13 +212,13 @@ static void show(const struct lines *lines) {
     check_prerelease(text, length, kind);
     release(text);
   }
-  CHECK(behind == all);
+  CHECK(key_end == all);
   release(kinds);
   release(keys);
   release(key_offsets);
 }
 
-// The status for two texts, by whether each is a version.
+// The status for two texts, each of which is a version or not.
 static int status_of(int a, int b) {
   if (a && b) return VERSIONS_OK;
   if (b) return VERSIONS_NO_VERSION_A;
@@ -280,30 +280,30 @@ static void match(const struct lines *lines, const char *list) {
 
 static void sort(const struct lines *lines) {
   size_t count = lines->count;
-  int64_t *told = (int64_t *)block((count + 1) * sizeof(int64_t));
+  int64_t *needed = (int64_t *)block((count + 1) * sizeof(int64_t));
   int64_t *key_offsets = (int64_t *)block((count + 1) * sizeof(int64_t));
   uint64_t *order = (uint64_t *)block(count * sizeof(uint64_t));
-  versions_sort_keys(lines->texts, lines->length, lines->offsets, count + 1, NULL, 0, told, count + 1);
-  size_t all = (size_t)told[count];
+  versions_sort_keys(lines->texts, lines->length, lines->offsets, count + 1, NULL, 0, needed, count + 1);
+  size_t all = (size_t)needed[count];
   uint8_t *wanted = (uint8_t *)block(all), *keys = (uint8_t *)block(all + 3);
-  CHECK(versions_sort_keys(lines->texts, lines->length, lines->offsets, count + 1, wanted, all, told, count + 1) ==
+  CHECK(versions_sort_keys(lines->texts, lines->length, lines->offsets, count + 1, wanted, all, needed, count + 1) ==
         VERSIONS_OK);
 
-  // In a room that is too small by one byte nothing is sorted, but it is told how much they need.
+  // If the buffer is one byte too small, nothing is sorted, but the needed size is returned.
   for (size_t i = 0; i < count; i++) order[i] = 77;
   if (all > 0) {
     CHECK(versions_sort(lines->texts, lines->length, lines->offsets, count + 1, keys, all - 1, key_offsets, count + 1,
                         order, count) == VERSIONS_NO_ROOM);
-    CHECK(memcmp(key_offsets, told, (count + 1) * sizeof(int64_t)) == 0);
+    CHECK(memcmp(key_offsets, needed, (count + 1) * sizeof(int64_t)) == 0);
     for (size_t i = 0; i < count; i++) CHECK(order[i] == 77);
   }
 
-  // The keys are those of versions_sort_keys, and what is behind them stays as it was.
+  // The keys are those of versions_sort_keys, and nothing after them is written.
   memset(keys, 170, all + 3);
   memset(key_offsets, 0, (count + 1) * sizeof(int64_t));
   CHECK(versions_sort(lines->texts, lines->length, lines->offsets, count + 1, keys, all + 3, key_offsets, count + 1,
                       order, count) == VERSIONS_OK);
-  CHECK(memcmp(key_offsets, told, (count + 1) * sizeof(int64_t)) == 0);
+  CHECK(memcmp(key_offsets, needed, (count + 1) * sizeof(int64_t)) == 0);
   CHECK(memcmp(keys, wanted, all) == 0);
   for (size_t i = all; i < all + 3; i++) CHECK(keys[i] == 170);
 
@@ -312,7 +312,7 @@ static void sort(const struct lines *lines) {
     fwrite(text_of(lines, order[i]), 1, length_of(lines, order[i]), stdout);
     printf("\n");
   }
-  release(told);
+  release(needed);
   release(key_offsets);
   release(order);
   release(wanted);
@@ -334,7 +334,7 @@ static uint64_t summed_order(const struct lines *lines) {
   return sum;
 }
 
-// What one thread answers of all lines, as one number.
+// The results of one thread for all lines, as one number.
 static void *summed(void *argument) {
   const struct lines *lines = (const struct lines *)argument;
   uint64_t sum = summed_order(lines);
@@ -368,7 +368,7 @@ static void threads(struct lines *lines) {
   release(alone);
 }
 
-// Offsets of one text after another, which are all refused, and nothing is written.
+// Every call for many texts refuses these offsets, and writes nothing.
 static void refused_offsets(const int64_t *offsets, size_t offsets_length, size_t count) {
   uint8_t answers[4], keys[64];
   int64_t key_offsets[5] = {77, 77, 77, 77, 77};
@@ -377,7 +377,8 @@ static void refused_offsets(const int64_t *offsets, size_t offsets_length, size_
   memset(keys, 77, sizeof keys);
   CHECK(versions_kinds("1.2.31.2", 8, offsets, offsets_length, answers, count) == VERSIONS_BAD_OFFSETS);
   CHECK(versions_match_all("*", 1, "1.2.31.2", 8, offsets, offsets_length, answers, count) == VERSIONS_BAD_OFFSETS);
-  CHECK(versions_match_all("no list", 7, "1.2.31.2", 8, offsets, offsets_length, answers, count) == VERSIONS_BAD_OFFSETS);
+  CHECK(versions_match_all("no list", 7, "1.2.31.2", 8, offsets, offsets_length, answers, count) ==
+        VERSIONS_BAD_OFFSETS);
   CHECK(versions_sort_keys("1.2.31.2", 8, offsets, offsets_length, keys, sizeof keys, key_offsets, count + 1) ==
         VERSIONS_BAD_OFFSETS);
   CHECK(versions_sort("1.2.31.2", 8, offsets, offsets_length, keys, sizeof keys, key_offsets, count + 1, order,
@@ -388,7 +389,7 @@ static void refused_offsets(const int64_t *offsets, size_t offsets_length, size_
   for (size_t i = 0; i < 4; i++) CHECK(order[i] == 77);
 }
 
-// Texts in one buffer, whose sorted places are known.
+// Sorts texts in one buffer, and compares with the expected places.
 static void sorted(const char *texts, const int64_t *offsets, size_t count, const uint64_t *wanted) {
   uint8_t keys[256];
   int64_t key_offsets[9];
@@ -399,7 +400,7 @@ static void sorted(const char *texts, const int64_t *offsets, size_t count, cons
   CHECK(order[count] == 77);
 }
 
-// A null pointer whose length isn't 0 is refused, whatever else is wrong, and nothing is written.
+// A null pointer with another length than 0 is an error, whatever else is wrong, and nothing is written.
 static void refused_null_pointers(void) {
   const int64_t offsets[] = {0, 5}, descending[] = {5, 0};
   int32_t order = 77;
@@ -472,7 +473,7 @@ static void refused_null_pointers(void) {
 }
 
 static void edges(void) {
-  // Null pointers to empty texts, and bytes that are no text.
+  // Null pointers to empty texts, and bytes that are not UTF-8.
   int32_t order = 77;
   bool matches = true;
   uint32_t number = 77;
@@ -506,12 +507,12 @@ static void edges(void) {
   CHECK(versions_nth("1.2.3", 5, SIZE_MAX, &number) == VERSIONS_NO_NUMBER);
   CHECK(number == 77);
 
-  // A tie of precedence, broken by kind or field by field; and metadata of strict versions, which breaks none.
+  // A tie of precedence, broken by kind or field by field; metadata of strict versions breaks no tie.
   CHECK(versions_compare("1.0", 3, "0:1.0", 5, &order) == VERSIONS_OK && order == 0);
   CHECK(versions_compare_total("1.0", 3, "0:1.0", 5, &order) == VERSIONS_OK && order == -1);
   CHECK(versions_compare_total("1.0.0+a", 7, "1.0.0+b", 7, &order) == VERSIONS_OK && order == 0);
 
-  // Numbers, by the rows of docs/GRAMMAR.md.
+  // Numbers, from the rows of docs/GRAMMAR.md.
   CHECK(versions_nth("1:2.a.4.5.6.7-r1", 16, 1, &number) == VERSIONS_NO_NUMBER && number == 77);
   CHECK(versions_nth("1:2.a.4.5.6.7-r1", 16, 0, &number) == VERSIONS_OK && number == 2);
   CHECK(versions_nth("1:2.a.4.5.6.7-r1", 16, 2, &number) == VERSIONS_OK && number == 4);
@@ -547,7 +548,7 @@ static void edges(void) {
   CHECK(versions_is_prerelease("1.2-1", 5, &matches) == VERSIONS_OK && !matches);
   CHECK(versions_is_prerelease("1.2.3-06", 8, &matches) == VERSIONS_OK && !matches);
 
-  // Rooms. No text of three bytes has a longer key than 1_1.
+  // Buffer sizes. Of the texts of three bytes, 1_1 has the longest key.
   CHECK(versions_sort_key_bound(0) == 5);
   CHECK(versions_sort_key_bound(3) == 14);
   CHECK(versions_sort_key("1_1", 3, NULL, 0, &length) == VERSIONS_NO_ROOM && length == 14);
@@ -555,7 +556,7 @@ static void edges(void) {
   CHECK(versions_sort_key_bound(SIZE_MAX / 3 + 1) == SIZE_MAX);
   CHECK(versions_sort_key_bound(SIZE_MAX) == SIZE_MAX);
 
-  // No texts, and a beginning that isn't the buffer's.
+  // No texts, and texts that do not start at the beginning of the buffer.
   const int64_t one_offset[] = {0}, apart[] = {3, 8, 8, 11}, last[] = {8};
   CHECK(versions_kinds(NULL, 0, one_offset, 1, NULL, 0) == VERSIONS_OK);
   CHECK(versions_match_all("*", 1, NULL, 0, one_offset, 1, NULL, 0) == VERSIONS_OK);
@@ -565,12 +566,13 @@ static void edges(void) {
   CHECK(versions_match_all("*", 1, NULL, 0, NULL, 0, NULL, 0) == VERSIONS_BAD_OFFSETS);
   CHECK(versions_sort_keys(NULL, 0, NULL, 0, NULL, 0, NULL, 0) == VERSIONS_BAD_OFFSETS);
   CHECK(versions_kinds("???1.2.31.2???", 14, apart, 4, answers, 3) == VERSIONS_OK);
-  CHECK(answers[0] == VERSIONS_IDEAL && answers[1] == VERSIONS_NONE && answers[2] == VERSIONS_GENERAL && answers[3] == 77);
+  CHECK(answers[0] == VERSIONS_IDEAL && answers[1] == VERSIONS_NONE);
+  CHECK(answers[2] == VERSIONS_GENERAL && answers[3] == 77);
   CHECK(versions_match_all("1.2", 3, "???1.2.31.2???", 14, apart, 4, answers, 3) == VERSIONS_NO_REQUIREMENTS);
   CHECK(versions_match_all("<1.2.3", 6, "???1.2.31.2???", 14, apart, 4, answers, 3) == VERSIONS_OK);
   CHECK(answers[0] == 0 && answers[1] == 2 && answers[2] == 1 && answers[3] == 77);
 
-  // Places in order. No text, one, and texts none of which is a version, which need no room.
+  // Sorted places of no text, of one text, and of texts that are not versions, which need no key buffer.
   const int64_t nowhere[] = {0, 0, 0, 0};
   uint64_t places[4] = {77, 77, 77, 77};
   CHECK(versions_sort(NULL, 0, one_offset, 1, NULL, 0, key_offsets, 1, NULL, 0) == VERSIONS_OK);
@@ -583,13 +585,13 @@ static void edges(void) {
   const uint64_t the_one[] = {0}, the_last_first[] = {2, 0, 1};
   sorted("???1.2.31.2???", alone, 1, the_one);
   sorted("???1.2.31.2???", apart, 3, the_last_first);
-  // A tie that is broken by kind, and metadata of strict versions, which breaks none; no version is last.
+  // A tie that is broken by kind; metadata of strict versions breaks no tie; texts that are not versions come last.
   const int64_t ties[] = {0, 5, 6, 9, 16, 19, 26, 26}, twice[] = {0, 5, 8, 13, 14, 17};
   const uint64_t ties_broken[] = {2, 4, 0, 3, 5, 1, 6}, twice_in_turn[] = {1, 4, 0, 2, 3};
   sorted("0:1.0?1.01.0.1+b1.01.0.1+a", ties, 7, ties_broken);
   sorted("2.0.01.02.0.0?1.0", twice, 5, twice_in_turn);
 
-  // As many offsets of keys as of texts, and a place for each text.
+  // Any other number of key offsets or of places is an error.
   const int64_t two[] = {0, 5, 8};
   uint8_t room[64];
   memset(room, 77, sizeof room);
@@ -605,7 +607,7 @@ static void edges(void) {
   for (size_t i = 0; i < sizeof room; i++) CHECK(room[i] == 77);
   for (int i = 0; i < 5; i++) CHECK(key_offsets[i] == 77);
 
-  // Offsets that are bad in each way, and arrays whose lengths don't fit.
+  // Offsets that are bad in each way, and arrays whose lengths do not match.
   const int64_t negative[] = {-1, 5, 8}, lowest[] = {INT64_MIN, 5, 8}, descending[] = {5, 0, 8}, past[] = {0, 5, 9},
                 largest[] = {0, 5, INT64_MAX}, negative_last[] = {0, 5, -1}, good[] = {0, 5, 8}, nothing[] = {-1};
   refused_offsets(negative, 3, 2);
@@ -620,13 +622,13 @@ static void edges(void) {
   refused_offsets(good, 3, 0);
   refused_offsets(good, 0, 0);
 
-  // Every status has a text of its own.
+  // Every status has its own text.
   for (int a = VERSIONS_OK; a <= VERSIONS_NULL + 1; a++) {
     CHECK(strlen(versions_status_text(a)) > 5);
     for (int b = VERSIONS_OK; b < a; b++) CHECK(strcmp(versions_status_text(a), versions_status_text(b)) != 0);
   }
 
-  // The version, and the processor, which makes all the other calls.
+  // The version, and the processor, on which all other calls run.
   char version[40];
   snprintf(version, sizeof version, "%d.%d.%d", VERSIONS_VERSION_MAJOR, VERSIONS_VERSION_MINOR, VERSIONS_VERSION_PATCH);
   CHECK(strcmp(version, VERSIONS_VERSION) == 0);
@@ -634,9 +636,9 @@ static void edges(void) {
   CHECK(versions_processor_suffices());
 }
 
-// Every call on a text of many bytes, made of a piece again and again with one byte behind it.
+// Makes every call on a long text: a piece many times, and one more byte.
 static void long_text(const char *piece, size_t times, int kind, size_t key_length) {
-  size_t piece_length = strlen(piece), length = piece_length * times + 1, told = 0;
+  size_t piece_length = strlen(piece), length = piece_length * times + 1, needed = 0;
   char *text = (char *)block(length);
   for (size_t i = 0; i < times; i++) memcpy(text + i * piece_length, piece, piece_length);
   text[length - 1] = '1';
@@ -644,9 +646,9 @@ static void long_text(const char *piece, size_t times, int kind, size_t key_leng
   int32_t order = 77, total = 77;
   CHECK(versions_compare(text, length, text, length, &order) == VERSIONS_OK && order == 0);
   CHECK(versions_compare_total(text, length, text, length, &total) == VERSIONS_OK && total == 0);
-  CHECK(versions_sort_key(text, length, NULL, 0, &told) == VERSIONS_NO_ROOM && told == key_length);
-  uint8_t *key = (uint8_t *)block(told);
-  CHECK(versions_sort_key(text, length, key, told, &told) == VERSIONS_OK && told == key_length);
+  CHECK(versions_sort_key(text, length, NULL, 0, &needed) == VERSIONS_NO_ROOM && needed == key_length);
+  uint8_t *key = (uint8_t *)block(needed);
+  CHECK(versions_sort_key(text, length, key, needed, &needed) == VERSIONS_OK && needed == key_length);
   release(key);
   bool matches = false;
   CHECK(versions_matches("*", 1, text, length, &matches) == VERSIONS_OK && matches);
@@ -657,7 +659,7 @@ static void long_text(const char *piece, size_t times, int kind, size_t key_leng
   release(text);
 }
 
-// A million sections, a million parts, and ten megabytes of letters. Of sections of one digit each the key is as long as
+// A million sections, a million parts, and ten megabytes of letters. The key of sections of one digit has the length of
 // the bound.
 static void long_texts(void) {
   size_t million = 1000000;
@@ -666,7 +668,8 @@ static void long_texts(void) {
   long_text("a", 10 * million, VERSIONS_GENERAL, 1 + 1 + 10 * million + 1 + 1 + 3 + 1 + 1);
 }
 
-// The ranks of texts by their places: rising, falling, scattered, all alike, two in turn, and some or all no version.
+// The ranks of texts by their places: ascending, descending, scattered, all equal, two in turn, and with some or all
+// texts not versions.
 static size_t rising(size_t place, size_t count) { return (void)count, place; }
 static size_t falling(size_t place, size_t count) { return count - place; }
 static size_t scattered(size_t place, size_t count) { return place * 7919 % count; }
@@ -675,8 +678,8 @@ static size_t in_turn(size_t place, size_t count) { return (void)count, place % 
 static size_t with_none(size_t place, size_t count) { return place % 3 == 0 ? SIZE_MAX : scattered(place, count) / 10; }
 static size_t none(size_t place, size_t count) { return (void)place, (void)count, SIZE_MAX; }
 
-// A hundred thousand texts that have these ranks, each with metadata of its own. By rank, and then by place, they have
-// one order.
+// A hundred thousand texts with these ranks, each with its own metadata. Sorted by rank and then by place, they have
+// exactly one order.
 static void many_texts(size_t (*rank_of)(size_t, size_t)) {
   size_t count = 100000, used = 0, room = 64 * count;
   char *texts = (char *)block(room);
@@ -718,8 +721,8 @@ static void many(void) {
   many_texts(none);
 }
 
-// Every call on every line, with lists of each operator, and on texts whose answers are known. tests/c runs this where
-// each request for memory is counted, so nothing else may take memory here.
+// Makes every call on every line, with lists of each operator, and on texts with known results. tests/c counts the
+// allocations of this run, so nothing else may allocate here.
 static void without_memory(const struct lines *lines) {
   static const char *const lists[] = {
       "*", "^1.2.3-a,<9,>0.1a", "~1.2.3-a,=1.2.3-rc.10", "^1.2,>=0:1.0-1", "~1:2.0rc1-3", "=10.2+0.93+1-1,<=2_a",
@@ -763,7 +766,7 @@ static void without_memory(const struct lines *lines) {
   release(keys);
   release(key_offsets);
 
-  // Ties that are broken field by field, or stay; numbers; and matches.
+  // Ties that are broken field by field, or that stay; numbers; matches.
   int32_t order = 77, turned = 77;
   uint32_t number = 77;
   bool matches = false;

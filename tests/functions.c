@@ -1,9 +1,9 @@
-// Tries c/versions.c by itself: what its functions pass to the proved ones, in whose place stand others here, and what
-// versions_processor_suffices answers of processors that lack something. tests/c compiles and runs it.
+// Tests c/versions.c alone: what its functions pass to the proved functions, which are replaced here, and the result of
+// versions_processor_suffices on processors that lack an instruction. tests/c compiles and runs it.
 #include <cpuid.h>
 #include <stdio.h>
 
-// What the processor answers in the register ecx for leaf 1 and for leaf 0x80000001, and whether it has these leaves.
+// The simulated processor: the register ecx for the CPUID leaves 1 and 0x80000001, and whether it has these leaves.
 static unsigned features, more_features;
 static int has_features, has_more_features;
 
@@ -24,7 +24,7 @@ static void check(const char *name, bool holds) {
   fprintf(stderr, "FAILED: %s\n", name);
 }
 
-// What stands for the proved functions: none of its pointers may be null, nor lie at an odd place.
+// Replacements of the proved functions. No pointer may be null or misaligned.
 enum { PASSED = 55 };
 
 static void check_pointer(const void *pointer) {
@@ -104,7 +104,7 @@ int proved_versions_match_all(const char *list, size_t list_len, const char *tex
   return list_len == 0 ? proved_versions_kinds(texts, texts_len, offsets, offsets_len, matches, matches_len) : 0;
 }
 
-// A null pointer to nothing is passed on as another one.
+// A null pointer with length 0 is replaced by a pointer that is not null.
 static void null_pointers(void) {
   int32_t order;
   size_t length;
@@ -125,7 +125,7 @@ static void null_pointers(void) {
   check("match_all", versions_match_all(NULL, 0, NULL, 0, NULL, 0, NULL, 0) == PASSED);
 }
 
-// The level x86-64-v2 as the System V ABI for AMD64 has it, by the bits of Intel's and AMD's manuals.
+// The level x86-64-v2 of the System V ABI for AMD64, by the bits in Intel's and AMD's manuals.
 static void processors(void) {
   static const struct {
     const char *name;

@@ -1,16 +1,16 @@
-// What the header has to leave to whoever includes it. tests/c compiles this with every warning, as C and as C++ of
-// each standard, links the library, and runs it.
+// Ways in which a program may use the header's names. tests/c compiles this with every warning, in each standard of C
+// and C++, links the library, and runs it.
 #include <versions.h>
-#include <versions.h>  // Once more is no fault.
+#include <versions.h>  // Including it twice is allowed.
 
-// A function that other files may inline makes a call.
+// A call in an inline function with external linkage.
 inline int inlined_kind(const char *text, size_t length);
 inline int inlined_kind(const char *text, size_t length) { return versions_kind(text, length); }
 extern inline int inlined_kind(const char *text, size_t length);
 
 #ifdef __cplusplus
 
-// A call among whose arguments there is a comma.
+// A call with a comma inside an argument.
 template <size_t first, size_t second>
 static size_t sum(void) {
   return first + second;
@@ -18,7 +18,7 @@ static size_t sum(void) {
 
 static int kind_by_comma(void) { return versions_kind("1.2.3", sum<2, 3>()); }
 
-// A class with functions of the same names, which take something else.
+// A class with functions of the same names and other parameters.
 struct catalogue {
   int versions_kind() const { return ::versions_kind("1.2.3", 5); }
   static int versions_nth(int place) { return place; }

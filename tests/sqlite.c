@@ -1,9 +1,9 @@
-// A program of tests/sqlite, for what the program sqlite3 has no statement for:
-//   refused EXTENSION      loads it and makes statements, where SQLite is refused one request for memory after another
-//   interrupted EXTENSION  interrupts windows, sooner and later
-//   loading EXTENSION      loads it where a load fails midway, again where a statement runs, and into an old SQLite
-// Each ends with no memory of SQLite's taken. It ends with status 1 where something fails, and says what.
-// It is no extension itself, and calls SQLite as a program does.
+// A program of tests/sqlite, for tests that the program sqlite3 cannot make:
+//   refused EXTENSION      loads it and runs statements, while one allocation of SQLite after another fails
+//   interrupted EXTENSION  interrupts windows after different numbers of steps
+//   loading EXTENSION      loads it such that a load fails midway, again while a statement runs, and into an old SQLite
+// Each checks that SQLite has freed all memory. The status is 1 if a check fails, and the check is printed.
+// This is not an extension: it calls SQLite directly.
 #define SQLITE_CORE 1
 #include <sqlite3ext.h>
 
@@ -24,7 +24,7 @@ static const char *extension;
     } \
   } while (0)
 
-// The memory of SQLite. The request of number `refused`, counted from 1, is refused; 0 refuses none.
+// The memory of SQLite. Allocation number `refused`, counted from 1, fails; with 0 none fails.
 static sqlite3_mem_methods ample;
 static long requests, refused;
 
@@ -46,7 +46,7 @@ static void set_up_memory(void) {
   counted.xMalloc = allocate;
   counted.xRealloc = resize;
   sqlite3_config(SQLITE_CONFIG_MALLOC, &counted);
-  // Small requests are then refused like any other.
+  // Without lookaside memory, small allocations can fail too.
   sqlite3_config(SQLITE_CONFIG_LOOKASIDE, 0, 0);
 }
 
@@ -69,7 +69,7 @@ static sqlite3 *loaded(const char *encoding) {
   return db;
 }
 
-// Runs a statement. Its answer is the texts of its rows, one after another, and the message of its error.
+// The result of a statement: its status, the texts of its rows one after another, and the message of its error.
 struct answer {
   int status;
   char text[4096];
@@ -95,7 +95,7 @@ static struct answer run(sqlite3 *db, const char *statement) {
 
 static bool is_same(struct answer a, struct answer b) { return a.status == b.status && strcmp(a.text, b.text) == 0; }
 
-// Where SQLite has no memory for the message of a function, it keeps the status and gives words of its own.
+// If SQLite cannot allocate the message of a function, it keeps the status and has a message of its own.
 static bool is_error_without_words(struct answer a, struct answer b) {
   return a.status == SQLITE_ERROR && b.status == SQLITE_ERROR && strcmp(a.text, "SQL logic error;") == 0;
 }
@@ -160,7 +160,7 @@ static void try_refused_load(void) {
     refuse(0);
     CHECK(status == SQLITE_OK || status == SQLITE_ERROR || status == SQLITE_NOMEM);
     sqlite3_free(fault);
-    // What was defined before a load failed can be called, and the extension can be loaded.
+    // Functions that a failed load defined can be called, and the extension can be loaded again.
     run(db, "SELECT version_key('1')");
     CHECK(sqlite3_load_extension(db, extension, NULL, NULL) == SQLITE_OK);
     CHECK(strcmp(run(db, "SELECT version_max(version_kind('1.2.3') || '.1')").text, "ideal.1;") == 0);
@@ -218,7 +218,7 @@ static void try_loading(void) {
   CHECK(sqlite3_create_collation(db, "VERSION", SQLITE_UTF8, NULL, all_level) == SQLITE_OK);
   CHECK(sqlite3_prepare_v2(db, "VALUES (1), (2)", -1, &running, NULL) == SQLITE_OK);
   CHECK(sqlite3_step(running) == SQLITE_ROW);
-  // The functions are new to the connection, and the collation isn't. So the load fails midway.
+  // The connection has the collation but not the functions. So the load fails midway.
   CHECK(sqlite3_load_extension(db, extension, NULL, &fault) != SQLITE_OK);
   CHECK(fault && strstr(fault, "collation") && strstr(fault, "active statements"));
   sqlite3_free(fault);
@@ -237,7 +237,7 @@ static void try_loading(void) {
   close_all(db);
 }
 
-// The calls that SQLite hands to an extension.
+// The calls that SQLite passes to an extension.
 static const sqlite3_api_routines *calls;
 
 static int keep_calls(sqlite3 *db, char **fault, const sqlite3_api_routines *given) {
@@ -248,7 +248,7 @@ static int keep_calls(sqlite3 *db, char **fault, const sqlite3_api_routines *giv
 
 static int old_number(void) { return 3030001; }
 
-// An SQLite that says it is 3.30.1, and has none of the calls that define something.
+// An SQLite that reports version 3.30.1, and has no calls that define functions or collations.
 static void try_old(void) {
   static sqlite3_api_routines old;
   int (*load)(sqlite3 *, char **, const sqlite3_api_routines *);

@@ -1,13 +1,12 @@
-"""Sorts lines of versions, in many files, on a cluster of dask workers, in the order of `vers sort`:
+"""Sorts lines of versions in many files on a cluster of dask workers, in the order of `vers sort`:
 
     sort_lines.py [--scheduler ADDRESS | --workers N] [--ranges N] [--vers PROGRAM] FOLDER FILE..
 
-Each file is sorted by `vers sort` itself. The sorted files are cut at the same versions, and each range is sorted once
-more by `vers sort`, from its pieces of all files, and written to a file of its own. These files, 00000, 00001 and so on
-in a new folder, are in their order what `vers sort` writes of all files in theirs. A line that is no version is an
-error, and then nothing is written.
+`vers sort` sorts each file. The sorted files are cut at the same versions. For each range, `vers sort` sorts the pieces
+of all files, and writes them to a file of a new folder: 00000, 00001 and so on. These files, one after another, are the
+output of `vers sort` for all input files. If a line is not a version, that is an error, and nothing is written.
 
-Without the address of a scheduler the workers are N processes on this machine, 4 by default.
+Without a scheduler's address, the workers are N processes on this machine, by default 4.
 """
 
 from __future__ import annotations
@@ -27,37 +26,37 @@ import dask
 import versions
 from dask.distributed import Client
 
-# A sorted file gives one sample for so many bytes.
+# A sorted file has one sample for this many bytes.
 BYTES_PER_SAMPLE = 4096
 
-# What a worker on this machine may take. `vers sort` takes its memory beside it: about seven times the bytes it sorts.
+# The memory limit of a worker on this machine. `vers sort` needs its own memory: about seven times the bytes it sorts.
 MEMORY_PER_WORKER = "700MiB"
 
 
 class Sorted:
-    """A sorted file, in memory as the system maps it."""
+    """A sorted file, mapped into memory."""
 
     def __init__(self, path: Path) -> None:
-        # An empty file can't be mapped.
+        # An empty file cannot be mapped.
         with path.open("rb") as file:
             self.lines = mmap(file.fileno(), 0, access=ACCESS_READ) if path.stat().st_size else b""
 
     def line_start(self, place: int, low: int = 0) -> int:
-        """Where the line begins that has the byte at a place; low is the start of a line at or before it."""
+        """The start of the line that contains a place; low is the start of that line or of an earlier line."""
         return max(low, self.lines.rfind(b"\n", low, place) + 1)
 
     def line_end(self, start: int) -> int:
-        """Where the line feed of the line stands that begins at a place."""
+        """The place of the line feed of the line that starts at a place."""
         return self.lines.find(b"\n", start)
 
     def samples(self) -> bytes:
-        """Lines at equal distances, and one at least where there is any."""
+        """Lines at equal distances; at least one unless the file is empty."""
         first = min(BYTES_PER_SAMPLE, len(self.lines)) // 2
         starts = (self.line_start(place) for place in range(first, len(self.lines), BYTES_PER_SAMPLE))
         return b"".join(self.lines[start : self.line_end(start) + 1] for start in starts)
 
     def end_of(self, bound: Optional[str]) -> int:
-        """Where the first line begins that is above a version by precedence; the end where there is no bound."""
+        """The start of the first line after a version by precedence; the end of the file if there is no bound."""
         low, high = 0, len(self.lines)
         while bound is not None and low < high:
             start = self.line_start((low + high) // 2, low)
@@ -70,7 +69,7 @@ class Sorted:
 
 
 def sort_file(vers: Path, path: Path, sorted_path: Path) -> bytes:
-    """Sorts the lines of a file into another, and gives samples of them."""
+    """Sorts the lines of a file into another file, and returns samples of them."""
     with path.open("rb") as lines, sorted_path.open("wb") as written:
         done = subprocess.run([vers, "sort"], stdin=lines, stdout=written, stderr=subprocess.PIPE, check=False)
     if done.returncode != 0:
@@ -79,14 +78,14 @@ def sort_file(vers: Path, path: Path, sorted_path: Path) -> bytes:
 
 
 def bounds_of(vers: Path, samples: Iterable[bytes], ranges: int) -> list[str]:
-    """The greatest version of each range but the last: as many samples fall into each range."""
+    """The greatest version of each range but the last, with equally many samples in each range."""
     done = subprocess.run([vers, "sort"], input=b"".join(samples), stdout=subprocess.PIPE, check=True)
     lines = done.stdout.decode("ascii").splitlines()
     return [lines[len(lines) * n // ranges] for n in range(1, ranges)] if lines else []
 
 
 def write_range(vers: Path, path: Path, files: list[Path], low: Optional[str], high: Optional[str]) -> int:
-    """Writes the lines of all sorted files above one version and up to another. Gives how many bytes they have."""
+    """Writes the lines of all sorted files after one version and up to another. Returns their number of bytes."""
     with path.open("wb") as written:
         process = subprocess.Popen([vers, "sort"], stdin=subprocess.PIPE, stdout=written)
         with process.stdin as lines:
@@ -99,9 +98,10 @@ def write_range(vers: Path, path: Path, files: list[Path], low: Optional[str], h
 
 
 def sort(vers: Path, paths: list[Path], folder: Path, ranges: int) -> tuple[int, ...]:
-    """Sorts files into a folder, by the workers of the client at hand, and gives how many bytes each range has.
+    """Sorts files into a folder with the workers of the current client. Returns the number of bytes of each range.
 
-    All files are sorted before a range is written, since each range has a piece of each. They wait in a folder beside.
+    All files are sorted before a range is written, since each range has a piece of each file. The sorted files are kept
+    in a folder beside it.
     """
     waiting = folder.with_name(folder.name + ".sorting")
     waiting.mkdir()
@@ -137,12 +137,12 @@ def main() -> None:
     given = words.parse_args()
     vers = shutil.which(given.vers)
     if vers is None:
-        sys.exit(f"{given.vers}: there is no such program")
-    # A signal closes the workers too.
+        sys.exit(f"{given.vers}: program not found")
+    # A signal also closes the workers.
     signal.signal(signal.SIGTERM, lambda *_: sys.exit(1))
     folder = given.folder.resolve()
     if folder.exists():
-        sys.exit(f"{folder}: there is one already")
+        sys.exit(f"{folder}: already exists")
     with client_of(given.scheduler, given.workers):
         begun = time.monotonic()
         try:
