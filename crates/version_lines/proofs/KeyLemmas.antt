@@ -1,4 +1,4 @@
--- The keys of what lines and words spell.
+-- The keys of lines and words.
 use Rattle.std.proofs.Common.{◌≡◌, ◌∙◌, ℕ, ◌/◌, ◌%◌, ◌<◌, false, not, List, [], ◌∷◌, ◌++◌, length, length-append, map, replicate, Option, Some, None, is_some, ap, arith, sym}
 use Rattle.std.specs.Char.{digit_char}
 use Rattle.std.specs.Int.Digits.{digits_of}
@@ -21,7 +21,7 @@ use Rattle.versions.proofs.Orders.{key_bytes_alone}
 abbrev pub key_of_spelled : Option PlainVersioning → Option (List ℕ)
 key_of_spelled = option_map (λ v. key_bytes (key_of v))
 
--- the key of a line, by the version that it spells
+-- the key of a line, by its version
 
 pub line_key-spelled : (line : List ℕ) (v : PlainVersioning) → Some v ≡ versioning_of line → line_key line ≡ key_bytes (key_of v)
 unfolding line_key
