@@ -21,7 +21,7 @@ use Rattle.versions.proofs.Orders.{key_bytes_alone}
 abbrev pub key_of_spelled : Option PlainVersioning → Option (List ℕ)
 key_of_spelled = option_map (λ v. key_bytes (key_of v))
 
--- the key of a line, by its version
+-- the key of a line, by the version that it spells
 
 pub line_key-spelled : (line : List ℕ) (v : PlainVersioning) → Some v ≡ versioning_of line → line_key line ≡ key_bytes (key_of v)
 unfolding line_key

@@ -3,7 +3,7 @@ use Rattle.std.specs.Prelude.{ℕ, ℤ, Option, Some, None, is_some, if◌then�
 use Rattle.versions.specs.Versioning.{PlainVersioning, versioning_nth}
 use Rattle.versions_c.specs.declared.status.TheConstants.{OK, NO_NUMBER, NO_VERSION}
 
--- the status for a text and a place
+-- what is said of a text and a place
 abbrev pub nth_status : Option PlainVersioning → ℕ → ℤ
 nth_status None n = NO_VERSION
 nth_status (Some v) n = if is_some (versioning_nth v n) then OK else NO_NUMBER

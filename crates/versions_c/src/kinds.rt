@@ -9,7 +9,7 @@ use crate::offsets::{are_offsets, text_at};
 use crate::spelled::kind_of;
 use crate::status::{BAD_OFFSETS, OK};
 
-/// Returns the kind of a text.
+/// The kind of a text.
 #[unsafe(no_mangle)]
 pub extern "C" fn versions_kind(text: &[u8]) -> i32
     ensures { result ≡ pos (kind_of (versioning_of text.now)) }
@@ -17,7 +17,7 @@ pub extern "C" fn versions_kind(text: &[u8]) -> i32
     kind_of(text) as i32
 }
 
-/// Writes the kind of each text.
+/// The kind of each text.
 #[unsafe(no_mangle)]
 pub extern "C" fn versions_kinds(texts: &[u8], offsets: &[u64], kinds: &mut [u8]) -> i32
     ensures ok { AreOffsets offsets.now (length texts.now) (length kinds.old) → result ≡ OK }
