@@ -1,4 +1,4 @@
-//! The calls that are timed, and a round of them.
+//! The calls that are timed.
 
 use std::hash::{DefaultHasher, Hash, Hasher};
 use std::io;
@@ -10,7 +10,7 @@ use versions::key::{KeyBytes, compare_bytes};
 /// How many calls are timed.
 pub const COUNT: usize = 10;
 
-/// What they do with a version or with its text, in the order of their times.
+/// The names of the calls, in the order of their times.
 pub const NAMES: [&str; COUNT] = [
     "read",
     "printed",
@@ -24,8 +24,8 @@ pub const NAMES: [&str; COUNT] = [
     "dropped",
 ];
 
-/// What each call takes on that text, one after the other. All results are looked at, so that no call can be left out;
-/// a wrong one is an error.
+/// Returns the time of each call on a text. All results are checked, so that no call can be optimized away; a wrong
+/// result is an error.
 pub fn times(rt: &HostRuntime, text: &str) -> io::Result<[Duration; COUNT]> {
     let mut watch = Watch::start(rt)?;
     let version = Versioning::new(rt.alloc(), text)?.ok_or(ErrorKind::InvalidInput)?;
@@ -72,7 +72,7 @@ pub fn times(rt: &HostRuntime, text: &str) -> io::Result<[Duration; COUNT]> {
     ])
 }
 
-// The time of the processor since it was last looked at, to which other work on the machine adds little.
+// Returns the processor's time since the last reading; other work on the machine adds little to it.
 #[derive(Drop)]
 struct Watch {
     last: Duration,

@@ -1,6 +1,6 @@
-//! The program `bench_growth`: what each call takes on one long version, for a byte of its text. Where the work grows with
-//! the text and no faster, that is the same for a text of any length. `bench/growth` runs it. By the word `check`, as the
-//! gate runs it, it makes the same calls on short texts, and prints these and no time.
+//! The program `bench_growth`: the time of each call on one long version, for each byte of its text. If the work is
+//! linear, that time is the same for texts of any length. `bench/growth` runs it. With the word `check`, as the gate
+//! runs it, it makes the same calls on short texts, and prints the texts and no times.
 #![tactic(auto)]
 
 mod calls;
@@ -17,7 +17,7 @@ const USAGE: &str =
 
 const ROUNDS: u8 = 3;
 
-// The bytes of a short text.
+// The length of a short text in bytes.
 const FEW: usize = 19;
 
 fn main(rt: HostRuntime) -> io::Result<()> {
@@ -37,7 +37,7 @@ fn main(rt: HostRuntime) -> io::Result<()> {
     }
 }
 
-// A line for each shape, with a short text of it and the calls that were made and looked at.
+// Prints a line for each shape, with a short text and the calls whose results were checked.
 fn check(rt: &HostRuntime) -> io::Result<()> {
     for (name, shape) in shape::ALL {
         let text = shape.text(rt.alloc(), FEW)?;
@@ -51,7 +51,7 @@ fn check(rt: &HostRuntime) -> io::Result<()> {
     Ok(())
 }
 
-// The shape and the bytes that the words ask for.
+// Returns the shape and the length that the words name.
 fn wanted(words: &[String]) -> Option<(Shape, usize)> {
     match words {
         [shape, megabytes] => {
@@ -65,7 +65,7 @@ fn wanted(words: &[String]) -> Option<(Shape, usize)> {
     }
 }
 
-// The least that each call took in a few rounds.
+// Returns the least time of each call in a few rounds.
 fn best_times(rt: &HostRuntime, text: &str) -> io::Result<[Duration; COUNT]> {
     let mut best = [Duration::MAX; COUNT];
     for _ in 0..ROUNDS {
@@ -77,7 +77,7 @@ fn best_times(rt: &HostRuntime, text: &str) -> io::Result<[Duration; COUNT]> {
     Ok(best)
 }
 
-// A line for each call, with the nanoseconds for a byte.
+// Prints a line for each call, with the nanoseconds for each byte.
 fn print(rt: &HostRuntime, times: [Duration; COUNT], bytes: usize) -> io::Result<()> {
     for (name, time) in NAMES.iter().zip(times.iter()) {
         let of_a_byte = time.as_secs_f64() * 1e9 / nearest_usize_to_f64(bytes);

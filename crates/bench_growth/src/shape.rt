@@ -2,7 +2,7 @@
 
 use std::alloc::{AllocError, Global};
 
-/// What a long version is made of.
+/// The pieces of a long version.
 #[derive(Clone, Copy)]
 pub enum Shape {
     /// `1_1_1_1`: sections of a messy version, each inside the one before it.
@@ -24,14 +24,14 @@ pub const ALL: [(&str, Shape); 4] = [
 ];
 
 impl Shape {
-    /// The shape of that name.
+    /// Returns the shape of that name.
     pub fn named(name: &str) -> Option<Shape> {
         ALL.iter()
             .find(|(known, _)| *known == name)
             .map(|(_, shape)| *shape)
     }
 
-    /// A version of this shape, of as many bytes or one more.
+    /// Returns a version of this shape, of as many bytes or one more.
     pub fn text(self, alloc: Global, bytes: usize) -> Result<String, AllocError> {
         let (front, further) = match self {
             Shape::Signs => ("1", "_1"),

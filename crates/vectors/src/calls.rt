@@ -1,4 +1,4 @@
-//! The calls that read texts, by their names. A row of a test names a call and a text, and has what the call answers.
+//! The calls that read texts, by their names. A row of a test has a call's name, a text, and the call's answer.
 
 use std::alloc::AllocError;
 use std::test::Fail;
@@ -6,7 +6,7 @@ use vectors_support::{answered, columns, holds, shown};
 use versions::parsers::{alphanums, hyphenated_alphanums, meta, unsigned};
 use versions::{Chunk, Last, MChunk, Mess, Release, SemVer, Version, Versioning};
 
-/// Fails where the call of a row answers otherwise: values are written by `Debug`, errors by `Display` and `Debug`.
+/// Fails if the call's answer differs from its row: values are written by `Debug`, errors by `Display` and `Debug`.
 pub(crate) fn answer(rt: &impl AllocGlobal, rows: &str) -> Result<(), Fail> {
     for row in rows.lines() {
         let (call, text, wanted) = columns(row)?;
@@ -50,7 +50,7 @@ fn of_versions(rt: &impl AllocGlobal, call: &str, text: &str) -> Result<String, 
     }
 }
 
-// The calls of a chunk, which is that of a text.
+// The calls of a chunk that a text parses as.
 fn of_chunks(rt: &impl AllocGlobal, call: &str, text: &str) -> Result<String, AllocError> {
     match Chunk::parse(rt.alloc(), text)? {
         Some((chunk, _)) if call == "Last::from_chunk" => last_of(rt, chunk),

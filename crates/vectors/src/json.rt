@@ -1,4 +1,4 @@
-//! Versions and requirements in JSON documents, where each is a string: what is read, what is written, and the errors.
+//! Versions and requirements in JSON documents, where each is a string: reading, writing, and errors.
 
 use serde_json::Value;
 use std::alloc::AllocError;
@@ -6,7 +6,7 @@ use std::test::Fail;
 use vectors_support::{answered, any, columns, holds, prints};
 use versions::{JsonError, ReadError, Requirement, Requirements, Versioning};
 
-// What is read, a document, and the value by `Debug`, or the error by `Display` and `Debug`.
+// A type, a document, and the value by `Debug` or the error by `Display` and `Debug`.
 const READ: &str =
     r#"Versioning|"1.2.3"|Ideal(SemVer { major: 1, minor: 2, patch: 3, pre_rel: None, meta: None })
 Versioning|"1 2"|Illegal Versioning: 1 2, Illegal(IllegalVersioning("1 2"))
@@ -71,7 +71,7 @@ fn errors_without_a_text(rt: HostRuntime) -> Result<(), Fail> {
     prints(&rt, &ReadError::Memory(AllocError), "no memory")
 }
 
-// What a value is read as, or why it isn't.
+// Returns the value of a document, or the error.
 fn read(rt: &impl AllocGlobal, of: &str, value: &Value) -> Result<String, AllocError> {
     match of {
         "Versioning" => answered(rt, Versioning::deserialize_pretty(rt.alloc(), value)),
@@ -88,7 +88,7 @@ fn is_written(
     prints(rt, &answer?, wanted)
 }
 
-// Writes the latest version in the place of an older one.
+// Replaces an older version by the latest.
 fn replace_older(rt: &impl AllocGlobal, value: &mut Value, latest: &str) -> Result<(), Fail> {
     let latest = any(rt, latest)?;
     let Ok(version) = Versioning::deserialize_pretty(rt.alloc(), value) else {

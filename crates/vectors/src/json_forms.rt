@@ -1,5 +1,5 @@
-//! The forms that serde derives of strict and general versions and of the parts of all versions: their JSON texts, and
-//! what is refused. No clause says what they are.
+//! The forms that serde derives for strict and general versions and for the parts of all versions: their JSON texts,
+//! and documents that are refused. No clause says what they are.
 
 use serde::{DeserializeOwned, Serialize};
 use serde_json::Value;
@@ -8,7 +8,7 @@ use std::test::Fail;
 use vectors_support::holds;
 use versions::{Chunk, Chunks, Last, MChunk, Release, SemVer, Sep, Version};
 
-// Types and forms of their values, what these print, and what `Debug` writes of them; or that a document is no form.
+// Types, forms of their values, what the values print, and their `Debug`; or that a document is not a form.
 const FORMS: &str = r#"Chunk {"Numeric":4294967295}|4294967295|Numeric(4294967295)
 Chunk {"Alphanum":"rc-1"}|rc-1|Alphanum("rc-1")
 Chunks [{"Numeric":1},{"Numeric":2}]|1.2|Chunks([Numeric(1), Numeric(2)])
@@ -53,7 +53,7 @@ fn forms_are_read_and_written(rt: HostRuntime) -> Result<(), Fail> {
     Ok(())
 }
 
-// The value that a document is read as, as it prints and by `Debug`.
+// Returns the value of a document, as it prints and by `Debug`.
 fn read(rt: &impl AllocGlobal, of: &str, document: &str) -> Result<String, Fail> {
     match of {
         "Chunk" => read_as::<Chunk>(rt, document),

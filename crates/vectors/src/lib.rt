@@ -1,4 +1,4 @@
-//! Tests of versions and their parts as texts: what is read, what is not, what is printed, and their forms in JSON.
+//! Tests of versions and their parts as texts: which texts parse, what is printed, and their forms in JSON.
 #![tactic(auto)]
 
 #[cfg(test)]

@@ -1,4 +1,4 @@
-//! Messy versions and their chunks: what is read, what is not, and what `Debug` writes, which no clause says.
+//! Messy versions and their chunks: which texts parse, and what `Debug` writes, which no clause says.
 
 use crate::calls::answer;
 use std::alloc::AllocError;
@@ -66,7 +66,7 @@ fn what_is_not_read(rt: HostRuntime) -> Result<(), Fail> {
     answer(&rt, NOT_READ)
 }
 
-// What Rust's derive writes of `1.a_r2+0`.
+// The text that Rust's derive writes for `1.a_r2+0`.
 const INDENTED: &str = "\
 Complex(
     Mess {
@@ -128,7 +128,7 @@ fn debug_passes_its_options_on(rt: HostRuntime) -> Result<(), Fail> {
     has(format!(in rt.alloc(); "{mess:+#?}"), "  +7,\n")
 }
 
-// Fails where a text doesn't have a piece.
+// Fails if a text doesn't contain a piece.
 fn has(shown: Result<String, AllocError>, piece: &str) -> Result<(), Fail> {
     let shown = shown?;
     holds(

@@ -1,4 +1,4 @@
-//! Strict versions and their parts: what is read, and what is not.
+//! Strict versions and their parts: which texts parse, and which don't.
 
 use crate::calls::answer;
 use std::test::Fail;

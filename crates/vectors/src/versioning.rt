@@ -1,11 +1,11 @@
-//! Versions of any kind: which kind a text is of, conversions between kinds, and numbers by their places.
+//! Versions of any kind: the kind of a text, conversions between kinds, and numbers by their places.
 
 use crate::calls::answer;
 use std::test::Fail;
 use vectors_support::{any, as_messy, kind_of, prints};
 use versions::Versioning;
 
-// Kinds, and texts that spell versions of them.
+// Kinds, and texts that parse as versions of them.
 const KINDS: &str = "\
 ideal 0.1.0 1.2.3 1.2.3-1 1.2.3-alpha 1.2.3-alpha.2 1.2.3+a1b2c3.1 1.2.3-alpha.2+a1b2c3.1 1.0.0-x-y-z.- 1.0.0-alpha+001
 ideal 1.0.0+21AF26D3---117B344092BD 0.4.8-1 7.42.13-4 2.1.16102-2 2.2.1-b05 1.11.0+20200830-1 1.2.3+.. 1.2.2-0a

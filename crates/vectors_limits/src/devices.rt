@@ -1,4 +1,4 @@
-//! The program over readers and writers that fail, and over those that give and take a byte at a time.
+//! The program over readers and writers that fail, or that read and write a byte at a time.
 
 use std::alloc::{AllocError, Global};
 use std::io;
@@ -7,7 +7,7 @@ use std::test::Fail;
 use vectors_support::{columns, hash_of, holds};
 use version_lines::{Fault, run};
 
-// The words of runs that read, their inputs, and all that they write.
+// The words of runs that read, their inputs, and their outputs.
 const READING: [&str; 5] = [
     "|1.2.3\n1.2\n\n1.2.3+a|ideal 1.2.3\nnone\nnone\nideal 1.2.3+a\n",
     "ideal|1.2.3\n1.2\n|ideal 1.2.3\nnone\n",
@@ -45,8 +45,8 @@ fn a_reader_that_fails_and_is_not_read(rt: HostRuntime) -> Result<(), Fail> {
     Ok(())
 }
 
-// What is to be written waits in a buffer, and each call gets all of it that was not yet taken. So a writer that takes
-// one byte a call gets the same bytes one after another, however much waits.
+// The output is buffered, and each call of `write` is passed all of the buffer that was not yet written. So a writer
+// that takes one byte a call gets the same bytes one after another, however much is buffered.
 #[test]
 fn a_writer_that_fails(rt: HostRuntime) -> Result<(), Fail> {
     for row in READING.iter().chain(UNREAD.iter()) {
@@ -78,7 +78,7 @@ fn unequal_faults_hash_apart(rt: HostRuntime) {
     assert_ne!(rt; hash_of(&Fault::Read), hash_of(&Fault::Write));
 }
 
-// Words as the program gets them, an input, and all that the run writes.
+// Words as the program gets them, an input, and the whole output.
 #[derive(Drop)]
 struct Row<'a> {
     alloc: Global,
@@ -98,7 +98,7 @@ impl<'a> Row<'a> {
         })
     }
 
-    // A reader that fails after so many bytes is a fault, and nothing is written.
+    // If the reader fails after so many bytes, the run fails, and nothing is written.
     fn fails_to_read(&self, given: &str, step: usize, kind: ErrorKind) -> Result<(), Fail> {
         let mut reader = Giver::of(given.as_bytes(), step, Some(kind));
         let mut writer = Taker::new(self.alloc, usize::MAX, None);
@@ -122,7 +122,7 @@ impl<'a> Row<'a> {
         )
     }
 
-    // A writer that takes a byte at each of so many calls, and then fails or takes none, has the beginning of the output.
+    // A writer that takes a byte at each of so many calls, and then fails or takes nothing, has a prefix of the output.
     fn fails_to_write(&self, calls: usize, kind: Option<ErrorKind>) -> Result<(), Fail> {
         let mut reader = Giver::of(self.input.as_bytes(), usize::MAX, None);
         let mut writer = Taker::new(self.alloc, 1, Some((calls, kind)));
@@ -136,7 +136,7 @@ impl<'a> Row<'a> {
         )
     }
 
-    // A reader that gives, and a writer that takes, one byte at a call change nothing.
+    // A reader that returns and a writer that takes one byte a call change nothing.
     fn is_written(&self) -> Result<(), Fail> {
         let mut reader = Giver::of(self.input.as_bytes(), 1, None);
         let mut writer = Taker::new(self.alloc, 1, None);
@@ -148,7 +148,7 @@ impl<'a> Row<'a> {
         )
     }
 
-    // A writer that always fails is not called where nothing is to be written.
+    // A writer that always fails is not called if there is no output.
     fn writes_nothing(&self) -> Result<(), Fail> {
         let mut reader = Giver::of(self.input.as_bytes(), 1, None);
         let mut writer = Taker::new(self.alloc, 1, Some((0, Some(ErrorKind::Other))));
@@ -164,7 +164,7 @@ impl<'a> Row<'a> {
     }
 }
 
-// Gives its input in pieces of at most `step` bytes, and then fails, where a fault is set.
+// Returns its input in pieces of at most `step` bytes, and then fails if a fault is set.
 #[derive(Drop)]
 struct Giver<'a> {
     input: &'a [u8],
@@ -197,7 +197,7 @@ impl<'a> Read for Giver<'a> {
     }
 }
 
-// Takes at most `step` bytes at a call. After as many calls as `ends` says it takes none, or fails.
+// Takes at most `step` bytes a call. After as many calls as `ends` says, it takes nothing, or fails.
 #[derive(Drop)]
 struct Taker {
     taken: Vec<u8>,
@@ -239,7 +239,7 @@ impl Write for Taker {
     }
 }
 
-// The words of a text as a program gets them.
+// Returns the words of a text as a program gets them.
 fn owned(rt: &impl AllocGlobal, words: &str) -> Result<Vec<String>, AllocError> {
     let mut owned = Vec::new(rt.alloc());
     for word in words.split_whitespace() {

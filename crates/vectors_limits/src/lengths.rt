@@ -1,6 +1,6 @@
 //! Versions of great length: long runs of digits, a million sections, ten megabytes. Each call goes along them by a
-//! loop, so the stack that a program has is enough. `rt try --test` takes more than a hundred times as long for them as
-//! `rt test`, so it doesn't end for the longest.
+//! loop, so a program's default stack is enough. `rt try --test` takes more than a hundred times as long as `rt test`,
+//! so it doesn't finish the longest.
 
 use std::alloc::AllocError;
 use std::cmp::Ordering;
@@ -34,7 +34,7 @@ fn three_thousand_zeros_and_a_one(rt: HostRuntime) -> Result<(), Fail> {
     Ok(())
 }
 
-// Each below the next, and the beginnings of their keys, in which the length of the digits is written.
+// Each version is below the next; the first bytes of the keys, which are the length of the digits.
 #[test]
 fn lengths_about_the_largest_of_one_byte(rt: HostRuntime) -> Result<(), Fail> {
     let nines = any(&rt, repeated(&rt, "9", 254, "")?.as_str())?;
@@ -75,7 +75,7 @@ fn a_million_sections_by_debug(rt: HostRuntime) -> Result<(), Fail> {
     Ok(())
 }
 
-// The whole would be 78 terabytes, blanks for the most part.
+// The whole would be 78 terabytes, mostly blanks.
 #[test]
 fn a_million_sections_by_pretty_debug(rt: HostRuntime) -> Result<(), Fail> {
     let version = any(&rt, repeated(&rt, "1_", 999_999, "1")?.as_str())?;
@@ -121,7 +121,7 @@ fn ten_megabytes_of_metadata(rt: HostRuntime) -> Result<(), Fail> {
     spells_none(&rt, text, " ")
 }
 
-// Texts that are so often repeated, with a `!` at their ends.
+// Texts repeated so many times, each ending in `!`.
 const NONE: &str = "\
 1_ 1000000
 1: 1000000
@@ -138,7 +138,7 @@ fn ten_megabytes_that_spell_none(rt: HostRuntime) -> Result<(), Fail> {
     Ok(())
 }
 
-// `rt try --test` takes minutes for it, so it wants `--seconds 600`.
+// `rt try --test` takes minutes for it, so it needs `--seconds 600`.
 #[test]
 fn a_hundred_thousand_requirements(rt: HostRuntime) -> Result<(), Fail> {
     let mut text = repeated(&rt, ">=1.2,", 99_999, "<2.0.0")?;
@@ -160,7 +160,7 @@ fn a_hundred_thousand_requirements(rt: HostRuntime) -> Result<(), Fail> {
     Ok(())
 }
 
-// A text so many times and then `1` is a version of the kind, and below the one that ends in `2`.
+// A text so many times and then `1` is a version of the kind, below the same with `2` at its end.
 fn differ_at_the_end(
     rt: &impl AllocGlobal,
     text: &str,
@@ -175,7 +175,7 @@ fn differ_at_the_end(
     are_ordered(rt, &lower, &Versioning::Complex(upper))
 }
 
-// The version that a text spells, which is of the kind. It goes through each call, and so does the messy version.
+// Returns the version of a text, which has to be of the kind. It goes through each call, and so does its messy version.
 fn read(rt: &impl AllocGlobal, text: &str, kind: &str) -> Result<Versioning, Fail> {
     let version = any(rt, text)?;
     holds(kind_of(&version) == kind, "another kind")?;
@@ -208,7 +208,7 @@ fn is_key(version: &Versioning, key: &[u8]) -> Result<(), Fail> {
     holds(answer.is_eq(), "the bytes of the key")
 }
 
-// The bytes read off a text, one after another and all at once, are those of the key of the version that it spells.
+// The key bytes of a text, one after another and all at once, are those of its version's key.
 fn spells_key(text: &str, version: &Versioning, list: &mut Vec<u8>) -> Result<(), Fail> {
     let mut spelled = KeyBytes::spelled_by(text).ok_or("no key")?;
     let answer = compare_bytes(&mut spelled, &mut version.key_bytes());
@@ -217,7 +217,7 @@ fn spells_key(text: &str, version: &Versioning, list: &mut Vec<u8>) -> Result<()
     is_key(version, list.as_slice())
 }
 
-// A text with an end that no version has spells none, and has no key.
+// A text with a bad end is not a version, and has no key.
 fn spells_none(rt: &impl AllocGlobal, mut text: String, end: &str) -> Result<(), Fail> {
     text.push_str(end)?;
     let version = Versioning::new(rt.alloc(), text.as_str())?;
@@ -225,7 +225,7 @@ fn spells_none(rt: &impl AllocGlobal, mut text: String, end: &str) -> Result<(),
     holds(KeyBytes::spelled_by(text.as_str()).is_none(), "a key")
 }
 
-// Fails where the key of a version begins otherwise.
+// Fails if the key of a version begins with other bytes.
 fn begins(rt: &impl AllocGlobal, version: &Versioning, wanted: &str) -> Result<(), Fail> {
     let key = version.sort_key(rt.alloc())?;
     holds(
@@ -234,7 +234,7 @@ fn begins(rt: &impl AllocGlobal, version: &Versioning, wanted: &str) -> Result<(
     )
 }
 
-// The chunk that a messy version is.
+// Returns the only chunk of a messy version.
 fn only_chunk(version: &Versioning) -> Option<&MChunk> {
     match version {
         Versioning::Complex(Mess { chunks, next: None }) => match chunks.as_slice() {
@@ -245,14 +245,14 @@ fn only_chunk(version: &Versioning) -> Option<&MChunk> {
     }
 }
 
-// The digit 1 and so many zeros.
+// Returns the digit 1 and so many zeros.
 fn ten_to(rt: &impl AllocGlobal, zeros: u32) -> Result<String, AllocError> {
     let mut text = String::from_str(rt.alloc(), "1")?;
     text.push_str(repeated(rt, "0", zeros, "")?.as_str())?;
     Ok(text)
 }
 
-// A writer that has room for so many bytes more, and fails where that is filled.
+// A writer for so many more bytes, which fails after them.
 #[derive(Drop)]
 struct Page {
     room: usize,

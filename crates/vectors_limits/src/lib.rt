@@ -1,5 +1,5 @@
-//! Tests of limits: values that no text spells, texts of great length, and the program over readers and writers that
-//! fail or that give and take a byte at a time.
+//! Tests of limits: values that no text parses as, texts of great length, and the program over readers and writers that
+//! fail, or that read and write a byte at a time.
 #![tactic(auto)]
 
 #[cfg(test)]

@@ -1,11 +1,11 @@
-//! Versions built by hand, of shapes that no text spells: their keys, and what they print.
+//! Versions built by hand, of shapes that no text parses as: their keys, and what they print.
 
 use std::test::Fail;
 use vectors_support::{as_messy, bytes, columns, form, key, prints};
 use versions::{Mess, Sep, Version, Versioning};
 
-// Values, their keys, and what they print. A value is a last part alone, a general version or a messy one, by JSON
-// forms; of a messy one each section is a list of chunks, and a colon stands between two. The text is a JSON string.
+// Values, their keys, and what they print. A value is a last part alone, a general version or a messy version, by JSON
+// forms. A messy version is a list of chunks for each section, with a colon between two. The text is a JSON string.
 const VALUES: &str = r#"last {"Alphanum":"é1"}|00 01 C3 A9 00 01 01 31 00 02 02|"é1"
 last {"Alphanum":"a.b"}|00 01 61 2E 62 00 00 02 02|"a.b"
 last {"Alphanum":"a\u0000"}|00 01 61 01 01 00 00 02 02|"a\u0000"
@@ -52,7 +52,7 @@ fn built(rt: &impl AllocGlobal, kind: &str, forms: &str) -> Result<Versioning, F
     }
 }
 
-// A messy version of one section, or of two with a colon between them.
+// Returns a messy version of one section, or of two with a colon between them.
 fn sections(rt: &impl AllocGlobal, forms: &str) -> Result<Mess, Fail> {
     let (first, next) = match forms.split_once(';') {
         Some((first, next)) => (first, Some(section(rt, next)?)),

@@ -1,5 +1,5 @@
-//! Makes each call that takes memory once, and prints what it is lent, what it answers, and what it was lent once
-//! more, on a line. `tests/refused_memory` refuses requests for memory to it. The file `stdout` has the wanted lines.
+//! Makes each call that allocates once, and prints its argument, its answer and its argument again, on a line.
+//! `tests/refused_memory` makes its allocations fail. The file `stdout` has the expected lines.
 #![tactic(auto)]
 
 mod calls;
@@ -10,7 +10,7 @@ use std::env;
 use std::io::{self, ErrorKind};
 use table::Table;
 
-// A word is the number of the one call to be made, counted from 1.
+// A word is the number of the only call to make, counted from 1.
 fn main(rt: HostRuntime) -> io::Result<()> {
     let only = match env::args(&rt)?.nth(1) {
         Some(word) => Some(number(word.as_str())?),

@@ -1,4 +1,4 @@
-//! The kinds of rows that the table of calls has. A row prints nothing before what it lends is made.
+//! The kinds of rows in the table of calls. A row prints nothing before its argument is made.
 
 use crate::taker::Taker;
 use std::alloc::{AllocError, Global};
@@ -6,7 +6,7 @@ use std::fmt::Debug;
 use std::io::{self, ErrorKind};
 use version_lines::run;
 
-/// The table, at the row that was made last.
+/// The table, at its latest row.
 #[derive(Drop)]
 pub struct Table<'a> {
     rt: &'a HostRuntime,
@@ -15,12 +15,12 @@ pub struct Table<'a> {
 }
 
 impl<'a> Table<'a> {
-    /// The table before its first row, of which all are made, or only one.
+    /// Returns the table before its first row. All of its rows are run, or only one.
     pub fn new(rt: &'a HostRuntime, only: Option<usize>) -> Table<'a> {
         Table { rt, only, at: 0 }
     }
 
-    // Goes on to the next row, and says whether its call is to be made.
+    // Goes on to the next row, and returns whether to make its call.
     fn makes_next(&mut self) -> bool {
         self.at = self.at.saturating_add(1);
         match self.only {
@@ -29,7 +29,7 @@ impl<'a> Table<'a> {
         }
     }
 
-    /// A call that is lent a text.
+    /// Makes a call that borrows a text.
     pub fn reads<'t, T, E, C>(&mut self, name: &str, text: &'t str, call: C) -> io::Result<()>
     where
         T: Debug + Drop,
@@ -45,7 +45,7 @@ impl<'a> Table<'a> {
         println!(self.rt; " gives {answer:?} and stays {text:?}")
     }
 
-    /// A call that is lent a value, which is made of a text.
+    /// Makes a call that borrows a value, which is read from a text.
     pub fn borrows<'t, B, T, E, M, C>(
         &mut self,
         name: &str,
@@ -71,7 +71,7 @@ impl<'a> Table<'a> {
         println!(self.rt; " gives {answer:?} and stays {lent:?}")
     }
 
-    /// A call that is given a value, which is made of a text, and gives it back where memory is refused.
+    /// Makes a call that takes a value, which is read from a text, and returns it if an allocation fails.
     pub fn takes<'t, B, T, E, M, C>(
         &mut self,
         name: &str,
@@ -97,7 +97,7 @@ impl<'a> Table<'a> {
         println!(self.rt; " gives {answer:?}")
     }
 
-    /// A run of the program, which is lent its words, and may write what is wanted or a beginning of that.
+    /// Makes a run of the program, which borrows its words, and may write the expected output or a prefix of it.
     pub fn runs(
         &mut self,
         name: &str,
@@ -111,7 +111,7 @@ impl<'a> Table<'a> {
         self.run(name, words, input, wanted)
     }
 
-    /// The same with general versions all of which are wanted, and more of them than wait in a buffer.
+    /// Makes a run over general versions that are all kept, and are more than the buffer holds.
     pub fn runs_over_long_lines(&mut self, name: &str, words: &[&str]) -> io::Result<()> {
         if !self.makes_next() {
             return Ok(());
@@ -132,12 +132,12 @@ impl<'a> Table<'a> {
     }
 }
 
-// The value that a text has to spell.
+// Returns the value of a text, which has to parse.
 fn made<B: Drop>(value: Option<B>) -> io::Result<B> {
     value.ok_or(io::Error::from(ErrorKind::InvalidInput))
 }
 
-// The words as a program gets them.
+// Returns the words as a program gets them.
 fn owned(alloc: Global, words: &[&str]) -> Result<Vec<String>, AllocError> {
     let mut owned = Vec::with_capacity(alloc, words.len())?;
     for word in words {

@@ -1,8 +1,8 @@
-//! A writer that needs no memory.
+//! A writer that doesn't allocate.
 
 use std::io::{self, ErrorKind, Write};
 
-/// Takes the bytes that are wanted of it, counts them, and fails at any other.
+/// Takes the expected bytes, counts them, and fails at any other byte.
 #[derive(Drop)]
 pub struct Taker<'a> {
     wanted: &'a [u8],

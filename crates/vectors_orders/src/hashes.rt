@@ -1,4 +1,4 @@
-//! That unequal values hash apart, which no clause says: what a hash is fed with is proved.
+//! Unequal values have different hashes, which no clause says: only the input of a hash is proved.
 
 use std::hash::Hash;
 use std::test::Fail;

@@ -5,7 +5,7 @@ use std::test::Fail;
 use vectors_support::{any, bytes, columns, form, key};
 use versions::key::compare_bytes;
 
-// Texts, and the keys of the versions of the first kind that they spell.
+// Texts, and the keys of their versions.
 const KEYS: &str = "\
 1.0|00 03 01 31 02 03 00 02 02 02
 1.0.10|00 03 01 31 02 03 00 02 03 02 31 30 02 02 02
@@ -30,7 +30,7 @@ fn has_key(rt: &impl AllocGlobal, text: &str, wanted: &[u8]) -> Result<(), Fail>
     key(rt, &any(rt, text)?, wanted)
 }
 
-// The bytes of two streams, and how they compare.
+// The bytes of two streams, and their order.
 const STREAMS: &str = "\
 []|[]|Equal
 []|[0]|Less

@@ -1,4 +1,4 @@
-//! Tests of orders: how versions and their parts compare, the bytes of their keys, and that unequal values hash apart.
+//! Tests of orders: how versions and their parts compare, the bytes of their keys, and hashes of unequal values.
 #![tactic(auto)]
 
 #[cfg(test)]

@@ -1,11 +1,11 @@
-//! How versions and their parts compare: rows of versions each below the next, ties, and what conversions do.
+//! How versions and their parts compare: rows of versions each below the next, ties, and conversions.
 
 use std::cmp::Ordering;
 use std::test::Fail;
 use vectors_support::{any, columns, form, general, holds, messy, strict};
 use versions::{Chunks, Last, MChunk, SemVer, Versioning};
 
-// A type and texts of its values. Those of any kind, as a `Versioning`, go by `precedence` too.
+// A type and texts of its values. Values of `Versioning` are also compared by `precedence`.
 const EACH_BELOW_THE_NEXT: &str = "\
 SemVer 1.0.0-alpha 1.0.0-alpha.1 1.0.0-alpha.beta 1.0.0-beta 1.0.0-beta.2 1.0.0-beta.11 1.0.0-rc.1 1.0.0
 Version 0.9.9.9 1.0.0.0 1.0.0.1 2
@@ -87,7 +87,7 @@ fn equal_versions(rt: HostRuntime) -> Result<(), Fail> {
     compare(&rt, EQUAL, (Ordering::Equal, Ordering::Equal))
 }
 
-// Types and JSON forms of two values, the first below the second. No text spells all of them.
+// Types and JSON forms of two values, the first below the second. Not all of them have a text.
 const EACH_FORM_BELOW_THE_NEXT: &str = r#"Chunks|[]|[{"Numeric":0}]
 Chunks|[{"Alphanum":"a"}]|[]
 Chunks|[{"Numeric":1}]|[{"Alphanum":"1"}]
@@ -113,8 +113,8 @@ fn values_built_by_hand(rt: HostRuntime) -> Result<(), Fail> {
     Ok(())
 }
 
-// A strict version with a pre-release is below its general version, and that below its messy one. Without, the first
-// two tie.
+// A strict version with a pre-release is below its general version, which is below its messy version. Without a
+// pre-release, the first two tie.
 #[test]
 fn conversions_never_lower_precedence(rt: HostRuntime) -> Result<(), Fail> {
     let rising = converted(&rt, "1.2.3-1+x")?;
@@ -124,7 +124,7 @@ fn conversions_never_lower_precedence(rt: HostRuntime) -> Result<(), Fail> {
     Ok(())
 }
 
-// Fails where a version of a row doesn't stand so to the next one, in precedence and in `Ord`, or `==` is otherwise.
+// Fails if a version of a row compares in another way with the next version, by precedence, `Ord` or `==`.
 fn compare(rt: &impl AllocGlobal, rows: &str, wanted: (Ordering, Ordering)) -> Result<(), Fail> {
     for row in rows.lines() {
         let (of, texts) = row.split_once(' ').ok_or("no text")?;
@@ -139,7 +139,7 @@ fn compare(rt: &impl AllocGlobal, rows: &str, wanted: (Ordering, Ordering)) -> R
     Ok(())
 }
 
-// How two versions of a type stand in precedence and in `Ord`, and whether they are equal.
+// Compares two versions of a type by precedence, by `Ord` and by `==`.
 fn compared(
     rt: &impl AllocGlobal,
     of: &str,
@@ -158,7 +158,7 @@ fn compared(
     }
 }
 
-// The same for a type that has one order alone.
+// The same for a type with only one order.
 fn in_order<T: Ord + Drop>(
     one: T,
     other: Result<T, Fail>,
@@ -168,7 +168,7 @@ fn in_order<T: Ord + Drop>(
     Ok((order, order, one == other))
 }
 
-// How a strict version stands to its general version in precedence, and that to its messy one.
+// Compares a strict version with its general version by precedence, and that with its messy version.
 fn converted(rt: &impl AllocGlobal, text: &str) -> Result<(Ordering, Ordering), Fail> {
     let version = strict(rt, text)?;
     let general = Versioning::General(version.to_version(rt.alloc())?);

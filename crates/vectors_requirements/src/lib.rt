@@ -1,4 +1,4 @@
-//! Tests of requirements and lists of them: which versions they match, what is read, and what is printed.
+//! Tests of requirements and lists of them: which versions they match, which texts parse, and what is printed.
 #![tactic(auto)]
 
 #[cfg(test)]

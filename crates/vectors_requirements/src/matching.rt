@@ -4,7 +4,7 @@ use std::test::Fail;
 use vectors_support::{any, holds, prints};
 use versions::{Op, Requirement, RequirementRef, Requirements, RequirementsRef, VersioningRef};
 
-// A requirement or a list in each row, and then versions: those behind a `!` it doesn't match.
+// A requirement or a list in each row, and then versions: it doesn't match those after a `!`.
 const TILDES_AND_CARETS: &str = "\
 ~1.1.1 1.1.1 1.1.2 1.1.3 !1.2.0 !2.0.0 !2.2.2 !0.9.9 !0.1.1 !1.0.0
 ^1.1.1 1.1.1 1.1.2 1.1.3 1.2.0 !2.0.0 !2.2.2 !0.9.9 !0.1.1 !1.0.0
@@ -31,7 +31,7 @@ fn tildes_and_carets(rt: HostRuntime) -> Result<(), Fail> {
     match_those(&rt, TILDES_AND_CARETS)
 }
 
-// `1.0` and `0:1.0` are equal in precedence, the first below the second in `Ord`.
+// `1.0` and `0:1.0` tie in precedence; the first is below the second in `Ord`.
 const BY_PRECEDENCE: &str = "\
 >1.1.1 2.2.2 2.0.0 1.2.0 1.1.2 !0.9.9 !0.1.1 !1.0.0 !1.1.0 !1.1.1
 <1.1.1 0.9.9 0.1.1 1.0.0 1.1.0 !2.2.2 !2.0.0 !1.2.0 !1.1.2 !1.1.1
@@ -92,7 +92,7 @@ fn values_built_by_hand(rt: HostRuntime) -> Result<(), Fail> {
     Ok(())
 }
 
-// What a list keeps of bytes: those that spell a version that it asks for.
+// Which bytes a list keeps: those that parse as a version that it matches.
 #[test]
 fn bytes_that_spell_no_version_are_not_kept(_rt: HostRuntime) -> Result<(), Fail> {
     let any = RequirementsRef::new("*").ok_or("no list")?;
@@ -117,7 +117,7 @@ const KEPT: [(&[u8], bool, bool); 6] = [
     (b"1.3.0-\xff", false, false),
 ];
 
-// Fails where a version of a row is matched, or isn't, against what the row says.
+// Fails if a version of a row matches although the row says no, or doesn't although the row says yes.
 fn match_those(rt: &impl AllocGlobal, rows: &str) -> Result<(), Fail> {
     for row in rows.lines() {
         let (text, words) = row.split_once(' ').ok_or("no version")?;
@@ -141,7 +141,7 @@ fn match_those(rt: &impl AllocGlobal, rows: &str) -> Result<(), Fail> {
     Ok(())
 }
 
-// Whether a requirement, or the list that a text with a comma is, matches a version.
+// Returns whether a requirement matches a version, or a list if the text has a comma.
 fn matches(rt: &impl AllocGlobal, text: &str, version: &str) -> Result<bool, Fail> {
     let version = any(rt, version)?;
     if text.contains(',') {
@@ -152,7 +152,7 @@ fn matches(rt: &impl AllocGlobal, text: &str, version: &str) -> Result<bool, Fai
     Ok(requirement.ok_or("no requirement")?.matches(&version))
 }
 
-// The same off the texts.
+// The same on borrowed texts.
 fn matches_spelled(text: &str, version: &str) -> Result<bool, Fail> {
     let version = VersioningRef::new(version).ok_or("no version")?;
     if text.contains(',') {
@@ -163,7 +163,7 @@ fn matches_spelled(text: &str, version: &str) -> Result<bool, Fail> {
     Ok(requirement.matches(&version))
 }
 
-// Whether the list that a text is keeps a version, both off their bytes.
+// Returns whether a list keeps a version, both as bytes.
 fn keeps(text: &str, version: &str) -> Result<bool, Fail> {
     let list = RequirementsRef::from_bytes(text.as_bytes()).ok_or("no list")?;
     Ok(list.keeps(version.as_bytes()))

@@ -1,5 +1,5 @@
-//! Requirements, their operators and lists of them: what is read, what is not, what is printed, and that unequal ones
-//! hash apart.
+//! Requirements, their operators and lists of them: which texts parse, what is printed, and hashes of unequal
+//! requirements.
 
 use std::alloc::AllocError;
 use std::hash::Hash;
@@ -38,7 +38,7 @@ fn what_is_read_and_what_is_not(rt: HostRuntime) -> Result<(), Fail> {
     Ok(())
 }
 
-// Texts that are no lists, between bars.
+// Texts that are not lists, between bars.
 const UNREAD: &str = "|,|,*|=1.0.0,|=1.0.0,,*|*1|=|=>1.0|1.2.3|*, *|>=1.0,1.2.3,*";
 
 #[test]
@@ -95,7 +95,7 @@ fn unequal_lists_hash_apart(rt: HostRuntime) -> Result<(), Fail> {
     are_apart(hashes.as_slice())
 }
 
-// What a call answers for a text: a value by `Debug`, an error by `Display` and `Debug`.
+// Returns a call's answer for a text: a value by `Debug`, an error by `Display` and `Debug`.
 fn answer(rt: &impl AllocGlobal, call: &str, text: &str) -> Result<String, AllocError> {
     match call {
         "Requirement::new" => answered(rt, Requirement::new(rt.alloc(), text)),

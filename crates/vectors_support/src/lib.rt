@@ -1,4 +1,4 @@
-//! What tests are given: texts, the values that texts spell, and ways to look at a value.
+//! Helpers of tests: texts, the values that texts parse as, and checks of values.
 #![tactic(auto)]
 
 use serde::DeserializeOwned;
@@ -10,7 +10,7 @@ use std::test::Fail;
 use versions::key::compare_bytes;
 use versions::{Mess, SemVer, Version, Versioning};
 
-/// A text so many times, and an end behind it.
+/// Returns a text repeated so many times, and then an end.
 pub fn repeated(
     rt: &impl AllocGlobal,
     text: &str,
@@ -25,14 +25,14 @@ pub fn repeated(
     Ok(long)
 }
 
-/// The three columns of a row of a table, a `|` between each two.
+/// Returns the three columns of a row of a table, which are divided by `|`.
 pub fn columns(row: &str) -> Result<(&str, &str, &str), Fail> {
     let (first, others) = row.split_once('|').ok_or("no second column")?;
     let (second, third) = others.split_once('|').ok_or("no third column")?;
     Ok((first, second, third))
 }
 
-/// The bytes that a text has in hexadecimal, a blank between each two.
+/// Returns the bytes that a text has in hexadecimal, divided by blanks.
 pub fn bytes(rt: &impl AllocGlobal, hexadecimal: &str) -> Result<Vec<u8>, Fail> {
     let mut bytes = Vec::new(rt.alloc());
     for byte in hexadecimal.split(' ') {
@@ -41,7 +41,7 @@ pub fn bytes(rt: &impl AllocGlobal, hexadecimal: &str) -> Result<Vec<u8>, Fail> 
     Ok(bytes)
 }
 
-/// The value of a JSON document, whose text may stand for any value, also one that no version's text spells.
+/// Returns the value of a JSON document, which may be a value that no text parses as.
 pub fn form<T: DeserializeOwned + Drop>(rt: &impl AllocGlobal, document: &str) -> Result<T, Fail> {
     let value = Value::from_str(rt.alloc(), document)?;
     Ok(serde_json::from_value(rt.alloc(), value)?)
@@ -62,13 +62,13 @@ pub fn messy(rt: &impl AllocGlobal, text: &str) -> Result<Mess, Fail> {
     Ok(version.ok_or("no messy version")?)
 }
 
-/// The version of the first kind that a text spells.
+/// Returns the version of a text, which has to parse.
 pub fn any(rt: &impl AllocGlobal, text: &str) -> Result<Versioning, Fail> {
     let version = Versioning::new(rt.alloc(), text)?;
     Ok(version.ok_or("no version")?)
 }
 
-/// The messy version of one that isn't, or a copy.
+/// Returns a version converted to a messy version, or a copy if it is messy.
 pub fn as_messy(alloc: Global, version: &Versioning) -> Result<Mess, AllocError> {
     match version {
         Versioning::Ideal(ideal) => ideal.to_mess(alloc),
@@ -89,12 +89,12 @@ pub fn printed(rt: &impl AllocGlobal, value: &impl Display) -> Result<String, Al
     value.to_string(rt.alloc())
 }
 
-/// A value as `Debug` writes it.
+/// Returns the `Debug` text of a value.
 pub fn shown(rt: &impl AllocGlobal, value: &impl Debug) -> Result<String, AllocError> {
     format!(in rt.alloc(); "{value:?}")
 }
 
-/// An answer as `Debug` writes its value, or its error as `Display` and then `Debug` write it.
+/// Returns the `Debug` text of an answer's value, or the `Display` and then the `Debug` text of its error.
 pub fn answered<T: Debug + Drop, E: Display + Debug + Drop>(
     rt: &impl AllocGlobal,
     answer: Result<T, E>,
@@ -105,7 +105,7 @@ pub fn answered<T: Debug + Drop, E: Display + Debug + Drop>(
     }
 }
 
-/// Fails where a value is printed as another text.
+/// Fails if a value prints as another text.
 pub fn prints(rt: &impl AllocGlobal, value: &impl Display, wanted: &str) -> Result<(), Fail> {
     let text = printed(rt, value)?;
     holds(
@@ -114,7 +114,7 @@ pub fn prints(rt: &impl AllocGlobal, value: &impl Display, wanted: &str) -> Resu
     )
 }
 
-/// Fails where `Debug` writes a value as another text.
+/// Fails if the `Debug` text of a value differs.
 pub fn shows(rt: &impl AllocGlobal, value: &impl Debug, wanted: &str) -> Result<(), Fail> {
     let text = shown(rt, value)?;
     holds(
@@ -129,7 +129,7 @@ pub fn hash_of<T: Hash>(value: &T) -> u64 {
     state.finish()
 }
 
-/// Fails where the bytes of a version's key are others, in a list or one after another.
+/// Fails if the bytes of a version's key differ, in a list or one after another.
 pub fn key(rt: &impl AllocGlobal, version: &Versioning, wanted: &[u8]) -> Result<(), Fail> {
     let list = version.sort_key(rt.alloc())?;
     let mut bytes = Vec::new(rt.alloc());
@@ -146,7 +146,7 @@ pub fn key(rt: &impl AllocGlobal, version: &Versioning, wanted: &[u8]) -> Result
     )
 }
 
-/// Fails where the first version isn't below the second in precedence and in `Ord`, as their keys are, or hashes alike.
+/// Fails if the first version isn't below the second in precedence, `Ord` and keys, or if they hash alike.
 pub fn are_ordered(
     rt: &impl AllocGlobal,
     lower: &Versioning,
@@ -163,7 +163,7 @@ pub fn are_ordered(
     holds(lower.as_slice() < upper.as_slice(), "the order of the keys")
 }
 
-/// Fails where two values of a list hash alike.
+/// Fails if two values of a list hash alike.
 pub fn are_apart(hashes: &[u64]) -> Result<(), Fail> {
     for (at, one) in hashes.iter().enumerate() {
         for (place, other) in hashes.iter().enumerate() {
@@ -176,7 +176,7 @@ pub fn are_apart(hashes: &[u64]) -> Result<(), Fail> {
     Ok(())
 }
 
-/// Fails where a fact doesn't hold, and says of what it is.
+/// Fails with a name if a fact doesn't hold.
 pub fn holds(fact: bool, of: impl Display + Drop) -> Result<(), Fail> {
     match fact {
         true => Ok(()),

@@ -1,5 +1,5 @@
-//! The program `vers`: reads version lines from standard input, and writes to standard output what a command says
-//! of them. docs/PROGRAM.md has its rules.
+//! The program `vers`: reads lines from standard input, and writes a command's output to standard output.
+//! docs/PROGRAM.md has its rules.
 #![tactic(auto)]
 
 ghost use Rattle.std.specs.Prelude.{◌≡◌, MatchResult};
@@ -24,12 +24,12 @@ fn main(rt: HostRuntime) -> ExitCode {
     ending(&rt, outcome)
 }
 
-// The words after the program's name, where the system gives them.
+// Returns the words after the program's name, or None if the system doesn't provide them.
 fn words<R: Env + AllocGlobal>(rt: &R) -> Option<Vec<String>> {
     env::args(rt).ok()?.skip(1).collect(rt.alloc()).ok()
 }
 
-// How the program ends: a fault is printed, and gives its status. That it can't be printed changes nothing.
+// Returns the exit code: a fault is printed, and sets its status, even if it can't be printed.
 fn ending(rt: &impl Eprint, outcome: Result<(), Fault>) -> ExitCode
     ensures { MatchResult outcome
         (λ _. exit_status result ≡ 0) (λ fault. exit_status result ≡ status_of fault) }

@@ -1,4 +1,4 @@
--- Lines as they are sorted: they are versions, their keys stay where they lie, and in order they are the lines in order.
+-- Lines as they are sorted: they are versions, their keys stay in place, and sorted entries are the sorted lines.
 use Rattle.std.proofs.Common.{◌≡◌, ℕ, ◌+◌, ◌<◌, ◌≤◌, true, false, not, nat_lt, List, [], ◌∷◌, ◌++◌, length, take, drop, get_or, map, Option, Some, None, is_some, refl, sym, subst, ap, ◌∙◌, arith, append-nil, append_assoc, length-append, length-drop, add-one}
 use Rattle.std.specs.Cmp.{IsStrictWeakOrder, IsTotalOrder, nat_cmp_total}
 use Rattle.std.specs.Cmp.Lexicographic.{options_total, slice_cmp}
@@ -36,7 +36,7 @@ use Rattle.version_lines.proofs.PlaceLemmas.{ties_rise-in_order}
 use Rattle.version_lines.proofs.SortingLemmas.{AreAlike, in_order-map, in_order-sorted}
 use Rattle.version_lines.proofs.TieLemmas.{in_order-twice}
 
--- the lines of entries are no bad lines
+-- the lines of entries are versions
 good_lines : (keys : List ℕ) (entries : List Entry) (more : List (List ℕ)) → All (IsRead keys) entries
     → prefix_len (λ line. not (is_bad line)) (map entry_line entries ++ more) ≡ length entries + prefix_len (λ line. not (is_bad line)) more
 good_lines keys [] more read = omega arith
@@ -45,7 +45,7 @@ good_lines keys (entry ∷ entries) more read =
     let others = good_lines keys entries more (All-tail (IsRead keys) entry entries read) in
     rw here (omega (arith, others))
 
--- a line behind those of entries is the first bad one, where it is one
+-- a bad line after those of entries is the first bad line
 pub bad_line-behind : (keys : List ℕ) (entries : List Entry) (line : List ℕ) (more : List (List ℕ)) → All (IsRead keys) entries → is_bad line ≡ true
     → bad_line (map entry_line entries ++ line ∷ more) ≡ Some (length entries + 1)
 bad_line-behind keys entries line more read bad =
@@ -54,7 +54,7 @@ bad_line-behind keys entries line more read bad =
     lt-ltb _ _ (omega (arith, length-append (map entry_line entries) (line ∷ more), length-map entries entry_line)) in
     rw (place, inside) refl
 
--- there is none among the lines of entries
+-- no line of an entry is bad
 pub bad_line-none : (keys : List ℕ) (entries : List Entry) → All (IsRead keys) entries → bad_line (map entry_line entries) ≡ None
 bad_line-none keys entries read =
     let place : prefix_len (λ l. not (is_bad l)) (map entry_line entries) ≡ length entries =
@@ -71,13 +71,13 @@ lines_of-entries lines entries after entry rest more line so_far next same added
     let both : map entry_line after ≡ map entry_line entries ++ line ∷ [] = ap (map entry_line) added ∙ map-append entry_line entries (entry ∷ []) ∙ ap (λ l. map entry_line entries ++ l ∷ []) same in
     so_far ∙ ap (λ l. map entry_line entries ++ l) next ∙ sym (append_assoc (map entry_line entries) (line ∷ []) more) ∙ ap (λ l. l ++ more) (sym both)
 
--- what was decided first needs no second look
+-- an order followed by itself is the same order
 then_twice : (first : Ordering) → ordering_then first Equal ≡ ordering_then first first
 then_twice Less = refl
 then_twice Equal = refl
 then_twice Greater = refl
 
--- where keys tie, two versions are told apart by their fields, unless both are strict
+-- if keys tie, two versions compare by their fields, unless both are strict
 ties_alike : (a b : PlainVersioning) → ordering_then (precedence (key_of a) (key_of b)) (option_cmp versioning_plain_cmp (unless_strict a) (unless_strict b)) ≡ versioning_cmp a b
 ties_alike (Ideal a) (Ideal b) = then_twice (precedence (key_of_semver a) (key_of_semver b)) ∙ ap (ordering_then (precedence (key_of_semver a) (key_of_semver b))) (precedence_of_semvers a b)
 ties_alike (Ideal a) (General b) = refl
@@ -89,7 +89,7 @@ ties_alike (Complex a) (Ideal b) = refl
 ties_alike (Complex a) (General b) = refl
 ties_alike (Complex a) (Complex b) = refl
 
--- two texts that spell versions compare by their keys, and where those tie by what breaks the tie
+-- two texts that are versions compare by their keys, and then by what breaks the tie
 versions_alike : (v w : Option PlainVersioning) → not (is_some v) ≡ false → not (is_some w) ≡ false
     → ordering_then (slice_cmp nat_cmp (option_map_or (λ u. key_bytes (key_of u)) v []) (option_map_or (λ u. key_bytes (key_of u)) w []))
     (option_cmp versioning_plain_cmp (option_and_then unless_strict v) (option_and_then unless_strict w)) ≡ option_cmp versioning_cmp v w
@@ -98,7 +98,7 @@ versions_alike (Some v) None v_good w_good = cc
 versions_alike (Some v) (Some w) v_good w_good =
     ap (λ o. ordering_then o (option_cmp versioning_plain_cmp (unless_strict v) (unless_strict w))) (key_bytes_alone (key_of v) (key_of w)) ∙ ties_alike v w
 
--- what lies at its place stays there when more keys come
+-- a key stays at its place when more keys are added
 pub read-more : (keys more : List ℕ) (entry : Entry) → IsRead keys entry → IsRead (keys ++ more) entry
 read-more keys more entry read =
     let start : entry.start ≤ length keys = omega (arith, read.within) in
@@ -117,7 +117,7 @@ length-some : (keys : List ℕ) (entry : Entry) → IsRead keys entry → 0 < en
 length-some keys entry read =
     omega (arith, line_key-some (entry_line entry) read.good, ap length read.key, length-take entry.length (drop entry.start keys))
 
--- an entry behind others, whose key lies behind theirs, is in turn
+-- an entry after others, whose key lies after theirs, is in turn
 pub in_turn-added : (after entries : List Entry) (entry : Entry) (keys : List ℕ) → AreInTurn entries → All (IsRead keys) entries → entry.start ≡ length keys
     → after ≡ entries ++ entry ∷ [] → AreInTurn after
 in_turn-added after entries entry keys in_turn read last added =
@@ -153,7 +153,7 @@ entry_ranks keys = ranks_by (entry_total keys) (λ (entry : Entry). entry)
 pub tie_total : IsTotalOrder tie_cmp
 tie_total = on_total (λ (entry : Entry). line_tie_breaker (entry_line entry)) (options_total versioning_plain_total)
 
--- together they are that of the lines
+-- together they are the order of lines
 entries_alike : (keys : List ℕ) → AreAlike (IsRead keys) entry_line (then_cmp (entry_cmp keys) tie_cmp) line_cmp
 entries_alike keys a b a_read b_read =
     let by_keys : entry_cmp keys a b ≡ slice_cmp nat_cmp (line_key (entry_line a)) (line_key (entry_line b)) =
@@ -165,19 +165,19 @@ entries_alike keys a b a_read b_read =
 pub entries-sorted : (keys : List ℕ) (entries by_keys : List Entry) → by_keys ≡ in_order (entry_cmp keys) entries → IsSorted (entry_cmp keys) by_keys
 entries-sorted keys entries by_keys sorted = rw sorted (in_order-sorted (entry_cmp keys) (entry_ranks keys) entries)
 
--- and those whose keys tie stand as they did
+-- and entries whose keys tie keep their order
 pub entries-ties_rise : (keys : List ℕ) (entries by_keys : List Entry) → by_keys ≡ in_order (entry_cmp keys) entries → AreInTurn entries
     → TiesRise (entry_cmp keys) (λ (entry : Entry). entry.start) by_keys
 entries-ties_rise keys entries by_keys sorted in_turn = rw sorted (ties_rise-in_order (entry_cmp keys) (λ (entry : Entry). entry.start) entries in_turn)
 
--- the output for the lines from a place on is the line there, and then the output for those behind it
+-- the output for the lines from a place on is the line there, and then the output for the lines after it
 pub lines_output-entries : (entries : List Entry) (i : ℕ) (d : Entry) (line : List ℕ) → i < length entries → line ≡ entry_line (get_or entries i d)
     → lines_output whole_line (map entry_line (drop i entries)) ≡ whole_line line ++ lines_output whole_line (map entry_line (drop (i + 1) entries))
 lines_output-entries entries i d line inside same =
     ap (λ es. lines_output whole_line (map entry_line es)) (drop-cons entries i d inside)
     ∙ rw (add-one i, same) refl
 
--- put in the order of their keys, and then where those tie in that of their versions
+-- sorted by their keys, and ties by their versions
 pub in_order-settled : (keys : List ℕ) (entries by_keys ordered : List Entry) → by_keys ≡ in_order (entry_cmp keys) entries → ordered ≡ in_order (then_cmp (entry_cmp keys) tie_cmp) by_keys
     → ordered ≡ in_order (then_cmp (entry_cmp keys) tie_cmp) entries
 in_order-settled keys entries by_keys ordered sorted settled =

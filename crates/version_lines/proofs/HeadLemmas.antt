@@ -1,4 +1,4 @@
--- Where the first bytes of two lists differ as numbers, the lists compare as these do.
+-- If the first bytes of two lists differ as numbers, the lists compare as these numbers.
 use Rattle.std.proofs.Common.{◌≡◌, ℕ, zero, suc, ◌+◌, ◌*◌, ◌-◌, ◌<◌, ◌≤◌, List, [], ◌∷◌, drop, get_or, length, length-drop, take, refl, sym, ap, ◌∙◌, subst, arith}
 use Rattle.std.specs.Cmp.{nat_cmp_is}
 use Rattle.std.specs.Cmp.Lexicographic.{slice_cmp}
@@ -21,14 +21,14 @@ AreBytes = All (λ byte. byte < 256)
 abbrev cmp : List ℕ → List ℕ → Ordering
 cmp = slice_cmp nat_cmp
 
--- nothing behind a value gives the least number
+-- a value followed by nothing gives the least number
 number_from-least : (n v w : ℕ) (xs : List ℕ) → v ≤ w → number_from v n [] ≤ number_from w n xs
 unfolding number_from
 number_from-least zero v w xs up = up
 number_from-least (suc n) v w [] up = number_from-least n (v * 256) (w * 256) [] (omega arith)
 number_from-least (suc n) v w (x ∷ xs) up = number_from-least n (v * 256) (w * 256 + x) xs (omega arith)
 
--- a value that is less decides
+-- a smaller value decides
 number_from-less : (n v w : ℕ) (xs ys : List ℕ) → AreBytes xs → v < w → number_from v n xs < number_from w n ys
 unfolding number_from
 number_from-less zero v w xs ys bytes up = up
@@ -62,7 +62,7 @@ nothing_below : (xs : List ℕ) → ¬ (cmp xs [] ≡ Less)
 nothing_below [] below = cc
 nothing_below (x ∷ xs) below = cc
 
--- where the first bytes tie, the bytes behind them decide
+-- if the first bytes tie, the bytes after them decide
 behind_first : (n v : ℕ) (xs ys : List ℕ) → AreBytes ys → number_from v n xs ≡ number_from v n ys → cmp (drop n xs) (drop n ys) ≡ Less → cmp xs ys ≡ Less
 unfolding number_from
 behind_first zero v xs ys ys_bytes tie behind = behind
@@ -77,7 +77,7 @@ behind_first (suc n) v (x ∷ xs) (y ∷ ys) ys_bytes tie behind =
     (let P : ℕ → Type 0 = λ z. number_from (v * 256 + x) n xs ≡ number_from (v * 256 + z) n ys in subst P (sym same) tie) behind))
     (λ more above. absurd (omega (arith, tie, number_from-less n (v * 256 + y) (v * 256 + x) ys xs ys_behind (omega arith))))
 
--- the order that is the other way round
+-- the reversed order
 turned : (xs ys : List ℕ) → cmp ys xs ≡ Less → cmp xs ys ≡ Greater
 turned xs ys less = nat_list_cmp_total.antisymm xs ys ∙ ap ordering_reverse less
 
@@ -96,7 +96,7 @@ nothing_less n = sym (nat_cmp_is 0 (suc n) Less (omega arith))
 nothing_greater : (n : ℕ) → nat_cmp (suc n) 0 ≡ Greater
 nothing_greater n = sym (nat_cmp_is (suc n) 0 Greater (omega arith))
 
--- lists of which none is in front of the other have one length
+-- the length decides nothing more than the lists do
 length_last : (xs ys : List ℕ) → ordering_then (cmp xs ys) (nat_cmp (length xs) (length ys)) ≡ cmp xs ys
 length_last [] [] = refl
 length_last [] (y ∷ ys) = refl
@@ -105,7 +105,7 @@ length_last (x ∷ xs) (y ∷ ys) =
     by_ranked (x < y) (x ≡ y) (y < x) (nat_cmp x y) (ranked x y _ refl)
     (λ e below. rw e refl) (λ e same. rw (e, nat_cmp-suc (length xs) (length ys)) (length_last xs ys)) (λ e above. rw e refl)
 
--- the empty list is in front of any other, and so is nothing behind it
+-- the empty list is below any other
 empty_first : (ys behind : List ℕ) (y : ℕ) → ordering_then (cmp [] behind) (nat_cmp 0 (length (y ∷ ys))) ≡ Less
 empty_first ys [] y = nothing_less (length ys)
 empty_first ys (b ∷ behind) y = refl
@@ -114,7 +114,7 @@ empty_last : (xs behind : List ℕ) (x : ℕ) → ordering_then (cmp behind []) 
 empty_last xs [] x = nothing_greater (length xs)
 empty_last xs (b ∷ behind) x = refl
 
--- where the first bytes tie, the bytes behind them decide, and then the lengths
+-- if the first bytes tie, the bytes after them decide, and then the lengths
 tied_front : (n v : ℕ) (xs ys : List ℕ) → AreBytes xs → AreBytes ys → number_from v n xs ≡ number_from v n ys
     → ordering_then (cmp (drop n xs) (drop n ys)) (nat_cmp (length xs) (length ys)) ≡ cmp xs ys
 unfolding number_from
@@ -131,7 +131,7 @@ tied_front (suc n) v (x ∷ xs) (y ∷ ys) xs_bytes ys_bytes tie =
     (let P : ℕ → Type 0 = λ z. number_from (v * 256 + x) n xs ≡ number_from (v * 256 + z) n ys in subst P (sym same) tie)))
     (λ more above. absurd (omega (arith, tie, number_from-less n (v * 256 + y) (v * 256 + x) ys xs ys_behind (omega arith))))
 
--- what the lengths of what is behind decide, the lengths decide
+-- the lengths decide what the lengths of the rests decide
 lengths_twice : (m n : ℕ) → ordering_then (nat_cmp (m - 8) (n - 8)) (nat_cmp m n) ≡ nat_cmp m n
 lengths_twice m n =
     by_ranked (m - 8 < n - 8) (m - 8 ≡ n - 8) (n - 8 < m - 8) (nat_cmp (m - 8) (n - 8)) (ranked (m - 8) (n - 8) _ refl)
@@ -139,7 +139,7 @@ lengths_twice m n =
     (λ e same. rw e refl)
     (λ e above. rw e (by_ranked (m < n) (m ≡ n) (n < m) (nat_cmp m n) (ranked m n _ refl) (λ f less. absurd (omega (arith, above, less))) (λ f same. absurd (omega (arith, above, same))) (λ f more. sym f)))
 
--- where both heads tie, what is behind them decides
+-- if both heads tie, the bytes after them decide
 both_tied : (xs ys : List ℕ) → AreBytes xs → AreBytes ys → number_from 0 8 xs ≡ number_from 0 8 ys → number_from 0 8 (drop 8 xs) ≡ number_from 0 8 (drop 8 ys)
     → behind_heads_cmp xs ys ≡ cmp xs ys
 both_tied xs ys xs_bytes ys_bytes first second =
@@ -153,7 +153,7 @@ both_tied xs ys xs_bytes ys_bytes first second =
     ∙ ap (λ o. ordering_then o lengths) farther
     ∙ tied_front 8 0 xs ys xs_bytes ys_bytes first
 
--- two heads, that of the first eight bytes and that of the eight behind them, may be looked at before the rest is
+-- lists compare by the head of the first eight bytes, then by the head of the next eight, then by the rest
 pub heads_first : (xs ys : List ℕ) → AreBytes xs → AreBytes ys
     → ordering_then (nat_cmp (head_number xs) (head_number ys)) (ordering_then (nat_cmp (head_number (drop 8 xs)) (head_number (drop 8 ys))) (behind_heads_cmp xs ys))
     ≡ cmp xs ys

@@ -1,4 +1,4 @@
--- The keys of what lines and words spell.
+-- The keys of lines and words.
 use Rattle.std.proofs.Common.{◌≡◌, ℕ, ◌/◌, ◌%◌, ◌<◌, false, not, List, [], ◌∷◌, ◌++◌, length, length-append, map, replicate, Option, Some, None, is_some, ap, arith, sym}
 use Rattle.std.specs.Char.{digit_char}
 use Rattle.std.specs.Int.Digits.{digits_of}

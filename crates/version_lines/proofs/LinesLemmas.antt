@@ -8,11 +8,11 @@ use Rattle.version_lines.specs.Lines.{line_feed, lines_of, before_lines, lines_o
 abbrev pub IsLineFeedAt : List ℕ → ℕ → Type 0
 IsLineFeedAt text k = nat_eq (get_or text k 0) line_feed ≡ true
 
--- a byte that is no line feed goes before the first line
+-- a byte that is not a line feed goes before the first line
 lines_of-byte : (byte : ℕ) (bytes : List ℕ) → ¬ (nat_eq byte line_feed ≡ true) → lines_of (byte ∷ bytes) ≡ before_lines byte (lines_of bytes)
 lines_of-byte byte bytes other = rw (false_from_ne_true _ other)
 
--- what stands before the first line feed is the first line
+-- the bytes before the first line feed are the first line
 lines_of-before : (text : List ℕ) (k : ℕ) → k < length text → IsLineFeedAt text k → ((j : ℕ) → j < k → ¬ (IsLineFeedAt text j))
     → lines_of text ≡ take k text ∷ lines_of (drop (suc k) text)
 lines_of-before [] k inside here before = absurd (omega arith)
@@ -21,7 +21,7 @@ lines_of-before (byte ∷ bytes) (suc k) inside here before =
     lines_of-byte byte bytes (before 0 (omega arith))
     ∙ ap (before_lines byte) (lines_of-before bytes k (omega arith) here (λ j below. before (suc j) (omega arith)))
 
--- the same, where what follows is cut out by its length
+-- the same, if the rest is cut out by its length
 pub lines_of-split : (text : List ℕ) (k : ℕ) → k < length text → IsLineFeedAt text k → ((j : ℕ) → 0 ≤ j → j < k → ¬ (IsLineFeedAt text j))
     → lines_of text ≡ take k text ∷ lines_of (take (length text - (k + 1)) (drop (k + 1) text))
 lines_of-split text k inside here before =

@@ -1,4 +1,4 @@
--- A line that is kept is answered whole, and any other gets nothing, whatever decided it.
+-- The output for a line that is kept is the line, and nothing for any other line, whatever decided it.
 use Rattle.std.proofs.Common.{◌≡◌, ◌⊎◌, List, Option, Some, None, inl, inr, refl}
 use Rattle.version_lines.specs.Matching.{line_if, match_answer}
 use Rattle.version_lines.specs.declared.answer.Answer.TheVariants.{Whole, Nothing}

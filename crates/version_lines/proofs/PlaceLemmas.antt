@@ -1,5 +1,5 @@
--- Elements that are put in order, and where they tie by their places, are in order, where the places rise from the first
--- element on: so a sort need not be stable.
+-- Elements sorted by an order and then by their places are stably sorted, if the places rise from the first element on.
+-- So an unstable sort suffices.
 use Rattle.std.proofs.Common.{◌≡◌, ℕ, zero, suc, ◌+◌, ◌-◌, ◌<◌, Bool, true, not, List, [], ◌∷◌, length, take, drop, cond, refl, sym, ap, ◌∙◌, subst, arith}
 use Rattle.std.proofs.Math.Numerals.{one-add}
 use Rattle.std.specs.Cmp.{IsTotalOrder, nat_cmp_is}
@@ -21,7 +21,7 @@ use Rattle.version_lines.proofs.TieLemmas.{IsDoneTo, not_less, run_ties}
 abbrev Rising : {X : Type 0} → (X → ℕ) → List X → Type 0
 Rising place xs = AllPairs (λ x y. place x < place y) xs
 
--- an order, and where elements tie that of their places
+-- an order, and for ties the order of places
 abbrev placed : {X : Type 0} → (X → X → Ordering) → (X → ℕ) → X → X → Ordering
 placed R place = then_cmp R (on place nat_cmp)
 
@@ -31,7 +31,7 @@ rising-head place x xs rise = λ k d inside. rise 0 (suc k) d (omega arith) (ome
 rising-tail : {X : Type 0} (place : X → ℕ) (x : X) (xs : List X) → Rising place (x ∷ xs) → Rising place xs
 rising-tail place x xs rise = λ i j d up inside. rise (suc i) (suc j) d (omega arith) (omega arith)
 
--- an element at an earlier place is put where the order alone puts it
+-- an element with a lower place is put where the order alone puts it
 
 then_later : (o later : Ordering) → Greater ≡ later → is_lt (ordering_then o later) ≡ is_lt o
 then_later Less later above = refl
@@ -51,7 +51,7 @@ in_order-placed R place (x ∷ xs) rise =
     ap (put_in_order (placed R place) x) (in_order-placed R place xs (rising-tail place x xs rise))
     ∙ put-placed R place x (in_order R xs) (All-permutation (λ y. place x < place y) xs (in_order R xs) (in_order-permutes R xs) (rising-head place x xs rise))
 
--- what ties has one place
+-- elements that tie have one place
 
 second_tie : (o s : Ordering) → ordering_then o s ≡ Equal → s ≡ Equal
 second_tie Less s tied = cc
@@ -71,7 +71,7 @@ ties-placed R place total x y tied =
     let both : placed R place x y ≡ Equal = not_less (placed R place x y) apart.0 (ap is_lt (sym ((placed_total R place total).antisymm y x)) ∙ apart.1) in
     sym (same_number (place x) (place y) (second_tie (R x y) (nat_cmp (place x) (place y)) both))
 
--- a filter that leaves an element at most leaves the same of the elements in another order
+-- a filter that leaves at most one element leaves the same of the elements in another order
 
 none_pass : {X : Type 0} (p : X → Bool) (e : X) (xs : List X) → filter p xs ≡ [] → All (λ x. p x ≡ true → x ≡ e) xs
 none_pass p e [] kept = All-nil (λ x. p x ≡ true → x ≡ e)
@@ -112,7 +112,7 @@ in_order-by_place {X} R place total xs ys rise moved sorted =
     (length-filter p ys ∙ sum_by-IsPermutation (λ x. cond (p x) 1 0) xs ys moved ∙ sym (length-filter p xs)) in
     in_order-only (placed R place) (ranks_by (placed_total R place total) (λ (x : X). x)) xs ys sorted stays ∙ in_order-placed R place xs rise
 
--- in order, elements that tie keep their places rising
+-- in a sorted list, the places of elements that tie rise
 
 ties_rise-put : {X : Type 0} (R : X → X → Ordering) (place : X → ℕ) (x : X) (xs : List X) → All (λ y. place x < place y) xs → TiesRise R place xs → TiesRise R place (put_in_order R x xs)
 ties_rise-put R place x [] later others_rise = (All-nil (λ y. R x y ≡ Equal → place x < place y), tt)

@@ -13,7 +13,7 @@ use Rattle.version_lines.specs.declared.faults.Fault.{Fault}
 use Rattle.version_lines.specs.declared.faults.Fault.TheVariants.{Usage, NotVersion, NotRequirement, BadLine, Memory, Read, Write}
 use Rattle.version_lines.proofs.OutputLemmas.{AppendsUpTo-start}
 
--- nothing of an output is a beginning of it
+-- the empty output is a prefix of any output
 beginning : (a output : Option (List ℕ)) → IfSome output (AppendsBeginning a a)
 beginning a None = tt
 beginning a (Some output) = (output, AppendsUpTo-start a output)
@@ -28,7 +28,7 @@ GrowsAt-unwritten a output Memory other = beginning a output
 GrowsAt-unwritten a output Read other = Keeps-refl a
 GrowsAt-unwritten a output Write other = absurd (other refl)
 
--- the same of a result: refused memory, and the judging of words, of requirements and of lines
+-- the same of a result: an allocation failure, and a failed check of words, requirements or lines
 pub GrowsAt-memory : {T : Type 0} (r : Result T Fault) (a : Option (List ℕ)) (output : List ℕ) → IfErr r (λ fault. fault ≡ Memory) → IfErr r (GrowsAt a a (Some output))
 GrowsAt-memory r a output = IfErr-weaker r _ _ (λ fault refused. GrowsAt-unwritten a (Some output) fault (λ wrote. cc))
 
@@ -47,12 +47,12 @@ pub GrowsAt-write : {T : Type 0} (r : Result T Fault) (a b : Option (List ℕ)) 
 GrowsAt-write (Ok value) a b output wrote part = tt
 GrowsAt-write (Err fault) a b output wrote part = subst (GrowsAt a b (Some output)) (sym wrote) part
 
--- what holds holds at an error
+-- a fact holds at an error
 pub OnErr-always : {T E : Type 0} (r : Result T E) (P : Type 0) → P → OnErr r P
 OnErr-always (Ok value) P p = tt
 OnErr-always (Err e) P p = p
 
--- what judging lines, and what writing, comes to is a fault of the command
+-- a failed check of lines or a failed write is a fault of the command
 pub ComesOfCommand-lines : (input : List ℕ) (fault : Fault) → ComesOfLines (bad_line (lines_of input)) fault → ComesOfCommand (Some input) (OfInput Sort) fault
 ComesOfCommand-lines input Usage comes = comes
 ComesOfCommand-lines input (NotVersion text) comes = absurd comes

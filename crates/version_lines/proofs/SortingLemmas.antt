@@ -1,4 +1,4 @@
--- A list in order holds the elements of the list, rises, and leaves those that tie as they stood; and no other list does.
+-- A sorted list has the elements of the list, rises, and keeps the order of elements that tie; no other list does.
 use Rattle.std.proofs.Common.{◌≡◌, ℕ, zero, suc, ◌<◌, Bool, true, false, not, cond, ◌&&◌, List, [], ◌∷◌, length, map, get_or, refl, sym, ap, ◌∙◌, arith, add-one}
 use Rattle.std.specs.Cmp.{IsStrictWeakOrder}
 use Rattle.std.specs.List.{All, filter}
@@ -15,7 +15,7 @@ abbrev pub AtLeast : {X : Type 0} → (X → X → Bool) → X → List X → Ty
 AtLeast lt x [] = Unit {0}
 AtLeast lt x (y ∷ ys) = (lt y x ≡ false) × AtLeast lt x ys
 
--- no element is below one before it
+-- no element is below an element before it
 abbrev pub Rises : {X : Type 0} → (X → X → Bool) → List X → Type 0
 Rises lt [] = Unit {0}
 Rises lt (x ∷ xs) = AtLeast lt x xs × Rises lt xs
@@ -56,7 +56,7 @@ head-is e = cc
 pub tail-is : {X : Type 0} {x y : X} {xs ys : List X} → x ∷ xs ≡ y ∷ ys → xs ≡ ys
 tail-is e = cc
 
--- those that tie stay as they stood
+-- elements that tie keep their order
 
 below_itself : {X : Type 0} (cmp : X → X → Ordering) → IsStrictWeakOrder (below cmp) → (x : X) → below cmp x x ≡ false
 below_itself cmp order x = by_test (below cmp x x) (order.one_way x x) (λ fails. fails)
@@ -64,7 +64,7 @@ below_itself cmp order x = by_test (below cmp x x) (order.one_way x x) (λ fails
 ties_itself : {X : Type 0} (cmp : X → X → Ordering) → IsStrictWeakOrder (below cmp) → (x : X) → ties (below cmp) x x ≡ true
 ties_itself cmp order x = rw (below_itself cmp order x) refl
 
--- what is below x doesn't tie with what ties with x
+-- an element below x doesn't tie with an element that ties with x
 ties_apart : {X : Type 0} (cmp : X → X → Ordering) → IsStrictWeakOrder (below cmp) → (z x y : X) → below cmp y x ≡ true → ties (below cmp) z x ≡ true → ties (below cmp) z y ≡ false
 ties_apart cmp order z x y up tied =
     false_from_ne_true _ (λ same.
@@ -72,7 +72,7 @@ ties_apart cmp order z x y up tied =
     let not_below = neither (below cmp z x) (below cmp x z) tied in
     true≢false (sym up ∙ order.chain y z x not_above.1 not_below.0))
 
--- one of two that don't both pass may go before the other
+-- two elements of which at most one passes a filter may be exchanged
 filter-swap : {X : Type 0} (p : X → Bool) (x y : X) (xs : List X) → (p x ≡ true → p y ≡ false) → filter p (y ∷ x ∷ xs) ≡ filter p (x ∷ y ∷ xs)
 filter-swap p x y xs apart =
     by_test (p x) (λ passes. rw (passes, apart passes) refl) (λ fails. rw fails refl)
@@ -100,7 +100,7 @@ at_least-put {X} cmp z x (y ∷ ys) first others =
     (λ up. let P : List X → Type 0 = AtLeast (below cmp) z in rw up (others.0, at_least-put cmp z x ys first others.1))
     (λ other. rw other (first, others))
 
--- what is not below y is not below what y is not below
+-- not being below is transitive
 at_least-chain : {X : Type 0} (cmp : X → X → Ordering) → IsStrictWeakOrder (below cmp) → (x y : X) (ys : List X) → below cmp y x ≡ false → AtLeast (below cmp) y ys → AtLeast (below cmp) x ys
 at_least-chain cmp order x y [] first others = tt
 at_least-chain cmp order x y (z ∷ zs) first (next, others) = (order.chain z y x next first, at_least-chain cmp order x y zs first others)
@@ -116,7 +116,7 @@ pub in_order-rises : {X : Type 0} (cmp : X → X → Ordering) → IsStrictWeakO
 in_order-rises cmp order [] = tt
 in_order-rises cmp order (x ∷ xs) = put-rises cmp order x (in_order cmp xs) (in_order-rises cmp order xs)
 
--- what rises is sorted, and the other way round
+-- a list rises exactly if it is sorted
 
 sorted_from_rises : {X : Type 0} (cmp : X → X → Ordering) (xs : List X) → Rises (below cmp) xs → IsSortedBy (below cmp) xs
 sorted_from_rises cmp [] up k d least inside = absurd (omega arith)
@@ -139,9 +139,9 @@ rises_from_sorted cmp order (x ∷ xs) sorted = (
 pub in_order-sorted : {X : Type 0} (cmp : X → X → Ordering) → IsStrictWeakOrder (below cmp) → (xs : List X) → IsSortedBy (below cmp) (in_order cmp xs)
 in_order-sorted cmp order xs = sorted_from_rises cmp (in_order cmp xs) (in_order-rises cmp order xs)
 
--- two lists that rise, in which those that tie stand alike, are one list
+-- two lists that rise, and in which elements that tie stand alike, are equal
 
--- what a filter leaves first passes, and isn't below what no element is below
+-- the first element that a filter leaves passes, and isn't below a lower bound
 first_kept : {X : Type 0} (cmp : X → X → Ordering) (p : X → Bool) (z w : X) (xs rest : List X) → AtLeast (below cmp) z xs → filter p xs ≡ w ∷ rest → below cmp w z ≡ false
 first_kept cmp p z w [] rest least kept = cc
 first_kept cmp p z w (x ∷ xs) rest (first, least) kept =
@@ -153,7 +153,7 @@ tails_kept : {X : Type 0} (p : X → Bool) (x : X) (xs ys : List X) → filter p
 tails_kept p x xs ys kept =
     by_test (p x) (λ passes. tail-is (rw passes at kept)) (λ fails. rw fails at kept)
 
--- the heads of two such lists: the first passes where the second is filtered by what ties with it
+-- the heads of two such lists: the first passes if the second is filtered by what ties with it
 heads_tie : {X : Type 0} (cmp : X → X → Ordering) → IsStrictWeakOrder (below cmp) → (x y : X) (xs ys : List X) → AtLeast (below cmp) y ys
     → IsStableBy (below cmp) (x ∷ xs) (y ∷ ys) → below cmp x y ≡ false
 heads_tie cmp order x y xs ys least same =
@@ -182,9 +182,9 @@ in_order-only cmp order xs ys sorted stable =
     rises_alike cmp order ys (in_order cmp xs) (rises_from_sorted cmp order ys sorted) (in_order-rises cmp order xs)
     (λ z. in_order-stable cmp order xs z ∙ sym (stable z))
 
--- elements of which P holds may be put in order as another order puts what a function makes of them
+-- elements that satisfy P may be sorted by another order of their images
 
--- P makes the two orders alike
+-- under P the two orders agree
 abbrev pub AreAlike : {X Y : Type 0} → (X → Type 0) → (X → Y) → (X → X → Ordering) → (Y → Y → Ordering) → Type 0
 AreAlike {X} P f cmp other = (x y : X) → P x → P y → cmp x y ≡ other (f x) (f y)
 

@@ -1,4 +1,4 @@
--- A list in one order is in a finer one, once each run of elements that tie in the first is put in the second.
+-- A list sorted by one order is sorted by a finer order once each run of ties is sorted by the second order.
 use Rattle.std.proofs.Common.{◌≡◌, ℕ, zero, suc, ◌+◌, ◌-◌, ◌<◌, ◌≤◌, Bool, true, false, not, cond, ◌&&◌, List, [], ◌∷◌, ◌++◌, length, take, drop, refl, sym, ap, ◌∙◌, subst, arith, append_assoc, append-nil, length-append, length-drop}
 use Rattle.std.proofs.Math.Numerals.{one-add}
 use Rattle.std.specs.Cmp.{IsStrictWeakOrder, IsTotalOrder}
@@ -22,7 +22,7 @@ use Rattle.version_lines.proofs.SortingLemmas.{AtLeast, Rises, below, at_least-p
 ranks : {X : Type 0} {R : X → X → Ordering} → IsTotalOrder R → IsStrictWeakOrder (below R)
 ranks {X} total = ranks_by total (λ (x : X). x)
 
--- what ties in the finer order ties in the first
+-- elements that tie in the finer order tie in the first
 
 tie_of_firsts : (o s t : Ordering) → (not (is_lt (ordering_then o s)) && not (is_lt (ordering_then (ordering_reverse o) t))) ≡ true → (not (is_lt o) && not (is_lt (ordering_reverse o))) ≡ true
 tie_of_firsts Less s t tied = cc
@@ -34,7 +34,7 @@ ties_in_first R S total x y tied =
     let turned = total.antisymm y x in
     rw turned (tie_of_firsts (R x y) (S x y) (S y x) (rw turned at tied))
 
--- what passes one test, of what passes another that it implies
+-- filtering by a test and then by a stronger test is filtering by the stronger test
 filter_through : {X : Type 0} (p q : X → Bool) → ((x : X) → p x ≡ true → q x ≡ true) → (xs : List X) → filter p (filter q xs) ≡ filter p xs
 filter_through p q implied [] = refl
 filter_through p q implied (x ∷ xs) =
@@ -42,7 +42,7 @@ filter_through p q implied (x ∷ xs) =
     (λ passes. rw passes (ap (λ (l : List _). cond (p x) (x ∷ l) l) (filter_through p q implied xs)))
     (λ fails. let other : p x ≡ false = false_from_ne_true _ (λ both. true≢false (sym (implied x both) ∙ fails)) in rw (fails, other) (filter_through p q implied xs))
 
--- a list in the first order is in the finer one what the list itself is
+-- sorting by the first order and then by the finer order is sorting by the finer order
 pub in_order-twice : {X : Type 0} (R S : X → X → Ordering) → IsTotalOrder R → IsTotalOrder S → (xs : List X) → in_order (then_cmp R S) (in_order R xs) ≡ in_order (then_cmp R S) xs
 in_order-twice {X} R S first second xs =
     let T = then_cmp R S in
@@ -52,7 +52,7 @@ in_order-twice {X} R S first second xs =
     ∙ filter_through (ties (below T) z) (ties (below R) z) (ties_in_first R S first z) xs in
     in_order-only T fine xs (in_order T (in_order R xs)) (in_order-sorted T fine (in_order R xs)) (λ z. in_order-stable T fine (in_order R xs) z ∙ stays z)
 
--- two lists of which none of the second is below one of the first
+-- two lists, no element of the second below an element of the first
 
 abbrev Before : {X : Type 0} → (X → X → Bool) → List X → List X → Type 0
 Before lt [] ys = Unit {0}
@@ -73,7 +73,7 @@ in_order-append cmp [] ys before = refl
 in_order-append cmp (x ∷ xs) ys (least, others) =
     ap (put_in_order cmp x) (in_order-append cmp xs ys others) ∙ put-front cmp x (in_order cmp xs) (in_order cmp ys) (at_least-in_order cmp x ys least)
 
--- among elements that tie with one in the first order, the second decides
+-- among elements that tie in the first order, the second order decides
 in_order-tied : {X : Type 0} (R S : X → X → Ordering) → IsTotalOrder R → (x : X) (run : List X) → All (λ y. R x y ≡ Equal) run → in_order (then_cmp R S) run ≡ in_order S run
 in_order-tied {X} R S total x run tied =
     let alike = λ (y z : X) (y_tied : R x y ≡ Equal) (z_tied : R x z ≡ Equal).
@@ -92,7 +92,7 @@ less Less below = refl
 less Equal below = cc
 less Greater below = cc
 
--- what is at least what is above x is above x
+-- everything from an element above x on is above x
 all_above : {X : Type 0} (R : X → X → Ordering) → IsTotalOrder R → (x y : X) (ys : List X) → below R x y ≡ true → AtLeast (below R) y ys → All (λ z. R x z ≡ Less) ys
 all_above R total x y [] up least = All-nil (λ z. R x z ≡ Less)
 all_above R total x y (z ∷ zs) up (first, others) =
@@ -116,7 +116,7 @@ run_ends R total x (y ∷ ys) (least, up) =
     (λ above. rw above (All-cons (λ y. R x y ≡ Less) y ys (less (R x y) above) (all_above R total x y ys above least)))
     (λ other. rw (other, one-add) (run_ends R total x ys up))
 
--- what ties with x may stand before what is above x
+-- elements that tie with x may stand before elements above x
 at_least-above : {X : Type 0} (R S : X → X → Ordering) → IsTotalOrder R → (x y : X) (zs : List X) → R x y ≡ Equal → All (λ z. R x z ≡ Less) zs → AtLeast (below (then_cmp R S)) y zs
 at_least-above R S total x y [] tied above = tt
 at_least-above R S total x y (z ∷ zs) tied above =
@@ -128,7 +128,8 @@ run_before R S total x [] zs tied above = tt
 run_before R S total x (y ∷ ys) zs tied above =
     (at_least-above R S total x y zs (All-head (λ y. R x y ≡ Equal) y ys tied) above, run_before R S total x ys zs (All-tail (λ y. R x y ≡ Equal) y ys tied) above)
 
--- a list that rises in the first order is in the finer one its first run in the second, and then what is behind it
+-- a list that rises in the first order, sorted by the finer order, is its first run sorted by the second order, and
+-- then the rest
 pub in_order-first_run : {X : Type 0} (R S : X → X → Ordering) → IsTotalOrder R → (xs : List X) → Rises (below R) xs
     → in_order (then_cmp R S) xs ≡ in_order S (take (run_length R xs) xs) ++ in_order (then_cmp R S) (drop (run_length R xs) xs)
 in_order-first_run R S total [] up = refl
@@ -152,7 +153,7 @@ in_order-risen cmp (x ∷ y ∷ ys) ((first, others), up) =
 pub length-in_order : {X : Type 0} (cmp : X → X → Ordering) (xs : List X) → length (in_order cmp xs) ≡ length xs
 length-in_order cmp xs = length_permutation xs (in_order cmp xs) (in_order-permutes cmp xs)
 
--- what was put in order in the place of as many elements
+-- a sorted part that replaced as many elements
 pub in_order-written : {X : Type 0} (cmp : X → X → Ordering) (n : ℕ) (list now rest : List X) → now ≡ in_order cmp list → length list ≡ n → take n (now ++ rest) ≡ in_order cmp list
 in_order-written cmp n list now rest sorted many =
     let all : length now ≡ n = ap length sorted ∙ length-in_order cmp list ∙ many in
@@ -171,7 +172,7 @@ rises-drop lt zero xs up = up
 rises-drop lt (suc n) [] up = tt
 rises-drop lt (suc n) (x ∷ xs) (least, up) = rises-drop lt n xs up
 
--- going over a list that rises in R, run by run: what is in front of a place is done, and what is behind it stands as it did
+-- going over a list that rises in R, run by run: the elements before a place are done, the elements after it unchanged
 pub record IsDoneTo {X : Type 0} (R S : X → X → Ordering) (list now : List X) (place : ℕ) : Type 0 where
   pub same : length now ≡ length list
   pub within : place ≤ length now

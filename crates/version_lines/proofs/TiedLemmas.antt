@@ -1,4 +1,4 @@
--- Lines with one key, in the order of their versions.
+-- Lines with equal keys, in the order of their versions.
 use Rattle.std.proofs.Common.{◌≡◌, ◌≤◌, ◌-◌, ◌&&◌, ℕ, Bool, true, false, IsTrue, List, [], ◌∷◌, ◌++◌, length, take, drop, get_or, Option, None, Some, is_some, refl, sym, ap, ◌∙◌, arith}
 use Rattle.std.specs.Cmp.{IsStrictWeakOrder}
 use Rattle.std.specs.List.{All}
@@ -28,9 +28,9 @@ use Rattle.version_lines.proofs.TieLemmas.{in_order-risen}
 pub tie_ranks : IsStrictWeakOrder (λ a b. is_lt (tie_cmp a b))
 tie_ranks = ranks_by tie_total (λ (entry : Entry). entry)
 
--- lines that nothing tells apart are in order
+-- lines that all tie are in order
 
--- what breaks the tie of the line's key is this
+-- the tie breaker of a line
 abbrev HasBreaker : Option PlainVersioning → Entry → Type 0
 HasBreaker breaker entry = line_tie_breaker (entry_line entry) ≡ breaker
 
@@ -48,7 +48,7 @@ rises-level breaker (a ∷ run) all =
     let others = All-tail (HasBreaker breaker) a run all in
     (level_rest breaker a run (All-head (HasBreaker breaker) a run all) others, rises-level breaker run others)
 
--- one and the same line
+-- identical lines
 pub in_order-one_line : (line : List ℕ) (run : List Entry) → All (λ entry. entry_line entry ≡ line) run → in_order tie_cmp run ≡ run
 in_order-one_line line run all =
     in_order-risen tie_cmp run (rises-level (line_tie_breaker line) run (All-weaker (λ entry. entry_line entry ≡ line) (HasBreaker (line_tie_breaker line)) (λ entry same. ap line_tie_breaker same) run all))
@@ -73,7 +73,7 @@ strict_kind None (Some v) complex known spelled is = cc (spelled, is)
 strict_kind None None (Some m) known spelled is = cc (spelled, is)
 strict_kind None None None known spelled is = cc spelled
 
--- one more line of which is known that it is strict
+-- one more line that is strict
 pub all_strict-added : (after entries : List Entry) (entry : Entry) (line : List ℕ) (known : Kind) (others it : Bool) → IsTrue (others && it) → (IsTrue others → All IsStrict entries)
     → (IsTrue it → known ≡ kind.Ideal) → Some known ≡ option_map versioning_kind (versioning_of line) → entry_line entry ≡ line → after ≡ entries ++ entry ∷ [] → All IsStrict after
 all_strict-added after entries entry line known false it both strict is spelled same added = cc both
@@ -82,12 +82,12 @@ all_strict-added after entries entry line known true true both strict is spelled
     let here : IsStrict entry = rw same (strict_kind (semver_of line) (version_of line) (mess_of line) known spelled (is both)) in
     All-same IsStrict after (entries ++ entry ∷ []) added (All-push IsStrict entries entry (strict both) here)
 
--- of strict versions nothing breaks the tie
+-- nothing breaks the tie of strict versions
 strict_tie : (a b : Entry) → IsStrict a → IsStrict b → tie_cmp a b ≡ Equal
 strict_tie a b a_strict b_strict =
     rw (strict-no_breaker (semver_of (entry_line a)) _ a_strict, strict-no_breaker (semver_of (entry_line b)) _ b_strict) refl
 
--- so strict versions in the order of their keys are in order
+-- so strict versions sorted by their keys are in order
 pub in_order-all_strict : (keys : List ℕ) (entries : List Entry) → All IsStrict entries → in_order (entry_cmp keys) entries ≡ in_order (then_cmp (entry_cmp keys) tie_cmp) entries
 in_order-all_strict keys entries all =
     let fine = then_cmp (entry_cmp keys) tie_cmp in
@@ -95,7 +95,7 @@ in_order-all_strict keys entries all =
     sym (ap (ordering_then (entry_cmp keys a b)) (strict_tie a b a_strict b_strict) ∙ then_equal (entry_cmp keys a b)) in
     sym (map-id (in_order (entry_cmp keys) entries)) ∙ in_order-map IsStrict (λ entry. entry) (entry_cmp keys) fine alike entries all ∙ ap (in_order fine) (map-id entries)
 
--- lines behind the first that are the first, to the last of them
+-- all lines after the first are the first line
 pub one_line-from_first : (run : List Entry) (d : Entry) (i : ℕ) → 1 ≤ length run → length (take (length run - 1) (drop 1 run)) ≤ i
     → All (λ entry. entry_line entry ≡ entry_line (get_or run 0 d)) (take i (take (length run - 1) (drop 1 run))) → (line : List ℕ) × All (λ entry. entry_line entry ≡ line) run
 one_line-from_first [] d i some past all = absurd (omega arith)

@@ -6,13 +6,13 @@ use Rattle.version_lines.specs.declared.answer.Answer.TheVariants.{Labelled, NoV
 use Rattle.version_lines.specs.declared.answer.Label.{Label}
 use Rattle.version_lines.specs.declared.answer.Label.TheVariants.{Ideal, General, Complex}
 
--- a label, and the space behind it
+-- a label, and the space after it
 abbrev pub label_text : Label → List ℕ
 label_text Ideal = codes "ideal "
 label_text General = codes "general "
 label_text Complex = codes "complex "
 
--- what is written for a line that has a label, for one that is no version, for one that stands as it is, and for one
+-- what is written for a line with a label, for a line that is not a version, for a line that is kept, and for a line
 -- that is left out
 abbrev pub answer_text : Answer → List ℕ → List ℕ
 answer_text (Labelled label) line = labelled_line (label_text label) line

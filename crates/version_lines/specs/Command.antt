@@ -1,4 +1,4 @@
--- What the words of a run ask for.
+-- The command that the words of a run name.
 use Rattle.std.specs.Prelude.{ℕ, Bool, true, false, List, [], ◌∷◌, Option, None, Some, codes, is_some, if◌then◌else◌}
 use Rattle.std.specs.Str.{bytes_eq}
 use Rattle.version_lines.specs.declared.command.Command.{Command}
@@ -21,14 +21,14 @@ plain_command (owned.Key version) = Key version.now
 plain_command (owned.Match word) = Match word.now
 plain_command (owned.OfInput command) = OfInput command
 
--- the command that a name alone stands for
+-- the command of a single word
 abbrev pub input_command_of : List ℕ → Option PlainCommand
 input_command_of name =
     if bytes_eq name (codes "ideal") then Some (OfInput Ideal)
     else (if bytes_eq name (codes "show") then Some (OfInput Show)
     else (if bytes_eq name (codes "sort") then Some (OfInput Sort) else None))
 
--- the command that the words name, where they name one; no words are `ideal`
+-- the command that the words name, if they name one; without words it is `ideal`
 abbrev pub command_of : List (List ℕ) → Option PlainCommand
 command_of [] = Some (OfInput Ideal)
 command_of (name ∷ []) = input_command_of name
@@ -38,7 +38,7 @@ command_of (name ∷ word ∷ []) =
 command_of (name ∷ a ∷ b ∷ []) = if bytes_eq name (codes "cmp") then Some (Cmp a b) else None
 command_of (name ∷ a ∷ b ∷ c ∷ more) = None
 
--- whether a command reads the input: `cmp` and `key` don't, and `match` does where its word is a list of requirements
+-- whether a command reads the input: `cmp` and `key` don't, and `match` does if its word is a list of requirements
 abbrev pub reads_input : PlainCommand → Bool
 reads_input (Cmp a b) = false
 reads_input (Key version) = false

@@ -9,13 +9,13 @@ use Rattle.versions.specs.Key.{key_of, precedence}
 use Rattle.versions.specs.KeyBytes.{key_bytes}
 use Rattle.versions.specs.Versioning.{PlainVersioning, versioning_of}
 
--- the sign of how a version stands to another
+-- the sign of an ordering
 abbrev pub sign_text : Ordering → List ℕ
 sign_text Less = codes "<"
 sign_text Equal = codes "="
 sign_text Greater = codes ">"
 
--- the line for two versions, and nothing where one is missing
+-- the line for two versions, and nothing if a version is missing
 abbrev pub comparison_line : Option PlainVersioning → Option PlainVersioning → List ℕ
 comparison_line (Some a) (Some b) = sign_text (precedence (key_of a) (key_of b)) ++ line_feed ∷ []
 comparison_line a b = []

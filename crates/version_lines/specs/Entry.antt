@@ -1,4 +1,4 @@
--- A line as it is sorted, and where its key lies.
+-- A line as it is sorted, and the place of its key.
 use Rattle.std.specs.Prelude.{◌≡◌, ◌<◌, ◌≤◌, ◌+◌, ℕ, false, true, List, drop, is_some, length, take}
 use Rattle.std.specs.List.{All, AllPairs}
 use Rattle.std.specs.Ordering.{nat_cmp, on, then_cmp}
@@ -13,7 +13,7 @@ use Rattle.versions.specs.SemVer.{semver_of}
 abbrev pub entry_line : Entry → List ℕ
 entry_line entry = entry.line.now
 
--- what lies at its place, of all keys
+-- its key, out of all keys
 abbrev pub entry_key : List ℕ → Entry → List ℕ
 entry_key keys entry = take entry.length (drop entry.start keys)
 
@@ -26,11 +26,11 @@ pub record IsRead (keys : List ℕ) (entry : Entry) : Type 0 where
   pub first : entry.first ≡ head_number (line_key (entry_line entry))
   pub second : entry.second ≡ head_number (drop 8 (line_key (entry_line entry)))
 
--- by the second number, then by what is behind the bytes of the two numbers
+-- by the second number, then by the bytes after those of the two numbers
 abbrev pub behind_cmp : List ℕ → Entry → Entry → Ordering
 behind_cmp keys = then_cmp (on (λ (entry : Entry). entry.second) nat_cmp) (on (entry_key keys) behind_heads_cmp)
 
--- by the first number, then by the second, then by what is behind
+-- by the first number, then by the second, then by the bytes after them
 abbrev pub entry_cmp : List ℕ → Entry → Entry → Ordering
 entry_cmp keys = then_cmp (on (λ (entry : Entry). entry.first) nat_cmp) (behind_cmp keys)
 
@@ -38,11 +38,11 @@ entry_cmp keys = then_cmp (on (λ (entry : Entry). entry.first) nat_cmp) (behind
 abbrev pub IsStrict : Entry → Type 0
 IsStrict entry = is_some (semver_of (entry_line entry)) ≡ true
 
--- by where their keys lie
+-- by the places of their keys
 abbrev pub turn_cmp : Entry → Entry → Ordering
 turn_cmp = on (λ (entry : Entry). entry.start) nat_cmp
 
--- the keys of lines that stand as in the input lie one behind another
+-- the keys of lines that stand as in the input lie one after another
 abbrev pub AreInTurn : List Entry → Type 0
 AreInTurn = AllPairs (λ (a b : Entry). a.start < b.start)
 

@@ -31,19 +31,19 @@ ComesOfReading fault = (fault ≡ Memory) ⊎ (fault ≡ Read)
 abbrev pub ComesOfWriting : Fault → Type 0
 ComesOfWriting fault = (fault ≡ Memory) ⊎ (fault ≡ Write)
 
--- the faults that judging words can end in, the first bad one of which is this
+-- the faults that checking words can end in, if this is the first bad word
 abbrev pub ComesOfWords : Option (List ℕ) → Fault → Type 0
 ComesOfWords bad_word Memory = ⊤
 ComesOfWords bad_word (NotVersion text) = bad_word ≡ Some (string_bytes text)
 ComesOfWords bad_word fault = ⊥
 
--- the faults that judging the word of `match` can end in, where that is this bad one
+-- the faults that checking the word of `match` can end in, if this is that word and it is bad
 abbrev pub ComesOfRequirements : Option (List ℕ) → Fault → Type 0
 ComesOfRequirements bad_requirements Memory = ⊤
 ComesOfRequirements bad_requirements (NotRequirement text) = bad_requirements ≡ Some (string_bytes text)
 ComesOfRequirements bad_requirements fault = ⊥
 
--- the faults that judging lines can end in, the first bad one of which has this number
+-- the faults that checking lines can end in, if this is the number of the first bad line
 abbrev pub ComesOfLines : Option ℕ → Fault → Type 0
 ComesOfLines bad_line Memory = ⊤
 ComesOfLines bad_line (BadLine number) = bad_line ≡ Some number

@@ -1,10 +1,10 @@
--- The beginning of a list of bytes as a number, by which two lists are told apart before all of them is looked at.
+-- The first bytes of a list as a number, so that most lists compare by numbers alone.
 use Rattle.std.specs.Prelude.{ℕ, zero, suc, ◌+◌, ◌*◌, List, [], ◌∷◌, drop, length}
 use Rattle.std.specs.Cmp.Lexicographic.{slice_cmp}
 use Rattle.std.specs.Ordering.{nat_cmp, on, then_cmp}
 use Rattle.std.specs.declared.cmp.Ordering.{Ordering}
 
--- so many bytes behind a value, in base 256; missing ones count as 0
+-- a value followed by so many bytes, in base 256; missing bytes count as 0
 unfoldable pub number_from : ℕ → ℕ → List ℕ → ℕ
 number_from value zero bytes = value
 number_from value (suc n) [] = number_from (value * 256) n []
@@ -14,7 +14,7 @@ number_from value (suc n) (byte ∷ bytes) = number_from (value * 256 + byte) n 
 unfoldable pub head_number : List ℕ → ℕ
 head_number bytes = number_from 0 8 bytes
 
--- two lists whose first sixteen bytes are the same, where missing ones count as 0: by what is behind them, and then by
+-- two lists with the same first sixteen bytes, where missing bytes count as 0: by the bytes after them, and then by
 -- their lengths
 abbrev pub behind_heads_cmp : List ℕ → List ℕ → Ordering
 behind_heads_cmp = then_cmp (on (drop 16) (slice_cmp nat_cmp)) (on length nat_cmp)

@@ -1,4 +1,4 @@
--- The lines of an input, and an output that answers each of them for itself.
+-- The lines of an input, and an output that is made line by line.
 use Rattle.std.specs.Prelude.{ℕ, List, [], ◌∷◌, ◌++◌, if◌then◌else◌, ◌==◌}
 use Rattle.std.specs.List.{flat_map}
 
@@ -6,7 +6,7 @@ use Rattle.std.specs.List.{flat_map}
 abbrev pub line_feed : ℕ
 line_feed = 10
 
--- a byte in front of the first of some lines, or as a line of its own where there is none
+-- a byte put before the first of some lines, or as a line of its own if there is no line
 abbrev pub before_lines : ℕ → List (List ℕ) → List (List ℕ)
 before_lines byte [] = (byte ∷ []) ∷ []
 before_lines byte (line ∷ lines) = (byte ∷ line) ∷ lines

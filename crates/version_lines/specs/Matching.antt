@@ -10,12 +10,12 @@ use Rattle.versions.specs.Requirement.{PlainRequirement}
 use Rattle.versions.specs.Requirements.{requirements_of}
 use Rattle.versions.specs.Versioning.{PlainVersioning, versioning_of}
 
--- the answer by whether something holds: the line, or nothing
+-- the answer for a line: the line if something holds, otherwise nothing
 abbrev pub line_if : {Holds : Type 0} → Holds ⊎ ¬ Holds → Answer
 line_if (inl holds) = Whole
 line_if (inr fails) = Nothing
 
--- the answer for a line that spells this version, or none
+-- the answer for a line that parses as this version, or not as a version
 abbrev pub match_answer : List PlainRequirement → Option PlainVersioning → Answer
 match_answer wanted None = Nothing
 match_answer wanted (Some v) = line_if (matches_all_or_not wanted v)
@@ -28,6 +28,6 @@ match_line wanted line = answer_text (match_answer wanted (versioning_of line)) 
 abbrev pub matching_lines : List PlainRequirement → List ℕ → List ℕ
 matching_lines wanted input = lines_output (match_line wanted) (lines_of input)
 
--- the same for a word, and nothing where that is no list of requirements
+-- the same for a word, and nothing if the word is not a list of requirements
 abbrev pub match_output : List ℕ → List ℕ → List ℕ
 match_output word input = option_map_or (λ wanted. matching_lines wanted input) (requirements_of word) []

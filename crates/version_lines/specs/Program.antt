@@ -20,13 +20,13 @@ use Rattle.versions.specs.Versioning.{PlainVersioning, Ideal, General, Complex, 
 abbrev pub ideal_line : List ℕ → List ℕ
 ideal_line line = answer_text (if is_some (semver_of line) then Labelled label.Ideal else NoVersion) line
 
--- how a version is labelled: by its kind
+-- the label of a version, by its kind
 abbrev pub label_of : PlainVersioning → Label
 label_of (Ideal v) = label.Ideal
 label_of (General v) = label.General
 label_of (Complex m) = label.Complex
 
--- the answer for a line that spells this version, or none
+-- the answer for a line that parses as this version, or not as a version
 abbrev pub show_answer : Option PlainVersioning → Answer
 show_answer None = NoVersion
 show_answer (Some v) = Labelled (label_of v)
@@ -41,13 +41,13 @@ input_output command.Ideal input = lines_output ideal_line (lines_of input)
 input_output command.Show input = lines_output show_line (lines_of input)
 input_output command.Sort input = sort_output input
 
--- what a command writes, where the input is known or isn't read
+-- what a command writes, if the input is known or isn't read
 abbrev pub command_output : Option (List ℕ) → PlainCommand → Option (List ℕ)
 command_output input (Cmp a b) = Some (cmp_output a b)
 command_output input (Key version) = Some (key_output version)
 command_output input (Match word) = option_map (match_output word) input
 command_output input (OfInput command) = option_map (input_output command) input
 
--- what a run writes for its words and an input, where that is known
+-- what a run writes for its words and an input, if that is known
 abbrev pub output_of : List (List ℕ) → Option (List ℕ) → Option (List ℕ)
 output_of words input = option_and_then (command_output input) (command_of words)

@@ -9,15 +9,15 @@ use Rattle.version_lines.specs.Sorting.{in_order}
 use Rattle.versions.specs.Orders.{versioning_cmp}
 use Rattle.versions.specs.Versioning.{versioning_of}
 
--- whether a line is no version
+-- whether a line is not a version
 abbrev pub is_bad : List ℕ → Bool
 is_bad line = not (is_some (versioning_of line))
 
--- the number of the first line that is no version, counted from 1
+-- the number of the first line that is not a version, counted from 1
 abbrev pub bad_line : List (List ℕ) → Option ℕ
 bad_line lines = option_map (λ place. place + 1) (position is_bad lines)
 
--- two lines compare as the versions that they spell
+-- two lines compare as the versions that they parse as
 abbrev pub line_cmp : List ℕ → List ℕ → Ordering
 line_cmp = on versioning_of (option_cmp versioning_cmp)
 

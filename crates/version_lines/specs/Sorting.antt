@@ -5,17 +5,17 @@ use Rattle.std.specs.Ordering.{is_lt}
 use Rattle.std.specs.declared.cmp.Ordering.{Ordering}
 use Rattle.std.specs.declared.cmp.Ordering.TheVariants.{Equal}
 
--- an element put in front of the first one that isn't below it
+-- an element put before the first element that isn't below it
 abbrev pub put_in_order : {X : Type 0} → (X → X → Ordering) → X → List X → List X
 put_in_order cmp x [] = x ∷ []
 put_in_order cmp x (y ∷ ys) = if is_lt (cmp y x) then y ∷ put_in_order cmp x ys else x ∷ y ∷ ys
 
--- the elements in order, and those that are Equal as they stood
+-- the elements in order; elements that are Equal keep their order
 abbrev pub in_order : {X : Type 0} → (X → X → Ordering) → List X → List X
 in_order cmp [] = []
 in_order cmp (x ∷ xs) = put_in_order cmp x (in_order cmp xs)
 
--- how many elements from the first on there are that it isn't below: in a list in order, those that tie with it
+-- how many elements from the first on it isn't below: in a list in order, how many tie with it
 abbrev pub run_length : {X : Type 0} → (X → X → Ordering) → List X → ℕ
 run_length cmp [] = 0
 run_length cmp (x ∷ xs) = 1 + prefix_len (λ y. not (is_lt (cmp x y))) xs

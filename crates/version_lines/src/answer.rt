@@ -1,12 +1,12 @@
-//! What a command answers for a line.
+//! What a command writes for a line.
 ghost use Rattle.std.specs.Prelude.{◌≡◌};
 
 /// What is written for a line.
 #[derive(Clone, Copy)]
 pub enum Answer {
-    /// The line behind its label.
+    /// Its label, then the line.
     Labelled(Label),
-    /// `none`, since the line is no version.
+    /// `none`, since the line is not a version.
     NoVersion,
     /// The line as it stands.
     Whole,
@@ -14,7 +14,7 @@ pub enum Answer {
     Nothing,
 }
 
-/// What a line is.
+/// The kind of version that a line is.
 #[derive(Clone, Copy)]
 pub enum Label {
     /// A strict version.
@@ -28,7 +28,7 @@ pub enum Label {
 impl Label {
     ghost use Rattle.version_lines.specs.Answer.{label_text};
 
-    /// The label as it is written, with the space behind it.
+    /// Returns the label as it is written, with the space after it.
     pub fn text(self) -> &'static [u8]
         ensures { result.now ≡ label_text self }
     {

@@ -1,21 +1,21 @@
-//! What the words of a run ask for.
+//! The command that the words of a run name.
 ghost use Rattle.std.specs.Prelude.{◌≡◌, map, string_bytes};
 ghost use Rattle.std.specs.Option.{option_map};
 
 /// A command, which borrows its words.
 #[derive(Clone, Copy)]
 pub enum Command<'a> {
-    /// How the first version stands to the second.
+    /// Compares two versions.
     Cmp(&'a str, &'a str),
     /// The sort key of a version.
     Key(&'a str),
-    /// The lines whose versions a list of requirements asks for.
+    /// The lines whose versions a list of requirements matches.
     Match(&'a str),
-    /// What is said of the lines of the input.
+    /// A command over the lines of the input.
     OfInput(InputCommand),
 }
 
-/// A command that has no word, and reads the input.
+/// A command that takes no further word, and reads the input.
 #[derive(Clone, Copy)]
 pub enum InputCommand {
     /// For each line, whether it is a strict version.
@@ -29,7 +29,7 @@ pub enum InputCommand {
 impl Command<'_> {
     ghost use Rattle.version_lines.specs.Command.{command_of, plain_command};
 
-    /// The command that the words name, where they name one.
+    /// Returns the command that the words name, or None if they name none.
     pub fn from_words(words: &[String]) -> Option<Command<'_>>
         ensures { option_map plain_command result ≡ command_of (map string_bytes words.now) }
     {
@@ -47,7 +47,7 @@ impl Command<'_> {
 impl InputCommand {
     ghost use Rattle.version_lines.specs.Command.{input_command_of, OfInput};
 
-    /// The command that a name alone stands for.
+    /// Returns the command of a single word.
     fn named(name: &str) -> Option<InputCommand>
         ensures { option_map OfInput result ≡ input_command_of name.now }
     {

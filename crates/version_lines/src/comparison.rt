@@ -1,4 +1,4 @@
-//! The command `cmp`: how one version stands to another.
+//! The command `cmp`: how two versions compare.
 ghost use Rattle.std.specs.Prelude.{◌≡◌, [], ◌∷◌, ◌++◌, IfErr, IfOk, None, OnOk};
 ghost use Rattle.version_lines.specs.Command.{Cmp};
 ghost use Rattle.version_lines.specs.Comparison.{cmp_output, sign_text};
@@ -11,8 +11,7 @@ use crate::words::version_of_word;
 use std::alloc::Global;
 use std::cmp::Ordering;
 
-/// The line that says how the version of the first word stands to that of the second. The first word is judged
-/// before the second.
+/// Returns the line for the comparison of two words. The first word is checked before the second.
 pub fn comparison(alloc: Global, first: &str, second: &str) -> Result<&'static [u8], Fault>
     ensures output { IfOk result (λ line. line.now ≡ cmp_output first.now second.now) }
     ensures ok { OnOk result (bad_word (Cmp first.now second.now) ≡ None) }
@@ -23,7 +22,7 @@ pub fn comparison(alloc: Global, first: &str, second: &str) -> Result<&'static [
     Ok(line_for(first.precedence(&second)))
 }
 
-/// The sign of an ordering, and a line feed.
+/// Returns the sign of an ordering, and a line feed.
 fn line_for(order: Ordering) -> &'static [u8]
     ensures { result.now ≡ sign_text order ++ line_feed ∷ [] }
 {

@@ -1,37 +1,36 @@
-//! Why a run of the program ends before it is done.
+//! Why a run of the program fails.
 ghost use Rattle.std.specs.Prelude.{◌≡◌};
 
 use std::alloc::AllocError;
 use std::error::Error;
 use std::fmt;
 
-/// Why a run ended before it was done.
+/// Why a run failed.
 ///
-/// It prints as the line that the program writes to standard error. Neither that nor
-/// [`Fault::status`] takes memory.
+/// It prints as the line that the program writes to standard error. Neither printing nor [`Fault::status`] allocates.
 #[derive(Clone, Debug, PartialEq, Eq, Hash, Drop)]
 pub enum Fault {
-    /// The words are no command of the program.
+    /// The words are not a command of the program.
     Usage,
-    /// A word that has to be a version, and isn't: the word.
+    /// The first word that should be a version but isn't.
     NotVersion(String),
-    /// A word that has to be a requirement, and isn't: the word.
+    /// The word that should be a list of requirements but isn't.
     NotRequirement(String),
-    /// A line that has to be a version, and isn't: its number, counted from 1.
+    /// The number of the first line that should be a version but isn't, counted from 1.
     BadLine(usize),
-    /// A request for memory was refused.
+    /// An allocation failed.
     Memory,
     /// The input could not be read to its end.
     Read,
-    /// The output could not be written whole.
+    /// The output could not be written to its end.
     Write,
 }
 
 impl Fault {
     ghost use Rattle.version_lines.specs.Fault.{status_of};
 
-    /// The status with which the program ends: 1 for an input that isn't a version or a
-    /// requirement, 2 for wrong words, 3 for what the system refused.
+    /// Returns the exit status: 1 for an input that isn't a version or a requirement, 2 for wrong words, 3 for a
+    /// failure of the system.
     pub fn status(&self) -> u8
         ensures { result ≡ status_of self.now }
     {

@@ -24,7 +24,7 @@ impl LineCommand for Ideal {
     }
 }
 
-/// Whether a line is a strict version. Takes no memory.
+/// Returns whether a line is a strict version. Doesn't allocate.
 pub fn is_strict(line: &[u8]) -> bool
     ensures { result ≡ is_some (semver_of line.now) }
 {

@@ -7,17 +7,17 @@ use crate::faults::Fault;
 use std::alloc::{AllocError, Global};
 use std::io::Read;
 
-/// How many bytes one call of `read` may give.
+/// How many bytes one call of `read` may return.
 const PIECE: usize = 64 * 1024;
 
-/// So many bytes that are 0.
+/// Returns `count` zero bytes.
 fn zeros(alloc: Global, count: usize) -> Result<Vec<u8>, AllocError>
     ensures { IfOk result (λ zeros. vec_len zeros ≡ count) }
 {
     vec![in alloc; 0; count]
 }
 
-/// Everything that the reader has left. A call of `read` that fails ends it, an interrupted one too.
+/// Reads to the end of the reader. It stops at the first call of `read` that fails, interrupted calls included.
 pub fn read_all<R: Read>(alloc: Global, reader: &mut R) -> Result<Vec<u8>, Fault>
     ensures bytes { IfOk result (λ input.
         Consumes (R.remaining reader.old) (R.remaining reader.new) input.items) }

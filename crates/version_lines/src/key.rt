@@ -9,7 +9,7 @@ use crate::faults::Fault;
 use crate::words::version_of_word;
 use std::alloc::Global;
 
-/// The line that has the sort key of a word's version, in hexadecimal.
+/// Returns the line with the sort key of a word's version, in hexadecimal.
 pub fn key_line(alloc: Global, word: &str) -> Result<String, Fault>
     ensures output { IfOk result (λ line. string_bytes line ≡ key_output word.now) }
     ensures ok { OnOk result (bad_word (Key word.now) ≡ None) }

@@ -1,4 +1,4 @@
-//! The program `vers` over any reader and any writer: `run` reads lines, and writes what a command says of them.
+//! The program `vers` over any reader and any writer: `run` reads lines, and writes a command's output.
 //! docs/PROGRAM.md has its rules.
 #![tactic(auto)]
 

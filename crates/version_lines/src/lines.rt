@@ -1,4 +1,4 @@
-//! Commands that answer each line of the input for itself.
+//! Commands whose output for a line depends on that line alone.
 ghost use Rattle.std.specs.Prelude.{◌≡◌, ℕ, ◌<◌, List, ◌∷◌, ◌++◌, length, OnOk, OnErr, IfErr, IsErrOf};
 ghost use Rattle.std.specs.Io.KnownBytes.{Appends};
 ghost use Rattle.version_lines.specs.Answer.{answer_text};
@@ -13,12 +13,12 @@ use memchr::memchr;
 use std::alloc::Global;
 use std::io::Write;
 
-/// A command that answers each line for itself.
+/// A command whose output for a line depends on that line alone.
 pub trait LineCommand {
-    // What it writes for a line.
+    // The output for a line.
     ghost line_output: { Self → List ℕ → List ℕ };
 
-    /// The answer for a line.
+    /// Returns the answer for a line.
     fn answer(&self, line: &[u8]) -> Answer
         ensures { answer_text result line.now ≡ line_output self.now line.now };
 }
@@ -51,7 +51,7 @@ pub fn write_lines<C: LineCommand, W: Write>(
     write_whole(writer, buffer.as_slice())
 }
 
-/// The first line, and what follows the line feed that ends it.
+/// Splits off the first line and its line feed, and returns the line and the rest.
 pub fn split_line(text: &[u8]) -> (&[u8], &[u8])
     requires { 0 < length text.now }
     ensures lines { lines_of text.now ≡ result.0.now ∷ lines_of result.1.now }
@@ -63,7 +63,7 @@ pub fn split_line(text: &[u8]) -> (&[u8], &[u8])
     }
 }
 
-/// Adds the answer for a line to what waits in the buffer.
+/// Adds the answer for a line to the buffer.
 fn put_answer<W: Write>(
     answer: Answer,
     line: &[u8],

@@ -1,4 +1,4 @@
-//! The command `match`: the lines whose versions a list of requirements asks for.
+//! The command `match`: the lines whose versions a list of requirements matches.
 ghost use Rattle.std.specs.Prelude.{◌≡◌};
 ghost use Rattle.version_lines.specs.Matching.{match_answer};
 ghost use Rattle.versions.specs.Versioning.{versioning_of};
@@ -7,7 +7,7 @@ use crate::answer::Answer;
 use crate::lines::LineCommand;
 use versions::RequirementsRef;
 
-/// Keeps the lines that are versions which the requirements ask for.
+/// Keeps the lines whose versions the requirements match.
 #[derive(Drop)]
 pub struct Matching<'w> {
     pub wanted: RequirementsRef<'w>,
@@ -23,7 +23,7 @@ impl LineCommand for Matching<'_> {
     }
 }
 
-/// The answer for a line.
+/// Returns the answer for a line.
 #[tactic(auto, using(crate::proofs::MatchingLemmas::answered))]
 fn answer_for(wanted: &RequirementsRef<'_>, line: &[u8]) -> Answer
     ensures { result ≡ match_answer wanted.now (versioning_of line.now) }

@@ -8,17 +8,17 @@ use crate::faults::Fault;
 use std::alloc::{AllocError, Global};
 use std::io::Write;
 
-/// How many bytes wait in the buffer at most.
+/// The capacity of the buffer in bytes.
 const CAPACITY: usize = 64 * 1024;
 
-/// An empty buffer.
+/// Returns an empty buffer.
 pub fn make_buffer(alloc: Global) -> Result<Vec<u8>, AllocError>
     ensures { IfOk result (λ buffer. buffer.items ≡ []) }
 {
     Vec::with_capacity(alloc, CAPACITY)
 }
 
-/// Writes the bytes. A call of `write` that fails or takes nothing ends it, an interrupted one too.
+/// Writes all bytes. It stops at the first call of `write` that fails or writes nothing, interrupted calls included.
 pub fn write_whole<W: Write>(writer: &mut W, bytes: &[u8]) -> Result<(), Fault>
     ensures ok { OnOk result (Appends (W.contents writer.old) (W.contents writer.new) bytes.now) }
     ensures err { OnErr result
@@ -38,8 +38,8 @@ pub fn write_whole<W: Write>(writer: &mut W, bytes: &[u8]) -> Result<(), Fault>
     Ok(())
 }
 
-/// Adds the bytes to those that wait in the buffer. Where they don't fit, what waits is written
-/// first, and then they are, if they are more than the buffer holds. Takes no memory.
+/// Adds the bytes to the buffer. If they don't fit, the buffer is written first; bytes that exceed its capacity are
+/// then written at once. Doesn't allocate.
 pub fn put<W: Write>(writer: &mut W, buffer: &mut Vec<u8>, bytes: &[u8]) -> Result<(), Fault>
     ensures ok { OnOk result (AppendsUpTo (W.contents writer.old) (W.contents writer.new)
         buffer.new.items (buffer.old.items ++ bytes.now)) }
@@ -58,7 +58,7 @@ pub fn put<W: Write>(writer: &mut W, buffer: &mut Vec<u8>, bytes: &[u8]) -> Resu
     Ok(())
 }
 
-/// Adds a label, a line and a line feed to the bytes that wait in the buffer.
+/// Adds a label, a line and a line feed to the buffer.
 pub fn put_line<W: Write>(
     writer: &mut W,
     buffer: &mut Vec<u8>,
@@ -81,7 +81,7 @@ pub fn put_line<W: Write>(
     put(writer, buffer, b"\n")
 }
 
-/// Adds a label, a line and a line feed, for which there is room.
+/// Adds a label, a line and a line feed, which have to fit.
 #[inline(always)]
 fn add_line(buffer: &mut Vec<u8>, label: &[u8], line: &[u8])
     requires { vec_len buffer.old + length label.now + length line.now < vec_capacity buffer.old }

@@ -1,4 +1,4 @@
-//! A run of the program, over any reader and any writer.
+//! A run of the program over any reader and any writer.
 ghost use Rattle.std.specs.Prelude.{◌≡◌, ◌↔◌, ◌⊎◌, Some, false, map, string_bytes, IsErr, IsNone, IsTrue, OnOk, IfErr, IfSome, IsErrOf};
 ghost use Rattle.std.specs.Io.KnownBytes.{Appends, IsAtEnd, Keeps};
 ghost use Rattle.version_lines.specs.Command.{command_of, plain_command, reads_input, OfInput};
@@ -20,42 +20,38 @@ use crate::words::requirements_of;
 use std::alloc::Global;
 use std::io::{Read, Write};
 
-/// Does what the words ask for: `ideal`, `show`, `sort` and `match R` read the whole input and write what they say of
-/// its lines, and no words are `ideal`; `cmp A B` and `key V` write what they say of versions, and read nothing.
-/// `match R` writes the lines that are versions and that R asks for, as they stand, and leaves out all others.
+/// Runs the command that the words name. `ideal`, `show`, `sort` and `match R` read the whole input and write their
+/// output for its lines; without words, the command is `ideal`. `cmp A B` and `key V` compare and key their words, and
+/// read nothing. `match R` writes the lines that are versions which R matches, unchanged.
 ///
-/// Words that are no command are [`Fault::Usage`], of the words that have to be versions the first that isn't one is
-/// [`Fault::NotVersion`], and an R that is no requirement and no list of them is [`Fault::NotRequirement`], the last two
-/// with a copy of the word, and all before anything is read. The input is read to its end before anything is written.
-/// `sort` wants each line to be a version, and judges all of them before it writes; the first that isn't one is
-/// [`Fault::BadLine`], with its number, counted from 1. So after these faults and after [`Fault::Read`] nothing was
-/// written. After [`Fault::Memory`] a beginning of the output was written, and after [`Fault::Write`] a beginning that
-/// isn't all of it.
+/// It fails before it reads anything with [`Fault::Usage`] if the words are not a command, with [`Fault::NotVersion`]
+/// and the first word that should be a version but isn't, and with [`Fault::NotRequirement`] and R if that is not a
+/// list of requirements. The whole input is read before anything is written. `sort` fails with [`Fault::BadLine`] and
+/// the number of the first line that isn't a version, counted from 1, before it writes anything. So nothing was written
+/// after these faults and after [`Fault::Read`]. After [`Fault::Memory`] a prefix of the output was written, and after
+/// [`Fault::Write`] a proper prefix.
 ///
-/// A call of `read` or `write` that fails isn't tried again, an interrupted one neither; a `write`
-/// that takes nothing has failed. `read` may give bytes 18446744073709551615 times, and is
-/// [`Fault::Read`] where that isn't the whole input. Nothing is flushed.
+/// A call of `read` or `write` that fails isn't retried, even if it was interrupted; a `write` that writes nothing has
+/// failed. `read` may return bytes 18446744073709551615 times; a longer input is [`Fault::Read`]. Nothing is flushed.
 ///
-/// It takes memory for the whole input and for two buffers of 64 KiB. `sort` takes it for the sort keys of all lines, in
-/// one list, and for 48 bytes a line; `key` for the sort key and the line; and a word that is told for its copy. `ideal`,
-/// `show`, `match` and `cmp` take it for nothing more: versions and requirements are read off their texts, and none is
-/// built.
+/// It allocates the whole input and two buffers of 64 KiB. `sort` also allocates the sort keys of all lines, in one
+/// list, and 48 bytes a line; `key` the sort key and the line; a fault the copy of its word. `ideal`, `show`, `match`
+/// and `cmp` allocate nothing more, since they read versions and requirements off their texts.
 pub fn run<R: Read, W: Write>(
     alloc: Global,
     words: &[String],
     reader: &mut R,
     writer: &mut W,
 ) -> Result<(), Fault>
-    // At the end all of the input was read, where the words ask for it, and the whole output was written and nothing
-    // else.
+    // After Ok, a command that reads has read all of the input, and the whole output was written and nothing else.
     ensures read { IsTrue (ask_for_input (map string_bytes words.now)) →
         OnOk result (IsAtEnd (R.remaining reader.new)) }
     ensures written { OnOk result (IfSome
         (output_of (map string_bytes words.now) (R.remaining reader.old))
         (Appends (W.contents writer.old) (W.contents writer.new))) }
 
-    // The words are judged before anything is read, and before anything is written all was read, where the words ask
-    // for it, and judged.
+    // The words are checked before anything is read. Before anything is written, all of the input was read, if the
+    // command reads, and checked.
     ensures usage { IsErrOf result Fault.Usage ↔ IsNone (command_of (map string_bytes words.now)) }
     ensures unread { ask_for_input (map string_bytes words.now) ≡ false →
         Keeps (R.remaining reader.old) (R.remaining reader.new) }
@@ -64,7 +60,7 @@ pub fn run<R: Read, W: Write>(
     ensures judges_first { IsServed (map string_bytes words.now) (R.remaining reader.old)
         ⊎ (IsErr result × Keeps (W.contents writer.old) (W.contents writer.new)) }
 
-    // What was written at a fault, and what the fault comes of.
+    // What was written at a fault, and the fault's cause.
     ensures at_fault { IfErr result (GrowsAt (W.contents writer.old) (W.contents writer.new)
         (output_of (map string_bytes words.now) (R.remaining reader.old))) }
     ensures faults { IfErr result (ComesOf (map string_bytes words.now) (R.remaining reader.old)) }
@@ -75,7 +71,7 @@ pub fn run<R: Read, W: Write>(
     }
 }
 
-/// The run of a command.
+/// Runs a command.
 fn serve<R: Read, W: Write>(
     alloc: Global,
     command: Command<'_>,
@@ -113,7 +109,7 @@ fn serve<R: Read, W: Write>(
     }
 }
 
-/// Writes what a command says of the lines of an input.
+/// Writes a command's output for the lines of an input.
 fn answer_input<W: Write>(
     alloc: Global,
     command: InputCommand,

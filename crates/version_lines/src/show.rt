@@ -1,4 +1,4 @@
-//! The command `show`: which kind of version each line is.
+//! The command `show`: the kind of version of each line.
 ghost use Rattle.std.specs.Prelude.{◌≡◌};
 ghost use Rattle.version_lines.specs.Program.{show_answer};
 ghost use Rattle.versions.specs.Versioning.{versioning_of};
@@ -7,7 +7,7 @@ use crate::answer::{Answer, Label};
 use crate::lines::LineCommand;
 use versions::VersioningRef;
 
-/// Labels each line by the kind of version that it is.
+/// Labels each line by its kind of version.
 #[derive(Clone, Copy)]
 pub struct Show;
 
@@ -21,7 +21,7 @@ impl LineCommand for Show {
     }
 }
 
-/// The label of a line, by the kind of the version that it spells. Takes no memory.
+/// Returns the label of a line, by the kind of its version. Doesn't allocate.
 fn answer_for(line: &[u8]) -> Answer
     ensures { result ≡ show_answer (versioning_of line.now) }
 {

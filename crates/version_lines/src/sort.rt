@@ -25,7 +25,7 @@ use std::io::Write;
 use ties::break_ties;
 use versions::Kind;
 
-/// Writes the lines of the input in the order of their versions, each of which has to be one.
+/// Writes the lines of the input in the order of their versions. Each line has to be a version.
 pub fn write_sorted<W: Write>(alloc: Global, input: &[u8], writer: &mut W) -> Result<(), Fault>
     ensures written { OnOk result
         (Appends (W.contents writer.old) (W.contents writer.new) (sort_output input.now)) }
@@ -41,19 +41,19 @@ pub fn write_sorted<W: Write>(alloc: Global, input: &[u8], writer: &mut W) -> Re
     write_entries(alloc, entries.as_slice(), writer)
 }
 
-/// How many bytes the keys of all lines are made room for at first: the keys of versions are most often about twice as
-/// long as they. For more the room grows.
+/// The bytes reserved for the keys of all lines at first: a key is most often about twice as long as its line. The
+/// list grows if that is too little.
 fn room_for_keys(input: &[u8]) -> usize {
     input.len().saturating_mul(2)
 }
 
-/// How many lines are made room for at first: versions are most often twelve bytes or longer. For more the room grows.
+/// The lines reserved at first: a version is most often twelve bytes or longer. The list grows if that is too little.
 fn room_for_lines(input: &[u8]) -> usize {
     input.len() / 12
 }
 
-/// The lines, whose keys are put into a list, and whether each is a strict version; or the fault that tells the first
-/// that is no version.
+/// Returns the lines, whose keys are added to a list, and whether all are strict versions. It fails with the number of
+/// the first line that isn't a version.
 fn read_entries<'a>(
     alloc: Global,
     keys: &mut Vec<u8>,
@@ -80,7 +80,7 @@ fn read_entries<'a>(
     Ok((entries, are_strict))
 }
 
-/// Whether the kind is the strict one.
+/// Returns whether the kind is the strict one.
 fn is_ideal(kind: Kind) -> bool
     ensures { IsTrue result → kind ≡ Kind.Ideal }
 {
@@ -90,7 +90,7 @@ fn is_ideal(kind: Kind) -> bool
     }
 }
 
-/// Adds a line behind the others.
+/// Adds a line after the others.
 fn add<'a>(entries: &mut Vec<Entry<'a>>, entry: Entry<'a>) -> Result<(), AllocError>
     ensures { OnOk result (entries.new.items ≡ entries.old.items ++ entry.entry ∷ []) }
 {
@@ -98,8 +98,8 @@ fn add<'a>(entries: &mut Vec<Entry<'a>>, entry: Entry<'a>) -> Result<(), AllocEr
     Ok(())
 }
 
-/// Puts lines that stand as in the input in the order of their versions. Where all of them are strict, their keys alone
-/// decide. Takes no memory.
+/// Puts lines that stand as in the input in the order of their versions. If all of them are strict, their keys alone
+/// decide. Doesn't allocate.
 fn put_in_order(keys: &[u8], entries: &mut Vec<Entry<'_>>, are_strict: bool)
     requires in_turn { AreInTurn entries.old.items }
     requires strict { IsTrue are_strict → All IsStrict entries.old.items }
@@ -112,7 +112,7 @@ fn put_in_order(keys: &[u8], entries: &mut Vec<Entry<'_>>, are_strict: bool)
     }
 }
 
-/// Puts lines that stand as in the input in the order of their keys. Takes no memory.
+/// Puts lines that stand as in the input in the order of their keys. Doesn't allocate.
 fn sort_by_keys(keys: &[u8], entries: &mut Vec<Entry<'_>>)
     requires { AreInTurn entries.old.items }
     ensures { entries.new.items ≡ in_order (entry_cmp keys.now) entries.old.items }
@@ -120,7 +120,7 @@ fn sort_by_keys(keys: &[u8], entries: &mut Vec<Entry<'_>>)
     entries.sort_unstable_by(|a, b| a.compare_in_turn(b, keys));
 }
 
-/// Writes the lines as they stand.
+/// Writes the lines in their present order.
 fn write_entries<W: Write>(
     alloc: Global,
     entries: &[Entry<'_>],

@@ -1,4 +1,4 @@
-//! What a line spells: a version, and the key of that.
+//! The version that a line parses as, and its key.
 ghost use Rattle.std.specs.Prelude.{◌≡◌, ◌++◌, IfOk, OnOk};
 ghost use Rattle.std.specs.Option.{option_map};
 ghost use Rattle.version_lines.specs.Spelled.{line_key, line_tie_breaker, line_tie_cmp};
@@ -10,7 +10,7 @@ use std::alloc::AllocError;
 use std::cmp::Ordering;
 use versions::{Kind, VersioningRef};
 
-/// How two lines compare by what breaks the tie of their keys. Takes no memory.
+/// Compares two lines with equal keys. Doesn't allocate.
 pub fn compare_ties(a: &[u8], b: &[u8]) -> Ordering
     ensures { result ≡ line_tie_cmp a.now b.now }
 {
@@ -22,7 +22,7 @@ pub fn compare_ties(a: &[u8], b: &[u8]) -> Ordering
     }
 }
 
-/// The version that a line spells, where it spells one that isn't strict: only that can break the tie of two keys.
+/// Returns the version that a line parses as, unless it is strict: only other versions can break the tie of two keys.
 fn tie_breaker(line: &[u8]) -> Option<VersioningRef<'_>>
     ensures { option_map plain_versioning_ref result ≡ line_tie_breaker line.now }
 {
@@ -33,8 +33,8 @@ fn tie_breaker(line: &[u8]) -> Option<VersioningRef<'_>>
     }
 }
 
-/// Adds the key of the version that a line spells to other keys, and gives the kind of that version, or None where the
-/// line spells none. The error is that there is no memory for the key.
+/// Adds the key of a line's version to other keys, and returns the kind of that version, or None if the line isn't a
+/// version. Fails if the key can't be allocated.
 pub fn add_key(keys: &mut Vec<u8>, line: &[u8]) -> Result<Option<Kind>, AllocError>
     ensures kind { IfOk result (λ kind. kind ≡ option_map versioning_kind (versioning_of line.now)) }
     ensures key { OnOk result (keys.new.items ≡ keys.old.items ++ line_key line.now) }

@@ -1,4 +1,4 @@
-//! The versions and the requirements that words spell.
+//! The versions and the requirements that words parse as.
 ghost use Rattle.std.specs.Prelude.{◌≡◌, Some, IfErr, IfOk};
 ghost use Rattle.version_lines.specs.Fault.{ComesOfRequirements, ComesOfWords};
 ghost use Rattle.version_lines.specs.Run.{unless_requirements, unless_version};
@@ -10,7 +10,7 @@ use crate::faults::Fault;
 use std::alloc::Global;
 use versions::{RequirementsRef, VersioningRef};
 
-/// The version that a word spells; else the fault that holds a copy of the word.
+/// Parses a word as a version. Otherwise the fault holds a copy of the word.
 pub fn version_of_word(alloc: Global, word: &str) -> Result<VersioningRef<'_>, Fault>
     ensures ok { IfOk result (λ v. versioning_of word.now ≡ Some (plain_versioning_ref v)) }
     ensures faults { IfErr result (ComesOfWords (unless_version word.now)) }
@@ -21,7 +21,7 @@ pub fn version_of_word(alloc: Global, word: &str) -> Result<VersioningRef<'_>, F
     }
 }
 
-/// The list of requirements that a word spells, of one or more; else the fault that holds a copy of the word.
+/// Parses a word as a list of one or more requirements. Otherwise the fault holds a copy of the word.
 pub fn requirements_of(alloc: Global, word: &str) -> Result<RequirementsRef<'_>, Fault>
     ensures ok { IfOk result (λ list. requirements_of word.now ≡ Some list) }
     ensures faults { IfErr result (ComesOfRequirements (unless_requirements word.now)) }

@@ -1,4 +1,4 @@
--- An answer for a text, by whether its version is asked for.
+-- An answer for a text, by whether its version matches.
 use Rattle.std.proofs.Common.{◌≡◌, ◌⊎◌, List, Option, Some, inl, inr, refl}
 use Rattle.versions.specs.Matching.{MatchesAll}
 use Rattle.versions.specs.MatchingLaws.{matches_all_or_not}

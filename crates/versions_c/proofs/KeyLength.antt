@@ -1,4 +1,4 @@
--- How long the key of a version is: at most three bytes for each byte of the text that spells it, and five more.
+-- The length of a version's key: at most three bytes for each byte of its text, and five more.
 use borrow.Author.Tests.{le-leb}
 use Rattle.std.proofs.Common.{◌≡◌, ◌∙◌, ◌+◌, ◌*◌, ◌<◌, ◌≤◌, ℕ, Bool, true, false, List, [], ◌∷◌, ◌++◌, length, map, Option, Some, None, refl, sym, ap, arith, if◌then◌else◌}
 use Rattle.std.proofs.lemmas.Bool.Decides.{nat_tests}
@@ -38,7 +38,7 @@ use Rattle.versions.specs.Versioning.{PlainVersioning, Ideal, General, Complex, 
 use Rattle.versions_c.specs.Keys.{length_past, room_for, spelled_key}
 use Rattle.versions_c.proofs.PartLength.{IsHigh, list_length, number_length, part_length, text_length}
 
--- ---- the bytes of what is spelled are high
+-- ---- versions have no bytes below 2
 
 high_byte : (b : ℕ) → is_metadata_byte b ≡ true → 2 ≤ b
 high_byte b h = grind (arith, nat_tests)
@@ -234,7 +234,7 @@ section_epoch_length text (chunk ∷ []) epoch s e = by (is_digits (mchunk_text 
         rw (← value) (omega (arith, number, long))
 section_epoch_length text (chunk ∷ next ∷ section) epoch s e = cc e
 
--- sections whose first is the body
+-- sections, the first of which is the body
 bare_length : (first_text more_text : List ℕ) (first : Section) (more : List Further) → SpellsSection first_text first → SpellsEach SpellsFurther more_text more
     → length (key_bytes (key_of_sections 0 first more)) ≤ 3 * (length first_text + length more_text) + 5
 bare_length first_text more_text first more s each =
@@ -271,7 +271,7 @@ spelled_length text (Complex m) s = mess_length text m s.0
 pub enough_room : (text : List ℕ) (v : PlainVersioning) → versioning_of text ≡ Some v → length (key_bytes (key_of v)) ≤ room_for (length text)
 enough_room text v e = spelled_length text v (versioning_of-spells text v e)
 
--- a room that is enough for each text of a length is never too little
+-- a size that is enough for any text of a length is always enough
 pub none_past : (text : List ℕ) (room : ℕ) → room_for (length text) ≤ room → None ≡ length_past (spelled_key text) room
 none_past text room enough = by (versioning_of text) refl
   where

@@ -1,4 +1,4 @@
--- Offsets, as `are_offsets` looks at them.
+-- Offsets, as `are_offsets` checks them.
 use Rattle.std.proofs.Common.{◌≡◌, ◌+◌, ◌<◌, ◌≤◌, ℕ, Bool, true, false, IsTrue, List, [], length, get_or, refl, arith}
 use Rattle.std.proofs.Math.Seq.{get_or-append_seam}
 use Rattle.std.specs.Bool.{MatchBool}
@@ -9,7 +9,7 @@ use Rattle.versions_c.specs.Offsets.{AreOffsets}
 pub last_at : (xs rest : List ℕ) (x : ℕ) → IsLastAndRest xs x rest → get_or xs (length rest) 0 ≡ x
 last_at xs rest x last = rw last.0 (get_or-append_seam rest x [] 0)
 
--- what `is_sorted` answers, of a list that ends where it should
+-- what `is_sorted` returns for a list that ends where it should
 pub sorted_offsets : (offsets rest : List ℕ) (last buffer count : ℕ) (sorted : Bool) → IsLastAndRest offsets last rest → length rest ≡ count → last ≤ buffer
     → MatchBool sorted (IsNonDecreasing offsets) ((k : ℕ) × (k + 1 < length offsets) × ((d : ℕ) → get_or offsets (k + 1) d < get_or offsets k d))
     → (IsTrue sorted → AreOffsets offsets buffer count) × (AreOffsets offsets buffer count → IsTrue sorted)
@@ -22,7 +22,7 @@ sorted_offsets offsets rest last buffer count false ends many low falls = (
   λ are. absurd (omega (arith, falls.2 0, are.ascending falls.0 (falls.0 + 1) 0 (omega arith) falls.1)),
 )
 
--- a list that ends elsewhere is none of offsets
+-- a list that ends elsewhere is not a list of offsets
 pub bad_end : (offsets rest : List ℕ) (last buffer count : ℕ) → IsLastAndRest offsets last rest → (length rest ≡ count → last ≤ buffer → ⊥) → ¬ (AreOffsets offsets buffer count)
 bad_end offsets rest last buffer count ends bad are =
     let many : length rest ≡ count = omega (arith, ends.1, are.one_more) in

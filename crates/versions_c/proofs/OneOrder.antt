@@ -19,12 +19,12 @@ place_total : (texts offsets : List ℕ) → IsTotalOrder (place_cmp texts offse
 place_total texts offsets = then_total (on_total (λ i. versioning_of (text_at texts offsets i)) (none_last_total versioning_cmp_total)) nat_cmp_total
 
 module _ (R : ℕ → ℕ → Ordering) (total : IsTotalOrder R) where
-  -- each below all behind it
+  -- each element is below all elements after it
   abbrev Ascends : List ℕ → Type 0
   Ascends [] = Unit {0}
   Ascends (x ∷ xs) = All (λ y. R x y ≡ Less) xs × Ascends xs
 
-  -- each below the next is below all behind it
+  -- if each element is below the next, it is below all elements after it
   ascends : (xs : List ℕ) → ((k : ℕ) → k + 1 < length xs → R (get_or xs k 0) (get_or xs (k + 1) 0) ≡ Less) → Ascends xs
   ascends [] next = tt
   ascends (x ∷ []) next = (All-nil (λ y. R x y ≡ Less), tt)
@@ -37,19 +37,19 @@ module _ (R : ℕ → ℕ → Ordering) (total : IsTotalOrder R) where
   not_below_itself : (x : ℕ) → ¬ (R x x ≡ Less)
   not_below_itself x up = cc (up, tied_itself total x)
 
-  -- and of two at most one is below the other
+  -- and of two elements at most one is below the other
   not_both : (x y : ℕ) → R x y ≡ Less → ¬ (R y x ≡ Less)
   not_both x y up down = not_below_itself x (total.trans x y x up down)
 
-  -- what is behind the first of a list is in it
+  -- the elements after the first are in the list
   behind : (x : ℕ) (xs : List ℕ) (z : ℕ) → Contains xs z → Contains (x ∷ xs) z
   behind x xs z (k, inside, at) = (suc k, omega (arith, inside), at)
 
-  -- the first of a list that ascends is not behind it
+  -- the first element of a list that ascends doesn't come again
   not_first : (x : ℕ) (xs : List ℕ) (z : ℕ) → Ascends (x ∷ xs) → Contains xs z → ¬ (x ≡ z)
   not_first x xs z up inside same = not_below_itself x (ap (R x) same ∙ All-contains (λ y. R x y ≡ Less) xs z up.0 inside)
 
-  -- two lists that ascend, with the same elements, are one list
+  -- two lists that ascend, with the same elements, are equal
   same : (xs ys : List ℕ) → Ascends xs → Ascends ys → ((z : ℕ) → Contains xs z → Contains ys z) → ((z : ℕ) → Contains ys z → Contains xs z) → xs ≡ ys
   same [] [] xs_up ys_up there back = refl
   same [] (y ∷ ys) xs_up ys_up there back = absurd (let none = back y (0, omega arith, refl) in omega (arith, none.1))

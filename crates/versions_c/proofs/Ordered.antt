@@ -1,4 +1,4 @@
--- Places in the order of the keys that lie there, and in that of their texts.
+-- Places in the order of the keys that lie there, and in the order of their texts.
 use Rattle.std.proofs.Common.{◌≡◌, ◌∙◌, ℕ, ◌+◌, ◌-◌, ◌/◌, ◌%◌, ◌<◌, ◌≤◌, ◌^◌, ◌==◌, zero, suc, false, if◌then◌else◌, List, [], ◌∷◌, ◌++◌, length, take, drop, get_or, map, replicate, Option, Some, None, refl, sym, ap, arith, append-nil, append_assoc, length-append}
 use Rattle.std.proofs.Math.Dec.{eqb}
 use Rattle.std.proofs.Math.Seq.{drop-append_seam, take-append_seam}
@@ -53,7 +53,7 @@ keyed_total texts offsets keys key_offsets =
     then_total (on_total (text_at keys key_offsets) keys_total)
     (then_total (on_total (λ i. tie_breaker (text_at texts offsets i) (text_at keys key_offsets i)) (options_total versioning_plain_total)) nat_cmp_total)
 
--- it ties a place with itself alone
+-- a place ties only with itself
 keyed_same : (texts offsets keys key_offsets : List ℕ) → IsAntisymmetric (keyed_cmp texts offsets keys key_offsets)
 keyed_same texts offsets keys key_offsets = then_same (on (text_at keys key_offsets) keys_cmp) (then_same (on (λ i. tie_breaker (text_at texts offsets i) (text_at keys key_offsets i)) (option_cmp versioning_plain_cmp)) nat_cmp-IsAntisymmetric)
 
@@ -62,7 +62,7 @@ keyed_ranks texts offsets keys key_offsets = ranks_by (keyed_total texts offsets
 
 -- ---- where the keys lie
 
--- the key of what a text spells, and nothing where it spells nothing
+-- the key of a text's version, and nothing if the text is not a version
 abbrev pub key_or_nothing : Option PlainVersioning → List ℕ
 key_or_nothing spelled = unwrap_or (option_map (λ v. key_bytes (key_of v)) spelled) []
 
@@ -77,7 +77,7 @@ keys_begin texts offsets i (suc k) =
     let one_more : suc k + i ≡ suc (k + i) = omega arith in
     (shorter.0 ++ next, ap (keys_before texts offsets) one_more ∙ ap (λ (l : List ℕ). l ++ next) shorter.1 ∙ append_assoc (keys_before texts offsets i) shorter.0 next)
 
--- what stands between two lists
+-- the list between two lists
 between_two : (before key more : List ℕ) (start end : ℕ) → start ≡ length before → end ≡ length before + length key → take (end - start) (drop start (before ++ (key ++ more))) ≡ key
 between_two before key more start end begins ends =
     let count : end - start ≡ length key = omega (arith, begins, ends) in
@@ -114,7 +114,7 @@ no_key_empty k =
     let some : 0 < length (key_bytes k) = omega (arith, number, last, whole) in
     grind (arith, nat_tests)
 
--- what breaks a tie, by what a text spells
+-- what breaks a tie, by the text's version
 abbrev breaker : Option PlainVersioning → Option PlainVersioning
 breaker spelled = if length (key_or_nothing spelled) == 0 then None else spelled
 
@@ -126,7 +126,7 @@ alike None (Some w) o = rw (no_key_empty (key_of w)) refl
 alike (Some v) (Some w) o =
     rw (no_key_empty (key_of v), no_key_empty (key_of w), key_bytes_alone (key_of v) (key_of w)) (sym (then_assoc (precedence (key_of v) (key_of w)) (versioning_plain_cmp v w) o))
 
--- two places compare as their texts do, where their keys lie there
+-- two places compare as their texts do, if their keys lie there
 pub places_alike : (texts offsets keys key_offsets : List ℕ) (i j : ℕ) → text_at keys key_offsets i ≡ key_or_nothing (versioning_of (text_at texts offsets i))
     → text_at keys key_offsets j ≡ key_or_nothing (versioning_of (text_at texts offsets j)) → keyed_cmp texts offsets keys key_offsets i j ≡ place_cmp texts offsets i j
 places_alike texts offsets keys key_offsets i j i_lies j_lies =
@@ -156,7 +156,7 @@ places_differ : (order : List ℕ) (n : ℕ) → IsPermutation (range_with_len 0
 places_differ order n permutes k inside =
     eqb-false _ _ (apart_from_distinct eqb order k (k + 1) 0 (IsDistinct-IsPermutation eqb eqb_flips (range_with_len 0 n) order permutes (range_distinct n)) (omega arith) inside)
 
--- what isn't above, nor Equal, is below
+-- a place that is neither above nor Equal is below
 below : (o : Ordering) → is_lt (ordering_reverse o) ≡ false → ¬ (o ≡ Equal) → o ≡ Less
 below Less above other = refl
 below Equal above other = absurd (other refl)

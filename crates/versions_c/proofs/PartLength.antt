@@ -1,4 +1,4 @@
--- How long the bytes of a part are: at most three for each byte of its text, and one more.
+-- The length of a part's bytes: at most three for each byte of its text, and one more.
 use Rattle.std.proofs.Common.{◌≡◌, ◌∙◌, ◌+◌, ◌*◌, ◌/◌, ◌%◌, ◌<◌, ◌≤◌, ℕ, zero, suc, Bool, true, false, List, [], ◌∷◌, length, map, replicate, take, drop, Option, Some, None, refl, sym, ap, arith, lit≤, if◌then◌else◌}
 use Rattle.std.proofs.lemmas.Bool.Decides.{nat_tests}
 use Rattle.std.proofs.lemmas.Int.Digits.{digits_value-lt, length-digits_of-le}
@@ -17,7 +17,7 @@ use Rattle.version_parts.specs.PartKey.{part_bytes, part_key, suffix_bytes, suff
 use Rattle.version_parts.specs.Split.{numbered_bytes, split_bytes, split_of}
 use Rattle.version_parts.specs.TextBytes.{text_bytes}
 
--- a text without the bytes 0 and 1, which alone are written in two
+-- a text without the bytes 0 and 1, the only bytes that are written as two
 abbrev pub IsHigh : List ℕ → Type 0
 IsHigh = All (λ b. 2 ≤ b)
 
@@ -38,7 +38,7 @@ all_digits : (digits : List ℕ) → list_all is_ascii_digit digits ≡ true →
 all_digits [] all = tt
 all_digits (b ∷ digits) all = (digit_below b (first_so _ _ all), all_digits digits (second_so _ _ all))
 
--- a number of a run of digits has no more digits than that, and its length is written in no more bytes
+-- the number of a run of digits has at most as many digits, and its length is written in at most as many bytes
 pub number_length : (digits : List ℕ) → list_all is_ascii_digit digits ≡ true → 0 < length digits → length (number_bytes (digits_value 10 digits)) ≤ 2 * length digits
 number_length digits all some =
     let n = digits_value 10 digits in
@@ -53,11 +53,11 @@ number_length digits all some =
 
 -- ---- splits
 
--- a prefix and what is behind it are as long as the whole
+-- a prefix and the rest are as long as the whole
 parted : (n : ℕ) (text : List ℕ) → length (take n text) + length (drop n text) ≡ length text
 parted n text = sym (length-append (take n text) (drop n text)) ∙ ap length (take-append-drop n text)
 
--- the digits that a text begins with, and what is behind them
+-- the digits that a text begins with, and the rest
 abbrev digits_front : List ℕ → List ℕ
 digits_front text = take_while is_ascii_digit text
 
@@ -127,7 +127,7 @@ part_length text high some = by (starts_with_digit text) refl
 
 -- ---- lists
 
--- the end stands behind the items
+-- the end follows the items
 pub list_length : {K : Type 0} (code : Option K → List ℕ) (keys : List K) → length (list_bytes code keys) ≡ length (items_bytes code keys) + length (code None)
 list_length code [] = omega (arith, length-append (code None) [])
 list_length code (key ∷ keys) =

@@ -1,4 +1,4 @@
--- Bytes written over a room, byte by byte and list by list.
+-- Bytes written into a buffer, byte by byte and list by list.
 use Rattle.std.proofs.Common.{◌≡◌, ◌∙◌, ◌+◌, ◌-◌, ◌<◌, ◌≤◌, ◌^◌, ℕ, zero, suc, Bool, true, false, List, [], ◌∷◌, ◌++◌, drop, take, get_or, length, nat_eq, set, Option, Some, None, IfSome, nat_le, if◌then◌else◌, refl, ap, sym, arith}
 use Rattle.std.proofs.lemmas.Bool.Decides.{nat_tests}
 use Rattle.std.proofs.lemmas.List.{append-nil, get_or-set_other, get_or-set_same, length-append}
@@ -6,13 +6,13 @@ use Rattle.std.specs.Option.{unwrap_or}
 use Rattle.versions_c.specs.Keys.{keys_before, length_past, put_at, saturated, saturated_offset, spelled_key}
 use Rattle.versions_c.specs.Offsets.{text_at}
 
--- nothing written changes nothing
+-- writing nothing changes nothing
 pub put_nothing : (room : List ℕ) (start : ℕ) → put_at room start [] ≡ room
 put_nothing [] start = refl
 put_nothing (x ∷ room) zero = refl
 put_nothing (x ∷ room) (suc start) = ap (λ (l : List ℕ). x ∷ l) (put_nothing room start)
 
--- nor does what would stand behind the room
+-- nor does writing after the end of the buffer
 pub put_past : (room : List ℕ) (start : ℕ) (bytes : List ℕ) → length room ≤ start → put_at room start bytes ≡ room
 put_past [] start bytes past = refl
 put_past (x ∷ room) zero bytes past = absurd (omega (arith, past))
@@ -26,7 +26,7 @@ put_first (x ∷ room) (suc start) b bytes fits =
     let one_more : suc start + 1 ≡ suc (start + 1) = omega arith in
     rw one_more (ap (λ (l : List ℕ). x ∷ l) (put_first room start b bytes (omega (arith, fits))))
 
--- one list behind another
+-- one list after another
 pub put_more : (room : List ℕ) (start : ℕ) (first more : List ℕ) → put_at (put_at room start first) (start + length first) more ≡ put_at room start (first ++ more)
 put_more [] start first more = refl
 put_more (x ∷ room) zero [] more = refl
@@ -37,14 +37,14 @@ put_more (x ∷ room) (suc start) first more =
     let behind : suc start + length first ≡ suc (start + length first) = omega arith in
     rw behind (ap (λ (l : List ℕ). x ∷ l) (put_more room start first more))
 
--- what fits stands before what was there
+-- bytes that fit replace the first bytes, and the rest stays
 pub put_fits : (room bytes : List ℕ) → length bytes ≤ length room → put_at room 0 bytes ≡ bytes ++ drop (length bytes) room
 put_fits [] [] fits = refl
 put_fits [] (b ∷ bytes) fits = absurd (omega (arith, fits))
 put_fits (x ∷ room) [] fits = refl
 put_fits (x ∷ room) (b ∷ bytes) fits = ap (λ (l : List ℕ). b ∷ l) (put_fits room bytes (omega (arith, fits)))
 
--- and so where it begins at a later place
+-- the same from a later place on
 pub put_within : (room : List ℕ) (start : ℕ) (bytes : List ℕ) → start + length bytes ≤ length room → take start room ++ (bytes ++ drop (length bytes) (drop start room)) ≡ put_at room start bytes
 put_within room zero bytes fits = sym (put_fits room bytes (omega (arith, fits)))
 put_within [] (suc start) bytes fits = absurd (omega (arith, fits))
@@ -70,7 +70,7 @@ fitting_key (Some b) bytes room new e none put = by (nat_le (length b) (length r
         put ∙ ap (put_at room 0) same ∙ put_fits room b fits
     by false is known = cc known
 
--- ---- keys one behind another
+-- ---- keys one after another
 
 keys_step : (texts offsets : List ℕ) (i : ℕ) → keys_before texts offsets (i + 1) ≡ keys_before texts offsets i ++ unwrap_or (spelled_key (text_at texts offsets i)) []
 keys_step texts offsets i =
@@ -84,7 +84,7 @@ pub keys_without : (texts offsets : List ℕ) (i : ℕ) → None ≡ spelled_key
 keys_without texts offsets i e =
     keys_step texts offsets i ∙ ap (λ (o : Option (List ℕ)). keys_before texts offsets i ++ unwrap_or o []) (sym e) ∙ append-nil (keys_before texts offsets i)
 
--- a place that is told as the largest number is behind every room
+-- a place reported as the largest number is after the end of every buffer
 pub put_behind : (room before key : List ℕ) → length room < 2 ^ 64 → put_at (put_at room 0 before) (saturated (length before)) key ≡ put_at room 0 (before ++ key)
 put_behind room before key small = by (nat_le (length before) (2 ^ 64 - 1)) refl
   where
@@ -100,11 +100,11 @@ put_behind room before key small = by (nat_le (length before) (2 ^ 64 - 1)) refl
         let nor_there = put_past (put_at room 0 before) (0 + length before) key (omega (arith, same, small, long)) in
         rw place (nothing ∙ sym nor_there ∙ put_more room 0 before key)
 
--- the place behind one key more
+-- the place after one more key
 pub behind_key : (before key : List ℕ) → saturated (saturated (length before) + length key) ≡ saturated (length (before ++ key))
 behind_key before key = omega (arith, length-append before key)
 
--- the keys so far, and the place behind them, with the key of one text more
+-- the keys so far, and the place after them, with one more key
 pub one_more_key : (texts offsets room : List ℕ) (i : ℕ) (text key keys new_keys : List ℕ) (end new_end : ℕ) → length room < 2 ^ 64 → text ≡ text_at texts offsets i → Some key ≡ spelled_key text
     → end ≡ saturated (length (keys_before texts offsets i)) → keys ≡ put_at room 0 (keys_before texts offsets i) → new_end ≡ saturated (end + length key) → new_keys ≡ put_at keys end key
     → (new_end ≡ saturated (length (keys_before texts offsets (i + 1)))) × (new_keys ≡ put_at room 0 (keys_before texts offsets (i + 1)))
@@ -115,7 +115,7 @@ one_more_key texts offsets room i text key keys new_keys end new_end small is sp
       new_written ∙ ap (λ (l : List ℕ). put_at l end key) written ∙ ap (λ n. put_at (put_at room 0 before) n key) ended ∙ put_behind room before key small ∙ ap (put_at room 0) (sym all),
     )
 
--- the same for a text that has none
+-- the same for a text without a key
 pub no_more_key : (texts offsets room : List ℕ) (i : ℕ) (text keys : List ℕ) (end : ℕ) → text ≡ text_at texts offsets i → None ≡ spelled_key text
     → end ≡ saturated (length (keys_before texts offsets i)) → keys ≡ put_at room 0 (keys_before texts offsets i)
     → (end ≡ saturated (length (keys_before texts offsets (i + 1)))) × (keys ≡ put_at room 0 (keys_before texts offsets (i + 1)))

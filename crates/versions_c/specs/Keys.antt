@@ -1,4 +1,4 @@
--- Sort keys in a room of the caller's.
+-- Sort keys in the caller's buffer.
 use Rattle.std.specs.Prelude.{◌≡◌, ℕ, zero, suc, ◌+◌, ◌*◌, ◌-◌, ◌^◌, min, ℤ, nat_le, List, [], ◌∷◌, ◌++◌, length, Option, Some, None, if◌then◌else◌}
 use Rattle.std.specs.Option.{option_map, unwrap_or}
 use Rattle.versions.specs.Key.{key_of}
@@ -7,11 +7,11 @@ use Rattle.versions.specs.Versioning.{versioning_of}
 use Rattle.versions_c.specs.Offsets.{AreOffsets, text_at}
 use Rattle.versions_c.specs.declared.status.TheConstants.{OK, NO_ROOM, NO_VERSION}
 
--- the key of the version that a text spells
+-- the key of a text's version
 abbrev pub spelled_key : List ℕ → Option (List ℕ)
 spelled_key text = option_map (λ v. key_bytes (key_of v)) (versioning_of text)
 
--- the keys of the first texts, one behind another, and nothing for a text that is no version
+-- the keys of the first texts, one after another, and nothing for a text that is not a version
 abbrev pub keys_before : List ℕ → List ℕ → ℕ → List ℕ
 keys_before texts offsets zero = []
 keys_before texts offsets (suc i) = keys_before texts offsets i ++ unwrap_or (spelled_key (text_at texts offsets i)) []
@@ -25,11 +25,11 @@ pub record AreKeyOffsets (offsets : List ℕ) (buffer key_offsets : ℕ) : Type 
   pub of_texts : AreOffsets offsets buffer (length offsets - 1)
   pub as_many : key_offsets ≡ length offsets
 
--- a room enough for the key of each text of a length
+-- a size that is enough for the key of any text of a length
 abbrev pub room_for : ℕ → ℕ
 room_for len = 3 * len + 5
 
--- a number, or the largest of 64 bits where it is more
+-- a number, or the largest number of 64 bits if it is larger
 abbrev pub saturated : ℕ → ℕ
 saturated n = min n (2 ^ 64 - 1)
 
@@ -37,21 +37,21 @@ saturated n = min n (2 ^ 64 - 1)
 abbrev pub saturated_offset : ℕ → ℕ
 saturated_offset n = min n (2 ^ 63 - 1)
 
--- what is said of bytes and a room for them
+-- the status for bytes and the size of their buffer
 abbrev pub room_status : List ℕ → ℕ → ℤ
 room_status bytes room = if nat_le (length bytes) room then OK else NO_ROOM
 
--- what is said of a key, where there is one, and a room for it
+-- the status for a key, if there is a key, and the size of its buffer
 abbrev pub key_status : Option (List ℕ) → ℕ → ℤ
 key_status None room = NO_VERSION
 key_status (Some bytes) room = room_status bytes room
 
--- the length of a key that is longer than a room
+-- the length of a key that doesn't fit
 abbrev pub length_past : Option (List ℕ) → ℕ → Option ℕ
 length_past None room = None
 length_past (Some bytes) room = if nat_le (length bytes) room then None else Some (saturated (length bytes))
 
--- bytes written over a room from a place on, as far as there is room
+-- bytes written into a buffer from a place on, as far as they fit
 abbrev pub put_at : List ℕ → ℕ → List ℕ → List ℕ
 put_at [] start bytes = []
 put_at (x ∷ room) (suc start) bytes = x ∷ put_at room start bytes

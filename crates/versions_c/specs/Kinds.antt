@@ -3,7 +3,7 @@ use Rattle.std.specs.Prelude.{ℕ, ℤ, Option, Some, None}
 use Rattle.versions.specs.Versioning.{PlainVersioning, Ideal, General, Complex}
 use Rattle.versions_c.specs.declared.status.TheConstants.{OK, NO_VERSION}
 
--- the number of a version's kind, and 0 for no version
+-- the number of a version's kind, and 0 without a version
 abbrev pub kind_of : Option PlainVersioning → ℕ
 kind_of None = 0
 kind_of (Some (Ideal v)) = 1

@@ -1,27 +1,27 @@
--- What a list of requirements asks of texts.
+-- Which texts a list of requirements matches.
 use Rattle.std.proofs.Common.{◌⊎◌, inl, inr, ℕ, ℤ, List, Option, Some, None}
 use Rattle.versions.specs.MatchingLaws.{matches_all_or_not}
 use Rattle.versions.specs.Requirement.{PlainRequirement}
 use Rattle.versions.specs.Versioning.{PlainVersioning}
 use Rattle.versions_c.specs.declared.status.TheConstants.{OK, NO_REQUIREMENTS, NO_VERSION}
 
--- 1 where something holds, else 0
+-- 1 if something holds, otherwise 0
 abbrev pub bit : {Holds : Type 0} → Holds ⊎ ¬ Holds → ℕ
 bit (inl holds) = 1
 bit (inr fails) = 0
 
--- the answer for a text: 1 where its version is asked for, 0 where it isn't, 2 for no version
+-- the answer for a text: 1 if its version matches, 0 if it doesn't, 2 if it is not a version
 abbrev pub match_code : List PlainRequirement → Option PlainVersioning → ℕ
 match_code wanted None = 2
 match_code wanted (Some v) = bit (matches_all_or_not wanted v)
 
--- what is said of a list and a text
+-- the status for a list and a text
 abbrev pub match_status : Option (List PlainRequirement) → Option PlainVersioning → ℤ
 match_status None spelled = NO_REQUIREMENTS
 match_status (Some wanted) None = NO_VERSION
 match_status (Some wanted) (Some v) = OK
 
--- what is said of a list alone
+-- the status for a list alone
 abbrev pub list_status : Option (List PlainRequirement) → ℤ
 list_status None = NO_REQUIREMENTS
 list_status (Some wanted) = OK

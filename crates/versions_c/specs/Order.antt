@@ -10,12 +10,12 @@ sign Less = negsuc 0
 sign Equal = pos 0
 sign Greater = pos 1
 
--- how what two texts spell compares, where both spell something
+-- how the values of two texts compare, if both texts have a value
 abbrev pub both : {X Y : Type 0} → (X → X → Y) → Option X → Option X → Option Y
 both compare (Some a) (Some b) = Some (compare a b)
 both compare _ _ = None
 
--- what is said of two texts by whether each spells a version
+-- the status for two texts, by whether each is a version
 abbrev pub pair_status : Bool → Bool → ℤ
 pair_status true true = OK
 pair_status false true = NO_VERSION_A

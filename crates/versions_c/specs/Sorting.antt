@@ -1,4 +1,4 @@
--- The places of texts, in the order of the versions that the texts spell.
+-- The places of texts, sorted by the texts' versions.
 use Rattle.std.specs.Prelude.{◌≡◌, ◌==◌, ℕ, ◌+◌, ◌-◌, ◌<◌, List, length, slice_index, Option, None, if◌then◌else◌}
 use Rattle.std.specs.Cmp.Lexicographic.{slice_cmp}
 use Rattle.std.specs.List.{range_with_len}
@@ -12,7 +12,7 @@ use Rattle.versions.specs.Orders.{versioning_cmp}
 use Rattle.versions.specs.Versioning.{PlainVersioning, versioning_of, versioning_plain_cmp}
 use Rattle.versions_c.specs.Offsets.{AreOffsets, text_at}
 
--- two places: by the versions that their texts spell, no version behind them, and where that ties by themselves
+-- two places: by the versions of their texts, a text that is not a version last, and ties as numbers
 abbrev pub place_cmp : List ℕ → List ℕ → ℕ → ℕ → Ordering
 place_cmp texts offsets = then_cmp (on (λ i. versioning_of (text_at texts offsets i)) (none_last_cmp versioning_cmp)) nat_cmp
 
@@ -26,19 +26,19 @@ pub record AreSortOffsets (offsets : List ℕ) (buffer key_offsets places : ℕ)
   pub of_texts : AreOffsets offsets buffer places
   pub as_many : key_offsets ≡ length offsets
 
--- two keys, which are empty for a text that is no version: these last, and the others by their bytes
+-- two keys, which are empty for a text that is not a version: empty keys last, others by their bytes
 abbrev pub keys_cmp : List ℕ → List ℕ → Ordering
 keys_cmp = then_cmp (on (λ (key : List ℕ). length key == 0) bool_cmp) (slice_cmp nat_cmp)
 
--- what breaks the tie of a key with another: the version that the text spells, where the key isn't empty
+-- what breaks the tie of a key with another: the text's version, if the key isn't empty
 abbrev pub tie_breaker : List ℕ → List ℕ → Option PlainVersioning
 tie_breaker text key = if length key == 0 then None else versioning_of text
 
--- two places whose keys tie: by what breaks the tie, and then by themselves
+-- two places whose keys tie: by what breaks the tie, and then as numbers
 abbrev pub tied_cmp : List ℕ → List ℕ → List ℕ → List ℕ → ℕ → ℕ → Ordering
 tied_cmp texts offsets keys key_offsets =
     then_cmp (on (λ i. tie_breaker (text_at texts offsets i) (text_at keys key_offsets i)) (option_cmp versioning_plain_cmp)) nat_cmp
 
--- two places by the keys that lie there, and where those tie as such places
+-- two places by the keys that lie there, and if those tie as places whose keys tie
 abbrev pub keyed_cmp : List ℕ → List ℕ → List ℕ → List ℕ → ℕ → ℕ → Ordering
 keyed_cmp texts offsets keys key_offsets = then_cmp (on (text_at keys key_offsets) keys_cmp) (tied_cmp texts offsets keys key_offsets)

@@ -1,4 +1,4 @@
-//! The sort keys of versions, in a room of the caller's.
+//! The sort keys of versions, in the caller's buffer.
 
 ghost use Rattle.std.specs.Prelude.{◌≡◌, ◌≢◌, ◌↔◌, ◌+◌, ◌^◌, ◌<◌, ◌≤◌, ◌++◌, drop, length, slice_index, IfSome, IsTrue, List, Some, ℕ};
 ghost use Rattle.versions.specs.Key.{key_of};
@@ -17,7 +17,7 @@ use versions::key::{KeyBytes, NotShort, ShortKey};
 // The largest offset that C has.
 const LARGEST: u64 = 0x7FFF_FFFF_FFFF_FFFF;
 
-/// A room that is enough for the key of each text of a length.
+/// Returns a size that is enough for the key of any text of a length.
 #[unsafe(no_mangle)]
 pub extern "C" fn versions_sort_key_bound(text_len: usize) -> usize
     ensures room { result ≡ saturated (room_for text_len) }
@@ -29,7 +29,7 @@ pub extern "C" fn versions_sort_key_bound(text_len: usize) -> usize
     text_len.saturating_mul(3).saturating_add(5)
 }
 
-/// The sort key of a version.
+/// Writes the sort key of a version.
 #[unsafe(no_mangle)]
 pub extern "C" fn versions_sort_key(text: &[u8], key: &mut [u8], key_len: &mut usize) -> i32
     ensures status { result ≡ key_status (spelled_key text.now) (length key.old) }
@@ -37,7 +37,7 @@ pub extern "C" fn versions_sort_key(text: &[u8], key: &mut [u8], key_len: &mut u
         (λ bytes. key.new ≡ bytes ++ drop (length bytes) key.old) }
     ensures kept { result ≢ OK → key.new ≡ key.old }
 
-    // Its length is told where there is too little room, too.
+    // Its length is reported even if it doesn't fit.
     ensures length { IfSome (spelled_key text.now)
         (λ bytes. key_len.new ≡ saturated (length bytes)) }
     ensures no_length { result ≡ NO_VERSION → key_len.new ≡ key_len.old }
@@ -53,7 +53,7 @@ pub extern "C" fn versions_sort_key(text: &[u8], key: &mut [u8], key_len: &mut u
     OK
 }
 
-/// The sort key of each version.
+/// Writes the sort key of each version.
 #[unsafe(no_mangle)]
 pub extern "C" fn versions_sort_keys(
     texts: &[u8],
@@ -67,13 +67,13 @@ pub extern "C" fn versions_sort_keys(
         ≡ all_keys texts.now offsets.now
         ++ drop (length (all_keys texts.now offsets.now)) keys.old }
 
-    // Where they begin and end is told where there is too little room, too.
+    // Their offsets are reported even if they don't fit.
     ensures offsets { AreKeyOffsets offsets.now (length texts.now) (length key_offsets.old)
         → (i : ℕ) → i < length offsets.now
         → slice_index key_offsets.new i
         ≡ saturated_offset (length (keys_before texts.now offsets.now i)) }
 
-    // Else nothing is written.
+    // Otherwise nothing is written.
     ensures bad { ¬ (AreKeyOffsets offsets.now (length texts.now) (length key_offsets.old))
         → result ≡ BAD_OFFSETS }
     ensures kept { ¬ (AreKeyOffsets offsets.now (length texts.now) (length key_offsets.old))
@@ -94,8 +94,7 @@ pub extern "C" fn versions_sort_keys(
     }
 }
 
-/// Writes the keys of all texts, as far as there is room, and where they begin and end, and says whether there is room
-/// for all of them.
+/// Writes the keys of all texts, as far as they fit, and their offsets, and returns whether all of them fit.
 pub fn put_keys(
     texts: &[u8],
     offsets: &[u64],
@@ -117,7 +116,7 @@ pub fn put_keys(
     put_all(texts, offsets, count, keys, key_offsets) <= keys.len()
 }
 
-// Writes the keys of all texts, as far as there is room, and where they begin and end, and gives the place behind them.
+// Writes the keys of all texts, as far as they fit, and their offsets, and returns the place after them.
 fn put_all(
     texts: &[u8],
     offsets: &[u64],
@@ -144,7 +143,7 @@ fn put_all(
     end
 }
 
-// The length of the key of a version, where that is more than a room.
+// Returns the length of the key of a version, if it doesn't fit.
 fn length_past(text: &[u8], room: usize) -> Option<usize>
     requires { room < 2 ^ 63 }
     ensures { result ≡ length_past (spelled_key text.now) room }
@@ -159,14 +158,14 @@ fn length_past(text: &[u8], room: usize) -> Option<usize>
     Some(length)
 }
 
-// Whether a room is enough for the key of each text of a length.
+// Returns whether a size is enough for the key of any text of a length.
 fn is_enough(room: usize, text_len: usize) -> bool
     ensures { IsTrue result ↔ (room_for text_len ≤ room) }
 {
     5 <= room && text_len <= (room - 5) / 3
 }
 
-// How many bytes a key has.
+// Returns how many bytes a key has.
 fn length_of(key: KeyBytes<'_>) -> usize
     ensures { result ≡ saturated (length key.entry) }
 {
@@ -177,7 +176,7 @@ fn length_of(key: KeyBytes<'_>) -> usize
     length
 }
 
-// Writes the key of a version from a place on, as far as there is room, and gives the place behind it.
+// Writes the key of a version from a place on, as far as it fits, and returns the place after it.
 fn put_key(keys: &mut [u8], start: usize, version: &VersioningRef<'_>) -> usize
     ensures bytes { keys.new ≡ put_at keys.old start
         (key_bytes (key_of (plain_versioning_ref version.now))) }
@@ -191,7 +190,7 @@ fn put_key(keys: &mut [u8], start: usize, version: &VersioningRef<'_>) -> usize
     }
 }
 
-// Writes bytes from a place on, as far as there is room, and gives the place behind them.
+// Writes bytes from a place on, as far as they fit, and returns the place after them.
 #[tactic(auto, using(crate::proofs::Putting::put_nothing, crate::proofs::Putting::put_past, crate::proofs::Putting::put_first))]
 fn put_bytes(keys: &mut [u8], start: usize, bytes: &[u8]) -> usize
     ensures bytes { keys.new ≡ put_at keys.old start bytes.now }
@@ -214,7 +213,7 @@ fn put_bytes(keys: &mut [u8], start: usize, bytes: &[u8]) -> usize
     end
 }
 
-// Writes a key from a place on, as far as there is room, and gives the place behind it.
+// Writes a key from a place on, as far as it fits, and returns the place after it.
 #[tactic(auto, using(crate::proofs::Putting::put_nothing, crate::proofs::Putting::put_past, crate::proofs::Putting::put_first))]
 fn put(keys: &mut [u8], start: usize, key: KeyBytes<'_>) -> usize
     ensures bytes { keys.new ≡ put_at keys.old start key.entry }

@@ -1,4 +1,4 @@
-//! Which kind a text is.
+//! The kinds of texts.
 
 ghost use Rattle.std.specs.Prelude.{◌≡◌, ◌≢◌, ◌<◌, ℕ, if◌then◌else◌, length, pos, slice_index, IfSome};
 ghost use Rattle.versions.specs.Versioning.{is_prerelease, versioning_of};

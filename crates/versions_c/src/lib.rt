@@ -1,5 +1,5 @@
-//! `versions` for C: c/versions.h declares the exports and says what each is for, and docs/C.md has the rules. Each takes
-//! texts as bytes, keeps nothing, and answers a status.
+//! `versions` for C: c/versions.h declares the exports and says what each is for, and docs/C.md has the rules. Each
+//! takes texts as bytes, keeps nothing, and returns a status.
 #![tactic(auto)]
 
 mod keys;

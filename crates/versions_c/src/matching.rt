@@ -1,4 +1,4 @@
-//! Which versions a list of requirements asks for.
+//! Which versions a list of requirements matches.
 
 ghost use Rattle.std.specs.Prelude.{◌≡◌, ◌≢◌, ◌<◌, ℕ, length, slice_index, IfSome};
 ghost use Rattle.versions.specs.Requirements.{requirements_of};
@@ -10,7 +10,7 @@ use crate::offsets::{are_offsets, text_at};
 use crate::status::{BAD_OFFSETS, NO_REQUIREMENTS, NO_VERSION, OK};
 use versions::{RequirementsRef, VersioningRef};
 
-/// Whether a list asks for a version.
+/// Writes whether a list matches a version.
 #[unsafe(no_mangle)]
 pub extern "C" fn versions_matches(list: &[u8], text: &[u8], matches: &mut u8) -> i32
     ensures status { result ≡ match_status (requirements_of list.now) (versioning_of text.now) }
@@ -30,7 +30,7 @@ pub extern "C" fn versions_matches(list: &[u8], text: &[u8], matches: &mut u8) -
     }
 }
 
-/// Whether a list asks for each version.
+/// Writes whether a list matches each version.
 #[unsafe(no_mangle)]
 pub extern "C" fn versions_match_all(
     list: &[u8],
@@ -61,7 +61,7 @@ pub extern "C" fn versions_match_all(
     OK
 }
 
-// The answer for a text: 1 where its version is asked for, 0 where it isn't, 2 where it is no version.
+// Returns the answer for a text: 1 if the list matches it, 0 if not, 2 if it isn't a version.
 #[tactic(auto, using(crate::proofs::Answers::coded))]
 fn asked_for(wanted: &RequirementsRef<'_>, text: &[u8]) -> u8
     ensures { result ≡ match_code wanted.now (versioning_of text.now) }

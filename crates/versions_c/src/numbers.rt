@@ -7,7 +7,7 @@ ghost use Rattle.versions_c.specs.Numbers.{number_status};
 use crate::status::{NO_NUMBER, NO_VERSION, OK};
 use versions::VersioningRef;
 
-/// The number at a place of a version.
+/// Writes the number at a place of a version.
 #[unsafe(no_mangle)]
 pub extern "C" fn versions_nth(text: &[u8], n: usize, number: &mut u32) -> i32
     ensures status { result ≡ number_status (versioning_of text.now) (λ v. versioning_nth v n) }

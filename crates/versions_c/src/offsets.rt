@@ -3,8 +3,8 @@
 ghost use Rattle.std.specs.Prelude.{◌≡◌, ◌↔◌, ◌+◌, ◌<◌, length, IsTrue};
 ghost use Rattle.versions_c.specs.Offsets.{text_at, AreOffsets};
 
-/// Whether offsets are those of so many texts in a buffer of that length. An offset that C has below 0 is here above
-/// every length.
+/// Returns whether offsets fit so many texts in a buffer of that length. An offset below 0 in C is larger than every
+/// length here.
 pub fn are_offsets(offsets: &[u64], buffer: usize, count: usize) -> bool
     ensures { IsTrue result ↔ AreOffsets offsets.now buffer count }
 {
@@ -17,7 +17,7 @@ pub fn are_offsets(offsets: &[u64], buffer: usize, count: usize) -> bool
     offsets.is_sorted()
 }
 
-/// The text of a place.
+/// Returns the text at a place.
 pub fn text_at<'a>(texts: &'a [u8], offsets: &[u64], count: usize, place: usize) -> &'a [u8]
     requires offsets { AreOffsets offsets.now (length texts.now) count }
     requires place { place < count }

@@ -12,7 +12,7 @@ use crate::status::{NO_VERSION_A, NO_VERSION_AB, NO_VERSION_B, OK};
 use std::cmp::Ordering;
 use versions::VersioningRef;
 
-/// By precedence.
+/// Writes how two versions compare by precedence.
 #[unsafe(no_mangle)]
 pub extern "C" fn versions_compare(a: &[u8], b: &[u8], order: &mut i32) -> i32
     ensures status { result ≡ pair_status (is_some (versioning_of a.now))
@@ -31,7 +31,7 @@ pub extern "C" fn versions_compare(a: &[u8], b: &[u8], order: &mut i32) -> i32
     }
 }
 
-/// The same, with ties broken as `Ord` breaks them.
+/// Writes how two versions compare by `Ord`, which breaks the ties of precedence.
 #[unsafe(no_mangle)]
 pub extern "C" fn versions_compare_total(a: &[u8], b: &[u8], order: &mut i32) -> i32
     ensures status { result ≡ pair_status (is_some (versioning_of a.now))
@@ -49,7 +49,7 @@ pub extern "C" fn versions_compare_total(a: &[u8], b: &[u8], order: &mut i32) ->
     }
 }
 
-// How two versions compare by precedence.
+// Compares two versions by precedence.
 fn precedence_of(a: &[u8], b: &[u8]) -> Option<Ordering>
     ensures { result ≡ both (on key_of precedence) (versioning_of a.now) (versioning_of b.now) }
 {
@@ -58,7 +58,7 @@ fn precedence_of(a: &[u8], b: &[u8]) -> Option<Ordering>
     Some(a.precedence(&b))
 }
 
-// How two versions compare by `Ord`.
+// Compares two versions by `Ord`.
 fn total_order_of(a: &[u8], b: &[u8]) -> Option<Ordering>
     ensures { result ≡ both versioning_cmp (versioning_of a.now) (versioning_of b.now) }
 {
@@ -67,7 +67,7 @@ fn total_order_of(a: &[u8], b: &[u8]) -> Option<Ordering>
     Some(a.cmp(&b))
 }
 
-// What is said of two texts by whether each is a version.
+// Returns the status for two texts, by whether each is a version.
 fn pair_status(a: &[u8], b: &[u8]) -> i32
     ensures { result ≡ pair_status (is_some (versioning_of a.now)) (is_some (versioning_of b.now)) }
 {
@@ -79,7 +79,7 @@ fn pair_status(a: &[u8], b: &[u8]) -> i32
     }
 }
 
-// An order as a number.
+// Returns an order as a number.
 fn sign(order: Ordering) -> i32
     ensures { result ≡ sign order }
 {

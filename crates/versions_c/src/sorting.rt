@@ -1,4 +1,4 @@
-//! Many texts in the order of the versions that they spell.
+//! Many texts, sorted by their versions.
 
 ghost use Rattle.std.specs.Prelude.{◌≡◌, ◌≢◌, ℕ, ◌<◌, ◌++◌, drop, length, slice_index};
 ghost use Rattle.std.specs.List.{range_with_len};
@@ -16,7 +16,7 @@ use crate::status::{BAD_OFFSETS, NO_ROOM, OK};
 use std::cmp::Ordering;
 use versions::VersioningRef;
 
-/// The places of all texts, in the order of their versions.
+/// Writes the places of all texts, sorted by their versions.
 #[unsafe(no_mangle)]
 pub extern "C" fn versions_sort(
     texts: &[u8],
@@ -31,7 +31,7 @@ pub extern "C" fn versions_sort(
     ensures order { result ≡ OK → AreInOrder texts.now offsets.now order.new }
     ensures kept_order { result ≢ OK → order.new ≡ order.old }
 
-    // The keys are those of `versions_sort_keys`. Where they begin and end is told where there is too little room, too.
+    // The keys are those of `versions_sort_keys`. Their offsets are reported even if they don't fit.
     ensures keys { result ≡ OK → keys.new
         ≡ all_keys texts.now offsets.now
         ++ drop (length (all_keys texts.now offsets.now)) keys.old }
@@ -41,7 +41,7 @@ pub extern "C" fn versions_sort(
         → slice_index key_offsets.new i
         ≡ saturated_offset (length (keys_before texts.now offsets.now i)) }
 
-    // Else nothing is written.
+    // Otherwise nothing is written.
     ensures bad { ¬ (AreSortOffsets offsets.now (length texts.now)
         (length key_offsets.old) (length order.old)) → result ≡ BAD_OFFSETS }
     ensures kept { ¬ (AreSortOffsets offsets.now (length texts.now)
@@ -76,7 +76,7 @@ struct Pieces<'a> {
 }
 
 impl<'a> Pieces<'a> {
-    // The piece of a place, which is empty where there is none.
+    // Returns the piece at a place, which is empty after the last piece.
     fn at(&self, place: u64) -> &'a [u8]
         ensures { result.now ≡ text_at self.now.bytes.now self.now.offsets.now place }
     {
@@ -89,7 +89,7 @@ impl<'a> Pieces<'a> {
     }
 }
 
-// Writes the places of texts in the order of their keys.
+// Writes the places of texts, sorted by their keys.
 fn sort(texts: &Pieces<'_>, keys: &Pieces<'_>, order: &mut [u64])
     ensures places { IsPermutation (range_with_len 0 (length order.old)) order.new }
     ensures sorted { IsSorted (keyed_cmp texts.now.bytes.now texts.now.offsets.now
@@ -108,7 +108,7 @@ fn write_places(order: &mut [u64])
     }
 }
 
-// How two places compare: by their keys, then by what breaks the tie, and then by themselves.
+// Compares two places by their keys, then by what breaks the tie, then as numbers.
 fn compare_places(texts: &Pieces<'_>, keys: &Pieces<'_>, a: u64, b: u64) -> Ordering
     ensures { result ≡ keyed_cmp texts.now.bytes.now texts.now.offsets.now
         keys.now.bytes.now keys.now.offsets.now a b }
@@ -119,7 +119,7 @@ fn compare_places(texts: &Pieces<'_>, keys: &Pieces<'_>, a: u64, b: u64) -> Orde
     }
 }
 
-// How two places compare whose keys tie: by what breaks the tie, and then by themselves.
+// Compares two places whose keys tie by what breaks the tie, then as numbers.
 #[inline(never)]
 fn compare_tied_places(texts: &Pieces<'_>, keys: &Pieces<'_>, a: u64, b: u64) -> Ordering
     requires { keys_cmp (text_at keys.now.bytes.now keys.now.offsets.now a)
@@ -136,7 +136,7 @@ fn compare_tied_places(texts: &Pieces<'_>, keys: &Pieces<'_>, a: u64, b: u64) ->
     }
 }
 
-// How two keys compare, of which those that are empty stand last.
+// Compares two keys. Empty keys come last.
 fn compare_keys(a: &[u8], b: &[u8]) -> Ordering
     ensures { result ≡ keys_cmp a.now b.now }
 {
@@ -146,7 +146,7 @@ fn compare_keys(a: &[u8], b: &[u8]) -> Ordering
     a.cmp(b)
 }
 
-// How two texts compare whose keys tie.
+// Compares two texts whose keys tie.
 fn compare_texts(a: &[u8], b: &[u8]) -> Ordering
     ensures { result ≡ option_cmp versioning_plain_cmp
         (versioning_of a.now) (versioning_of b.now) }

@@ -1,4 +1,4 @@
-//! What bytes spell. Bytes that are no UTF-8 spell nothing.
+//! What bytes parse as. Bytes that are not UTF-8 parse as nothing.
 
 ghost use Rattle.std.specs.Prelude.{◌≡◌};
 ghost use Rattle.std.specs.Option.{option_map};
@@ -10,7 +10,7 @@ ghost use Rattle.versions_c.specs.Kinds.{kind_of};
 use versions::VersioningRef;
 use versions::key::KeyBytes;
 
-/// The kind of the version that bytes spell, by its number, or 0 where they spell none.
+/// Returns the number of the kind that bytes parse as, or 0 if they are not a version.
 pub fn kind_of(text: &[u8]) -> u8
     ensures { result ≡ kind_of (versioning_of text.now) }
 {
@@ -22,7 +22,7 @@ pub fn kind_of(text: &[u8]) -> u8
     }
 }
 
-/// The bytes of the key of the version that bytes spell.
+/// Returns the key of the version that bytes parse as.
 pub fn key_of(text: &[u8]) -> Option<KeyBytes<'_>>
     ensures { result ≡ option_map (λ v. key_bytes (key_of v)) (versioning_of text.now) }
 {

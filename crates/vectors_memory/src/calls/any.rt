@@ -11,7 +11,7 @@ const GENERAL: &str = "1:2.a.7b-5.b+six";
 
 const COMPLEX: &str = "1:2_r3";
 
-// Its key is longer than the list that is made for a key.
+// Its key is longer than the list reserved for a key.
 const LONG: &str = "1:2.abcdefghijkl.3rc4";
 
 pub fn make_all(table: &mut Table<'_>) -> io::Result<()> {

@@ -80,7 +80,7 @@ fn read_requirements(table: &mut Table<'_>) -> io::Result<()> {
     Ok(())
 }
 
-// The last two are no strict version: a chunk of no kind behind others, and a number above the largest.
+// The last two are not strict versions: a chunk of no kind after others, and a number above the largest.
 fn read_forms(table: &mut Table<'_>) -> io::Result<()> {
     for text in [
         "{\"major\":1,\"minor\":2,\"patch\":3,\"pre_rel\":[{\"Alphanum\":\"rc\"}],\"meta\":\"x\"}",

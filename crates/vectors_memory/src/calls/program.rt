@@ -1,4 +1,4 @@
-//! Runs of the program, command by command, and with words or lines that it refuses; and copies of faults.
+//! Runs of the program, command by command and with words or lines that it refuses, and copies of faults.
 
 use crate::table::Table;
 use std::alloc::{AllocError, Global};

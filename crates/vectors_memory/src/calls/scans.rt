@@ -1,4 +1,4 @@
-//! What the readers and the values are built on: elements of lists, pieces that were scanned, and streams of bytes.
+//! The calls below the readers: elements of lists, pieces that were scanned, and streams of bytes.
 
 use crate::calls::parts::{chunk, last_part, messy_chunk, parts};
 use crate::table::Table;

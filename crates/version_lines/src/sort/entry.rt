@@ -13,8 +13,8 @@ use std::alloc::AllocError;
 use std::cmp::Ordering;
 use versions::Kind;
 
-/// A line that is a version, where its key lies among the keys of all lines, which are one list, and the first bytes of
-/// the key, by which most lines are told apart.
+/// A line that is a version, the place of its key in the one list of all keys, and the key's first bytes, by which most
+/// lines differ.
 #[derive(Clone, Copy)]
 pub struct Entry<'a> {
     first: u64,
@@ -28,8 +28,8 @@ impl<'a> Entry<'a> {
     ghost use Rattle.version_lines.specs.Entry.{behind_cmp, entry_cmp, entry_key, entry_line, tie_cmp, turn_cmp, IsRead};
     ghost use Rattle.version_lines.specs.Sort.{is_bad};
 
-    /// The line, whose key is added to the keys of others, and the kind of its version, where it is one. The error is that
-    /// there is no memory for the key.
+    /// Returns an entry for the line and the kind of its version, or None if it isn't a version. Its key is added to
+    /// `keys`. Fails if the key can't be allocated.
     pub fn read(keys: &mut Vec<u8>, line: &'a [u8]) -> Result<Option<(Entry<'a>, Kind)>, AllocError>
         ensures key { OnOk result (keys.new.items ≡ keys.old.items ++ line_key line.now) }
         ensures read { IfOk result (λ read. MatchOption read (IsTrue (is_bad line.now))
@@ -53,7 +53,7 @@ impl<'a> Entry<'a> {
         Ok(Some((entry, kind)))
     }
 
-    /// By their keys, the first bytes of which are looked at first.
+    /// Compares by the keys, their first bytes first.
     #[inline(always)]
     pub fn compare(&self, other: &Entry<'_>, keys: &[u8]) -> Ordering
         ensures { result ≡ entry_cmp keys.now self.now other.now }
@@ -64,7 +64,8 @@ impl<'a> Entry<'a> {
         }
     }
 
-    /// The same, and where the keys tie by where they lie: of two lines, that which was read first comes first.
+    /// Compares by the keys, then by the places of the keys: of two lines that tie, the line that was read first comes
+    /// first.
     #[inline(always)]
     pub fn compare_in_turn(&self, other: &Entry<'_>, keys: &[u8]) -> Ordering
         ensures { result ≡ then_cmp (entry_cmp keys.now) turn_cmp self.now other.now }
@@ -72,14 +73,14 @@ impl<'a> Entry<'a> {
         self.compare(other, keys).then(self.start.cmp(&other.start))
     }
 
-    /// By what breaks the ties of keys, and where that ties too by where the keys lie.
+    /// Compares by what breaks the ties of keys, then by the places of the keys.
     pub fn compare_ties_in_turn(&self, other: &Entry<'_>) -> Ordering
         ensures { result ≡ then_cmp tie_cmp turn_cmp self.now other.now }
     {
         compare_ties(self.line, other.line).then(self.start.cmp(&other.start))
     }
 
-    /// By the second bytes, and where those are the same by what is behind them.
+    /// Compares by the second eight bytes of the keys, then by the rest.
     #[inline(always)]
     fn compare_behind(&self, other: &Entry<'_>, keys: &[u8]) -> Ordering
         ensures { result ≡ behind_cmp keys.now self.now other.now }
@@ -90,7 +91,7 @@ impl<'a> Entry<'a> {
         }
     }
 
-    /// By what is behind the first bytes of their keys. Never inlined, so that a sort takes in what is looked at first.
+    /// Compares by the rest of the keys, after their first bytes. Never inlined, so that a sort inlines the usual case.
     #[inline(never)]
     fn compare_keys(&self, other: &Entry<'_>, keys: &[u8]) -> Ordering
         ensures { result ≡ behind_heads_cmp
@@ -99,7 +100,7 @@ impl<'a> Entry<'a> {
         compare_behind_heads(self.key(keys), other.key(keys))
     }
 
-    /// Its key, of all keys.
+    /// Returns its key from the list of all keys.
     fn key<'k>(&self, keys: &'k [u8]) -> &'k [u8]
         ensures { result.now ≡ entry_key keys.now self.now }
     {
@@ -107,7 +108,7 @@ impl<'a> Entry<'a> {
         behind.get(..self.length).unwrap_or(behind)
     }
 
-    /// The line.
+    /// Returns the line.
     pub fn line(&self) -> &'a [u8]
         ensures { result.now ≡ entry_line self.now }
     {
@@ -115,8 +116,7 @@ impl<'a> Entry<'a> {
     }
 }
 
-/// Two keys whose first sixteen bytes are the same, where those that are missing count as 0: by what is behind them, and
-/// where that is the same by how long they are.
+/// Compares two keys with the same first sixteen bytes, where missing bytes count as 0: by the rest, then by length.
 #[inline(always)]
 fn compare_behind_heads(a: &[u8], b: &[u8]) -> Ordering
     ensures { result ≡ behind_heads_cmp a.now b.now }
@@ -130,7 +130,7 @@ fn compare_behind_heads(a: &[u8], b: &[u8]) -> Ordering
     }
 }
 
-/// What is behind the first sixteen bytes of a key.
+/// Returns a key without its first sixteen bytes.
 fn behind_heads(key: &[u8]) -> &[u8]
     ensures { result.now ≡ drop 16 key.now }
 {

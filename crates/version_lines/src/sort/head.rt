@@ -1,9 +1,9 @@
-//! The beginning of a key as a number.
+//! The first bytes of a key as a number.
 ghost use Rattle.std.specs.Prelude.{◌≡◌, ◌<◌, slice_index_or};
 ghost use Rattle.std.specs.List.{All};
 ghost use Rattle.version_lines.specs.Head.{head_number};
 
-/// The first eight bytes, of which those that are missing count as 0, as a number.
+/// Returns the first eight bytes as a number. Missing bytes count as 0.
 pub fn head(bytes: &[u8]) -> u64
     ensures value { result ≡ head_number bytes.now }
     ensures bytes { All (λ byte. byte < 256) bytes.now }
@@ -14,7 +14,7 @@ pub fn head(bytes: &[u8]) -> u64
     }
 }
 
-/// The same, a byte at a time, whether or not there are eight.
+/// Returns the same, a byte at a time, for any number of bytes.
 fn head_of_few(bytes: &[u8]) -> u64
     ensures { result ≡ head_number bytes.now }
 {
@@ -30,7 +30,7 @@ fn head_of_few(bytes: &[u8]) -> u64
     ])
 }
 
-/// The byte at a place, and 0 where there is none.
+/// Returns the byte at a place, or 0 after the end.
 fn byte_at(bytes: &[u8], place: usize) -> u8
     ensures { result ≡ slice_index_or bytes.now place 0 }
 {

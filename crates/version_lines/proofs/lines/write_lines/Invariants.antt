@@ -1,4 +1,4 @@
--- Of the output for the whole input, what waits in the buffer and the output for the lines to come are left.
+-- Of the whole output, the buffer and the output for the remaining lines are left.
 use Rattle.std.proofs.Common.{◌++◌, length}
 use Rattle.version_lines.specs.Lines.{lines_of, lines_output}
 use Rattle.version_lines.specs.Output.{AppendsUpTo}

@@ -1,4 +1,4 @@
--- What is gone from `rest` was written, and each turn writes some of it.
+-- The bytes removed from `rest` were written, and each turn writes some.
 use Rattle.std.proofs.Common.{length}
 use Rattle.version_lines.specs.Output.{AppendsUpTo}
 use Rattle.version_lines.proofs.output.write_whole.Given as goal

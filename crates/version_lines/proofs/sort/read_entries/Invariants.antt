@@ -1,4 +1,4 @@
--- The entries are those of the lines in front of the ones that are left, stand in their order, and are strict where it says so.
+-- The entries are those of the lines before the remaining lines, in their order, and strict if the flag says so.
 use Rattle.std.proofs.Common.{◌≡◌, ◌++◌, length, map, IsTrue}
 use Rattle.std.specs.List.{All}
 use Rattle.version_lines.specs.Entry.{entry_line, AreInTurn, IsRead, IsStrict}

@@ -1,4 +1,4 @@
--- Of the output for all lines, what waits in the buffer and the lines to come are left.
+-- Of the output for all lines, the buffer and the remaining lines are left.
 use Rattle.std.proofs.Common.{◌++◌, drop, map}
 use Rattle.version_lines.specs.Lines.{lines_output, whole_line}
 use Rattle.version_lines.specs.Output.{AppendsUpTo}

@@ -1,4 +1,4 @@
--- The lines in front of the place are the first.
+-- The lines before the place are the first line.
 use Rattle.std.proofs.Common.{◌≡◌, take}
 use Rattle.std.specs.List.{All}
 use Rattle.version_lines.specs.Entry.{entry_line}

@@ -1,4 +1,4 @@
--- The lines in front of the place are strict versions.
+-- The lines before the place are strict versions.
 use Rattle.std.proofs.Common.{take}
 use Rattle.std.specs.List.{All}
 use Rattle.version_lines.specs.Entry.{IsStrict}

@@ -1,4 +1,4 @@
--- The lines in front of the place are in order, and those behind it stand as they did.
+-- The lines before the place are in order, and the lines after it are unchanged.
 use Rattle.std.proofs.Common.{◌-◌, length}
 use Rattle.version_lines.specs.Entry.{entry_cmp, tie_cmp}
 use Rattle.version_lines.proofs.TieLemmas.{IsDoneTo}

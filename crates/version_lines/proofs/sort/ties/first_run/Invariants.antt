@@ -1,4 +1,4 @@
--- The run ends where the run of the lines that are left does.
+-- The run ends where the run of the remaining lines ends.
 use Rattle.std.proofs.Common.{◌≡◌, ◌+◌, drop, not}
 use Rattle.std.specs.List.{prefix_len}
 use Rattle.std.specs.Ordering.{is_lt}
