@@ -190,9 +190,20 @@ pub fn sort_key<'r>(text: &str, room: &'r mut [u8]) -> Result<&'r [u8], NoKey> {
     }
 }
 
+/// Whether a text is a list of requirements.
+pub fn is_list(list: &str) -> bool {
+    try_matches(list, "").is_some()
+}
+
 /// Whether a list of requirements matches a version; `None` where the text is not a version.
 /// Panics where `list` is not a list of requirements.
 pub fn matches(list: &str, text: &str) -> Option<bool> {
+    try_matches(list, text)
+        .unwrap_or_else(|| unexpected("versions_matches", "status", NO_REQUIREMENTS))
+}
+
+/// The same; the outer `None` says that `list` is not a list of requirements.
+fn try_matches(list: &str, text: &str) -> Option<Option<bool>> {
     let mut answer = 0;
     // SAFETY: each pointer has the length of its text, which is only read; `answer` is written.
     let status = unsafe {
@@ -205,22 +216,11 @@ pub fn matches(list: &str, text: &str) -> Option<bool> {
         )
     };
     match status {
-        OK => match_of(answer),
-        NO_VERSION => None,
+        OK => Some(Some(bool_of("versions_matches", answer))),
+        NO_VERSION => Some(None),
+        NO_REQUIREMENTS => None,
         _ => unexpected("versions_matches", "status", status),
     }
-}
-
-/// Whether a text is a list of requirements.
-pub fn is_list(list: &str) -> bool {
-    try_match_all(
-        list,
-        &Texts {
-            bytes: String::new(),
-            offsets: vec![0],
-        },
-    )
-    .is_some()
 }
 
 /// The number at a place of a version. Panics where the text is not a version.
@@ -323,12 +323,6 @@ pub fn order(texts: &Texts) -> Vec<usize> {
 /// Whether a list of requirements matches each text; `None` for a text that is not a version.
 /// Panics where `list` is not a list of requirements.
 pub fn match_all(list: &str, texts: &Texts) -> Vec<Option<bool>> {
-    try_match_all(list, texts)
-        .unwrap_or_else(|| unexpected("versions_match_all", "status", NO_REQUIREMENTS))
-}
-
-/// The same; `None` where `list` is not a list of requirements.
-fn try_match_all(list: &str, texts: &Texts) -> Option<Vec<Option<bool>>> {
     let Texts { bytes, offsets } = texts;
     let mut matches = vec![0; texts.count()];
     // SAFETY: each pointer has the length of its array. The list, texts and offsets are only read,
@@ -346,9 +340,12 @@ fn try_match_all(list: &str, texts: &Texts) -> Option<Vec<Option<bool>>> {
             matches.len(),
         )
     };
+    let match_of = |number| match number {
+        2 => None,
+        _ => Some(bool_of("versions_match_all", number)),
+    };
     match status {
-        OK => Some(matches.into_iter().map(match_of).collect()),
-        NO_REQUIREMENTS => None,
+        OK => matches.into_iter().map(match_of).collect(),
         _ => unexpected("versions_match_all", "status", status),
     }
 }
@@ -368,12 +365,11 @@ fn kind_of(number: c_int) -> Option<Kind> {
     }
 }
 
-fn match_of(number: u8) -> Option<bool> {
+fn bool_of(call: &str, number: u8) -> bool {
     match number {
-        0 => Some(false),
-        1 => Some(true),
-        2 => None,
-        _ => unexpected("versions_match_all", "match", number.into()),
+        0 => false,
+        1 => true,
+        _ => unexpected(call, "match", number.into()),
     }
 }
 

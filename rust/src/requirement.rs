@@ -31,7 +31,7 @@ impl<'a> Requirement<'a> {
     /// # Errors
     ///
     /// [`InvalidRequirement`], where the text is neither. The error holds the text, for which a
-    /// borrowed one is copied; otherwise at most a few bytes are allocated.
+    /// borrowed one is copied; otherwise nothing is allocated.
     pub fn new(text: impl Into<Cow<'a, str>>) -> Result<Self, InvalidRequirement> {
         let text = text.into();
         if library::is_list(&text) {
