@@ -31,8 +31,8 @@
 //! # Panics
 //!
 //! A call panics where the library that was linked answers what its header does not allow, and
-//! where an allocation of more than `isize::MAX` bytes would be needed. The library itself allocates
-//! nothing.
+//! where an allocation of more than `isize::MAX` bytes would be needed. An allocation failure
+//! ends the program, as elsewhere in Rust; the library itself allocates nothing.
 //!
 //! # Processors
 //!

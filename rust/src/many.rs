@@ -3,7 +3,7 @@ use crate::{Kind, Requirement};
 
 /// The kind of each text, as [`kind`](crate::kind) returns it, in one call of the library.
 ///
-/// Allocates, beside the answers, all texts once more, 8 bytes for each, and a byte for each.
+/// Allocates, beside the answers, all texts once more, and at most 9 bytes for each text.
 ///
 /// ```
 /// use proved_versions::{kinds, Kind};
@@ -36,7 +36,7 @@ pub fn sort_keys<T: AsRef<str>>(texts: &[T]) -> SortKeys {
 /// Whether a requirement matches each text, in one call of the library; `None` for a text that is
 /// not a version.
 ///
-/// Allocates, beside the answers, all texts once more, 8 bytes for each, and a byte for each.
+/// Allocates, beside the answers, all texts once more, and at most 9 bytes for each text.
 ///
 /// ```
 /// use proved_versions::{match_all, Requirement};
@@ -54,7 +54,7 @@ pub fn match_all<T: AsRef<str>>(requirement: &Requirement<'_>, texts: &[T]) -> V
 /// The order is that of `Ord` of [`Version`](crate::Version). Texts that compare equal keep their
 /// order, as in a stable sort. Texts that are not versions come last, in their order too.
 ///
-/// Allocates, beside the answer, 4 bytes for each byte of the texts, and 29 for each text.
+/// Allocates, beside the answer, 4 bytes for each byte of the texts, and at most 29 for each text.
 ///
 /// ```
 /// assert_eq!(proved_versions::order(&["1.10", "1..2", "1.9", "1.10rc1"]), [2, 3, 0, 1]);

@@ -1,5 +1,9 @@
 //! Which calls allocate, and how much, as their documentation says.
 
+// The clippy of Rust 1.63 finds this in each `thread_local!` with `const`, by mistake.
+#![allow(clippy::declare_interior_mutable_const)]
+#![deny(unsafe_op_in_unsafe_fn)]
+
 use std::alloc::{GlobalAlloc, Layout, System};
 use std::cell::Cell;
 use std::collections::hash_map::DefaultHasher;
@@ -123,14 +127,15 @@ fn many_texts() {
     let (bytes, places) = (5 * 1000, 8 * 1001);
     let room = 3 * bytes + 5 * 1000;
     let copied = bytes + places;
-    assert_eq!(of(|| kinds(&texts)).1, copied + 1000);
+    // The answers may lie where the library wrote its bytes, or beside them.
+    let copied_and_answers = copied + 1000..=copied + 2000;
+    assert!(copied_and_answers.contains(&of(|| kinds(&texts)).1));
     let requirement = Requirement::new("*").unwrap();
-    assert_eq!(of(|| match_all(&requirement, &texts)).1, copied + 1000);
-    // The default `realloc` of the counter allocates anew, so the keys count twice here.
-    let (count, size) = of(|| sort_keys(&texts));
-    assert!(
-        count <= 5 && size <= copied + room + places + 15 * 1000,
-        "{count} {size}"
+    assert!(copied_and_answers.contains(&of(|| match_all(&requirement, &texts)).1));
+    // The keys of 15 bytes are moved at last, into an allocation of their own length.
+    assert_eq!(
+        of(|| sort_keys(&texts)),
+        (5, copied + room + places + 15 * 1000)
     );
     let (count, size) = of(|| order(&texts));
     assert!(

@@ -178,7 +178,7 @@ fn matches_are_those_of_vers() {
     for (line, answer) in lines.iter().zip(&answers) {
         assert_eq!(requirement.matches_text(line).ok(), *answer, "{line:?}");
     }
-    let versions: Vec<Version> = lines.iter().flat_map(|line| Version::new(line)).collect();
+    let versions: Vec<Version> = lines.iter().flat_map(Version::new).collect();
     let found = requirement.filter(&versions).map(Version::as_str);
     assert!(found.eq(&vers(&["match", "^1.1.1"], &lines)));
 }

@@ -209,8 +209,8 @@ fn sorts_as_ord_does() {
 fn keys_by_place() {
     let keys = sort_keys(&USUAL);
     assert_eq!((keys.len(), keys.is_empty()), (9, false));
-    for place in 0..9 {
-        assert_eq!(keys.get(place), sort_key(USUAL[place]).ok().as_deref());
+    for (place, text) in USUAL.iter().enumerate() {
+        assert_eq!(keys.get(place), sort_key(text).ok().as_deref());
     }
     for place in [9, 10, usize::MAX / 8, usize::MAX - 1, usize::MAX] {
         assert_eq!(keys.get(place), None);

@@ -169,9 +169,8 @@ fn filters() {
     let wanted = requirement(">=1.1.1,<2.0.0");
     let versions = ["1.0", "1.5", "1.1.1", "2.0.0", "2.0.0-rc.1"].map(version);
     let texts = |found: Vec<Version>| found.iter().map(Version::to_string).collect::<Vec<_>>();
-    let lent: Vec<&Version> = wanted.filter(&versions).collect();
     assert_eq!(
-        texts(lent.into_iter().cloned().collect()),
+        texts(wanted.filter(&versions).cloned().collect()),
         ["1.5", "1.1.1", "2.0.0-rc.1"]
     );
     assert_eq!(

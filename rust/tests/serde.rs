@@ -95,7 +95,8 @@ fn borrow_where_they_are_told_to() {
 #[test]
 fn outlive_what_they_are_read_from() {
     fn read<T: DeserializeOwned>(text: &str) -> T {
-        T::deserialize(lent(&text.to_string())).unwrap()
+        let format = String::from(text);
+        T::deserialize(lent(&format)).unwrap()
     }
     assert_eq!(read::<Version<'static>>("1.2.3").as_str(), "1.2.3");
     assert_eq!(read::<Requirement<'static>>("*").as_str(), "*");

@@ -46,7 +46,7 @@ const NOT_VERSIONS: [&str; 27] = [
     "\0",
     "1\0",
     "1.2.3\0",
-    "\01.2.3",
+    "\u{0}1.2.3",
     "1\u{a0}",
     "１.2",
 ];
@@ -158,7 +158,7 @@ fn the_text_is_kept() {
         let versions = [
             version(text),
             Version::new(text.to_string()).unwrap(),
-            Version::new(&text.to_string()).unwrap().into_owned(),
+            Version::new(Cow::Borrowed(text)).unwrap().into_owned(),
             text.parse().unwrap(),
             text.try_into().unwrap(),
             text.to_string().try_into().unwrap(),
@@ -411,7 +411,7 @@ fn great_lengths() {
             read.sort_key().cmp(&version("1:0").sort_key()),
             Ordering::Less
         );
-        assert_eq!(hash(&read), hash(&read.clone()));
+        assert_eq!(hash(&read), hash(read.clone()));
         assert_eq!(read.nth(usize::MAX), None);
         assert!(Requirement::new("<1:0").unwrap().matches(&read));
         assert!(Requirement::new(format!("={text}")).unwrap().matches(&read));
