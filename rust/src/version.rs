@@ -26,8 +26,8 @@ use crate::{key, library, InvalidVersion, Kind};
 /// assert_eq!(Version::new("1.0.0+a"), Version::new("1.0.0+b"));
 /// ```
 ///
-/// Each comparison reads both texts. To sort many, [`sort`](crate::sort) and
-/// [`order`](crate::order) read each once.
+/// Each comparison reads both texts. To sort many versions, [`sort`](crate::sort) and
+/// [`order`](crate::order) make a key of each once, and compare these.
 ///
 /// `Version` is not `Borrow<str>`, since equal versions may have different texts.
 #[derive(Clone)]
