@@ -1,0 +1,144 @@
+//! Version numbers of any shape: which texts are versions, how versions compare, and which versions
+//! a requirement matches.
+//!
+//! ```
+//! use proved_versions::{sort, Requirement, Version};
+//!
+//! let mut texts = ["1.10", "1.9", "1.10rc1"];
+//! sort(&mut texts);
+//! assert_eq!(texts, ["1.9", "1.10rc1", "1.10"]);
+//!
+//! let version: Version = "1.2.0-rc.1".parse()?;
+//! assert!(version.is_ideal() && version < Version::new("1.2.0")?);
+//! assert!(Requirement::new(">=1.1,<1.2.0")?.matches(&version));
+//! # Ok::<(), Box<dyn std::error::Error>>(())
+//! ```
+//!
+//! Every answer is one of the library for C, `libversions.a`, in which each function is proved to
+//! meet its contract. This crate passes texts to it and hands its answers on, and has no rule of
+//! versions of its own. `build.rs` links the library from the folder that the environment variable
+//! `VERSIONS_LIB_DIR` names, or else from the one that `pkg-config` names.
+//!
+//! # Texts
+//!
+//! A text is a `&str` of any length, since bytes that are not UTF-8 are not a version. A NUL byte is
+//! a byte like any other.
+//!
+//! # Threads
+//!
+//! The library has no state. Every type here is `Send` and `Sync`, and any thread may make any call.
+//!
+//! # Panics
+//!
+//! A call panics where the library that was linked answers what its header does not allow, and
+//! where an allocation of more than `isize::MAX` bytes would be needed. An allocation failure
+//! ends the program, as elsewhere in Rust; the library itself allocates nothing.
+//!
+//! # Processors
+//!
+//! The library needs an x86-64 processor of the level x86-64-v2, which has SSE4.2 and POPCNT. On an
+//! older one, a call may end the program by the signal `SIGILL`. A program that may run there asks
+//! [`processor_suffices`] before it makes any other call.
+//!
+//! # Features
+//!
+//! `serde`: [`Version`] and [`Requirement`] are serialized as their texts, and deserialized from
+//! texts.
+#![deny(unsafe_code, unsafe_op_in_unsafe_fn)]
+#![warn(missing_docs)]
+
+use std::cmp::Ordering;
+
+mod error;
+mod key;
+mod kind;
+#[allow(unsafe_code)]
+mod library;
+mod many;
+mod requirement;
+#[cfg(feature = "serde")]
+mod serde;
+mod version;
+
+pub use error::{InvalidRequirement, InvalidVersion};
+pub use kind::Kind;
+pub use many::{kinds, match_all, order, sort, sort_keys, SortKeys};
+pub use requirement::{Filter, Requirement};
+pub use version::Version;
+
+/// The kind of a text; `None` where it is not a version. Allocates nothing.
+///
+/// ```
+/// use proved_versions::{kind, Kind};
+///
+/// assert_eq!(kind("1.2.3"), Some(Kind::Ideal));
+/// assert_eq!(kind("1.2.3 "), None);
+/// ```
+pub fn kind(text: &str) -> Option<Kind> {
+    library::kind(text)
+}
+
+/// How the versions that two texts are compare by precedence, the one order of all kinds, as
+/// [`Version::precedence`] does.
+///
+/// # Errors
+///
+/// [`InvalidVersion`], with the first of the texts that is not a version. The error holds a copy of
+/// that text; otherwise nothing is allocated.
+///
+/// ```
+/// use std::cmp::Ordering;
+/// use proved_versions::compare;
+///
+/// assert_eq!(compare("1.2.0-rc.1", "1.2.0"), Ok(Ordering::Less));
+/// assert_eq!(compare("1.0", "0:1.0"), Ok(Ordering::Equal));
+/// assert_eq!(compare("1.0", "1..2").unwrap_err().text(), "1..2");
+/// ```
+pub fn compare(a: &str, b: &str) -> Result<Ordering, InvalidVersion> {
+    library::compare(a, b).map_err(InvalidVersion::new)
+}
+
+/// How the versions that two texts are compare in the total order, as `Ord` of [`Version`] does:
+/// by precedence, with ties broken by kind and then field by field.
+///
+/// It is `Equal` only where both are the same version but for the metadata of strict ones.
+///
+/// # Errors
+///
+/// As those of [`compare`].
+///
+/// ```
+/// use std::cmp::Ordering;
+/// use proved_versions::compare_total;
+///
+/// assert_eq!(compare_total("1.0", "0:1.0"), Ok(Ordering::Less));
+/// assert_eq!(compare_total("1.0.0+a", "1.0.0+b"), Ok(Ordering::Equal));
+/// ```
+pub fn compare_total(a: &str, b: &str) -> Result<Ordering, InvalidVersion> {
+    library::compare_total(a, b).map_err(InvalidVersion::new)
+}
+
+/// The sort key of the version that a text is, as [`Version::sort_key`] returns it.
+///
+/// # Errors
+///
+/// [`InvalidVersion`], where the text is not a version. The error holds a copy of the text.
+///
+/// ```
+/// let mut texts = ["1.10", "1.9", "1.10rc1"];
+/// texts.sort_by_cached_key(|text| proved_versions::sort_key(text).unwrap());
+/// assert_eq!(texts, ["1.9", "1.10rc1", "1.10"]);
+/// ```
+pub fn sort_key(text: &str) -> Result<Vec<u8>, InvalidVersion> {
+    key::with(text, <[u8]>::to_vec).ok_or_else(|| InvalidVersion::new(text))
+}
+
+/// Whether the library runs on this processor, which has to be of the level x86-64-v2. On one that
+/// isn't, no other call may be made.
+///
+/// ```
+/// assert!(proved_versions::processor_suffices(), "this program needs a processor with SSE4.2");
+/// ```
+pub fn processor_suffices() -> bool {
+    library::processor_suffices()
+}

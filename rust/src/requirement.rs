@@ -1,0 +1,200 @@
+use std::borrow::{Borrow, Cow};
+use std::fmt;
+use std::iter::FusedIterator;
+use std::str::FromStr;
+
+use crate::{library, InvalidRequirement, InvalidVersion, Version};
+
+/// A requirement, as `^1.2.3`, or a list of them with commas between, as `>=1.1.1,<2.0.0`.
+///
+/// The operators are `=`, `>=`, `>`, `<=`, `<`, `~` and `^`, each before a version, and `*` alone.
+/// There are no spaces. A list matches the versions that each member matches.
+///
+/// `==` and `Hash` go by the text.
+///
+/// ```
+/// use proved_versions::{Requirement, Version};
+///
+/// let requirement = Requirement::new(">=1.1.1,<2.0.0").unwrap();
+/// assert!(requirement.matches(&Version::new("1.5").unwrap()));
+/// assert!(!requirement.matches(&Version::new("2.0.0").unwrap()));
+/// ```
+#[derive(Clone, PartialEq, Eq, Hash)]
+pub struct Requirement<'a> {
+    text: Cow<'a, str>,
+}
+
+impl<'a> Requirement<'a> {
+    /// The requirement, or the list of them, that a text is. Borrows a `&str`, and takes a `String`
+    /// as it is.
+    ///
+    /// # Errors
+    ///
+    /// [`InvalidRequirement`], where the text is neither. The error holds the text, for which a
+    /// borrowed one is copied; otherwise nothing is allocated.
+    pub fn new(text: impl Into<Cow<'a, str>>) -> Result<Self, InvalidRequirement> {
+        let text = text.into();
+        if library::is_list(&text) {
+            Ok(Requirement { text })
+        } else {
+            Err(InvalidRequirement::new(text))
+        }
+    }
+
+    /// The text, as it was given.
+    pub fn as_str(&self) -> &str {
+        &self.text
+    }
+
+    /// Whether the requirement matches a version. Allocates nothing.
+    pub fn matches(&self, version: &Version<'_>) -> bool {
+        library::matches(&self.text, version.as_str())
+            .expect("the library no longer takes the text of a Version for a version")
+    }
+
+    /// Whether the requirement matches the version that a text is, in one call of the library.
+    ///
+    /// # Errors
+    ///
+    /// [`InvalidVersion`], where the text is not a version. The error holds a copy of the text;
+    /// otherwise nothing is allocated.
+    ///
+    /// ```
+    /// use proved_versions::Requirement;
+    ///
+    /// let requirement = Requirement::new("~1.1.1").unwrap();
+    /// assert_eq!(requirement.matches_text("1.1.3"), Ok(true));
+    /// assert_eq!(requirement.matches_text("1.2.0"), Ok(false));
+    /// assert!(requirement.matches_text("1..2").is_err());
+    /// ```
+    pub fn matches_text(&self, text: &str) -> Result<bool, InvalidVersion> {
+        library::matches(&self.text, text).ok_or_else(|| InvalidVersion::new(text))
+    }
+
+    /// The versions that the requirement matches, in their order. The items may be [`Version`]s or
+    /// references to them. Each version is asked about when it is its turn.
+    ///
+    /// ```
+    /// use proved_versions::{Requirement, Version};
+    ///
+    /// let versions = ["1.0", "1.5", "2.0"].map(|text| Version::new(text).unwrap());
+    /// let requirement = Requirement::new(">=1.1,<2").unwrap();
+    /// let matching: Vec<&Version> = requirement.filter(&versions).collect();
+    /// assert_eq!(matching, [&versions[1]]);
+    /// assert_eq!(requirement.filter(versions).max().unwrap().as_str(), "1.5");
+    /// ```
+    pub fn filter<'v, I>(&self, versions: I) -> Filter<'_, I::IntoIter>
+    where
+        I: IntoIterator,
+        I::Item: Borrow<Version<'v>>,
+    {
+        Filter {
+            requirement: self,
+            versions: versions.into_iter(),
+        }
+    }
+
+    /// The same requirement, with a text of its own. Copies a borrowed text.
+    pub fn into_owned(self) -> Requirement<'static> {
+        Requirement {
+            text: Cow::Owned(self.text.into_owned()),
+        }
+    }
+}
+
+/// The versions of an iterator that a requirement matches: what [`Requirement::filter`] returns.
+#[derive(Clone, Debug)]
+#[must_use = "an iterator does nothing until it is asked for items"]
+pub struct Filter<'r, I> {
+    requirement: &'r Requirement<'r>,
+    versions: I,
+}
+
+impl<'v, I> Iterator for Filter<'_, I>
+where
+    I: Iterator,
+    I::Item: Borrow<Version<'v>>,
+{
+    type Item = I::Item;
+
+    fn next(&mut self) -> Option<I::Item> {
+        let requirement = self.requirement;
+        self.versions
+            .find(|version| requirement.matches(version.borrow()))
+    }
+
+    fn size_hint(&self) -> (usize, Option<usize>) {
+        (0, self.versions.size_hint().1)
+    }
+}
+
+impl<'v, I> DoubleEndedIterator for Filter<'_, I>
+where
+    I: DoubleEndedIterator,
+    I::Item: Borrow<Version<'v>>,
+{
+    fn next_back(&mut self) -> Option<I::Item> {
+        let requirement = self.requirement;
+        self.versions
+            .rfind(|version| requirement.matches(version.borrow()))
+    }
+}
+
+impl<'v, I> FusedIterator for Filter<'_, I>
+where
+    I: FusedIterator,
+    I::Item: Borrow<Version<'v>>,
+{
+}
+
+/// The text, as it was given; width and precision apply as to a `str`.
+impl fmt::Display for Requirement<'_> {
+    fn fmt(&self, f: &mut fmt::Formatter<'_>) -> fmt::Result {
+        f.pad(&self.text)
+    }
+}
+
+/// As `Requirement("^1.2.3")`.
+impl fmt::Debug for Requirement<'_> {
+    fn fmt(&self, f: &mut fmt::Formatter<'_>) -> fmt::Result {
+        f.debug_tuple("Requirement").field(&self.text).finish()
+    }
+}
+
+impl AsRef<str> for Requirement<'_> {
+    fn as_ref(&self) -> &str {
+        &self.text
+    }
+}
+
+/// The text. Copies a borrowed one.
+impl From<Requirement<'_>> for String {
+    fn from(requirement: Requirement<'_>) -> String {
+        requirement.text.into_owned()
+    }
+}
+
+/// Copies the text. [`Requirement::new`] borrows it.
+impl FromStr for Requirement<'static> {
+    type Err = InvalidRequirement;
+
+    fn from_str(text: &str) -> Result<Self, InvalidRequirement> {
+        Requirement::new(text).map(Requirement::into_owned)
+    }
+}
+
+impl<'a> TryFrom<&'a str> for Requirement<'a> {
+    type Error = InvalidRequirement;
+
+    fn try_from(text: &'a str) -> Result<Self, InvalidRequirement> {
+        Requirement::new(text)
+    }
+}
+
+impl TryFrom<String> for Requirement<'_> {
+    type Error = InvalidRequirement;
+
+    fn try_from(text: String) -> Result<Self, InvalidRequirement> {
+        Requirement::new(text)
+    }
+}

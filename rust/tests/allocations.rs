@@ -1,0 +1,146 @@
+//! Which calls allocate, and how much, as their documentation says.
+
+// The clippy of Rust 1.63 finds this in each `thread_local!` with `const`, by mistake.
+#![allow(clippy::declare_interior_mutable_const)]
+#![deny(unsafe_op_in_unsafe_fn)]
+
+use std::alloc::{GlobalAlloc, Layout, System};
+use std::cell::Cell;
+use std::collections::hash_map::DefaultHasher;
+use std::hash::{Hash, Hasher};
+
+use proved_versions::{
+    compare, compare_total, kind, kinds, match_all, order, sort, sort_key, sort_keys, Requirement,
+    Version,
+};
+
+thread_local! {
+    /// How many allocations and reallocations this thread has made.
+    static COUNT: Cell<usize> = const { Cell::new(0) };
+    /// How many bytes they asked for.
+    static BYTES: Cell<usize> = const { Cell::new(0) };
+}
+
+struct Counting;
+
+// SAFETY: each call is handed on to the allocator of the system.
+unsafe impl GlobalAlloc for Counting {
+    unsafe fn alloc(&self, layout: Layout) -> *mut u8 {
+        COUNT.with(|count| count.set(count.get() + 1));
+        BYTES.with(|bytes| bytes.set(bytes.get() + layout.size()));
+        // SAFETY: the caller's.
+        unsafe { System.alloc(layout) }
+    }
+
+    unsafe fn dealloc(&self, start: *mut u8, layout: Layout) {
+        // SAFETY: the caller's.
+        unsafe { System.dealloc(start, layout) }
+    }
+}
+
+#[global_allocator]
+static ALLOCATOR: Counting = Counting;
+
+/// How many allocations a call makes, and of how many bytes in all.
+fn of<R>(call: impl FnOnce() -> R) -> (usize, usize) {
+    let (count, bytes) = (COUNT.with(Cell::get), BYTES.with(Cell::get));
+    let answer = call();
+    let made = (COUNT.with(Cell::get) - count, BYTES.with(Cell::get) - bytes);
+    drop(answer);
+    made
+}
+
+fn hash(version: &Version) -> u64 {
+    let mut hasher = DefaultHasher::new();
+    version.hash(&mut hasher);
+    hasher.finish()
+}
+
+#[test]
+fn the_counter_counts() {
+    assert_eq!(of(|| vec![0_u8; 100]), (1, 100));
+}
+
+#[test]
+fn calls_that_allocate_nothing() {
+    let long = "a".repeat(100_000);
+    let other = format!("0:{long}");
+    for (a, b) in [
+        ("1.2.3-rc.1", "1.2.3"),
+        ("1.0", "1:20.0026.1_0-2"),
+        (&*long, &*other),
+    ] {
+        assert_eq!(of(|| kind(a)), (0, 0));
+        assert_eq!(of(|| Version::new(a)), (0, 0));
+        let (x, y) = (Version::new(a).unwrap(), Version::new(b).unwrap());
+        assert_eq!(of(|| compare(a, b)), (0, 0));
+        assert_eq!(of(|| compare_total(a, b)), (0, 0));
+        assert_eq!(of(|| (x.precedence(&y), x.cmp(&y), x == y)), (0, 0));
+        assert_eq!(of(|| (x.kind(), x.nth(0), x.nth(99))), (0, 0));
+        assert_eq!(of(|| (x.borrowed(), x.clone())), (0, 0));
+        let text = format!(">={a},<{b}");
+        assert_eq!(of(|| Requirement::new(&text)), (0, 0));
+        let requirement = Requirement::new(&text).unwrap();
+        assert_eq!(of(|| requirement.matches(&x)), (0, 0));
+        assert_eq!(of(|| requirement.matches_text(b)), (0, 0));
+        assert_eq!(of(|| requirement.filter([&x, &y]).count()), (0, 0));
+    }
+    let version = Version::new("1:20.0026.1_0-2+0.93-rc.1").unwrap();
+    assert_eq!(of(|| hash(&version)), (0, 0));
+    let owned = String::from("1.2.3");
+    assert_eq!(
+        of(|| String::from(Version::new(owned).unwrap().into_owned())),
+        (0, 0)
+    );
+}
+
+#[test]
+fn keys() {
+    // A part of n letters has a key of n + 6 bytes.
+    for (letters, allocations) in [(1, 1), (250, 1), (251, 2), (100_000, 2)] {
+        let text = "a".repeat(letters);
+        let version = Version::new(&text).unwrap();
+        let bytes = (letters + 6) * allocations;
+        assert_eq!(of(|| version.sort_key()), (allocations, bytes));
+        assert_eq!(of(|| sort_key(&text)), (allocations, bytes));
+        assert_eq!(of(|| hash(&version)).0, allocations - 1);
+        let mut key = Vec::with_capacity(letters + 6);
+        assert_eq!(of(|| version.write_sort_key(&mut key)).0, allocations - 1);
+    }
+}
+
+#[test]
+fn errors_hold_one_copy() {
+    let (bad, text) = ("1..2", String::from("1..2"));
+    assert_eq!(of(|| Version::new(bad)), (1, 4));
+    assert_eq!(of(|| Version::new(text)), (0, 0));
+    assert_eq!(of(|| bad.parse::<Version>()), (1, 4));
+    assert_eq!(of(|| "1.2".parse::<Version>()), (1, 3));
+    assert_eq!(of(|| sort_key(bad)), (1, 4));
+    assert_eq!(of(|| compare("1", bad)), (1, 4));
+    assert_eq!(of(|| Requirement::new(bad)), (1, 4));
+}
+
+#[test]
+fn many_texts() {
+    let mut texts = vec!["1.2.3"; 1000];
+    let (bytes, places) = (5 * 1000, 8 * 1001);
+    let room = 3 * bytes + 5 * 1000;
+    let copied = bytes + places;
+    // The answers may lie where the library wrote its bytes, or beside them.
+    let copied_and_answers = copied + 1000..=copied + 2000;
+    assert!(copied_and_answers.contains(&of(|| kinds(&texts)).1));
+    let requirement = Requirement::new("*").unwrap();
+    assert!(copied_and_answers.contains(&of(|| match_all(&requirement, &texts)).1));
+    // The keys of 15 bytes are moved at last, into an allocation of their own length.
+    assert_eq!(
+        of(|| sort_keys(&texts)),
+        (5, copied + room + places + 15 * 1000)
+    );
+    let (count, size) = of(|| order(&texts));
+    assert!(
+        count <= 6 && size <= copied + room + places + 2 * 8 * 1000,
+        "{count} {size}"
+    );
+    assert_eq!(of(|| sort(&mut texts)), (count, size));
+}

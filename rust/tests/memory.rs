@@ -1,0 +1,100 @@
+//! Every call, on texts in allocations of exactly their length, so that valgrind sees each byte that
+//! is read or written outside of them.
+
+use std::collections::hash_map::DefaultHasher;
+use std::hash::Hash;
+
+use proved_versions::{
+    compare, compare_total, kind, kinds, match_all, order, sort, sort_key, sort_keys, Requirement,
+    Version,
+};
+
+const TEXTS: [&str; 15] = [
+    "1.2.3",
+    "1.2.3-rc.1+x86",
+    "",
+    "1",
+    "1:2.0rc1-3",
+    "1..2",
+    "20.0026.1_0-2+0.93",
+    "1.",
+    "1.2.3-",
+    "é",
+    "1.2.3\0",
+    "1:",
+    "4294967295",
+    "4294967296",
+    "1.0.0-x-y-z.-",
+];
+const REQUIREMENTS: [&str; 7] = ["*", ">=1.2,<1:0", "^1.2.3", "~1", "=1.2.3+x", "", "=1.0.0,"];
+
+fn exact(text: &str) -> Box<str> {
+    text.into()
+}
+
+fn texts() -> Vec<Box<str>> {
+    let long = "1.a".repeat(200);
+    TEXTS.iter().copied().chain([&*long]).map(exact).collect()
+}
+
+#[test]
+fn one_text_and_two() {
+    for a in &texts() {
+        assert_eq!(kind(a).is_some(), sort_key(a).is_ok());
+        for b in &texts() {
+            assert_eq!(
+                compare(a, b).is_ok(),
+                kind(a).is_some() && kind(b).is_some()
+            );
+            assert_eq!(compare_total(a, b).is_ok(), compare(a, b).is_ok());
+        }
+        if let Ok(version) = Version::new(&**a) {
+            let mut key = exact(a).into_string().into_bytes();
+            version.write_sort_key(&mut key);
+            assert_eq!(key, [a.as_bytes(), &version.sort_key()].concat());
+            version.hash(&mut DefaultHasher::new());
+            for n in [0, 1, 2, 3, usize::MAX] {
+                assert!(version.nth(n) <= Some(u32::MAX));
+            }
+            assert_eq!(version, version.clone().into_owned());
+        }
+    }
+}
+
+#[test]
+fn requirements() {
+    for wanted in REQUIREMENTS.map(exact) {
+        let answer = Requirement::new(&*wanted);
+        assert_eq!(answer.is_err(), wanted.is_empty() || wanted.ends_with(','));
+        if let Ok(requirement) = answer {
+            let single: Vec<Option<bool>> = texts()
+                .iter()
+                .map(|text| requirement.matches_text(text).ok())
+                .collect();
+            assert_eq!(match_all(&requirement, &texts()), single);
+        }
+    }
+}
+
+#[test]
+fn many_texts() {
+    let texts = texts();
+    for from in 0..texts.len() {
+        for to in [from, (from + 1).min(texts.len()), texts.len()] {
+            let texts = &texts[from..to];
+            assert_eq!(
+                kinds(texts),
+                texts.iter().map(|text| kind(text)).collect::<Vec<_>>()
+            );
+            let keys = sort_keys(texts);
+            assert_eq!(keys.len(), texts.len());
+            for (place, text) in texts.iter().enumerate() {
+                assert_eq!(keys.get(place), sort_key(text).ok().as_deref());
+            }
+            let places = order(texts);
+            let mut sorted = texts.to_vec();
+            sort(&mut sorted);
+            assert!(sorted.iter().eq(places.iter().map(|place| &texts[*place])));
+        }
+    }
+}

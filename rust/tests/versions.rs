@@ -1,0 +1,443 @@
+//! Versions, one or two at a time: what the library's pages say, through every way to ask.
+
+use std::borrow::Cow;
+use std::cmp::Ordering;
+use std::collections::hash_map::DefaultHasher;
+use std::collections::{BTreeSet, HashSet};
+use std::error::Error;
+use std::hash::{Hash, Hasher};
+
+use proved_versions::{
+    compare, compare_total, kind, sort_key, InvalidRequirement, InvalidVersion, Kind, Requirement,
+    SortKeys, Version,
+};
+
+// By docs/GRAMMAR.md.
+const IDEAL: &str =
+    "1.2.3 1.2.3-alpha.2 1.2.3-0a 1.2.3-00a 1.0.0-x-y-z.- 1.0.0-alpha+001 1.2.3+.. \
+    4294967295.0.0 1.0.0-x-y-z";
+const GENERAL: &str = "1 1.2 8.u51-1 x 01a 1:2.0rc1-3 4294967296a 1.2-3+x 0.25-2 1:2.3.4 1.0-a--b \
+    0rc01 01rc1 1.2.3r1 1--2";
+const COMPLEX: &str = "1.2.3-06 1.2.3-01 1.01.1 1.2.3-4294967296 4294967296 4294967296.0.0 \
+    4294967296:1 20.0026.1_0-2+0.93 003.03-3 1.002.3+r003 12.0.0-3ubuntu1~20.04.5 \
+    2:10.2+0.0093r3+1-1 22.01-ZS-v1.5.5-R2 01.2 1:2:3 a:1 1.2_3 1+x-y+z";
+const NOT_VERSIONS: [&str; 27] = [
+    "",
+    " ",
+    "1.2.3 ",
+    " 1.2.3",
+    "1.2 ",
+    "003.03-3 ",
+    "1..2",
+    ".1",
+    "1.",
+    "1:",
+    ":1",
+    "1+",
+    "1__2",
+    "1.2.3-",
+    "1.2.3-a.",
+    "1.2.3+",
+    "1.2.3-a_!",
+    "1.2.3+a1b!2c3.1",
+    "1.2.3-é",
+    "é",
+    "1.2.3\n",
+    "\0",
+    "1\0",
+    "1.2.3\0",
+    "\u{0}1.2.3",
+    "1\u{a0}",
+    "１.2",
+];
+
+// In increasing order, all of different keys, by docs/ORDER.md.
+const INCREASING: &str = "abc.0 0.0 1a.0 1.2.git 1.2 1.2.0-alpha 1.2.0-alpha.1 1.2.0-alpha.beta \
+    1.2.0-beta 1.2.0-beta.2 1.2.0-beta.11 1.2.0-rc.1 1.2.0 1.2.3rc9 1.2.3rc10 1.2.3 1.2.3.0 \
+    1.6.0a+2014+m872b87e73dfb-1 1.6.0-1 2.14.r8 2.14.r23 2.14 2.14.8 3.0 3.0-1 3.0_1 3.0.0-1 3.0.0 \
+    4294967296.0.0 1:0.1 1:1.2.0 1:2:3 10:0";
+
+// Of one key each, in increasing total order, by docs/ORDER.md: by kind, and then field by field.
+const TIES: [&str; 2] = [
+    "1.2 1.2+x 0:1.2 01.2 1.002",
+    "1.2.3 1.2.3+a 0:1.2.3 01.2.3 1.02.3",
+];
+
+fn version(text: &str) -> Version<'_> {
+    Version::new(text).unwrap()
+}
+
+fn hash(value: impl Hash) -> u64 {
+    let mut hasher = DefaultHasher::new();
+    value.hash(&mut hasher);
+    hasher.finish()
+}
+
+fn kinds_of_the_page() -> impl Iterator<Item = (&'static str, Kind)> {
+    [
+        (IDEAL, Kind::Ideal),
+        (GENERAL, Kind::General),
+        (COMPLEX, Kind::Complex),
+    ]
+    .into_iter()
+    .flat_map(|(texts, kind)| texts.split_whitespace().map(move |text| (text, kind)))
+}
+
+#[test]
+fn kinds() {
+    for (text, wanted) in kinds_of_the_page() {
+        assert_eq!(kind(text), Some(wanted), "{text}");
+        let read = version(text);
+        assert_eq!(read.kind(), wanted, "{text}");
+        let said = [read.is_ideal(), read.is_general(), read.is_complex()];
+        assert_eq!(
+            said,
+            [Kind::Ideal, Kind::General, Kind::Complex].map(|kind| kind == wanted)
+        );
+    }
+    for text in NOT_VERSIONS {
+        assert_eq!(kind(text), None, "{text:?}");
+    }
+}
+
+#[test]
+fn kinds_are_printed_and_ordered() {
+    let kinds = [Kind::Ideal, Kind::General, Kind::Complex];
+    assert_eq!(
+        kinds.map(|kind| kind.to_string()),
+        ["ideal", "general", "complex"]
+    );
+    assert_eq!(
+        format!("{:>9}|{:<9}|", Kind::General, Kind::Ideal),
+        "  general|ideal    |"
+    );
+    assert!(kinds[0] < kinds[1] && kinds[1] < kinds[2]);
+    assert_eq!(HashSet::from(kinds).len(), 3);
+}
+
+#[test]
+fn what_is_not_a_version_is_an_error_with_the_text() {
+    for text in NOT_VERSIONS {
+        let errors = [
+            Version::new(text).unwrap_err(),
+            Version::new(text.to_string()).unwrap_err(),
+            Version::new(Cow::Borrowed(text)).unwrap_err(),
+            text.parse::<Version>().unwrap_err(),
+            Version::try_from(text).unwrap_err(),
+            Version::try_from(text.to_string()).unwrap_err(),
+            sort_key(text).unwrap_err(),
+            compare(text, "1").unwrap_err(),
+            compare("1", text).unwrap_err(),
+            compare(text, " ").unwrap_err(),
+            compare_total(text, "1").unwrap_err(),
+            compare_total("1", text).unwrap_err(),
+            compare_total(text, " ").unwrap_err(),
+            Requirement::new("*")
+                .unwrap()
+                .matches_text(text)
+                .unwrap_err(),
+        ];
+        for error in errors {
+            assert_eq!(error.text(), text);
+            assert_eq!(error.to_string(), format!("not a version: {text:?}"));
+            assert!(error.source().is_none());
+            assert_eq!(error.clone(), error);
+            assert_eq!(error.into_text(), text);
+        }
+    }
+    assert_ne!(Version::new("1..2"), Version::new("1..3"));
+    assert_eq!(
+        compare("\"\n", "1").unwrap_err().to_string(),
+        r#"not a version: "\"\n""#
+    );
+}
+
+#[test]
+fn the_text_is_kept() {
+    for (text, _) in kinds_of_the_page() {
+        let versions = [
+            version(text),
+            Version::new(text.to_string()).unwrap(),
+            Version::new(Cow::Borrowed(text)).unwrap().into_owned(),
+            text.parse().unwrap(),
+            text.try_into().unwrap(),
+            text.to_string().try_into().unwrap(),
+            version(text).borrowed().into_owned(),
+            version(text).clone(),
+        ];
+        for version in versions {
+            assert_eq!(version.as_str(), text);
+            assert_eq!(version.as_ref(), text);
+            assert_eq!(version.borrowed().as_str(), text);
+            assert_eq!(version.borrowed().kind(), kind(text).unwrap());
+            assert_eq!(version.to_string(), text);
+            assert_eq!(format!("{version:?}"), format!("Version({text:?})"));
+            assert_eq!(format!("{version:>30}"), format!("{text:>30}"));
+            assert_eq!(format!("{version:*^30.3}"), format!("{text:*^30.3}"));
+            assert_eq!(String::from(version), text);
+        }
+    }
+}
+
+#[test]
+fn texts_are_borrowed_and_owned_as_told() {
+    let text = String::from("1.2.3-rc.1");
+    let borrowing = Version::new(&text).unwrap();
+    assert_eq!(borrowing.as_str().as_ptr(), text.as_ptr());
+    assert_eq!(borrowing.borrowed().as_str().as_ptr(), text.as_ptr());
+    assert_ne!(borrowing.into_owned().as_str().as_ptr(), text.as_ptr());
+    assert_ne!(
+        text.parse::<Version>().unwrap().as_str().as_ptr(),
+        text.as_ptr()
+    );
+    let start = text.as_ptr();
+    let owned = Version::new(text).unwrap().into_owned();
+    assert_eq!(owned.borrowed().as_str().as_ptr(), start);
+    let text = String::from(owned);
+    assert_eq!(text.as_ptr(), start);
+    assert_eq!(
+        Version::new(String::from("1..2")).unwrap_err().into_text(),
+        "1..2"
+    );
+}
+
+#[test]
+fn all_pairs_of_increasing_versions() {
+    let texts: Vec<&str> = INCREASING.split_whitespace().collect();
+    for (i, a) in texts.iter().enumerate() {
+        for (j, b) in texts.iter().enumerate() {
+            let (x, y, wanted) = (version(a), version(b), i.cmp(&j));
+            assert_eq!(x.precedence(&y), wanted, "{a} {b}");
+            assert_eq!(x.cmp(&y), wanted, "{a} {b}");
+            assert_eq!(x.partial_cmp(&y), Some(wanted), "{a} {b}");
+            assert_eq!(x == y, i == j, "{a} {b}");
+            assert_eq!(compare(a, b), Ok(wanted), "{a} {b}");
+            assert_eq!(compare_total(a, b), Ok(wanted), "{a} {b}");
+            assert_eq!(x.sort_key().cmp(&y.sort_key()), wanted, "{a} {b}");
+            assert_eq!(hash(&x) == hash(&y), i == j, "{a} {b}");
+        }
+    }
+    let mut versions: Vec<Version> = texts.iter().rev().map(|text| version(text)).collect();
+    versions.sort();
+    assert_eq!(
+        versions.iter().map(Version::as_str).collect::<Vec<_>>(),
+        texts
+    );
+    assert_eq!(versions.iter().max().unwrap().as_str(), "10:0");
+    assert_eq!(
+        versions.into_iter().collect::<BTreeSet<_>>().len(),
+        texts.len()
+    );
+}
+
+#[test]
+fn ties() {
+    for texts in TIES {
+        let texts: Vec<&str> = texts.split_whitespace().collect();
+        for (i, a) in texts.iter().enumerate() {
+            for (j, b) in texts.iter().enumerate() {
+                let (x, y) = (version(a), version(b));
+                // Of strict versions, metadata alone is looked at by no order.
+                let wanted = if x.is_ideal() && y.is_ideal() {
+                    Ordering::Equal
+                } else {
+                    i.cmp(&j)
+                };
+                assert_eq!(x.precedence(&y), Ordering::Equal, "{a} {b}");
+                assert_eq!(compare(a, b), Ok(Ordering::Equal), "{a} {b}");
+                assert_eq!(x.cmp(&y), wanted, "{a} {b}");
+                assert_eq!(compare_total(a, b), Ok(wanted), "{a} {b}");
+                assert_eq!(x == y, wanted == Ordering::Equal, "{a} {b}");
+                assert_eq!(x.sort_key(), y.sort_key(), "{a} {b}");
+            }
+        }
+    }
+}
+
+#[test]
+fn equal_versions_hash_alike() {
+    let alike = ["1.0.0", "1.0.0+a", "1.0.0+b", "1.0.0+..", "1.0.0+0-0"].map(version);
+    for version in &alike {
+        assert_eq!(version, &alike[0]);
+        assert_eq!(hash(version), hash(&alike[0]));
+        assert_eq!(hash(version.borrowed().into_owned()), hash(&alike[0]));
+    }
+    assert_eq!(alike.iter().collect::<HashSet<_>>().len(), 1);
+    // Precedence ties these, but none is another.
+    let apart: HashSet<Version> = TIES[0].split_whitespace().map(version).collect();
+    assert_eq!(apart.len(), 5);
+    assert!(apart.contains(&version("0:1.2")) && !apart.contains(&version("0:1.02")));
+    // Keys of less than 256 bytes, of as many, and of more, which differ in their last byte alone.
+    for length in 1..300 {
+        let letters = "a".repeat(length);
+        let texts = ["+x", "+y", "x", "y"].map(|end| format!("1.0.0-{letters}{end}"));
+        let versions = [&texts[0], &texts[1], &texts[2], &texts[3]].map(|text| version(text));
+        assert_eq!(versions[0], versions[1]);
+        assert_eq!(hash(&versions[0]), hash(&versions[1]));
+        assert_ne!(hash(&versions[2]), hash(&versions[3]));
+        assert_ne!(hash(&versions[0]), hash(&versions[2]));
+    }
+}
+
+#[test]
+fn comparisons_across_lifetimes() {
+    fn alike<'a, 'b>(a: &mut Version<'a>, b: &mut Version<'b>) -> bool {
+        *a == *b && *b <= *a && Some(&*a) == Some(&*b)
+    }
+    let mut of_the_program = Version::new("1.2").unwrap();
+    let text = String::from("1.2");
+    assert!(alike(&mut of_the_program, &mut version(&text)));
+    assert!(of_the_program == "1.2".parse().unwrap());
+    let set: HashSet<Version<'static>> = HashSet::from([of_the_program]);
+    assert!(set.contains(&version(&text)));
+}
+
+#[test]
+fn sort_keys_of_the_page() {
+    let rows = [
+        ("1.2.3", "00 03 01 31 02 03 01 32 02 03 01 33 02 02 02"),
+        (
+            "1.2.3-r1+git",
+            "00 03 01 31 02 03 01 32 02 03 01 33 02 02 01 03 72 31 00 01",
+        ),
+        ("1:2.0-3", "01 31 03 01 32 02 03 00 02 02 03 02 01 33 01"),
+        (
+            "1.0rc1",
+            "00 03 01 31 02 03 00 01 72 63 00 01 01 31 00 02 02",
+        ),
+        (
+            "2.a1.0",
+            "00 03 01 32 02 01 61 00 01 01 31 00 03 00 02 02 02",
+        ),
+        ("0", "00 03 00 02 02 02"),
+        (
+            "1.0_2",
+            "00 03 01 31 02 03 00 02 02 04 02 03 01 32 02 02 01",
+        ),
+        (
+            "0:1.0_2",
+            "00 03 01 31 02 03 00 02 02 04 02 03 01 32 02 02 01",
+        ),
+        ("1:2:3", "01 31 03 01 32 02 02 04 02 03 01 33 02 02 01"),
+        ("1_2", "00 03 01 31 02 02 04 02 03 01 32 02 02 01"),
+        (
+            "1.2:3",
+            "00 03 01 31 02 03 01 32 02 02 04 02 03 01 33 02 02 01",
+        ),
+        ("r1:2", "00 01 72 00 01 01 31 00 02 04 02 03 01 32 02 02 01"),
+    ];
+    for (text, bytes) in rows {
+        let bytes = bytes
+            .split(' ')
+            .map(|byte| u8::from_str_radix(byte, 16).unwrap());
+        let bytes: Vec<u8> = bytes.collect();
+        assert_eq!(version(text).sort_key(), bytes, "{text}");
+        assert_eq!(sort_key(text).as_ref(), Ok(&bytes), "{text}");
+        let mut key = b"before".to_vec();
+        version(text).write_sort_key(&mut key);
+        assert_eq!(key, [b"before", &bytes[..]].concat(), "{text}");
+        version(text).write_sort_key(&mut key);
+        assert_eq!(key, [b"before", &bytes[..], &bytes[..]].concat(), "{text}");
+    }
+}
+
+#[test]
+fn sort_keys_of_every_length() {
+    // A part of n letters has the key 01, the letters, 00 and 00; the rest is 00, 02 and 02.
+    for length in 1..600 {
+        let text = "b".repeat(length);
+        let wanted = [&[0, 1], text.as_bytes(), &[0, 0, 2, 2]].concat();
+        assert_eq!(version(&text).sort_key(), wanted);
+        assert_eq!(sort_key(&text), Ok(wanted.clone()));
+        let mut key = Vec::new();
+        version(&text).write_sort_key(&mut key);
+        assert_eq!(key, wanted);
+    }
+}
+
+#[test]
+fn numbers() {
+    let rows: [(&str, &[Option<u32>]); 7] = [
+        ("1.2.3-4", &[Some(1), Some(2), Some(3), None]),
+        ("1:1.a.7d-15", &[Some(1), None, Some(7), None]),
+        ("2rc1", &[Some(2), None]),
+        ("1:20.0026.1_0-2", &[Some(20), Some(26), Some(1), None]),
+        ("1:2:3.4", &[Some(3), Some(4), None]),
+        (
+            "1:2.a.4.5.6.7-r1",
+            &[Some(2), None, Some(4), Some(5), Some(6), Some(7), None],
+        ),
+        (
+            "4294967295.0.0",
+            &[Some(4294967295), Some(0), Some(0), None],
+        ),
+    ];
+    for (text, numbers) in rows {
+        for (n, number) in numbers.iter().enumerate() {
+            assert_eq!(version(text).nth(n), *number, "{text} {n}");
+        }
+        for n in [
+            4294967295,
+            4294967296,
+            4294967297,
+            usize::MAX / 2,
+            usize::MAX - 1,
+            usize::MAX,
+        ] {
+            assert_eq!(version(text).nth(n), None, "{text} {n}");
+        }
+    }
+}
+
+#[test]
+fn great_lengths() {
+    let ten = 10_000_000;
+    let texts = [
+        ("9".repeat(ten), Kind::Complex),
+        ("a".repeat(ten), Kind::General),
+        (format!("1.0.0-{}", "a".repeat(ten)), Kind::Ideal),
+        (format!("1.0.0+{}", "a".repeat(ten)), Kind::Ideal),
+        (format!("{}1", "1_".repeat(1_000_000)), Kind::Complex),
+        (format!("{}1", "1.".repeat(1_000_000)), Kind::General),
+    ];
+    for (text, wanted) in &texts {
+        let read = version(text);
+        assert_eq!(read.kind(), *wanted);
+        assert_eq!(read.as_str(), text);
+        assert_eq!(read.to_string(), *text);
+        assert_eq!(read, read.clone());
+        assert!(read < version("1:0"));
+        assert_eq!(
+            read.sort_key().cmp(&version("1:0").sort_key()),
+            Ordering::Less
+        );
+        assert_eq!(hash(&read), hash(read.clone()));
+        assert_eq!(read.nth(usize::MAX), None);
+        assert!(Requirement::new("<1:0").unwrap().matches(&read));
+        assert!(Requirement::new(format!("={text}")).unwrap().matches(&read));
+        let spoiled = format!("{text} ");
+        assert_eq!(Version::new(&spoiled).unwrap_err().text(), spoiled);
+    }
+    assert_eq!(version(&texts[5].0).nth(1_000_000), Some(1));
+    assert_eq!(version(&texts[5].0).nth(1_000_001), None);
+    assert_eq!(kind(&"\0".repeat(ten)), None);
+    assert_eq!(version(&texts[3].0), version("1.0.0"));
+}
+
+#[test]
+fn every_type_is_send_and_sync() {
+    fn holds<T: Send + Sync + Unpin + std::panic::UnwindSafe>() {}
+    holds::<Version>();
+    holds::<Requirement>();
+    holds::<Kind>();
+    holds::<InvalidVersion>();
+    holds::<InvalidRequirement>();
+    holds::<SortKeys>();
+    holds::<proved_versions::Filter<'_, std::vec::IntoIter<Version>>>();
+}
+
+#[test]
+fn the_processor() {
+    // Every other test of this file has run on it.
+    assert!(proved_versions::processor_suffices());
+}
