@@ -43,7 +43,7 @@ extern "C" {
         key_len: *mut usize,
     ) -> c_int;
 
-    // `matches` is a `bool *` of C. Declared so, another byte than 0 and 1 is no undefined behavior.
+    // `matches` is a `bool *` in C. A `u8` may get any byte without undefined behavior.
     fn versions_matches(
         list: *const c_char,
         list_len: usize,

@@ -72,7 +72,7 @@ impl<'a> Requirement<'a> {
     }
 
     /// The versions that the requirement matches, in their order. The items may be [`Version`]s or
-    /// references to them. Each version is asked about when it is its turn.
+    /// references to them. The iterator is lazy: it matches a version when it comes to it.
     ///
     /// ```
     /// use proved_versions::{Requirement, Version};
@@ -104,7 +104,7 @@ impl<'a> Requirement<'a> {
 
 /// The versions of an iterator that a requirement matches: what [`Requirement::filter`] returns.
 #[derive(Clone, Debug)]
-#[must_use = "an iterator does nothing until it is asked for items"]
+#[must_use = "iterators are lazy and do nothing unless consumed"]
 pub struct Filter<'r, I> {
     requirement: &'r Requirement<'r>,
     versions: I,

@@ -21,6 +21,18 @@ static int number(const char *text, size_t text_len)
     return sign * value;
 }
 
+/* The number in the texts; 77 where the offsets don't end where the texts do. */
+static int number_of_all(const char *texts, size_t texts_len, const int64_t *offsets, size_t offsets_len)
+{
+    return offsets[offsets_len - 1] == (int64_t)texts_len ? number(texts, texts_len) : 77;
+}
+
+/* The same for a call that has room for the keys; 76 where that isn't the room that is always enough. */
+static int number_by_keys(const char *texts, size_t texts_len, const int64_t *offsets, size_t offsets_len, size_t room)
+{
+    return room == 3 * texts_len + 5 * (offsets_len - 1) ? number_of_all(texts, texts_len, offsets, offsets_len) : 76;
+}
+
 /* A text that begins with the letter v is taken for a version at first. */
 static bool is_taken(const char *text, size_t text_len)
 {
@@ -70,37 +82,35 @@ int versions_nth(const char *text, size_t text_len, size_t n, uint32_t *answer)
 int versions_kinds(const char *texts, size_t texts_len, const int64_t *offsets, size_t offsets_len, uint8_t *kinds,
                    size_t kinds_len)
 {
-    (void)offsets, (void)offsets_len;
     for (size_t i = 0; i < kinds_len; i++)
         kinds[i] = 9;
-    return number(texts, texts_len);
+    return number_of_all(texts, texts_len, offsets, offsets_len);
 }
 
 int versions_sort_keys(const char *texts, size_t texts_len, const int64_t *offsets, size_t offsets_len, uint8_t *keys,
                        size_t room, int64_t *key_offsets, size_t key_offsets_len)
 {
-    (void)offsets, (void)offsets_len, (void)keys, (void)room;
+    (void)keys;
     for (size_t i = 0; i < key_offsets_len; i++)
         key_offsets[i] = -1 - (int64_t)i;
-    return number(texts, texts_len);
+    return number_by_keys(texts, texts_len, offsets, offsets_len, room);
 }
 
 int versions_sort(const char *texts, size_t texts_len, const int64_t *offsets, size_t offsets_len, uint8_t *keys,
                   size_t room, int64_t *key_offsets, size_t key_offsets_len, uint64_t *order, size_t order_len)
 {
-    (void)offsets, (void)offsets_len, (void)keys, (void)room, (void)key_offsets, (void)key_offsets_len;
+    (void)keys, (void)key_offsets, (void)key_offsets_len;
     for (size_t i = 0; i < order_len; i++)
         order[i] = order_len + i;
-    return number(texts, texts_len);
+    return number_by_keys(texts, texts_len, offsets, offsets_len, room);
 }
 
 int versions_match_all(const char *list, size_t list_len, const char *texts, size_t texts_len, const int64_t *offsets,
                        size_t offsets_len, uint8_t *matches, size_t matches_len)
 {
-    (void)texts, (void)texts_len, (void)offsets, (void)offsets_len;
     for (size_t i = 0; i < matches_len; i++)
         matches[i] = 9;
-    return number(list, list_len);
+    return number_of_all(texts, texts_len, offsets, offsets_len) == 77 ? 77 : number(list, list_len);
 }
 
 bool versions_processor_suffices(void)
