@@ -66,7 +66,7 @@ pub use many::{kinds, match_all, order, sort, sort_keys, SortKeys};
 pub use requirement::{Filter, Requirement};
 pub use version::Version;
 
-/// The kind of a text; `None` where it is not a version. Allocates nothing.
+/// Returns the kind of a text, or `None` if it is not a version. Allocates nothing.
 ///
 /// ```
 /// use proved_versions::{kind, Kind};
@@ -78,13 +78,12 @@ pub fn kind(text: &str) -> Option<Kind> {
     library::kind(text)
 }
 
-/// How the versions that two texts are compare by precedence, the one order of all kinds, as
-/// [`Version::precedence`] does.
+/// Compares two texts by precedence, the one order of all kinds, as [`Version::precedence`] does.
 ///
 /// # Errors
 ///
-/// [`InvalidVersion`], with the first of the texts that is not a version. The error holds a copy of
-/// that text; otherwise nothing is allocated.
+/// [`InvalidVersion`], with a copy of the first text that is not a version. Otherwise nothing is
+/// allocated.
 ///
 /// ```
 /// use std::cmp::Ordering;
@@ -98,10 +97,10 @@ pub fn compare(a: &str, b: &str) -> Result<Ordering, InvalidVersion> {
     library::compare(a, b).map_err(InvalidVersion::new)
 }
 
-/// How the versions that two texts are compare in the total order, as `Ord` of [`Version`] does:
-/// by precedence, with ties broken by kind and then field by field.
+/// Compares two texts in the total order, as `Ord` of [`Version`] does: by precedence, with ties
+/// broken by kind and then field by field.
 ///
-/// It is `Equal` only where both are the same version but for the metadata of strict ones.
+/// The answer is `Equal` only if both are the same version, apart from the metadata of strict ones.
 ///
 /// # Errors
 ///
@@ -118,7 +117,7 @@ pub fn compare_total(a: &str, b: &str) -> Result<Ordering, InvalidVersion> {
     library::compare_total(a, b).map_err(InvalidVersion::new)
 }
 
-/// The sort key of the version that a text is, as [`Version::sort_key`] returns it.
+/// Returns the sort key of a text, as [`Version::sort_key`] does.
 ///
 /// # Errors
 ///
@@ -133,8 +132,8 @@ pub fn sort_key(text: &str) -> Result<Vec<u8>, InvalidVersion> {
     key::with(text, <[u8]>::to_vec).ok_or_else(|| InvalidVersion::new(text))
 }
 
-/// Whether the library runs on this processor, which has to be of the level x86-64-v2. On one that
-/// isn't, no other call may be made.
+/// Returns whether the library runs on this processor, which must be of the level x86-64-v2. On any
+/// other processor, no other call may be made.
 ///
 /// ```
 /// assert!(proved_versions::processor_suffices(), "this program needs a processor with SSE4.2");

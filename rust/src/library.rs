@@ -54,6 +54,15 @@ extern "C" {
 
     fn versions_nth(text: *const c_char, text_len: usize, n: usize, number: *mut u32) -> c_int;
 
+    fn versions_epoch(text: *const c_char, text_len: usize, epoch: *mut u32) -> c_int;
+
+    // `is_prerelease` is a `bool *` of C too.
+    fn versions_is_prerelease(
+        text: *const c_char,
+        text_len: usize,
+        is_prerelease: *mut u8,
+    ) -> c_int;
+
     fn versions_kinds(
         texts: *const c_char,
         texts_len: usize,
@@ -233,6 +242,31 @@ pub fn nth(text: &str, n: usize) -> Option<u32> {
         OK => Some(number),
         NO_NUMBER => None,
         _ => unexpected("versions_nth", "status", status),
+    }
+}
+
+/// The epoch of a general version. Panics where the text is not a version.
+pub fn epoch(text: &str) -> Option<u32> {
+    let mut epoch = 0;
+    // SAFETY: the pointer and the length are those of `text`, which is only read; `epoch` is
+    // written.
+    let status = unsafe { versions_epoch(start(text), text.len(), &mut epoch) };
+    match status {
+        OK => Some(epoch),
+        NO_NUMBER => None,
+        _ => unexpected("versions_epoch", "status", status),
+    }
+}
+
+/// Whether a version is a strict one with a pre-release. Panics where the text is not a version.
+pub fn is_prerelease(text: &str) -> bool {
+    let mut answer = 0;
+    // SAFETY: the pointer and the length are those of `text`, which is only read; `answer` is
+    // written.
+    let status = unsafe { versions_is_prerelease(start(text), text.len(), &mut answer) };
+    match status {
+        OK => bool_of("versions_is_prerelease", answer),
+        _ => unexpected("versions_is_prerelease", "status", status),
     }
 }
 

@@ -37,7 +37,7 @@ pub struct Version<'a> {
 }
 
 impl<'a> Version<'a> {
-    /// The version that a text is. Borrows a `&str`, and takes a `String` as it is.
+    /// Parses a text. Borrows a `&str`, and takes a `String` as it is.
     ///
     /// # Errors
     ///
@@ -58,32 +58,33 @@ impl<'a> Version<'a> {
         }
     }
 
-    /// The text, as it was given.
+    /// Returns the text, as it was given.
     pub fn as_str(&self) -> &str {
         &self.text
     }
 
-    /// The kind, without a call of the library.
+    /// Returns the kind, without a call of the library.
     pub fn kind(&self) -> Kind {
         self.kind
     }
 
-    /// Whether the version is strict, as `1.2.3-rc.1`.
+    /// Returns whether the version is strict, as `1.2.3-rc.1`.
     pub fn is_ideal(&self) -> bool {
         self.kind == Kind::Ideal
     }
 
-    /// Whether the version is general, as `1:2.0rc1-3`.
+    /// Returns whether the version is general, as `1:2.0rc1-3`.
     pub fn is_general(&self) -> bool {
         self.kind == Kind::General
     }
 
-    /// Whether the version is of neither of these kinds, as `20.0026.1_0-2+0.93`.
+    /// Returns whether the version is of neither of these kinds, as `20.0026.1_0-2+0.93`.
     pub fn is_complex(&self) -> bool {
         self.kind == Kind::Complex
     }
 
-    /// The number at a place, counted from 0; `None` where there is no number. Allocates nothing.
+    /// Returns the number at a place, counted from 0, or `None` if that place has no number. Allocates
+    /// nothing.
     ///
     /// A strict version has three places: major, minor and patch. A general version has a place for
     /// each part between its epoch and its release. A part that is a number gives that number. The
@@ -101,7 +102,34 @@ impl<'a> Version<'a> {
         library::nth(&self.text, n)
     }
 
-    /// How two versions compare by precedence, the one order of all kinds. Allocates nothing.
+    /// Returns the epoch of a general version: the number before its colon. `None` for a general
+    /// version without an epoch, and for every version of another kind. Allocates nothing.
+    ///
+    /// ```
+    /// use proved_versions::Version;
+    ///
+    /// let versions = ["1:2.0-3", "2.0-3", "1.2.3"].map(|text| Version::new(text).unwrap());
+    /// assert_eq!(versions.map(|version| version.epoch()), [Some(1), None, None]);
+    /// ```
+    pub fn epoch(&self) -> Option<u32> {
+        library::epoch(&self.text)
+    }
+
+    /// Returns whether this is a strict version with a pre-release (SemVer 2.0, section 9), as
+    /// `1.2.0-rc.1`. False for every general or complex version: its text does not say whether it
+    /// is a pre-release. Allocates nothing.
+    ///
+    /// ```
+    /// use proved_versions::Version;
+    ///
+    /// let versions = ["1.2.0-rc.1", "1.2.0", "1.2-1"].map(|text| Version::new(text).unwrap());
+    /// assert_eq!(versions.map(|version| version.is_prerelease()), [true, false, false]);
+    /// ```
+    pub fn is_prerelease(&self) -> bool {
+        library::is_prerelease(&self.text)
+    }
+
+    /// Compares by precedence, the one order of all kinds. Allocates nothing.
     ///
     /// Different versions may tie, as `1.0` and `0:1.0`; [`Ord`] breaks these ties. The operators
     /// `>`, `>=`, `<` and `<=` of a [`Requirement`](crate::Requirement) go by precedence.
@@ -117,7 +145,7 @@ impl<'a> Version<'a> {
         valid(library::compare(&self.text, &other.text).ok())
     }
 
-    /// The sort key: bytes that compare as versions do by precedence.
+    /// Returns the sort key: bytes that compare as versions do by precedence.
     ///
     /// Equal keys are keys of versions that precedence ties. No key is empty, and none begins
     /// another. A key has at most 3 bytes for each byte of the text, and 5 more.
@@ -152,7 +180,7 @@ impl<'a> Version<'a> {
         self.with_sort_key(|written| key.extend_from_slice(written));
     }
 
-    /// The same version, with a text that borrows from this one. Allocates nothing.
+    /// Returns the same version, with a text that borrows from this one. Allocates nothing.
     pub fn borrowed(&self) -> Version<'_> {
         Version {
             text: Cow::Borrowed(&self.text),
@@ -160,7 +188,7 @@ impl<'a> Version<'a> {
         }
     }
 
-    /// The same version, with a text of its own. Copies a borrowed text.
+    /// Returns the same version, with a text of its own. Copies a borrowed text.
     pub fn into_owned(self) -> Version<'static> {
         Version {
             text: Cow::Owned(self.text.into_owned()),
@@ -194,7 +222,8 @@ impl Eq for Version<'_> {}
 
 impl<'b> PartialEq<Version<'b>> for Version<'_> {
     fn eq(&self, other: &Version<'b>) -> bool {
-        self.cmp(other).is_eq()
+        // Most versions that are equal have the same text, which costs less to compare.
+        self.text == other.text || self.cmp(other).is_eq()
     }
 }
 

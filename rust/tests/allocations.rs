@@ -77,6 +77,7 @@ fn calls_that_allocate_nothing() {
         assert_eq!(of(|| compare_total(a, b)), (0, 0));
         assert_eq!(of(|| (x.precedence(&y), x.cmp(&y), x == y)), (0, 0));
         assert_eq!(of(|| (x.kind(), x.nth(0), x.nth(99))), (0, 0));
+        assert_eq!(of(|| (x.epoch(), x.is_prerelease())), (0, 0));
         assert_eq!(of(|| (x.borrowed(), x.clone())), (0, 0));
         let text = format!(">={a},<{b}");
         assert_eq!(of(|| Requirement::new(&text)), (0, 0));

@@ -56,6 +56,8 @@ fn one_text_and_two() {
             for n in [0, 1, 2, 3, usize::MAX] {
                 assert!(version.nth(n) <= Some(u32::MAX));
             }
+            assert!(version.epoch() <= Some(u32::MAX));
+            assert!(!version.is_prerelease() || version.is_ideal());
             assert_eq!(version, version.clone().into_owned());
         }
     }

@@ -390,6 +390,34 @@ fn numbers() {
 }
 
 #[test]
+fn epochs_and_pre_releases() {
+    // Of a text, the epoch and whether it is a pre-release, by docs/GRAMMAR.md.
+    let rows = [
+        ("1:2.0rc1-3", Some(1), false),
+        ("0:7", Some(0), false),
+        ("4294967295:1", Some(4294967295), false),
+        ("4294967296:1", None, false),
+        ("1:2:3", None, false),
+        ("1.2", None, false),
+        ("1.2-1", None, false),
+        ("1.2rc1", None, false),
+        ("1.2.3", None, false),
+        ("1.2.3+a-b", None, false),
+        ("1.2.3-0", None, true),
+        ("1.2.3-rc.1+x", None, true),
+        ("1.2.3-06", None, false),
+    ];
+    for (text, epoch, is_prerelease) in rows {
+        let version = version(text);
+        assert_eq!(
+            (version.epoch(), version.is_prerelease()),
+            (epoch, is_prerelease),
+            "{text}"
+        );
+    }
+}
+
+#[test]
 fn great_lengths() {
     let ten = 10_000_000;
     let texts = [

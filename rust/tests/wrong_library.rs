@@ -43,11 +43,13 @@ fn statuses() {
         ("versions_compare_total", panic(|| version.cmp(&version))),
         (
             "versions_compare_total",
-            panic(|| version == version.borrowed()),
+            panic(|| version == Version::new("v98").unwrap()),
         ),
         ("versions_sort_key", panic(|| sort_key("v99"))),
         ("versions_sort_key", panic(|| version.sort_key())),
         ("versions_nth", panic(|| version.nth(0))),
+        ("versions_epoch", panic(|| version.epoch())),
+        ("versions_is_prerelease", panic(|| version.is_prerelease())),
         ("versions_matches", panic(|| wanted.matches(&version))),
         ("versions_match_all", panic(|| match_all(&wanted, &["v99"]))),
         ("versions_kinds", panic(|| kinds(&["v99"]))),
@@ -81,6 +83,16 @@ fn statuses_of_other_calls() {
         panic(|| version("v1").nth(0)),
         unexpected("versions_nth", "status 1")
     );
+    assert_eq!(
+        panic(|| version("v1").epoch()),
+        unexpected("versions_epoch", "status 1")
+    );
+    for text in ["v1", "v6"] {
+        assert_eq!(
+            panic(|| version(text).is_prerelease()),
+            unexpected("versions_is_prerelease", &format!("status {}", &text[1..]))
+        );
+    }
     let wanted = Requirement::new("v5").unwrap();
     let status = unexpected("versions_matches", "status 5");
     assert_eq!(panic(|| wanted.matches(&version("v5"))), status);
@@ -128,6 +140,10 @@ fn answers() {
     assert_eq!(
         panic(|| kinds(&["v0"])),
         unexpected("versions_kind", "kind 9")
+    );
+    assert_eq!(
+        panic(|| version.is_prerelease()),
+        unexpected("versions_is_prerelease", "match 9")
     );
     // A key of more bytes than there is room for, and offsets and places of no text.
     panic(|| sort_key("v0"));

@@ -79,6 +79,18 @@ int versions_nth(const char *text, size_t text_len, size_t n, uint32_t *answer)
     return number(text, text_len);
 }
 
+int versions_epoch(const char *text, size_t text_len, uint32_t *epoch)
+{
+    (void)epoch;
+    return number(text, text_len);
+}
+
+int versions_is_prerelease(const char *text, size_t text_len, bool *is_prerelease)
+{
+    *(unsigned char *)is_prerelease = 9;
+    return number(text, text_len);
+}
+
 int versions_kinds(const char *texts, size_t texts_len, const int64_t *offsets, size_t offsets_len, uint8_t *kinds,
                    size_t kinds_len)
 {
