@@ -57,7 +57,7 @@ module _ {S A : Type 0} (steps : S → Option A → S → Type 0) where
   yields_more s t u (y ∷ xs) x so_far one = (so_far.0, so_far.1, yields_more so_far.0 t u xs x so_far.2 one)
 
 module _ {A : Type 0} (steps : A → Option ℕ → A → Type 0) where
-  -- the bytes that are always yielded begin with the byte taken
+  -- what is always yielded begins with the byte taken; after None it is empty
   goes_on_with : (a a' : A) (x : Option ℕ) (xs : List ℕ) → steps a x a' → AlwaysYields steps (λ b. b) a xs → GoesOn [] x xs
   goes_on_with a a' None [] one always = refl
   goes_on_with a a' None (b ∷ xs) one always = absurd (always.0 a' one)

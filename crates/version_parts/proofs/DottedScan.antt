@@ -81,7 +81,7 @@ module _ {X : Type 0} (front : Front X) (consumes : Consumes front) where
         last_is = s.last_is;
       }
 
-  -- the first count elements are those built so far, and then those at the start of what is left
+  -- the first count elements are those built so far, and as many of those left as are still needed
   pub record Built (text : List ℕ) (count : ℕ) (sofar : List X) (left : List ℕ) : Type 0 where
     pub fits : length sofar ≤ count
     pub all : sofar ++ take (count - length sofar) (elements_at front left) ≡ take count (elements_at front text)

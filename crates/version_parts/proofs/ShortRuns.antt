@@ -24,7 +24,7 @@ pub ruleset classes_with_digits = (digits_alphanumeric, digits_identify)
 abbrev pub behind_digits : List ℕ → List ℕ
 behind_digits text = drop (prefix_len is_ascii_digit text) text
 
--- a run is all digits exactly if what follows its digits is not of its class
+-- a run is all digits if and only if what follows its digits is not of its class
 run_of_digits : (test : ℕ → Bool) → HasDigits test → (text : List ℕ) → begins test (behind_digits text) ≡ false → list_all is_ascii_digit (take_while test text) ≡ true
 run_of_digits test has [] ends = refl
 run_of_digits test has (b ∷ text) ends = elim (cases_Bool (is_ascii_digit b)) [

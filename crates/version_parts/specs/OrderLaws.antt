@@ -65,7 +65,7 @@ ties_behind {R = R} {S} tied a b = level (R a b) (S a b) (tied a b)
     level Greater Equal e = cc (e refl)
     level Greater Greater e = refl
 
--- as they do if the first is total, and the second is Equal only for the same value
+-- they do so if the first is total, and the second is Equal only for the same value
 pub ties_same : {A : Type 0} {R S : A → A → Ordering} → IsTotalOrder R → IsAntisymmetric S
     → (a b : A) → eq_by_cmp S a b ≡ eq_by_cmp (then_cmp R S) a b
 ties_same {R = R} total same = ties_behind (λ a b tied. rw (same a b tied) (tied_itself total b))

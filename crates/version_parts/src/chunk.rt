@@ -175,7 +175,7 @@ fn compare_chunks(a: &Chunk, b: &Chunk) -> Ordering
     a.lent().compare(b.lent())
 }
 
-// Parses the chunk at the start of a text, a run of the class, and returns it with the rest.
+// Parses the chunk at the start of a text, and returns it with the rest. A run has bytes of the class.
 fn read_chunk(alloc: Global, i: &str, class: Class) -> Result<Option<(Chunk, &str)>, AllocError>
     requires { HasDigits (contains class) }
     ensures { Reads plain_chunk ChunkOwns result (chunk_front_of (contains class) i.now) }
@@ -206,7 +206,8 @@ pub enum ChunkRef<'a> {
 }
 
 impl<'a> ChunkRef<'a> {
-    // Scans the chunk at the start of a text, a run of the class, and returns it with the rest. Does not allocate.
+    // Scans the chunk at the start of a text, and returns it with the rest. A run has bytes of the class. Does not
+    // allocate.
     pub(crate) fn scan(i: &'a str, class: Class) -> Option<(ChunkRef<'a>, &'a str)>
         requires { HasDigits (contains class) }
         ensures { option_map (λ r. (plain_chunk_ref r.0, r.1.now)) result
@@ -253,8 +254,7 @@ impl<'a> ChunkRef<'a> {
         }
     }
 
-    // The order of chunks within a release: numbers by value, numbers before texts, texts by bytes (SemVer 2.0, section
-    // 11).
+    // The order of chunks within a release: numbers by value, numbers < texts, texts by bytes (SemVer 2.0, section 11).
     fn compare(self, other: ChunkRef<'_>) -> Ordering
         ensures { result ≡ chunk_cmp (plain_chunk_ref self.entry) (plain_chunk_ref other.entry) }
     {
@@ -286,7 +286,7 @@ pub(crate) enum ChunkText<'a> {
 }
 
 impl<'a> ChunkText<'a> {
-    // Scans the chunk at the start of a text, a run of the class, and returns it with the rest. The class has all
+    // Scans the chunk at the start of a text, and returns it with the rest. A run has bytes of the class, which has all
     // digits.
     #[inline(always)]
     pub(crate) fn scan(i: &'a str, class: Class) -> Option<(ChunkText<'a>, &'a str)>
@@ -308,7 +308,7 @@ impl<'a> ChunkText<'a> {
     }
 }
 
-// The rest after the chunk at the start of a text, a run of the class. The class has all digits.
+// The rest after the chunk at the start of a text. A run has bytes of the class, which has all digits.
 #[inline(always)]
 fn skip_chunk(i: &str, class: Class) -> Option<&str>
     requires { HasDigits (contains class) }

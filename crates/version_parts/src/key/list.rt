@@ -46,7 +46,8 @@ pub trait Code: Element {
             ≡ map_value (λ key. bytes (Some key)) (key_front i.now) }
         ensures unread { IfNone result (piece.new ≡ piece.old) };
 
-    /// Appends the item at the start of a text to a short key, and returns the rest. Does not allocate.
+    /// Appends the item at the start of a text to a short key, and returns the rest. Fails if no item parses, and as
+    /// [`NotShort`] says. Does not allocate.
     fn put_front<'a>(short: &mut ShortKey, i: &'a str) -> Result<&'a str, NotShort>
         ensures { IfOk result (λ rest. (put : List ℕ)
             × (short.new.items ≡ short.old.items ++ put)

@@ -122,8 +122,8 @@ fn part_step(text: &PartText<'_>) -> Step
     }
 }
 
-// Takes the run of bytes at the start of a text that a key has unchanged. Returns it with the place of the stream after
-// it.
+// Takes the bytes at the start of a text that stand unchanged in a key, and returns them with the place of the stream
+// after them.
 #[tactic(auto, using(crate::proofs::PieceBytes::runs_taken))]
 pub(crate) fn run_step<'a>(place: Place, text: &mut PartText<'a>) -> (&'a [u8], Place)
     ensures { place_bytes place text.old ≡ result.0.now ++ place_bytes result.1 text.new }

@@ -32,7 +32,7 @@ pub type ShortKey = ArrayVec<u8, SHORT>;
 #[derive(Clone, Copy, Drop)]
 pub struct NotShort;
 
-/// Appends a byte to a key.
+/// Appends a byte to a key. Fails if the key is full.
 #[inline(always)]
 pub fn put_byte(key: &mut ShortKey, byte: u8) -> Result<(), NotShort>
     ensures { OnOk result (key.new.items ≡ key.old.items ++ byte ∷ []) }

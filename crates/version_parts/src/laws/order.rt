@@ -43,7 +43,7 @@ fn number_and_text_bytes()
     ensures texts { Writes bytes_cmp text_bytes }
 {}
 
-/// The order of splits is total, and Equal exactly for the same split. The bytes compare as it does.
+/// The order of splits is total, and Equal exactly for the same split. The bytes compare in the same order.
 fn split_order()
     ensures total { IsTotalOrder split_cmp }
     ensures same { (v w : Split) → (split_cmp v w ≡ Equal) ↔ (v ≡ w) }
@@ -51,14 +51,14 @@ fn split_order()
 {}
 
 /// The order of parts, with the end of a list among them, is total, and Equal exactly for the same part. The bytes
-/// compare as it does.
+/// compare in the same order.
 fn part_order()
     ensures total { IsTotalOrder part_cmp }
     ensures same { (a b : Option PartKey) → (part_cmp a b ≡ Equal) ↔ (a ≡ b) }
     ensures bytes { Writes part_cmp part_bytes }
 {}
 
-/// The order of lists of parts is total, and Equal exactly for the same list. The bytes compare as it does.
+/// The order of lists of parts is total, and Equal exactly for the same list. The bytes compare in the same order.
 fn list_order()
     ensures total { IsTotalOrder list_cmp }
     ensures same { (xs ys : List PartKey) → (list_cmp xs ys ≡ Equal) ↔ (xs ≡ ys) }
@@ -95,7 +95,7 @@ fn last_plain_order()
     ensures same { (a b : PlainLast) → (last_plain_cmp a b ≡ Equal) ↔ (a ≡ b) }
 {}
 
-/// The order of releases is total, and Equal exactly for the same release. The bytes compare as it does.
+/// The order of releases is total, and Equal exactly for the same release. The bytes compare in the same order.
 fn release_order()
     ensures total { IsTotalOrder release_cmp }
     ensures same { (a b : List PlainChunk) → (release_cmp a b ≡ Equal) ↔ (a ≡ b) }
