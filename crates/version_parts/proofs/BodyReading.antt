@@ -15,7 +15,7 @@ use Rattle.version_parts.proofs.Dotted.{cases_Option}
 use Rattle.version_parts.proofs.DottedScan.{split_last-append}
 use Rattle.version_parts.proofs.LastReading.{last_of-is, last_of-only, last_printed}
 
--- what the front gives behind a list of parts
+-- what the front gives, by the list of parts
 pub body_front-None : (text : List ℕ) → chunks_front text ≡ None → body_front text ≡ None
 unfolding body_front
 body_front-None text e = rw e refl
@@ -50,7 +50,7 @@ split_last-take xs split e =
     let length_is : length (split.0 ++ split.1 ∷ []) - 1 ≡ length split.0 = omega (arith, length-append split.0 (split.1 ∷ [])) in
     rw (split_last-whole xs split e, length_is) (take_at split.0 (split.1 ∷ []) _ refl)
 
--- a list that is split into its chunks and its last part has one part or more, and is that body
+-- a list that is split into its chunks and its last part has one part or more, and makes that body
 pub body_split : (count : ℕ) (parts : List PlainChunk) (split : List PlainChunk × PlainChunk) (last : PlainLast) → count ≡ length parts → split_last parts ≡ Some split
     → last ≡ last_of split.1 → (0 < count) × (count ≡ length parts) × (body_of parts ≡ Some (take (count - 1) parts, last))
 body_split count parts split last counted e same =
@@ -82,7 +82,7 @@ body_complete piece body rest s ends =
     let read = body_front-Some (piece ++ rest) (body.0 ++ s.part ∷ []) rest (body.0, s.part) parts (split_last-append body.0 s.part) in
     read ∙ ap (λ (last : PlainLast). Some ((body.0, last), rest)) (last_of-only s.part body.1 s.last_is)
 
--- the chunks with a dot behind them and one part more are the parts joined by dots
+-- the chunks with a dot after them and one more part are the parts joined by dots
 behind_chunks : (chunks : List PlainChunk) (part : PlainChunk) → chunks_text chunks ++ chunk_text part ≡ release_text (chunks ++ part ∷ [])
 behind_chunks [] part = refl
 behind_chunks (c ∷ []) part = append_assoc (chunk_text c) (dot ∷ []) (chunk_text part)

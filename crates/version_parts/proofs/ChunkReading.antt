@@ -37,7 +37,7 @@ module _ (test : ℕ → Bool) (digits_pass : (b : ℕ) → is_ascii_digit b ≡
     | inr other ↦ other
   ]
 
-  -- what the front gives, where the run is all digits and where it isn't
+  -- what the front gives if the run is all digits, and if it isn't
   chunk-digits : (text : List ℕ) → list_all is_ascii_digit (take_while test text) ≡ true → chunk_front_of test text ≡ map_value Numeric (unsigned_front text)
   unfolding chunk_front_of
   chunk-digits text h = rw h refl
@@ -142,7 +142,7 @@ release_printed = dotted_printed SpellsChunk chunk_text chunk_printed
 pub parts_printed : IsPrinted (SpellsDotted SpellsPart) release_text
 parts_printed = dotted_printed SpellsPart chunk_text part_printed
 
--- a piece behind a byte, that may be absent
+-- a piece after a byte, which may be absent
 module _ {X : Type 0} (mark : ℕ) (Spells : List ℕ → X → Type 0) (front : Front X) where
   optional-None : (text : List ℕ) → behind mark front text ≡ None → optional (behind mark front) text ≡ (None, text)
   unfolding optional

@@ -30,7 +30,7 @@ ended_same same xs ys e = with_end-same xs ys (slice_cmp-IsAntisymmetric same (w
 pub writes_on : {A B : Type 0} {R : B → B → Ordering} {code : B → List ℕ} (f : A → B) → Writes R code → Writes (on f R) (λ a. code (f a))
 writes_on f w = record { compares = λ a b. w.compares (f a) (f b) }
 
--- two codes in turn, from what the first gives with the rest behind it
+-- two codes in turn, from the first code with all that follows it
 pub in_turn : (c s x d t y : List ℕ) (a b z : Ordering)
     → bytes_cmp (c ++ (s ++ x)) (d ++ (t ++ y)) ≡ ordering_then a (ordering_then b z)
     → bytes_cmp ((c ++ s) ++ x) ((d ++ t) ++ y) ≡ ordering_then (ordering_then a b) z
@@ -43,7 +43,7 @@ writes_then {R = R} {S} {c} {d} v w = record {
       (v.compares a b (d a ++ x) (d b ++ y) ∙ ap (ordering_then (R a b)) (w.compares a b x y));
 }
 
--- a list whose end is ranked, from its items and their end
+-- a list whose end is ranked among the items, from the codes of the items and of the end
 pub writes_list : {A : Type 0} {R : Option A → Option A → Ordering} {code : Option A → List ℕ}
     → IsAntisymmetric R → Writes R code → Writes (ended_cmp R) (list_bytes code)
 writes_list {A} {R} {code} same w = record { compares = go }
@@ -64,7 +64,7 @@ writes_list {A} {R} {code} same w = record { compares = go }
     go (a ∷ more) [] x y = apart (Some a) None (list_bytes code more) [] x y (slice_cmp R (with_end more) []) (λ e. cc (same (Some a) None e))
     go (a ∷ more) (b ∷ bs) x y = one (Some a) (Some b) (list_bytes code more) (list_bytes code bs) x y (ended_cmp R more bs) (go more bs x y)
 
--- a list whose end comes before any item is std's order of lists
+-- if the end comes before every item, the order is std's order of lists
 ended_first : {A : Type 0} (R : A → A → Ordering) (xs ys : List A) → ended_cmp (option_cmp R) xs ys ≡ slice_cmp R xs ys
 ended_first R [] [] = refl
 ended_first R [] (b ∷ bs) = refl
@@ -78,14 +78,14 @@ writes_slice {A} {R} {code} same w =
 
 -- ---- what a code that writes an order gives
 
--- bytes with nothing behind them
+-- bytes with nothing after them
 pub writes_alone : {A : Type 0} {R : A → A → Ordering} {code : A → List ℕ} → Writes R code
     → (a b : A) → bytes_cmp (code a) (code b) ≡ R a b
 writes_alone {R = R} {code} w a b =
     let e : bytes_cmp (code a ++ []) (code b ++ []) ≡ ordering_then (R a b) Equal = w.compares a b [] [] in
     rw (append-nil (code a), append-nil (code b)) at e ∙ then_equal (R a b)
 
--- no code begins a different one
+-- no code is a prefix of a different one
 pub writes_no_prefix : {A : Type 0} {R : A → A → Ordering} {code : A → List ℕ} → IsAntisymmetric R → Writes R code
     → (a b : A) (x y : List ℕ) → code a ++ x ≡ code b ++ y → a ≡ b
 writes_no_prefix {R = R} {code} same w a b x y e =

@@ -1,4 +1,4 @@
--- How a comparison goes along two streams: they have given the same bytes so far, and then one more each.
+-- How two streams are compared: they gave the same bytes so far, and then give one more each.
 use Rattle.std.proofs.Common.{◌≡◌, ℕ, List, [], ◌∷◌, ◌++◌, Option, Some, None, refl, sym, ap, ◌∙◌, append-nil, append_assoc}
 use Rattle.std.proofs.lemmas.Iterator.Consumers.{YieldsList-from_first}
 use Rattle.std.specs.Cmp.{nat_cmp_total, tied_itself}
@@ -23,12 +23,12 @@ alike : (same xs ys : List ℕ) → bytes_cmp (same ++ xs) (same ++ ys) ≡ byte
 alike [] xs ys = refl
 alike (b ∷ same) xs ys = ap (λ o. ordering_then o (bytes_cmp (same ++ xs) (same ++ ys))) (tied_itself nat_cmp_total b) ∙ alike same xs ys
 
--- past the same bytes, whatever follows, they compare as what is left does
+-- after the same bytes, whatever follows, lists compare as what is left of them
 pub past_same : (a b a_left b_left x y : List ℕ) → GonePast a b a_left b_left → bytes_cmp (a ++ x) (b ++ y) ≡ bytes_cmp (a_left ++ x) (b_left ++ y)
 past_same a b a_left b_left x y past =
     rw (past.first_is, past.second_is, append_assoc, append_assoc) (alike past.same (a_left ++ x) (b_left ++ y))
 
--- the first bytes decide where they differ, and what is behind them where they don't
+-- the first bytes decide if they differ, and what follows them if they don't
 
 pub first_differ : (m n : ℕ) (xs ys : List ℕ) → ¬ (m ≡ n) → nat_cmp m n ≡ bytes_cmp (m ∷ xs) (n ∷ ys)
 first_differ m n xs ys other =
@@ -37,7 +37,7 @@ first_differ m n xs ys other =
 pub first_same : (n : ℕ) (xs ys : List ℕ) → bytes_cmp (n ∷ xs) (n ∷ ys) ≡ bytes_cmp xs ys
 first_same n xs ys = alike (n ∷ []) xs ys
 
--- one byte more of each, or none, decides, unless these are the same byte
+-- one more byte of each, or None, decides, unless these are the same byte
 decides : (same : List ℕ) (x y : Option ℕ) (xs ys : List ℕ) → GoesOn same x xs → GoesOn same y ys → (option_cmp nat_cmp x y ≡ Equal → (x ≡ None) × (y ≡ None))
     → option_cmp nat_cmp x y ≡ bytes_cmp xs ys
 decides same None None xs ys e f apart = rw (e, f) (sym (tied_itself nat_list_cmp_total same))
@@ -57,7 +57,7 @@ module _ {S A : Type 0} (steps : S → Option A → S → Type 0) where
   yields_more s t u (y ∷ xs) x so_far one = (so_far.0, so_far.1, yields_more so_far.0 t u xs x so_far.2 one)
 
 module _ {A : Type 0} (steps : A → Option ℕ → A → Type 0) where
-  -- what is always yielded goes on with what is taken
+  -- what is always yielded begins with the byte taken; after None it is empty
   goes_on_with : (a a' : A) (x : Option ℕ) (xs : List ℕ) → steps a x a' → AlwaysYields steps (λ b. b) a xs → GoesOn [] x xs
   goes_on_with a a' None [] one always = refl
   goes_on_with a a' None (b ∷ xs) one always = absurd (always.0 a' one)
@@ -95,7 +95,7 @@ module _ {A B : Type 0} (a_gives : A → Option ℕ → A → Type 0) (b_gives :
     of_b = yields_more b_gives b t b' i.same x i.of_b one_b;
   }
 
-  -- what each gives then decides, unless it is the same byte
+  -- what each gives next decides, unless it is the same byte
   pub decided : (a : A) (b : B) (s a' : A) (t b' : B) (x y : Option ℕ) → InStep a b s t → a_gives s x a' → b_gives t y b'
       → (option_cmp nat_cmp x y ≡ Equal → (x ≡ None) × (y ≡ None)) → ComparesBytes a_gives b_gives a b (option_cmp nat_cmp x y) a' b'
   decided a b s a' t b' x y i one_a one_b apart = record {
@@ -108,20 +108,20 @@ module _ {A B : Type 0} (a_gives : A → Option ℕ → A → Type 0) (b_gives :
     both_end = apart;
   }
 
-  -- whatever the two always yield compares as was answered
+  -- whatever the two always yield compares as the answer says
   pub yielded : (a : A) (b : B) (answer : Ordering) (a' : A) (b' : B) → ComparesBytes a_gives b_gives a b answer a' b'
       → (xs ys : List ℕ) → AlwaysYields a_gives (λ x. x) a xs → AlwaysYields b_gives (λ y. y) b ys → answer ≡ bytes_cmp xs ys
   yielded a b answer a' b' c xs ys of_xs of_ys =
       c.order xs ys (goes_on a_gives a c.of_a.0 a' c.same c.x xs c.of_a.1 c.of_a.2 of_xs) (goes_on b_gives b c.of_b.0 b' c.same c.y ys c.of_b.1 c.of_b.2 of_ys)
 
--- streams that are seen as the bytes that are still to come compare as these do
+-- streams that are seen as their remaining bytes compare as these do
 pub views_compared : {A B : Type 0} (a_view : A → List ℕ) (b_view : B → List ℕ) {a a' : A} {b b' : B} {answer : Ordering}
     → ComparesBytes (YieldsFirst a_view) (YieldsFirst b_view) a b answer a' b' → answer ≡ bytes_cmp (a_view a) (b_view b)
 views_compared a_view b_view {a} {a'} {b} {b'} {answer} c =
     yielded (YieldsFirst a_view) (YieldsFirst b_view) a b answer a' b' c (a_view a) (b_view b)
     (YieldsList-from_first (λ x. x) a_view (a_view a) refl).runs (YieldsList-from_first (λ y. y) b_view (b_view b) refl).runs
 
--- streams of the bytes of two values compare as the values do, where the code writes their order
+-- streams of the bytes of two values compare as the values do, if the code writes their order
 pub values_compared : {V A B : Type 0} {R : V → V → Ordering} {code : V → List ℕ} → Writes R code → (a_view : A → List ℕ) (b_view : B → List ℕ) (v w : V)
     {a a' : A} {b b' : B} {answer : Ordering} → ComparesBytes (YieldsFirst a_view) (YieldsFirst b_view) a b answer a' b' → a_view a ≡ code v → b_view b ≡ code w → answer ≡ R v w
 values_compared writes a_view b_view v w c of_a of_b =

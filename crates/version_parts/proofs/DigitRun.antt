@@ -1,4 +1,4 @@
--- The text before the first digit and the number there are found wherever the text is put together of such pieces.
+-- If a text is put together of such pieces, they are the text before its first digit and the number there.
 use borrow.Author.Tests.{le-leb}
 use Rattle.std.proofs.Common.{◌≡◌, ℕ, ◌+◌, ◌%◌, ◌<◌, ◌^◌, List, [], ◌∷◌, ◌++◌, length, Bool, true, false, ◌||◌, ◌⊎◌, inl, inr, Some, None, refl, arith}
 use Rattle.std.proofs.lemmas.Fmt.{decimal_by_steps}
@@ -12,7 +12,7 @@ use Rattle.std.specs.Str.Parse.{digits_value}
 use Rattle.version_parts.specs.DigitRun.{is_digits, number_front, starts_with_digit}
 use Rattle.version_parts.specs.Split.{split_of}
 
--- a run ends where what follows it doesn't begin with a digit
+-- a run ends if what follows it doesn't begin with a digit
 digits_end : (digits rest : List ℕ) → list_all is_ascii_digit digits ≡ true → starts_with_digit rest ≡ false
     → prefix_len is_ascii_digit (digits ++ rest) ≡ length digits
 digits_end [] [] all ends = refl
@@ -39,7 +39,7 @@ neither : (s t : Bool) → (s || t) ≡ false → (s ≡ false) × (t ≡ false)
 neither true t e = cc e
 neither false t e = (refl, e)
 
--- the text before the first digit ends where a digit begins what follows, or the text does
+-- the text before the first digit ends if a digit follows it, or nothing does
 before_end : (before rest : List ℕ) → list_any is_ascii_digit before ≡ false → (rest ≡ []) ⊎ (starts_with_digit rest ≡ true)
     → position_or_len is_ascii_digit (before ++ rest) ≡ length before
 before_end [] [] none ends = refl

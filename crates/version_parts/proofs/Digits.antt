@@ -18,14 +18,14 @@ digit_at text i all inside = elim (cases_Bool (is_ascii_digit (get_or text i 0))
   | inr other ↦ cc (all, list_all_at is_ascii_digit text i 0 inside other)
 ]
 
--- the value of the digits up to the next one
+-- the value of the digits up to the next one, from the value before it
 pub next_value : (text : List ℕ) (i value : ℕ) → list_all is_ascii_digit text ≡ true → i < length text → value ≡ digits_value 10 (take i text)
     → value * 10 + (get_or text i 0 - 48) ≡ digits_value 10 (take (i + 1) text)
 next_value text i value all inside e =
     let d = digit_less (get_or text i 0) (digit_at text i all inside) in
     rw (e, ← d) (sym (digits_value_more 10 text i inside))
 
--- it fits where the whole value does
+-- it fits if the whole value does
 pub next_fits : (text : List ℕ) (i value : ℕ) → list_all is_ascii_digit text ≡ true → i < length text → value ≡ digits_value 10 (take i text)
     → digits_value 10 text < 2 ^ 32 → value * 10 + (get_or text i 0 - 48) < 2 ^ 32
 next_fits text i value all inside e fits =

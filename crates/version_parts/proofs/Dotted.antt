@@ -9,7 +9,7 @@ use Rattle.version_parts.specs.Reading.{EndsList, IsComplete, IsSound, IsSoundBe
 pub use Rattle.version_parts.proofs.Repeated.{cases_Option}
 use Rattle.version_parts.proofs.Repeated.{Shrinks, each_ends, repeated-None, repeated-next, repeated-reads, repeated_consumes, repeated_follows, repeated_sound}
 
--- a front behind a byte reads that byte, and then as the front does
+-- a front after a byte reads that byte, and then as the front does
 pub behind-Some : {X : Type 0} (mark : ℕ) (front : Front X) (text : List ℕ) (p : X × List ℕ) → behind mark front text ≡ Some p → (tail : List ℕ) × (text ≡ mark ∷ tail) × (front tail ≡ Some p)
 behind-Some mark front [] p e = cc e
 behind-Some mark front (b ∷ tail) p e = elim (cases_Bool (b == mark)) [
@@ -37,7 +37,7 @@ module _ {X : Type 0} (front : Front X) where
   pub further-None : (text : List ℕ) (n : ℕ) → behind dot front text ≡ None → further front n text ≡ ([], text)
   further-None = repeated-None (behind dot front)
 
-  -- what a list has, where its first element is read
+  -- the elements of a list, if its first element is read
   pub listed : (text : List ℕ) (x : X) (rest : List ℕ) → front text ≡ Some (x, rest)
       → dotted_front front text ≡ Some (x ∷ (further front (length rest) rest).0, (further front (length rest) rest).1)
   unfolding dotted_front
@@ -48,18 +48,18 @@ module _ {X : Type 0} (front : Front X) where
   unlisted text e = rw e refl
 
   module _ (consumes : Consumes front) where
-    -- what is left behind a dot is shorter
+    -- what is left after a dot is shorter
     pub behind_dot_shrinks : Shrinks (behind dot front)
     behind_dot_shrinks text x rest e =
         let parts = behind-Some dot front text (x, rest) e in
         omega (arith, consumes parts.0 x rest parts.2, ap (λ (l : List ℕ). length l) parts.1)
 
-    -- all further elements are the next one and those behind it
+    -- all further elements are the next one and those after it
     pub further-next : (text : List ℕ) (x : X) (rest : List ℕ) → behind dot front text ≡ Some (x, rest)
         → further front (length text) text ≡ (x ∷ (further front (length rest) rest).0, (further front (length rest) rest).1)
     further-next = repeated-next (behind dot front) behind_dot_shrinks
 
-    -- the elements behind the first one are those behind the dot that follows it
+    -- the elements after the first one are those after the dot that follows it
     elements_behind : (text : List ℕ) → (further front (length text) text).0 ≡ option_map_or (elements_at front) (after_mark dot text) []
     elements_behind text = elim (cases_Option (after_mark dot text)) [
       | inl none ↦ rw (further-None text (length text) (rw none refl), none) refl
@@ -73,7 +73,7 @@ module _ {X : Type 0} (front : Front X) where
         → elements_at front text ≡ x ∷ option_map_or (elements_at front) (after_mark dot rest) []
     elements_at-first text x rest e = rw (listed text x rest e) (ap (λ (xs : List X). x ∷ xs) (elements_behind rest))
 
-    -- what a list leaves is no longer than the text
+    -- the rest after a list is no longer than the text
     pub dotted_consumes : Consumes (dotted_front front)
     dotted_consumes text xs rest e = elim (cases_Option (front text)) [
       | inl none ↦ cc (sym (unlisted text none) ∙ e)
@@ -92,7 +92,7 @@ module _ {X : Type 0} (front : Front X) where
 
 -- and what spells a list
 module _ {X : Type 0} (Spells : List ℕ → X → Type 0) (front : Front X) where
-  -- further elements, each behind a dot
+  -- further elements, each after a dot
   abbrev SpellsFurther : List ℕ → List X → Type 0
   SpellsFurther = SpellsEach (SpellsBehind dot Spells)
 
@@ -113,7 +113,7 @@ module _ {X : Type 0} (Spells : List ℕ → X → Type 0) (front : Front X) whe
       let more = undotted s.1 y ys s.4 in
       (s.0, dot ∷ s.1, s.2, s.3, (dot ∷ more.0, more.1, ap (λ (l : List ℕ). dot ∷ l) more.2, (more.0, refl, more.3), more.4))
 
-  -- What follows each element is so: the dot before a further one, and what follows the list.
+  -- Follows holds of what follows each element: of the dot before a further one, and of what follows the list.
   module _ (Follows : List ℕ → Type 0) (sound : IsSoundBefore Follows Spells front) (follows_at_dot : (text : List ℕ) → Follows (dot ∷ text)) where
     behind_sound_here : IsSoundBefore Follows (SpellsBehind dot Spells) (behind dot front)
     behind_sound_here = behind_sound dot Follows Spells front sound
@@ -121,7 +121,7 @@ module _ {X : Type 0} (Spells : List ℕ → X → Type 0) (front : Front X) whe
     dot_follows : (text : List ℕ) (p : X × List ℕ) → behind dot front text ≡ Some p → Follows text
     dot_follows text p e = rw (behind-Some dot front text p e).1 (follows_at_dot _)
 
-    -- a list is read as it is spelled
+    -- a list that is read is spelled so
     pub dotted_sound_before : IsSoundBefore Follows (SpellsDotted Spells) (dotted_front front)
     dotted_sound_before text xs rest e f = elim (cases_Option (front text)) [
       | inl none ↦ cc (sym (unlisted front text none) ∙ e)
@@ -146,7 +146,7 @@ module _ {X : Type 0} (Spells : List ℕ → X → Type 0) (front : Front X) whe
   pub dotted_sound : IsSound Spells front → IsSound (SpellsDotted Spells) (dotted_front front)
   dotted_sound sound text xs rest e = dotted_sound_before (λ rest. Unit {0}) (λ text x rest e f. sound text x rest e) (λ text. tt) text xs rest e tt
 
-  -- What follows a list doesn't go on with it.
+  -- What follows a list does not continue it.
   module _ (Ends : List ℕ → Type 0) (complete : IsComplete Spells Ends front) (ends_at_dot : (text : List ℕ) → Ends (dot ∷ text)) where
     some : (piece : List ℕ) (x : X) → SpellsBehind dot Spells piece x → 0 < length piece
     some piece x s = omega (arith, ap (λ (l : List ℕ). length l) s.1)
@@ -154,7 +154,7 @@ module _ {X : Type 0} (Spells : List ℕ → X → Type 0) (front : Front X) whe
     ends_here : (piece : List ℕ) (x : X) (text : List ℕ) → SpellsBehind dot Spells piece x → Ends (piece ++ text)
     ends_here piece x text s = rw s.1 (ends_at_dot _)
 
-    -- a list is spelled as it is read
+    -- a list that is spelled is read
     pub dotted_complete : IsComplete (SpellsDotted Spells) (EndsList Ends) (dotted_front front)
     unfolding dotted_front SpellsDotted
     dotted_complete piece [] rest s e = absurd s

@@ -1,4 +1,4 @@
--- How a scan goes over a dotted list: what it has seen so far, and what is left.
+-- How a scan goes over a dotted list: what it has read so far, and what is left.
 use Rattle.std.proofs.Common.{◌≡◌, ◌∙◌, ◌+◌, ◌-◌, ◌<◌, ◌≤◌, ℕ, suc, take, append-nil, List, [], ◌∷◌, ◌++◌, length, Option, Some, None, refl, sym, ap, arith, append_assoc, length-append}
 use Rattle.std.proofs.Math.Nat.{sub-zero}
 use Rattle.std.proofs.Math.Seq.{take-nil}
@@ -8,7 +8,7 @@ use Rattle.version_parts.specs.Front.{Consumes, Front, after_mark, behind, dotte
 use Rattle.version_parts.specs.Lists.{split_last}
 use Rattle.version_parts.proofs.Dotted.{elements_at-first, further-None, further-next, listed, unlisted}
 
--- where a rest is left, a value was read before it
+-- if a rest is left, a value was read before it
 pub read_before : {X : Type 0} (o : Option (X × List ℕ)) (rest : List ℕ) → Some rest ≡ option_map (λ p. p.1) o → (x : X) × (o ≡ Some (x, rest))
 read_before None rest e = cc e
 read_before {X} (Some p) rest e =
@@ -25,7 +25,7 @@ split_last-append [] x = refl
 split_last-append (y ∷ xs) x = rw (split_last-append xs x) refl
 
 module _ {X : Type 0} (front : Front X) (consumes : Consumes front) where
-  -- so many elements of the text are read, the last of them from `last` on, and the rest is behind it
+  -- count elements of the text are read; the last of them begins at `last`, and the rest follows it
   pub record Scanned (text : List ℕ) (count : ℕ) (last rest : List ℕ) : Type 0 where
     pub read : dotted_front front text ≡ Some (elements_at front text, (further front (length rest) rest).1)
     pub count_is : count + length (further front (length rest) rest).0 ≡ length (elements_at front text)
@@ -59,7 +59,7 @@ module _ {X : Type 0} (front : Front X) (consumes : Consumes front) where
         last_is = rw mark at e;
       }
 
-  -- where nothing further can be read all is scanned
+  -- if no further element parses, all are scanned
   pub record Complete (text : List ℕ) (count : ℕ) (last rest : List ℕ) : Type 0 where
     pub read : dotted_front front text ≡ Some (elements_at front text, rest)
     pub count_is : count ≡ length (elements_at front text)
@@ -81,7 +81,7 @@ module _ {X : Type 0} (front : Front X) (consumes : Consumes front) where
         last_is = s.last_is;
       }
 
-  -- the first elements wanted are those so far, and as many of those to come as are still wanted
+  -- the first count elements are those built so far, and as many of those left as are still needed
   pub record Built (text : List ℕ) (count : ℕ) (sofar : List X) (left : List ℕ) : Type 0 where
     pub fits : length sofar ≤ count
     pub all : sofar ++ take (count - length sofar) (elements_at front left) ≡ take count (elements_at front text)
@@ -89,17 +89,17 @@ module _ {X : Type 0} (front : Front X) (consumes : Consumes front) where
   pub built_none : (text : List ℕ) (count : ℕ) → Built text count [] text
   built_none text count = record { fits = omega arith; all = rw (sub-zero count) refl }
 
-  -- nothing more is there
+  -- no more elements are there
   pub built_all : (text : List ℕ) (count : ℕ) (sofar : List X) (left : List ℕ) → Built text count sofar left → front left ≡ None → sofar ≡ take count (elements_at front text)
   built_all text count sofar left b none = rw (unlisted front left none, take-nil, append-nil) at b.all
 
-  -- nothing more is wanted
+  -- no more elements are needed
   pub built_enough : (text : List ℕ) (count : ℕ) (sofar : List X) (left : List ℕ) → Built text count sofar left → count ≤ length sofar → sofar ≡ take count (elements_at front text)
   built_enough text count sofar left b enough =
       let done : count - length sofar ≡ 0 = omega arith in
       rw (done, append-nil) at b.all
 
-  -- one element more, and what is behind the dot that follows it
+  -- one more element, and what follows the dot after it
   built_step : (text : List ℕ) (count : ℕ) (sofar : List X) (left rest : List ℕ) (x : X) → Built text count sofar left → length sofar < count → front left ≡ Some (x, rest)
       → (sofar ++ x ∷ []) ++ take (count - (length sofar + 1)) (option_map_or (elements_at front) (after_mark dot rest) []) ≡ take count (elements_at front text)
   built_step text count sofar left rest x b more e =

@@ -1,4 +1,4 @@
--- What a hash is fed with for a list.
+-- What a hash is fed for a list.
 use Rattle.std.proofs.Common.{◌≡◌, List, map, refl}
 use Rattle.std.proofs.lemmas.List.{length-map}
 use Rattle.std.proofs.lemmas.List.Folds.{flat_map-map}

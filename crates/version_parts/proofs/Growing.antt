@@ -1,4 +1,4 @@
--- A list to which bytes are put, some at a time.
+-- A list to which bytes are appended, some at a time.
 use Rattle.std.proofs.Common.{◌≡◌, ℕ, List, [], ◌++◌, ◌∷◌, Result, Ok, Err, OnErr, refl, sym, ap, ◌∙◌, append_assoc, append-nil}
 use Rattle.version_parts.specs.Lists.{Growing, GrowsWithin}
 
@@ -16,7 +16,7 @@ grows_by old new after bytes more left g e = record {
 pub grown : (old new bytes : List ℕ) → Growing old new bytes [] → new ≡ old ++ bytes
 grown old new bytes g = g.new_is ∙ ap (λ (l : List ℕ). old ++ l) (sym (append-nil g.taken) ∙ sym g.bytes_are)
 
--- a beginning of what is put next
+-- a prefix of what is appended next
 pub grows_within : (old new after bytes more left : List ℕ) → Growing old new bytes (more ++ left) → GrowsWithin new after more → GrowsWithin old after bytes
 grows_within old new after bytes more left g (rest, h) = (
   rest ++ left,
@@ -33,15 +33,15 @@ pub at_any_error : {T E P : Type 0} (r : Result T E) → P → OnErr r P
 at_any_error (Ok x) p = tt
 at_any_error (Err e) p = p
 
--- what is left may be said in another way
+-- what is left, given in another way
 pub left_is : (old new bytes left more : List ℕ) → Growing old new bytes left → left ≡ more → Growing old new bytes more
 left_is old new bytes left more g e = record { taken = g.taken; bytes_are = g.bytes_are ∙ ap (λ (l : List ℕ). g.taken ++ l) e; new_is = g.new_is }
 
--- a byte more
+-- one more byte
 pub grows_by_byte : (old new after bytes rest left : List ℕ) (byte : ℕ) → Growing old new bytes left → left ≡ byte ∷ rest → after ≡ new ++ byte ∷ [] → Growing old after bytes rest
 grows_by_byte old new after bytes rest left byte g e added = grows_by old new after bytes (byte ∷ []) rest (left_is old new bytes left (byte ∷ rest) g e) added
 
--- and then a beginning of what is left
+-- and then a prefix of what is left
 pub grows_in_turn : (old new after bytes left : List ℕ) → Growing old new bytes left → GrowsWithin new after left → GrowsWithin old after bytes
 grows_in_turn old new after bytes left g h = grows_within old new after bytes left [] (left_is old new bytes left (left ++ []) g (sym (append-nil left))) h
 

@@ -9,11 +9,11 @@ use Rattle.version_parts.proofs.NumberBytes.{length_bytes-short, number_bytes-de
 pub ten_digits : (n : ℕ) → n < 2 ^ 32 → length (decimal n) ≤ 10
 ten_digits n small = length-decimal-le 10 n (omega arith) (omega arith) (omega arith)
 
--- before at most three bytes of fourteen there is room for them
+-- before at most three bytes of fourteen there is room for the digits
 pub room : (n at : ℕ) (bytes : List ℕ) → n < 2 ^ 32 → length bytes ≡ 14 → length (drop at bytes) ≤ 3 → length (decimal n) ≤ at
 room n at bytes small all left = omega (arith, ten_digits n small, length-drop at bytes)
 
--- it is so many digits, and these
+-- the bytes of a number are the count of its digits, and the digits
 pub number_of_digits : (n : ℕ) (rest : List ℕ) → 0 < n → n < 2 ^ 32 → number_bytes n ++ rest ≡ length (decimal n) ∷ (decimal n ++ rest)
 number_of_digits n rest some small =
     let fits : n < 2 ^ 64 = omega arith in

@@ -1,4 +1,4 @@
--- Last parts: what is taken apart is spelled so, and what is spelled so is taken apart.
+-- Last parts: what is decomposed is spelled so, and what is spelled so is decomposed.
 use Rattle.std.proofs.Common.{◌≡◌, ◌==◌, ◌++◌, ◌∷◌, ◌∙◌, ℕ, true, false, List, [], length, Some, None, refl, sym, ap, arith, inl, inr, append-nil, append_assoc}
 use Rattle.std.proofs.lemmas.Bool.{cases_Bool, eqb-true, ne_eqb}
 use Rattle.std.proofs.lemmas.Bool.Decides.{nat_tests}
@@ -48,7 +48,7 @@ numbered-Post text a letters s =
     let run = rw append-nil at (run_front-reads is_ascii_alphabetic letters [] s.3.0 s.3.1 refl) in
     rw (s.1, first, run) refl
 
--- what is taken apart is spelled so
+-- what is decomposed is spelled so
 pub numbered-spelled : (text : List ℕ) (last : PlainLast) → numbered_last text ≡ Some last → IsLastOf (chunk.Alphanum text) last × IsNumbered last
 unfolding numbered_last
 numbered-spelled text last e = elim (cases_Option (unsigned_front text)) [
@@ -80,7 +80,7 @@ numbered-spelled text last e = elim (cases_Option (unsigned_front text)) [
   ]
 ]
 
--- a text that isn't taken apart is another
+-- a text that isn't decomposed is any other text
 other : (text : List ℕ) → numbered_last text ≡ None → IsOther text
 other text none = record {
   not_rc = λ a letters b s. cc (numbered-Rc text a letters b s, none);
@@ -113,7 +113,7 @@ last_of-only (chunk.Alphanum text) (Alphanum same) s = elim (cases_Option (numbe
     apart (Post a letters) spelled = s.1.not_post a letters spelled.0
     apart (Alphanum t) spelled = spelled.1
 
--- the last part prints what its part does
+-- a last part prints as its part does
 pub last_printed : (part : PlainChunk) (last : PlainLast) → IsLastOf part last → last_text last ≡ chunk.chunk_text part
 last_printed (chunk.Numeric n) (Numeric m) s = ap (λ (k : ℕ). chunk.chunk_text (chunk.Numeric k)) (sym s)
 last_printed (chunk.Numeric n) (Rc a t b) s = absurd s

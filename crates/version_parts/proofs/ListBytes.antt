@@ -25,7 +25,7 @@ use Rattle.version_parts.proofs.MChunkReading.{mchunk_front-Some}
 use Rattle.version_parts.proofs.MChunkReading.{chunk_text as run_text}
 use Rattle.version_parts.proofs.Mapped.{elements-mapped}
 
--- the part that a chunk is
+-- the part of a chunk
 abbrev pub key_of_chunk : Chunk → PartKey
 key_of_chunk chunk = part_key (chunk_text (plain_chunk chunk))
 
@@ -51,7 +51,7 @@ body_whole parts body e = elim (cases_Option (split_last parts)) [
       ∙ ap (λ (b : List PlainChunk × PlainLast). chunk_parts b.0 ++ part_key (last_text b.1) ∷ []) same
 ]
 
--- all of them
+-- all items
 pub all_taken : {X : Type 0} (code : Option X → List ℕ) (count : ℕ) (xs : List X) → count ≡ length xs → items_bytes code (take count xs) ≡ items_bytes code xs
 all_taken code count xs e = ap (λ n. items_bytes code (take n xs)) e ∙ ap (items_bytes code) (take-length xs)
 
@@ -71,7 +71,7 @@ section_spelled count text e =
     ap (λ (xs : List PartKey). items_bytes part_bytes (take count xs) ++ part_bytes None) keys
     ∙ list_spelled part_bytes count (section_parts (elements_at mchunk_front text)) (e ∙ sym (length-map (elements_at mchunk_front text) (λ chunk. part_key (mchunk_text chunk))))
 
--- the parts of a body, of which the last is taken apart
+-- the parts of a body, of which the last is decomposed
 pub body_spelled : (count : ℕ) (text : List ℕ) (body : List PlainChunk × PlainLast) → count ≡ length (elements_at part_front text) → body_of (elements_at part_front text) ≡ Some body
     → items_bytes part_bytes (take count (elements_at part_key_front text)) ≡ items_bytes part_bytes (chunk_parts body.0 ++ part_key (last_text body.1) ∷ [])
 body_spelled count text body e split =
@@ -82,14 +82,14 @@ body_spelled count text body e split =
     ∙ all_taken part_bytes count (chunk_parts parts) (e ∙ sym (length-map parts (λ chunk. part_key (chunk_text chunk))))
     ∙ ap (items_bytes part_bytes) whole
 
--- all the parts of a body, of which the last is taken apart
+-- all the parts of a body, of which the last is decomposed
 pub parts_spelled : (count : ℕ) (text : List ℕ) (body : List PlainChunk × PlainLast) → count ≡ length (elements_at part_front text) → body_of (elements_at part_front text) ≡ Some body
     → chunk_parts (take count (elements_at part_front text)) ≡ chunk_parts body.0 ++ part_key (last_text body.1) ∷ []
 parts_spelled count text body e split =
     let parts = elements_at part_front text in
     ap (λ n. chunk_parts (take n parts)) e ∙ ap chunk_parts (take-length parts) ∙ body_whole parts body split
 
--- the chunk of a section that has one alone keeps the run there
+-- the only chunk of a section keeps the run at the start of the section
 pub only_chunk : (text run rest : List ℕ) → Some (run, rest) ≡ run_front is_ascii_alphanumeric text → length (elements_at mchunk_front text) ≡ 1
     → (chunk : PlainMChunk) × (elements_at mchunk_front text ≡ chunk ∷ []) × (mchunk_text chunk ≡ run)
 only_chunk text run rest e one =
@@ -103,7 +103,7 @@ only_chunk text run rest e one =
     eq_nil [] e = refl
     eq_nil (x ∷ xs) e = absurd (omega arith)
 
--- a section has a chunk, and so a run where it begins
+-- a section has a chunk, and so a run at its start
 pub no_chunk : (text : List ℕ) → None ≡ run_front is_ascii_alphanumeric text → length (elements_at mchunk_front text) ≢ 1
 unfolding mchunk_front
 no_chunk text e one =

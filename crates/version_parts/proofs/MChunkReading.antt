@@ -1,5 +1,5 @@
--- Messy chunks, sections of them, and signs: their fronts read what is spelled, and nothing else where what follows is
--- a dot, a sign or the end.
+-- Messy chunks, sections of them, and signs: their fronts read what is spelled, and nothing else if a dot, a sign or
+-- the end follows.
 use Rattle.std.proofs.Common.{◌≡◌, ◌==◌, ◌^◌, ℕ, ◌<◌, true, List, [], ◌∷◌, ◌++◌, length, map, Option, Some, None, nat_lt, if◌then◌else◌, lit<, refl, sym, ap, ◌∙◌, arith, inl, inr, subst}
 use Rattle.std.proofs.lemmas.Bool.{cases_Bool, eqb-true, ltb-true, lt-ltb}
 use Rattle.std.proofs.lemmas.Bool.Decides.{nat_tests}
@@ -45,7 +45,7 @@ revision_spelled text value e = elim (cases_Option (after_mark 114 text)) [
   | inr tail ↦ (tail.0, after_mark-Some 114 text tail.0 tail.1, digits_spelled tail.0 value (rw tail.1 at e))
 ]
 
--- nothing is read where nothing is spelled
+-- nothing is read if nothing is spelled
 none_read : (Spells : ℕ → Type 0) (o : Option ℕ) → ((value : ℕ) → o ≡ Some value → Spells value) → ((value : ℕ) → ¬ Spells value) → o ≡ None
 none_read Spells None read none = refl
 none_read Spells (Some value) read none = absurd (none value (read value refl))
@@ -53,7 +53,7 @@ none_read Spells (Some value) read none = absurd (none value (read value refl))
 nothing_spelled : (Spells : ℕ → Type 0) (o : Option ℕ) → o ≡ None → ((value : ℕ) → Spells value → o ≡ Some value) → (value : ℕ) → ¬ Spells value
 nothing_spelled Spells o none spelled value s = cc (none, spelled value s)
 
--- ---- the chunk that a run is
+-- ---- the chunk of a run
 
 variant-Digits : (run : List ℕ) (value : ℕ) → value_of_digits run ≡ Some value → variant_of run ≡ Digits value run
 unfolding variant_of
@@ -226,7 +226,7 @@ sep_front-Some (b ∷ text) sign rest e = elim (cases_Option (sep_of b)) [
       rw (byte_of_sep b one.0 one.1, found, left) refl
 ]
 
--- a sign ends a chunk, and is no dot
+-- a sign ends a chunk, and is not a dot
 pub sign_ends : (sign : PlainSep) (text : List ℕ) → EndsList EndsChunk (sep_byte sign ∷ text)
 sign_ends Colon text = (refl, refl)
 sign_ends Hyphen text = (refl, refl)

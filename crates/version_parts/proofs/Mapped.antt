@@ -1,4 +1,4 @@
--- What is read of a list where each element is made into something.
+-- What is read of a list if each element is mapped.
 use Rattle.std.proofs.Common.{◌≡◌, ℕ, zero, suc, List, length, map, refl, inl, inr}
 use Rattle.version_parts.specs.Bytes.{dot}
 use Rattle.version_parts.specs.Front.{Front, after_mark, behind, elements_at, further, map_value, repeated}
@@ -19,7 +19,7 @@ module _ {X Y : Type 0} (f : X → Y) (front : Front X) where
     | inr one ↦ rw (behind-mapped text, one.1) (rw (further-mapped n one.0.1) refl)
   ]
 
-  -- the elements of a list, each made into something
+  -- the elements of a list, each mapped
   pub elements-mapped : (text : List ℕ) → elements_at mapped text ≡ map f (elements_at front text)
   elements-mapped text = elim (cases_Option (front text)) [
     | inl none ↦ rw (unlisted front text none, unlisted mapped text (rw none refl)) refl

@@ -39,7 +39,7 @@ nat_cmp-suc m n = along (suc m) (suc n) m n (ranks m n) (λ h. omega arith) (λ 
 nat_cmp-add-one : (m n : ℕ) → nat_cmp (m + 1) (n + 1) ≡ nat_cmp m n
 nat_cmp-add-one m n = along (m + 1) (n + 1) m n (ranks m n) (λ h. omega arith) (λ h. omega arith) (λ h. omega arith)
 
--- two numbers compare by their quotients, and then by what is left
+-- two numbers compare by their quotients, and then by their remainders
 nat_cmp-by : (m n p q r s : ℕ) → (p < q → m < n) → (q < p → n < m) → (p ≡ q → nat_cmp m n ≡ nat_cmp r s)
     → nat_cmp m n ≡ ordering_then (nat_cmp p q) (nat_cmp r s)
 nat_cmp-by m n p q r s f g h = by (nat_cmp p q) (ranks p q)
@@ -87,7 +87,7 @@ digit_char-cmp a b h k =
     rw (lt-ltb a 10 h, lt-ltb b 10 k)
     (along (48 + a) (48 + b) a b (ranks a b) (λ l. omega arith) (λ l. omega arith) (λ l. omega arith))
 
--- the last digit of a number stands behind those of its tenth
+-- the last digit of a number follows the digits of its tenth
 pub digit_bytes_step : (n : ℕ) (x : List ℕ) → 0 < n → digit_bytes n ++ x ≡ digit_bytes (n / 10) ++ (digit_char (n % 10) ∷ x)
 digit_bytes_step n x h =
     ap (λ ds. map digit_char ds ++ x) (digits_of_step 10 n (lit≤ tt) h)

@@ -16,11 +16,11 @@ use Rattle.version_parts.proofs.PieceBytes.{digits_of_run, is_zero}
 pub numeral_short : (text : List ℕ) → SpellsNumeral text (digits_value 10 text) → length text ≤ 10
 numeral_short text s = rw (numeral_printed text (digits_value 10 text) s) at (ten_digits (digits_value 10 text) s.fits)
 
--- 0 has no digit that counts
+-- 0 has no digits in a key
 pub numeral_zero_bytes : (rest : List ℕ) → SpellsNumeral (48 ∷ rest) (digits_value 10 (48 ∷ rest)) → number_bytes (digits_value 10 (48 ∷ rest)) ≡ 0 ∷ []
 numeral_zero_bytes rest s = rw (only_zero 48 rest refl s.canonical) number_bytes-zero
 
--- in any other all digits do
+-- any other numeral has all its digits in a key
 pub numeral_some_bytes : (text : List ℕ) → SpellsNumeral text (digits_value 10 text) → begins is_zero text ≡ false → number_bytes (digits_value 10 text) ≡ length text ∷ text
 numeral_some_bytes text s some =
     let short : length text < 255 = omega (arith, numeral_short text s) in

@@ -35,7 +35,7 @@ value_of_run-Some run n rest e = elim (cases_Bool (nat_lt (digits_value 10 run.0
   | inr large ↦ cc (rw large at e)
 ]
 
--- what the front gives, where the text begins with 0 and where it doesn't
+-- what the front gives if the text begins with 0, and if it doesn't
 unsigned-zero : (text tail : List ℕ) → after_mark 48 text ≡ Some tail → unsigned_front text ≡ Some (0, tail)
 unfolding unsigned_front
 unsigned-zero text tail e = rw e refl

@@ -1,4 +1,5 @@
--- Lemmas of orders in general, for proofs: one order and then another, and orders that tell different values apart.
+-- Lemmas of orders in general, for proofs: one order and then another, and orders that are Equal only for the same
+-- value.
 use Rattle.std.proofs.Common.{◌≡◌, ◌↔◌, refl, subst}
 use Rattle.std.specs.Cmp.{IsTotalOrder, tied_itself}
 use Rattle.std.specs.FinMap.{IsAntisymmetric}
@@ -21,6 +22,6 @@ then_decided Greater b c h = refl
 pub then_same : {A : Type 0} (R : A → A → Ordering) {S : A → A → Ordering} → IsAntisymmetric S → IsAntisymmetric (then_cmp R S)
 then_same R same a b tied = same a b (then_second _ _ tied)
 
--- an order is Equal exactly of one and the same value
+-- an order is Equal exactly for the same value
 pub equal_where_same : {A : Type 0} {R : A → A → Ordering} → IsTotalOrder R → IsAntisymmetric R → (a b : A) → (R a b ≡ Equal) ↔ (a ≡ b)
 equal_where_same {R = R} total same a b = (same a b, λ e. subst (λ c. R a c ≡ Equal) e (tied_itself total a))

@@ -29,7 +29,7 @@ without_zeros ds = drop (prefix_len is_zero ds) ds
 first_zero : (ds : List ℕ) → digits_value 10 (48 ∷ ds) ≡ digits_value 10 ds
 first_zero ds = refl
 
--- zeros before digits change no value, and what is left of digits is digits
+-- leading zeros do not change the value, and the digits after them are digits
 zeros_dropped : (ds : List ℕ) → list_all is_ascii_digit ds ≡ true
     → (digits_value 10 (without_zeros ds) ≡ digits_value 10 ds) × (list_all is_ascii_digit (without_zeros ds) ≡ true)
 zeros_dropped [] all = (refl, all)
@@ -49,7 +49,7 @@ number_written ds all =
     ap number_bytes (sym left.0)
     ∙ number_bytes-digits (digits_value 10 (without_zeros ds)) (without_zeros ds) (digits_of_run (without_zeros ds) left.1 (begins-drop is_zero ds))
 
--- two numbers compare as the lengths of their digits without zeros, and then as these
+-- two numbers compare as the lengths of their digits without leading zeros, and then as these digits
 pub numbers_compared : (a b : List ℕ) → list_all is_ascii_digit a ≡ true → list_all is_ascii_digit b ≡ true
     → nat_cmp (digits_value 10 a) (digits_value 10 b)
     ≡ ordering_then (nat_cmp (length (without_zeros a)) (length (without_zeros b))) (bytes_cmp (without_zeros a) (without_zeros b))

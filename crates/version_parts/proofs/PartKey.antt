@@ -1,4 +1,4 @@
--- The order of lists of parts tells all of them apart, and the bytes of parts and of lists compare as they do.
+-- The order of lists of parts is Equal only for the same list, and the bytes of parts and of lists compare as they do.
 use Rattle.std.proofs.Common.{◌≡◌, ℕ, ◌<◌, ◌^◌, List, [], ◌++◌, true, false, Option, Some, None, refl, ap, ◌∙◌}
 use Rattle.std.proofs.lemmas.Fmt.{decimal_is_IsNumeral}
 use Rattle.std.proofs.lemmas.List.{append-nil}

@@ -1,13 +1,13 @@
--- Two streams that go past the same bytes.
+-- Two streams that pass the same bytes.
 use Rattle.std.proofs.Common.{◌≡◌, ◌∙◌, ℕ, List, [], ◌++◌, take, drop, ap, refl, sym, ◌+◌, append-nil, append_assoc}
 use Rattle.std.proofs.lemmas.List.{drop-drop, take-append-drop}
 use Rattle.version_parts.specs.Pieces.{GonePast}
 
--- past none
+-- past no bytes
 pub past_none : (a b : List ℕ) → GonePast a b a b
 past_none a b = record { same = []; first_is = refl; second_is = refl }
 
--- past so many, where these are the same
+-- past the first n bytes, if these are the same
 pub past_front : (n : ℕ) (a b : List ℕ) → take n a ≡ take n b → GonePast a b (drop n a) (drop n b)
 past_front n a b same = record {
   same = take n a;
@@ -15,11 +15,11 @@ past_front n a b same = record {
   second_is = sym (take-append-drop n b) ∙ ap (λ (l : List ℕ). l ++ drop n b) (sym same);
 }
 
--- the same where the streams are what is left of two lists
+-- the same, if the streams are what is left of two lists
 pub past_left : (n i j : ℕ) (a b : List ℕ) → take n (drop i a) ≡ take n (drop j b) → GonePast (drop i a) (drop j b) (drop (i + n) a) (drop (j + n) b)
 past_left n i j a b same = rw (← drop-drop n i a, ← drop-drop n j b) (past_front n (drop i a) (drop j b) same)
 
--- past what both have in front, of which nothing is left, and then past more
+-- past all bytes of a first piece of each, and then past more
 pub past_more : (a b a_more b_more a_left b_left a_end b_end x y : List ℕ) → x ≡ [] → y ≡ [] → GonePast a b x y → GonePast a_more b_more a_left b_left
     → GonePast (a ++ (a_more ++ a_end)) (b ++ (b_more ++ b_end)) (x ++ (a_left ++ a_end)) (y ++ (b_left ++ b_end))
 past_more a b a_more b_more a_left b_left a_end b_end x y none nothing fronts more = record {

@@ -1,4 +1,4 @@
--- How the bytes of a piece begin at each place, and what is still to come behind the first of them.
+-- How the bytes of a piece begin at each place, and what remains after the first of them.
 use Rattle.std.proofs.Common.{◌≡◌, ◌==◌, ◌+◌, ◌-◌, ◌*◌, ◌/◌, ◌%◌, ◌^◌, ℕ, zero, suc, ◌<◌, ◌≤◌, ◌≢◌, Bool, false, true, List, [], ◌∷◌, ◌++◌, length, drop, take, Some, None, refl, sym, ap, ◌∙◌, inl, inr, arith, append_assoc, append-nil, one-add}
 use Rattle.std.proofs.lemmas.Bool.{cases_Bool, eqb-true}
 use Rattle.std.proofs.lemmas.Bool.Decides.{nat_tests}
@@ -56,7 +56,7 @@ pub split_other : (b : ℕ) (text : List ℕ) → is_ascii_digit b ≡ false →
 unfolding place_bytes
 split_other b text other = rw (other, one-add) (append_assoc (text_byte (Some b)) _ _)
 
--- ---- what stands behind a number
+-- ---- what follows a number
 
 pub suffix_none : (text : List ℕ) → slice_get text 0 ≡ None → after_number_bytes Suffix text ≡ 2 ∷ place_bytes (Rest Nothing) text
 unfolding after_number_bytes place_bytes
@@ -106,7 +106,7 @@ is_zero b = b == 48
 counted_zero : (behind : AfterNumber) (text : List ℕ) → counted_bytes behind (48 ∷ text) ≡ counted_bytes behind text
 counted_zero behind text = rw one-add refl
 
--- zeros in front don't count
+-- leading zeros don't count
 zeros_skipped : (behind : AfterNumber) (text : List ℕ) → counted_bytes behind text ≡ counted_bytes behind (drop (prefix_len is_zero text) text)
 zeros_skipped behind [] = refl
 zeros_skipped behind (b ∷ text) = elim (cases_Bool (b == 48)) [
@@ -129,7 +129,7 @@ one_digit n some small =
     let last : n % 10 ≡ n = omega arith in
     sym (append-nil (digit_bytes n)) ∙ rw (tenth, last) at (digit_bytes_step n [] some)
 
--- digits behind a number that is not 0 are the last of its digits
+-- digits after a number that is not 0 are the last of its digits
 digits_behind : (n : ℕ) (digits : List ℕ) → 0 < n → list_all is_ascii_digit digits ≡ true → digit_bytes (digits_value_after 10 n digits) ≡ digit_bytes n ++ digits
 digits_behind n [] some all = sym (append-nil (digit_bytes n))
 digits_behind n (c ∷ digits) some all =
@@ -195,7 +195,7 @@ pub text_alone : (text : List ℕ) → place_bytes (Rest Text) text ≡ text_byt
 unfolding place_bytes after_number_bytes
 text_alone text = refl
 
--- ---- runs of bytes that stand in a key as they are
+-- ---- runs of bytes that a key has unchanged
 
 -- every byte but 0 and 1 is written as it is
 as_it_is : (b : ℕ) → 1 < b → text_byte (Some b) ≡ b ∷ []

@@ -1,4 +1,4 @@
--- Items one behind another: what their front reads, and that it reads what is spelled.
+-- Items one after another: what their front reads, and that it reads what is spelled.
 use Rattle.std.proofs.Common.{◌≡◌, ◌⊎◌, ◌∙◌, ℕ, zero, suc, ◌<◌, ◌≤◌, List, [], ◌∷◌, ◌++◌, length, Option, Some, None, refl, sym, ap, arith, inl, inr, append_assoc, length-append}
 use Rattle.std.specs.List.{flat_map}
 use Rattle.version_parts.specs.Front.{Front, repeated}
@@ -9,7 +9,7 @@ pub cases_Option : {X : Type 0} (o : Option X) → (o ≡ None) ⊎ ((x : X) × 
 cases_Option None = inl refl
 cases_Option (Some x) = inr (x, refl)
 
--- what a front leaves is shorter than the text
+-- the rest that a front leaves is shorter than the text
 abbrev pub Shrinks : {X : Type 0} → Front X → Type 0
 Shrinks {X} front = (text : List ℕ) (x : X) (rest : List ℕ) → front text ≡ Some (x, rest) → length rest < length text
 
@@ -37,7 +37,7 @@ module _ {X : Type 0} (front : Front X) where
         let shorter : length rest < length text = shrinks text x rest e in
         rw (repeated-Some text n x rest e) (rw (repeated-Some text m x rest e) (rw (same m (omega arith)) refl))
 
-    -- how many items may be read doesn't matter, where it is no fewer than the bytes
+    -- the limit on the number of items does not matter if it is at least the number of bytes
     pub repeated_enough : (n m : ℕ) (text : List ℕ) → length text ≤ n → length text ≤ m → repeated front n text ≡ repeated front m text
     repeated_enough zero m text fits enough = elim (cases_Option (front text)) [
       | inl none ↦ rw (repeated-zero text) (sym (repeated-None text m none))
@@ -50,7 +50,7 @@ module _ {X : Type 0} (front : Front X) where
           more_enough n m text one.0.0 one.0.1 one.1 (λ k. repeated_enough n k one.0.1 (omega arith)) enough
     ]
 
-    -- all items are the next one and those behind it
+    -- all items are the next one and those after it
     pub repeated-next : (text : List ℕ) (x : X) (rest : List ℕ) → front text ≡ Some (x, rest)
         → repeated front (length text) text ≡ (x ∷ (repeated front (length rest) rest).0, (repeated front (length rest) rest).1)
     repeated-next [] x rest e = let shorter = shrinks [] x rest e in absurd (omega arith)
@@ -59,7 +59,7 @@ module _ {X : Type 0} (front : Front X) where
         let same : repeated front (length text) rest ≡ repeated front (length rest) rest = repeated_enough (length text) (length rest) rest (omega arith) (omega arith) in
         rw (repeated-Some (b ∷ text) (length text) x rest e) (rw same refl)
 
-    -- what is left is no longer than the text
+    -- the rest is no longer than the text
     pub repeated_consumes : (n : ℕ) (text : List ℕ) → length (repeated front n text).1 ≤ length text
     repeated_consumes zero text = rw (repeated-zero text) (omega arith)
     repeated_consumes (suc n) text = elim (cases_Option (front text)) [
@@ -69,7 +69,7 @@ module _ {X : Type 0} (front : Front X) where
           rw (repeated-Some text n one.0.0 one.0.1 one.1) (omega (arith, repeated_consumes n one.0.1))
     ]
 
--- items one behind another print their texts one behind another
+-- items one after another print their texts one after another
 pub each_printed : {X : Type 0} (Spells : List ℕ → X → Type 0) (text_of : X → List ℕ) → IsPrinted Spells text_of
     → IsPrinted (SpellsEach Spells) (flat_map text_of)
 unfolding SpellsEach
@@ -77,7 +77,7 @@ each_printed Spells text_of printed text [] s = sym s
 each_printed Spells text_of printed text (x ∷ xs) s = rw (s.2, printed s.0 x s.3, each_printed Spells text_of printed s.1 xs s.4) refl
 
 module _ {X : Type 0} (Spells : List ℕ → X → Type 0) (front : Front X) where
-  -- What follows each item is so: an item begins so, and what follows the last one is so.
+  -- Follows holds of what follows each item: of a text that begins with an item, and of what follows the last one.
   module _ (Follows : List ℕ → Type 0) (sound : IsSoundBefore Follows Spells front)
       (begins_so : (text : List ℕ) (p : X × List ℕ) → front text ≡ Some p → Follows text) where
     pub repeated_follows : (n : ℕ) (text : List ℕ) → Follows (repeated front n text).1 → Follows text
@@ -87,7 +87,7 @@ module _ {X : Type 0} (Spells : List ℕ → X → Type 0) (front : Front X) whe
       | inr one ↦ begins_so text one.0 one.1
     ]
 
-    -- items are read as they are spelled
+    -- items that are read are spelled so
     pub repeated_sound : (n : ℕ) (text : List ℕ) → Follows (repeated front n text).1
         → (pieces : List ℕ) × (text ≡ pieces ++ (repeated front n text).1) × SpellsEach Spells pieces (repeated front n text).0
     unfolding SpellsEach
@@ -107,7 +107,7 @@ module _ {X : Type 0} (Spells : List ℕ → X → Type 0) (front : Front X) whe
           )
     ]
 
-  -- What follows an item doesn't go on with it: a further item begins so, and what follows the last one is so.
+  -- What follows an item does not continue it: neither a further item, nor what follows the last one.
   module _ (Ends : List ℕ → Type 0) (complete : IsComplete Spells Ends front) (some : (piece : List ℕ) (x : X) → Spells piece x → 0 < length piece)
       (begins_so : (piece : List ℕ) (x : X) (text : List ℕ) → Spells piece x → Ends (piece ++ text)) where
     pub each_ends : (pieces rest : List ℕ) (xs : List X) → SpellsEach Spells pieces xs → Ends rest → Ends (pieces ++ rest)
@@ -115,7 +115,7 @@ module _ {X : Type 0} (Spells : List ℕ → X → Type 0) (front : Front X) whe
     each_ends pieces rest [] s ends = rw s ends
     each_ends pieces rest (x ∷ xs) s ends = rw (s.2, append_assoc) (begins_so s.0 x (s.1 ++ rest) s.3)
 
-    -- items are spelled as they are read, where what follows begins with none
+    -- items that are spelled are read, if what follows does not begin with one
     pub repeated-reads : (n : ℕ) (pieces rest : List ℕ) (xs : List X) → SpellsEach Spells pieces xs → Ends rest → front rest ≡ None → length pieces ≤ n
         → repeated front n (pieces ++ rest) ≡ (xs, rest)
     unfolding SpellsEach

@@ -6,7 +6,7 @@ use Rattle.std.specs.Cmp.{first_so, second_so}
 use Rattle.std.specs.List.{list_all, prefix_len, take_while}
 use Rattle.version_parts.specs.Front.{after_mark, begins, run_front, unless_empty}
 
--- what stands behind a byte, where the text begins with it
+-- what follows a byte, if the text begins with it
 pub after_mark-Some : (mark : ℕ) (text tail : List ℕ) → after_mark mark text ≡ Some tail → text ≡ mark ∷ tail
 after_mark-Some mark [] tail e = cc e
 after_mark-Some mark (b ∷ text) tail e = elim (cases_Bool (b == mark)) [

@@ -1,4 +1,4 @@
--- Runs of bytes at the front of a text, and where a text may be cut.
+-- Runs of bytes at the start of a text, and where a text may be cut.
 use Rattle.std.proofs.Common.{◌≡◌, ◌==◌, ◌+◌, ◌++◌, ◌∙◌, ℕ, ◌<◌, ◌≤◌, Bool, true, false, List, length, take, refl, sym, ap, Some, arith, inl, inr, lit<}
 use Rattle.std.proofs.lemmas.Bool.{cases_lt, eq-eqb, ne_eqb}
 use Rattle.std.proofs.lemmas.Bool.Decides.{nat_tests}
@@ -50,7 +50,7 @@ run_ascii class text i =
           rw (get_or_past (take n text) i 0 long) (omega arith)
     ]
 
--- a text may be cut behind a run
+-- a text may be cut after a run
 pub run_boundary : (class : Class) (text : List ℕ) → IsUtf8 text → IsCharBoundary text (prefix_len (contains class) text)
 run_boundary class text utf8 =
     let fits = prefix_len-le-length (contains class) text in
@@ -65,7 +65,7 @@ sep_ascii b sign e = elim (cases_lt b 128) [
       cc (rw (apart 58 (lit< tt), apart 45 (lit< tt), apart 43 (lit< tt), apart 95 (lit< tt), apart 126 (lit< tt)) at e)
 ]
 
--- ---- the run at the front of two texts in turn
+-- ---- the run at the start of two texts in turn
 
 -- a run that ends within the first piece
 pub run_within : (test : ℕ → Bool) (xs ys : List ℕ) → prefix_len test xs < length xs → prefix_len test (xs ++ ys) ≡ prefix_len test xs
@@ -73,7 +73,7 @@ run_within test xs ys ends =
     let apart : (prefix_len test xs == length xs) ≡ false = ne_eqb _ _ (omega arith) in
     prefix_len-append test xs ys ∙ rw apart refl
 
--- a run that goes on behind it
+-- a run that goes on after it
 pub run_across : (test : ℕ → Bool) (xs ys : List ℕ) → length xs ≤ prefix_len test xs → prefix_len test (xs ++ ys) ≡ prefix_len test xs + prefix_len test ys
 run_across test xs ys goes_on =
     let whole : prefix_len test xs ≡ length xs = omega (arith, prefix_len-le-length test xs) in

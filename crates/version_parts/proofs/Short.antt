@@ -1,4 +1,4 @@
--- Short keys: what has been put is the bytes that are told, step by step.
+-- Short keys: the bytes appended are those of the definitions, step by step.
 use Rattle.std.proofs.Common.{◌≡◌, ◌∙◌, ◌<◌, ◌==◌, ℕ, Bool, false, true, List, [], ◌∷◌, ◌++◌, drop, length, Some, refl, sym, ap, append_assoc, append-nil}
 use Rattle.std.proofs.lemmas.Bool.{eqb-true}
 use Rattle.std.proofs.lemmas.List.{nil_from_length, take-append-drop}
@@ -20,7 +20,7 @@ use Rattle.version_parts.proofs.RunFronts.{list_all-take_while}
 no_rest : (rest : List ℕ) → true ≡ (length rest == 0) → rest ≡ []
 no_rest rest none = nil_from_length rest (eqb-true (length rest) 0 (sym none))
 
--- more behind what was put
+-- more bytes after those appended
 put_more : (key mid end first second : List ℕ) → mid ≡ key ++ first → end ≡ mid ++ second → end ≡ key ++ (first ++ second)
 put_more key mid end first second m e = e ∙ ap (λ (l : List ℕ). l ++ second) m ∙ append_assoc key first second
 

@@ -1,4 +1,4 @@
--- Chunks by the digits that they begin with: what follows these tells whether the chunk is a numeral.
+-- Chunks by the digits that they begin with: what follows these decides whether the chunk is a numeral.
 use Rattle.std.proofs.Common.{◌≡◌, ◌+◌, ◌-◌, ◌<◌, ◌≤◌, ℕ, length, Bool, true, false, List, [], ◌∷◌, inl, inr, drop, Some, refl, sym, arith, one-add}
 use Rattle.std.proofs.lemmas.Bool.{cases_Bool}
 use Rattle.std.proofs.lemmas.Bool.Decides.{nat_tests}
@@ -20,11 +20,11 @@ digits_identify b digit = rw (digits_alphanumeric b digit) refl
 
 pub ruleset classes_with_digits = (digits_alphanumeric, digits_identify)
 
--- what stands behind the digits that a text begins with
+-- what follows the digits that a text begins with
 abbrev pub behind_digits : List ℕ → List ℕ
 behind_digits text = drop (prefix_len is_ascii_digit text) text
 
--- a run is all digits where what stands behind its digits is none of its class, and only there
+-- a run is all digits if and only if what follows its digits is not of its class
 run_of_digits : (test : ℕ → Bool) → HasDigits test → (text : List ℕ) → begins test (behind_digits text) ≡ false → list_all is_ascii_digit (take_while test text) ≡ true
 run_of_digits test has [] ends = refl
 run_of_digits test has (b ∷ text) ends = elim (cases_Bool (is_ascii_digit b)) [
@@ -43,7 +43,7 @@ run_of_more test has (b ∷ text) more = elim (cases_Bool (is_ascii_digit b)) [
       rw (some, one-add, other) refl
 ]
 
--- the digits and the run of the class behind them are the run of the class
+-- the digits and the run of the class after them are the run of the class
 pub run_past_digits : (test : ℕ → Bool) → HasDigits test → (text : List ℕ) → prefix_len is_ascii_digit text + prefix_len test (behind_digits text) ≡ prefix_len test text
 run_past_digits test has [] = refl
 run_past_digits test has (b ∷ text) = elim (cases_Bool (is_ascii_digit b)) [
@@ -53,7 +53,7 @@ run_past_digits test has (b ∷ text) = elim (cases_Bool (is_ascii_digit b)) [
   | inr other ↦ rw other (omega arith)
 ]
 
--- what stands behind the digits, and then behind what more of the class follows them
+-- what follows the digits and the run of the class after them
 abbrev pub behind_more : (ℕ → Bool) → List ℕ → List ℕ
 behind_more test text = drop (prefix_len test (behind_digits text)) (behind_digits text)
 

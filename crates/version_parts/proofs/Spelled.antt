@@ -1,4 +1,5 @@
--- What holds of each text that is spelled: all that holds of runs of letters, digits, hyphens and dots, and of texts put together.
+-- What holds of each text that is spelled: whatever holds of the empty text, of runs of letters, digits, hyphens and
+-- dots, and of two texts joined if it holds of both.
 use Rattle.std.proofs.Common.{◌≡◌, ℕ, Bool, true, List, [], ◌∷◌, ◌++◌, Option, Some, None, refl}
 use Rattle.std.specs.Char.{is_ascii_alphanumeric, is_ascii_digit}
 use Rattle.std.specs.Cmp.{first_so, second_so}

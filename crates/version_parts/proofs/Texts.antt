@@ -1,4 +1,4 @@
--- The bytes of what keys are made of are below 256 where the bytes of the texts are.
+-- The bytes of the pieces of keys are below 256 if the bytes of the texts are.
 use borrow.Author.Tests.{lt-ltb}
 use Rattle.std.proofs.Common.{ℕ, zero, suc, ◌/◌, ◌%◌, ◌<◌, List, [], ◌∷◌, ◌++◌, map, replicate, Option, Some, None, arith, lit≤, lit<}
 use Rattle.std.proofs.lemmas.Int.Digits.{all_below_base_digits_of}

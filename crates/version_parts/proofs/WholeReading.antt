@@ -1,4 +1,4 @@
--- Whole texts: what follows of a front that reads what is spelled and nothing else.
+-- Whole texts: what follows if a front reads what is spelled and nothing else.
 use Rattle.std.proofs.Common.{◌≡◌, ◌==◌, ◌∙◌, List, ℕ, [], length, Option, Some, None, Result, Ok, Err, IfOk, IfSome, OnErr, IsSomeAnd, true, refl, sym, ap, subst, inl, inr, append-nil}
 use Rattle.std.proofs.lemmas.Bool.{cases_Bool, eqb-true}
 use Rattle.std.proofs.lemmas.List.{nil_from_length}
@@ -6,7 +6,7 @@ use Rattle.std.specs.Option.{is_some, option_map}
 use Rattle.version_parts.specs.Front.{Front, whole}
 use Rattle.version_parts.specs.Reading.{IsPrinted, IsSound}
 
--- a value is read from the whole text where the front leaves no rest
+-- a value is read from the whole text if the front leaves no rest
 pub whole-Some : {X : Type 0} (read : Option (X × List ℕ)) (x : X) → whole read ≡ Some x → read ≡ Some (x, [])
 whole-Some None x e = cc e
 whole-Some {X} (Some p) x e = elim (cases_Bool (length p.1 == 0)) [
@@ -17,7 +17,7 @@ whole-Some {X} (Some p) x e = elim (cases_Bool (length p.1 == 0)) [
   | inr more ↦ cc (rw more at e)
 ]
 
--- what was read is the whole text, where that is a value
+-- if a value is read from the whole text, it is the value that was read
 pub whole-is : {X : Type 0} (read : Option (X × List ℕ)) (x : X) (rest : List ℕ) → is_some (whole read) ≡ true → read ≡ Some (x, rest) → whole read ≡ Some x
 whole-is read x rest some e = elim (cases_Bool (length rest == 0)) [
   | inl done ↦ rw (e, done) refl
@@ -32,7 +32,7 @@ module _ {X : Type 0} (Spells : List ℕ → X → Type 0) (front : Front X) (so
       let same : (x, []) ≡ (y, []) = cc (sym (complete text x s) ∙ complete text y t) in
       ap (λ (p : X × List ℕ). p.0) same
 
-  -- a front without rest is the whole text
+  -- the whole text spells a value that the front reads without a rest
   pub whole_spelled : (text : List ℕ) (x : X) → front text ≡ Some (x, []) → Spells text x
   whole_spelled text x e =
       let read = sound text x [] e in
@@ -45,7 +45,7 @@ module _ {X : Type 0} (Spells : List ℕ → X → Type 0) (front : Front X) (so
   pub read_whole : (text : List ℕ) (x : X) → whole (front text) ≡ Some x → Spells text x
   read_whole text x e = whole_spelled text x (whole-Some (front text) x e)
 
--- the clauses of a call that reads a whole text, as they follow from the value that the text spells
+-- the clauses of a call that reads a whole text, from the value that the text spells
 module _ {V X : Type 0} (view : V → X) (Spells : List ℕ → X → Type 0) (value_of : List ℕ → Option X)
     (spelled : (text : List ℕ) (x : X) → value_of text ≡ Some x → Spells text x) (read : (text : List ℕ) (x : X) → Spells text x → value_of text ≡ Some x) where
   pub clause_spelled : {E : Type 0} (text : List ℕ) (r : Result (Option V) E) → IfOk r (λ o. option_map view o ≡ value_of text)

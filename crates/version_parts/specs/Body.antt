@@ -1,4 +1,4 @@
--- Bodies of general versions: one part or more, joined by dots, of which the last is read by rules of its own.
+-- Bodies of general versions: one part or more, joined by dots. The last part is decomposed.
 use Rattle.std.specs.Prelude.{◌≡◌, ◌<◌, ◌-◌, ◌++◌, ◌∷◌, ◌⊎◌, ℕ, List, [], length, map, take, Option, Some}
 use Rattle.std.specs.Option.{option_map, option_map_or}
 use Rattle.version_parts.specs.declared.chunks.Chunks.{Chunks}
@@ -29,11 +29,11 @@ pub record SpellsBody (text : List ℕ) (body : PlainBody) : Type 0 where
   pub parts_are : SpellsDotted SpellsPart text (body.0 ++ part ∷ [])
   pub last_is : IsLastOf part body.1
 
--- the body that some parts are
+-- the body of a list of parts
 abbrev pub body_of : List PlainChunk → Option PlainBody
 body_of parts = option_map (λ p. (p.0, last_of p.1)) (split_last parts)
 
--- parts joined by dots, the last of them by its rules
+-- parts joined by dots, the last of them decomposed
 unfoldable pub body_front : Front PlainBody
 body_front text = do
   parts ← chunks_front text
@@ -45,23 +45,23 @@ abbrev pub chunks_text : List PlainChunk → List ℕ
 chunks_text [] = []
 chunks_text (chunk ∷ chunks) = release_text (chunk ∷ chunks) ++ dot ∷ []
 
--- the printed text: the chunks with a dot behind them, if there are any, and the last part
+-- the printed text: the chunks with a dot after them, if there are any, and the last part
 abbrev pub body_text : PlainBody → List ℕ
 body_text body = chunks_text body.0 ++ last_text body.1
 
--- a body of more than a number owns memory
+-- a body owns memory unless it is one number
 abbrev pub BodyOwns : PlainBody → Type 0
 BodyOwns body = (0 < length body.0) ⊎ LastOwns body.1
 
--- the last part that the part at the front of a text is; 0 where there is none
+-- the last part of the part at the start of a text; 0 if no part parses
 abbrev pub last_at : List ℕ → PlainLast
 last_at text = option_map_or (λ p. last_of p.0) (part_front text) (Numeric 0)
 
--- the body that a list of parts was scanned as: its parts but for the last one, and that one
+-- the body of a scanned list of parts: its parts but for the last, and the last part
 abbrev pub scanned_body : Dotted → PlainBody
 scanned_body list = (take (list.count - 1) (elements_at part_front list.text.now), last_at list.last.now)
 
--- the list counts its parts, of which there is one, and the body is what they make
+-- the list counts its parts and has one or more, and the body is what they make
 abbrev pub IsScannedBody : Dotted → Type 0
 IsScannedBody list = (0 < list.count) × (list.count ≡ length (elements_at part_front list.text.now))
     × (body_of (elements_at part_front list.text.now) ≡ Some (scanned_body list))

@@ -20,10 +20,10 @@ underscore = 95
 abbrev pub tilde : ℕ
 tilde = 126
 
--- a letter, a digit or a hyphen: what the identifiers of a release are made of (SemVer 2.0, section 9)
+-- a letter, a digit or a hyphen: the bytes of the identifiers of a release (SemVer 2.0, section 9)
 abbrev pub is_identifier_byte : ℕ → Bool
 is_identifier_byte b = is_ascii_alphanumeric b || b == hyphen
 
--- the same or a dot: what build metadata is made of
+-- the same or a dot: the bytes of build metadata
 abbrev pub is_metadata_byte : ℕ → Bool
 is_metadata_byte b = is_identifier_byte b || b == dot

@@ -19,22 +19,22 @@ use Rattle.version_parts.specs.Bytes.{is_identifier_byte}
 use Rattle.version_parts.specs.Front.{◌>>=◌, Front, map_value}
 use Rattle.version_parts.specs.Numeral.{SpellsNumeral, unsigned_front}
 
--- a chunk, apart from where its text lies
+-- the value of a chunk, whether its text is owned or borrowed
 pub data PlainChunk : Type 0 where
   Numeric : ℕ → PlainChunk
   Alphanum : List ℕ → PlainChunk
 
--- the chunk that a value holds
+-- the value of an owned chunk
 abbrev pub plain_chunk : Chunk → PlainChunk
 plain_chunk (owned.Numeric n) = Numeric n
 plain_chunk (owned.Alphanum text) = Alphanum (string_bytes text)
 
--- the chunk that was scanned
+-- the value of a scanned chunk
 abbrev pub plain_chunk_ref : ChunkRef → PlainChunk
 plain_chunk_ref (lent.Numeric n) = Numeric n
 plain_chunk_ref (lent.Alphanum text) = Alphanum text.now
 
--- the chunk that stands in a text so, and that the digits of a numeral are one
+-- the value of a chunk from its text, and that its digits are a numeral
 abbrev pub chunk_of_text : ChunkText → PlainChunk
 chunk_of_text (spelled.Numeral digits) = Numeric (digits_value 10 digits.now)
 chunk_of_text (spelled.Alphanum text) = Alphanum text.now
@@ -43,7 +43,7 @@ abbrev pub IsChunkText : ChunkText → Type 0
 IsChunkText (spelled.Numeral digits) = SpellsNumeral digits.now (digits_value 10 digits.now)
 IsChunkText (spelled.Alphanum text) = ⊤
 
--- the text spells the chunk, whose runs are of bytes that pass the test
+-- the text spells the chunk; an `Alphanum` has bytes that pass the test
 abbrev pub SpellsChunkOf : (ℕ → Bool) → List ℕ → PlainChunk → Type 0
 SpellsChunkOf test text (Numeric n) = SpellsNumeral text n
 SpellsChunkOf test text (Alphanum run) = (text ≡ run) × (list_all test run ≡ true) × (list_all is_ascii_digit run ≡ false)
@@ -56,7 +56,7 @@ SpellsChunk = SpellsChunkOf is_identifier_byte
 abbrev pub SpellsPart : List ℕ → PlainChunk → Type 0
 SpellsPart = SpellsChunkOf is_ascii_alphanumeric
 
--- the longest run of bytes that pass the test; where it is all digits, a number is read from the same place
+-- the longest run of bytes that pass the test; if it is all digits, the number that `unsigned_front` reads
 unfoldable pub chunk_front_of : (ℕ → Bool) → Front PlainChunk
 chunk_front_of test text = if list_all is_ascii_digit (take_while test text)
     then map_value Numeric (unsigned_front text)
@@ -80,31 +80,31 @@ abbrev pub ChunkOwns : PlainChunk → Type 0
 ChunkOwns (Numeric n) = ⊥
 ChunkOwns (Alphanum text) = Unit {0}
 
--- what a hash is fed with: which variant it is, and what that holds
+-- what a hash is fed: the variant, and what it holds
 abbrev pub chunk_fed : PlainChunk → HashWrites
 chunk_fed (Numeric n) = fed.u8 0 ++ fed.u32 n
 chunk_fed (Alphanum text) = fed.u8 1 ++ fed.str text
 
--- the number of a number
+-- the number of a `Numeric`
 abbrev pub number_of : PlainChunk → Option ℕ
 number_of (Numeric n) = Some n
 number_of (Alphanum text) = None
 
--- the number at the front of a text
+-- the number that a text begins with
 abbrev pub front_number : List ℕ → Option ℕ
 front_number text = option_map (λ p. p.0) (unsigned_front text)
 
--- the number of a number, or the one that a text begins with
+-- the number of a `Numeric`, or the number that a text begins with
 abbrev pub lenient_digits : PlainChunk → Option ℕ
 lenient_digits (Numeric n) = Some n
 lenient_digits (Alphanum text) = front_number text
 
--- what stands behind the letter that a text begins with
+-- the text after its first byte, if that byte is a letter
 abbrev pub after_letter : List ℕ → Option (List ℕ)
 after_letter [] = None
 after_letter (b ∷ text) = if is_ascii_alphabetic b then Some text else None
 
--- the number of a number, or the one behind the one letter that a text begins with
+-- the number of a `Numeric`, or the number after the letter that a text begins with
 abbrev pub digits_behind_letter : PlainChunk → Option ℕ
 digits_behind_letter (Numeric n) = Some n
 digits_behind_letter (Alphanum text) = after_letter text >>= front_number

@@ -1,4 +1,4 @@
--- The classes of bytes that the scans read runs of.
+-- The classes of bytes whose runs the scans read.
 use Rattle.std.specs.Prelude.{◌≡◌, ℕ, Bool, true}
 use Rattle.std.specs.Char.{is_ascii_alphabetic, is_ascii_alphanumeric, is_ascii_digit}
 use Rattle.version_parts.specs.Bytes.{is_identifier_byte, is_metadata_byte}
@@ -13,6 +13,6 @@ contains Alphanumeric b = is_ascii_alphanumeric b
 contains Identifier b = is_identifier_byte b
 contains Metadata b = is_metadata_byte b
 
--- a class that all digits are of
+-- a class that has all digits
 abbrev pub HasDigits : (ℕ → Bool) → Type 0
 HasDigits test = (b : ℕ) → is_ascii_digit b ≡ true → test b ≡ true

@@ -17,7 +17,7 @@ is_digits text = starts_with_digit text && list_all is_ascii_digit text
 abbrev pub run_value : List ℕ → ℕ
 run_value text = digits_value 10 (take_while is_ascii_digit text)
 
--- that value, and what stands after the run; none where the text begins with no digit
+-- that value, and what follows the run; None if the text does not begin with a digit
 abbrev pub number_front : List ℕ → Option (ℕ × List ℕ)
 number_front text =
     if starts_with_digit text

@@ -1,4 +1,4 @@
--- What fronts leave, which the impls of `Element` cite.
+-- The rests that fronts leave. The impls of `Element` cite these laws.
 use Rattle.std.proofs.Common.{◌≡◌, ◌≤◌, ◌==◌, ◌^◌, ℕ, Bool, List, [], ◌∷◌, length, drop, Option, Some, None, ap, arith, inl, inr, nat_lt}
 use Rattle.std.proofs.lemmas.Bool.{cases_Bool}
 use Rattle.std.proofs.lemmas.List.{length-drop}
@@ -11,7 +11,7 @@ use Rattle.version_parts.specs.Front.{◌>>=◌, Consumes, run_front, unless_emp
 use Rattle.version_parts.specs.MChunk.{chunk_before, mchunk_front}
 use Rattle.version_parts.specs.Numeral.{unsigned_front, value_of_run}
 
--- what a front gives, if anything, leaves no more than the text has
+-- the rest that a front leaves, if it reads a value, is no longer than the text
 abbrev Fits : {X : Type 0} → List ℕ → Option (X × List ℕ) → Type 0
 Fits text None = Unit {0}
 Fits text (Some p) = length p.1 ≤ length text

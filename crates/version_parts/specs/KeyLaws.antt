@@ -1,4 +1,4 @@
--- What the impls of `Code` cite.
+-- Laws that the impls of `Code` cite.
 use Rattle.std.proofs.Common.{◌≡◌, ℕ, List, [], Option, Some, None, ap}
 use Rattle.std.specs.Char.{is_ascii_alphanumeric}
 use Rattle.version_parts.specs.Chunk.{PlainChunk, Numeric, Alphanum}
@@ -17,7 +17,7 @@ pub chunk_begins : (chunk : PlainChunk) → ¬ (chunk_bytes (Some chunk) ≡ [])
 chunk_begins (Numeric n) e = cc e
 chunk_begins (Alphanum text) e = cc e
 
--- what is read and made into something was read
+-- a mapped value was read, with the same rest
 read_before : {X Y : Type 0} (f : X → Y) (o : Option (X × List ℕ)) (y : Y) (rest : List ℕ) → map_value f o ≡ Some (y, rest) → (x : X) × (o ≡ Some (x, rest))
 read_before f None y rest e = cc e
 read_before {X} {Y} f (Some p) y rest e =
@@ -25,7 +25,7 @@ read_before {X} {Y} f (Some p) y rest e =
     let left : p.1 ≡ rest = ap (λ (q : Y × List ℕ). q.1) same in
     (p.0, ap (λ (l : List ℕ). Some (p.0, l)) left)
 
--- what a front leaves, it leaves whatever its value is made into
+-- mapping the value that a front reads does not change what it leaves
 pub mapped_consumes : {X Y : Type 0} (f : X → Y) (front : Front X) → Consumes front → Consumes (λ text. map_value f (front text))
 mapped_consumes f front consumes text y rest e =
     let read = read_before f (front text) y rest e in

@@ -1,5 +1,5 @@
--- The last part of a general version: a number, a release candidate such as `3rc1`, a post-release such as `3p2`,
--- or any other text.
+-- The last part of a general version: a number, a release candidate such as `3rc1`, a post-release such as `3p`, or any
+-- other text.
 use Rattle.std.specs.Prelude.{◌≡◌, ◌<◌, ◌==◌, ℕ, List, length, ◌++◌, Option, Some, None, true, if◌then◌else◌, unwrap_or}
 use Rattle.std.specs.Char.{is_ascii_alphabetic}
 use Rattle.std.specs.Fmt.{decimal}
@@ -17,21 +17,21 @@ use Rattle.version_parts.specs.Chunk as chunk
 use Rattle.version_parts.specs.Front.{◌>>=◌, run_front, whole}
 use Rattle.version_parts.specs.Numeral.{SpellsNumeral, unsigned_front}
 
--- a last part, apart from where its text lies
+-- the value of a last part, whether its text is owned or borrowed
 pub data PlainLast : Type 0 where
   Numeric : ℕ → PlainLast
   Rc : ℕ → List ℕ → ℕ → PlainLast
   Post : ℕ → List ℕ → PlainLast
   Alphanum : List ℕ → PlainLast
 
--- the last part that a value holds
+-- the value of an owned last part
 abbrev pub plain_last : Last → PlainLast
 plain_last (owned.Numeric n) = Numeric n
 plain_last (owned.Rc a text b) = Rc a (string_bytes text) b
 plain_last (owned.Post a text) = Post a (string_bytes text)
 plain_last (owned.Alphanum text) = Alphanum (string_bytes text)
 
--- the last part that was scanned
+-- the value of a scanned last part
 abbrev pub plain_last_ref : LastRef → PlainLast
 plain_last_ref (lent.Numeric n) = Numeric n
 plain_last_ref (lent.Rc a text b) = Rc a text.now b
@@ -55,8 +55,8 @@ pub record IsOther (text : List ℕ) : Type 0 where
   pub not_rc : (a : ℕ) (letters : List ℕ) (b : ℕ) → ¬ (SpellsRc text a letters b)
   pub not_post : (a : ℕ) (letters : List ℕ) → ¬ (SpellsPost text a letters)
 
--- a part that stands last is this last part: a number is itself, and a text is taken apart where it is a numeral and
--- letters, with or without a numeral behind them
+-- a part that stands last is this last part: a number is itself, and a text is decomposed if it is a numeral and
+-- letters, with or without a numeral after them
 abbrev pub IsLastOf : PlainChunk → PlainLast → Type 0
 IsLastOf (chunk.Numeric n) (Numeric m) = n ≡ m
 IsLastOf (chunk.Alphanum text) (Rc a letters b) = SpellsRc text a letters b
@@ -65,26 +65,26 @@ IsLastOf (chunk.Alphanum text) (Alphanum same) = (text ≡ same) × IsOther text
 IsLastOf (chunk.Numeric n) _ = ⊥
 IsLastOf (chunk.Alphanum text) (Numeric m) = ⊥
 
--- a numeral and letters, read from the front, and then nothing or a numeral
+-- a numeral and letters at the start of the text, and then nothing or a numeral
 unfoldable pub numbered_last : List ℕ → Option PlainLast
 numbered_last text = do
   number ← unsigned_front text
   letters ← run_front is_ascii_alphabetic number.1
   if length letters.1 == 0 then Some (Post number.0 letters.0) else option_map (Rc number.0 letters.0) (whole (unsigned_front letters.1))
 
--- the last part that a part is
+-- the last part of a part that stands last
 abbrev pub last_of : PlainChunk → PlainLast
 last_of (chunk.Numeric n) = Numeric n
 last_of (chunk.Alphanum text) = unwrap_or (numbered_last text) (Alphanum text)
 
--- the printed text: numbers in decimal and texts as they are, without anything between
+-- the printed text: numbers in decimal and texts as they are, with nothing between
 abbrev pub last_text : PlainLast → List ℕ
 last_text (Numeric n) = decimal n
 last_text (Rc a text b) = decimal a ++ text ++ decimal b
 last_text (Post a text) = decimal a ++ text
 last_text (Alphanum text) = text
 
--- a last part that is taken apart
+-- a last part that is decomposed
 abbrev pub IsNumbered : PlainLast → Type 0
 IsNumbered (Rc a text b) = Unit {0}
 IsNumbered (Post a text) = Unit {0}
@@ -102,7 +102,7 @@ first_number (Rc a text b) = Some a
 first_number (Post a text) = Some a
 first_number (Alphanum text) = None
 
--- what a hash is fed with: which variant it is, and what that holds
+-- what a hash is fed: the variant, and what it holds
 abbrev pub last_fed : PlainLast → HashWrites
 last_fed (Numeric n) = fed.u8 0 ++ fed.u32 n
 last_fed (Rc a text b) = fed.u8 1 ++ (fed.u32 a ++ (fed.str text ++ fed.u32 b))

@@ -19,19 +19,20 @@ use Rattle.version_parts.specs.Front.{◌>>=◌, Front, after_mark, run_front}
 use Rattle.version_parts.specs.Lists.{bytes_cmp}
 use Rattle.version_parts.specs.Sep.{is_sep}
 
--- a messy chunk, apart from where its text lies; digits and a revision keep their value beside their text
+-- the value of a messy chunk, whether its text is owned or borrowed; digits and a revision keep their value beside
+-- their text
 pub data PlainMChunk : Type 0 where
   Digits : ℕ → List ℕ → PlainMChunk
   Rev : ℕ → List ℕ → PlainMChunk
   Plain : List ℕ → PlainMChunk
 
--- the chunk that a value holds
+-- the value of an owned chunk
 abbrev pub plain_mchunk : MChunk → PlainMChunk
 plain_mchunk (owned.Digits value text) = Digits value (string_bytes text)
 plain_mchunk (owned.Rev value text) = Rev value (string_bytes text)
 plain_mchunk (owned.Plain text) = Plain (string_bytes text)
 
--- the chunk that was scanned
+-- the value of a scanned chunk
 abbrev pub plain_mchunk_ref : MChunkRef → PlainMChunk
 plain_mchunk_ref (lent.Digits value text) = Digits value text.now
 plain_mchunk_ref (lent.Rev value text) = Rev value text.now
@@ -43,13 +44,13 @@ mchunk_text (Digits value text) = text
 mchunk_text (Rev value text) = text
 mchunk_text (Plain text) = text
 
--- the text is digits, perhaps with zeros before them, of this value, which is below 2 ^ 32
+-- the text is digits, perhaps with leading zeros, of this value, which is below 2 ^ 32
 pub record SpellsDigits (text : List ℕ) (value : ℕ) : Type 0 where
   pub digits : is_digits text ≡ true
   pub value_is : digits_value 10 text ≡ value
   pub fits : value < 2 ^ 32
 
--- the text is such digits behind an r
+-- the text is an r and such digits after it
 abbrev pub SpellsRevision : List ℕ → ℕ → Type 0
 SpellsRevision text value = (digits : List ℕ) × (text ≡ 114 ∷ digits) × SpellsDigits digits value
 
@@ -60,7 +61,7 @@ pub record SpellsPlain (text : List ℕ) : Type 0 where
   pub no_digits : (value : ℕ) → ¬ SpellsDigits text value
   pub no_revision : (value : ℕ) → ¬ SpellsRevision text value
 
--- the text spells a messy chunk, which keeps it
+-- the text spells a messy chunk, which keeps the text
 abbrev pub SpellsMChunk : List ℕ → PlainMChunk → Type 0
 SpellsMChunk text (Digits value kept) = (text ≡ kept) × SpellsDigits text value
 SpellsMChunk text (Rev value kept) = (text ≡ kept) × SpellsRevision text value
@@ -70,11 +71,11 @@ SpellsMChunk text (Plain kept) = (text ≡ kept) × SpellsPlain text
 abbrev pub value_of_digits : List ℕ → Option ℕ
 value_of_digits text = if is_digits text && nat_lt (digits_value 10 text) (2 ^ 32) then Some (digits_value 10 text) else None
 
--- the value of the digits behind an r
+-- the value of the digits after an r
 abbrev pub value_of_revision : List ℕ → Option ℕ
 value_of_revision text = after_mark 114 text >>= value_of_digits
 
--- the chunk that a run of letters and digits is
+-- the chunk of a run of letters and digits
 unfoldable pub variant_of : List ℕ → PlainMChunk
 variant_of run = option_map_or (λ value. Digits value run) (value_of_digits run)
     (option_map_or (λ value. Rev value run) (value_of_revision run) (Plain run))
@@ -88,36 +89,36 @@ ends_chunk (b ∷ rest) = b == dot || is_sep b
 abbrev pub EndsChunk : List ℕ → Type 0
 EndsChunk rest = ends_chunk rest ≡ true
 
--- the chunk that a run is, before what follows it: plain, where that is neither a dot nor a sign nor the end
+-- the chunk of a run, by what follows it: plain, unless a dot, a sign or the end follows
 abbrev pub chunk_before : List ℕ × List ℕ → PlainMChunk
 chunk_before run = if ends_chunk run.1 then variant_of run.0 else Plain run.0
 
--- the longest run of letters and digits, which may not be empty
+-- the longest run of letters and digits, or None if it is empty
 unfoldable pub mchunk_front : Front PlainMChunk
 mchunk_front text = option_map (λ run. (chunk_before run, run.1)) (run_front is_ascii_alphanumeric text)
 
--- the number of digits
+-- the number of a `Digits`
 abbrev pub digits_number : PlainMChunk → Option ℕ
 digits_number (Digits value text) = Some value
 digits_number (Rev value text) = None
 digits_number (Plain text) = None
 
--- the place of a kind of chunk among the kinds, as they are declared
+-- the place of a variant in the order of declaration
 abbrev pub mchunk_rank : PlainMChunk → ℕ
 mchunk_rank (Digits value text) = 0
 mchunk_rank (Rev value text) = 1
 mchunk_rank (Plain text) = 2
 
--- the value that stands beside the text, none being 0
+-- the value beside the text, or 0
 abbrev pub mchunk_value : PlainMChunk → ℕ
 mchunk_value (Digits value text) = value
 mchunk_value (Rev value text) = value
 mchunk_value (Plain text) = 0
 
--- two chunks, field by field: the kinds as they are declared, then the values, then the texts by bytes
+-- two chunks, field by field: variants in the order of declaration, then the values, then the texts by bytes
 abbrev pub mchunk_plain_cmp : PlainMChunk → PlainMChunk → Ordering
 mchunk_plain_cmp = then_cmp (on mchunk_rank nat_cmp) (then_cmp (on mchunk_value nat_cmp) (on mchunk_text bytes_cmp))
 
--- what a hash is fed with: the place of the kind, the value, none being 0, and the text
+-- what a hash is fed: the place of the variant, the value or 0, and the text
 abbrev pub mchunk_fed : PlainMChunk → HashWrites
 mchunk_fed chunk = fed.u8 (mchunk_rank chunk) ++ (fed.u32 (mchunk_value chunk) ++ fed.str (mchunk_text chunk))

@@ -10,7 +10,7 @@ use Rattle.version_parts.specs.Sep.{PlainSep, Colon, Hyphen, Plus, Underscore, T
 pub sep_total : IsTotalOrder sep_plain_cmp
 sep_total = on_total sep_rank nat_cmp_total
 
--- signs of one place are one sign
+-- signs of the same place are the same sign
 rank_same : (s t : PlainSep) → sep_rank s ≡ sep_rank t → s ≡ t
 rank_same Colon Colon e = refl
 rank_same Hyphen Hyphen e = refl
@@ -25,7 +25,7 @@ seps_same s t e = rank_same s t (nat_cmp-IsAntisymmetric (sep_rank s) (sep_rank 
 pub mchunk_total : IsTotalOrder mchunk_plain_cmp
 mchunk_total = then_total (on_total mchunk_rank nat_cmp_total) (then_total (on_total mchunk_value nat_cmp_total) (on_total mchunk_text nat_list_cmp_total))
 
--- chunks of one kind with one value and one text are one chunk
+-- chunks of the same variant, value and text are the same chunk
 fields_same : (a b : PlainMChunk) → mchunk_rank a ≡ mchunk_rank b → mchunk_value a ≡ mchunk_value b → mchunk_text a ≡ mchunk_text b → a ≡ b
 fields_same (Digits m s) (Digits n t) rank value text = λ i. Digits (value i) (text i)
 fields_same (Digits m s) (Rev n t) rank value text = cc rank

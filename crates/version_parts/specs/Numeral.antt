@@ -6,7 +6,7 @@ use Rattle.std.specs.Option.{option_map_or}
 use Rattle.std.specs.Str.Parse.{digits_value}
 use Rattle.version_parts.specs.Front.{◌>>=◌, Front, after_mark, run_front}
 
--- one digit, or digits that begin with another than 0
+-- one digit, or digits of which the first is not 0
 abbrev pub HasNoLeadingZero : List ℕ → Type 0
 HasNoLeadingZero [] = ⊥
 HasNoLeadingZero (d ∷ []) = Unit {0}
@@ -23,6 +23,6 @@ pub record SpellsNumeral (text : List ℕ) (n : ℕ) : Type 0 where
 abbrev pub value_of_run : List ℕ × List ℕ → Option (ℕ × List ℕ)
 value_of_run run = if nat_lt (digits_value 10 run.0) (2 ^ 32) then Some (digits_value 10 run.0, run.1) else None
 
--- a 0 alone, whatever follows it; or else the longest run of digits, read whole
+-- 0 if the text begins with 0, whatever follows; else the value of the longest run of digits
 unfoldable pub unsigned_front : Front ℕ
 unsigned_front text = option_map_or (λ rest. Some (0, rest)) (after_mark 48 text) (run_front is_ascii_digit text >>= value_of_run)

@@ -1,4 +1,4 @@
--- Laws of orders in general: what follows from their being total, or from their telling different values apart.
+-- Laws of orders in general: what follows if they are total, or Equal only for the same value.
 use Rattle.std.proofs.Common.{◌≡◌, Option, Some, None, true, refl, ap, subst}
 use Rattle.std.specs.Cmp.{Equal-is, IsTotalOrder, back_total, tied_itself}
 use Rattle.std.specs.Cmp.Lexicographic.{options_total}
@@ -26,7 +26,7 @@ then_second Less b e = cc e
 then_second Equal b e = e
 then_second Greater b e = cc e
 
--- ---- orders that are Equal only of one and the same value
+-- ---- orders that are Equal only for the same value
 
 pub options_same : {A : Type 0} {R : A → A → Ordering} → IsAntisymmetric R → IsAntisymmetric (option_cmp R)
 options_same same None None e = refl
@@ -45,13 +45,13 @@ bytes_same = slice_cmp-IsAntisymmetric nat_cmp-IsAntisymmetric
 
 -- ---- what a tie says
 
--- values that an order ties are the same, where it tells different ones apart
+-- values that compare equal are the same, if the order is Equal only for the same value
 pub same_where_tied : {A : Type 0} {R : A → A → Ordering} → IsAntisymmetric R → {a b : A} → eq_by_cmp R a b ≡ true → a ≡ b
 same_where_tied {R = R} same {a} {b} tied = same a b ((Equal-is (R a b)).0 tied)
 
--- ---- an order, and another where it ties
+-- ---- an order, and another that breaks its ties
 
--- the two together tie what the second ties, where the first ties all that
+-- two orders in turn tie the same values as the second alone, if the first ties all values that the second ties
 pub ties_behind : {A : Type 0} {R S : A → A → Ordering} → ((a b : A) → S a b ≡ Equal → R a b ≡ Equal)
     → (a b : A) → eq_by_cmp S a b ≡ eq_by_cmp (then_cmp R S) a b
 ties_behind {R = R} {S} tied a b = level (R a b) (S a b) (tied a b)
@@ -65,12 +65,12 @@ ties_behind {R = R} {S} tied a b = level (R a b) (S a b) (tied a b)
     level Greater Equal e = cc (e refl)
     level Greater Greater e = refl
 
--- as it does where the first is total, and the second tells different values apart
+-- they do so if the first is total, and the second is Equal only for the same value
 pub ties_same : {A : Type 0} {R S : A → A → Ordering} → IsTotalOrder R → IsAntisymmetric S
     → (a b : A) → eq_by_cmp S a b ≡ eq_by_cmp (then_cmp R S) a b
 ties_same {R = R} total same = ties_behind (λ a b tied. rw (same a b tied) (tied_itself total b))
 
--- ---- none above every value
+-- ---- None after every value
 
 none_last-turned : {A : Type 0} (R : A → A → Ordering) (a b : Option A) → flip_args (option_cmp (flip_args R)) a b ≡ none_last_cmp R a b
 none_last-turned R None None = refl

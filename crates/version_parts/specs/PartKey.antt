@@ -18,7 +18,7 @@ pub data PartKey : Type 0 where
   Word : Split → PartKey
   Number : ℕ → Option Split → PartKey
 
--- the suffix that stands behind a number: none where nothing does
+-- the suffix after a number, or None
 abbrev pub suffix_of : List ℕ → Option Split
 suffix_of [] = None
 suffix_of text = Some (split_of text)
@@ -34,15 +34,15 @@ chunk_parts chunks = map (λ chunk. part_key (chunk_text chunk)) chunks
 abbrev pub section_parts : List PlainMChunk → List PartKey
 section_parts chunks = map (λ chunk. part_key (mchunk_text chunk)) chunks
 
--- the key of the part, and of the messy chunk, at the front of a text, and the rest
+-- the key of the part, and of the messy chunk, at the start of a text, and the rest
 abbrev pub part_key_front : Front PartKey
 part_key_front text = map_value (λ chunk. part_key (chunk_text chunk)) (part_front text)
 
 abbrev pub mchunk_key_front : Front PartKey
 mchunk_key_front text = map_value (λ chunk. part_key (mchunk_text chunk)) (mchunk_front text)
 
--- two parts, or the end of a list of them: a word is below the end, the end below a number,
--- and of two equal numbers a suffixed one is below a plain one
+-- two parts, or the end of a list of them: word < end of the list < number; of two equal numbers the one with a suffix
+-- comes first
 abbrev pub part_cmp : Option PartKey → Option PartKey → Ordering
 part_cmp (Some (Word v)) (Some (Word w)) = split_cmp v w
 part_cmp (Some (Word v)) _ = Less
@@ -52,11 +52,11 @@ part_cmp None (Some (Number n t)) = Less
 part_cmp (Some (Number m s)) (Some (Number n t)) = ordering_then (nat_cmp m n) (none_last_cmp split_cmp s t)
 part_cmp (Some (Number m s)) _ = Greater
 
--- two lists of parts: the first place where they differ decides, each continued by its end
+-- two lists of parts, each with its end after it: the first place where they differ decides
 abbrev pub list_cmp : List PartKey → List PartKey → Ordering
 list_cmp = ended_cmp part_cmp
 
--- the bytes of a suffix: 1 and the split, or 2 where there is none
+-- the bytes of a suffix: 1 and the split, or 2 if there is no suffix
 abbrev pub suffix_bytes : Option Split → List ℕ
 suffix_bytes (Some s) = 1 ∷ split_bytes s
 suffix_bytes None = 2 ∷ []

@@ -58,7 +58,7 @@ part_total = subst IsTotalOrder (λ i a b. in_turn a b i)
 pub list_total : IsTotalOrder list_cmp
 list_total = on_total with_end (lists_total part_total)
 
--- ---- the orders tell different values apart
+-- ---- the orders are Equal only for the same value
 
 numbered_same : IsAntisymmetric numbered_cmp
 numbered_same m n e =

@@ -1,4 +1,4 @@
--- Numbers and parts read off their texts, and the parts of a list that are still to come.
+-- Numbers and parts read from their texts, and the remaining parts of a list.
 use Rattle.std.specs.Prelude.{ℕ, List, [], ◌∷◌, None}
 use Rattle.version_parts.specs.declared.part.list.PartRef.{PartRef}
 use Rattle.version_parts.specs.declared.part.list.PartRef.TheVariants as part
@@ -22,7 +22,7 @@ abbrev pub part_ref_key : PartRef → PartKey
 part_ref_key (part.Number n) = Number n None
 part_ref_key (part.Text text) = part_key text.now
 
--- the keys of the parts that are still to come
+-- the keys of the remaining parts
 abbrev pub parts_left : PartsRef → List PartKey
 parts_left Ended = []
 parts_left (One l) = Number l None ∷ []

@@ -17,7 +17,7 @@ plain_release release = map plain_chunk release.0.items
 abbrev pub SpellsRelease : List ℕ → List PlainChunk → Type 0
 SpellsRelease = SpellsDotted SpellsChunk
 
--- a hyphen, and the chunks behind it
+-- a hyphen, and the chunks after it
 abbrev pub release_front : Front (List PlainChunk)
 release_front = behind hyphen (dotted_front chunk_front)
 
@@ -25,6 +25,6 @@ release_front = behind hyphen (dotted_front chunk_front)
 abbrev pub release_text : List PlainChunk → List ℕ
 release_text chunks = join_with_byte dot (map chunk_text chunks)
 
--- what a hash is fed with: how many chunks there are, and each of them
+-- what a hash is fed: the count of chunks, and each of them
 abbrev pub release_fed : List PlainChunk → HashWrites
 release_fed = fed.slice chunk_fed

@@ -10,14 +10,14 @@ use Rattle.version_parts.specs.Lists.{bytes_cmp}
 use Rattle.version_parts.specs.NumberBytes.{number_bytes}
 use Rattle.version_parts.specs.TextBytes.{text_bytes}
 
--- two chunks: numbers by value and below texts, texts by bytes
+-- two chunks: numbers by value, numbers before texts, texts by bytes
 abbrev pub chunk_cmp : PlainChunk → PlainChunk → Ordering
 chunk_cmp (Numeric m) (Numeric n) = nat_cmp m n
 chunk_cmp (Numeric m) (Alphanum t) = Less
 chunk_cmp (Alphanum s) (Numeric n) = Greater
 chunk_cmp (Alphanum s) (Alphanum t) = bytes_cmp s t
 
--- two releases: chunk by chunk, the shorter first where one begins the other
+-- two releases: chunk by chunk, a prefix before the longer one
 abbrev pub release_cmp : List PlainChunk → List PlainChunk → Ordering
 release_cmp = slice_cmp chunk_cmp
 

@@ -14,7 +14,7 @@ use Rattle.version_parts.specs.Front.{Front}
 pub data PlainSep : Type 0 where
   Colon Hyphen Plus Underscore Tilde : PlainSep
 
--- the sign that a value is
+-- the sign of a value
 abbrev pub plain_sep : Sep → PlainSep
 plain_sep owned.Colon = Colon
 plain_sep owned.Hyphen = Hyphen
@@ -30,7 +30,7 @@ sep_byte Plus = plus
 sep_byte Underscore = underscore
 sep_byte Tilde = tilde
 
--- the sign that a byte is, where it is one
+-- the sign of a byte, if the byte is a sign
 abbrev pub sep_of : ℕ → Option PlainSep
 sep_of b =
     if b == colon then Some Colon else
@@ -43,12 +43,12 @@ sep_of b =
 abbrev pub is_sep : ℕ → Bool
 is_sep b = is_some (sep_of b)
 
--- a sign
+-- the sign at the start of a text
 abbrev pub sep_front : Front PlainSep
 sep_front [] = None
 sep_front (b ∷ rest) = option_map (λ sign. (sign, rest)) (sep_of b)
 
--- the place of a sign among the signs, as they are declared
+-- the place of a sign in the order of declaration
 abbrev pub sep_rank : PlainSep → ℕ
 sep_rank Colon = 0
 sep_rank Hyphen = 1
@@ -56,10 +56,10 @@ sep_rank Plus = 2
 sep_rank Underscore = 3
 sep_rank Tilde = 4
 
--- two signs, as they are declared
+-- two signs, in the order of declaration
 abbrev pub sep_plain_cmp : PlainSep → PlainSep → Ordering
 sep_plain_cmp = on sep_rank nat_cmp
 
--- what a hash is fed with: the place of the sign
+-- what a hash is fed: the place of the sign
 abbrev pub sep_fed : PlainSep → HashWrites
 sep_fed sign = fed.u8 (sep_rank sign)

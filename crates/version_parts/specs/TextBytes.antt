@@ -1,8 +1,8 @@
--- The bytes of a text: its own, with a 0 behind them.
+-- The bytes of a text: its own, with a 0 after them.
 use Rattle.std.specs.Prelude.{ℕ, zero, suc, List, [], ◌∷◌, Option, Some, None}
 use Rattle.version_parts.specs.Codes.{list_bytes}
 
--- a byte of a text, or the end of it: the end is 0, and the bytes 0 and 1 are written in two
+-- a byte of a text, or the end of it: the end is 0, and the bytes 0 and 1 are each written as two
 abbrev pub text_byte : Option ℕ → List ℕ
 text_byte None = 0 ∷ []
 text_byte (Some zero) = 1 ∷ 1 ∷ []

@@ -1,4 +1,4 @@
--- The texts that keys hold, byte after byte: what is not a number in them.
+-- The texts that keys hold, one after another: all in a key that is not a number.
 use Rattle.std.specs.Prelude.{ℕ, ◌<◌, List, [], ◌++◌, Option, Some, None}
 use Rattle.std.specs.List.{All, flat_map}
 use Rattle.version_parts.specs.Chunk.{PlainChunk, Numeric, Alphanum}
@@ -9,7 +9,7 @@ use Rattle.version_parts.specs.Split.{Split}
 abbrev pub AreBytes : List ℕ → Type 0
 AreBytes xs = All (λ b. b < 256) xs
 
--- what stands behind the number of a split, if it has one
+-- the text after the number of a split, if there is a number
 abbrev pub rest_text : Option (ℕ × List ℕ) → List ℕ
 rest_text None = []
 rest_text (Some n) = n.1
@@ -28,7 +28,7 @@ part_text (Number n (Some suffix)) = split_text suffix
 abbrev pub parts_text : List PartKey → List ℕ
 parts_text = flat_map part_text
 
--- the text that a chunk brings into a key: none for a number
+-- the text that a chunk adds to a key: empty for a number
 abbrev pub held_text : PlainChunk → List ℕ
 held_text (Numeric n) = []
 held_text (Alphanum text) = text

@@ -34,9 +34,9 @@ pub record WorkedOrder : Type 0 where
   -- `2.14.r8`, `2.14.r23`, `2.14.8`
   pub revisions : list_cmp (parts (codes "2" ∷ codes "14" ∷ codes "r8" ∷ [])) (parts (codes "2" ∷ codes "14" ∷ codes "r23" ∷ [])) ≡ Less
   pub revision_number : list_cmp (parts (codes "2" ∷ codes "14" ∷ codes "r23" ∷ [])) (parts (codes "2" ∷ codes "14" ∷ codes "8" ∷ [])) ≡ Less
-  -- the words `a`, and `a` with a byte 0 behind it; the words of one byte 0, and of one byte 1
+  -- the words `a`, and `a` with a byte 0 after it; the words of one byte 0, and of one byte 1
   pub longer_word : part_cmp (part (97 ∷ [])) (part (97 ∷ 0 ∷ [])) ≡ Less
   pub byte_zero_one : part_cmp (part (0 ∷ [])) (part (1 ∷ [])) ≡ Less
-  -- a suffixed number below the plain one: `3rc1`, `3`; and suffixes by their splits: `3rc9`, `3rc10`
+  -- a number with a suffix below the plain one: `3rc1`, `3`; and suffixes by their splits: `3rc9`, `3rc10`
   pub suffixed_plain : part_cmp (part (codes "3rc1")) (part (codes "3")) ≡ Less
   pub suffixes : part_cmp (part (codes "3rc9")) (part (codes "3rc10")) ≡ Less

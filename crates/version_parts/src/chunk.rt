@@ -1,4 +1,4 @@
-//! Chunks: what stands between the dots of a release or of a general version.
+//! Chunks: the pieces between the dots of a release or of a general version.
 
 ghost use Rattle.std.specs.Prelude.{◌≡◌, refl, Some, IfOk, IfSome, OnErr};
 ghost use Rattle.std.specs.Char.{is_ascii_alphanumeric};
@@ -26,8 +26,8 @@ use std::cmp::Ordering;
 use std::fmt;
 use std::hash::{Hash, Hasher};
 
-/// One piece between dots, as `rc` and `1` of the release `-rc.1` (SemVer 2.0, section 9), or as `1` and `2a` of the
-/// general version `1.2a.3`.
+/// A piece between dots: `rc` and `1` of the release `-rc.1` (SemVer 2.0, section 9), or `1` and `2a` of the general
+/// version `1.2a.3`.
 #[derive(Debug, Drop, Serialize, Deserialize)]
 pub enum Chunk {
     /// A number without leading zeros.
@@ -37,9 +37,10 @@ pub enum Chunk {
 }
 
 impl Chunk {
-    /// The chunk of a release at the front of a text, and the rest: the longest run of letters, digits and hyphens
-    /// is `Alphanum`; where it is all digits, a number is read from the same place. None and `Numeric` take no
-    /// memory; the text of an `Alphanum` is copied, and the error is that there is no memory for it.
+    /// Parses the chunk of a release at the start of a text, and returns it with the rest. The longest run of letters,
+    /// digits and hyphens is an `Alphanum`. If it is all digits, the chunk is a `Numeric` of the number that
+    /// [`unsigned`](crate::parsers::unsigned) parses there. Returns None if the run is empty or `unsigned` returns
+    /// None. Only the text of an `Alphanum` is allocated. Fails on allocation failure.
     #[tactic(auto, using(crate::proofs::ShortRuns::classes_with_digits))]
     pub fn parse(alloc: Global, i: &str) -> Result<Option<(Chunk, &str)>, AllocError>
         ensures { Reads plain_chunk ChunkOwns result (chunk_front i.now) }
@@ -47,8 +48,8 @@ impl Chunk {
         read_chunk(alloc, i, Class::Identifier)
     }
 
-    /// The part of a general version at the front of a text, and the rest: as [`Chunk::parse`], with a run of
-    /// letters and digits alone.
+    /// Parses the part of a general version at the start of a text, and returns it with the rest. It parses as
+    /// [`Chunk::parse`] does, but the run has no hyphens.
     #[tactic(auto, using(crate::proofs::ShortRuns::classes_with_digits))]
     pub fn parse_without_hyphens(
         alloc: Global,
@@ -59,7 +60,7 @@ impl Chunk {
         read_chunk(alloc, i, Class::Alphanumeric)
     }
 
-    /// The number of a `Numeric`. Takes no memory.
+    /// Returns the number of a `Numeric`, or None. Does not allocate.
     pub fn single_digit(&self) -> Option<u32>
         ensures { result ≡ number_of (plain_chunk self.now) }
     {
@@ -69,8 +70,8 @@ impl Chunk {
         }
     }
 
-    /// The number of a `Numeric`, or the one that an `Alphanum` begins with, as [`unsigned`](crate::parsers::unsigned)
-    /// reads it. Takes no memory.
+    /// Returns the number of a `Numeric`, or the number that [`unsigned`](crate::parsers::unsigned) parses at the start
+    /// of an `Alphanum`, or None. Does not allocate.
     pub fn single_digit_lenient(&self) -> Option<u32>
         ensures { result ≡ lenient_digits (plain_chunk self.now) }
     {
@@ -80,8 +81,8 @@ impl Chunk {
         }
     }
 
-    /// The number of a `Numeric`, or the one that stands in an `Alphanum` behind exactly one leading letter, as 23 in
-    /// `r23`. Takes no memory.
+    /// Returns the number of a `Numeric`, or the number that `unsigned` parses after the first byte of an `Alphanum` if
+    /// that byte is a letter, as 23 of `r23`, or None. Does not allocate.
     pub fn single_digit_lenient_post(&self) -> Option<u32>
         ensures { result ≡ digits_behind_letter (plain_chunk self.now) }
     {
@@ -91,7 +92,7 @@ impl Chunk {
         }
     }
 
-    /// A copy. A number takes no memory; the error is that there is no memory for a text.
+    /// Returns a copy. Only the text of an `Alphanum` is allocated. Fails on allocation failure.
     pub fn clone(&self, alloc: Global) -> Result<Chunk, AllocError>
         ensures ok { IfOk result (λ copy. plain_chunk copy ≡ plain_chunk self.now) }
         ensures err { OnErr result (ChunkOwns (plain_chunk self.now)) }
@@ -104,7 +105,7 @@ impl Chunk {
 }
 
 impl Chunk {
-    /// The same with its text lent. Takes no memory.
+    /// Returns the same chunk with its text borrowed. Does not allocate.
     pub fn lent(&self) -> ChunkRef<'_>
         ensures { plain_chunk_ref result ≡ plain_chunk self.now }
     {
@@ -115,7 +116,7 @@ impl Chunk {
     }
 }
 
-// The number at the front of a text.
+// The number that `unsigned` parses at the start of a text.
 fn front_number(text: &str) -> Option<u32>
     ensures { result ≡ option_map (λ p. p.0) (unsigned_front text.now) }
 {
@@ -174,7 +175,7 @@ fn compare_chunks(a: &Chunk, b: &Chunk) -> Ordering
     a.lent().compare(b.lent())
 }
 
-// The chunk at the front of a text whose runs are of the class, and the rest.
+// Parses the chunk at the start of a text, and returns it with the rest. A run has bytes of the class.
 fn read_chunk(alloc: Global, i: &str, class: Class) -> Result<Option<(Chunk, &str)>, AllocError>
     requires { HasDigits (contains class) }
     ensures { Reads plain_chunk ChunkOwns result (chunk_front_of (contains class) i.now) }
@@ -185,7 +186,7 @@ fn read_chunk(alloc: Global, i: &str, class: Class) -> Result<Option<(Chunk, &st
     Ok(Some((piece.build(alloc)?, rest)))
 }
 
-// What stands behind the letter that a text begins with.
+// The text after its first byte, if that byte is a letter.
 fn after_letter(text: &str) -> Option<&str>
     ensures { option_map (λ r. r.now) result ≡ after_letter text.now }
 {
@@ -195,7 +196,7 @@ fn after_letter(text: &str) -> Option<&str>
     }
 }
 
-/// A chunk whose text lies elsewhere, as one that was scanned, with its text still in the input.
+/// A chunk with a borrowed text. The text of a scanned chunk is part of the input.
 #[derive(Clone, Copy)]
 pub enum ChunkRef<'a> {
     /// A number without leading zeros.
@@ -205,7 +206,8 @@ pub enum ChunkRef<'a> {
 }
 
 impl<'a> ChunkRef<'a> {
-    // The chunk at the front of a text whose runs are of the class, and the rest. Takes no memory.
+    // Scans the chunk at the start of a text, and returns it with the rest. A run has bytes of the class. Does not
+    // allocate.
     pub(crate) fn scan(i: &'a str, class: Class) -> Option<(ChunkRef<'a>, &'a str)>
         requires { HasDigits (contains class) }
         ensures { option_map (λ r. (plain_chunk_ref r.0, r.1.now)) result
@@ -219,7 +221,7 @@ impl<'a> ChunkRef<'a> {
         }
     }
 
-    /// The printed text, byte after byte. Takes no memory.
+    /// Returns the bytes of the printed text. Does not allocate.
     pub fn part_text(self) -> PartText<'a>
         ensures { result ≡ chunk_text (plain_chunk_ref self.entry) }
     {
@@ -229,7 +231,7 @@ impl<'a> ChunkRef<'a> {
         }
     }
 
-    // The chunk with a text of its own. A number takes no memory.
+    // The chunk with a text of its own. A number does not allocate.
     pub(crate) fn build(self, alloc: Global) -> Result<Chunk, AllocError>
         ensures ok { IfOk result (λ chunk. plain_chunk chunk ≡ plain_chunk_ref self.entry) }
         ensures err { OnErr result (ChunkOwns (plain_chunk_ref self.entry)) }
@@ -242,7 +244,7 @@ impl<'a> ChunkRef<'a> {
 }
 
 impl<'a> ChunkRef<'a> {
-    /// The number of a `Numeric`. Takes no memory.
+    /// Returns the number of a `Numeric`, or None. Does not allocate.
     pub fn number(self) -> Option<u32>
         ensures { result ≡ number_of (plain_chunk_ref self.entry) }
     {
@@ -252,7 +254,7 @@ impl<'a> ChunkRef<'a> {
         }
     }
 
-    // The order of chunks within a release: numbers by value and below texts, texts by bytes (SemVer 2.0, section 11).
+    // The order of chunks within a release: numbers by value, numbers < texts, texts by bytes (SemVer 2.0, section 11).
     fn compare(self, other: ChunkRef<'_>) -> Ordering
         ensures { result ≡ chunk_cmp (plain_chunk_ref self.entry) (plain_chunk_ref other.entry) }
     {
@@ -276,7 +278,7 @@ impl<'a> fmt::Display for ChunkRef<'a> {
     }
 }
 
-// A chunk as it stands in its text: a numeral, by its digits, or another run.
+// A scanned chunk by its text: the digits of a numeral, or another run.
 #[derive(Clone, Copy)]
 pub(crate) enum ChunkText<'a> {
     Numeral(&'a str),
@@ -284,7 +286,8 @@ pub(crate) enum ChunkText<'a> {
 }
 
 impl<'a> ChunkText<'a> {
-    // The chunk at the front of a text whose runs are of the class, which has all digits, and the rest.
+    // Scans the chunk at the start of a text, and returns it with the rest. A run has bytes of the class, which has all
+    // digits.
     #[inline(always)]
     pub(crate) fn scan(i: &'a str, class: Class) -> Option<(ChunkText<'a>, &'a str)>
         requires { HasDigits (contains class) }
@@ -305,7 +308,7 @@ impl<'a> ChunkText<'a> {
     }
 }
 
-// What stands behind the chunk at the front of a text whose runs are of the class, which has all digits.
+// The rest after the chunk at the start of a text. A run has bytes of the class, which has all digits.
 #[inline(always)]
 fn skip_chunk(i: &str, class: Class) -> Option<&str>
     requires { HasDigits (contains class) }

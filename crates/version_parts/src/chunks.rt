@@ -1,4 +1,4 @@
-//! The chunks of a general version, and its body: the chunks with the last part behind them.
+//! The chunks of a general version, and its body: the chunks, and the last part after them.
 
 ghost use Rattle.std.specs.Prelude.{◌≡◌, ◌==◌, ◌<◌, ◌-◌, ◌∷◌, ◌++◌, [], if◌then◌else◌, length, refl, IfOk, OnErr, Some};
 ghost use Rattle.std.proofs.Common.{ap};
@@ -41,8 +41,9 @@ use std::marker::Model;
 pub struct Chunks(pub Vec<Chunk>);
 
 impl Chunks {
-    /// The parts at the front of a text, and the rest: one or more, joined by dots. The list stops before a dot
-    /// behind which no part can be read. None takes no memory; the error is that there is no memory for the parts.
+    /// Parses one part or more at the start of a text, with dots between, and returns them with the rest. The list ends
+    /// before a dot that no part follows. Returns None, without allocating, if no part parses. Fails on allocation
+    /// failure.
     pub fn parse(alloc: Global, i: &str) -> Result<Option<(Chunks, &str)>, AllocError>
         ensures { Reads plain_chunks (λ _. Unit {0}) result (chunks_front i.now) }
     {
@@ -52,14 +53,14 @@ impl Chunks {
         Ok(Some((Chunks(list.build::<Part>(alloc, list.count)?), rest)))
     }
 
-    /// No chunks. Takes no memory.
+    /// Returns an empty list. Does not allocate.
     pub fn default_in(alloc: Global) -> Chunks
         ensures { plain_chunks result ≡ [] }
     {
         Chunks(Vec::new(alloc))
     }
 
-    /// A copy. The error is that there is no memory for it.
+    /// Returns a copy. Fails on allocation failure.
     pub fn clone(&self, alloc: Global) -> Result<Chunks, AllocError>
         ensures { IfOk result (λ copy. plain_chunks copy ≡ plain_chunks self.now) }
     {
@@ -100,7 +101,7 @@ impl Hash for Chunks {
     }
 }
 
-/// As lists of parts, whose end is above words and below numbers, then chunk by chunk. Takes no memory.
+/// Compares as lists of parts: word < end of the list < number. Breaks ties chunk by chunk. Does not allocate.
 impl Ord for Chunks {
     ghost cmp = { on plain_chunks chunks_cmp };
 
@@ -127,7 +128,7 @@ impl PartialOrd for Chunks {
     }
 }
 
-/// The body of a general version that was scanned, with its texts still in the input.
+/// A scanned body of a general version. Its texts are parts of the input.
 #[derive(Drop)]
 pub struct BodyRef<'a> {
     list: Dotted<'a>,
@@ -146,7 +147,7 @@ impl<'a> Model for BodyRef<'a> {
 }
 
 impl<'a> BodyRef<'a> {
-    /// The body at the front of a text, and the rest. Takes no memory.
+    /// Scans the body at the start of a text, and returns it with the rest. Does not allocate.
     #[inline(always)]
     pub fn scan(i: &'a str) -> Option<(BodyRef<'a>, &'a str)>
         ensures { option_map (λ r. (r.0, r.1.now)) result ≡ body_front i.now }
@@ -155,7 +156,7 @@ impl<'a> BodyRef<'a> {
         Some((BodyRef { list }, rest))
     }
 
-    /// Its last part. Takes no memory.
+    /// Returns the last part. Does not allocate.
     pub fn last(&self) -> LastRef<'a>
         ensures { plain_last_ref result ≡ self.now.1 }
     {
@@ -165,7 +166,7 @@ impl<'a> BodyRef<'a> {
         }
     }
 
-    /// Its parts as they compare. Takes no memory.
+    /// Returns the parts as items of a key. Does not allocate.
     #[tactic(auto, using(crate::proofs::ListBytes::body_spelled))]
     pub fn parts(&self) -> ItemsLeft<'a, Part>
         ensures { result ≡ items_bytes part_bytes
@@ -174,7 +175,7 @@ impl<'a> BodyRef<'a> {
         ItemsLeft::spelled_by(self.list)
     }
 
-    /// The body with texts of its own. A number alone takes no memory; the error is that there is no memory for more.
+    /// Returns the body with texts of its own. A body of one number does not allocate. Fails on allocation failure.
     pub fn build(&self, alloc: Global) -> Result<(Chunks, Last), AllocError>
         ensures ok { IfOk result (λ body. (plain_chunks body.0, plain_last body.1) ≡ self.now) }
         ensures err { OnErr result (BodyOwns self.now) }
@@ -186,7 +187,7 @@ impl<'a> BodyRef<'a> {
 }
 
 impl<'a> BodyRef<'a> {
-    /// How two bodies compare: chunk by chunk, and then by their last parts, field by field. Takes no memory.
+    /// Compares two bodies chunk by chunk, and then their last parts field by field. Does not allocate.
     pub fn compare(&self, other: &BodyRef<'_>) -> Ordering
         ensures { result ≡ ordering_then (release_cmp self.now.0 other.now.0)
             (last_plain_cmp self.now.1 other.now.1) }
@@ -198,8 +199,8 @@ impl<'a> BodyRef<'a> {
         }
     }
 
-    /// The number at a place of the chunks, counted from 0, and behind them that which the last part begins with: None
-    /// where no number stands there, and past the end. Takes no memory.
+    /// Returns the number of the chunk at a place, counted from 0. At the place after the chunks, returns the first
+    /// number of the last part. Returns None if there is no number at the place. Does not allocate.
     pub fn nth(&self, n: usize) -> Option<u32>
         ensures { result ≡ (if n == length self.now.0 then first_number self.now.1
             else option_and_then number_of (slice_get self.now.0 n)) }
@@ -210,7 +211,7 @@ impl<'a> BodyRef<'a> {
         nth_element::<Part>(self.chunks(), n)?.number()
     }
 
-    /// Its parts as they compare with those of any version. Takes no memory.
+    /// Returns the parts, to compare with those of any version. Does not allocate.
     #[inline(always)]
     pub fn compared_parts(&self) -> PartsRef<'a>
         ensures { parts_left result
@@ -219,7 +220,7 @@ impl<'a> BodyRef<'a> {
         PartsRef::General(self.spelled_parts())
     }
 
-    /// Its parts: its chunks, and the last part as the chunk that spells it. Takes no memory.
+    /// Returns the parts: the chunks, and the last part as a chunk, not decomposed. Does not allocate.
     #[inline(always)]
     #[tactic(auto, using(crate::proofs::ListBytes::parts_spelled))]
     pub fn spelled_parts(&self) -> ElementsLeft<'a>
@@ -229,7 +230,7 @@ impl<'a> BodyRef<'a> {
         ElementsLeft::of(self.list, self.list.count)
     }
 
-    // Its chunks.
+    // The chunks.
     fn chunks(&self) -> ElementsLeft<'a>
         ensures { elements_left part_front result ≡ self.now.0 }
     {

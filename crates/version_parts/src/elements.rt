@@ -1,4 +1,4 @@
-//! Lists read off the text that spells them: compared, printed and looked into, whatever their elements are.
+//! Lists read from the text that spells them: compared, printed and indexed, for elements of any kind.
 
 ghost use Rattle.std.specs.Prelude.{◌≡◌, ◌∷◌, [], ℕ, List, Some, map, take, IfNone, IfSome};
 ghost use Rattle.std.specs.Cmp.Lexicographic.{slice_cmp};
@@ -15,12 +15,12 @@ use std::cmp::Ordering;
 use std::fmt;
 use std::fmt::Display;
 
-/// A kind of element that is read as it lies in the text.
+/// A kind of element that is scanned in its text.
 pub trait Spelled<'a> {
-    /// An element, with its text still in the input.
+    /// An element. Its text is part of the input.
     type Piece: Copy + Display;
 
-    // An element apart from where its text lies, its front, its printed text, and how two compare.
+    // The value of an element, the front that reads it, its printed text, and how two compare.
     ghost Plain: { Type 0 };
 
     ghost plain: { Self.Piece → Plain };
@@ -31,11 +31,11 @@ pub trait Spelled<'a> {
 
     ghost plain_cmp: { Plain → Plain → Ordering };
 
-    /// The element at the front of a text, and the rest. Takes no memory.
+    /// Scans the element at the start of a text, and returns it with the rest. Does not allocate.
     fn scan(i: &'a str) -> Option<(Self::Piece, &'a str)>
         ensures { option_map (λ r. (plain r.0, r.1.now)) result ≡ front i.now };
 
-    /// How two elements compare, field by field. Takes no memory.
+    /// Compares two elements field by field. Does not allocate.
     fn compare(a: Self::Piece, b: Self::Piece) -> Ordering
         ensures { result ≡ plain_cmp (plain a) (plain b) };
 
@@ -43,21 +43,21 @@ pub trait Spelled<'a> {
     ghost prints: { (piece : Self.Piece)
         → Self.Piece.output piece ≡ Some (text (plain piece)) };
 
-    // What is left is no longer than the text.
+    // The rest is no longer than the text.
     ghost consumes: { Consumes front };
 }
 
-/// The elements of a list that are still to come: so many of those at the front of a text.
+/// The remaining elements of a list: the first `count` of the list at the start of `text`.
 #[derive(Clone, Copy)]
 pub struct ElementsLeft<'a> {
     /// The text from the next element on.
     pub text: &'a str,
-    /// How many are wanted at most.
+    /// How many elements remain at most.
     pub count: usize,
 }
 
 impl<'a> ElementsLeft<'a> {
-    /// The first `count` of the elements of a list that was scanned.
+    /// Returns the first `count` elements of a scanned list.
     pub fn of(list: Dotted<'a>, count: usize) -> ElementsLeft<'a>
         ensures text { result.text.now ≡ list.entry.text.now }
         ensures count { result.count ≡ count }
@@ -68,7 +68,7 @@ impl<'a> ElementsLeft<'a> {
         }
     }
 
-    /// Takes the next element, where there is one. Takes no memory.
+    /// Takes the next element, or returns None at the end. Does not allocate.
     #[inline(always)]
     pub fn next<E: Spelled<'a>>(&mut self) -> Option<E::Piece>
         ensures some { IfSome result (λ piece. elements_left E.front self.old
@@ -90,7 +90,7 @@ impl<'a> ElementsLeft<'a> {
     }
 }
 
-/// How two lists compare: element by element, the shorter first where one begins the other. Takes no memory.
+/// Compares two lists element by element. A prefix comes before the longer list. Does not allocate.
 pub fn compare_elements<'a, E: Spelled<'a>>(a: ElementsLeft<'a>, b: ElementsLeft<'a>) -> Ordering
     ensures { result ≡ slice_cmp E.plain_cmp (elements_left E.front a.entry)
         (elements_left E.front b.entry) }
@@ -111,7 +111,8 @@ pub fn compare_elements<'a, E: Spelled<'a>>(a: ElementsLeft<'a>, b: ElementsLeft
     }
 }
 
-/// The element at a place, counted from 0, or None past the end. Takes no memory; those before it are gone over.
+/// Returns the element at a place, counted from 0, or None past the end. Scans the elements before it. Does not
+/// allocate.
 pub fn nth_element<'a, E: Spelled<'a>>(list: ElementsLeft<'a>, at: usize) -> Option<E::Piece>
     ensures { option_map E.plain result ≡ slice_get (elements_left E.front list.entry) at }
 {

@@ -1,4 +1,4 @@
-//! Streams of the bytes by which parts, lists of parts and releases compare. None of them takes memory.
+//! Streams of the bytes by which parts, lists of parts and releases compare. None of them allocates.
 
 mod compare;
 pub(crate) mod inline;

@@ -1,4 +1,4 @@
-//! The last part of a general version, which is taken apart: `3`, `3rc1`, `3p` or any other text.
+//! The last part of a general version, decomposed: `3`, `3rc1`, `3p` or any other text.
 
 ghost use Rattle.std.specs.Prelude.{◌≡◌, refl, IfErr, IfOk, IfSome, OnErr, Some};
 ghost use Rattle.std.proofs.Common.{ap};
@@ -31,18 +31,18 @@ use std::hash::{Hash, Hasher};
 pub enum Last {
     /// A number without leading zeros.
     Numeric(u32),
-    /// A number, letters and a number, as the release candidate `3rc1`.
+    /// A number, letters and a number, such as the release candidate `3rc1`.
     Rc(u32, String, u32),
-    /// A number and letters, as `3p`.
+    /// A number and letters, such as `3p`.
     Post(u32, String),
     /// Any other text.
     Alphanum(String),
 }
 
 impl Last {
-    /// The last part that a part is: a number is itself, and a text that is a number and letters, with or without a
-    /// number behind them, is taken apart. Only that takes memory; where there is none, the error holds the very
-    /// chunk that was given.
+    /// Decomposes a part that stands last (docs/GRAMMAR.md, "The grammar"). Returns `Numeric` for a number, `Rc` or
+    /// `Post` for a numeral and letters with or without a numeral after them, and `Alphanum` for any other text.
+    /// Allocates for `Rc` and `Post` alone. On allocation failure, the error holds the chunk passed in.
     pub fn from_chunk(alloc: Global, chunk: Chunk) -> Result<Last, (Chunk, AllocError)>
         ensures ok { IfOk result (λ last. plain_last last ≡ last_of (plain_chunk chunk)) }
         ensures same { IfErr result (λ refused. refused.0 ≡ chunk) }
@@ -62,7 +62,7 @@ impl Last {
         }
     }
 
-    /// A copy. A number takes no memory; the error is that there is no memory for a text.
+    /// Returns a copy. A number does not allocate. Fails on allocation failure.
     pub fn clone(&self, alloc: Global) -> Result<Last, AllocError>
         ensures ok { IfOk result (λ copy. plain_last copy ≡ plain_last self.now) }
         ensures err { OnErr result (LastOwns (plain_last self.now)) }
@@ -70,14 +70,14 @@ impl Last {
         self.lent().build(alloc)
     }
 
-    /// The number that it begins with: that of `Numeric`, the first of `Rc`, or that of `Post`. Takes no memory.
+    /// Returns the first number of a `Numeric`, `Rc` or `Post`, or None. Does not allocate.
     pub fn first_number(&self) -> Option<u32>
         ensures { result ≡ first_number (plain_last self.now) }
     {
         self.lent().first_number()
     }
 
-    /// Makes a piece the bytes of the part that it is. Takes no memory.
+    /// Sets a piece to the bytes of the last part, as a part. Does not allocate.
     #[tactic(auto, using(crate::proofs::ListBytes::plain_number))]
     pub fn set_piece<'a>(&'a self, piece: &mut PieceBytes<'a>)
         ensures { piece.new ≡ part_bytes (Some (part_key (last_text (plain_last self.now)))) }
@@ -88,7 +88,7 @@ impl Last {
         }
     }
 
-    /// The printed text, byte after byte. Takes no memory.
+    /// Returns the bytes of the printed text. Does not allocate.
     pub fn part_text(&self) -> PartText<'_>
         ensures { result ≡ last_text (plain_last self.now) }
     {
@@ -100,7 +100,7 @@ impl Last {
         }
     }
 
-    // The same with its text lent.
+    // The same last part with its text borrowed.
     fn lent(&self) -> LastRef<'_>
         ensures { plain_last_ref result ≡ plain_last self.now }
     {
@@ -113,7 +113,7 @@ impl Last {
     }
 }
 
-/// `0`.
+/// The default is `0`.
 impl Default for Last {
     ghost is_default = { λ last. plain_last last ≡ plain.Numeric 0 };
 
@@ -173,7 +173,7 @@ impl Hash for Last {
     }
 }
 
-/// By their printed texts as parts, then field by field. Takes no memory.
+/// Compares by the printed texts as parts, then field by field. Does not allocate.
 impl Ord for Last {
     ghost cmp = { on plain_last last_cmp };
 
@@ -214,13 +214,13 @@ impl ListItem for Last {
         self.clone(alloc)
     }
 
-    /// Variants and fields in the order of their declaration.
+    /// Compares variants, then fields, in the order of their declaration.
     fn compare(&self, other: &Last) -> Ordering {
         self.lent().compare(other.lent())
     }
 }
 
-/// A last part that was scanned, with its text still in the input.
+/// A scanned last part. Its text is part of the input.
 #[derive(Clone, Copy)]
 pub enum LastRef<'a> {
     Numeric(u32),
@@ -230,7 +230,7 @@ pub enum LastRef<'a> {
 }
 
 impl<'a> LastRef<'a> {
-    /// The last part that the part at the front of a text is, and the rest. Takes no memory.
+    /// Scans the part at the start of a text, and returns it as a last part with the rest. Does not allocate.
     #[tactic(auto, using(crate::proofs::ShortRuns::classes_with_digits))]
     pub fn scan(i: &'a str) -> Option<(LastRef<'a>, &'a str)>
         ensures { option_map (λ r. (plain_last_ref r.0, r.1.now)) result
@@ -246,7 +246,7 @@ impl<'a> LastRef<'a> {
         Some((last, rest))
     }
 
-    // A text that is a number and letters, with or without a number behind them.
+    // The last part of a text that is a numeral and letters, with or without a numeral after them.
     #[tactic(auto, unfolding(crate::specs::Last::numbered_last))]
     fn numbered(text: &'a str) -> Option<LastRef<'a>>
         ensures value { option_map plain_last_ref result ≡ numbered_last text.now }
@@ -265,8 +265,7 @@ impl<'a> LastRef<'a> {
         }
     }
 
-    /// The last part with a text of its own. A number takes no memory; the error is that there is no memory for the
-    /// text.
+    /// Returns the last part with a text of its own. A number does not allocate. Fails on allocation failure.
     pub fn build(self, alloc: Global) -> Result<Last, AllocError>
         ensures ok { IfOk result (λ last. plain_last last ≡ plain_last_ref self.entry) }
         ensures err { OnErr result (LastOwns (plain_last_ref self.entry)) }
@@ -283,7 +282,7 @@ impl<'a> LastRef<'a> {
 }
 
 impl<'a> LastRef<'a> {
-    /// The number that it begins with: that of `Numeric`, the first of `Rc`, or that of `Post`. Takes no memory.
+    /// Returns the first number of a `Numeric`, `Rc` or `Post`, or None. Does not allocate.
     pub fn first_number(self) -> Option<u32>
         ensures { result ≡ first_number (plain_last_ref self.entry) }
     {
@@ -295,7 +294,7 @@ impl<'a> LastRef<'a> {
         }
     }
 
-    /// How two last parts compare: variants and fields in the order of their declaration. Takes no memory.
+    /// Compares variants, then fields, in the order of their declaration. Does not allocate.
     pub fn compare(self, other: LastRef<'_>) -> Ordering
         ensures { result ≡ last_plain_cmp (plain_last_ref self.entry) (plain_last_ref other.entry) }
     {

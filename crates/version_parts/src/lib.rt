@@ -1,5 +1,5 @@
-//! The parts that version numbers are made of: chunks, releases and build metadata, with their readers and texts, and
-//! the bytes by which they compare.
+//! The parts of version numbers: chunks, releases and build metadata. Says how they parse, print and compare, and by
+//! which bytes they compare in keys.
 #![tactic(auto)]
 
 mod chunk;

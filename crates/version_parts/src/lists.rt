@@ -1,4 +1,4 @@
-//! Lists of the elements of dotted lists: printed, copied and compared, whatever their elements are.
+//! Lists of items of any kind: printed with dots between, copied and compared.
 
 ghost use Rattle.std.specs.Prelude.{◌≡◌, ℕ, List, map, IfOk, Some};
 ghost use Rattle.std.specs.Cmp.Lexicographic.{slice_cmp};
@@ -12,9 +12,9 @@ use std::cmp::Ordering;
 use std::fmt;
 use std::fmt::Display;
 
-/// What may stand in a list: it prints a text, and can be copied and compared.
+/// An item of a list, which prints a text, and can be copied and compared.
 pub trait ListItem: Display + Drop {
-    // The item apart from where its text lies, its printed text, and how two compare.
+    // The value of an item, its printed text, and how two compare.
     ghost Plain: { Type 0 };
 
     ghost plain: { Self → Plain };
@@ -23,13 +23,13 @@ pub trait ListItem: Display + Drop {
 
     ghost plain_cmp: { Plain → Plain → Ordering };
 
-    /// A copy. The error is that there is no memory for it.
+    /// Returns a copy. Fails on allocation failure.
     fn copy(&self, alloc: Global) -> Result<Self, AllocError>
     where
         Self: Sized,
         ensures { IfOk result (λ copy. plain copy ≡ plain self.now) };
 
-    /// How two items compare, field by field. Takes no memory.
+    /// Compares two items field by field. Does not allocate.
     fn compare(&self, other: &Self) -> Ordering
         ensures { result ≡ plain_cmp (plain self.now) (plain other.now) };
 
@@ -55,7 +55,7 @@ pub fn write_dotted<T: ListItem, W: fmt::Write>(
     Ok(())
 }
 
-/// A copy of the items, in a list made at its exact length. The error is that there is no memory for it.
+/// Returns a copy of the items, in a list allocated at their exact number. Fails on allocation failure.
 pub fn copy_list<T: ListItem>(alloc: Global, items: &[T]) -> Result<Vec<T>, AllocError>
     ensures { IfOk result (λ copy. map T.plain copy.items ≡ map T.plain items.now) }
 {
@@ -66,7 +66,7 @@ pub fn copy_list<T: ListItem>(alloc: Global, items: &[T]) -> Result<Vec<T>, Allo
     Ok(copy)
 }
 
-/// Item by item, the shorter first where one list begins the other. Takes no memory.
+/// Compares two lists item by item. A prefix comes before the longer list. Does not allocate.
 pub fn compare_lists<T: ListItem>(a: &[T], b: &[T]) -> Ordering
     ensures { result ≡ slice_cmp T.plain_cmp (map T.plain a.now) (map T.plain b.now) }
 {

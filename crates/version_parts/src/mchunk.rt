@@ -1,4 +1,4 @@
-//! Chunks of a messy version: what stands between its dots and signs.
+//! Chunks of a messy version: the pieces between its dots and signs.
 
 ghost use Rattle.std.specs.Prelude.{◌≡◌, ◌≢◌, ◌<◌, ◌∷◌, [], refl, length, map, string_bytes, IfNone, IfOk, IfSome, Some};
 ghost use Rattle.std.specs.Cmp.Lexicographic.{slice_cmp};
@@ -33,21 +33,21 @@ use std::fmt;
 use std::hash::{Hash, Hasher};
 use std::marker::Model;
 
-/// One piece between the dots and signs of a messy version, as `1`, `6a` and `r3` of `1.6a+r3`: letters and digits.
+/// A piece between the dots and signs of a messy version, such as `1`, `6a` and `r3` of `1.6a+r3`: letters and digits.
 #[derive(Debug, Drop, Serialize, Deserialize)]
 pub enum MChunk {
-    /// Digits, perhaps with zeros before them, of a value below 2^32, and their text.
+    /// Digits, perhaps with leading zeros, of a value below 2^32: the value, and the text.
     Digits(u32, String),
-    /// A revision: the letter `r` and such digits behind it, their value, and the whole text.
+    /// A revision, the letter `r` and such digits after it: their value, and the whole text.
     Rev(u32, String),
     /// Any other text.
     Plain(String),
 }
 
 impl MChunk {
-    /// The messy chunk at the front of a text, and the rest: the longest run of letters and digits. Where neither the
-    /// end nor a dot nor a sign follows it, it is `Plain`, whatever it has. None takes no memory; otherwise the text is
-    /// copied, and the error is that there is no memory for it.
+    /// Parses the messy chunk at the start of a text, the longest run of letters and digits, and returns it with the
+    /// rest. The chunk is `Plain` unless a dot, a sign or the end follows it. Returns None, without allocating, if the
+    /// run is empty. Fails on allocation failure.
     #[tactic(auto, unfolding(crate::specs::MChunk::mchunk_front))]
     pub fn parse(alloc: Global, i: &str) -> Result<Option<(MChunk, &str)>, AllocError>
         ensures { Reads plain_mchunk (λ _. Unit {0}) result (mchunk_front i.now) }
@@ -60,7 +60,7 @@ impl MChunk {
         Ok(Some((chunk, rest)))
     }
 
-    // The chunk that a run is, before what follows it.
+    // The chunk of a run, by what follows it.
     fn before(rest: &str, run: String) -> MChunk
         ensures { plain_mchunk result ≡ chunk_before (string_bytes run, rest.now) }
     {
@@ -71,7 +71,7 @@ impl MChunk {
         }
     }
 
-    // The chunk that a run of letters and digits is.
+    // The chunk of a run of letters and digits.
     #[tactic(auto, unfolding(crate::specs::MChunk::variant_of))]
     fn of(run: String) -> MChunk
         ensures { plain_mchunk result ≡ variant_of (string_bytes run) }
@@ -85,7 +85,7 @@ impl MChunk {
         }
     }
 
-    /// The text that was read, and that is printed.
+    /// Returns the text, which is what the chunk prints.
     pub fn text(&self) -> &str
         ensures { result.now ≡ mchunk_text (plain_mchunk self.now) }
     {
@@ -96,7 +96,7 @@ impl MChunk {
         }
     }
 
-    /// The number of `Digits`. Takes no memory.
+    /// Returns the number of a `Digits`, or None. Does not allocate.
     pub fn number(&self) -> Option<u32>
         ensures { result ≡ digits_number (plain_mchunk self.now) }
     {
@@ -106,7 +106,8 @@ impl MChunk {
         }
     }
 
-    /// Whether its text is digits and nothing else, of any value. Takes no memory.
+    /// Returns whether the text is one digit or more, and nothing else. The number may be of any size. Does not
+    /// allocate.
     pub fn is_digits(&self) -> bool
         ensures { result ≡ is_digits (mchunk_text (plain_mchunk self.now)) }
     {
@@ -114,7 +115,7 @@ impl MChunk {
         !text.is_empty() && is_all_digits(text)
     }
 
-    /// A copy. The error is that there is no memory for it.
+    /// Returns a copy. Fails on allocation failure.
     pub fn clone(&self, alloc: Global) -> Result<MChunk, AllocError>
         ensures { IfOk result (λ copy. plain_mchunk copy ≡ plain_mchunk self.now) }
     {
@@ -126,7 +127,7 @@ impl MChunk {
         }
     }
 
-    // The same with its text lent.
+    // The same chunk with its text borrowed.
     fn lent(&self) -> MChunkRef<'_>
         ensures { plain_mchunk_ref result ≡ plain_mchunk self.now }
     {
@@ -165,7 +166,7 @@ fn value_of_digits(text: &str) -> Option<u32>
     value_of(text)
 }
 
-// The value of the digits behind an r.
+// The value of the digits after an r.
 fn value_of_revision(text: &str) -> Option<u32>
     ensures { result ≡ value_of_revision text.now }
 {
@@ -207,7 +208,7 @@ impl Hash for MChunk {
     }
 }
 
-/// By their texts as parts, then field by field. Takes no memory.
+/// Compares by the texts as parts, then field by field. Does not allocate.
 impl Ord for MChunk {
     ghost cmp = { on plain_mchunk mchunk_cmp };
 
@@ -280,7 +281,7 @@ impl Element for MessyChunk {
     }
 }
 
-/// The section of a messy version that was scanned, with its chunks still in the input: chunks joined by dots.
+/// A scanned section of a messy version: chunks joined by dots. Its chunks are parts of the input.
 #[derive(Drop)]
 pub struct SectionRef<'a> {
     list: Dotted<'a>,
@@ -300,7 +301,7 @@ impl<'a> Model for SectionRef<'a> {
 }
 
 impl<'a> SectionRef<'a> {
-    /// The section at the front of a text, and the rest. Takes no memory.
+    /// Scans the section at the start of a text, and returns it with the rest. Does not allocate.
     pub fn scan(i: &'a str) -> Option<(SectionRef<'a>, &'a str)>
         ensures { option_map (λ r. (r.0, r.1.now)) result ≡ dotted_front mchunk_front i.now }
     {
@@ -308,7 +309,7 @@ impl<'a> SectionRef<'a> {
         Some((SectionRef { list }, rest))
     }
 
-    /// The chunks as they compare, and their end. Takes no memory.
+    /// Returns the chunks as items of a key, and the end of their list. Does not allocate.
     #[tactic(auto, using(crate::proofs::ListBytes::section_spelled))]
     pub fn left(&self) -> ListLeft<'a, MessyChunk>
         ensures { result ≡ parts_bytes (section_parts self.now) }
@@ -316,7 +317,7 @@ impl<'a> SectionRef<'a> {
         ListLeft::of(ItemsLeft::spelled_by(self.list))
     }
 
-    /// The text of its chunk, where it has one alone. Takes no memory.
+    /// Returns the text of the only chunk, or None if there are more. Does not allocate.
     #[tactic(auto, using(crate::proofs::ListBytes::only_chunk))]
     pub fn only_text(&self) -> Option<&'a str>
         ensures one { IfSome result
@@ -330,7 +331,7 @@ impl<'a> SectionRef<'a> {
         Some(nonempty_run(self.list.text, Class::Alphanumeric)?.0)
     }
 
-    /// The section with chunks of its own. The error is that there is no memory for them.
+    /// Returns the section with chunks of its own. Fails on allocation failure.
     pub fn build(&self, alloc: Global) -> Result<Vec<MChunk>, AllocError>
         ensures { IfOk result (λ chunks. map plain_mchunk chunks.items ≡ self.now) }
     {
@@ -339,7 +340,7 @@ impl<'a> SectionRef<'a> {
     }
 }
 
-/// A chunk of a messy version that was scanned, with its text still in the input.
+/// A scanned chunk of a messy version. Its text is part of the input.
 #[derive(Clone, Copy)]
 pub enum MChunkRef<'a> {
     /// Digits of a value below 2^32, and their text.
@@ -351,7 +352,7 @@ pub enum MChunkRef<'a> {
 }
 
 impl<'a> MChunkRef<'a> {
-    // The chunk at the front of a text, and the rest.
+    // Scans the chunk at the start of a text, and returns it with the rest.
     #[tactic(auto, unfolding(crate::specs::MChunk::mchunk_front))]
     fn scan(i: &'a str) -> Option<(MChunkRef<'a>, &'a str)>
         ensures { option_map (λ r. (plain_mchunk_ref r.0, r.1.now)) result ≡ mchunk_front i.now }
@@ -360,7 +361,7 @@ impl<'a> MChunkRef<'a> {
         Some((MChunkRef::before(rest, run), rest))
     }
 
-    // The chunk that a run is, before what follows it.
+    // The chunk of a run, by what follows it.
     fn before(rest: &str, run: &'a str) -> MChunkRef<'a>
         ensures { plain_mchunk_ref result ≡ chunk_before (run.now, rest.now) }
     {
@@ -371,7 +372,7 @@ impl<'a> MChunkRef<'a> {
         }
     }
 
-    // The chunk that a run of letters and digits is.
+    // The chunk of a run of letters and digits.
     #[tactic(auto, unfolding(crate::specs::MChunk::variant_of))]
     fn of(run: &'a str) -> MChunkRef<'a>
         ensures { plain_mchunk_ref result ≡ variant_of run.now }
@@ -385,7 +386,7 @@ impl<'a> MChunkRef<'a> {
         }
     }
 
-    // The text that was read, and that is printed.
+    // The text, which is what the chunk prints.
     fn text(self) -> &'a str
         ensures { result.now ≡ mchunk_text (plain_mchunk_ref self.entry) }
     {
@@ -396,7 +397,7 @@ impl<'a> MChunkRef<'a> {
         }
     }
 
-    /// The number of `Digits`. Takes no memory.
+    /// Returns the number of a `Digits`, or None. Does not allocate.
     pub fn number(self) -> Option<u32>
         ensures { result ≡ digits_number (plain_mchunk_ref self.entry) }
     {
@@ -406,7 +407,7 @@ impl<'a> MChunkRef<'a> {
         }
     }
 
-    // The place of the kind among the kinds, as they are declared.
+    // The place of the variant in the order of declaration.
     fn rank(self) -> u8
         ensures { result ≡ mchunk_rank (plain_mchunk_ref self.entry) }
     {
@@ -417,7 +418,7 @@ impl<'a> MChunkRef<'a> {
         }
     }
 
-    // The value that stands beside the text, none being 0.
+    // The value beside the text, or 0 for a `Plain`.
     fn value(self) -> u32
         ensures { result ≡ mchunk_value (plain_mchunk_ref self.entry) }
     {
@@ -474,23 +475,23 @@ impl<'a> Spelled<'a> for MessyChunk {
 }
 
 impl<'a> SectionRef<'a> {
-    /// How two sections compare: chunk by chunk, field by field, the shorter first where one begins the other. Takes
-    /// no memory.
+    /// Compares two sections chunk by chunk, and chunks field by field. A prefix comes before the longer section. Does
+    /// not allocate.
     pub fn compare(&self, other: &SectionRef<'_>) -> Ordering
         ensures { result ≡ slice_cmp mchunk_plain_cmp self.now other.now }
     {
         compare_elements::<MessyChunk>(self.elements(), other.elements())
     }
 
-    /// The number of the chunk at a place, counted from 0, or None where that is no digits and past the end. Takes no
-    /// memory.
+    /// Returns the number of the `Digits` at a place, counted from 0. Returns None for another chunk, or past the end.
+    /// Does not allocate.
     pub fn number_at(&self, at: usize) -> Option<u32>
         ensures { result ≡ option_and_then digits_number (slice_get self.now at) }
     {
         nth_element::<MessyChunk>(self.elements(), at)?.number()
     }
 
-    /// Its chunks as they compare with the parts of any version. Takes no memory.
+    /// Returns the chunks, to compare with the parts of any version. Does not allocate.
     #[inline(always)]
     pub fn compared_parts(&self) -> PartsRef<'a>
         ensures { parts_left result ≡ section_parts self.now }
@@ -498,7 +499,7 @@ impl<'a> SectionRef<'a> {
         PartsRef::Messy(self.elements())
     }
 
-    // Its chunks.
+    // The chunks.
     #[tactic(auto, using(crate::proofs::ElementsLeft::all_elements))]
     fn elements(&self) -> ElementsLeft<'a>
         ensures { elements_left mchunk_front result ≡ self.now }

@@ -1,4 +1,4 @@
-//! Parts as they compare, read off the texts that spell them. No call takes memory.
+//! Parts as they compare, read from the texts that spell them. No call allocates.
 
 mod list;
 pub(crate) mod number;

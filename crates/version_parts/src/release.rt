@@ -1,4 +1,4 @@
-//! Releases: chunks behind a hyphen, as `-rc.1`.
+//! Releases: a hyphen and the chunks after it, such as `-rc.1`.
 
 ghost use Rattle.std.specs.Prelude.{◌≡◌, refl, length, IfOk, List, Some};
 ghost use Rattle.std.proofs.Common.{ap};
@@ -25,14 +25,14 @@ use std::fmt;
 use std::hash::{Hash, Hasher};
 use std::marker::Model;
 
-/// The chunks of a pre-release or a release, behind its hyphen.
+/// The chunks of a pre-release or a release, without the hyphen.
 #[derive(Debug, Drop, Serialize, Deserialize)]
 pub struct Release(pub Vec<Chunk>);
 
 impl Release {
-    /// The release at the front of a text, and the rest: a hyphen, then chunks joined by dots. The list stops
-    /// before a dot behind which no chunk can be read. None takes no memory; the error is that there is no memory
-    /// for the chunks.
+    /// Parses the release at the start of a text, and returns it with the rest: a hyphen, then chunks joined by dots.
+    /// The list ends before a dot that no chunk follows. Returns None, without allocating, if no release parses. Fails
+    /// on allocation failure.
     pub fn parse(alloc: Global, i: &str) -> Result<Option<(Release, &str)>, AllocError>
         ensures { Reads plain_release (λ _. Unit {0}) result (release_front i.now) }
     {
@@ -42,7 +42,7 @@ impl Release {
         Ok(Some((piece.build(alloc)?, rest)))
     }
 
-    /// The chunks as they compare, and their end. Takes no memory.
+    /// Returns the chunks as items of a key, and the end of their list. Does not allocate.
     #[tactic(auto, using(crate::proofs::ListBytes::ended))]
     pub fn left(&self) -> ListLeft<'_, ReleaseChunk>
         ensures { result ≡ release_bytes (plain_release self.now) }
@@ -50,7 +50,7 @@ impl Release {
         ListLeft::of(ItemsLeft::of(self.0.as_slice()))
     }
 
-    /// A copy. The error is that there is no memory for it.
+    /// Returns a copy. Fails on allocation failure.
     pub fn clone(&self, alloc: Global) -> Result<Release, AllocError>
         ensures { IfOk result (λ copy. plain_release copy ≡ plain_release self.now) }
     {
@@ -91,8 +91,8 @@ impl Hash for Release {
     }
 }
 
-/// Chunk by chunk: numbers by value and below texts, texts by bytes, and the release that ends first below the
-/// other (SemVer 2.0, section 11). Takes no memory.
+/// Compares chunk by chunk: numbers by value, numbers before texts, texts by bytes. A prefix comes before the longer
+/// release (SemVer 2.0, section 11). Does not allocate.
 impl Ord for Release {
     ghost cmp = { on plain_release release_cmp };
 
@@ -117,7 +117,7 @@ impl PartialOrd for Release {
     }
 }
 
-/// A release that was scanned, with its chunks still in the input.
+/// A scanned release. Its chunks are parts of the input.
 #[derive(Drop)]
 pub struct ReleaseRef<'a> {
     list: Dotted<'a>,
@@ -132,7 +132,7 @@ impl<'a> Model for ReleaseRef<'a> {
 }
 
 impl<'a> ReleaseRef<'a> {
-    /// The release at the front of a text, and the rest. Takes no memory.
+    /// Scans the release at the start of a text, and returns it with the rest. Does not allocate.
     #[inline(always)]
     pub fn scan(i: &'a str) -> Option<(ReleaseRef<'a>, &'a str)>
         ensures { option_map (λ r. (r.0, r.1.now)) result ≡ release_front i.now }
@@ -141,7 +141,7 @@ impl<'a> ReleaseRef<'a> {
         Some((ReleaseRef { list }, rest))
     }
 
-    /// The same release. Takes no memory.
+    /// Returns the same release. Does not allocate.
     #[inline(always)]
     pub fn lent(&self) -> ReleaseRef<'a>
         ensures { result ≡ self.now }
@@ -149,7 +149,7 @@ impl<'a> ReleaseRef<'a> {
         ReleaseRef { list: self.list }
     }
 
-    /// The chunks as they compare, and their end. Takes no memory.
+    /// Returns the chunks as items of a key, and the end of their list. Does not allocate.
     #[tactic(auto, using(crate::proofs::ListBytes::list_spelled))]
     pub fn left(&self) -> ListLeft<'a, ReleaseChunk>
         ensures { result ≡ release_bytes self.now }
@@ -157,7 +157,7 @@ impl<'a> ReleaseRef<'a> {
         ListLeft::of(ItemsLeft::spelled_by(self.list))
     }
 
-    /// The release with chunks of its own. The error is that there is no memory for them.
+    /// Returns the release with chunks of its own. Fails on allocation failure.
     pub fn build(&self, alloc: Global) -> Result<Release, AllocError>
         ensures { IfOk result (λ release. plain_release release ≡ self.now) }
     {
@@ -167,14 +167,14 @@ impl<'a> ReleaseRef<'a> {
 }
 
 impl<'a> ReleaseRef<'a> {
-    /// How two releases compare: chunk by chunk, as [`Release`]s do. Takes no memory.
+    /// Compares two releases chunk by chunk, as [`Release`]s compare. Does not allocate.
     pub fn compare(&self, other: &ReleaseRef<'_>) -> Ordering
         ensures { result ≡ release_cmp self.now other.now }
     {
         compare_elements::<ReleaseChunk>(self.elements(), other.elements())
     }
 
-    // Its chunks.
+    // The chunks.
     #[tactic(auto, using(crate::proofs::ElementsLeft::all_elements))]
     fn elements(&self) -> ElementsLeft<'a>
         ensures { elements_left chunk_front result ≡ self.now }

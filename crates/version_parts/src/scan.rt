@@ -1,4 +1,4 @@
-//! Scans: what a reader reads, as pieces of its input, without memory. The crate of the kinds stands on them.
+//! Scans: parsers that return pieces of their input, and do not allocate. The crate `versions` is built on them.
 
 ghost use Rattle.std.specs.Prelude.{◌≡◌, ◌<◌, ◌^◌, List, drop, length, map, nat_lt, take, true, IfOk, IfSome, OnErr, Some, SomeIff};
 ghost use Rattle.std.specs.Option.{option_map};
@@ -41,7 +41,7 @@ impl Class {
     }
 }
 
-// How long the longest run of a class at the front of a text is.
+// The length of the longest run of a class at the start of a text.
 #[inline(always)]
 pub(crate) fn run_len(bytes: &[u8], class: Class) -> usize
     ensures { result ≡ prefix_len (contains class) bytes.now }
@@ -54,7 +54,7 @@ pub(crate) fn run_len(bytes: &[u8], class: Class) -> usize
     bytes.len()
 }
 
-// The longest run of a class at the front of some bytes, which may be empty, and the rest.
+// The longest run of a class at the start of some bytes, which may be empty, and the rest.
 #[tactic(auto, using(crate::proofs::Runs::runs_of_two))]
 #[inline(always)]
 pub(crate) fn split_bytes(bytes: &[u8], class: Class) -> (&[u8], &[u8])
@@ -75,7 +75,7 @@ pub(crate) fn begins_with(bytes: &[u8], class: Class) -> bool
     }
 }
 
-// The longest run of a class at the front of a text, which may be empty, and the rest.
+// The longest run of a class at the start of a text, which may be empty, and the rest.
 #[inline(always)]
 pub(crate) fn split_run(i: &str, class: Class) -> (&str, &str)
     ensures run { result.0.now ≡ take_while (contains class) i.now }
@@ -84,7 +84,7 @@ pub(crate) fn split_run(i: &str, class: Class) -> (&str, &str)
     i.split_at(run_len(i.as_bytes(), class))
 }
 
-/// Whether a text has nothing but digits. Takes no memory.
+/// Returns whether all bytes of a text are digits. Does not allocate.
 #[inline(always)]
 pub fn is_all_digits(text: &str) -> bool
     ensures { result ≡ list_all is_ascii_digit text.now }
@@ -92,7 +92,7 @@ pub fn is_all_digits(text: &str) -> bool
     text.as_bytes().iter().all(|byte| byte.is_ascii_digit())
 }
 
-// A run that may not be empty.
+// The longest run of a class at the start of a text, and the rest, or None if the run is empty.
 #[tactic(auto, unfolding(crate::specs::Front::run_front))]
 #[inline(always)]
 pub(crate) fn nonempty_run(i: &str, class: Class) -> Option<(&str, &str)>
@@ -105,7 +105,7 @@ pub(crate) fn nonempty_run(i: &str, class: Class) -> Option<(&str, &str)>
     Some((run, rest))
 }
 
-/// What stands behind the byte `mark`, where the text starts with it.
+/// Returns the text after the byte `mark`, or None if the text does not begin with `mark`.
 #[inline(always)]
 pub fn after_mark(i: &str, mark: u8) -> Option<&str>
     requires { mark < 128 }
@@ -117,9 +117,9 @@ pub fn after_mark(i: &str, mark: u8) -> Option<&str>
     }
 }
 
-/// The number at the start of a text, and the rest. A text that starts with `0` gives 0 and leaves all after that one
-/// digit; else the longest run of digits is read whole. None without a digit, and for a value above 4294967295. Takes
-/// no memory.
+/// Parses the number at the start of a text, and returns it with the rest. If the text begins with `0`, the number is
+/// 0, and the rest is all after that digit. Otherwise it is the longest run of digits. Returns None if there is no
+/// digit, or the value is above 4294967295. Does not allocate.
 #[inline(always)]
 pub fn unsigned(i: &str) -> Option<(u32, &str)>
     ensures { option_map (λ r. (r.0, r.1.now)) result ≡ unsigned_front i.now }
@@ -128,7 +128,8 @@ pub fn unsigned(i: &str) -> Option<(u32, &str)>
     Some((value_of_numeral(digits), rest))
 }
 
-/// The number at the start of a text, as [`unsigned`] reads it, by its digits, and the rest. Takes no memory.
+/// Parses the number at the start of a text as [`unsigned`] does, and returns its digits with the rest. Does not
+/// allocate.
 #[inline(always)]
 pub fn numeral(i: &str) -> Option<(&str, &str)>
     ensures read { option_map (λ r. (digits_value 10 r.0.now, r.1.now)) result
@@ -140,7 +141,7 @@ pub fn numeral(i: &str) -> Option<(&str, &str)>
     numeral_of_run(i, digits, rest)
 }
 
-// The same, where the longest run of digits at the start of the text and what follows it are known.
+// The same, given the longest run of digits at the start of the text, and what follows it.
 #[tactic(auto, using(crate::proofs::NumeralReading::numerals_read))]
 #[inline(always)]
 pub(crate) fn numeral_of_run<'a>(
@@ -167,7 +168,7 @@ pub(crate) fn numeral_of_run<'a>(
     None
 }
 
-// Whether the value of a run of digits is below 2 ^ 32, as that of nine digits is.
+// Whether the value of a run of digits is below 2 ^ 32. That of nine digits is.
 #[tactic(auto, using(crate::proofs::NumeralReading::nine_digits))]
 #[inline(always)]
 fn is_below_limit(digits: &str) -> bool
@@ -181,7 +182,7 @@ fn is_below_limit(digits: &str) -> bool
     value_of(digits).is_some()
 }
 
-/// The value of a numeral. Takes no memory.
+/// Returns the value of a numeral. Does not allocate.
 #[inline(always)]
 pub fn value_of_numeral(digits: &str) -> u32
     requires { SpellsNumeral digits.now (digits_value 10 digits.now) }
@@ -194,22 +195,24 @@ pub fn value_of_numeral(digits: &str) -> u32
     value
 }
 
-/// The longest nonempty run of letters and digits at the start of a text, and the rest. Takes no memory.
+/// Returns the longest run of letters and digits at the start of a text, and the rest, or None if the run is empty.
+/// Does not allocate.
 pub fn alphanums(i: &str) -> Option<(&str, &str)>
     ensures { option_map (λ r. (r.0.now, r.1.now)) result ≡ run_front is_ascii_alphanumeric i.now }
 {
     nonempty_run(i, Class::Alphanumeric)
 }
 
-/// The longest nonempty run of letters, digits and hyphens at the start of a text, and the rest. Takes no memory.
+/// Returns the longest run of letters, digits and hyphens at the start of a text, and the rest, or None if the run is
+/// empty. Does not allocate.
 pub fn hyphenated_alphanums(i: &str) -> Option<(&str, &str)>
     ensures { option_map (λ r. (r.0.now, r.1.now)) result ≡ run_front is_identifier_byte i.now }
 {
     nonempty_run(i, Class::Identifier)
 }
 
-// The value of a run of digits, if it is below 2 ^ 32. Few runs have the ten digits that want it, so it isn't inlined
-// into each scan.
+// The value of a run of digits, if it is below 2 ^ 32. Few runs have the ten digits that need this call, so it isn't
+// inlined into each scan.
 #[inline(never)]
 pub(crate) fn value_of(digits: &str) -> Option<u32>
     requires some { 0 < length digits.now }
@@ -219,7 +222,8 @@ pub(crate) fn value_of(digits: &str) -> Option<u32>
     digits.parse::<u32>().ok()
 }
 
-/// The build metadata at the front of a text, without its plus and still in the input, and the rest.
+/// Scans the build metadata at the start of a text, and returns it, without its plus, with the rest. The metadata is
+/// part of the input, not a copy.
 #[inline(always)]
 pub fn metadata(i: &str) -> Option<(&str, &str)>
     ensures { option_map (λ r. (r.0.now, r.1.now)) result ≡ meta_front i.now }
@@ -227,7 +231,7 @@ pub fn metadata(i: &str) -> Option<(&str, &str)>
     nonempty_run(after_mark(i, b'+')?, Class::Metadata)
 }
 
-/// The sign at the front of a text, and the rest. Takes no memory.
+/// Scans the sign at the start of a text, and returns it with the rest, or None. Does not allocate.
 pub fn sign(i: &str) -> Option<(Sep, &str)>
     ensures { option_map (λ r. (plain_sep r.0, r.1.now)) result ≡ sep_front i.now }
 {
@@ -239,10 +243,10 @@ pub fn sign(i: &str) -> Option<(Sep, &str)>
 
 /// A kind of element that a dotted list is made of.
 pub trait Element {
-    /// What an element is built into.
+    /// The type of an element that is built.
     type Item: Drop;
 
-    // An element apart from where its text lies, its front, and which elements own memory.
+    // The value of an element, the front that reads it, and which elements own memory.
     ghost Plain: { Type 0 };
 
     ghost plain: { Self.Item → Plain };
@@ -251,33 +255,33 @@ pub trait Element {
 
     ghost owns: { Plain → Type 0 };
 
-    /// What stands behind the element at the front of a text. Takes no memory.
+    /// Returns the rest after the element at the start of a text, or None if no element parses. Does not allocate.
     fn skip(i: &str) -> Option<&str>
         ensures { option_map (λ r. r.now) result ≡ option_map (λ p. p.1) (front i.now) };
 
-    /// The element at the front of a text, and the rest. None takes no memory; the error is that there is no memory
-    /// for an element that owns some.
+    /// Parses the element at the start of a text, and returns it with the rest. Returns None, without allocating, if no
+    /// element parses. Fails on allocation failure.
     fn read(alloc: Global, i: &str) -> Result<Option<(Self::Item, &str)>, AllocError>
         ensures { Reads plain owns result (front i.now) };
 
-    // What is left is no longer than the text.
+    // The rest is no longer than the text.
     ghost consumes: { Consumes front };
 }
 
-/// A dotted list that was scanned, with its elements still in the input.
+/// A scanned dotted list. Its elements are parts of the input.
 #[derive(Clone, Copy)]
 pub struct Dotted<'a> {
     /// The text from the first element on.
     pub text: &'a str,
-    /// How many elements are read there.
+    /// The count of elements.
     pub count: usize,
-    /// The text from the last of them on.
+    /// The text from the last element on.
     pub last: &'a str,
 }
 
 impl<'a> Dotted<'a> {
-    /// The dotted list of one element or more at the front of a text, and the rest. It stops before a dot behind
-    /// which no element can be read. Takes no memory.
+    /// Scans one element or more at the start of a text, with dots between, and returns the list with the rest. The
+    /// list ends before a dot that no element follows. Does not allocate.
     #[inline(always)]
     pub fn scan<E: Element>(i: &'a str) -> Option<(Dotted<'a>, &'a str)>
         ensures elements { option_map (λ r. (elements_at E.front r.0.text.now, r.1.now)) result
@@ -300,7 +304,7 @@ impl<'a> Dotted<'a> {
         Some((Dotted { text, count, last }, rest))
     }
 
-    /// The first `count` of the elements, in a list of that capacity.
+    /// Returns the first `count` elements, in a list of that capacity. Fails on allocation failure.
     pub fn build<E: Element>(self, alloc: Global, count: usize) -> Result<Vec<E::Item>, AllocError>
         ensures ok { IfOk result (λ items. map E.plain items.items
             ≡ take count (elements_at E.front self.entry.text.now)) }
@@ -322,7 +326,7 @@ impl<'a> Dotted<'a> {
     }
 }
 
-// The text from the element behind a dot on, and what stands behind that element.
+// The text from the element after a dot on, and the rest after that element.
 #[inline(always)]
 fn skip_further<E: Element>(i: &str) -> Option<(&str, &str)>
     ensures next { IfSome result (λ r. after_mark dot i.now ≡ Some r.0.now) }

@@ -14,8 +14,8 @@ use std::cmp::Ordering;
 use std::fmt;
 use std::hash::{Hash, Hasher};
 
-/// The sign before a further section of a messy version, as the colon of `1:2.0`. A dot is none: it joins the chunks
-/// of one section.
+/// The sign before a further section of a messy version, such as the colon of `1:2.0`. A dot is not a sign: it joins
+/// the chunks of one section.
 #[derive(Clone, Copy, Debug, Serialize, Deserialize)]
 pub enum Sep {
     Colon,
@@ -26,7 +26,7 @@ pub enum Sep {
 }
 
 impl Sep {
-    // The sign that a byte is, where it is one.
+    // The sign of a byte, if the byte is a sign.
     pub(crate) fn of(byte: u8) -> Option<Sep>
         ensures { option_map plain_sep result ≡ sep_of byte }
     {
@@ -40,7 +40,7 @@ impl Sep {
         }
     }
 
-    // The place of the sign among the signs, as they are declared.
+    // The place of the sign in the order of declaration.
     fn rank(self) -> u8
         ensures { result ≡ sep_rank (plain_sep self) }
     {
@@ -53,7 +53,7 @@ impl Sep {
         }
     }
 
-    /// How two signs compare, as they are declared. Takes no memory.
+    /// Compares two signs in the order of their declaration. Does not allocate.
     pub fn compare_plain(self, other: Sep) -> Ordering
         ensures { result ≡ sep_plain_cmp (plain_sep self) (plain_sep other) }
     {

@@ -1,4 +1,4 @@
-//! Two streams of bytes compared.
+//! How two streams of bytes compare.
 
 ghost use Rattle.std.specs.Prelude.{◌≡◌, List, ℕ, Some, map};
 ghost use Rattle.std.specs.Iterator.{AlwaysYields, IsFinite};
@@ -11,9 +11,9 @@ use crate::chunk::Chunk;
 use crate::key::{ListBytes, PartText, PieceBytes};
 use std::cmp::Ordering;
 
-/// How two streams of bytes compare: by the first byte at which they differ; where one ends before that, it is below
-/// the other. Bytes are taken from both in turn, from `a` first, and none behind that place, so that a caller can go
-/// on with what is left. `a` has to end, `b` may go on for ever. Takes no memory.
+/// Compares two streams by the first byte at which they differ. A prefix comes before the longer stream. Takes bytes
+/// from both in turn, from `a` first, and none after the first difference, so the caller can continue with what is
+/// left. `a` must end; `b` need not. Does not allocate.
 pub fn compare_bytes<A: Iterator<Item = u8>, B: Iterator<Item = u8>>(
     a: &mut A,
     b: &mut B,
@@ -39,14 +39,14 @@ pub fn compare_bytes<A: Iterator<Item = u8>, B: Iterator<Item = u8>>(
     }
 }
 
-/// How two parts compare, by their printed texts. Takes no memory.
+/// Compares two parts by their printed texts. Does not allocate.
 pub fn compare_parts(a: PartText<'_>, b: PartText<'_>) -> Ordering
     ensures { result ≡ part_cmp (Some (part_key a.entry)) (Some (part_key b.entry)) }
 {
     compare_bytes(&mut PieceBytes::part(a), &mut PieceBytes::part(b))
 }
 
-/// How two lists of chunks compare as lists of parts. Takes no memory.
+/// Compares two lists of chunks as lists of parts. Does not allocate.
 pub fn compare_part_lists(a: &[Chunk], b: &[Chunk]) -> Ordering
     ensures { result ≡ list_cmp (chunk_parts (map plain_chunk a.now))
         (chunk_parts (map plain_chunk b.now)) }

@@ -1,4 +1,4 @@
-//! The few bytes of a piece that are made at once.
+//! A small array for the bytes of a piece that are computed at once.
 
 ghost use Rattle.std.specs.Prelude.{◌≡◌, ◌∷◌, ◌++◌, ◌+◌, ◌<◌, ◌≤◌, [], List, ℕ, drop, length, IsTrue, None, Some};
 ghost use Rattle.std.specs.Fmt.{decimal};
@@ -10,10 +10,11 @@ ghost use Rattle.version_parts.specs.Pieces.{GonePast};
 use itoa::write_digits;
 use std::marker::Model;
 
-// As many as a plain number has as a part at the end of a list: three marks, how many digits it has, and ten digits.
+// The longest content is a plain number as the last part of a list: three marks, the count of its digits, and ten
+// digits.
 const MOST: usize = 14;
 
-/// At most 14 bytes, seen as those that are still to come.
+/// At most 14 bytes: those that are still to be read.
 #[derive(Drop)]
 pub(crate) struct InlineBytes {
     bytes: [u8; MOST],
@@ -29,7 +30,7 @@ impl Model for InlineBytes {
 }
 
 impl InlineBytes {
-    /// No byte.
+    /// Returns no bytes.
     #[inline(always)]
     pub(crate) fn none() -> InlineBytes
         ensures { result ≡ [] }
@@ -40,7 +41,7 @@ impl InlineBytes {
         }
     }
 
-    /// A number in decimal.
+    /// Returns a number in decimal.
     pub(crate) fn decimal(number: u32) -> InlineBytes
         ensures { result ≡ decimal number }
     {
@@ -49,7 +50,7 @@ impl InlineBytes {
         inline
     }
 
-    /// The bytes of a number: how many digits it has, and these.
+    /// Returns the bytes of a number: the count of its digits, then the digits.
     #[inline(always)]
     pub(crate) fn number(number: u32) -> InlineBytes
         ensures value { result ≡ number_bytes number }
@@ -60,7 +61,7 @@ impl InlineBytes {
         inline
     }
 
-    /// Becomes no byte.
+    /// Removes all bytes.
     #[inline(always)]
     pub(crate) fn clear(&mut self)
         ensures { self.new ≡ [] }
@@ -68,7 +69,7 @@ impl InlineBytes {
         self.start = MOST as u8;
     }
 
-    /// Becomes one byte.
+    /// Sets the bytes to one byte.
     #[inline(always)]
     pub(crate) fn set_byte(&mut self, byte: u8)
         ensures { self.new ≡ byte ∷ [] }
@@ -77,7 +78,7 @@ impl InlineBytes {
         self.put(byte);
     }
 
-    /// Becomes two bytes.
+    /// Sets the bytes to two bytes.
     #[inline(always)]
     pub(crate) fn set_two(&mut self, first: u8, second: u8)
         ensures { self.new ≡ first ∷ second ∷ [] }
@@ -86,7 +87,7 @@ impl InlineBytes {
         self.put(first);
     }
 
-    /// Becomes a plain number as a part.
+    /// Sets the bytes to a plain number as a part.
     #[inline(always)]
     pub(crate) fn set_plain_part(&mut self, number: u32)
         ensures { self.new ≡ part_bytes (Some (Number number None)) }
@@ -95,7 +96,7 @@ impl InlineBytes {
         self.put_plain_part(number);
     }
 
-    /// Becomes a plain number as the last part of a list, and the end of that.
+    /// Sets the bytes to a plain number as the last part of a list, and the end of the list.
     #[inline(always)]
     pub(crate) fn set_last_plain_part(&mut self, number: u32)
         ensures { self.new ≡ part_bytes (Some (Number number None)) ++ part_bytes None }
@@ -104,7 +105,7 @@ impl InlineBytes {
         self.put_plain_part(number);
     }
 
-    /// Becomes a byte, and the bytes of a number behind it.
+    /// Sets the bytes to a byte, and the bytes of a number after it.
     #[inline(always)]
     pub(crate) fn set_byte_and_number(&mut self, byte: u8, number: u32)
         ensures { self.new ≡ byte ∷ number_bytes number }
@@ -114,7 +115,7 @@ impl InlineBytes {
         self.put(byte);
     }
 
-    /// A byte before the others.
+    /// Puts a byte before the others.
     #[inline(always)]
     pub(crate) fn put(&mut self, byte: u8)
         requires { length self.old < 14 }
@@ -124,7 +125,7 @@ impl InlineBytes {
         self.bytes[usize::from(self.start)] = byte;
     }
 
-    // A plain number as a part before the others.
+    // Puts a plain number as a part before the others.
     fn put_plain_part(&mut self, number: u32)
         requires { length self.old ≤ 1 }
         ensures { self.new ≡ part_bytes (Some (Number number None)) ++ self.old }
@@ -134,7 +135,7 @@ impl InlineBytes {
         self.put(3);
     }
 
-    // The bytes of a number before the others.
+    // Puts the bytes of a number before the others.
     #[tactic(auto, using(crate::proofs::InlineBytes::number_put))]
     #[inline(always)]
     fn put_number(&mut self, number: u32)
@@ -150,7 +151,7 @@ impl InlineBytes {
         }
     }
 
-    // A number in decimal before the others. It says how many digits that are.
+    // Puts a number in decimal before the others, and returns the count of its digits.
     #[tactic(auto, using(crate::proofs::InlineBytes::ten_digits))]
     fn put_decimal(&mut self, number: u32) -> u8
         requires { length self.old ≤ 3 }
@@ -163,7 +164,7 @@ impl InlineBytes {
         end - self.start
     }
 
-    /// Goes past as many bytes as both have, where those are the same.
+    /// Removes from the start of both as many bytes as both have, if these bytes are the same.
     #[tactic(auto, using(crate::proofs::Past::past))]
     #[inline(always)]
     pub(crate) fn pass_same(&mut self, other: &mut InlineBytes)
@@ -177,7 +178,7 @@ impl InlineBytes {
         }
     }
 
-    /// Whether there is none.
+    /// Returns whether no bytes remain.
     #[inline(always)]
     pub(crate) fn is_empty(&self) -> bool
         ensures { IsTrue result → self.now ≡ [] }
@@ -185,7 +186,7 @@ impl InlineBytes {
         self.start == MOST as u8
     }
 
-    /// The bytes as a slice.
+    /// Returns the bytes as a slice.
     #[inline(always)]
     pub(crate) fn as_slice(&self) -> &[u8]
         ensures value { result.now ≡ self.now }

@@ -1,4 +1,4 @@
-//! Lists in keys: their items one after another, off a list or off the text that spells it, and their end.
+//! Lists in keys: the items one after another, from a list or from the text that spells it, and the end of the list.
 
 ghost use Rattle.std.specs.Prelude.{◌≡◌, ◌∷◌, ◌++◌, [], List, ℕ, Option, Some, None, map, take, if◌then◌else◌, IfNone, IfOk, OnOk};
 ghost use Rattle.std.specs.Iterator.{item_count, YieldsFirst};
@@ -23,47 +23,48 @@ use crate::mchunk::{MChunk, MessyChunk};
 use crate::scan::{Class, Dotted, Element, after_mark, nonempty_run};
 use std::marker::Model;
 
-/// A kind of element that stands in a key, byte after byte.
+/// A kind of element that keys have, written as bytes.
 pub trait Code: Element {
-    // What an item is written as, and the bytes of that, or of the end of a list.
+    // The key of an item, and the bytes of a key, or of the end of a list.
     ghost Key: { Type 0 };
 
     ghost key: { Self.Item → Key };
 
     ghost bytes: { Option Key → List ℕ };
 
-    // What the item at the front of a text is written as, and the rest.
+    // Reads the key of the item at the start of a text, and gives the rest.
     ghost key_front: { Front Key };
 
-    /// Makes a piece the bytes of an item.
+    /// Sets a piece to the bytes of an item.
     fn set_piece<'a>(piece: &mut PieceBytes<'a>, item: &'a Self::Item)
         ensures { piece.new ≡ bytes (Some (key item.now)) };
 
-    /// Makes a piece the bytes of the item at the front of a text, where one can be read, and gives the rest. Takes no
-    /// memory.
+    /// Sets a piece to the bytes of the item at the start of a text, and returns the rest. Returns None, and leaves the
+    /// piece unchanged, if no item parses. Does not allocate.
     fn set_front_piece<'a>(piece: &mut PieceBytes<'a>, i: &'a str) -> Option<&'a str>
         ensures read { option_map (λ rest. (piece.new, rest.now)) result
             ≡ map_value (λ key. bytes (Some key)) (key_front i.now) }
         ensures unread { IfNone result (piece.new ≡ piece.old) };
 
-    /// Puts the item at the front of a text behind a short key, and gives the rest. Takes no memory.
+    /// Appends the item at the start of a text to a short key, and returns the rest. Fails if no item parses, and as
+    /// [`NotShort`] says. Does not allocate.
     fn put_front<'a>(short: &mut ShortKey, i: &'a str) -> Result<&'a str, NotShort>
         ensures { IfOk result (λ rest. (put : List ℕ)
             × (short.new.items ≡ short.old.items ++ put)
             × (Some (put, rest.now) ≡ map_value (λ key. bytes (Some key)) (key_front i.now))) };
 
-    /// The byte behind the last item.
+    /// Returns the byte after the last item.
     fn end() -> u8
         ensures { bytes None ≡ result ∷ [] };
 
-    // Each item has a byte, and what is left is no longer than the text.
+    // Each item has a byte, and the rest is no longer than the text.
     ghost begins: { (key : Key) → ¬ (bytes (Some key) ≡ []) };
 
     ghost key_consumes: { Consumes key_front };
 }
 
-/// The items of a list that are still to come: those of a list, and so many of those that a text spells. It takes no
-/// memory.
+/// The remaining items of a list: those of a list, and then the first `count` of those that a text spells. Does not
+/// allocate.
 #[derive(Drop)]
 pub struct ItemsLeft<'a, C: Code> {
     items: &'a [C::Item],
@@ -79,7 +80,7 @@ impl<'a, C: Code> Model for ItemsLeft<'a, C> {
 }
 
 impl<'a, C: Code> ItemsLeft<'a, C> {
-    /// The items of a list.
+    /// Returns the items of a list.
     #[inline(always)]
     pub fn of(items: &'a [C::Item]) -> ItemsLeft<'a, C>
         ensures { result ≡ items_bytes C.bytes (map C.key items.now) }
@@ -91,7 +92,7 @@ impl<'a, C: Code> ItemsLeft<'a, C> {
         }
     }
 
-    /// The elements of a list that was scanned.
+    /// Returns the elements of a scanned list.
     #[inline(always)]
     pub fn spelled_by(list: Dotted<'a>) -> ItemsLeft<'a, C>
         ensures { result ≡ items_bytes C.bytes
@@ -106,7 +107,7 @@ impl<'a, C: Code> ItemsLeft<'a, C> {
 }
 
 impl<'a, C: Code> ItemsLeft<'a, C> {
-    /// Makes a piece the bytes of the next item, where there is one.
+    /// Sets a piece to the bytes of the next item, and returns whether there was one.
     pub fn next_piece(&mut self, piece: &mut PieceBytes<'a>) -> bool
         ensures { IsNext result self.old self.new piece.old piece.new }
     {
@@ -132,7 +133,8 @@ impl<'a, C: Code> ItemsLeft<'a, C> {
 }
 
 impl<'a, C: Code> ItemsLeft<'a, C> {
-    /// Puts what is still to come behind a short key, where it lies in a text. Takes no memory.
+    /// Appends what remains to a short key. Fails with `NotShort` if items remain that are not in a text, or the bytes
+    /// do not fit a short key. Does not allocate.
     #[inline(always)]
     pub fn put(self, key: &mut ShortKey) -> Result<(), NotShort>
         ensures { OnOk result (key.new.items ≡ key.old.items ++ self.entry) }
@@ -142,7 +144,7 @@ impl<'a, C: Code> ItemsLeft<'a, C> {
         Ok(())
     }
 
-    // Puts the next item behind a short key, where there is one and it lies in a text.
+    // Appends the next item to a short key, and returns whether there was one. Fails if the item is not in a text.
     #[inline(always)]
     fn put_next(&mut self, key: &mut ShortKey) -> Result<bool, NotShort>
         ensures { IfOk result (λ more. (put : List ℕ) × (key.new.items ≡ key.old.items ++ put)
@@ -165,7 +167,7 @@ impl<'a, C: Code> ItemsLeft<'a, C> {
     }
 }
 
-/// What is still to come of a list: its items, and its end. It takes no memory.
+/// What remains of a list: its items, and its end. Does not allocate.
 #[derive(Drop)]
 pub struct ListLeft<'a, C: Code> {
     items: ItemsLeft<'a, C>,
@@ -179,7 +181,7 @@ impl<'a, C: Code> Model for ListLeft<'a, C> {
 }
 
 impl<'a, C: Code> ListLeft<'a, C> {
-    /// Some items, and the end behind them.
+    /// Returns some items, and the end of the list after them.
     #[inline(always)]
     pub fn of(items: ItemsLeft<'a, C>) -> ListLeft<'a, C>
         ensures { result ≡ items.entry ++ C.bytes None }
@@ -192,7 +194,7 @@ impl<'a, C: Code> ListLeft<'a, C> {
 }
 
 impl<'a> ListLeft<'a, MessyChunk> {
-    /// The chunks of a messy section, as parts, and the end behind them.
+    /// Returns the chunks of a messy section as parts, and the end of the list after them.
     #[tactic(auto, using(crate::proofs::ListBytes::section_written))]
     pub fn section(chunks: &'a [MChunk]) -> ListLeft<'a, MessyChunk>
         ensures { result ≡ parts_bytes (section_parts (map plain_mchunk chunks.now)) }
@@ -202,7 +204,7 @@ impl<'a> ListLeft<'a, MessyChunk> {
 }
 
 impl<'a, C: Code> ListLeft<'a, C> {
-    /// Makes a piece the bytes of the next item, or of the end, where there is one.
+    /// Sets a piece to the bytes of the next item or of the end, and returns whether there was one of these.
     pub fn next_piece(&mut self, piece: &mut PieceBytes<'a>) -> bool
         ensures { IsNext result self.old self.new piece.old piece.new }
     {
@@ -219,7 +221,8 @@ impl<'a, C: Code> ListLeft<'a, C> {
 }
 
 impl<'a, C: Code> ListLeft<'a, C> {
-    /// Puts what is still to come behind a short key, where it lies in a text. Takes no memory.
+    /// Appends what remains to a short key. Fails with `NotShort` if items remain that are not in a text, or the bytes
+    /// do not fit a short key. Does not allocate.
     #[inline(always)]
     pub fn put(self, key: &mut ShortKey) -> Result<(), NotShort>
         ensures { OnOk result (key.new.items ≡ key.old.items ++ self.entry) }
@@ -232,8 +235,8 @@ impl<'a, C: Code> ListLeft<'a, C> {
     }
 }
 
-/// The bytes of a list, seen as those that are still to come: of the item begun, and of what is left of the list. It
-/// takes no memory.
+/// The remaining bytes of a list: those of the current item, and then those of what remains of the list. Does not
+/// allocate.
 #[derive(Drop)]
 pub struct ListBytes<'a, C: Code> {
     piece: PieceBytes<'a>,
@@ -249,7 +252,7 @@ impl<'a, C: Code> Model for ListBytes<'a, C> {
 }
 
 impl<'a, C: Code> ListBytes<'a, C> {
-    /// The bytes of the items and of the end of their list.
+    /// Returns the bytes of the items and of the end of their list.
     #[inline(always)]
     pub fn of(items: &'a [C::Item]) -> ListBytes<'a, C>
         ensures { result ≡ list_bytes C.bytes (map C.key items.now) }
@@ -280,7 +283,7 @@ impl<'a, C: Code> Iterator for ListBytes<'a, C> {
 }
 
 impl<'a> ListBytes<'a, Part> {
-    /// The bytes of chunks as a list of parts.
+    /// Returns the bytes of chunks as a list of parts.
     #[tactic(auto, using(crate::proofs::ListBytes::parts_written))]
     pub fn parts(chunks: &'a [Chunk]) -> ListBytes<'a, Part>
         ensures { result ≡ parts_bytes (chunk_parts (map plain_chunk chunks.now)) }
@@ -414,7 +417,7 @@ impl Code for ReleaseChunk {
     }
 }
 
-// Puts a chunk of a release behind a short key.
+// Appends a chunk of a release to a short key.
 #[inline(always)]
 fn put_chunk(key: &mut ShortKey, chunk: ChunkText<'_>) -> Result<(), NotShort>
     requires { IsChunkText chunk }
@@ -433,7 +436,7 @@ fn put_chunk(key: &mut ShortKey, chunk: ChunkText<'_>) -> Result<(), NotShort>
     }
 }
 
-// Puts a chunk of a general version behind a short key, as a part.
+// Appends a chunk of a general version to a short key, as a part.
 #[tactic(auto, using(crate::proofs::ListBytes::plain_number))]
 #[inline(always)]
 fn put_chunk_as_part(key: &mut ShortKey, chunk: ChunkText<'_>) -> Result<(), NotShort>

@@ -20,9 +20,9 @@ use crate::key::place::{AfterNumber, Place, run_step};
 use std::alloc::AllocError;
 use std::marker::Model;
 
-/// The bytes of a part, of a number or of a text, seen as those that are still to come. A number of 32 bits is made at
-/// once, and waits in a small array; a run of a text's bytes that stand in the key as they are is lent. It takes no
-/// memory; a run of digits is counted once, so that all bytes together take time that grows with the text.
+/// The remaining bytes of a part, of a number or of a text. The bytes of a number of 32 bits are computed at once, into
+/// a small array. A run of a text that stands unchanged in the key is borrowed. Does not allocate. Each run of digits
+/// is counted once, so all bytes together take time linear in the text.
 #[derive(Drop)]
 pub struct PieceBytes<'a> {
     ready: InlineBytes,
@@ -42,7 +42,7 @@ impl<'a> Model for PieceBytes<'a> {
 }
 
 impl<'a> PieceBytes<'a> {
-    /// No byte.
+    /// Returns no bytes.
     #[inline(always)]
     pub fn none() -> PieceBytes<'a>
         ensures { result ≡ [] }
@@ -50,7 +50,7 @@ impl<'a> PieceBytes<'a> {
         PieceBytes::of_ready(InlineBytes::none())
     }
 
-    /// The bytes of a part, by its printed text.
+    /// Returns the bytes of a part, by its printed text.
     #[tactic(auto, unfolding(crate::specs::Pieces::place_bytes))]
     pub fn part(text: PartText<'a>) -> PieceBytes<'a>
         ensures { result ≡ part_bytes (Some (part_key text.entry)) }
@@ -58,7 +58,7 @@ impl<'a> PieceBytes<'a> {
         PieceBytes::at_place(InlineBytes::none(), Place::Part, text)
     }
 
-    /// The bytes of a number: how many digits it has, and these.
+    /// Returns the bytes of a number: the count of its digits, then the digits.
     #[inline(always)]
     pub fn number(number: u32) -> PieceBytes<'a>
         ensures { result ≡ number_bytes number }
@@ -66,7 +66,7 @@ impl<'a> PieceBytes<'a> {
         PieceBytes::of_ready(InlineBytes::number(number))
     }
 
-    /// The bytes of the number that the digits at the front of a text write. They may be any number of digits.
+    /// Returns the bytes of the number that the digits at the start of a text write. The number may be of any size.
     #[tactic(auto, using(crate::proofs::PieceBytes::alone))]
     pub fn digits(text: &'a str) -> PieceBytes<'a>
         ensures { result ≡ number_bytes (run_value text.now) }
@@ -78,7 +78,7 @@ impl<'a> PieceBytes<'a> {
         )
     }
 
-    /// The bytes of a text.
+    /// Returns the bytes of a text.
     #[tactic(auto, using(crate::proofs::PieceBytes::alone))]
     pub fn text(text: &'a str) -> PieceBytes<'a>
         ensures { result ≡ text_bytes text.now }
@@ -90,7 +90,7 @@ impl<'a> PieceBytes<'a> {
         )
     }
 
-    // Bytes that are ready, and those of a text that is read so.
+    // Bytes that are ready, and those of a text that is read from a place on.
     #[inline(always)]
     fn at_place(ready: InlineBytes, place: Place, text: PartText<'a>) -> PieceBytes<'a>
         ensures { result ≡ ready ++ place_bytes place text.entry }
@@ -103,7 +103,7 @@ impl<'a> PieceBytes<'a> {
         }
     }
 
-    // Bytes that are ready, and no more.
+    // Bytes that are ready, and no others.
     #[tactic(auto, unfolding(crate::specs::Pieces::place_bytes, crate::specs::Pieces::after_number_bytes))]
     #[inline(always)]
     fn of_ready(ready: InlineBytes) -> PieceBytes<'a>
@@ -112,7 +112,7 @@ impl<'a> PieceBytes<'a> {
         PieceBytes::at_place(ready, Place::Rest(AfterNumber::Nothing), PartText::text(""))
     }
 
-    /// Becomes one byte.
+    /// Sets the piece to one byte.
     #[tactic(auto, unfolding(crate::specs::Pieces::place_bytes, crate::specs::Pieces::after_number_bytes))]
     #[inline(always)]
     pub fn set_byte(&mut self, byte: u8)
@@ -123,7 +123,7 @@ impl<'a> PieceBytes<'a> {
         self.place = Place::Rest(AfterNumber::Nothing);
     }
 
-    /// Becomes the bytes of a plain number as a part.
+    /// Sets the piece to the bytes of a plain number as a part.
     #[tactic(auto, unfolding(crate::specs::Pieces::place_bytes, crate::specs::Pieces::after_number_bytes))]
     #[inline(always)]
     pub fn set_plain_part(&mut self, number: u32)
@@ -134,7 +134,7 @@ impl<'a> PieceBytes<'a> {
         self.place = Place::Rest(AfterNumber::Nothing);
     }
 
-    /// Becomes the bytes of a plain number as the last part of a list, and of the end of that.
+    /// Sets the piece to the bytes of a plain number as the last part of a list, and of the end of the list.
     #[tactic(auto, unfolding(crate::specs::Pieces::place_bytes, crate::specs::Pieces::after_number_bytes))]
     #[inline(always)]
     pub fn set_last_plain_part(&mut self, number: u32)
@@ -145,7 +145,7 @@ impl<'a> PieceBytes<'a> {
         self.place = Place::Rest(AfterNumber::Nothing);
     }
 
-    /// Becomes the bytes of a part, by its printed text.
+    /// Sets the piece to the bytes of a part, by its printed text.
     #[tactic(auto, unfolding(crate::specs::Pieces::place_bytes))]
     #[inline(always)]
     pub fn set_part(&mut self, text: PartText<'a>)
@@ -157,7 +157,7 @@ impl<'a> PieceBytes<'a> {
         self.place = Place::Part;
     }
 
-    // Becomes the bytes of a part that is a text.
+    // Sets the piece to the bytes of a part that is a text.
     #[tactic(auto, unfolding(crate::specs::Pieces::place_bytes))]
     #[inline(always)]
     pub(crate) fn set_text_part(&mut self, text: &'a str)
@@ -169,7 +169,7 @@ impl<'a> PieceBytes<'a> {
         self.place = Place::Part;
     }
 
-    // Becomes the bytes of a chunk of a release.
+    // Sets the piece to the bytes of a chunk of a release.
     #[tactic(auto, using(crate::proofs::PieceBytes::alone))]
     #[inline(always)]
     pub(crate) fn set_chunk(&mut self, chunk: ChunkRef<'a>)
@@ -186,7 +186,7 @@ impl<'a> PieceBytes<'a> {
         }
     }
 
-    // Becomes the bytes of a number as a chunk of a release.
+    // Sets the piece to the bytes of a number as a chunk of a release.
     #[tactic(auto, unfolding(crate::specs::Pieces::place_bytes, crate::specs::Pieces::after_number_bytes))]
     #[inline(always)]
     fn set_numeric_chunk(&mut self, number: u32)
@@ -197,7 +197,7 @@ impl<'a> PieceBytes<'a> {
         self.place = Place::Rest(AfterNumber::Nothing);
     }
 
-    // Becomes the bytes of a chunk as a part.
+    // Sets the piece to the bytes of a chunk as a part.
     #[tactic(auto, using(crate::proofs::ListBytes::plain_number))]
     #[inline(always)]
     pub(crate) fn set_chunk_as_part(&mut self, chunk: ChunkRef<'a>)
@@ -210,7 +210,7 @@ impl<'a> PieceBytes<'a> {
         }
     }
 
-    // Becomes the bytes of a chunk of a release, as it stands in its text.
+    // Sets the piece to the bytes of a chunk of a release, from the text of the chunk.
     #[tactic(auto, using(crate::proofs::PieceBytes::alone))]
     #[inline(always)]
     pub(crate) fn set_chunk_text(&mut self, chunk: ChunkText<'a>)
@@ -231,7 +231,7 @@ impl<'a> PieceBytes<'a> {
         }
     }
 
-    // Becomes the bytes of a chunk as a part, as it stands in its text.
+    // Sets the piece to the bytes of a chunk as a part, from the text of the chunk.
     #[tactic(auto, using(crate::proofs::Numbers::numeral_part))]
     #[inline(always)]
     pub(crate) fn set_chunk_text_as_part(&mut self, chunk: ChunkText<'a>)
@@ -246,7 +246,7 @@ impl<'a> PieceBytes<'a> {
         }
     }
 
-    // Becomes a mark, how many digits there are, and these.
+    // Sets the piece to a mark, the count of some digits, and the digits.
     #[tactic(auto, unfolding(crate::specs::Pieces::place_bytes, crate::specs::Pieces::after_number_bytes))]
     #[inline(always)]
     fn set_digits(&mut self, mark: u8, digits: &'a [u8])
@@ -258,7 +258,7 @@ impl<'a> PieceBytes<'a> {
         self.place = Place::Rest(AfterNumber::Nothing);
     }
 
-    // Becomes a mark, how many digits there are, these, and a byte behind them.
+    // Sets the piece to a mark, the count of some digits, the digits, and a byte after them.
     #[tactic(auto, unfolding(crate::specs::Pieces::place_bytes))]
     #[inline(always)]
     fn set_ended_digits(&mut self, mark: u8, digits: &'a [u8], end: u8)
@@ -270,7 +270,7 @@ impl<'a> PieceBytes<'a> {
         self.place = Place::End(end);
     }
 
-    /// Goes past bytes at the front of both that are the same, perhaps not all of them. Takes no memory.
+    /// Removes the same bytes from the start of both, perhaps not all that are the same. Does not allocate.
     #[inline(always)]
     pub fn pass_same(&mut self, other: &mut PieceBytes<'_>)
         ensures { GonePast self.old other.old self.new other.new }
@@ -281,8 +281,7 @@ impl<'a> PieceBytes<'a> {
         }
     }
 
-    /// Puts the bytes behind those of a list. The error is that there is no memory for all of them; the list then has a
-    /// beginning of them.
+    /// Appends the bytes to a list. Fails on allocation failure, and then leaves a prefix of the bytes in the list.
     #[inline(always)]
     pub fn append_to(&mut self, list: &mut Vec<u8>) -> Result<(), AllocError>
         ensures ok { OnOk result (list.new.items ≡ list.old.items ++ self.old) }
@@ -296,7 +295,7 @@ impl<'a> PieceBytes<'a> {
         Ok(())
     }
 
-    // Puts the bytes that are ready, and those that are lent, behind those of a list.
+    // Appends the bytes that are ready, and then the borrowed run, to a list.
     #[inline(always)]
     fn append_ready(&mut self, list: &mut Vec<u8>) -> Result<(), AllocError>
         ensures ok { OnOk result (Growing list.old.items list.new.items self.old self.new) }
@@ -334,7 +333,7 @@ impl<'a> Iterator for PieceBytes<'a> {
     }
 }
 
-// The digits of a numeral that count: 0 has none.
+// The digits of a numeral as keys have them: 0 has no digits.
 #[tactic(auto, using(crate::proofs::Numbers::numeral_bytes))]
 #[inline(always)]
 pub(crate) fn counted_digits(numeral: &str) -> &[u8]
@@ -349,11 +348,12 @@ pub(crate) fn counted_digits(numeral: &str) -> &[u8]
     }
 }
 
-// How many bytes of two runs are held beside each other at once: where they differ far behind, not all is gone through
-// again for each byte.
+// How many bytes of two runs are compared at once. Without this limit, runs that differ far from their start would be
+// compared whole again at each byte.
 const WINDOW: usize = 64;
 
-// Goes past as many bytes as both runs have, and at most a window of them, where those are the same.
+// Removes from the start of both runs as many bytes as both have, and at most a window of them, if these bytes are the
+// same.
 #[tactic(auto, using(crate::proofs::Past::past))]
 #[inline(always)]
 fn pass_same_run(run: &mut &[u8], other: &mut &[u8])

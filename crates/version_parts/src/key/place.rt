@@ -1,4 +1,4 @@
-//! Where the bytes of a piece stand: what the text that is left is read as, and the step to the next byte.
+//! Places in a piece: what the remaining text is read as, and the step to the next byte.
 
 ghost use Rattle.std.specs.Prelude.{◌≡◌, ◌++◌, [], List, ℕ, Some, None, IfNone, IfSome};
 ghost use Rattle.version_parts.specs.DigitRun.{starts_with_digit};
@@ -15,11 +15,11 @@ pub(crate) enum AfterNumber {
     Suffix,
     // A text.
     Text,
-    // Nothing: what stands there doesn't count.
+    // Nothing: what follows doesn't count.
     Nothing,
 }
 
-// Where a stream is: what the text that is left is read as.
+// The place of a stream: what the remaining text is read as.
 #[derive(Clone, Copy)]
 pub(crate) enum Place {
     // A part.
@@ -28,9 +28,9 @@ pub(crate) enum Place {
     Split,
     // The number of a split and the text after it, if there is one.
     Numbered,
-    // A number, with the length of its digits in front.
+    // A number: the length of its digits, then the digits.
     Number(AfterNumber),
-    // A number, from what is left of that length on.
+    // A number, from the rest of that length on.
     Length(usize, AfterNumber),
     // A number, from a digit on.
     Digit(AfterNumber),
@@ -40,7 +40,7 @@ pub(crate) enum Place {
     End(u8),
 }
 
-// A byte that is given out, the one that has to follow it, and where the stream is after the two.
+// The next byte, a byte that must follow it, if any, and the place of the stream after them.
 #[derive(Clone, Copy)]
 pub(crate) struct Step {
     pub(crate) byte: u8,
@@ -49,7 +49,7 @@ pub(crate) struct Step {
 }
 
 impl Step {
-    // One byte.
+    // A step of one byte.
     fn to(byte: u8, place: Place) -> Step
         ensures { result ≡ record { byte = byte; then = None; place = place } }
     {
@@ -60,7 +60,7 @@ impl Step {
         }
     }
 
-    // A byte of a text: each of 0 and 1 is written in two.
+    // A byte of a text: 0 and 1 are each written as two bytes.
     fn text_byte(byte: u8, place: Place) -> Step
         ensures { (rest : List ℕ)
             → step_bytes result rest ≡ text_byte (Some byte) ++ place_bytes place rest }
@@ -77,7 +77,7 @@ impl Step {
 }
 
 impl Place {
-    // The next byte of a text that is read so, if there is one.
+    // The step to the next byte of a text at this place, if there is one.
     #[tactic(auto, unfolding(crate::specs::Pieces::place_bytes, crate::specs::Pieces::after_number_bytes))]
     pub(crate) fn step(self, text: &mut PartText<'_>) -> Option<Step>
         ensures some { IfSome result
@@ -122,7 +122,8 @@ fn part_step(text: &PartText<'_>) -> Step
     }
 }
 
-// The run of bytes at the front of a text that are given out as they stand, and where the stream is after it.
+// Takes the bytes at the start of a text that stand unchanged in a key, and returns them with the place of the stream
+// after them.
 #[tactic(auto, using(crate::proofs::PieceBytes::runs_taken))]
 pub(crate) fn run_step<'a>(place: Place, text: &mut PartText<'a>) -> (&'a [u8], Place)
     ensures { place_bytes place text.old ≡ result.0.now ++ place_bytes result.1 text.new }
@@ -165,7 +166,7 @@ fn numbered_step(text: &PartText<'_>) -> Step
     }
 }
 
-// A number has no zeros in front, and its digits are counted once.
+// Leading zeros are skipped, and the digits are counted once.
 #[tactic(auto, using(crate::proofs::PieceBytes::number_counted))]
 fn number_step(after: AfterNumber, text: &mut PartText<'_>) -> Step
     ensures { place_bytes (Place.Number after) text.old ≡ step_bytes result text.new }
@@ -184,7 +185,7 @@ fn length_step(left: usize, after: AfterNumber, text: &PartText<'_>) -> Step
     Step::to(255, Place::Length(left - 255, after))
 }
 
-// Where a stream is within a run of digits: at the next one, or after the run.
+// The place of a stream within a run of digits: at the next digit, or after the run.
 #[tactic(auto, using(crate::proofs::PieceBytes::run_steps))]
 fn within_run(after: AfterNumber, text: &PartText<'_>) -> Place
     ensures { place_bytes result text.now ≡ run_bytes after text.now }

@@ -1,4 +1,4 @@
-//! Short keys, written at once into an array from the texts that spell their pieces.
+//! Short keys, written directly into an array from the texts that spell their pieces.
 
 ghost use Rattle.std.specs.Prelude.{◌≡◌, ◌==◌, ◌∷◌, ◌++◌, [], drop, length, IfOk, None, OnOk, Some};
 ghost use Rattle.std.specs.List.{prefix_len};
@@ -20,18 +20,19 @@ use crate::part::number::without_zeros;
 use crate::scan::{Class, begins_with, split_bytes};
 use arrayvec::ArrayVec;
 
-/// How many bytes a short key has at most.
+/// The maximum length of a short key in bytes.
 pub const SHORT: usize = 128;
 
-/// A short key, or a beginning of one.
+/// A short key, or a prefix of one.
 pub type ShortKey = ArrayVec<u8, SHORT>;
 
-/// What is said of a key that isn't written so: it is too long, or has bytes other than of letters, digits and hyphens.
-/// The array then holds a beginning that is of no use.
+/// The error of a call that does not write a short key: the key is too long, it has a text with bytes other than
+/// letters, digits and hyphens, or it has items that are not in a text. The array then holds a prefix that is of no
+/// use.
 #[derive(Clone, Copy, Drop)]
 pub struct NotShort;
 
-/// Puts a byte behind those of a key.
+/// Appends a byte to a key. Fails if the key is full.
 #[inline(always)]
 pub fn put_byte(key: &mut ShortKey, byte: u8) -> Result<(), NotShort>
     ensures { OnOk result (key.new.items ≡ key.old.items ++ byte ∷ []) }
@@ -43,7 +44,7 @@ pub fn put_byte(key: &mut ShortKey, byte: u8) -> Result<(), NotShort>
     Ok(())
 }
 
-// Puts bytes behind those of a key.
+// Appends bytes to a key.
 #[inline(always)]
 fn put_bytes(key: &mut ShortKey, bytes: &[u8]) -> Result<(), NotShort>
     ensures { OnOk result (key.new.items ≡ key.old.items ++ bytes.now) }
@@ -54,7 +55,7 @@ fn put_bytes(key: &mut ShortKey, bytes: &[u8]) -> Result<(), NotShort>
     Ok(())
 }
 
-// Puts the number that the digits at the front of a text write, and gives what stands behind them.
+// Appends the number that the digits at the start of a text write, and returns the text after them.
 #[inline(always)]
 fn put_number<'t>(key: &mut ShortKey, text: &'t [u8]) -> Result<&'t [u8], NotShort>
     ensures { IfOk result (λ rest. (after : AfterNumber)
@@ -70,7 +71,7 @@ fn put_number<'t>(key: &mut ShortKey, text: &'t [u8]) -> Result<&'t [u8], NotSho
     Ok(rest)
 }
 
-/// Puts the bytes of a number: how many digits it has, and these.
+/// Appends the bytes of a number: the count of its digits, then the digits.
 #[inline(always)]
 pub fn put_value(key: &mut ShortKey, number: u32) -> Result<(), NotShort>
     ensures { OnOk result (key.new.items ≡ key.old.items ++ number_bytes number) }
@@ -78,7 +79,7 @@ pub fn put_value(key: &mut ShortKey, number: u32) -> Result<(), NotShort>
     put_bytes(key, InlineBytes::number(number).as_slice())
 }
 
-/// Puts a plain number as a part.
+/// Appends a plain number as a part.
 #[inline(always)]
 pub fn put_plain_part(key: &mut ShortKey, number: u32) -> Result<(), NotShort>
     ensures { OnOk result (key.new.items
@@ -90,7 +91,7 @@ pub fn put_plain_part(key: &mut ShortKey, number: u32) -> Result<(), NotShort>
     Ok(())
 }
 
-/// Puts the number that the digits at the front of a text write. They may be any number of digits.
+/// Appends the number that the digits at the start of a text write. The number is not limited to 32 bits.
 pub fn put_digits(key: &mut ShortKey, text: &str) -> Result<(), NotShort>
     ensures { OnOk result (key.new.items ≡ key.old.items ++ number_bytes (run_value text.now)) }
 {
@@ -98,7 +99,7 @@ pub fn put_digits(key: &mut ShortKey, text: &str) -> Result<(), NotShort>
     Ok(())
 }
 
-// Puts the number that a numeral writes.
+// Appends the number that a numeral writes.
 #[inline(always)]
 pub(crate) fn put_numeral(key: &mut ShortKey, numeral: &str) -> Result<(), NotShort>
     requires { SpellsNumeral numeral.now (digits_value 10 numeral.now) }
@@ -110,7 +111,7 @@ pub(crate) fn put_numeral(key: &mut ShortKey, numeral: &str) -> Result<(), NotSh
     put_bytes(key, digits)
 }
 
-// Puts the number that a numeral writes as a plain part.
+// Appends the number that a numeral writes as a plain part.
 #[inline(always)]
 pub(crate) fn put_numeral_part(key: &mut ShortKey, numeral: &str) -> Result<(), NotShort>
     requires { SpellsNumeral numeral.now (digits_value 10 numeral.now) }
@@ -123,7 +124,7 @@ pub(crate) fn put_numeral_part(key: &mut ShortKey, numeral: &str) -> Result<(), 
     Ok(())
 }
 
-// Puts the bytes of a text.
+// Appends the bytes of a text.
 pub(crate) fn put_text(key: &mut ShortKey, text: &[u8]) -> Result<(), NotShort>
     ensures { OnOk result (key.new.items ≡ key.old.items ++ text_bytes text.now) }
 {
@@ -136,7 +137,7 @@ pub(crate) fn put_text(key: &mut ShortKey, text: &[u8]) -> Result<(), NotShort>
     Ok(())
 }
 
-// Puts the bytes of a part, by its printed text.
+// Appends the bytes of a part, by its printed text.
 #[inline(always)]
 pub(crate) fn put_part(key: &mut ShortKey, text: &[u8]) -> Result<(), NotShort>
     ensures { OnOk result (key.new.items
@@ -158,7 +159,7 @@ pub(crate) fn put_part(key: &mut ShortKey, text: &[u8]) -> Result<(), NotShort>
     Ok(())
 }
 
-// Puts the bytes of a text that is split before its first digit.
+// Appends the bytes of a text that is split before its first digit.
 fn put_split(key: &mut ShortKey, text: &[u8]) -> Result<(), NotShort>
     ensures { OnOk result (key.new.items ≡ key.old.items ++ place_bytes Split text.now) }
 {

@@ -1,4 +1,4 @@
-//! The printed text of a part, byte after byte.
+//! The printed text of a part, byte by byte.
 
 ghost use Rattle.std.specs.Prelude.{◌≡◌, ◌==◌, ◌++◌, [], List, ℕ, drop, slice_get, true};
 ghost use Rattle.std.specs.Char.{is_ascii_digit};
@@ -11,8 +11,8 @@ use crate::key::inline::InlineBytes;
 use crate::scan::{Class, run_len};
 use std::marker::Model;
 
-/// The printed text of a part, seen as the bytes that are still to come: the digits of a number, a text that lies
-/// elsewhere, and the digits of one more. It takes no memory.
+/// The remaining bytes of the printed text of a part: the digits of a number, a borrowed text, and the digits of a
+/// second number. Does not allocate.
 #[derive(Drop)]
 pub struct PartText<'a> {
     before: InlineBytes,
@@ -27,7 +27,7 @@ impl<'a> Model for PartText<'a> {
 }
 
 impl<'a> PartText<'a> {
-    /// A number alone, in decimal.
+    /// Returns a number in decimal.
     pub fn number(number: u32) -> PartText<'a>
         ensures { result ≡ decimal number }
     {
@@ -38,7 +38,7 @@ impl<'a> PartText<'a> {
         }
     }
 
-    /// A text alone.
+    /// Returns a text.
     pub fn text(text: &'a str) -> PartText<'a>
         ensures { result ≡ text.now }
     {
@@ -49,7 +49,7 @@ impl<'a> PartText<'a> {
         }
     }
 
-    /// A number in decimal, and the text behind it.
+    /// Returns a number in decimal, and a text after it.
     pub fn numbered(number: u32, text: &'a str) -> PartText<'a>
         ensures { result ≡ decimal number ++ text.now }
     {
@@ -60,7 +60,7 @@ impl<'a> PartText<'a> {
         }
     }
 
-    /// A text between two numbers in decimal.
+    /// Returns a text between two numbers in decimal.
     pub fn between(first: u32, text: &'a str, second: u32) -> PartText<'a>
         ensures { result ≡ decimal first ++ text.now ++ decimal second }
     {
@@ -71,7 +71,7 @@ impl<'a> PartText<'a> {
         }
     }
 
-    // Becomes a text alone.
+    // Sets the bytes to those of a text.
     #[inline(always)]
     pub(crate) fn set_text(&mut self, text: &'a str)
         ensures { self.new ≡ text.now }
@@ -81,7 +81,7 @@ impl<'a> PartText<'a> {
         self.after.clear();
     }
 
-    // The next byte, which is still to come.
+    // The next byte, without taking it.
     pub(crate) fn first(&self) -> Option<u8>
         ensures { result ≡ slice_get self.now 0 }
     {
@@ -93,7 +93,7 @@ impl<'a> PartText<'a> {
             .copied()
     }
 
-    // How long the run of digits is that the text begins with.
+    // The length of the run of digits that the text begins with.
     #[tactic(auto, using(crate::proofs::Runs::runs_of_two))]
     pub(crate) fn digit_count(&self) -> usize
         ensures { result ≡ prefix_len is_ascii_digit self.now }
@@ -110,7 +110,8 @@ impl<'a> PartText<'a> {
         count + more + run_len(self.after.as_slice(), Class::Digit)
     }
 
-    // Takes the run of a class that the text begins with, as far as it lies in one piece elsewhere.
+    // Takes the run of a class that the text begins with, as far as the borrowed text has it. Takes nothing while
+    // digits of the first number remain.
     pub(crate) fn take_run(&mut self, class: Class) -> &'a [u8]
         ensures taken { self.old ≡ result.now ++ self.new }
         ensures all { list_all (contains class) result.now ≡ true }

@@ -14,7 +14,7 @@ use crate::part::text::compare_texts;
 use crate::scan::{Class, after_mark, begins_with, nonempty_run};
 use std::cmp::Ordering;
 
-/// A part, as it compares: a plain number, or what its text is as a part.
+/// A part as it compares: a plain number, or a printed text.
 #[derive(Clone, Copy)]
 pub enum PartRef<'a> {
     /// A number without a suffix.
@@ -36,7 +36,7 @@ impl<'a> PartRef<'a> {
         }
     }
 
-    // How two parts compare.
+    // Compares two parts.
     #[tactic(auto, using(crate::proofs::ListBytes::plain_number))]
     #[inline(always)]
     fn compare(self, other: PartRef<'_>) -> Ordering
@@ -55,7 +55,7 @@ impl<'a> PartRef<'a> {
         }
     }
 
-    // How it compares with the end of a list: a number is above that, and a word is below.
+    // Compares with the end of a list: word < end of the list < number.
     #[inline(always)]
     fn compare_with_end(self) -> Ordering
         ensures { result ≡ part_cmp (Some (part_ref_key self.entry)) None }
@@ -68,7 +68,7 @@ impl<'a> PartRef<'a> {
     }
 }
 
-/// The parts of a version that are still to come, in the order in which they stand.
+/// The remaining parts of a version, in order.
 #[derive(Clone, Copy)]
 pub enum PartsRef<'a> {
     /// No part.
@@ -84,7 +84,7 @@ pub enum PartsRef<'a> {
 }
 
 impl<'a> PartsRef<'a> {
-    // Takes the next part, where there is one.
+    // Takes the next part, or returns None at the end.
     #[inline(always)]
     fn next(&mut self) -> Option<PartRef<'a>>
         ensures some { IfSome result
@@ -113,8 +113,7 @@ impl<'a> PartsRef<'a> {
         }
     }
 
-    /// How two lists of parts compare: the first place at which they differ decides, and the end of a list is above a
-    /// word and below a number.
+    /// Compares two lists of parts. The first place where they differ decides: word < end of the list < number.
     #[inline(always)]
     pub fn compare(self, other: PartsRef<'_>) -> Ordering
         ensures { result ≡ list_cmp (parts_left self.entry) (parts_left other.entry) }
@@ -136,7 +135,7 @@ impl<'a> PartsRef<'a> {
     }
 }
 
-// Takes the text of the next chunk of a section, where there is one. What kind of chunk it is plays no part.
+// Takes the text of the next chunk of a section, or returns None at the end. The variant of the chunk does not matter.
 #[inline(always)]
 fn next_run<'a>(left: &mut ElementsLeft<'a>) -> Option<&'a str>
     ensures some { IfSome result (λ run. section_parts (elements_left mchunk_front left.old)

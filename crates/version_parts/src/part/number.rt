@@ -12,7 +12,7 @@ use crate::key::inline::InlineBytes;
 use crate::scan::{Class, split_bytes};
 use std::cmp::Ordering;
 
-/// A number of any size: a value, or what the digits at the front of a text write.
+/// A number of any size: a value, or a text that begins with its digits.
 #[derive(Clone, Copy)]
 pub enum NumberRef<'a> {
     Value(u32),
@@ -20,7 +20,7 @@ pub enum NumberRef<'a> {
 }
 
 impl<'a> NumberRef<'a> {
-    /// How two numbers compare by value. Takes no memory.
+    /// Compares two numbers by value. Does not allocate.
     #[tactic(auto, using(crate::proofs::PartCompare::decimals))]
     #[inline(always)]
     pub fn compare(self, other: NumberRef<'_>) -> Ordering
@@ -41,14 +41,14 @@ impl<'a> NumberRef<'a> {
     }
 }
 
-// How the numbers compare that the digits at the front of two texts write.
+// Compares the numbers that the digits at the start of two texts write.
 fn compare_runs(a: &[u8], b: &[u8]) -> Ordering
     ensures { result ≡ nat_cmp (run_value a.now) (run_value b.now) }
 {
     compare_digits(split_digits(a).0, split_digits(b).0)
 }
 
-/// The longest run of digits at the front of a text, which may be empty, and the rest.
+/// Returns the longest run of digits at the start of a text, which may be empty, and the rest.
 #[inline(always)]
 pub(crate) fn split_digits(text: &[u8]) -> (&[u8], &[u8])
     ensures run { result.0.now ≡ take_while is_ascii_digit text.now }
@@ -58,8 +58,8 @@ pub(crate) fn split_digits(text: &[u8]) -> (&[u8], &[u8])
     split_bytes(text, Class::Digit)
 }
 
-// How the numbers compare that two runs of digits write, whatever zeros they begin with: by how many digits are left
-// without these, and then by the digits.
+// Compares the numbers that two runs of digits write: without leading zeros, by the count of digits, and then by the
+// digits.
 #[tactic(auto, using(crate::proofs::PartCompare::digits_compared))]
 #[inline(always)]
 pub(crate) fn compare_digits(a: &[u8], b: &[u8]) -> Ordering
@@ -75,7 +75,7 @@ pub(crate) fn compare_digits(a: &[u8], b: &[u8]) -> Ordering
     a.cmp(b)
 }
 
-/// What a text has after the zeros that it begins with.
+/// Returns the text after its leading zeros.
 #[inline(always)]
 pub(crate) fn without_zeros(text: &[u8]) -> &[u8]
     ensures { result.now ≡ drop (prefix_len (λ b. b == 48) text.now) text.now }

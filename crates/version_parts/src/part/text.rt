@@ -13,7 +13,7 @@ use crate::part::number::{compare_digits, split_digits};
 use crate::scan::{Class, begins_with};
 use std::cmp::Ordering;
 
-/// How two texts compare as parts.
+/// Compares two texts as parts.
 pub(crate) fn compare_texts(a: &[u8], b: &[u8]) -> Ordering
     ensures { result ≡ part_cmp (Some (part_key a.now)) (Some (part_key b.now)) }
 {
@@ -25,7 +25,7 @@ pub(crate) fn compare_texts(a: &[u8], b: &[u8]) -> Ordering
     }
 }
 
-// How two parts compare that begin with numbers.
+// Compares two parts that begin with numbers.
 fn compare_numbers_with_suffixes(a: &[u8], b: &[u8]) -> Ordering
     requires a { starts_with_digit a.now ≡ true }
     requires b { starts_with_digit b.now ≡ true }
@@ -39,7 +39,7 @@ fn compare_numbers_with_suffixes(a: &[u8], b: &[u8]) -> Ordering
     compare_suffixes(suffix, other_suffix)
 }
 
-// How two suffixes compare: none is above every other.
+// Compares two suffixes. An empty one comes after every other.
 fn compare_suffixes(a: &[u8], b: &[u8]) -> Ordering
     ensures { result ≡ none_last_cmp split_cmp (suffix_of a.now) (suffix_of b.now) }
 {
@@ -51,8 +51,8 @@ fn compare_suffixes(a: &[u8], b: &[u8]) -> Ordering
     }
 }
 
-// How two texts compare that are split at their first runs of digits: by the bytes before these, then by the numbers,
-// then by the bytes after them.
+// Compares two texts that are split at their first runs of digits: by the bytes before these, then by the numbers, then
+// by the bytes after them.
 fn compare_splits(a: &[u8], b: &[u8]) -> Ordering
     ensures { result ≡ split_cmp (split_of a.now) (split_of b.now) }
 {
@@ -64,7 +64,8 @@ fn compare_splits(a: &[u8], b: &[u8]) -> Ordering
     compare_numbered(rest, other_rest)
 }
 
-// How two texts compare that are empty or begin with digits: no number is below every number.
+// Compares two texts that are empty or begin with digits: no number < a number, numbers by value, then the bytes after
+// them.
 fn compare_numbered(a: &[u8], b: &[u8]) -> Ordering
     ensures { result ≡ option_cmp numbered_cmp (number_front a.now) (number_front b.now) }
 {
@@ -83,7 +84,7 @@ fn compare_numbered(a: &[u8], b: &[u8]) -> Ordering
     }
 }
 
-// What a text has before its first digit, and from that on.
+// The text before its first digit, and the text from that digit on.
 fn split_at_digit(text: &[u8]) -> (&[u8], &[u8])
     ensures before { result.0.now ≡ before_first is_ascii_digit text.now }
     ensures rest { result.1.now ≡ drop (position_or_len is_ascii_digit text.now) text.now }
@@ -91,7 +92,7 @@ fn split_at_digit(text: &[u8]) -> (&[u8], &[u8])
     text.split_at(first_digit(text))
 }
 
-// Where the first digit of a text stands, or its length where it has none.
+// The place of the first digit of a text, or the length of a text without digits.
 fn first_digit(text: &[u8]) -> usize
     ensures place { result ≡ position_or_len is_ascii_digit text.now }
     ensures within { result ≤ length text.now }

@@ -12,7 +12,7 @@ below n = grind (arith, nat_tests)
 above : (n : ℕ) → nat_cmp (suc n) 0 ≡ Greater
 above n = grind (arith, nat_tests)
 
--- the shorter of two lists is below, where nothing else is left of one of them
+-- the shorter of two lists comes first, if nothing else is left of one of them
 by_length : {T A : Type 0} (view : T → A) (R : A → A → Ordering) (a b : List T) → min (length a) (length b) ≡ 0
     → slice_cmp R (map view a) (map view b) ≡ nat_cmp (length a) (length b)
 by_length view R [] [] none = refl

@@ -2,7 +2,7 @@ use Rattle.std.proofs.Common.{◌≡◌, ◌==◌, drop, length}
 use Rattle.std.specs.List.{prefix_len}
 use Rattle.version_parts.proofs.part.number.without_zeros.Given as goal
 
--- without its zeros, what is left is the same
+-- without leading zeros, what is left is the same as the text
 abbrev pub invariant-loop-left : goal.invariant-loop-left
 invariant-loop-left l = drop (prefix_len (λ b. b == 48) l.left) l.left ≡ drop (prefix_len (λ b. b == 48) l.text) l.text
 

@@ -4,7 +4,7 @@ use denote.Shadow.{shadow}
 use Rattle.version_parts.proofs.DottedScan.{Built}
 use Rattle.version_parts.proofs.scan.Dotted.build.Given as goal
 
--- the elements so far, and as many of those to come as are still wanted, are the wanted ones
+-- the elements built so far, and as many of those left as are still needed, are the first count elements
 abbrev pub invariant-loop-text : goal.invariant-loop-text
 invariant-loop-text g l = record {
   text : shadow (Utf8 l.text);

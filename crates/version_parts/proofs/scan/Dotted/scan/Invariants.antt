@@ -4,7 +4,7 @@ use denote.Shadow.{shadow}
 use Rattle.version_parts.proofs.DottedScan.{Scanned}
 use Rattle.version_parts.proofs.scan.Dotted.scan.Given as goal
 
--- so many elements are read, the last of them from `last` on
+-- count elements are read, and the last of them begins at `last`
 abbrev pub invariant-loop-next : goal.invariant-loop-next
 invariant-loop-next g l = record {
   text : shadow (Utf8 l.rest) × shadow (Utf8 l.last);

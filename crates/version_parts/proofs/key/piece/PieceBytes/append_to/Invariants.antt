@@ -2,7 +2,7 @@ use Rattle.std.proofs.Common.{length}
 use Rattle.version_parts.specs.Lists.{Growing}
 use Rattle.version_parts.proofs.key.piece.PieceBytes.append_to.Given as goal
 
--- the bytes taken are in the list, and the others still to come
+-- the bytes taken are in the list, and the others remain
 abbrev pub invariant-loop-byte : goal.invariant-loop-byte
 invariant-loop-byte l = Growing l.fn.list.items l.list.items l.fn.self l.self
 
