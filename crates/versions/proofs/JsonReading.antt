@@ -13,7 +13,7 @@ pub reads_json : {V X : Type 0} (view : V → X) (Owns : X → Type 0) (wrong : 
     → ReadsJson view Owns wrong value_of (as_json read) (as_str value)
 reads_json view Owns wrong value_of text value read is h = rw is (read, refl, h)
 
--- writing that gives the JSON value again
+-- the value that a JSON string parses as is written as that string
 pub written_again : {X : Type 0} (Spells : List ℕ → X → Type 0) (value_of : List ℕ → Option X) (spelled : (text : List ℕ) (x : X) → value_of text ≡ Some x → Spells text x)
     (text_of : X → List ℕ) → IsPrinted Spells text_of → (text : List ℕ) (value : Data) (x : X) → value ≡ string text → value_of text ≡ Some x → value ≡ string (text_of x)
 written_again Spells value_of spelled text_of printed text value x is read = rw (is, printed text x (spelled text x read)) refl

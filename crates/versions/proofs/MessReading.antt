@@ -1,5 +1,5 @@
--- Messy versions. A text that spells a version parses as it. A prefix spells the version that it parses as, if a dot, a
--- sign or the end follows. A version prints the text that spells it.
+-- Messy versions. A prefix spells the version that it parses as, if a dot, a sign or the end follows. A text that
+-- spells a version parses as that version, which prints that text.
 use Rattle.std.proofs.Common.{◌≡◌, ◌∙◌, ℕ, ◌<◌, List, [], ◌∷◌, ◌++◌, length, Some, None, Result, Ok, Err, IsSome, OnErr, refl, sym, ap, subst, arith, append-nil, append_assoc, inl, inr}
 use Rattle.std.proofs.lemmas.Str.{IsAscii-append}
 use Rattle.std.specs.Str.{IsAscii}
@@ -77,7 +77,7 @@ pub mess_front-None : (text : List ℕ) → section_front text ≡ None → mess
 unfolding mess_front
 mess_front-None text e = rw e refl
 
--- What is parsed, if each chunk is spelled by its text before a dot, a sign, and what follows the version.
+-- Prefixes that parse, if parsing chunks is sound before a dot, a sign, and what follows the version.
 module _ (Spells : List ℕ → PlainMChunk → Type 0) (Follows : List ℕ → Type 0) (sound : IsSoundBefore Follows Spells mchunk_front)
     (follows_at_dot : (text : List ℕ) → Follows (dot ∷ text)) (follows_at_sign : (sign : PlainSep) (text : List ℕ) → Follows (sep_byte sign ∷ text)) where
   -- a sign, and a section after it
@@ -169,7 +169,7 @@ mess_printed text m s =
 pub mess_ascii : (text : List ℕ) (m : PlainMess) → SpellsMess text m → IsAscii text
 mess_ascii = of_mess IsAscii IsAscii-nil IsAscii-append metadata_run_ascii sign_ascii
 
--- a text that spells a version parses as it
+-- a text that spells a version parses as that version
 pub mess_of-Some : (text : List ℕ) (m : PlainMess) → SpellsMess text m → mess_of text ≡ Some m
 unfolding mess_of
 mess_of-Some text m s = rw (mess_complete text m s) refl

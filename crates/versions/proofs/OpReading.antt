@@ -1,4 +1,4 @@
--- Operators: a prefix parses as the operator that it prints, and what an operator prints parses as it.
+-- Operators: a prefix that parses as an operator is the text of that operator, and that text parses as the operator.
 use Rattle.std.proofs.Common.{◌≡◌, ◌==◌, ◌+◌, ◌<◌, ◌∙◌, ℕ, suc, false, arith, List, [], ◌∷◌, ◌++◌, drop, length, codes, Some, None, slice_index_or, refl, ap, inl, inr}
 use Rattle.std.proofs.Math.Seq.{drop-cons}
 use Rattle.version_parts.specs.Front.{after_mark, begins}
@@ -42,7 +42,7 @@ no_equals : (text : List ℕ) → begins (λ b. b == 61) text ≡ false → afte
 no_equals [] other = refl
 no_equals (b ∷ text) other = rw other refl
 
--- the text of an operator parses as it, if no equals sign follows
+-- the text of an operator parses as that operator, if no equals sign follows
 pub op_front-reads : (op : Op) (rest : List ℕ) → begins (λ b. b == 61) rest ≡ false → op_front (op_text op ++ rest) ≡ Some (op, rest)
 unfolding op_front
 op_front-reads Exact rest other = refl

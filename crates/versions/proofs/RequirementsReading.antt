@@ -20,7 +20,7 @@ cut_where_joined first (second ∷ texts) (r ∷ list) z =
     slice_split_at (λ b. eqb b comma) first comma (join_with_byte comma (second ∷ texts)) (requirement_without_comma first r z.0) refl
     ∙ ap (λ (l : List (List ℕ)). first ∷ l) (cut_where_joined second texts list z.1)
 
--- each text that spells its member parses as it
+-- each text that spells its member parses as that member
 every_read : (texts : List (List ℕ)) (list : List PlainRequirement) → AllZip SpellsRequirement texts list → every (map requirement_of texts) ≡ Some list
 every_read [] [] z = refl
 every_read [] (r ∷ list) z = absurd z

@@ -1,4 +1,5 @@
--- Strict versions: a prefix parses as a version exactly if it spells it, and the version prints that prefix.
+-- Strict versions. A prefix spells the version that it parses as, a text that spells a version parses as that version,
+-- and the version prints that text.
 use Rattle.std.proofs.Common.{◌≡◌, ◌==◌, ℕ, Bool, false, List, [], ◌∷◌, ◌++◌, Option, Some, None, refl, sym, ap, subst, ◌∙◌, inl, inr, append-nil, append_assoc, arith}
 use Rattle.std.proofs.lemmas.Str.{IsAscii-append}
 use Rattle.std.specs.Char.{is_ascii_digit}
@@ -137,7 +138,7 @@ semver_printed text v s =
     let meta = optional_printed plus SpellsMetadata (λ t. t) (λ t x h. sym h.0) s.meta v.meta s.meta_is in
     rw (numeral_printed s.major v.major s.major_is, numeral_printed s.minor v.minor s.minor_is, numeral_printed s.patch v.patch s.patch_is, pre_rel, meta) (sym s.whole)
 
--- a text that spells a version parses as it
+-- a text that spells a version parses as that version
 pub semver_of-Some : (text : List ℕ) (v : PlainSemVer) → SpellsSemVer text v → semver_of text ≡ Some v
 unfolding semver_of
 semver_of-Some = whole_read SpellsSemVer semver_front semver_sound semver_complete

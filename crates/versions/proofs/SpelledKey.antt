@@ -73,7 +73,7 @@ alone : (may_be_epoch : Option ℕ) (first : Section) → key_behind_epoch may_b
 alone None first = refl
 alone (Some n) first = refl
 
--- if the first byte of a text isn't a colon, its first sign isn't one
+-- if the first byte of a text isn't a colon, its first sign isn't a colon
 picked : (t : Bool) (sign : PlainSep) (others : Option PlainSep) → sign ≢ Colon → others ≢ Some Colon → (if t then Some sign else others) ≢ Some Colon
 picked true sign others here there e = here (cc e)
 picked false sign others here there e = there e

@@ -1,4 +1,5 @@
--- General versions: a prefix parses as a version exactly if it spells it, and the version prints that prefix.
+-- General versions. A prefix spells the version that it parses as, a text that spells a version parses as that version,
+-- and the version prints that text.
 use Rattle.std.proofs.Common.{◌≡◌, ◌==◌, ◌∙◌, ℕ, Bool, true, false, not, List, [], ◌∷◌, ◌++◌, Option, Some, None, refl, sym, ap, subst, arith, inl, inr, append-nil, append_assoc}
 use Rattle.std.proofs.lemmas.Bool.{cases_Bool, eqb-true}
 use Rattle.std.proofs.lemmas.Bool.Decides.{nat_tests}
@@ -252,7 +253,7 @@ version_unique = spelled_once SpellsVersion version_front version_sound version_
 pub version_whole : (text : List ℕ) (v : PlainVersion) → version_front text ≡ Some (v, []) → SpellsVersion text v
 version_whole = whole_spelled SpellsVersion version_front version_sound version_complete
 
--- a text that spells a version parses as it
+-- a text that spells a version parses as that version
 pub version_of-Some : (text : List ℕ) (v : PlainVersion) → SpellsVersion text v → version_of text ≡ Some v
 unfolding version_of
 version_of-Some = whole_read SpellsVersion version_front version_sound version_complete

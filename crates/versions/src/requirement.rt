@@ -26,9 +26,9 @@ pub struct Requirement {
 }
 
 impl Requirement {
-    /// Parses the whole text as a requirement; returns None if it does not parse. It is an operator and a text that
-    /// `Versioning::new` parses, or `*` alone. Allocates only for the version; nothing for None. `Err` means allocation
-    /// failure.
+    /// Parses the whole text as a requirement; returns None if it does not parse. A requirement is an operator and a
+    /// text that `Versioning::new` parses, or `*` alone. Allocates only for the version; nothing for None. `Err` means
+    /// allocation failure.
     pub fn new(alloc: Global, s: &str) -> Result<Option<Requirement>, AllocError>
         // The text spells the requirement that is returned, and that requirement prints the text.
         ensures spelled { IfOk result (λ o. IfSome o
@@ -70,7 +70,7 @@ impl Requirement {
         or_illegal(alloc, read_whole(alloc, s)?, s, Error::IllegalOp)
     }
 
-    /// Parses a prefix as a requirement; returns it and the rest, or None. It is an operator and what
+    /// Parses a prefix as a requirement; returns it and the rest, or None. A requirement is an operator and what
     /// `Versioning::parse` parses, or `*` alone. So `=1.2.3.4` is `=1.2.3` with the rest `.4`. Allocates only for the
     /// version; nothing for None. `Err` means allocation failure.
     pub fn parse(alloc: Global, i: &str) -> Result<Option<(Requirement, &str)>, AllocError>

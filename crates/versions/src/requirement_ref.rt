@@ -22,8 +22,8 @@ pub struct RequirementRef<'a> {
 }
 
 impl<'a> RequirementRef<'a> {
-    /// Parses the whole text as a requirement; returns None if it does not parse. It is an operator and a text that
-    /// `VersioningRef::new` parses, or `*` alone. Doesn't allocate.
+    /// Parses the whole text as a requirement; returns None if it does not parse. A requirement is an operator and a
+    /// text that `VersioningRef::new` parses, or `*` alone. Doesn't allocate.
     pub fn new(s: &'a str) -> Option<RequirementRef<'a>>
         ensures { option_map plain_requirement_ref result ≡ requirement_of s.now }
     {

@@ -189,8 +189,8 @@ impl Hash for SemVer {
     }
 }
 
-/// Compares major, minor and patch by value, then the pre-releases chunk by chunk (SemVer 2.0, section 11). A
-/// pre-release comes before none. Metadata does not count. Doesn't allocate.
+/// Compares major, minor and patch by value, then the pre-releases chunk by chunk (SemVer 2.0, section 11). No
+/// pre-release comes last. Metadata does not count. Doesn't allocate.
 impl Ord for SemVer {
     ghost cmp = { on plain_semver semver_cmp };
 
@@ -223,7 +223,7 @@ impl PartialOrd for SemVer {
     }
 }
 
-// Compares two pre-releases. A pre-release comes before none (SemVer 2.0, section 11).
+// Compares two pre-releases. No pre-release comes last (SemVer 2.0, section 11).
 fn compare_pre_releases(a: &Option<Release>, b: &Option<Release>) -> Ordering
     ensures { result ≡ none_last_cmp release_cmp (option_map plain_release a.now)
         (option_map plain_release b.now) }
@@ -398,7 +398,7 @@ impl<'a> SemVerRef<'a> {
     }
 }
 
-// Compares two scanned pre-releases. A pre-release comes before none (SemVer 2.0, section 11).
+// Compares two scanned pre-releases. No pre-release comes last (SemVer 2.0, section 11).
 fn compare_spelled_pre_releases(a: &Option<ReleaseRef<'_>>, b: &Option<ReleaseRef<'_>>) -> Ordering
     ensures { result ≡ none_last_cmp release_cmp a.now b.now }
 {

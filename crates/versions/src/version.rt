@@ -91,9 +91,9 @@ impl Version {
     }
 
     /// Parses a prefix as a general version; returns it and the rest, or None. It parses a number and a colon if both
-    /// are there, then parts with dots between, then a release and metadata if they parse. After an epoch without a
-    /// part there is no way back: `1:` is None. Copies the chunks and texts; allocates nothing for None or for one
-    /// number with or without epoch. `Err` means allocation failure.
+    /// are there, then parts with dots between, then a release and metadata if they parse. An epoch with no part after
+    /// it does not parse: `1:` is None. Copies the chunks and texts; allocates nothing for None or for one number with
+    /// or without epoch. `Err` means allocation failure.
     pub fn parse(alloc: Global, i: &str) -> Result<Option<(Version, &str)>, AllocError>
         ensures { Reads plain_version VersionOwns result (version_front i.now) }
     {
@@ -181,8 +181,8 @@ impl fmt::Display for Version {
 }
 
 impl Version {
-    /// Returns whether `~self` matches `other`: the epochs are equal, with no epoch as 0, and there are equally many
-    /// parts, all but the last the same and the last not before. Releases and metadata do not count. Doesn't allocate.
+    /// Returns whether `~self` matches `other`: the epochs are equal (no epoch is 0), and there are equally many parts,
+    /// all but the last the same and the last not before. Releases and metadata do not count. Doesn't allocate.
     pub fn matches_tilde(&self, other: &Version) -> bool
         ensures { IsTrue result
             ↔ MatchesTilde (epoch_and_parts (plain_version self.now))
@@ -192,10 +192,9 @@ impl Version {
             && parts_match_tilde(BodyParts::of(self), BodyParts::of(other))
     }
 
-    /// Returns whether `^self` matches `other`: the epochs are equal, with no epoch as 0, and `other` has a part for
-    /// each part of `self`. These are the same for the leading plain zeros of `self` and for its first other part; then
-    /// they are not before those of `self`. More parts may follow. Releases and metadata do not count. Doesn't
-    /// allocate.
+    /// Returns whether `^self` matches `other`: the epochs are equal (no epoch is 0), and `other` has a part for each
+    /// part of `self`. These are the same for the leading plain zeros of `self` and for its first other part; then they
+    /// are not before those of `self`. More parts may follow. Releases and metadata do not count. Doesn't allocate.
     pub fn matches_caret(&self, other: &Version) -> bool
         ensures { IsTrue result
             ↔ MatchesCaret (epoch_and_parts (plain_version self.now))

@@ -186,8 +186,8 @@ impl<'a> VersioningRef<'a> {
     }
 
     /// Appends the bytes of its key to a short key, which is the fastest way to get them. Fails if they may not fit;
-    /// then use `key_bytes`. The contract does not say when they fit. After a failure what the short key holds is of no
-    /// use. Doesn't allocate.
+    /// then use `key_bytes`. The contract does not say when they fit. After a failure, discard the short key. Doesn't
+    /// allocate.
     #[inline(always)]
     pub fn put_key(&self, key: &mut ShortKey) -> Result<(), NotShort>
         ensures { OnOk result (key.new.items
