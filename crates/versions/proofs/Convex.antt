@@ -1,4 +1,4 @@
--- What a requirement asks for, between two strict versions.
+-- Which strict versions a requirement matches, between two that it matches.
 use Rattle.std.proofs.Common.{◌≡◌, ◌==◌, ◌<◌, ◌≤◌, ◌⊎◌, ◌∙◌, ℕ, true, false, List, Option, Some, None, get_or, refl, sym, arith, inl, inr, nat_cmp}
 use Rattle.std.proofs.lemmas.Bool.{cases_Bool, eqb-true}
 use Rattle.std.proofs.lemmas.Bool.Decides.{nat_tests}
@@ -37,7 +37,7 @@ not_below_turned Equal h = refl
 not_below_turned Greater h = refl
 
 module _ {K : Type 0} (R : K → K → Ordering) (total : IsTotalOrder R) where
-  -- not above, the one way and the other
+  -- the first is not greater than the second; `back` shows it from the swapped comparison
   abbrev UpTo : K → K → Type 0
   UpTo a b = is_gt (R a b) ≡ false
 
@@ -81,7 +81,7 @@ module _ {K : Type 0} (R : K → K → Ordering) (total : IsTotalOrder R) where
 
 -- ---- the numbers of strict versions
 
--- three numbers that are no more than others: the first place where they differ decides
+-- three numbers are not more than three others: the first place where they differ decides
 abbrev NumbersUpTo : Numbers → Numbers → Type 0
 NumbersUpTo a b = (a.0 < b.0) ⊎ ((a.0 ≡ b.0) × ((a.1 < b.1) ⊎ ((a.1 ≡ b.1) × (a.2 ≤ b.2))))
 
@@ -105,7 +105,7 @@ numbers_up_to a b h = elim (number_first a.major b.major _ h) [
   ]
 ]
 
--- where the outer two of three numbers are the same, so is the one between them, and what follows decides
+-- if the first and the last of three ordered numbers are the same, so is the middle one, and what follows decides
 same_first : (x y z : ℕ) (P Q : Type 0) → x ≡ z → (x < y) ⊎ ((x ≡ y) × P) → (y < z) ⊎ ((y ≡ z) × Q) → (x ≡ y) × P × Q
 same_first x y z P Q same first second = elim first [
   | inl less ↦ elim second [ inl less_2 ↦ absurd (omega (arith, same)) | inr other ↦ absurd (omega (arith, same, other.0)) ]
@@ -129,7 +129,7 @@ both_zero-yes m n same zero = rw (← same, zero) refl
 both_zero-no : (m n : ℕ) → (m == 0) ≡ false → both_zero m n ≡ false
 both_zero-no m n other = rw other refl
 
--- what a caret asks where both majors are 0
+-- what `^` needs if both majors are 0
 abbrev MatchesZeroMajor : Numbers → Numbers → Type 0
 MatchesZeroMajor w v = MatchBool (both_zero w.1 v.1) (w.2 ≡ v.2) (MatchesMinor w v)
 
@@ -139,7 +139,7 @@ caret_major w v m = elim (cases_Bool (both_zero w.0 v.0)) [ inl zero ↦ both_ze
 caret_minor : (w v : Numbers) → MatchesZeroMajor w v → w.1 ≡ v.1
 caret_minor w v m = elim (cases_Bool (both_zero w.1 v.1)) [ inl zero ↦ both_zero-same w.1 v.1 zero | inr other ↦ (rw other at m).0 ]
 
--- the minor and the patch, where the majors are the same
+-- the minor and the patch, if the majors are the same
 PairUpTo : Numbers → Numbers → Type 0
 PairUpTo a b = (a.1 < b.1) ⊎ ((a.1 ≡ b.1) × (a.2 ≤ b.2))
 
@@ -160,7 +160,7 @@ zero_major_between w a b c low high first second =
           rw (both_zero-no w.1 b.1 other) (at_b, omega (arith, least.1, minor.1))
     ]
 
--- a caret before a major that isn't 0
+-- `^` with a major other than 0
 above_minor : (w a b : Numbers) → (w.1 < a.1) ⊎ MatchesMinor w a → PairUpTo a b → (w.1 < b.1) ⊎ MatchesMinor w b
 unfolding PairUpTo
 above_minor w a b low first = elim low [

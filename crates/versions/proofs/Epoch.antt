@@ -1,4 +1,4 @@
--- The epoch that a messy section is, where it is one chunk of digits.
+-- The epoch of a messy section that is one chunk of digits.
 use Rattle.std.proofs.Common.{◌≡◌, ℕ, ◌<◌, ◌≤◌, List, [], ◌∷◌, length, map, slice_index_or, Some, true, refl, ap, ◌∙◌, arith}
 use Rattle.std.proofs.lemmas.List.Sums.{take_while-cons}
 use Rattle.std.specs.Char.{is_ascii_digit}
@@ -19,7 +19,7 @@ all_taken (b ∷ text) all =
 pub digits_alone : (text : List ℕ) → is_digits text ≡ true → digits_value 10 (take_while is_ascii_digit text) ≡ digits_value 10 text
 digits_alone text digits = ap (digits_value 10) (all_taken text (second_so (starts_with_digit text) (list_all is_ascii_digit text) digits))
 
--- one chunk of digits is the epoch that it writes
+-- one chunk of digits is the epoch with their value
 pub one_of_digits : (section : List MChunk) (chunk : MChunk) (digits : List ℕ) → 1 ≤ length section → length section < 2 → chunk ≡ slice_index_or section 0 chunk
     → digits ≡ mchunk_text (plain_mchunk chunk) → is_digits (mchunk_text (plain_mchunk chunk)) ≡ true
     → Some (digits_value 10 (take_while is_ascii_digit digits)) ≡ section_epoch (map plain_mchunk section)

@@ -1,4 +1,4 @@
--- A messy version seen flat, one step after the other.
+-- A flat messy version, step by step.
 use Rattle.std.proofs.Common.{◌≡◌, [], Some, None, Box, Global, refl}
 use Rattle.version_parts.specs.declared.sep.Sep.{Sep}
 use Rattle.versions.specs.declared.mess.Mess.{Mess}
@@ -13,6 +13,6 @@ first_is m = rw (fold_out-Mess PlainMess flat_layer m) refl
 pub ends : (m : Mess) → (out-Mess m).next ≡ None → (plain_mess m).more ≡ []
 ends m e = rw (fold_out-Mess PlainMess flat_layer m, e) refl
 
--- a sign and what is behind it follow
+-- a sign and what is after it follow
 pub goes_on : (m : Mess) (sign : Sep) (section : Box Mess Global) → (out-Mess m).next ≡ Some (sign, section) → (plain_mess m).more ≡ behind_sign sign (plain_mess section.value)
 goes_on m sign section e = rw (fold_out-Mess PlainMess flat_layer m, e) refl

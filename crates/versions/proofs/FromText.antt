@@ -1,4 +1,4 @@
--- What a call named `from_str` answers, as it follows from the value that was read.
+-- What a call named `from_str` returns, from the value that was parsed.
 use Rattle.std.proofs.Common.{◌≡◌, Option, Some, None, Result, Ok, Err, IfSome, IfNone, IsErrAnd, IsSomeAnd, sym}
 use Rattle.std.specs.Option.{ForSome, option_map}
 use Rattle.std.specs.declared.alloc.AllocError.{AllocError}
@@ -13,7 +13,7 @@ module _ {V X : Type 0} (view : V → X) (Owns : X → Type 0) (wrong : PlainErr
       let same : x ≡ y = cc e in
       rw (← same) h
 
-  -- want of memory, where the value owns some
+  -- an allocation failure, if the value owns memory
   pub reads_or-refused : (r : Result V ReadError) (value : Option X) (refused : AllocError) → r ≡ Err (Memory refused) → IsSomeAnd value Owns → ReadsOr view Owns wrong r value
   reads_or-refused r value refused e h = rw e (owned value h)
 
@@ -22,7 +22,7 @@ module _ {V X : Type 0} (view : V → X) (Owns : X → Type 0) (wrong : PlainErr
   absent (Err (Illegal e)) value none h = (none, h)
   absent (Err (Memory e)) value none h = λ x some. cc (none, some)
 
-  -- the value that was read, and else the error
+  -- the value that was parsed, or the error
   pub reads_or : (o : Option V) (r : Result V ReadError) (value : Option X) → option_map view o ≡ value → IfSome o (λ v. r ≡ Ok v) → IfNone o (IsErrAnd r (IsIllegal wrong))
       → ReadsOr view Owns wrong r value
   reads_or (Some v) r value e given none = rw given (sym e)

@@ -1,4 +1,4 @@
--- A version and what it is converted to have the same key, but for a tail of a higher rank.
+-- A version and its conversion have the same key, except for a tail of a higher rank.
 use Rattle.std.proofs.Common.{◌≡◌, ℕ, ◌<◌, ◌^◌, List, [], ◌∷◌, ◌++◌, Option, Some, None, IfSome, if◌then◌else◌, ◌||◌, refl, sym, ap, ◌∙◌, arith}
 use Rattle.std.proofs.lemmas.Fmt.{decimal_is_IsNumeral}
 use Rattle.std.specs.Cmp.{nat_cmp_total, tied_itself}
@@ -21,7 +21,7 @@ use Rattle.versions.specs.SemVer.{PlainSemVer}
 use Rattle.versions.specs.Tail.{Tail, PreReleased, Bare, Released, tail_cmp}
 use Rattle.versions.specs.Version.{PlainVersion}
 
--- ---- parts stay what they are
+-- ---- parts stay the same
 
 chunk_stays : (c : PlainChunk) → mchunk_text (mchunk_of c) ≡ chunk_text c
 chunk_stays (chunk.Numeric n) = refl
@@ -42,9 +42,9 @@ three_parts : (major minor patch : ℕ) → major < 2 ^ 32 → minor < 2 ^ 32 �
 three_parts major minor patch a b c =
     λ i. sym (plain_number major a) i ∷ sym (plain_number minor b) i ∷ sym (plain_number patch c) i ∷ []
 
--- ---- the epoch stays what it is
+-- ---- the epoch stays the same
 
--- no colon stands behind a body that no epoch precedes
+-- no colon follows a body without an epoch
 no_colon : (may_be_epoch : Option ℕ) (first : Section) (release : Option (List PlainChunk)) (meta : Option (List ℕ))
     → key_behind_epoch may_be_epoch first (release_section release ++ meta_section meta) ≡ key_of_sections 0 first (release_section release ++ meta_section meta)
 no_colon None first release meta = refl
@@ -59,7 +59,7 @@ messy_key (Some n) body release meta small =
     let fits : n < 2 ^ 64 = omega arith in
     rw (decimal-digits n fits, (decimal_is_IsNumeral n fits).1) refl
 
--- ---- the tail alone decides
+-- ---- only the tail decides
 
 tails_decide : (epoch : ℕ) (body other : List PartKey) (s t : Tail) → body ≡ other
     → precedence (record { epoch = epoch; body = body; tail = s }) (record { epoch = epoch; body = other; tail = t }) ≡ tail_cmp s t

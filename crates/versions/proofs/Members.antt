@@ -1,4 +1,4 @@
--- What a list of requirements asks for, from what its members do.
+-- What a list of requirements matches, from what its members match.
 use Rattle.std.proofs.Common.{◌<◌, ℕ, List, length, map, get_or, arith, subst}
 use Rattle.std.proofs.lemmas.List.{get_or-map, length-map}
 use Rattle.versions.specs.declared.requirement.Requirement.{Requirement}
@@ -6,7 +6,7 @@ use Rattle.versions.specs.Matching.{Matches, MatchesAll}
 use Rattle.versions.specs.Requirement.{PlainRequirement, plain_requirement}
 use Rattle.versions.specs.Versioning.{PlainVersioning}
 
--- a version that all members ask for is asked for by the one at a place
+-- if all members match a version, so does the member at a place
 pub member : (list : List Requirement) (v : PlainVersioning) (n : ℕ) (d : Requirement) → n < length list → MatchesAll (map plain_requirement list) v → Matches (plain_requirement (get_or list n d)) v
 member list v n d fits all =
     let long = length-map list plain_requirement in

@@ -7,7 +7,7 @@ use Rattle.std.specs.List.{flat_map, fold}
 use Rattle.version_parts.specs.Sep.{PlainSep, sep_fed}
 use Rattle.versions.specs.Mess.{Further, Section, further_fed, section_fed}
 
--- what is left is fed behind what was fed
+-- feeding the remaining writes after the others feeds all of them
 pub fed_behind : {S : Type 0} (write : S → List ℕ → S) (s t : S) (writes left : HashWrites) → t ≡ fold write s writes → fold write t left ≡ fold write s (writes ++ left)
 fed_behind write s t writes left e = ap (λ r. fold write r left) e ∙ sym (fold-append write s writes left)
 

@@ -1,5 +1,5 @@
--- Messy versions: their front reads what is spelled, and nothing else where what follows is a dot, a sign or the end;
--- and they print as they are spelled.
+-- Messy versions. A prefix spells the version that it parses as, if a dot, a sign or the end follows. A text that
+-- spells a version parses as that version, which prints that text.
 use Rattle.std.proofs.Common.{◌≡◌, ◌∙◌, ℕ, ◌<◌, List, [], ◌∷◌, ◌++◌, length, Some, None, Result, Ok, Err, IsSome, OnErr, refl, sym, ap, subst, arith, append-nil, append_assoc, inl, inr}
 use Rattle.std.proofs.lemmas.Str.{IsAscii-append}
 use Rattle.std.specs.Str.{IsAscii}
@@ -18,14 +18,14 @@ use Rattle.versions.specs.Mess.{Further, PlainMess, Section, SpellsFurther, Spel
 use Rattle.versions.proofs.SpelledTexts.{of_mess}
 use Rattle.version_parts.proofs.WholeReading.{whole-Some}
 
--- ---- a sign and the section behind it
+-- ---- a sign and the section after it
 
 pub further_front-Some : (text : List ℕ) (sign : PlainSep) (behind : List ℕ) (section : Section) (rest : List ℕ) → sep_front text ≡ Some (sign, behind)
     → section_front behind ≡ Some (section, rest) → further_front text ≡ Some ((sign, section), rest)
 unfolding further_front
 further_front-Some text sign behind section rest e f = rw (e, f) refl
 
--- a front that gives something has read a sign and a section
+-- if `further_front` returns something, the text begins with a sign and a section
 pub further_front-reads : (text : List ℕ) (further : Further) (rest : List ℕ) → further_front text ≡ Some (further, rest)
     → (behind : List ℕ) × (text ≡ sep_byte further.0 ∷ behind) × (section_front behind ≡ Some (further.1, rest))
 unfolding further_front
@@ -77,10 +77,10 @@ pub mess_front-None : (text : List ℕ) → section_front text ≡ None → mess
 unfolding mess_front
 mess_front-None text e = rw e refl
 
--- What is read, where chunks are read as they are spelled before what follows: a dot, a sign, and what follows the version.
+-- Prefixes that parse, if parsing chunks is sound before a dot, a sign, and what follows the version.
 module _ (Spells : List ℕ → PlainMChunk → Type 0) (Follows : List ℕ → Type 0) (sound : IsSoundBefore Follows Spells mchunk_front)
     (follows_at_dot : (text : List ℕ) → Follows (dot ∷ text)) (follows_at_sign : (sign : PlainSep) (text : List ℕ) → Follows (sep_byte sign ∷ text)) where
-  -- a sign, and a section behind it
+  -- a sign, and a section after it
   abbrev SpellsFurtherOf : List ℕ → Further → Type 0
   SpellsFurtherOf text further = SpellsBehind (sep_byte further.0) (SpellsDotted Spells) text further.1
 
@@ -99,7 +99,7 @@ module _ (Spells : List ℕ → PlainMChunk → Type 0) (Follows : List ℕ → 
       let parts = further_front-reads text p.0 p.1 e in
       rw parts.1 (follows_at_sign p.0.0 parts.0)
 
-  -- the first section and the further ones that are read, and what spells them
+  -- the first section and the further ones that are parsed, and the texts that spell them
   mess_parts : (text : List ℕ) (m : PlainMess) (rest : List ℕ) → mess_front text ≡ Some (m, rest) → Follows rest
       → (first more : List ℕ) × (text ≡ (first ++ more) ++ rest) × SpellsDotted Spells first m.first × SpellsEach SpellsFurtherOf more m.more
   mess_parts text m rest e follows = elim (cases_Option (section_front text)) [
@@ -124,7 +124,7 @@ mess_sound text m rest e ends =
     let parts = mess_parts SpellsMChunk EndsChunk mchunk_sound (λ text. refl) (λ sign text. (sign_ends sign text).0) text m rest e ends in
     (parts.0 ++ parts.1, parts.2, record { first = parts.0; more = parts.1; whole_is = refl; first_is = parts.3; more_is = parts.4 })
 
--- whatever follows, what is read prints the text up to the rest
+-- whatever follows, the version prints the prefix that was parsed
 pub mess_kept : IsKept mess_text mess_front
 mess_kept text m rest e =
     let Prints : List ℕ → PlainMChunk → Type 0 = λ piece chunk. mchunk_text chunk ≡ piece in
@@ -150,13 +150,13 @@ mess_complete text m s =
     end nothing_behind (omega arith)) in
     mess_front-Some text m.first s.more first ∙ rw more refl
 
--- a text spells one version at most
+-- a text spells at most one version
 pub mess_unique : (text : List ℕ) (m n : PlainMess) → SpellsMess text m → SpellsMess text n → m ≡ n
 mess_unique text m n s t =
     let same : (m, []) ≡ (n, []) = cc (sym (mess_complete text m s) ∙ mess_complete text n t) in
     ap (λ (p : PlainMess × List ℕ). p.0) same
 
--- a front without rest is the whole text
+-- if no rest is left, the whole text spells the version
 pub mess_whole : (text : List ℕ) (m : PlainMess) → mess_front text ≡ Some (m, []) → SpellsMess text m
 mess_whole text m e =
     let read = mess_sound text m [] e refl in
@@ -169,7 +169,7 @@ mess_printed text m s =
 pub mess_ascii : (text : List ℕ) (m : PlainMess) → SpellsMess text m → IsAscii text
 mess_ascii = of_mess IsAscii IsAscii-nil IsAscii-append metadata_run_ascii sign_ascii
 
--- the version that the whole text spells
+-- a text that spells a version parses as that version
 pub mess_of-Some : (text : List ℕ) (m : PlainMess) → SpellsMess text m → mess_of text ≡ Some m
 unfolding mess_of
 mess_of-Some text m s = rw (mess_complete text m s) refl
@@ -178,7 +178,7 @@ pub mess_of-spells : (text : List ℕ) (m : PlainMess) → mess_of text ≡ Some
 unfolding mess_of
 mess_of-spells text m e = mess_whole text m (whole-Some _ m e)
 
--- memory is wanted only where a version is spelled
+-- a text that parses spells a version; so only such a text needs an allocation
 some_spelled : (text : List ℕ) → IsSome (mess_of text) → (m : PlainMess) × SpellsMess text m
 some_spelled text some = elim (cases_Option (mess_of text)) [
   | inl none ↦ cc (rw none at some)

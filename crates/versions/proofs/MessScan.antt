@@ -1,4 +1,4 @@
--- How a reader goes over a messy version, section by section.
+-- How a messy version is parsed, section by section.
 use Rattle.std.proofs.Common.{◌≡◌, ◌≢◌, ◌==◌, ◌∙◌, ◌<◌, ℕ, List, [], ◌∷◌, ◌++◌, length, Option, Some, None, Result, Ok, Err, IsSomeAnd, inl, inr, refl, sym, ap, append-nil, append_assoc}
 use Rattle.std.proofs.lemmas.Bool.{cases_Bool, eqb-true}
 use Rattle.std.specs.Borrow.{Bor}
@@ -13,17 +13,17 @@ use Rattle.versions.specs.Mess.{Further, PlainMess, Section, further_front, furt
 use Rattle.versions.specs.declared.mess.Mess.{Mess}
 use Rattle.versions.proofs.MessReading.{further_shrinks, mess_front-None, mess_front-Some}
 
--- the further sections of a text, and what is left behind them
+-- the further sections that a text begins with, and the rest after them
 abbrev pub all_further : List ℕ → List Further × List ℕ
 all_further text = repeated further_front (length text) text
 
--- the same behind those that are read so far
+-- the same, after those that are parsed so far
 abbrev pub and_further : List Further → List ℕ → List Further × List ℕ
 and_further sofar text = (sofar ++ (all_further text).0, (all_further text).1)
 
--- ---- what is left
+-- ---- the rest
 
--- behind a further section
+-- after a further section
 pub left_next : (text after : List ℕ) → Some after ≡ option_map (λ p. p.1) (further_front text) → (all_further text).1 ≡ (all_further after).1
 left_next text after e =
     let one = read_before (further_front text) after e in
@@ -37,7 +37,7 @@ left_shorter text after e =
 pub left_last : (text : List ℕ) → None ≡ option_map (λ p. p.1) (further_front text) → (all_further text).1 ≡ text
 left_last text e = rw (repeated-None further_front text (length text) (nothing_before _ e)) refl
 
--- ---- what is read
+-- ---- what is parsed
 
 pub read_next : (sofar : List Further) (text : List ℕ) (one : Further) (after : List ℕ) → further_front text ≡ Some (one, after)
     → and_further (sofar ++ one ∷ []) after ≡ and_further sofar text
@@ -46,7 +46,7 @@ read_next sofar text one after e = rw (repeated-next further_front further_shrin
 pub read_last : (sofar : List Further) (text : List ℕ) → further_front text ≡ None → and_further sofar text ≡ (sofar, text)
 read_last sofar text e = rw (repeated-None further_front text (length text) e, append-nil) refl
 
--- a version whose first section and further ones are read
+-- a version whose first section and further ones are parsed
 pub mess_read : (text : List ℕ) (first : Section) (behind : List ℕ) (further : List Further × List ℕ) (m : PlainMess) → Some (first, behind) ≡ section_front text
     → further ≡ all_further behind → m.first ≡ first → m.more ≡ further.0 → Some (m, further.1) ≡ mess_front text
 mess_read text first behind further m read rest first_is more_is =
@@ -55,7 +55,7 @@ mess_read text first behind further m read rest first_is more_is =
     let value : m ≡ record { first = first; more = (all_further behind).0 } = λ i. record { first = first_is i; more = more i } in
     ap (λ (p : PlainMess × List ℕ). Some p) (λ i. (value i, left i)) ∙ sym (mess_front-Some text first behind (sym read))
 
--- the version that the whole text spells, where nothing is left behind its sections
+-- the version that the whole text parses as, if no rest is left after its sections
 pub whole_sections : (text : List ℕ) (first : Section) (behind : List ℕ) → Some (first, behind) ≡ section_front text → length (all_further behind).1 ≡ 0
     → mess_of text ≡ Some (record { first = first; more = (all_further behind).0 })
 unfolding mess_of
@@ -75,7 +75,7 @@ no_section text e = rw (mess_front-None text (sym e)) refl
 
 pub ruleset whole_mess = (whole_sections, sections_and_more, no_section)
 
--- memory is wanted only where a first section is read
+-- an allocation is needed only if a first section parses
 pub wants_memory : (text : List ℕ) → IsSomeAnd (section_front text) (λ r. Unit {0}) → IsSomeAnd (mess_front text) (λ r. Unit {0})
 wants_memory text some = elim (cases_Option (section_front text)) [
   | inl none ↦ absurd (rw none at some)
@@ -113,7 +113,7 @@ pub further_next : (text behind rest : List ℕ) (sign : PlainSep) (section : Se
 further_next text behind rest sign section e f =
     ap (λ (p : List Further × List ℕ). p.0) (repeated-next further_front further_shrinks text (sign, section) rest (one_read text behind rest sign section e f))
 
--- the same of the further sections alone
+-- the same for the further sections alone
 
 pub in_next : (text behind rest : List ℕ) (sign : PlainSep) (section : Section) → Some (sign, behind) ≡ sep_front text → Some (section, rest) ≡ section_front behind
     → further_in text ≡ (sign, section) ∷ further_in rest

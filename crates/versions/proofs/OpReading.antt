@@ -1,4 +1,4 @@
--- Operators: what is read is the text of the operator and the rest, and that text is read.
+-- Operators: a prefix that parses as an operator is the text of that operator, and that text parses as the operator.
 use Rattle.std.proofs.Common.{◌≡◌, ◌==◌, ◌+◌, ◌<◌, ◌∙◌, ℕ, suc, false, arith, List, [], ◌∷◌, ◌++◌, drop, length, codes, Some, None, slice_index_or, refl, ap, inl, inr}
 use Rattle.std.proofs.Math.Seq.{drop-cons}
 use Rattle.version_parts.specs.Front.{after_mark, begins}
@@ -8,7 +8,7 @@ use Rattle.versions.specs.declared.op.Op.{Op}
 use Rattle.versions.specs.declared.op.Op.TheVariants.{Exact, Greater, GreaterEq, Less, LessEq, Tilde, Caret, Wildcard}
 use Rattle.versions.specs.Op.{after_word, first_op, op_front, op_text, tried_ops}
 
--- what stands behind a word is the rest of the text
+-- what follows a word is the rest of the text
 after_word-Some : (word text rest : List ℕ) → after_word word text ≡ Some rest → text ≡ word ++ rest
 after_word-Some [] text rest e = cc e
 after_word-Some (b ∷ word) text rest e = elim (cases_Option (after_mark b text)) [
@@ -16,7 +16,7 @@ after_word-Some (b ∷ word) text rest e = elim (cases_Option (after_mark b text
   | inr tail ↦ after_mark-Some b text tail.0 tail.1 ∙ ap (λ (l : List ℕ). b ∷ l) (after_word-Some word tail.0 rest (rw tail.1 at e))
 ]
 
--- an operator that the text doesn't begin with is passed
+-- an operator that the text doesn't begin with is skipped
 pub first_op-passed : (ops : List Op) (n : ℕ) (d : Op) (text : List ℕ) → n < length ops → after_word (op_text (slice_index_or ops n d)) text ≡ None
     → first_op (drop (n + 1) ops) text ≡ first_op (drop n ops) text
 first_op-passed ops n d text fits none =
@@ -42,7 +42,7 @@ no_equals : (text : List ℕ) → begins (λ b. b == 61) text ≡ false → afte
 no_equals [] other = refl
 no_equals (b ∷ text) other = rw other refl
 
--- the text of an operator is read, where no equals sign follows it
+-- the text of an operator parses as that operator, if no equals sign follows
 pub op_front-reads : (op : Op) (rest : List ℕ) → begins (λ b. b == 61) rest ≡ false → op_front (op_text op ++ rest) ≡ Some (op, rest)
 unfolding op_front
 op_front-reads Exact rest other = refl

@@ -1,4 +1,4 @@
--- The laws that the contracts of `src/laws/order.rt` state, as they follow from the codes.
+-- The laws that the contracts of `src/laws/order.rt` state, from the laws of the codes.
 use Rattle.std.proofs.Common.{◌≡◌, ◌↔◌, ℕ, List, ◌∷◌, ◌++◌, Option, refl, ◌∙◌}
 use Rattle.std.specs.Cmp.{tied_itself}
 use Rattle.std.specs.Ordering.{on, ordering_then}
@@ -61,7 +61,7 @@ version_equal = equal_where_same version_plain_total versions_same
 pub mess_equal : (a b : PlainMess) → (mess_plain_cmp a b ≡ Equal) ↔ (a ≡ b)
 mess_equal = equal_where_same mess_total messes_same
 
--- versions that are the same but for their metadata are tied
+-- versions that are the same except for their metadata tie
 same_tied : (a b : PlainSemVer) → SameButMetadata a b → semver_cmp a b ≡ Equal
 same_tied a b same =
     rw (same.major, same.minor, same.patch, same.pre_rel) (tied_itself semver_total b)
@@ -97,7 +97,7 @@ versioning_cmp_refines a b differ = then_decided _ (versioning_plain_cmp a b) Eq
 pub semver_equal : (a b : PlainSemVer) → (semver_cmp a b ≡ Equal) ↔ SameButMetadata a b
 semver_equal a b = (tied_same a b, same_tied a b)
 
--- metadata and the signs between sections have no part in a key
+-- metadata and the signs between sections are not in a key
 pub semver_metadata : (v : PlainSemVer) (meta : Option (List ℕ)) → key_of_semver (record v { meta = meta }) ≡ key_of_semver v
 semver_metadata v meta = refl
 

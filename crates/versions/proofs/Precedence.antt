@@ -1,4 +1,4 @@
--- Precedence tells all keys apart, and the bytes of keys compare as the keys do.
+-- Precedence distinguishes all keys, and the bytes of keys compare as the keys do.
 use Rattle.std.specs.FinMap.{IsAntisymmetric, nat_cmp-IsAntisymmetric}
 use Rattle.version_parts.proofs.Codes.{writes_on, writes_then}
 use Rattle.version_parts.proofs.NumberBytes.{number_writes}

@@ -1,4 +1,4 @@
--- Requirements: what is read from a whole text is what it spells, and prints as it is spelled.
+-- Requirements: a whole text parses as the requirement that it spells, and that requirement prints the text.
 use Rattle.std.proofs.Common.{◌≡◌, ◌==◌, ◌∙◌, ◌&&◌, ℕ, Bool, true, false, not, eqb, List, [], ◌∷◌, ◌++◌, Option, Some, None, refl, sym, arith, inl, inr}
 use Rattle.std.proofs.lemmas.Bool.Decides.{nat_tests}
 use Rattle.std.proofs.lemmas.List.Elements.{All-cons, All-nil}
@@ -88,7 +88,7 @@ requirement_without_comma text r s =
     let operand = all_weaker is_version_byte is_no_comma version_byte_no_comma s.operand (operand_bytes r.op s.operand r.version s.operand_is) in
     rw s.whole (each_no_comma (op_text r.op ++ s.operand) (together is_no_comma (op_text r.op) s.operand (op_bytes r.op) operand))
 
--- ---- what stands behind an operator
+-- ---- what follows an operator
 
 operand_of-version : (o : Op) (text : List ℕ) → ¬ (o ≡ op.Wildcard) → operand_of o text ≡ option_map Some (versioning_of text)
 operand_of-version op.Exact text other = refl
@@ -131,7 +131,7 @@ requirement_of-Some text r s =
     let bytes = operand_bytes r.op s.operand r.version s.operand_is in
     rw (s.whole, op_front-reads r.op s.operand (begins_so s.operand bytes), operand_of-Some r.op s.operand r.version s.operand_is) refl
 
--- an operator other than `*`, and a version behind it
+-- an operator other than `*`, and a version after it
 pub requirement_of-version : (text rest : List ℕ) (o : Op) (v : PlainVersioning) → op_front text ≡ Some (o, rest) → ¬ (o ≡ op.Wildcard) → SpellsVersioning rest v
     → requirement_of text ≡ Some (record { op = o; version = Some v })
 requirement_of-version text rest o v e other s = rw (e, operand_of-version o rest other, versioning_of-Some rest v s) refl
@@ -159,7 +159,7 @@ operand_printed o text (Some v) s = versioning_printed text v s.1
 pub requirement_printed : IsPrinted SpellsRequirement requirement_text
 requirement_printed text r s = rw (operand_printed r.op s.operand r.version s.operand_is) (sym s.whole)
 
--- a text spells one requirement at most
+-- a text spells at most one requirement
 pub requirement_unique : (text : List ℕ) (r q : PlainRequirement) → SpellsRequirement text r → SpellsRequirement text q → r ≡ q
 requirement_unique text r q s t =
     let same : Some r ≡ Some q = sym (requirement_of-Some text r s) ∙ requirement_of-Some text q t in

@@ -1,4 +1,4 @@
--- Lists of requirements: what is read from a whole text is what it spells, and prints as it is spelled.
+-- Lists of requirements: a whole text parses as the list that it spells, and that list prints the text.
 use Rattle.std.proofs.Common.{◌≡◌, ◌∙◌, ◌<◌, ◌+◌, ℕ, zero, suc, eqb, IsSome, OnErr, Result, Ok, Err, List, [], ◌∷◌, ◌++◌, get_or, length, map, Option, Some, None, refl, sym, ap, arith, inl, inr}
 use Rattle.std.proofs.lemmas.List.Splits.{join_with_byte-slice_split, length-slice_split, slice_split_at, slice_split_none}
 use Rattle.std.proofs.lemmas.Slice.Zip.{AllZip-long}
@@ -10,7 +10,7 @@ use Rattle.versions.specs.Requirement.{PlainRequirement, SpellsRequirement, requ
 use Rattle.versions.specs.Requirements.{SpellsRequirements, comma, every, requirements_of, requirements_text}
 use Rattle.versions.proofs.RequirementReading.{requirement_of-Some, requirement_of-spells, requirement_printed, requirement_without_comma}
 
--- joined texts without commas are cut where they were joined
+-- texts without commas, joined by commas, are cut where they were joined
 cut_where_joined : (first : List ℕ) (texts : List (List ℕ)) (list : List PlainRequirement) → AllZip SpellsRequirement (first ∷ texts) list
     → slice_split (λ b. eqb b comma) (join_with_byte comma (first ∷ texts)) ≡ first ∷ texts
 cut_where_joined first [] [] z = absurd z
@@ -20,7 +20,7 @@ cut_where_joined first (second ∷ texts) (r ∷ list) z =
     slice_split_at (λ b. eqb b comma) first comma (join_with_byte comma (second ∷ texts)) (requirement_without_comma first r z.0) refl
     ∙ ap (λ (l : List (List ℕ)). first ∷ l) (cut_where_joined second texts list z.1)
 
--- each text that spells its member is read as it
+-- each text that spells its member parses as that member
 every_read : (texts : List (List ℕ)) (list : List PlainRequirement) → AllZip SpellsRequirement texts list → every (map requirement_of texts) ≡ Some list
 every_read [] [] z = refl
 every_read [] (r ∷ list) z = absurd z
@@ -40,7 +40,7 @@ every_spells (text ∷ texts) list e = elim (cases_Option (requirement_of text))
   ]
 ]
 
--- a list is spelled where each of its pieces is a requirement
+-- a list parses if each of its pieces parses as a requirement
 every_is_some : (texts : List (List ℕ)) → list_all (λ text. is_some (requirement_of text)) texts ≡ is_some (every (map requirement_of texts))
 every_is_some [] = refl
 every_is_some (text ∷ texts) = elim (cases_Option (requirement_of text)) [
@@ -54,7 +54,7 @@ every_is_some (text ∷ texts) = elim (cases_Option (requirement_of text)) [
 pub requirements_of-is_some : (text : List ℕ) → list_all (λ member. is_some (requirement_of member)) (slice_split (λ b. eqb b comma) text) ≡ is_some (requirements_of text)
 requirements_of-is_some text = every_is_some (slice_split (λ b. eqb b comma) text)
 
--- one more value behind those that some readings give
+-- one more value after the others
 pub every_push : {A X : Type 0} (read : A → Option X) (texts : List A) (text : A) (values : List X) (value : X) → every (map read texts) ≡ Some values → read text ≡ Some value
     → every (map read (texts ++ text ∷ [])) ≡ Some (values ++ value ∷ [])
 every_push read [] text [] value e one = rw one refl
@@ -69,7 +69,7 @@ every_push read (first ∷ texts) text values value e one = elim (cases_Option (
   ]
 ]
 
--- a reading that gives nothing leaves nothing of the list
+-- if one text doesn't parse, the list doesn't
 every_stops : (texts : List (List ℕ)) (n : ℕ) (d : List ℕ) → n < length texts → requirement_of (get_or texts n d) ≡ None → every (map requirement_of texts) ≡ None
 every_stops [] n d fits none = absurd (omega arith)
 every_stops (text ∷ texts) zero d fits none = rw none refl
@@ -113,11 +113,11 @@ members_printed (text ∷ texts) (r ∷ list) z = rw (requirement_printed text r
 pub requirements_printed : IsPrinted SpellsRequirements requirements_text
 requirements_printed text list s = rw (members_printed s.members list s.members_are) (sym s.whole)
 
--- a text spells one list at most
+-- a text spells at most one list
 pub requirements_unique : (text : List ℕ) (list others : List PlainRequirement) → SpellsRequirements text list → SpellsRequirements text others → list ≡ others
 requirements_unique text list others s t = cc (sym (requirements_of-Some text list s) ∙ requirements_of-Some text others t)
 
--- a list that is read is spelled
+-- a text that parses spells a list
 some_spelled : (text : List ℕ) → IsSome (requirements_of text) → (list : List PlainRequirement) × SpellsRequirements text list
 some_spelled text some = elim (cases_Option (requirements_of text)) [
   | inl none ↦ cc (rw none at some)

@@ -1,4 +1,4 @@
--- A list of requirements that was scanned: its members, one after another, and what they ask for.
+-- A scanned list of requirements: its members, one after another, and what they match.
 use Rattle.std.proofs.Common.{◌≡◌, ◌↔◌, ◌<◌, ◌∙◌, ℕ, false, eqb, map, IsSome, IsTrue, List, [], ◌∷◌, length, Option, Some, None, sym, ap, arith}
 use Rattle.std.proofs.lemmas.List.Elements.{All-cons, All-from_get_or, All-head, All-tail}
 use Rattle.std.proofs.lemmas.List.Splits.{slice_split_first, slice_split_none}
@@ -22,28 +22,28 @@ one_member text none =
     let free = All-from_get_or (λ b. eqb b comma ≡ false) text 0 (λ i fits. fails_before_first (λ b. eqb b comma) text i 0 (omega (arith, none))) in
     ap (λ members. every (map requirement_of members)) (slice_split_none (λ b. eqb b comma) text free)
 
--- a comma stands before others
+-- a text with a comma is a member and others
 pub more_members : (text : List ℕ) → position_or_len (λ b. eqb b comma) text < length text
     → requirements_of text ≡ before_others (requirement_of (before_first (λ b. eqb b comma) text)) (requirements_of (after_first (λ b. eqb b comma) text))
 more_members text some = ap (λ members. every (map requirement_of members)) (slice_split_first (λ b. eqb b comma) text 0 some)
 
--- ---- what the members ask for
+-- ---- what the members match
 
--- the members that a list has ask for a version
+-- there is a list, and each member of it matches a version
 abbrev pub Asked : PlainVersioning → Option (List PlainRequirement) → Type 0
 Asked v members = IsSomeAnd members (λ list. MatchesAll list v)
 
--- the first asks for it, and the others decide
+-- the first member matches, and the others decide
 pub others_decide : (v : PlainVersioning) (r : PlainRequirement) (others : Option (List PlainRequirement)) → Matches r v → Asked v (before_others (Some r) others) ↔ Asked v others
 others_decide v r None asks = (λ e. e, λ e. e)
 others_decide v r (Some list) asks = (λ all. All-tail (λ q. Matches q v) r list all, λ all. All-cons (λ q. Matches q v) r list asks all)
 
--- the first doesn't ask for it
+-- the first member doesn't match
 pub first_decides : (v : PlainVersioning) (r : PlainRequirement) (others : Option (List PlainRequirement)) → ¬ (Matches r v) → ¬ (Asked v (before_others (Some r) others))
 first_decides v r None other e = absurd e
 first_decides v r (Some list) other all = other (All-head (λ q. Matches q v) r list all)
 
--- the same of a text whose first member is read
+-- the same for a text whose first member parses
 module _ (v : PlainVersioning) (list member : List ℕ) (r : PlainRequirement) (others : Option (List PlainRequirement))
     (split : requirements_of list ≡ before_others (requirement_of member) others) (read : Some r ≡ requirement_of member) where
   split_so : requirements_of list ≡ before_others (Some r) others
@@ -55,7 +55,7 @@ module _ (v : PlainVersioning) (list member : List ℕ) (r : PlainRequirement) (
   pub text_first_decides : ¬ (Matches r v) → ¬ (Asked v (requirements_of list))
   text_first_decides other = rw split_so (first_decides v r others other)
 
--- the same of a list that has others
+-- the same for a list with others
 pub first_asks : (v : PlainVersioning) (r : PlainRequirement) (list : List PlainRequirement) → Matches r v → MatchesAll list v ↔ MatchesAll (r ∷ list) v
 first_asks v r list asks = (λ all. All-cons (λ q. Matches q v) r list asks all, λ all. All-tail (λ q. Matches q v) r list all)
 
@@ -66,7 +66,7 @@ all_ask v r (Some list) some asks = first_asks v r list asks
 pub first_asks_not : (v : PlainVersioning) (r : PlainRequirement) (list : List PlainRequirement) → ¬ (Matches r v) → ¬ (MatchesAll (r ∷ list) v)
 first_asks_not v r list other all = other (All-head (λ q. Matches q v) r list all)
 
--- ---- strict versions alone
+-- ---- only strict versions
 
 other_kinds : (list : List PlainRequirement) (general : Option PlainVersion) (complex : Option PlainMess) → ((v : PlainVersioning) → MatchesAll list v → IsTrue (is_ideal v))
     → ¬ (Keeps list (option_or (option_map General general) (option_map Complex complex)))
@@ -74,12 +74,12 @@ other_kinds list (Some v) complex strict all = cc (strict (General v) all)
 other_kinds list None (Some m) strict all = cc (strict (Complex m) all)
 other_kinds list None None strict all = absurd all
 
--- what is no strict version isn't kept
+-- a text that is not a strict version isn't kept
 pub none_strict : (list : List PlainRequirement) (text : List ℕ) → ((v : PlainVersioning) → MatchesAll list v → IsTrue (is_ideal v)) → None ≡ semver_of text
     → ¬ (Keeps list (versioning_of text))
 none_strict list text strict none = rw (← none) (other_kinds list (version_of text) (mess_of text) strict)
 
--- where the first member asks for strict versions alone, so do all
+-- if the first member matches only strict versions, so does the list
 pub strict_by_first : (r : PlainRequirement) (list : List PlainRequirement) → ((v : PlainVersioning) → Matches r v → IsTrue (is_ideal v))
     → (v : PlainVersioning) → MatchesAll (r ∷ list) v → IsTrue (is_ideal v)
 strict_by_first r list strict v all = strict v (All-head (λ q. Matches q v) r list all)

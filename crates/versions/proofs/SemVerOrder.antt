@@ -11,7 +11,7 @@ use Rattle.versions.specs.SemVer.{PlainSemVer}
 use Rattle.versions.specs.SemVerOrder.{semver_cmp}
 use Rattle.versions.specs.Tail.{PreReleased, Bare, tail_cmp}
 
--- a pre-release below none
+-- no pre-release comes last
 pre_releases : (a b : Option (List PlainChunk)) → tail_cmp (option_map_or PreReleased a Bare) (option_map_or PreReleased b Bare) ≡ none_last_cmp release_cmp a b
 pre_releases None None = refl
 pre_releases None (Some b) = refl

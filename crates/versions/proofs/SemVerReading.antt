@@ -1,4 +1,5 @@
--- Strict versions: their front reads what is spelled and nothing else, and they print as they are spelled.
+-- Strict versions. A prefix spells the version that it parses as, a text that spells a version parses as that version,
+-- and the version prints that text.
 use Rattle.std.proofs.Common.{◌≡◌, ◌==◌, ℕ, Bool, false, List, [], ◌∷◌, ◌++◌, Option, Some, None, refl, sym, ap, subst, ◌∙◌, inl, inr, append-nil, append_assoc, arith}
 use Rattle.std.proofs.lemmas.Str.{IsAscii-append}
 use Rattle.std.specs.Char.{is_ascii_digit}
@@ -19,7 +20,7 @@ use Rattle.version_parts.proofs.WholeReading.{read_whole, spelled_once, whole_re
 use Rattle.versions.specs.SemVer.{PlainSemVer, SpellsSemVer, optional_text, semver_front, semver_of, semver_text}
 use Rattle.versions.proofs.SpelledTexts.{of_semver}
 
--- what the front gives behind three numbers
+-- what `semver_front` returns after three numbers
 semver_front-Some : (text : List ℕ) (major minor patch : ℕ × List ℕ) → unsigned_front text ≡ Some major → behind dot unsigned_front major.1 ≡ Some minor
     → behind dot unsigned_front minor.1 ≡ Some patch
     → semver_front text ≡ Some (
@@ -35,7 +36,7 @@ semver_front-Some : (text : List ℕ) (major minor patch : ℕ × List ℕ) → 
 unfolding semver_front
 semver_front-Some text major minor patch e f g = rw e (rw f (rw g refl))
 
--- a front that gives something has read three numbers
+-- if `semver_front` returns something, the text begins with three numbers
 semver_front-reads : (text : List ℕ) (p : PlainSemVer × List ℕ) → semver_front text ≡ Some p
     → (major minor patch : ℕ × List ℕ) × (unsigned_front text ≡ Some major) × (behind dot unsigned_front major.1 ≡ Some minor) × (behind dot unsigned_front minor.1 ≡ Some patch)
 unfolding semver_front
@@ -90,7 +91,7 @@ semver_sound text v rest e =
     } in
     subst (λ (p : PlainSemVer × List ℕ). (x : List ℕ) × (text ≡ x ++ p.1) × SpellsSemVer x p.0) same (piece, in_pieces, spelled)
 
--- what stands behind an optional piece begins with its mark, or is what follows it
+-- an optional piece and what follows begin with the mark of the piece, or as what follows begins
 pub optional_begins : {X : Type 0} (mark : ℕ) (Spells : List ℕ → X → Type 0) (test : ℕ → Bool) (piece : List ℕ) (o : Option X) (rest : List ℕ)
     → SpellsOptional mark Spells piece o → test mark ≡ false → begins test rest ≡ false → begins test (piece ++ rest) ≡ false
 unfolding SpellsOptional
@@ -117,11 +118,11 @@ semver_complete text v s =
     s.meta_is refl refl) in
     rw s.whole (semver_front-Some _ (v.major, after_major) (v.minor, after_minor) (v.patch, tail) major minor patch ∙ rw (pre_rel, meta) refl)
 
--- a text spells one version at most
+-- a text spells at most one version
 pub semver_unique : (text : List ℕ) (v w : PlainSemVer) → SpellsSemVer text v → SpellsSemVer text w → v ≡ w
 semver_unique = spelled_once SpellsSemVer semver_front semver_sound semver_complete
 
--- a front without rest is the whole text
+-- if no rest is left, the whole text spells the version
 pub semver_whole : (text : List ℕ) (v : PlainSemVer) → semver_front text ≡ Some (v, []) → SpellsSemVer text v
 semver_whole = whole_spelled SpellsSemVer semver_front semver_sound semver_complete
 
@@ -137,7 +138,7 @@ semver_printed text v s =
     let meta = optional_printed plus SpellsMetadata (λ t. t) (λ t x h. sym h.0) s.meta v.meta s.meta_is in
     rw (numeral_printed s.major v.major s.major_is, numeral_printed s.minor v.minor s.minor_is, numeral_printed s.patch v.patch s.patch_is, pre_rel, meta) (sym s.whole)
 
--- the version that the whole text spells
+-- a text that spells a version parses as that version
 pub semver_of-Some : (text : List ℕ) (v : PlainSemVer) → SpellsSemVer text v → semver_of text ≡ Some v
 unfolding semver_of
 semver_of-Some = whole_read SpellsSemVer semver_front semver_sound semver_complete
@@ -149,7 +150,7 @@ semver_of-spells = read_whole SpellsSemVer semver_front semver_sound semver_comp
 pub semver_ascii : (text : List ℕ) (v : PlainSemVer) → SpellsSemVer text v → IsAscii text
 semver_ascii = of_semver IsAscii IsAscii-nil IsAscii-append metadata_run_ascii sign_ascii
 
--- bytes past ASCII spell none
+-- bytes that are not ASCII spell no version
 pub semver_past_ascii : (bytes : List ℕ) → IsNotAscii bytes → semver_of bytes ≡ None
 semver_past_ascii bytes other = elim (cases_Option (semver_of bytes)) [
   | inl none ↦ none

@@ -1,4 +1,4 @@
--- The lists of a key, from what is still to come of them, and the key of a text.
+-- The lists of a key, from what remains of them, and the key of a text.
 use Rattle.std.proofs.Common.{◌≡◌, ◌≢◌, ◌==◌, ◌&&◌, if◌then◌else◌, ℕ, Bool, true, false, List, [], ◌∷◌, ◌++◌, length, map, Option, Some, None, refl, sym, ap, ◌∙◌, inl, inr, append_assoc, append-nil}
 use Rattle.std.proofs.lemmas.Bool.{cases_Bool, eqb-true}
 use Rattle.std.specs.Char.{is_ascii_digit}
@@ -22,7 +22,7 @@ use Rattle.versions.specs.Mess.{Further, Section, section_front}
 use Rattle.versions.proofs.Epoch.{digits_alone}
 use Rattle.versions.proofs.MessScan.{all_further, further_next, further_none, unread, unsigned}
 
--- the parts of a body, and the last one behind them
+-- the parts of a body, and the last part after them
 last_written : (keys : List PartKey) (last : PartKey) → items_bytes part_bytes keys ++ (part_bytes (Some last) ++ part_bytes None) ≡ parts_bytes (keys ++ last ∷ [])
 last_written [] last = ap (λ (l : List ℕ). part_bytes (Some last) ++ l) (sym (append-nil (part_bytes None)))
 last_written (key ∷ keys) last =
@@ -59,7 +59,7 @@ colon_read (b ∷ text) behind e = elim (cases_Bool (b == colon)) [
   | inr other ↦ cc (rw other at e)
 ]
 
--- without a colon the first section is no epoch
+-- without a colon the first section is not an epoch
 apart : (may_be_epoch : Option ℕ) (first : Section) (sign : PlainSep) (section : Section) (more : List Further) → sign ≢ Colon
     → key_behind_epoch may_be_epoch first ((sign, section) ∷ more) ≡ key_of_sections 0 first ((sign, section) ∷ more)
 apart None first sign section more other = refl
@@ -73,7 +73,7 @@ alone : (may_be_epoch : Option ℕ) (first : Section) → key_behind_epoch may_b
 alone None first = refl
 alone (Some n) first = refl
 
--- a text whose first byte is no colon has no colon for its first sign
+-- if the first byte of a text isn't a colon, its first sign isn't a colon
 picked : (t : Bool) (sign : PlainSep) (others : Option PlainSep) → sign ≢ Colon → others ≢ Some Colon → (if t then Some sign else others) ≢ Some Colon
 picked true sign others here there e = here (cc e)
 picked false sign others here there e = there e
@@ -115,7 +115,7 @@ and_again : (x y : Bool) → (x && y) ≡ true → (x && (x && y)) ≡ true
 and_again true y e = e
 and_again false y e = e
 
--- a chunk of digits alone, and a colon behind it
+-- a chunk of digits alone, and a colon after it
 pub epoch_read : (first : Section) (chunk : PlainMChunk) (text rest behind left : List ℕ) (body : Section) → first ≡ chunk ∷ [] → mchunk_text chunk ≡ text → length text ≢ 0
     → list_all is_ascii_digit text ≡ true → Some behind ≡ after_mark colon rest → Some (body, left) ≡ section_front behind
     → key_behind_epoch (section_epoch first) first (all_further rest).0 ≡ key_of_sections (digits_value 10 (take_while is_ascii_digit text)) body (all_further left).0
@@ -130,7 +130,7 @@ epoch_read first chunk text rest behind left body only same some all e f =
 pub some_byte : (text : List ℕ) → (length text == 0) ≡ false → length text ≢ 0
 some_byte text other none = cc (rw none at other)
 
--- a section that isn't one chunk alone is no epoch
+-- a section that isn't one chunk is not an epoch
 pub epoch_of_others : (first : Section) (more : List Further) → length first ≢ 1 → key_behind_epoch (section_epoch first) first more ≡ key_of_sections 0 first more
 epoch_of_others [] more other = refl
 epoch_of_others (chunk ∷ []) more other = absurd (other refl)

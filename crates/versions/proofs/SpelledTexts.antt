@@ -1,4 +1,5 @@
--- What holds of each text that spells a version: all that holds of runs of letters, digits, hyphens and dots, of signs, and of texts put together.
+-- What holds of each text that spells a version: whatever holds of runs of letters, digits, hyphens and dots, of signs,
+-- and of such texts joined.
 use Rattle.std.proofs.Common.{◌≡◌, ℕ, true, List, [], ◌∷◌, ◌++◌, Option, Some, None, refl}
 use Rattle.std.specs.List.{list_all}
 use Rattle.version_parts.specs.Bytes.{dot, hyphen, is_metadata_byte, plus}

@@ -1,4 +1,4 @@
--- The order of tails tells all of them apart, and their bytes compare as they do.
+-- The order of tails distinguishes all of them, and their bytes compare as they do.
 use Rattle.std.proofs.Common.{◌≡◌, ◌∙◌, ℕ, List, [], ◌∷◌, ◌++◌, Option, Some, None, refl, ap, append_assoc, append-nil, sym}
 use Rattle.std.specs.FinMap.{IsAntisymmetric, slice_cmp-IsAntisymmetric}
 use Rattle.std.specs.Option.{option_cmp, option_map, option_map_or}
@@ -49,7 +49,7 @@ tail_writes = record { compares = go }
     go (Sections a more) (Sections b further) x y = sections_writes.compares (a ∷ more) (b ∷ further) x y
     go _ _ x y = refl
 
--- ---- what is still to come of a release is the tail that it makes
+-- ---- what remains of a release is the tail of the release
 
 pub pre_release_written : (o : Option (List PlainChunk)) → release_tail 1 (option_map release_bytes o) ≡ tail_bytes (option_map_or PreReleased o Bare)
 pre_release_written None = refl
@@ -59,7 +59,7 @@ pub release_written : (o : Option (List PlainChunk)) → release_tail 3 (option_
 release_written None = refl
 release_written (Some chunks) = refl
 
--- three pieces and an end, one behind another
+-- three pieces and an end, one after another
 pub three_put : (key a b c d first second third end : List ℕ) → first ≡ key ++ a → second ≡ first ++ b → third ≡ second ++ c → end ≡ third ++ d → end ≡ key ++ (a ++ (b ++ (c ++ (d ++ []))))
 three_put key a b c d first second third end e f g h =
     h ∙ ap (λ (l : List ℕ). l ++ d) (g ∙ ap (λ (l : List ℕ). l ++ c) (f ∙ ap (λ (l : List ℕ). l ++ b) e))

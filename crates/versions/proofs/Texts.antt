@@ -1,4 +1,4 @@
--- The bytes of keys are below 256 where the bytes of the texts are.
+-- The bytes of keys are below 256 if the bytes of the texts are.
 use Rattle.std.proofs.Common.{ℕ, zero, suc, ◌<◌, List, [], ◌∷◌, ◌++◌, map, take, drop, Bool, true, false, if◌then◌else◌, Option, Some, None, lit<}
 use Rattle.std.proofs.lemmas.List.Elements.{All-from_recursion, recursion_from_All}
 use Rattle.std.specs.Char.{is_ascii_digit}
@@ -42,7 +42,7 @@ key_are_bytes k h =
 pub keys_are_bytes : (k : Key) → AreBytes (key_text k) → AreBytes (key_bytes k)
 keys_are_bytes k h = All-from_recursion (λ b. b < 256) (key_bytes k) (key_are_bytes k (recursion_from_All (λ b. b < 256) (key_text k) h))
 
--- ---- the texts of a key are pieces of those of the version
+-- ---- the texts of a key are pieces of the texts of the version
 
 take_are_bytes : (n : ℕ) (xs : List ℕ) → Bytes xs → Bytes (take n xs)
 take_are_bytes zero xs h = tt
@@ -78,7 +78,7 @@ part_pieces text h = by (number_front text) (rest_pieces text h)
     by None g = split_pieces text h
     by (Some f) g = suffix f.0 f.1 g
 
--- a list of what is made of each of xs
+-- a list of the images of xs
 mapped_pieces : {A B : Type 0} (text : A → List ℕ) (f : A → B) (held : B → List ℕ) → ((a : A) → Bytes (text a) → Bytes (held (f a)))
     → (xs : List A) → Bytes (flat_map text xs) → Bytes (flat_map held (map f xs))
 mapped_pieces text f held each [] h = tt

@@ -1,4 +1,4 @@
--- What a tilde and a caret ask of parts, by how the parts compare.
+-- What `~` and `^` need of parts, by how the parts compare.
 use Rattle.std.proofs.Common.{◌≡◌, ◌↔◌, ℕ, suc, zero, true, false, List, [], ◌∷◌, ◌++◌, Some, None, IsTrue, arith, nat_cmp, refl, sym, ap, ◌∙◌}
 use Rattle.std.proofs.lemmas.Bool.Decides.{nat_tests}
 use Rattle.std.specs.Fmt.{decimal}
@@ -12,7 +12,7 @@ use Rattle.version_parts.specs.Lists.{split_last}
 use Rattle.version_parts.specs.PartKey.{PartKey, Number, Word, part_cmp, part_key}
 use Rattle.versions.specs.VersionMatch.{IsNotBelow, PartsMatchCaret, PartsMatchTilde, PartsNotBelow, is_plain_zero}
 
--- ---- what an order of two parts says
+-- ---- what the order of two parts says
 
 above : (n : ℕ) → nat_cmp (suc n) 0 ≡ Greater
 above n = grind (arith, nat_tests)
@@ -23,7 +23,7 @@ number_tied (Number zero None) = refl
 number_tied (Number zero (Some suffix)) = refl
 number_tied (Number (suc n) suffix) = rw (above n) refl
 
--- what ties with the plain 0 is it
+-- a part that ties with the plain 0 is the plain 0
 pub zero_tied : (part : PartKey) → is_eq (part_cmp (Some part) (Some (part_key (decimal 0)))) ≡ is_plain_zero part
 zero_tied part = ap (λ number. is_eq (part_cmp (Some part) (Some number))) (part_key-decimal 0 (omega arith)) ∙ number_tied part
 
@@ -37,7 +37,7 @@ equal Less e = cc e
 equal Equal e = refl
 equal Greater e = cc e
 
--- parts that don't tie differ, and those that do are the same
+-- parts that don't tie differ, and parts that tie are the same
 pub parts_differ : (wanted part : PartKey) → is_ne (part_cmp (Some part) (Some wanted)) ≡ true → ¬ (wanted ≡ part)
 parts_differ wanted part e same = not_equal _ e ((part_equal (Some part) (Some wanted)).1 (ap Some (sym same)))
 
@@ -61,14 +61,14 @@ no_end : (xs : List PartKey) (x : PartKey) → ¬ ([] ≡ xs ++ x ∷ [])
 no_end [] x e = cc e
 no_end (y ∷ xs) x e = cc e
 
--- each list has a final part
+-- each list has a last part
 pub none_wanted : {wanted parts : List PartKey} → wanted ≡ [] → ¬ PartsMatchTilde wanted parts
 none_wanted none match = no_end match.before match.wanted_final (sym none ∙ match.wanted_whole)
 
 pub none_there : {wanted parts : List PartKey} → parts ≡ [] → ¬ PartsMatchTilde wanted parts
 none_there none match = no_end match.before match.final (sym none ∙ match.whole)
 
--- the final parts, where there is no other
+-- the last parts, if there are no others
 pub finals : (w p : PartKey) → IsTrue (is_ge (part_cmp (Some p) (Some w))) ↔ PartsMatchTilde (w ∷ []) (p ∷ [])
 finals w p = (
   λ at_least. record { before = []; wanted_final = w; final = p; wanted_whole = refl; whole = refl; not_below = (not_less _).0 at_least },
@@ -78,7 +78,7 @@ finals w p = (
       (not_less _).1 (rw (wanted_same, same) match.not_below),
 )
 
--- one list has a further part, and the other has none
+-- one list has a further part, and the other doesn't
 pub wanted_is_shorter : (w p next : PartKey) (more : List PartKey) → ¬ PartsMatchTilde (w ∷ []) (p ∷ next ∷ more)
 wanted_is_shorter w p next more match = go match.before match.wanted_whole match.whole
   where
@@ -93,7 +93,7 @@ wanted_is_longer w p next more match = go match.before match.wanted_whole match.
     go [] whole e = cc whole
     go (b ∷ before) whole e = no_end before match.final (cc e)
 
--- both have a further part: the first ones are the same, and those behind them match
+-- both have a further part: the first ones are the same, and those after them match
 pub first_same : (w p next_wanted next : PartKey) (wanted_more more : List PartKey)
     → PartsMatchTilde (w ∷ next_wanted ∷ wanted_more) (p ∷ next ∷ more) ↔ ((w ≡ p) × PartsMatchTilde (next_wanted ∷ wanted_more) (next ∷ more))
 first_same w p next_wanted next wanted_more more = (
@@ -116,20 +116,20 @@ first_same w p next_wanted next wanted_more more = (
     go (b ∷ before) wanted_final final wanted_whole whole above =
         (cc (wanted_whole, whole), record { before = before; wanted_final = wanted_final; final = final; wanted_whole = cc wanted_whole; whole = cc whole; not_below = above })
 
--- the parts that were taken last are the same, and a further one is taken of both
+-- the parts taken last are the same, and both lists have a further part
 pub same_so_far : {all_wanted all wanted_more more : List PartKey} (w p next_wanted next : PartKey) → all_wanted ≡ next_wanted ∷ wanted_more → all ≡ next ∷ more
     → is_ne (part_cmp (Some p) (Some w)) ≡ false → PartsMatchTilde (w ∷ all_wanted) (p ∷ all) ↔ PartsMatchTilde (next_wanted ∷ wanted_more) (next ∷ more)
 same_so_far {all_wanted} {all} {wanted_more} {more} w p next_wanted next wanted_whole whole tied =
     let both = first_same w p next_wanted next wanted_more more in
     rw (wanted_whole, whole) (λ match. (both.0 match).1, λ match. both.1 (parts_same w p tied, match))
 
--- they are the final ones of both
+-- they are the last ones of both
 pub at_the_end : {all_wanted all : List PartKey} (w p : PartKey) → all_wanted ≡ [] → all ≡ [] → IsTrue (is_ge (part_cmp (Some p) (Some w))) ↔ PartsMatchTilde (w ∷ all_wanted) (p ∷ all)
 at_the_end w p wanted_none none = rw (wanted_none, none) (finals w p)
 
 -- ---- a caret
 
--- behind the first part that isn't a plain 0, none may be below
+-- after the first part that isn't a plain 0, no part may be before the wanted one
 pub first_other : {all_wanted all wanted_more more : List PartKey} (wanted part : PartKey) → all_wanted ≡ wanted ∷ wanted_more → all ≡ part ∷ more
     → is_ne (part_cmp (Some part) (Some wanted)) ≡ false → is_plain_zero wanted ≡ false
     → PartsNotBelow wanted_more more ↔ PartsMatchCaret all_wanted all

@@ -1,4 +1,5 @@
--- General versions: their front reads what is spelled and nothing else, and they print as they are spelled.
+-- General versions. A prefix spells the version that it parses as, a text that spells a version parses as that version,
+-- and the version prints that text.
 use Rattle.std.proofs.Common.{◌≡◌, ◌==◌, ◌∙◌, ℕ, Bool, true, false, not, List, [], ◌∷◌, ◌++◌, Option, Some, None, refl, sym, ap, subst, arith, inl, inr, append-nil, append_assoc}
 use Rattle.std.proofs.lemmas.Bool.{cases_Bool, eqb-true}
 use Rattle.std.proofs.lemmas.Bool.Decides.{nat_tests}
@@ -28,7 +29,7 @@ use Rattle.versions.specs.Version.{PlainVersion, SpellsEpoch, SpellsVersion, epo
 use Rattle.versions.proofs.SemVerReading.{optional_begins, optional_printed}
 use Rattle.versions.proofs.SpelledTexts.{of_version}
 
--- what the front gives behind a body
+-- what `version_front` returns after a body
 version_front-Some : (text : List ℕ) (epoch : Option ℕ × List ℕ) (body : PlainBody × List ℕ) → optional epoch_front text ≡ epoch → body_front epoch.1 ≡ Some body
     → version_front text ≡ Some (
       record {
@@ -49,7 +50,7 @@ version_front-None text e = rw e refl
 
 -- ---- epochs
 
--- the byte mark, where a text begins with it
+-- the byte mark, if a text begins with it
 marked : (mark : ℕ) (text rest : List ℕ) → after_mark mark text ≡ Some rest → text ≡ mark ∷ rest
 marked mark [] rest e = cc e
 marked mark (b ∷ text) rest e = elim (cases_Bool (b == mark)) [
@@ -100,7 +101,7 @@ numeral_body : (text : List ℕ) (n : ℕ) → SpellsNumeral text n → SpellsBo
 unfolding SpellsDotted
 numeral_body text n s = record { part = Numeric n; parts_are = s; last_is = refl }
 
--- an epoch is a body, which the colon follows
+-- an epoch is a body that a colon follows
 epoch_body : (text : List ℕ) (epoch : ℕ × List ℕ) → epoch_front text ≡ Some epoch → body_front text ≡ Some (([], last.Numeric epoch.0), colon ∷ epoch.1)
 epoch_body text epoch e = elim (cases_Option (unsigned_front text)) [
   | inl none ↦ cc (epoch_front-None text none, e)
@@ -131,7 +132,7 @@ epoch_unread text body e ends = rw (no_epoch text body (sym e) (sym ends)) refl
 pub body_alone : (text : List ℕ) (body : PlainBody × List ℕ) → Some body ≡ body_front text → None ≡ after_mark colon body.1 → Some body ≡ body_front (optional epoch_front text).1
 body_alone text body e ends = rw (no_epoch text body (sym e) (sym ends)) e
 
--- where no body is read at the front, none is behind an epoch
+-- if a text begins with no body, no body follows its epoch
 pub body_unread : (text : List ℕ) → None ≡ body_front text → None ≡ body_front (optional epoch_front text).1
 body_unread text e = elim (cases_Option (epoch_front text)) [
   | inl none ↦ rw (optional-None epoch_front text none) e
@@ -158,7 +159,7 @@ no_mark text h = elim (cases_Option (after_mark colon text)) [
   | inr rest ↦ cc (rw (marked colon text rest.0 rest.1) at h)
 ]
 
--- where there is no colon no epoch is read
+-- without a colon no epoch parses
 epoch_absent : (text : List ℕ) → HasNoColon text → epoch_front text ≡ None
 epoch_absent text h = elim (cases_Option (unsigned_front text)) [
   | inl none ↦ epoch_front-None text none
@@ -173,7 +174,7 @@ not_colon b h = grind (arith, nat_tests)
 run_without_colon : (text : List ℕ) → list_all is_metadata_byte text ≡ true → HasNoColon text
 run_without_colon = all_weaker is_metadata_byte (λ b. not (b == colon)) not_colon
 
--- behind the epoch there is no colon
+-- no colon follows the epoch
 tail_without_colon : (text : List ℕ) (v : PlainVersion) (s : SpellsVersion text v) → HasNoColon (s.body ++ (s.release ++ s.meta))
 tail_without_colon text v s =
     let together = both_parts (λ b. not (b == colon)) in
@@ -244,15 +245,15 @@ version_complete text v s =
     s.meta_is refl refl) in
     rw s.whole (version_front-Some _ (v.epoch, s.body ++ tail) ((v.chunks, v.last), tail) epoch body ∙ rw (release, meta) refl)
 
--- a text spells one version at most
+-- a text spells at most one version
 pub version_unique : (text : List ℕ) (v w : PlainVersion) → SpellsVersion text v → SpellsVersion text w → v ≡ w
 version_unique = spelled_once SpellsVersion version_front version_sound version_complete
 
--- a front without rest is the whole text
+-- if no rest is left, the whole text spells the version
 pub version_whole : (text : List ℕ) (v : PlainVersion) → version_front text ≡ Some (v, []) → SpellsVersion text v
 version_whole = whole_spelled SpellsVersion version_front version_sound version_complete
 
--- the version that the whole text spells
+-- a text that spells a version parses as that version
 pub version_of-Some : (text : List ℕ) (v : PlainVersion) → SpellsVersion text v → version_of text ≡ Some v
 unfolding version_of
 version_of-Some = whole_read SpellsVersion version_front version_sound version_complete

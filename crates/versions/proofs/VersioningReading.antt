@@ -1,4 +1,4 @@
--- Versions of any kind: what is read is spelled by the first kind that fits, and prints as it is spelled.
+-- Versions of any kind: a text parses as the version of the first kind that fits, and the version prints the text.
 use Rattle.std.proofs.Common.{◌≡◌, List, ℕ, Some, None, refl, inl, inr, arith}
 use Rattle.std.specs.Str.{IsAscii, IsNotAscii}
 use Rattle.version_parts.specs.Reading.{IsPrinted}
@@ -11,7 +11,7 @@ use Rattle.versions.proofs.MessReading.{mess_of-Some, mess_of-spells, mess_ascii
 use Rattle.versions.proofs.SemVerReading.{semver_ascii, semver_of-Some, semver_of-spells, semver_printed}
 use Rattle.versions.proofs.VersionReading.{version_ascii, version_of-Some, version_of-spells, version_printed}
 
--- no strict version, where none is spelled, and the other way round
+-- a text parses as no strict version exactly if it spells none
 no_semver : (text : List ℕ) → ((w : PlainSemVer) → ¬ (SpellsSemVer text w)) → semver_of text ≡ None
 no_semver text none = elim (cases_Option (semver_of text)) [
   | inl absent ↦ absent
@@ -63,7 +63,7 @@ versioning_ascii text (Ideal v) s = semver_ascii text v s
 versioning_ascii text (General v) s = version_ascii text v s.0
 versioning_ascii text (Complex m) s = mess_ascii text m s.0
 
--- bytes past ASCII spell none
+-- bytes that are not ASCII spell no version
 pub past_ascii-None : (bytes : List ℕ) → IsNotAscii bytes → versioning_of bytes ≡ None
 past_ascii-None bytes other = elim (cases_Option (versioning_of bytes)) [
   | inl none ↦ none

@@ -1,4 +1,4 @@
--- What is spelled as a narrower kind is spelled as a wider one.
+-- A text that spells a version of a stricter kind spells one of a more lenient kind.
 use Rattle.std.proofs.Common.{◌≡◌, ◌∙◌, List, ℕ, [], ◌∷◌, ◌++◌, None, refl, append_assoc}
 use Rattle.version_parts.specs.Bytes.{dot}
 use Rattle.version_parts.specs.Chunk.{PlainChunk, Numeric, SpellsPart}
@@ -19,7 +19,7 @@ no_epoch = refl
 regroup : (a b c d : List ℕ) → a ++ dot ∷ (b ++ dot ∷ (c ++ d)) ≡ (a ++ dot ∷ (b ++ dot ∷ c)) ++ d
 regroup a b c d = simp append_assoc
 
--- a strict version is a general one
+-- a text that spells a strict version spells a general one
 pub strict_is_general : (text : List ℕ) (v : PlainSemVer) → SpellsSemVer text v → SpellsVersion text (version_of_semver v)
 strict_is_general text v s = record {
   epoch = [];

@@ -1,4 +1,4 @@
--- Conversions of versions to a wider kind.
+-- Conversions of versions to a more lenient kind.
 use Rattle.std.specs.Prelude.{ℕ, List, [], ◌∷◌, ◌++◌, ◌||◌, if◌then◌else◌, is_some, map, Option, Some, None}
 use Rattle.std.specs.declared.cmp.Ordering.{Ordering}
 use Rattle.std.specs.declared.cmp.Ordering.TheVariants.{Less, Equal}
@@ -23,8 +23,7 @@ version_of_semver v = record {
   meta = v.meta;
 }
 
--- how a version stands to one that prints the same and has its release and metadata as sections: below it where there
--- is one of the two
+-- how a version compares with a messy one that prints the same: less if it has a release or metadata, else equal
 abbrev pub below_sections : Option (List PlainChunk) → Option (List ℕ) → Ordering
 below_sections release meta = if is_some release || is_some meta then Less else Equal
 
@@ -42,21 +41,21 @@ abbrev pub mchunk_of_last : PlainLast → PlainMChunk
 mchunk_of_last (last.Numeric n) = digits_of_number n
 mchunk_of_last part = Plain (last_text part)
 
--- the section that a body is
+-- the section of a body
 abbrev pub body_section : List PlainChunk → PlainLast → Section
 body_section chunks part = map mchunk_of chunks ++ mchunk_of_last part ∷ []
 
--- a release as a section behind a hyphen, if there is one
+-- a release as a section after a hyphen, if there is one
 abbrev pub release_section : Option (List PlainChunk) → List Further
 release_section None = []
 release_section (Some chunks) = (Hyphen, map mchunk_of chunks) ∷ []
 
--- metadata as a section of one text behind a plus, if there is any
+-- metadata as a section of one text after a plus, if there is any
 abbrev pub meta_section : Option (List ℕ) → List Further
 meta_section None = []
 meta_section (Some text) = (Plus, Plain text ∷ []) ∷ []
 
--- a body with an epoch before it, a section of its digits and a colon behind them, if there is one
+-- a body after an epoch, if there is one: a section of the digits of the epoch, then a colon
 abbrev pub behind_epoch : Option ℕ → Section → List Further → PlainMess
 behind_epoch None body more = record { first = body; more = more }
 behind_epoch (Some n) body more = record { first = digits_of_number n ∷ []; more = (Colon, body) ∷ more }
@@ -65,6 +64,6 @@ behind_epoch (Some n) body more = record { first = digits_of_number n ∷ []; mo
 abbrev pub mess_of_version : PlainVersion → PlainMess
 mess_of_version v = behind_epoch v.epoch (body_section v.chunks v.last) (release_section v.release ++ meta_section v.meta)
 
--- a strict version as a messy one: as the general version that it is
+-- a strict version as a messy one, by way of the general one
 abbrev pub mess_of_semver : PlainSemVer → PlainMess
 mess_of_semver v = mess_of_version (version_of_semver v)

@@ -20,7 +20,7 @@ pub record Key : Type 0 where
   pub body : List PartKey
   pub tail : Tail
 
--- two keys: by epoch, then by body, then by tail
+-- how two keys compare: by epoch, then by body, then by tail
 abbrev pub precedence : Key → Key → Ordering
 precedence =
     then_cmp (on (λ (k : Key). k.epoch) nat_cmp)
@@ -43,7 +43,7 @@ key_of_semver v = record {
   tail = option_map_or PreReleased v.pre_rel Bare;
 }
 
--- the key of a general version: its epoch, none being 0, its chunks and its last part, then its release
+-- the key of a general version: its epoch, or 0 without one, its chunks and its last part, then its release
 abbrev pub key_of_version : PlainVersion → Key
 key_of_version v = record {
   epoch = unwrap_or v.epoch 0;
@@ -51,12 +51,12 @@ key_of_version v = record {
   tail = option_map_or Released v.release Bare;
 }
 
--- the tail that the sections behind the body make
+-- the tail of the sections after the body
 abbrev pub sections_tail : List (PlainSep × List PlainMChunk) → Tail
 sections_tail [] = Bare
 sections_tail (section ∷ more) = Sections (section_parts section.1) (map (λ further. section_parts further.1) more)
 
--- the epoch that a first section is where a colon follows it: one chunk of digits
+-- the epoch of a first section that a colon follows: one chunk of digits
 abbrev pub section_epoch : List PlainMChunk → Option ℕ
 section_epoch (chunk ∷ []) = if is_digits (mchunk_text chunk) then Some (digits_value 10 (mchunk_text chunk)) else None
 section_epoch chunks = None
@@ -69,16 +69,16 @@ key_of_sections epoch body more = record { epoch = epoch; body = section_parts b
 abbrev pub key_with_epoch : ℕ → PlainMess → Key
 key_with_epoch epoch m = key_of_sections epoch m.first m.more
 
--- a first section that may be the epoch is it where a colon follows; else it is the body, and the epoch is 0
+-- a first section that may be the epoch is the epoch if a colon follows; otherwise it is the body, and the epoch is 0
 abbrev pub key_behind_epoch : Option ℕ → List PlainMChunk → List (PlainSep × List PlainMChunk) → Key
 key_behind_epoch (Some epoch) first ((Colon, body) ∷ more) = key_of_sections epoch body more
 key_behind_epoch may_be_epoch first more = key_of_sections 0 first more
 
--- the key of a first section, which may be the epoch, and of the sections behind it
+-- the key of a first section, which may be the epoch, and of the sections after it
 abbrev pub key_from_first : List PlainMChunk → List (PlainSep × List PlainMChunk) → Key
 key_from_first first more = key_behind_epoch (section_epoch first) first more
 
--- the key of a messy version: its epoch, the section behind it, then the further sections; signs aren't looked at again
+-- the key of a messy version: its epoch, the section after it, then the further sections; other signs don't count
 abbrev pub key_of_mess : PlainMess → Key
 key_of_mess m = key_from_first m.first m.more
 

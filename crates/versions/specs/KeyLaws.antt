@@ -1,4 +1,4 @@
--- Precedence is total, as the orders of tails and of sections are.
+-- Precedence is total; so are the orders of tails and of sections.
 use Rattle.std.proofs.Common.{◌≡◌, List, ◌∷◌, Option, Some, None, refl, subst}
 use Rattle.std.specs.Cmp.{IsTotalOrder, nat_cmp_total, on_total, then_total}
 use Rattle.std.specs.Cmp.Lexicographic.{lists_total, options_total}
@@ -16,7 +16,7 @@ use Rattle.versions.specs.Tail.{Tail, PreReleased, Bare, Released, Sections, sec
 pub sections_total : IsTotalOrder sections_cmp
 sections_total = lists_total list_total
 
--- a tail as its rank, its pre-release, its release and its sections
+-- the pre-release, the release and the sections of a tail, each if the tail has it
 pre_release : Tail → Option (List PlainChunk)
 pre_release (PreReleased chunks) = Some chunks
 pre_release Bare = None

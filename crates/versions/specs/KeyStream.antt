@@ -1,4 +1,4 @@
--- What is still to come of the bytes of a key, behind the piece begun.
+-- What remains of the bytes of a key, after the current piece.
 use Rattle.std.specs.Prelude.{ℕ, List, [], ◌∷◌, Option}
 use Rattle.std.specs.Option.{option_map_or}
 use Rattle.version_parts.specs.PartKey.{parts_bytes}
@@ -14,7 +14,7 @@ use Rattle.versions.specs.Mess.{Further, further_in, plain_mess}
 use Rattle.versions.specs.Tail as tail
 use Rattle.versions.specs.Tail.{tail_bytes}
 
--- of the list begun
+-- of the current list
 abbrev pub list_left : CurrentList → List ℕ
 list_left Ended = []
 list_left (One n) = parts_bytes (plain n ∷ [])
@@ -24,7 +24,7 @@ list_left (Parts left) = left
 list_left (Section left) = left
 list_left (Chunks left) = left
 
--- the further sections themselves: those behind the first of a version, or those that a text spells
+-- the further sections themselves: those after the first of a version, or those that a text begins with
 abbrev pub sections_of : SectionsLeft → List Further
 sections_of (Built mess) = (plain_mess mess.now).more
 sections_of (Spelled text) = further_in text.now
@@ -33,7 +33,7 @@ sections_of (Spelled text) = further_in text.now
 abbrev pub sections_left : SectionsLeft → List ℕ
 sections_left further = further_bytes (sections_of further)
 
--- of a release: its mark and its chunks, or the mark of nothing
+-- of a release: its mark and its chunks, or the mark of an empty tail
 abbrev pub release_tail : ℕ → Option (List ℕ) → List ℕ
 release_tail mark left = option_map_or (λ bytes. mark ∷ bytes) left (2 ∷ [])
 

@@ -1,4 +1,4 @@
--- Which versions a requirement asks for, and a list of requirements.
+-- Which versions a requirement matches, and which a list of requirements matches.
 use Rattle.std.specs.Prelude.{◌≡◌, ⊤, List, IsTrue, MatchOption}
 use Rattle.std.specs.List.{All}
 use Rattle.std.specs.Ordering.{eq_by_cmp}
@@ -27,7 +27,7 @@ MatchesCaret (Ideal wanted) (Ideal v) = strict.MatchesCaret (numbers wanted) (nu
 MatchesCaret (General wanted) (General v) = general.MatchesCaret (epoch_and_parts wanted) (epoch_and_parts v)
 MatchesCaret wanted v = ⊥
 
--- what an operator asks before a version: `=` by `==`, the comparisons by precedence
+-- the versions that an operator with a version matches: `=` by `==`, the comparisons by precedence
 abbrev pub MatchesOp : Op → PlainVersioning → PlainVersioning → Type 0
 MatchesOp Exact wanted v = IsTrue (eq_by_cmp versioning_plain_cmp v wanted)
 MatchesOp Greater wanted v = precedence (key_of v) (key_of wanted) ≡ ordering.Greater
@@ -38,19 +38,19 @@ MatchesOp Tilde wanted v = MatchesTilde wanted v
 MatchesOp Caret wanted v = MatchesCaret wanted v
 MatchesOp Wildcard wanted v = ⊤
 
--- the set of a requirement; without a version, `*` alone asks for any
+-- the versions that a requirement matches; without a version `*` matches every version, any other operator none
 abbrev pub Matches : PlainRequirement → PlainVersioning → Type 0
 Matches r v = MatchOption r.version (r.op ≡ Wildcard) (λ wanted. MatchesOp r.op wanted v)
 
--- the set of a list: what each member asks for, and so everything where there is none
+-- the versions that a list matches: those that each member matches; an empty list matches every version
 abbrev pub MatchesAll : List PlainRequirement → PlainVersioning → Type 0
 MatchesAll list v = All (λ r. Matches r v) list
 
--- whatever holds of two strict versions holds of those between them
+-- what holds of two strict versions holds of the strict versions between them
 abbrev pub IsConvex : (PlainVersioning → Type 0) → Type 0
 IsConvex Holds = (a b c : PlainSemVer) → Holds (Ideal a) → Holds (Ideal c) → ¬ (semver_cmp a b ≡ ordering.Greater) → ¬ (semver_cmp b c ≡ ordering.Greater) → Holds (Ideal b)
 
--- what a comparison asks of how a version stands to the wanted one
+-- a comparison operator matches a version with this order to the wanted one
 abbrev pub AsksOrder : Op → Ordering → Type 0
 AsksOrder Greater order = order ≡ ordering.Greater
 AsksOrder GreaterEq order = ¬ (order ≡ ordering.Less)

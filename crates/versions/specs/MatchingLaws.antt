@@ -1,4 +1,4 @@
--- A requirement, or a list of them, asks for a version or doesn't: which of the two can be told.
+-- A requirement, or a list of them, matches a version or does not: matching is decidable.
 use Rattle.std.proofs.Common.{◌≡◌, ◌∙◌, ◌<◌, ◌≤◌, ◌+◌, ◌⊎◌, ℕ, Bool, true, false, List, [], ◌∷◌, ◌++◌, length, Option, Some, None, IsTrue, refl, sym, ap, arith, inl, inr}
 use Rattle.std.proofs.lemmas.Bool.Decides.{Decides-eqb, Decides-ltb, leb_tells}
 use Rattle.std.proofs.lemmas.List.{length-append}
@@ -21,7 +21,7 @@ use Rattle.versions.specs.VersionMatch as general
 use Rattle.versions.specs.VersionMatch.{EpochAndParts, IsNotBelow, PartsMatchCaret, PartsMatchTilde, PartsNotBelow, epoch_and_parts, is_plain_zero}
 use Rattle.versions.specs.Versioning.{PlainVersioning, Ideal, General, Complex, versioning_plain_cmp}
 
--- ---- what can be told, put together
+-- ---- decidable facts, combined
 
 abbrev OrNot : Type 0 → Type 0
 OrNot P = P ⊎ (¬ P)
@@ -110,7 +110,7 @@ parts_caret_or_not (w ∷ wanted) [] = inr (λ x. x)
 parts_caret_or_not (w ∷ wanted) (p ∷ parts) =
     both_or_not (part_or_not w p) (match_or_not (is_plain_zero w) (parts_caret_or_not wanted parts) (parts_not_below_or_not wanted parts))
 
--- equally many, and one at least
+-- equally many, and at least one
 counted : (wanted parts : List PartKey) → PartsMatchTilde wanted parts → (length wanted ≡ length parts) × (0 < length wanted)
 counted wanted parts m =
     let a : length wanted ≡ length m.before + 1 = ap (λ (l : List PartKey). length l) m.wanted_whole ∙ length-append m.before (m.wanted_final ∷ []) in

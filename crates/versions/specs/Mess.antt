@@ -29,24 +29,24 @@ Section = List PlainMChunk
 abbrev pub Further : Type 0
 Further = PlainSep × Section
 
--- a messy version seen flat: its first section, and each further one with the sign before it
+-- a flat messy version: its first section, and each further section with the sign before it
 pub record PlainMess : Type 0 where
   pub first : List PlainMChunk
   pub more : List (PlainSep × List PlainMChunk)
 
--- the section that a list of chunks is
+-- the section of a list of chunks
 abbrev pub plain_section : Vec MChunk Global → Section
 plain_section chunks = map plain_mchunk chunks.items
 
--- the further section that a sign and a list of chunks are
+-- the further section of a sign and a list of chunks
 abbrev pub plain_further : Sep × Vec MChunk Global → Further
 plain_further further = (plain_sep further.0, plain_section further.1)
 
--- the sections of a version behind a sign
+-- the further sections of a sign and the version after it
 abbrev pub behind_sign : Sep → PlainMess → List Further
 behind_sign sign m = (plain_sep sign, m.first) ∷ m.more
 
--- a version, seen flat, from its chunks and from what stands behind them, seen flat
+-- a flat version, from its chunks and from what follows them, flat too
 abbrev pub flat_layer : Mess-F PlainMess → PlainMess
 flat_layer m = record { first = plain_section m.chunks; more = option_map_or (λ next. behind_sign next.0 next.1.value) m.next [] }
 
@@ -60,11 +60,11 @@ plain_mess = fold-Mess PlainMess flat_layer
 abbrev pub SpellsSection : List ℕ → Section → Type 0
 SpellsSection = SpellsDotted SpellsMChunk
 
--- the text spells a sign, and a section behind it
+-- the text spells a sign, and a section after it
 abbrev pub SpellsFurther : List ℕ → Further → Type 0
 SpellsFurther text further = SpellsBehind (sep_byte further.0) SpellsSection text further.1
 
--- The text spells the version: a section, then further ones, each behind its sign.
+-- The text spells the version: a section, then further ones, each after its sign.
 pub record SpellsMess (text : List ℕ) (m : PlainMess) : Type 0 where
   pub first : List ℕ
   pub more : List ℕ
@@ -72,35 +72,35 @@ pub record SpellsMess (text : List ℕ) (m : PlainMess) : Type 0 where
   pub first_is : SpellsSection first m.first
   pub more_is : SpellsEach SpellsFurther more m.more
 
--- ---- what is read at the front of a text
+-- ---- prefixes
 
 -- a section
 abbrev pub section_front : Front Section
 section_front = dotted_front mchunk_front
 
--- a sign and the section behind it
+-- a sign and the section after it
 unfoldable pub further_front : Front Further
 further_front text = do
   sign ← sep_front text
   section ← section_front sign.1
   Some ((sign.0, section.0), section.1)
 
--- further sections as long as they can be read, without the rest
+-- the further sections that a text begins with, as many as parse, without the rest
 abbrev pub further_in : List ℕ → List Further
 further_in text = (repeated further_front (length text) text).0
 
--- a section, and further ones as long as they can be read; it stops before a sign behind which none can be
+-- a section, then further ones as long as they parse; it stops before a sign that no section follows
 unfoldable pub mess_front : Front PlainMess
 mess_front text = do
   first ← section_front text
   let more = repeated further_front (length first.1) first.1
   Some (record { first = first.0; more = more.0 }, more.1)
 
--- the version that was scanned: its first section, and all that are read behind it
+-- the version that a scanned value holds: its first section, and the further ones that its other text begins with
 abbrev pub plain_mess_ref : MessRef → PlainMess
 plain_mess_ref p = record { first = p.first; more = further_in p.rest.now }
 
--- the messy version that the whole text spells, where it spells one
+-- the messy version that the whole text parses as, or None
 unfoldable pub mess_of : List ℕ → Option PlainMess
 mess_of text = whole (mess_front text)
 
@@ -110,11 +110,11 @@ mess_of text = whole (mess_front text)
 abbrev pub joined_section : Section → List ℕ
 joined_section chunks = join_with_byte dot (map mchunk_text chunks)
 
--- a sign and the section behind it
+-- a sign and the section after it
 abbrev pub further_text : Further → List ℕ
 further_text further = sep_byte further.0 ∷ joined_section further.1
 
--- the printed text: the first section, and each further one behind its sign
+-- the printed text: the first section, and each further one after its sign
 abbrev pub mess_text : PlainMess → List ℕ
 mess_text m = joined_section m.first ++ flat_map further_text m.more
 
@@ -131,19 +131,19 @@ nth_number m at = slice_get (behind_colons m.first m.more) at >>= digits_number
 
 -- ---- the plain order and the hash
 
--- two sections: chunk by chunk, the shorter first where one begins the other
+-- two sections: chunk by chunk, a prefix first
 abbrev pub section_plain_cmp : Section → Section → Ordering
 section_plain_cmp = slice_cmp mchunk_plain_cmp
 
--- two further sections: by their signs, then by what stands behind them
+-- two further sections: by their signs, then by the sections after them
 abbrev pub further_plain_cmp : Further → Further → Ordering
 further_plain_cmp = then_cmp (on (λ (f : Further). f.0) sep_plain_cmp) (on (λ (f : Further). f.1) section_plain_cmp)
 
--- two versions, field by field: the first sections, then the further ones, fewer first
+-- two versions, field by field: the first sections, then the further ones, a prefix first
 abbrev pub mess_plain_cmp : PlainMess → PlainMess → Ordering
 mess_plain_cmp = then_cmp (on (λ (m : PlainMess). m.first) section_plain_cmp) (on (λ (m : PlainMess). m.more) (slice_cmp further_plain_cmp))
 
--- what a hash is fed with for a section: how many chunks there are, and each of them
+-- what a hash is fed with for a section: the number of chunks, and each chunk
 abbrev pub section_fed : Section → HashWrites
 section_fed = fed.slice mchunk_fed
 

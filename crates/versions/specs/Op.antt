@@ -20,7 +20,7 @@ op_text Wildcard = codes "*"
 abbrev pub tried_ops : List Op
 tried_ops = Exact ∷ GreaterEq ∷ Greater ∷ LessEq ∷ Less ∷ Tilde ∷ Caret ∷ Wildcard ∷ []
 
--- what stands behind a word, where the text begins with it
+-- what follows a word, if the text begins with it
 abbrev pub after_word : List ℕ → List ℕ → Option (List ℕ)
 after_word [] text = Some text
 after_word (b ∷ word) text = after_mark b text >>= after_word word
@@ -30,6 +30,6 @@ abbrev pub first_op : List Op → Front Op
 first_op [] text = None
 first_op (op ∷ ops) text = option_or (option_map (λ rest. (op, rest)) (after_word (op_text op) text)) (first_op ops text)
 
--- the operator at the front of a text
+-- the operator that a text begins with, and the rest
 unfoldable pub op_front : Front Op
 op_front = first_op tried_ops

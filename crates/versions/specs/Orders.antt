@@ -1,4 +1,4 @@
--- The orders of versions: by their keys, and where those tie, field by field.
+-- The orders of versions: by their keys; ties field by field.
 use Rattle.std.specs.Ordering.{on, then_cmp}
 use Rattle.std.specs.declared.cmp.Ordering.{Ordering}
 use Rattle.versions.specs.Key.{key_of, key_of_mess, key_of_version, precedence}
@@ -15,6 +15,6 @@ version_cmp = then_cmp (on key_of_version precedence) version_plain_cmp
 abbrev pub mess_cmp : PlainMess → PlainMess → Ordering
 mess_cmp = then_cmp (on key_of_mess precedence) mess_plain_cmp
 
--- two versions of any kind: where the keys tie, the strict before the general and that before the messy
+-- two versions of any kind: by key; ties by kind, strict before general before messy, then field by field
 abbrev pub versioning_cmp : PlainVersioning → PlainVersioning → Ordering
 versioning_cmp = then_cmp (on key_of precedence) versioning_plain_cmp

@@ -31,7 +31,7 @@ mess_cmp_ties = ties_same (on_total key_of_mess precedence_total) messes_same
 pub versioning_cmp_total : IsTotalOrder versioning_cmp
 versioning_cmp_total = then_total (on_total key_of precedence_total) versioning_plain_total
 
--- versions whose fields tie have one key, metadata having no part in it
+-- versions whose fields tie have one key, since metadata is not in it
 pub keys_tied : (a b : PlainVersioning) → versioning_plain_cmp a b ≡ Equal → precedence (key_of a) (key_of b) ≡ Equal
 keys_tied (Ideal a) (Ideal b) tied =
     let same = tied_same a b tied in

@@ -1,4 +1,4 @@
--- The requirement that was scanned.
+-- The requirement that a scanned value holds.
 use Rattle.std.specs.Option.{option_map}
 use Rattle.versions.specs.declared.requirement_ref.RequirementRef.{RequirementRef}
 use Rattle.versions.specs.Requirement.{PlainRequirement}

@@ -14,7 +14,7 @@ comma = 44
 abbrev pub plain_requirements : Requirements → List PlainRequirement
 plain_requirements list = map plain_requirement list.0.items
 
--- The text spells the list: one text or more, joined by single commas, each of which spells its member.
+-- The text spells the list: one text or more with single commas between, each of which spells its member.
 pub record SpellsRequirements (text : List ℕ) (list : List PlainRequirement) : Type 0 where
   pub members : List (List ℕ)
   pub whole : text ≡ join_with_byte comma members
@@ -25,11 +25,11 @@ pub record SpellsRequirements (text : List ℕ) (list : List PlainRequirement) :
 abbrev pub requirements_text : List PlainRequirement → List ℕ
 requirements_text list = join_with_byte comma (map requirement_text list)
 
--- what some readings give, where each gives something
+-- the values of some options, or None if one of them is None
 abbrev pub every : {X : Type 0} → List (Option X) → Option (List X)
 every [] = Some []
 every (reading ∷ readings) = reading >>= λ x. option_map (λ xs. x ∷ xs) (every readings)
 
--- the list that the whole text spells: cut at its commas, each piece spells a member
+-- the list that the whole text parses as, or None: it is cut at its commas, and each piece parses as a member
 abbrev pub requirements_of : List ℕ → Option (List PlainRequirement)
 requirements_of text = every (map requirement_of (slice_split (λ b. eqb b comma) text))

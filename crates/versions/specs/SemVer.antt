@@ -17,7 +17,7 @@ use Rattle.versions.specs.declared.semver.SemVerRef.{SemVerRef}
 use Rattle.versions.specs.declared.semver.SemVer.{SemVer}
 use Rattle.versions.specs.declared.semver.SemVerText.{SemVerText}
 
--- a strict version, apart from where its texts lie
+-- a strict version as plain data
 pub record PlainSemVer : Type 0 where
   pub major : ℕ
   pub minor : ℕ
@@ -35,7 +35,7 @@ plain_semver v = record {
   meta = option_map string_bytes v.meta;
 }
 
--- the version that was scanned
+-- the version that a scanned value holds
 abbrev pub plain_semver_ref : SemVerRef → PlainSemVer
 plain_semver_ref p = record {
   major = p.major;
@@ -45,7 +45,7 @@ plain_semver_ref p = record {
   meta = option_map (λ text. text.now) p.meta;
 }
 
--- the version that stands in a text so, and that the digits of its numbers are numerals
+-- the version that a scanned text holds; below, whether the digits of its numbers are numerals
 abbrev pub semver_of_text : SemVerText → PlainSemVer
 semver_of_text p = record {
   major = digits_value 10 p.major.now;
@@ -59,8 +59,8 @@ abbrev pub IsSemVerText : SemVerText → Type 0
 IsSemVerText p = SpellsNumeral p.major.now (digits_value 10 p.major.now) × SpellsNumeral p.minor.now (digits_value 10 p.minor.now)
     × SpellsNumeral p.patch.now (digits_value 10 p.patch.now)
 
--- The text spells the version: three numerals joined by dots, then a release behind a hyphen or none, then
--- metadata behind a plus or none.
+-- The text spells the version: three numerals with dots between, then perhaps a hyphen and a release, then perhaps a
+-- plus and metadata.
 pub record SpellsSemVer (text : List ℕ) (v : PlainSemVer) : Type 0 where
   pub major : List ℕ
   pub minor : List ℕ
@@ -74,7 +74,7 @@ pub record SpellsSemVer (text : List ℕ) (v : PlainSemVer) : Type 0 where
   pub pre_rel_is : SpellsOptional hyphen SpellsRelease pre_rel v.pre_rel
   pub meta_is : SpellsOptional plus SpellsMetadata meta v.meta
 
--- three numbers joined by dots, and then a release and metadata as far as they can be read
+-- three numbers with dots between, then a release and metadata if they parse
 unfoldable pub semver_front : Front PlainSemVer
 semver_front text = do
   major ← unsigned_front text
@@ -84,16 +84,17 @@ semver_front text = do
   let meta = optional meta_front pre_rel.1
   Some (record { major = major.0; minor = minor.0; patch = patch.0; pre_rel = pre_rel.0; meta = meta.0 }, meta.1)
 
--- the strict version that the whole text spells, where it spells one
+-- the strict version that the whole text parses as, or None
 unfoldable pub semver_of : List ℕ → Option PlainSemVer
 semver_of text = whole (semver_front text)
 
--- a piece behind its mark, or nothing
+-- a mark and a piece, or nothing
 abbrev pub optional_text : {X : Type 0} → ℕ → (X → List ℕ) → Option X → List ℕ
 optional_text mark text_of None = []
 optional_text mark text_of (Some x) = mark ∷ text_of x
 
--- the printed text: major.minor.patch, a hyphen and the release if there is one, a plus and the metadata if there is any
+-- the printed text: major.minor.patch, a hyphen and the release if there is one, a plus and the metadata if there is
+-- any
 abbrev pub semver_text : PlainSemVer → List ℕ
 semver_text v = decimal v.major ++ dot ∷ (decimal v.minor ++ dot ∷ (decimal v.patch
     ++ (optional_text hyphen release_text v.pre_rel ++ optional_text plus (λ text. text) v.meta)))

@@ -16,7 +16,7 @@ semver_total =
     (then_total (on_total (λ (v : PlainSemVer). v.patch) nat_cmp_total)
     (on_total (λ (v : PlainSemVer). v.pre_rel) (none_last_total release_total))))
 
--- versions that the order ties are the same but for their metadata
+-- versions that tie in the order are the same except for their metadata
 pub tied_same : (a b : PlainSemVer) → semver_cmp a b ≡ Equal → SameButMetadata a b
 tied_same a b tied =
     let minor = then_second _ _ tied in

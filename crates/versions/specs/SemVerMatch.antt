@@ -1,4 +1,4 @@
--- Which strict versions a tilde or a caret asks for, on the numbers major, minor and patch. Pre-releases aren't looked at.
+-- Which strict versions `~` or `^` matches, by the numbers major, minor and patch. Pre-releases do not count.
 use Rattle.std.specs.Prelude.{◌≡◌, ℕ, ◌<◌, ◌≤◌, ◌⊎◌, ◌==◌, ◌&&◌, Bool}
 use Rattle.std.specs.Bool.{MatchBool}
 use Rattle.versions.specs.SemVer.{PlainSemVer}
@@ -22,9 +22,8 @@ MatchesTilde wanted v = (wanted.0 ≡ v.0) × (wanted.1 ≡ v.1) × (wanted.2 �
 abbrev pub MatchesMinor : Numbers → Numbers → Type 0
 MatchesMinor wanted v = (wanted.1 ≡ v.1) × (wanted.2 ≤ v.2)
 
--- The first number that isn't 0 in both is equal, and what stands behind it isn't less: where both majors are 0, then,
--- where both minors are 0 too, the patches are equal, else the minors, with a patch that isn't less; where not both
--- majors are 0, they are equal, with a pair of minor and patch that isn't less.
+-- If both majors and both minors are 0: equal patches. Else if both majors are 0: equal minors, and a patch that isn't
+-- less. Otherwise: equal majors, and a pair of minor and patch that isn't less.
 abbrev pub MatchesCaret : Numbers → Numbers → Type 0
 MatchesCaret wanted v =
     MatchBool (both_zero wanted.0 v.0)

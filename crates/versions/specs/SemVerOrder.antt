@@ -6,7 +6,8 @@ use Rattle.version_parts.specs.Lists.{none_last_cmp}
 use Rattle.version_parts.specs.ReleaseOrder.{release_cmp}
 use Rattle.versions.specs.SemVer.{PlainSemVer}
 
--- two strict versions: major, minor and patch by value, then a pre-release below none; metadata isn't looked at
+-- two strict versions: major, minor and patch by value, then the pre-releases, no pre-release last; metadata does not
+-- count
 abbrev pub semver_cmp : PlainSemVer → PlainSemVer → Ordering
 semver_cmp =
     then_cmp (on (λ (v : PlainSemVer). v.major) nat_cmp)
@@ -14,7 +15,7 @@ semver_cmp =
     (then_cmp (on (λ (v : PlainSemVer). v.patch) nat_cmp)
     (on (λ (v : PlainSemVer). v.pre_rel) (none_last_cmp release_cmp))))
 
--- two strict versions are the same in every field but the metadata
+-- two strict versions are the same in every field except metadata
 pub record SameButMetadata (a b : PlainSemVer) : Type 0 where
   pub major : a.major ≡ b.major
   pub minor : a.minor ≡ b.minor

@@ -1,4 +1,4 @@
--- What a key holds behind its body, how two such tails compare, and their bytes.
+-- What a key holds after its body, how two such tails compare, and their bytes.
 use Rattle.std.specs.Prelude.{ℕ, List, [], ◌∷◌, Option, Some, None}
 use Rattle.std.specs.Cmp.Lexicographic.{slice_cmp}
 use Rattle.std.specs.Ordering.{nat_cmp, on, then_cmp}
@@ -9,7 +9,7 @@ use Rattle.version_parts.specs.Codes.{list_bytes}
 use Rattle.version_parts.specs.PartKey.{PartKey, list_cmp, parts_bytes}
 use Rattle.version_parts.specs.ReleaseOrder.{release_bytes, release_cmp}
 
--- a strict pre-release, nothing, a general release, or further messy sections, of which there is a first
+-- a strict pre-release, nothing, a general release, or further messy sections, at least one
 pub data Tail : Type 0 where
   PreReleased : List PlainChunk → Tail
   Bare : Tail
@@ -23,7 +23,7 @@ tail_rank Bare = 2
 tail_rank (Released chunks) = 3
 tail_rank (Sections first more) = 4
 
--- two lists of sections: section by section, fewer first
+-- two lists of sections: section by section, a prefix first
 abbrev pub sections_cmp : List (List PartKey) → List (List PartKey) → Ordering
 sections_cmp = slice_cmp list_cmp
 

@@ -1,4 +1,5 @@
--- The texts that keys hold and that versions print, byte after byte. What no key holds is left out: metadata and signs.
+-- The texts that keys hold and that versions print, one after another. Metadata and signs are left out, as no key holds
+-- them.
 use Rattle.std.specs.Prelude.{ℕ, List, [], ◌∷◌, ◌++◌}
 use Rattle.std.specs.List.{flat_map}
 use Rattle.std.specs.Option.{option_map_or}

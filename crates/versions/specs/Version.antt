@@ -19,7 +19,7 @@ use Rattle.versions.specs.SemVer.{optional_text}
 use Rattle.versions.specs.declared.version.VersionRef.{VersionRef}
 use Rattle.versions.specs.declared.version.Version.{Version}
 
--- a general version, apart from where its texts lie
+-- a general version as plain data
 pub record PlainVersion : Type 0 where
   pub epoch : Option ℕ
   pub chunks : List PlainChunk
@@ -37,7 +37,7 @@ plain_version v = record {
   meta = option_map string_bytes v.meta;
 }
 
--- the version that was scanned
+-- the version that a scanned value holds
 abbrev pub plain_version_ref : VersionRef → PlainVersion
 plain_version_ref p = record {
   epoch = p.epoch;
@@ -47,13 +47,13 @@ plain_version_ref p = record {
   meta = option_map (λ text. text.now) p.meta;
 }
 
--- a numeral and a colon behind it, or nothing at all
+-- a numeral and a colon after it, or nothing at all
 unfoldable pub SpellsEpoch : List ℕ → Option ℕ → Type 0
 SpellsEpoch text None = text ≡ []
 SpellsEpoch text (Some n) = (numeral : List ℕ) × (text ≡ numeral ++ colon ∷ []) × SpellsNumeral numeral n
 
--- The text spells the version: an epoch or none, a body, then a release behind a hyphen or none, then metadata behind
--- a plus or none.
+-- The text spells the version: perhaps an epoch, then a body, then perhaps a hyphen and a release, then perhaps a plus
+-- and metadata.
 pub record SpellsVersion (text : List ℕ) (v : PlainVersion) : Type 0 where
   pub epoch : List ℕ
   pub body : List ℕ
@@ -65,14 +65,14 @@ pub record SpellsVersion (text : List ℕ) (v : PlainVersion) : Type 0 where
   pub release_is : SpellsOptional hyphen SpellsRelease release v.release
   pub meta_is : SpellsOptional plus SpellsMetadata meta v.meta
 
--- a number and the colon behind it
+-- a number and the colon after it
 unfoldable pub epoch_front : Front ℕ
 epoch_front text = do
   number ← unsigned_front text
   rest ← after_mark colon number.1
   Some (number.0, rest)
 
--- an epoch if one can be read, a body, and then a release and metadata as far as they can be read
+-- an epoch if one parses, a body, then a release and metadata if they parse
 unfoldable pub version_front : Front PlainVersion
 version_front text = do
   let epoch = optional epoch_front text
@@ -81,11 +81,11 @@ version_front text = do
   let meta = optional meta_front release.1
   Some (record { epoch = epoch.0; chunks = body.0.0; last = body.0.1; release = release.0; meta = meta.0 }, meta.1)
 
--- the general version that the whole text spells, where it spells one
+-- the general version that the whole text parses as, or None
 unfoldable pub version_of : List ℕ → Option PlainVersion
 version_of text = whole (version_front text)
 
--- the epoch with a colon behind it, or nothing
+-- the epoch and a colon, or nothing
 abbrev pub epoch_text : Option ℕ → List ℕ
 epoch_text None = []
 epoch_text (Some n) = decimal n ++ colon ∷ []
@@ -95,11 +95,11 @@ epoch_text (Some n) = decimal n ++ colon ∷ []
 abbrev pub version_text : PlainVersion → List ℕ
 version_text v = epoch_text v.epoch ++ (body_text (v.chunks, v.last) ++ (optional_text hyphen release_text v.release ++ optional_text plus (λ text. text) v.meta))
 
--- a version of more than numbers owns memory: its epoch and its last part may be numbers, and there is nothing else
+-- a version owns memory unless it is one number, with or without an epoch
 abbrev pub VersionOwns : PlainVersion → Type 0
 VersionOwns v = BodyOwns (v.chunks, v.last) ⊎ (IsSome v.release ⊎ IsSome v.meta)
 
--- the number at a place of the body: a chunk that is a number, or the number that the last part begins with
+-- the number at a place of the body: a chunk that is a number, or the first number of the last part
 abbrev pub version_nth : PlainVersion → ℕ → Option ℕ
 version_nth v n = if n == length v.chunks then first_number v.last else option_and_then number_of (slice_get v.chunks n)
 

@@ -1,4 +1,4 @@
--- Which general versions a tilde or a caret asks for, on epochs and lists of parts. Releases and metadata aren't looked at.
+-- Which general versions `~` or `^` matches, by epochs and lists of parts. Releases and metadata do not count.
 use Rattle.std.specs.Prelude.{◌≡◌, ⊤, ℕ, Bool, true, false, zero, List, [], ◌∷◌, ◌++◌, Some, None}
 use Rattle.std.specs.Bool.{MatchBool}
 use Rattle.std.specs.declared.cmp.Ordering.TheVariants.{Less}
@@ -6,18 +6,18 @@ use Rattle.version_parts.specs.PartKey.{PartKey, Number, part_cmp}
 use Rattle.versions.specs.Key.{key_of_version}
 use Rattle.versions.specs.Version.{PlainVersion}
 
--- the epoch of a version, none being 0, and its parts: its chunks, and its last part behind them
+-- the epoch of a version, or 0 without one, and its parts: its chunks, then its last part
 abbrev pub EpochAndParts : Type 0
 EpochAndParts = ℕ × List PartKey
 
 abbrev pub epoch_and_parts : PlainVersion → EpochAndParts
 epoch_and_parts v = ((key_of_version v).epoch, (key_of_version v).body)
 
--- a part isn't below the one that is wanted
+-- a part isn't before the wanted one
 abbrev pub IsNotBelow : PartKey → PartKey → Type 0
 IsNotBelow wanted part = ¬ (part_cmp (Some part) (Some wanted) ≡ Less)
 
--- Equally many parts: all but the final ones are the same, and the final one isn't below the wanted one.
+-- Equally many parts: all but the last are the same, and the last isn't before the wanted one.
 pub record PartsMatchTilde (wanted parts : List PartKey) : Type 0 where
   pub before : List PartKey
   pub wanted_final : PartKey
@@ -26,7 +26,7 @@ pub record PartsMatchTilde (wanted parts : List PartKey) : Type 0 where
   pub whole : parts ≡ before ++ final ∷ []
   pub not_below : IsNotBelow wanted_final final
 
--- each wanted part has one at its place that isn't below it; further parts are free
+-- each wanted part has a part at its place that isn't before it; more parts may follow
 abbrev pub PartsNotBelow : List PartKey → List PartKey → Type 0
 PartsNotBelow [] parts = ⊤
 PartsNotBelow (w ∷ wanted) [] = ⊥
@@ -37,8 +37,8 @@ abbrev pub is_plain_zero : PartKey → Bool
 is_plain_zero (Number zero None) = true
 is_plain_zero part = false
 
--- Each wanted part has one at its place: the same for the plain zeros in front and for the first other part, and for each
--- part behind that one that isn't below it. Further parts are free.
+-- Each wanted part has a part at its place: the same for the leading plain zeros and for the first other part, then
+-- parts that aren't before the wanted ones. More parts may follow.
 abbrev pub PartsMatchCaret : List PartKey → List PartKey → Type 0
 PartsMatchCaret [] parts = ⊤
 PartsMatchCaret (w ∷ wanted) [] = ⊥

@@ -1,4 +1,4 @@
--- The plain order of general versions: fields in the order of their declaration, none before some.
+-- The plain order of general versions: fields in the order of their declaration, None before Some.
 use Rattle.std.specs.Option.{option_cmp}
 use Rattle.std.specs.Ordering.{nat_cmp, on, then_cmp}
 use Rattle.std.specs.declared.cmp.Ordering.{Ordering}

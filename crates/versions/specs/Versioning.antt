@@ -25,17 +25,17 @@ plain_versioning (owned.Ideal v) = Ideal (plain_semver v)
 plain_versioning (owned.General v) = General (plain_version v)
 plain_versioning (owned.Complex m) = Complex (plain_mess m)
 
--- The text spells the version: the first of the strict, general and messy grammars that holds it.
+-- The text spells the version: by the first of the strict, general and messy grammars that matches it.
 abbrev pub SpellsVersioning : List ℕ → PlainVersioning → Type 0
 SpellsVersioning text (Ideal v) = SpellsSemVer text v
 SpellsVersioning text (General v) = SpellsVersion text v × ((w : PlainSemVer) → ¬ (SpellsSemVer text w))
 SpellsVersioning text (Complex m) = SpellsMess text m × ((v : PlainVersion) → ¬ (SpellsVersion text v)) × ((w : PlainSemVer) → ¬ (SpellsSemVer text w))
 
--- the first of the strict, general and messy fronts that reads anything
+-- the prefix as a strict version, else as a general, else as a messy one
 abbrev pub versioning_front : Front PlainVersioning
 versioning_front text = option_or (map_value Ideal (semver_front text)) (option_or (map_value General (version_front text)) (map_value Complex (mess_front text)))
 
--- the version that the whole text spells, by the first kind that holds it
+-- the version that the whole text parses as, of the first kind that fits, or None
 abbrev pub versioning_of : List ℕ → Option PlainVersioning
 versioning_of text = option_or (option_map Ideal (semver_of text)) (option_or (option_map General (version_of text)) (option_map Complex (mess_of text)))
 
@@ -45,7 +45,7 @@ versioning_text (Ideal v) = semver_text v
 versioning_text (General v) = version_text v
 versioning_text (Complex m) = mess_text m
 
--- a version that owns memory; a messy one that was read has chunks, which do
+-- a version that owns memory; a parsed messy one does, since it has chunks
 abbrev pub VersioningOwns : PlainVersioning → Type 0
 VersioningOwns (Ideal v) = SemVerOwns v
 VersioningOwns (General v) = VersionOwns v
@@ -68,7 +68,7 @@ is_complex _ = false
 abbrev pub semver_nth : PlainSemVer → ℕ → Option ℕ
 semver_nth v n = if n == 0 then Some v.major else (if n == 1 then Some v.minor else (if n == 2 then Some v.patch else None))
 
--- the number at a place, as its kind counts
+-- the number at a place, by the rule of its kind
 abbrev pub versioning_nth : PlainVersioning → ℕ → Option ℕ
 versioning_nth (Ideal v) n = semver_nth v n
 versioning_nth (General v) n = version_nth v n
@@ -97,7 +97,7 @@ versioning_plain_cmp (General a) (General b) = version_plain_cmp a b
 versioning_plain_cmp (Complex a) (Complex b) = mess_plain_cmp a b
 versioning_plain_cmp a b = nat_cmp (kind_rank a) (kind_rank b)
 
--- two versions are the same, but for the metadata of strict ones
+-- two versions are the same, except for metadata of strict ones
 abbrev pub SameVersioning : PlainVersioning → PlainVersioning → Type 0
 SameVersioning (Ideal a) (Ideal b) = SameButMetadata a b
 SameVersioning (General a) (General b) = a ≡ b

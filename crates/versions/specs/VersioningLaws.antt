@@ -17,7 +17,7 @@ use Rattle.versions.specs.VersionLaws.{version_plain_total, versions_same}
 use Rattle.versions.specs.VersionOrder.{version_plain_cmp}
 use Rattle.versions.specs.Versioning.{PlainVersioning, Ideal, General, Complex, kind_rank, versioning_fed, versioning_plain_cmp}
 
--- a version of each kind, where it is of that kind
+-- the version of a kind, if it is of that kind
 ideal_part : PlainVersioning → Option PlainSemVer
 ideal_part (Ideal v) = Some v
 ideal_part (General v) = None

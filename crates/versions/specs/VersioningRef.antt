@@ -1,4 +1,4 @@
--- The version of any kind that was scanned.
+-- The version of any kind that a scanned value holds.
 use Rattle.versions.specs.Mess as mess
 use Rattle.versions.specs.SemVer as semver
 use Rattle.versions.specs.Version as version

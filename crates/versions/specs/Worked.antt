@@ -15,7 +15,7 @@ use Rattle.versions.specs.Versioning.{PlainVersioning, Ideal, General, Complex}
 abbrev pub strict_version : Option (List PlainChunk) → Option (List ℕ) → PlainSemVer
 strict_version pre_rel meta = record { major = 1; minor = 2; patch = 3; pre_rel = pre_rel; meta = meta }
 
--- a general version of a last part alone
+-- a general version with only a last part
 abbrev pub last_alone : PlainLast → PlainVersioning
 last_alone part = General (record { epoch = None; chunks = []; last = part; release = None; meta = None })
 
@@ -43,7 +43,7 @@ pub record WorkedKeys : Type 0 where
   -- general `2.a1.0`
   pub general_chunks : key_bytes (key_of (General (record { epoch = None; chunks = chunk.Numeric 2 ∷ chunk.Alphanum (codes "a1") ∷ []; last = last.Numeric 0; release = None; meta = None })))
       ≡ 0x00 ∷ 0x03 ∷ 0x01 ∷ 0x32 ∷ 0x02 ∷ 0x01 ∷ 0x61 ∷ 0x00 ∷ 0x01 ∷ 0x01 ∷ 0x31 ∷ 0x00 ∷ 0x03 ∷ 0x00 ∷ 0x02 ∷ 0x02 ∷ 0x02 ∷ []
-  -- a general version whose last part, `Numeric(0)`, is all of it
+  -- a general version with only the last part `Numeric(0)`
   pub number_zero : key_bytes (key_of (last_alone (last.Numeric 0)))
       ≡ 0x00 ∷ 0x03 ∷ 0x00 ∷ 0x02 ∷ 0x02 ∷ 0x02 ∷ []
   -- the same with `Alphanum` of the bytes 00 61
@@ -88,12 +88,12 @@ pub record WorkedKeys : Type 0 where
   -- messy `1_2`: no epoch without a colon
   pub messy_no_colon : key_bytes (key_of (mess_of (codes "1" ∷ []) ((Underscore, codes "2" ∷ []) ∷ [])))
       ≡ 0x00 ∷ 0x03 ∷ 0x01 ∷ 0x31 ∷ 0x02 ∷ 0x02 ∷ 0x04 ∷ 0x02 ∷ 0x03 ∷ 0x01 ∷ 0x32 ∷ 0x02 ∷ 0x02 ∷ 0x01 ∷ []
-  -- messy `1.2:3`: nor from two chunks
+  -- messy `1.2:3`: no epoch of two chunks
   pub messy_two_chunks : key_bytes (key_of (mess_of (codes "1" ∷ codes "2" ∷ []) ((Colon, codes "3" ∷ []) ∷ [])))
       ≡ 0x00 ∷ 0x03 ∷ 0x01 ∷ 0x31 ∷ 0x02 ∷ 0x03 ∷ 0x01 ∷ 0x32 ∷ 0x02 ∷ 0x02 ∷ 0x04 ∷ 0x02 ∷ 0x03 ∷ 0x01 ∷ 0x33 ∷ 0x02 ∷ 0x02 ∷ 0x01 ∷ []
-  -- messy `r1:2`: nor from a chunk that is not all digits
+  -- messy `r1:2`: no epoch of a chunk that is not all digits
   pub messy_word : key_bytes (key_of (mess_of (codes "r1" ∷ []) ((Colon, codes "2" ∷ []) ∷ [])))
       ≡ 0x00 ∷ 0x01 ∷ 0x72 ∷ 0x00 ∷ 0x01 ∷ 0x01 ∷ 0x31 ∷ 0x00 ∷ 0x02 ∷ 0x04 ∷ 0x02 ∷ 0x03 ∷ 0x01 ∷ 0x32 ∷ 0x02 ∷ 0x02 ∷ 0x01 ∷ []
-  -- messy `:2`, its first chunk empty: nor from no digits
+  -- messy `:2`, its first chunk empty: no epoch without digits
   pub messy_no_text : key_bytes (key_of (mess_of ([] ∷ []) ((Colon, codes "2" ∷ []) ∷ [])))
       ≡ 0x00 ∷ 0x01 ∷ 0x00 ∷ 0x00 ∷ 0x02 ∷ 0x04 ∷ 0x02 ∷ 0x03 ∷ 0x01 ∷ 0x32 ∷ 0x02 ∷ 0x02 ∷ 0x01 ∷ []

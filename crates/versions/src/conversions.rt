@@ -1,4 +1,4 @@
-//! Versions as ones of a more lenient kind.
+//! Conversions of versions to a more lenient kind.
 
 ghost use Rattle.std.specs.Prelude.{◌≡◌, ◌<◌, ◌^◌, ◌∷◌, [], ◌++◌, if◌then◌else◌, map, string_bytes, IfOk, IfSome};
 ghost use Rattle.std.specs.Option.{is_some, option_map};
@@ -21,12 +21,12 @@ use std::alloc::{AllocError, Global};
 use version_parts::{Chunk, Chunks, Last, MChunk, Release, Sep};
 
 impl SemVer {
-    /// The general version with the same numbers, release and metadata: the first two numbers are its chunks, the
-    /// third its last part. The error is that there is no memory for it.
+    /// Returns the general version with the same numbers, release and metadata. The first two numbers are its chunks,
+    /// the third its last part. `Err` means allocation failure.
     pub fn to_version(&self, alloc: Global) -> Result<Version, AllocError>
         ensures fields { IfOk result (λ v. plain_version v
             ≡ version_of_semver (plain_semver self.now)) }
-        // In precedence it is Equal to this one without a pre-release, and else above it.
+        // Without a pre-release it ties with this version in precedence; otherwise it comes after.
         ensures precedence { IfOk result (λ v. precedence (key_of_semver (plain_semver self.now))
             (key_of_version (plain_version v))
             ≡ (if is_some (plain_semver self.now).pre_rel then Less else Equal)) }
@@ -35,13 +35,13 @@ impl SemVer {
         widen(alloc, self)
     }
 
-    /// The messy version that prints the same: the three numbers as digits, the release behind a hyphen, the metadata
-    /// as one text behind a plus. The error is that there is no memory for it.
+    /// Returns the messy version that prints the same text. The three numbers become digits, the release a section
+    /// after a hyphen, and the metadata one text after a plus. `Err` means allocation failure.
     pub fn to_mess(&self, alloc: Global) -> Result<Mess, AllocError>
         ensures fields { IfOk result (λ m. plain_mess m ≡ mess_of_semver (plain_semver self.now)) }
         ensures printed { IfOk result (λ m. mess_text (plain_mess m)
             ≡ semver_text (plain_semver self.now)) }
-        // In precedence it is Equal to this one without a pre-release and metadata, and else above it.
+        // Without a pre-release and metadata it ties with this version in precedence; otherwise it comes after.
         ensures precedence { IfOk result (λ m.
             precedence (key_of_semver (plain_semver self.now)) (key_of_mess (plain_mess m))
             ≡ below_sections (plain_semver self.now).pre_rel (plain_semver self.now).meta) }
@@ -52,15 +52,15 @@ impl SemVer {
 }
 
 impl Version {
-    /// The messy version that prints the same: an epoch as a section of its own before a colon, the chunks and the last
-    /// part, the release behind a hyphen, the metadata as one text behind a plus. A number is digits, anything else its
-    /// printed text. The error is that there is no memory for it.
+    /// Returns the messy version that prints the same text. An epoch becomes a section before a colon; the chunks and
+    /// the last part the next section; the release a section after a hyphen; the metadata one text after a plus. A
+    /// number becomes digits, any other part its printed text. `Err` means allocation failure.
     pub fn to_mess(&self, alloc: Global) -> Result<Mess, AllocError>
         ensures fields { IfOk result (λ m. plain_mess m
             ≡ mess_of_version (plain_version self.now)) }
         ensures printed { IfOk result (λ m. mess_text (plain_mess m)
             ≡ version_text (plain_version self.now)) }
-        // In precedence it is Equal to this one without a release and metadata, and else above it.
+        // Without a release and metadata it ties with this version in precedence; otherwise it comes after.
         ensures precedence { IfOk result (λ m.
             precedence (key_of_version (plain_version self.now)) (key_of_mess (plain_mess m))
             ≡ below_sections (plain_version self.now).release (plain_version self.now).meta) }
@@ -70,7 +70,7 @@ impl Version {
     }
 }
 
-// A strict version as a general one.
+// Returns a strict version as a general one.
 fn widen(alloc: Global, v: &SemVer) -> Result<Version, AllocError>
     ensures { IfOk result (λ general. plain_version general
         ≡ version_of_semver (plain_semver v.now)) }
@@ -106,7 +106,7 @@ fn convert_general(alloc: Global, v: &Version) -> Result<Mess, AllocError>
     join(alloc, v.epoch, body, &v.release, &v.meta)
 }
 
-// The body with the epoch before it, and the release and the metadata behind it.
+// Joins an epoch, a body, a release and metadata.
 fn join(
     alloc: Global,
     epoch: Option<u32>,
@@ -137,7 +137,7 @@ fn join(
     link(alloc, first, more)
 }
 
-// A section of one chunk.
+// Returns a section of one chunk.
 fn alone(alloc: Global, chunk: MChunk) -> Result<Vec<MChunk>, AllocError>
     ensures { IfOk result (λ section. plain_section section ≡ plain_mchunk chunk ∷ []) }
 {
@@ -146,7 +146,7 @@ fn alone(alloc: Global, chunk: MChunk) -> Result<Vec<MChunk>, AllocError>
     Ok(section)
 }
 
-// A section of chunks, in a list of that capacity.
+// Returns a section of these chunks, in a list with this capacity.
 fn chunk_section(
     alloc: Global,
     chunks: &[Chunk],
@@ -180,14 +180,14 @@ fn last_chunk(alloc: Global, last: &Last) -> Result<MChunk, AllocError>
     }
 }
 
-// A number as digits.
+// Returns a number as digits.
 fn digits(alloc: Global, number: u32) -> Result<MChunk, AllocError>
     ensures { IfOk result (λ messy. plain_mchunk messy ≡ digits_of_number number) }
 {
     Ok(MChunk::Digits(number, number.to_string(alloc)?))
 }
 
-// What the laws of keys ask of a version's numbers: that they are below 2 ^ 32.
+// Shows what the laws of keys need: the numbers are below 2 ^ 32.
 fn numbers_fit(v: &SemVer)
     ensures { (v.now.major < 2 ^ 32) × (v.now.minor < 2 ^ 32) × (v.now.patch < 2 ^ 32) }
 {

@@ -1,29 +1,29 @@
-//! Why a text is not read.
+//! Errors of the calls that parse.
 
 ghost use Rattle.std.specs.Prelude.{◌≡◌, string_bytes, IfErr, IfNone, IfOk, IsErrAnd, IsSome, MatchOption, Ok, Some};
 
 use std::alloc::{AllocError, Global};
 use std::fmt;
 
-/// A text that spells no value of the type that was asked for. Each variant holds the whole text.
+/// The error for a text that does not parse as the wanted type. Each variant holds the whole text.
 #[derive(Debug, Drop, thiserror::Error)]
 pub enum Error {
-    /// No strict version.
+    /// The text is not a strict version.
     IllegalSemver(String),
-    /// No general version.
+    /// The text is not a general version.
     IllegalVersion(String),
-    /// No messy version.
+    /// The text is not a messy version.
     IllegalMess(String),
-    /// No version of any kind.
+    /// The text is not a version of any kind.
     IllegalVersioning(String),
-    /// No requirement, or no list of requirements.
+    /// The text is not a requirement, or not a list of requirements.
     IllegalOp(String),
 }
 
 impl Error {
     ghost use Rattle.versions.specs.Errors.{plain_error};
 
-    /// A copy. The error is that there is no memory for it.
+    /// Returns a copy. `Err` means allocation failure.
     pub fn clone(&self, alloc: Global) -> Result<Error, AllocError>
         ensures { IfOk result (λ copy. plain_error copy ≡ plain_error self.now) }
     {
@@ -60,12 +60,12 @@ impl fmt::Display for Error {
     }
 }
 
-/// Why a call named `from_str` gives no value.
+/// The error of the calls named `from_str`.
 #[derive(Debug, Drop, thiserror::Error)]
 pub enum ReadError {
-    /// The text spells no value.
+    /// The text does not parse.
     Illegal(Error),
-    /// A request for memory was refused, for the value or for the text in the error.
+    /// An allocation failed, for the value or for the text in the error.
     Memory(AllocError),
 }
 
@@ -94,14 +94,14 @@ impl From<AllocError> for ReadError {
     }
 }
 
-/// Why a call that reads a JSON value gives no version and no requirement.
+/// The error of the calls that parse a JSON value as a version or requirement.
 #[derive(Debug, Drop, thiserror::Error)]
 pub enum JsonError {
-    /// The value is no string.
+    /// The value is not a string.
     NotText,
-    /// The string spells no value.
+    /// The string does not parse.
     Illegal(Error),
-    /// A request for memory was refused, for the value or for the text in the error.
+    /// An allocation failed, for the value or for the text in the error.
     Memory(AllocError),
 }
 

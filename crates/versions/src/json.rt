@@ -1,4 +1,4 @@
-//! Versions and requirements in JSON documents, where each is a string.
+//! Versions and requirements as strings of JSON documents.
 
 ghost use Rattle.std.specs.Prelude.{◌≡◌, IfOk, MatchResult, None};
 ghost use Rattle.serde_json.specs.Data.{string};
@@ -19,7 +19,7 @@ use serde_json::Value;
 use std::alloc::{AllocError, Global};
 
 impl Versioning {
-    /// The JSON string that holds the printed text. The error is that there is no memory for it.
+    /// Returns the printed text as a JSON string. `Err` means allocation failure.
     pub fn serialize_pretty(&self, alloc: Global) -> Result<Value, AllocError>
         ensures { IfOk result (λ value. view value
             ≡ string (versioning_text (plain_versioning self.now))) }
@@ -27,14 +27,14 @@ impl Versioning {
         Ok(Value::String(self.to_string(alloc)?))
     }
 
-    /// The version that a JSON string spells whole. `NotText` comes where the value is no string, which is looked at
-    /// first and takes no memory; `Illegal`, with `IllegalVersioning` and the string in it, where the string spells no
-    /// version; and `Memory` where there is no memory for the version or for that string.
+    /// Parses a JSON string as a version. Fails with `NotText` if the value is not a string; this does not allocate.
+    /// Fails with `Illegal` if the string is not a version: the error is `IllegalVersioning` with the string. Fails
+    /// with `Memory` if an allocation fails, for the version or for that string.
     pub fn deserialize_pretty(alloc: Global, value: &Value) -> Result<Versioning, JsonError>
         ensures read { ReadsJson plain_versioning VersioningOwns IllegalVersioning versioning_of result
             (as_str (view value.now)) }
 
-        // What was read is written as the string that it was read from.
+        // Writing the version gives the string that it was parsed from.
         ensures written { IfOk result (λ v. view value.now
             ≡ string (versioning_text (plain_versioning v))) }
     {
@@ -43,7 +43,7 @@ impl Versioning {
 }
 
 impl Requirement {
-    /// The JSON string that holds the printed text. The error is that there is no memory for it.
+    /// Returns the printed text as a JSON string. `Err` means allocation failure.
     pub fn serialize(&self, alloc: Global) -> Result<Value, AllocError>
         ensures { IfOk result (λ value. view value
             ≡ string (requirement_text (plain_requirement self.now))) }
@@ -51,14 +51,14 @@ impl Requirement {
         Ok(Value::String(self.to_string(alloc)?))
     }
 
-    /// The requirement that a JSON string spells whole. `NotText` comes where the value is no string, which is looked
-    /// at first and takes no memory; `Illegal`, with `IllegalOp` and the string in it, where the string spells no
-    /// requirement; and `Memory` where there is no memory for the requirement or for that string.
+    /// Parses a JSON string as a requirement. Fails with `NotText` if the value is not a string; this does not
+    /// allocate. Fails with `Illegal` if the string is not a requirement: the error is `IllegalOp` with the string.
+    /// Fails with `Memory` if an allocation fails, for the requirement or for that string.
     pub fn deserialize(alloc: Global, value: &Value) -> Result<Requirement, JsonError>
         ensures read { ReadsJson plain_requirement RequirementOwns IllegalOp requirement_of result
             (as_str (view value.now)) }
 
-        // What was read is written as the string that it was read from.
+        // Writing the requirement gives the string that it was parsed from.
         ensures written { IfOk result (λ r. view value.now
             ≡ string (requirement_text (plain_requirement r))) }
     {
@@ -67,7 +67,7 @@ impl Requirement {
 }
 
 impl Requirements {
-    /// The JSON string that holds the printed text. The error is that there is no memory for it.
+    /// Returns the printed text as a JSON string. `Err` means allocation failure.
     pub fn serialize(&self, alloc: Global) -> Result<Value, AllocError>
         ensures { IfOk result (λ value. view value
             ≡ string (requirements_text (plain_requirements self.now))) }
@@ -75,14 +75,14 @@ impl Requirements {
         Ok(Value::String(self.to_string(alloc)?))
     }
 
-    /// The list that a JSON string spells whole. `NotText` comes where the value is no string, which is looked at first
-    /// and takes no memory; `Illegal`, with `IllegalOp` and the string in it, where the string spells no list; and
-    /// `Memory` where there is no memory for the list or for that string.
+    /// Parses a JSON string as a list of requirements. Fails with `NotText` if the value is not a string; this does not
+    /// allocate. Fails with `Illegal` if the string is not a list: the error is `IllegalOp` with the string. Fails with
+    /// `Memory` if an allocation fails, for the list or for that string.
     pub fn deserialize(alloc: Global, value: &Value) -> Result<Requirements, JsonError>
         ensures read { ReadsJson plain_requirements
             (λ _. Unit {0}) IllegalOp requirements_of result (as_str (view value.now)) }
 
-        // What was read is written as the string that it was read from.
+        // Writing the list gives the string that it was parsed from.
         ensures written { IfOk result (λ list. view value.now
             ≡ string (requirements_text (plain_requirements list))) }
     {
@@ -90,7 +90,7 @@ impl Requirements {
     }
 }
 
-// The string that a JSON value is.
+// Returns the text of a JSON string, or `NotText` for another value.
 fn text_of(value: &Value) -> Result<&str, JsonError>
     ensures { MatchResult result (λ text. view value.now ≡ string text.now)
         (λ e. (e ≡ NotText) × (as_str (view value.now) ≡ None)) }

@@ -43,13 +43,13 @@ use version_parts::key::{ListLeft, PieceBytes};
 use version_parts::scan::{after_mark, is_all_digits};
 use version_parts::{MChunk, MessyChunk, Release, ReleaseChunk, ReleaseRef, SectionRef, Sep};
 
-// How many bytes of a key are made room for at first: as many as three numbers and a short pre-release need.
+// The bytes reserved for a key at first: enough for three numbers and a short pre-release.
 const CAPACITY: usize = 32;
 
-/// The bytes of the key of a version, seen as those that are still to come: of its epoch, of the parts of its body, and
-/// of its tail. They order as the keys do, and `compare_bytes` compares two of them. One piece is begun; those behind it
-/// are made when it is their turn, off a value or off the text that spells it. It takes no memory, and all bytes
-/// together take time that grows with the version's text.
+/// The bytes of the key of a version that are still to come: of its epoch, of the parts of its body, and of its tail.
+/// They compare as the keys do, and `compare_bytes` compares two of them. Only the current piece is made; each further
+/// piece is made in turn, from a value or its text. Doesn't allocate. All bytes together take time linear in the
+/// version's text.
 #[derive(Drop)]
 pub struct KeyBytes<'a> {
     piece: PieceBytes<'a>,
@@ -67,15 +67,15 @@ impl<'a> Model for KeyBytes<'a> {
 }
 
 impl<'a> KeyBytes<'a> {
-    /// The bytes of the key of the version that the whole text spells, of the first kind that holds it; None where it
-    /// spells none. No version is built. Takes no memory.
+    /// Returns the bytes of the key of the version that the whole text parses as, or None if it is not a version.
+    /// Doesn't build an owned version, and doesn't allocate.
     pub fn spelled_by(s: &'a str) -> Option<KeyBytes<'a>>
         ensures { result ≡ option_map (λ v. key_bytes (key_of v)) (versioning_of s.now) }
     {
         Some(VersioningRef::new(s)?.key_bytes())
     }
 
-    // The bytes of the key of a version of any kind.
+    // Returns the bytes of the key of a version of any kind.
     #[inline(always)]
     pub(crate) fn of(version: &'a Versioning) -> KeyBytes<'a>
         ensures { result ≡ key_bytes (key_of (plain_versioning version.now)) }
@@ -87,7 +87,7 @@ impl<'a> KeyBytes<'a> {
         }
     }
 
-    // The bytes of the key of a strict version.
+    // Returns the bytes of the key of a strict version.
     #[tactic(auto, using(crate::proofs::Tail::pre_release_written))]
     #[inline(always)]
     fn of_semver(ideal: &'a SemVer) -> KeyBytes<'a>
@@ -97,7 +97,7 @@ impl<'a> KeyBytes<'a> {
         KeyBytes::strict(ideal.major, ideal.minor, ideal.patch, chunks)
     }
 
-    // The bytes of the key of a strict version that was scanned.
+    // Returns the bytes of the key of a scanned strict version.
     #[tactic(auto, using(crate::proofs::Tail::pre_release_written))]
     #[inline(always)]
     pub(crate) fn of_semver_ref(ideal: &semver::SemVerRef<'a>) -> KeyBytes<'a>
@@ -107,7 +107,7 @@ impl<'a> KeyBytes<'a> {
         KeyBytes::strict(ideal.major, ideal.minor, ideal.patch, chunks)
     }
 
-    // The bytes of the key of a general version.
+    // Returns the bytes of the key of a general version.
     #[tactic(auto, using(crate::proofs::Tail::release_written))]
     #[inline(always)]
     pub(crate) fn of_version(general: &'a Version) -> KeyBytes<'a>
@@ -117,7 +117,7 @@ impl<'a> KeyBytes<'a> {
         KeyBytes::general(general.epoch, parts, chunks_left(&general.release))
     }
 
-    // The bytes of the key of a general version that was scanned.
+    // Returns the bytes of the key of a scanned general version.
     #[tactic(auto, using(crate::proofs::Tail::release_written))]
     #[inline(always)]
     pub(crate) fn of_version_ref(general: &version::VersionRef<'a>) -> KeyBytes<'a>
@@ -127,7 +127,7 @@ impl<'a> KeyBytes<'a> {
         KeyBytes::general(general.epoch, parts, spelled_chunks_left(&general.release))
     }
 
-    // The bytes of the key of a messy version.
+    // Returns the bytes of the key of a messy version.
     #[inline(always)]
     pub(crate) fn of_mess(complex: &'a Mess) -> KeyBytes<'a>
         ensures { result ≡ key_bytes (key_of_mess (plain_mess complex.now)) }
@@ -140,7 +140,7 @@ impl<'a> KeyBytes<'a> {
         KeyBytes::messy(epoch, first, SectionsLeft::Built(sections))
     }
 
-    // The bytes of the key of a messy version that was scanned.
+    // Returns the bytes of the key of a scanned messy version.
     pub(crate) fn of_mess_ref(complex: &mess::MessRef<'a>) -> KeyBytes<'a>
         ensures { result ≡ key_bytes (key_of_mess (plain_mess_ref complex.now)) }
     {
@@ -152,7 +152,7 @@ impl<'a> KeyBytes<'a> {
         KeyBytes::messy(PieceBytes::number(0), complex.first.left(), further)
     }
 
-    // The bytes of a key: of three plain numbers, and of the chunks of a pre-release, if there is one.
+    // Returns the bytes of a key with three plain numbers, and the chunks of a pre-release, if there is one.
     #[inline(always)]
     fn strict(
         major: u32,
@@ -170,7 +170,7 @@ impl<'a> KeyBytes<'a> {
         }
     }
 
-    // The bytes of a key: of an epoch, of the parts of a body, and of the chunks of a release, if there is one.
+    // Returns the bytes of a key with an epoch, the parts of a body, and the chunks of a release, if there is one.
     #[inline(always)]
     fn general(
         epoch: Option<u32>,
@@ -187,7 +187,7 @@ impl<'a> KeyBytes<'a> {
         }
     }
 
-    // The bytes of a key: of an epoch, of a section, and of the sections after it.
+    // Returns the bytes of a key with an epoch, a section, and the sections after it.
     #[inline(always)]
     fn messy(
         epoch: PieceBytes<'a>,
@@ -204,8 +204,8 @@ impl<'a> KeyBytes<'a> {
         }
     }
 
-    /// Puts the bytes behind those of a list, so that many keys may lie in one block. The error is that there is no
-    /// memory for all of them; the list then has a beginning of them behind its own.
+    /// Appends the bytes to a list, so that one list can hold many keys. `Err` means allocation failure; the list then
+    /// ends with a prefix of the bytes.
     #[inline(always)]
     pub fn append_to(self, list: &mut Vec<u8>) -> Result<(), AllocError>
         ensures ok { OnOk result (list.new.items ≡ list.old.items ++ self.entry) }
@@ -223,7 +223,7 @@ impl<'a> KeyBytes<'a> {
         Ok(())
     }
 
-    // The bytes in a list. The error is that there is no memory for it.
+    // Returns the bytes as a list.
     #[inline(always)]
     fn into_vec(self, alloc: Global) -> Result<Vec<u8>, AllocError>
         ensures { IfOk result (λ list. list.items ≡ self.entry) }
@@ -234,7 +234,7 @@ impl<'a> KeyBytes<'a> {
     }
 }
 
-// The chunks of a release as they compare, if there is one.
+// Returns the chunks of a release for a key, if there is one.
 #[inline(always)]
 fn chunks_left(release: &Option<Release>) -> Option<ListLeft<'_, ReleaseChunk>>
     ensures { result ≡ option_map release_bytes (option_map plain_release release.now) }
@@ -245,7 +245,7 @@ fn chunks_left(release: &Option<Release>) -> Option<ListLeft<'_, ReleaseChunk>>
     }
 }
 
-// The chunks of a release that was scanned, if there is one.
+// Returns the chunks of a scanned release for a key, if there is one.
 #[inline(always)]
 fn spelled_chunks_left<'a>(release: &Option<ReleaseRef<'a>>) -> Option<ListLeft<'a, ReleaseChunk>>
     ensures { result ≡ option_map release_bytes release.now }
@@ -256,7 +256,7 @@ fn spelled_chunks_left<'a>(release: &Option<ReleaseRef<'a>>) -> Option<ListLeft<
     }
 }
 
-// Makes a piece the next of the list begun, or else of the tail, which may begin a list, where there is one.
+// Sets the piece to the next of the current list, else to the next of the tail. Returns false if nothing is left.
 fn next_piece<'a>(
     list: &mut CurrentList<'a>,
     tail: &mut TailLeft<'a>,
@@ -268,7 +268,7 @@ fn next_piece<'a>(
     list.next_piece(piece) || begin_tail(list, tail, piece)
 }
 
-// Makes a piece the next of the tail, which may begin a list, where there is one.
+// Sets the piece to the next of the tail, which may begin a list. Returns false if nothing is left.
 fn begin_tail<'a>(
     list: &mut CurrentList<'a>,
     tail: &mut TailLeft<'a>,
@@ -301,7 +301,7 @@ fn begin_tail<'a>(
     true
 }
 
-// The digits of the epoch, where the first section is one, and the version behind it.
+// Returns the digits of the epoch, and the version after it, if the version has an epoch.
 fn epoch_of(mess: &Mess) -> Option<(&str, &Mess)>
     ensures some { IfSome result (λ r. key_of_mess (plain_mess mess.now)
         ≡ key_with_epoch (run_value r.0.now) (plain_mess r.1.now)) }
@@ -315,7 +315,7 @@ fn epoch_of(mess: &Mess) -> Option<(&str, &Mess)>
     }
 }
 
-// The digits that a section is, where it is one chunk of digits.
+// Returns the digits of a section that is one chunk of digits.
 fn digits_of(section: &[MChunk]) -> Option<&str>
     ensures { option_map (λ digits. run_value digits.now) result
         ≡ section_epoch (map plain_mchunk section.now) }
@@ -326,7 +326,7 @@ fn digits_of(section: &[MChunk]) -> Option<&str>
     }
 }
 
-// The digits of the epoch, where a first section is one and a colon follows, the section behind it, and the rest.
+// Returns the digits of the epoch, the section after it, and the rest, if the first section is an epoch.
 #[tactic(auto, using(crate::proofs::SpelledKey::epoch_spelled))]
 fn spelled_epoch<'a>(
     first: &SectionRef<'a>,
@@ -363,7 +363,7 @@ impl<'a> Iterator for KeyBytes<'a> {
     }
 }
 
-// The bytes of the key of a version of any kind, in a list. The error is that there is no memory for it.
+// Returns the bytes of the key of a version of any kind as a list.
 pub(crate) fn key_list(alloc: Global, version: &Versioning) -> Result<Vec<u8>, AllocError>
     ensures { IfOk result (λ list. list.items ≡ key_bytes (key_of (plain_versioning version.now))) }
 {
@@ -374,9 +374,8 @@ pub(crate) fn key_list(alloc: Global, version: &Versioning) -> Result<Vec<u8>, A
     }
 }
 
-/// How two keys compare, as the precedence of their versions: by the first byte at which they differ. What both pieces
-/// begin with alike is passed at once, so it is quicker than `compare_bytes`, which takes any two streams. Takes no
-/// memory.
+/// Compares two keys byte by byte, as precedence compares their versions. It skips at once what both current pieces
+/// have in common, so it is faster than `compare_bytes`, which compares any two streams. Doesn't allocate.
 #[inline(always)]
 pub fn compare_keys(mut a: KeyBytes<'_>, mut b: KeyBytes<'_>) -> Ordering
     ensures { result ≡ bytes_cmp a.entry b.entry }

@@ -7,19 +7,19 @@ ghost use Rattle.versions.specs.Versioning.{versioning_of};
 
 use crate::versioning_ref::VersioningRef;
 
-/// The kind of a version: the first of the three whose grammar holds its text.
+/// The kind of a version: the first of the three whose grammar matches the whole text.
 #[derive(Clone, Copy, Debug, PartialEq, Eq, PartialOrd, Ord, Hash)]
 pub enum Kind {
-    /// Strict, as `1.2.3-rc.1`.
+    /// Strict, such as `1.2.3-rc.1`.
     Ideal,
-    /// General, as `1:2.0rc1-3`.
+    /// General, such as `1:2.0rc1-3`.
     General,
-    /// Messy, as `10.2+0.93+1-1`.
+    /// Messy, such as `10.2+0.93+1-1`.
     Complex,
 }
 
 impl Kind {
-    /// The kind of the version that the whole text spells, or None where it spells none. Takes no memory.
+    /// Returns the kind of the version that the whole text parses as, or None if it is not a version. Doesn't allocate.
     pub fn of(text: &str) -> Option<Kind>
         ensures { result ≡ option_map versioning_kind (versioning_of text.now) }
     {

@@ -1,4 +1,4 @@
-//! Laws of the definitions that the contracts cite, each the contract of a function that does nothing.
+//! Laws of the definitions that contracts cite. Each is the contract of a function that does nothing.
 
 mod grammar;
 mod matching;

@@ -1,14 +1,15 @@
-//! Version numbers, read, printed and ordered.
+//! Parses, prints, orders and matches version numbers.
 //!
-//! A strict version (`SemVer`) is `major.minor.patch` with a pre-release and build metadata, as in `1.2.3-rc.1+x86`.
-//! A general version (`Version`) is what most packages carry: parts joined by dots, perhaps with an epoch before them,
-//! a release and metadata, as in `1:2.0rc1-3`. A messy version (`Mess`) is whatever else is made of letters, digits and
-//! single signs, as `10.2+0.93+1-1`. A `Versioning` is the first of these that fits. A `Requirement`, as `^1.2.3`, asks
-//! for versions, and a list of them, a `Requirements`, for those that each member asks for. A `VersioningRef` is a version
-//! that stays in its text: its kind, order, key and numbers are read there, without memory.
+//! A strict version (`SemVer`) is `major.minor.patch`, then perhaps a pre-release and build metadata, as in
+//! `1.2.3-rc.1+x86`. A general version (`Version`) is what most packages have: parts with dots between, perhaps with an
+//! epoch, a release and metadata, as in `1:2.0rc1-3`. A messy version (`Mess`) is runs of letters and digits with dots
+//! and single signs between, as in `10.2+0.93+1-1`. A `Versioning` is the first of these that fits. A `Requirement`,
+//! such as `^1.2.3`, matches versions. A list of them, a `Requirements`, matches the versions that each member matches.
+//! A `VersioningRef` borrows a version from its text: it gives the kind, order, key and numbers without allocating.
 //!
-//! In a JSON document each of the last three is a string, by `serialize_pretty` and `deserialize_pretty`, or `serialize`
-//! and `deserialize`. `SemVer`, `Version`, and the parts of all versions, have the forms that serde derives.
+//! In a JSON document a `Versioning` is a string, by `serialize_pretty` and `deserialize_pretty`; so are a
+//! `Requirement` and a `Requirements`, by `serialize` and `deserialize`. `SemVer`, `Version` and the parts of versions
+//! derive serde's forms.
 #![tactic(auto)]
 
 mod conversions;

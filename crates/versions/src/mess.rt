@@ -1,4 +1,4 @@
-//! Messy versions. However many sections there are, every call goes along them by a loop.
+//! Messy versions. Every call goes along the sections by a loop, without recursion.
 
 ghost use Rattle.std.specs.Prelude.{◌≡◌, ◌<◌, ◌∷◌, refl, [], Some, IfNone, IfOk, IfSome, IsSome, OnErr, length, map};
 ghost use Rattle.std.specs.Option.{is_some, option_map};
@@ -26,28 +26,28 @@ use std::hash::{Hash, Hasher};
 use version_parts::lists::{compare_lists, copy_list, write_dotted};
 use version_parts::{MChunk, SectionRef, Sep, scan};
 
-/// A messy version: chunks joined by dots, then perhaps a sign and a further messy version, as `1.6a+2014+m872b-1`
-/// or `2:10.2`.
+/// A messy version: chunks with dots between, then perhaps a sign and a further messy version, such as
+/// `1.6a+2014+m872b-1` or `2:10.2`.
 pub struct Mess {
-    /// The chunks of the first section. There is at least one where it was read.
+    /// The chunks of the first section. A parsed version has at least one here.
     pub chunks: Vec<MChunk>,
-    /// What follows the first section.
+    /// The sign and the further sections that follow the first section.
     pub next: Option<(Sep, Box<Mess>)>,
 }
 
 impl Mess {
-    /// The messy version that the whole text spells, or None where it spells none. None takes no memory; otherwise the
-    /// chunks are copied, and the error is that there is no memory for them.
+    /// Parses the whole text as a messy version; returns None if it does not parse. Copies the chunks; allocates
+    /// nothing for None. `Err` means allocation failure.
     pub fn new(alloc: Global, s: &str) -> Result<Option<Mess>, AllocError>
-        // What is read is spelled so, and prints the text again.
+        // The text spells the version that is returned, and that version prints the text.
         ensures spelled { IfOk result (λ o. IfSome o (λ m. SpellsMess s.now (plain_mess m))) }
         ensures printed { IfOk result (λ o. IfSome o (λ m. mess_text (plain_mess m) ≡ s.now)) }
 
-        // What is spelled is read. So None comes exactly where nothing is spelled.
+        // If the text spells a version, it is returned. So None means that the text spells no version.
         ensures read { (m : PlainMess) → SpellsMess s.now m
             → IfOk result (λ o. option_map plain_mess o ≡ Some m) }
 
-        // Memory is wanted only where the text spells a version, since each has chunks.
+        // An allocation fails only if the text spells a version, since each version has chunks.
         ensures memory { OnErr result ((m : PlainMess) × SpellsMess s.now m) }
 
         // The same as an equation.
@@ -56,24 +56,24 @@ impl Mess {
         read_whole(alloc, s)
     }
 
-    /// Whether the whole text spells a messy version, so that `new` would give one. Takes no memory.
+    /// Returns whether the whole text parses as a messy version, so that `new` returns one. Doesn't allocate.
     pub fn is_spelled_by(s: &str) -> bool
         ensures { result ≡ is_some (mess_of s.now) }
     {
         MessRef::new(s).is_some()
     }
 
-    /// The messy version that the whole text spells; else `Illegal`, with `IllegalMess` and the whole text in it.
-    /// `Memory` comes where there is no memory for the version or for that text.
+    /// Parses the whole text as a messy version. Fails with `Illegal` if it does not parse: the error is `IllegalMess`
+    /// with the text. Fails with `Memory` if an allocation fails, for the version or for that text.
     pub fn from_str(alloc: Global, s: &str) -> Result<Mess, ReadError>
         ensures { ReadsOr plain_mess (λ _. Unit {0}) (IllegalMess s.now) result (mess_of s.now) }
     {
         or_illegal(alloc, read_whole(alloc, s)?, s, Error::IllegalMess)
     }
 
-    /// The messy version at the front of a text, and the rest: chunks joined by dots, then, as long as a sign and
-    /// chunks behind it can be read, these too. It stops before a dot or a sign behind which no chunk can be read. None
-    /// takes no memory; otherwise the chunks are copied, and the error is that there is no memory for them.
+    /// Parses a prefix as a messy version; returns it and the rest, or None. It parses chunks with dots or signs
+    /// between, and stops before a dot or sign that no chunk follows. Copies the chunks; allocates nothing for None.
+    /// `Err` means allocation failure.
     pub fn parse(alloc: Global, i: &str) -> Result<Option<(Mess, &str)>, AllocError>
         ensures { Reads plain_mess (λ _. Unit {0}) result (mess_front i.now) }
     {
@@ -84,15 +84,15 @@ impl Mess {
         Ok(Some((link(alloc, first, more)?, rest)))
     }
 
-    /// The number of the chunk at `x` in the first section that no colon follows, if it is `Digits`. So an epoch is
-    /// skipped. Takes no memory.
+    /// Returns the number of the chunk at `x`, counted from 0, in the first section that no colon follows, or None if
+    /// the chunk is not `Digits`. So an epoch is skipped. Doesn't allocate.
     pub fn nth(&self, x: usize) -> Option<u32>
         ensures { result ≡ nth_number (plain_mess self.now) x }
     {
         skip_colons(self).chunks.get(x)?.number()
     }
 
-    /// A copy. The error is that there is no memory for it.
+    /// Returns a copy. `Err` means allocation failure.
     pub fn clone(&self, alloc: Global) -> Result<Mess, AllocError>
         ensures { IfOk result (λ copy. plain_mess copy ≡ plain_mess self.now) }
     {
@@ -107,7 +107,7 @@ impl Mess {
         link(alloc, first, more)
     }
 
-    /// The version without chunks and with nothing behind them. Takes no memory.
+    /// Returns the version without chunks and further sections. Doesn't allocate.
     pub fn default_in(alloc: Global) -> Mess
         ensures { plain_mess result ≡ record { first = []; more = [] } }
     {
@@ -117,7 +117,7 @@ impl Mess {
         }
     }
 
-    // How two versions compare, field by field.
+    // Compares two versions field by field.
     pub(crate) fn compare_plain(&self, other: &Mess) -> Ordering
         ensures { result ≡ mess_plain_cmp (plain_mess self.now) (plain_mess other.now) }
     {
@@ -157,7 +157,7 @@ impl Drop for Mess {
     }
 }
 
-/// What a derive would write, but by a loop.
+/// Writes what a derive would, but without recursion.
 impl fmt::Debug for Mess {
     fn fmt<W: fmt::Write>(&self, f: &mut fmt::Formatter<W>) -> fmt::Result {
         if f.alternate() {
@@ -195,7 +195,7 @@ impl fmt::Display for Mess {
     }
 }
 
-/// Equal in every field of every section.
+/// Compares every field of every section.
 impl PartialEq for Mess {
     ghost eq = { on plain_mess (eq_by_cmp mess_plain_cmp) };
 
@@ -210,7 +210,7 @@ impl Eq for Mess {
     ghost laws = { on_equiv plain_mess (eq_by_cmp_equiv mess_total) };
 }
 
-/// By their keys, and where those tie, field by field, section by section. Takes no memory.
+/// Compares the keys; breaks a tie field by field, section by section. Doesn't allocate.
 impl Ord for Mess {
     ghost cmp = { on plain_mess mess_cmp };
 
@@ -239,7 +239,7 @@ impl PartialOrd for Mess {
     }
 }
 
-/// Feeds the chunks, then whether more follows, then the sign and what is behind it.
+/// Hashes the chunks, then whether more follows, then the sign and what follows it.
 impl Hash for Mess {
     ghost hash_input = { λ m. mess_fed (plain_mess m) };
 
@@ -258,14 +258,14 @@ impl Hash for Mess {
     }
 }
 
-// Writes a section as `Debug` does, up to what follows it.
+// Writes a section as `Debug` does, up to the section after it.
 fn show_front<W: fmt::Write>(section: &Mess, f: &mut fmt::Formatter<W>) -> fmt::Result {
     f.write_str("Mess { chunks: ")?;
     fmt::Debug::fmt(&section.chunks, f)?;
     f.write_str(", next: ")
 }
 
-// The version from the first section that no colon follows on.
+// Returns the version from the first section that no colon follows.
 fn skip_colons(mess: &Mess) -> &Mess
     ensures { (plain_mess result.now).first
         ≡ behind_colons (plain_mess mess.now).first (plain_mess mess.now).more }
@@ -280,7 +280,7 @@ fn skip_colons(mess: &Mess) -> &Mess
     current
 }
 
-// The version of a first section and further ones. It is built from its end.
+// Makes a version of its first section and its further ones, from the end.
 pub(crate) fn link(
     alloc: Global,
     chunks: Vec<MChunk>,
@@ -296,7 +296,7 @@ pub(crate) fn link(
     Ok(Mess { chunks, next })
 }
 
-// The messy version that the whole text spells.
+// Parses the whole text as a messy version.
 fn read_whole(alloc: Global, s: &str) -> Result<Option<Mess>, AllocError>
     ensures ok { IfOk result (λ o. option_map plain_mess o ≡ mess_of s.now) }
     ensures err { OnErr result (IsSome (mess_of s.now)) }
@@ -307,8 +307,7 @@ fn read_whole(alloc: Global, s: &str) -> Result<Option<Mess>, AllocError>
     }
 }
 
-/// A messy version that was scanned, with its texts still in the input: its first section, and the text of those behind
-/// it, each behind its sign.
+/// A messy version borrowed from its text: its first section, and the text of the further sections with their signs.
 #[derive(Drop)]
 pub struct MessRef<'a> {
     pub(crate) first: SectionRef<'a>,
@@ -316,7 +315,7 @@ pub struct MessRef<'a> {
 }
 
 impl<'a> MessRef<'a> {
-    // The messy version that the whole text spells.
+    // Parses the whole text as a messy version.
     #[tactic(auto, using(crate::proofs::MessScan::whole_mess))]
     #[inline(always)]
     pub(crate) fn new(s: &'a str) -> Option<MessRef<'a>>
@@ -329,7 +328,7 @@ impl<'a> MessRef<'a> {
         Some(MessRef { first, rest })
     }
 
-    // The version with texts of its own.
+    // Copies the version into an owned one.
     pub(crate) fn build(&self, alloc: Global) -> Result<Mess, AllocError>
         ensures { IfOk result (λ m. plain_mess m ≡ plain_mess_ref self.now) }
     {
@@ -339,7 +338,7 @@ impl<'a> MessRef<'a> {
     }
 }
 
-// What stands behind all further sections at the front of a text.
+// Returns what follows the further sections that the text begins with.
 fn skip_all_further(i: &str) -> &str
     ensures { result.now ≡ (repeated further_front (length i.now) i.now).1 }
 {
@@ -350,7 +349,7 @@ fn skip_all_further(i: &str) -> &str
     rest
 }
 
-// What stands behind the sign and the section at the front of a text.
+// Returns what follows the sign and the section that the text begins with.
 #[tactic(auto, unfolding(crate::specs::Mess::further_front))]
 fn skip_further(i: &str) -> Option<&str>
     ensures { option_map (λ r. r.now) result ≡ option_map (λ p. p.1) (further_front i.now) }
@@ -359,7 +358,7 @@ fn skip_further(i: &str) -> Option<&str>
     Some(SectionRef::scan(behind)?.1)
 }
 
-// The section at the front of a text, with chunks of its own, and the rest.
+// Parses a prefix as a section; returns its chunks, copied, and the rest.
 fn read_section(alloc: Global, i: &str) -> Result<Option<(Vec<MChunk>, &str)>, AllocError>
     ensures { Reads plain_section (λ _. Unit {0}) result (section_front i.now) }
 {
@@ -369,7 +368,7 @@ fn read_section(alloc: Global, i: &str) -> Result<Option<(Vec<MChunk>, &str)>, A
     Ok(Some((section.build(alloc)?, rest)))
 }
 
-// The sign and the section at the front of a text, and the rest.
+// Parses a prefix as a sign and a section; returns them and the rest.
 #[tactic(auto, unfolding(crate::specs::Mess::further_front))]
 fn read_further(alloc: Global, i: &str) -> Result<Option<((Sep, Vec<MChunk>), &str)>, AllocError>
     ensures { Reads plain_further (λ _. Unit {0}) result (further_front i.now) }
@@ -383,7 +382,7 @@ fn read_further(alloc: Global, i: &str) -> Result<Option<((Sep, Vec<MChunk>), &s
     Ok(Some(((sign, chunks), rest)))
 }
 
-// All further sections at the front of a text, and the rest.
+// Parses a prefix as further sections, as many as parse; returns them and the rest.
 fn read_all_further(alloc: Global, i: &str) -> Result<(Vec<(Sep, Vec<MChunk>)>, &str), AllocError>
     ensures { IfOk result (λ r. (map plain_further r.0.items, r.1.now)
         ≡ repeated further_front (length i.now) i.now) }
@@ -398,7 +397,7 @@ fn read_all_further(alloc: Global, i: &str) -> Result<(Vec<(Sep, Vec<MChunk>)>, 
 }
 
 impl<'a> MessRef<'a> {
-    // How two versions compare, field by field.
+    // Compares two versions field by field.
     pub(crate) fn compare_plain(&self, other: &MessRef<'_>) -> Ordering
         ensures { result ≡ mess_plain_cmp (plain_mess_ref self.now) (plain_mess_ref other.now) }
     {
@@ -409,7 +408,7 @@ impl<'a> MessRef<'a> {
         }
     }
 
-    // The number of the chunk at `x` in the first section that no colon follows, if it is digits.
+    // Returns the number of the chunk at `x` in the first section that no colon follows, if it is digits.
     pub(crate) fn nth(&self, x: usize) -> Option<u32>
         ensures { result ≡ nth_number (plain_mess_ref self.now) x }
     {
@@ -426,7 +425,7 @@ impl<'a> MessRef<'a> {
     }
 }
 
-/// The text that was read.
+/// Writes the text that the version was parsed from.
 impl<'a> fmt::Display for MessRef<'a> {
     ghost output = { λ m. Some (mess_text (plain_mess_ref m)) };
 
@@ -442,7 +441,7 @@ impl<'a> fmt::Display for MessRef<'a> {
     }
 }
 
-// How the further sections at the front of two texts compare, field by field, fewer first.
+// Compares the further sections that two texts begin with, field by field; a prefix comes first.
 fn compare_further(a: &str, b: &str) -> Ordering
     ensures { result ≡ slice_cmp further_plain_cmp (further_in a.now) (further_in b.now) }
 {
@@ -464,7 +463,7 @@ fn compare_further(a: &str, b: &str) -> Ordering
     }
 }
 
-// How two sections behind their signs compare: by the signs, then chunk by chunk.
+// Compares two sections and the signs before them: the signs, then chunk by chunk.
 fn compare_sections(
     sign: Sep,
     section: &SectionRef<'_>,
@@ -481,7 +480,7 @@ fn compare_sections(
     }
 }
 
-// The sign and the section at the front of a text, and the rest.
+// Parses a prefix as a sign and a section; returns them and the rest.
 #[tactic(auto, using(crate::proofs::MessScan::first_further))]
 #[inline(always)]
 pub(crate) fn scan_further(i: &str) -> Option<(Sep, SectionRef<'_>, &str)>

@@ -1,4 +1,4 @@
-//! The three numbers of a strict version, and whether a tilde or a caret asks for them.
+//! The three numbers of a strict version, and whether `~` or `^` matches them.
 
 ghost use Rattle.std.specs.Prelude.{◌↔◌, IsTrue};
 ghost use Rattle.versions.specs.SemVerMatch.{MatchesCaret, MatchesTilde};
@@ -6,15 +6,15 @@ ghost use Rattle.versions.specs.SemVerMatch.{MatchesCaret, MatchesTilde};
 // Major, minor and patch.
 pub(crate) type Numbers = (u32, u32, u32);
 
-// Whether a tilde before the wanted numbers asks for others: equal major and minor, and a patch that is not less.
+// Returns whether `~wanted` matches the numbers: equal major and minor, and a patch that is not less.
 pub(crate) fn numbers_match_tilde(wanted: Numbers, numbers: Numbers) -> bool
     ensures { IsTrue result ↔ MatchesTilde wanted numbers }
 {
     wanted.0 == numbers.0 && wanted.1 == numbers.1 && wanted.2 <= numbers.2
 }
 
-// Whether a caret before the wanted numbers asks for others: the first number that is not 0 in both is equal, and what
-// stands behind it is not less.
+// Returns whether `^wanted` matches the numbers. Leading numbers that are 0 in both are skipped; the next must be
+// equal, and those after it not less, compared in turn.
 pub(crate) fn numbers_match_caret(wanted: Numbers, numbers: Numbers) -> bool
     ensures { IsTrue result ↔ MatchesCaret wanted numbers }
 {

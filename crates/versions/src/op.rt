@@ -9,29 +9,29 @@ use std::cmp::Ordering;
 use std::fmt;
 use version_parts::scan::after_mark;
 
-/// What a requirement asks of a version, against its own.
+/// How a version must compare with that of a requirement. docs/REQUIREMENTS.md has the rules.
 #[derive(Clone, Copy, Debug, PartialEq, Eq, Hash)]
 pub enum Op {
-    /// `=`: the same version, by `==`.
+    /// `=`: equal, by `==`.
     Exact,
-    /// `>`: one above it in precedence.
+    /// `>`: after it in precedence.
     Greater,
-    /// `>=`: one not below it in precedence.
+    /// `>=`: not before it in precedence.
     GreaterEq,
-    /// `<`: one below it in precedence.
+    /// `<`: before it in precedence.
     Less,
-    /// `<=`: one not above it in precedence.
+    /// `<=`: not after it in precedence.
     LessEq,
-    /// `~`: one of the same kind, whose last part may be above.
+    /// `~`: of the same kind; only the last part may be greater.
     Tilde,
-    /// `^`: one of the same kind, whose parts behind the first that is not 0 may be above.
+    /// `^`: of the same kind; the parts after the first that is not 0 may be greater.
     Caret,
-    /// `*`: any.
+    /// `*`: any version.
     Wildcard,
 }
 
 impl Op {
-    // The operator at the front of a text, and the rest.
+    // Parses a prefix as an operator; returns it and the rest.
     #[tactic(auto, unfolding(crate::specs::Op::op_front))]
     pub(crate) fn scan(i: &str) -> Option<(Op, &str)>
         ensures { option_map (λ r. (r.0, r.1.now)) result ≡ op_front i.now }
@@ -50,7 +50,7 @@ impl Op {
         Some((op, op.strip(i)?))
     }
 
-    // What stands behind the operator, where a text begins with it.
+    // Returns what follows the operator, if the text begins with it.
     fn strip(self, i: &str) -> Option<&str>
         ensures { option_map (λ r. r.now) result ≡ after_word (op_text self) i.now }
     {
@@ -66,7 +66,7 @@ impl Op {
         }
     }
 
-    // Whether a comparison asks for what stands so to the wanted version. The other operators ask for none by its order.
+    // Returns whether a comparison operator matches a version with this order to the wanted one. False for the others.
     pub(crate) fn asks_order(self, order: Ordering) -> bool
         ensures { IsTrue result ↔ AsksOrder self order }
     {

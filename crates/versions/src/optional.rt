@@ -1,4 +1,4 @@
-//! What strict and general versions share: a release and metadata, each of which may be absent.
+//! The optional release and metadata of strict and general versions.
 
 ghost use Rattle.std.specs.Prelude.{◌≡◌, ◌++◌, string_bytes, IfOk, IsSome, OnErr};
 ghost use Rattle.std.specs.Fmt.{WritesOnOk};
@@ -13,7 +13,7 @@ use std::alloc::{AllocError, Global};
 use std::fmt;
 use version_parts::{Release, ReleaseRef, scan};
 
-// The release at the front of a text, if there is one, and the rest.
+// Parses a prefix as a release; returns it and the rest, or None and the whole text.
 #[tactic(auto, unfolding(version_parts::specs::Front::optional))]
 #[inline(always)]
 pub(crate) fn optional_release(i: &str) -> (Option<ReleaseRef<'_>>, &str)
@@ -25,7 +25,7 @@ pub(crate) fn optional_release(i: &str) -> (Option<ReleaseRef<'_>>, &str)
     }
 }
 
-// The metadata at the front of a text, if there is any, and the rest.
+// Parses a prefix as metadata; returns it and the rest, or None and the whole text.
 #[tactic(auto, unfolding(version_parts::specs::Front::optional))]
 #[inline(always)]
 pub(crate) fn optional_meta(i: &str) -> (Option<&str>, &str)
@@ -37,7 +37,7 @@ pub(crate) fn optional_meta(i: &str) -> (Option<&str>, &str)
     }
 }
 
-// The chunks of a release, if there is one.
+// Copies a scanned release, if there is one, into an owned one.
 pub(crate) fn build_release(
     alloc: Global,
     piece: &Option<ReleaseRef<'_>>,
@@ -51,7 +51,7 @@ pub(crate) fn build_release(
     }
 }
 
-// A copy of a text, if there is one.
+// Returns a copy of a text, if there is one.
 pub(crate) fn copy_text(alloc: Global, text: Option<&str>) -> Result<Option<String>, AllocError>
     ensures ok { IfOk result (λ copy. option_map string_bytes copy
         ≡ option_map (λ text. text.now) text.entry) }
@@ -63,7 +63,7 @@ pub(crate) fn copy_text(alloc: Global, text: Option<&str>) -> Result<Option<Stri
     }
 }
 
-// A copy of a release, if there is one.
+// Returns a copy of a release, if there is one.
 pub(crate) fn copy_release(
     alloc: Global,
     release: &Option<Release>,
@@ -78,7 +78,7 @@ pub(crate) fn copy_release(
     }
 }
 
-// A copy of metadata, if there is any.
+// Returns a copy of metadata, if there is any.
 pub(crate) fn copy_meta(alloc: Global, meta: &Option<String>) -> Result<Option<String>, AllocError>
     ensures ok { IfOk result (λ copy. option_map string_bytes copy
         ≡ option_map string_bytes meta.now) }
@@ -90,7 +90,7 @@ pub(crate) fn copy_meta(alloc: Global, meta: &Option<String>) -> Result<Option<S
     }
 }
 
-// Writes a hyphen and the release, if there is one, and a plus and the metadata, if there is any.
+// Writes a hyphen and the release, if there is one, then a plus and the metadata, if there is any.
 pub(crate) fn write_tail<W: fmt::Write>(
     f: &mut fmt::Formatter<W>,
     release: &Option<Release>,
@@ -109,7 +109,7 @@ pub(crate) fn write_tail<W: fmt::Write>(
     Ok(())
 }
 
-// Writes a hyphen and the release that was scanned, if there is one, and a plus and the metadata, if there is any.
+// Writes a hyphen and the scanned release, if there is one, then a plus and the metadata, if there is any.
 pub(crate) fn write_spelled_tail<W: fmt::Write>(
     f: &mut fmt::Formatter<W>,
     release: &Option<ReleaseRef<'_>>,

@@ -1,4 +1,4 @@
-//! The parts of a general version, one after the other, and whether a tilde or a caret asks for them.
+//! The parts of a general version, one after another, and whether `~` or `^` matches them.
 
 ghost use Rattle.std.specs.Prelude.{◌≡◌, ◌∷◌, ◌↔◌, [], IfNone, IfSome, IsTrue, Some};
 ghost use Rattle.version_parts.specs.PartKey.{part_cmp, part_key};
@@ -13,8 +13,8 @@ use version_parts::elements::ElementsLeft;
 use version_parts::key::{PartText, compare_parts};
 use version_parts::{Chunk, ChunkRef, Last, Part};
 
-// A part of a general version: a chunk, which may be the last part as its text spells it, or the last part that a
-// version has.
+// A part of a general version: a chunk, or the last part of an owned version. The last part of a scanned version is a
+// chunk too.
 #[derive(Clone, Copy)]
 enum BodyPart<'a> {
     Chunk(ChunkRef<'a>),
@@ -22,7 +22,7 @@ enum BodyPart<'a> {
 }
 
 impl<'a> BodyPart<'a> {
-    // The printed text, byte after byte.
+    // Returns the bytes of the printed text.
     fn text(self) -> PartText<'a>
         ensures { part_key result ≡ key_of_part self.entry }
     {
@@ -32,7 +32,7 @@ impl<'a> BodyPart<'a> {
         }
     }
 
-    // How two parts compare, by their printed texts.
+    // Compares two parts by their printed texts.
     fn compare(self, other: BodyPart<'_>) -> Ordering
         ensures { result ≡ part_cmp (Some (key_of_part self.entry))
             (Some (key_of_part other.entry)) }
@@ -40,7 +40,7 @@ impl<'a> BodyPart<'a> {
         compare_parts(self.text(), other.text())
     }
 
-    // Whether the part is the number 0, with no suffix.
+    // Returns whether the part is the number 0 without a suffix.
     #[tactic(auto, using(crate::proofs::VersionMatch::zero_tied))]
     fn is_plain_zero(self) -> bool
         ensures { result ≡ is_plain_zero (key_of_part self.entry) }
@@ -49,7 +49,7 @@ impl<'a> BodyPart<'a> {
     }
 }
 
-// The parts of a built version that are still to come: its chunks, and the last part behind them, if it isn't taken.
+// The remaining parts of an owned version: its chunks, then its last part if that isn't taken yet.
 #[derive(Drop)]
 pub(crate) struct BuiltParts<'a> {
     chunks: &'a [Chunk],
@@ -57,7 +57,7 @@ pub(crate) struct BuiltParts<'a> {
 }
 
 impl<'a> BuiltParts<'a> {
-    // The first of the parts, which is taken.
+    // Takes the first of the parts.
     fn take_first(&mut self) -> Option<BodyPart<'a>>
         ensures some { IfSome result
             (λ part. built_left self.old ≡ key_of_part part ∷ built_left self.new) }
@@ -71,7 +71,7 @@ impl<'a> BuiltParts<'a> {
     }
 }
 
-// The parts of a general version that are still to come, off the version or off the text that spells it.
+// The remaining parts of a general version, owned or scanned.
 #[derive(Drop)]
 pub(crate) enum BodyParts<'a> {
     Built(BuiltParts<'a>),
@@ -79,7 +79,7 @@ pub(crate) enum BodyParts<'a> {
 }
 
 impl<'a> BodyParts<'a> {
-    // All parts of a version.
+    // Returns all parts of an owned version.
     pub(crate) fn of(version: &'a Version) -> BodyParts<'a>
         ensures { parts_left result ≡ (key_of_version (plain_version version.now)).body }
     {
@@ -89,14 +89,14 @@ impl<'a> BodyParts<'a> {
         })
     }
 
-    // All parts of a version that was scanned.
+    // Returns all parts of a scanned version.
     pub(crate) fn spelled_by(version: &VersionRef<'a>) -> BodyParts<'a>
         ensures { parts_left result ≡ (key_of_version (plain_version_ref version.now)).body }
     {
         BodyParts::Spelled(version.body.spelled_parts())
     }
 
-    // The first of the parts, which is taken.
+    // Takes the first of the parts.
     fn take_first(&mut self) -> Option<BodyPart<'a>>
         ensures some { IfSome result
             (λ part. parts_left self.old ≡ key_of_part part ∷ parts_left self.new) }
@@ -109,8 +109,8 @@ impl<'a> BodyParts<'a> {
     }
 }
 
-// Whether there are equally many parts, of which all but the final ones are the same and the final one is not below the
-// wanted one. Takes no memory.
+// Returns whether there are equally many parts, all but the last the same, and the last not before the wanted one.
+// Doesn't allocate.
 #[tactic(auto, using(crate::proofs::VersionMatch::tildes))]
 pub(crate) fn parts_match_tilde(mut wanted: BodyParts<'_>, mut parts: BodyParts<'_>) -> bool
     ensures { IsTrue result ↔ PartsMatchTilde (parts_left wanted.entry) (parts_left parts.entry) }
@@ -134,8 +134,8 @@ pub(crate) fn parts_match_tilde(mut wanted: BodyParts<'_>, mut parts: BodyParts<
     parts.take_first().is_none() && last.compare(wanted_last).is_ge()
 }
 
-// Whether each wanted part has one at its place: the same for the plain zeros in front and for the first other part,
-// and for each part behind that, one that is not below it. Takes no memory.
+// Returns whether there is a part for each wanted one: the same for leading plain zeros and for the first other part,
+// then parts that are not before the wanted ones. Doesn't allocate.
 #[tactic(auto, using(crate::proofs::VersionMatch::carets))]
 pub(crate) fn parts_match_caret(mut wanted: BodyParts<'_>, mut parts: BodyParts<'_>) -> bool
     ensures { IsTrue result ↔ PartsMatchCaret (parts_left wanted.entry) (parts_left parts.entry) }
@@ -154,7 +154,7 @@ pub(crate) fn parts_match_caret(mut wanted: BodyParts<'_>, mut parts: BodyParts<
     true
 }
 
-// Whether each wanted part has one at its place that is not below it.
+// Returns whether there is a part for each wanted one, and none is before the wanted one.
 fn no_part_is_below(mut wanted: BodyParts<'_>, mut parts: BodyParts<'_>) -> bool
     ensures { IsTrue result ↔ PartsNotBelow (parts_left wanted.entry) (parts_left parts.entry) }
 {

@@ -1,10 +1,10 @@
-//! What `{:#?}` writes of a messy version: as a derive would, each section within the one before it, but by a loop.
+//! What `{:#?}` writes of a messy version: the text that a derive would write, but without recursion.
 
 use crate::mess::Mess;
 use std::fmt::{self, Alignment, Debug, Formatter, ToDebug, Write};
 
-/// Writes a version over lines of their own, each four blanks further in than what holds it. Each section is held by
-/// the one before it, so what is written grows with the square of their number.
+/// Writes a version over several lines, each indented by four blanks more than what encloses it. Each section is
+/// enclosed by the one before it, so the output grows with the square of the number of sections.
 pub(crate) fn write_pretty<W: Write>(mess: &Mess, f: &mut Formatter<W>) -> fmt::Result {
     let mut lines = Lines {
         f,
@@ -33,17 +33,17 @@ pub(crate) fn write_pretty<W: Write>(mess: &Mess, f: &mut Formatter<W>) -> fmt::
     Ok(())
 }
 
-// A writer of lines that are further in than what the formatter writes.
+// A writer of indented lines to a formatter.
 #[derive(Drop)]
 struct Lines<'a, W> {
     f: &'a mut Formatter<W>,
-    // In steps of four blanks.
+    // The indentation in steps of four blanks.
     depth: usize,
     at_start: bool,
 }
 
 impl<'a, W: Write> Lines<'a, W> {
-    // Writes a section up to what follows it.
+    // Writes a section up to the section after it.
     fn write_front(&mut self, section: &Mess) -> fmt::Result {
         self.open("Mess {")?;
         self.write_str("chunks: ")?;
@@ -51,7 +51,7 @@ impl<'a, W: Write> Lines<'a, W> {
         self.write_str(",\nnext: ")
     }
 
-    // Goes one step further in behind what opens a value.
+    // Writes the opening of a value, and indents what follows by one step more.
     fn open(&mut self, opener: &str) -> fmt::Result {
         self.write_str(opener)?;
         self.write_str("\n")?;
@@ -59,14 +59,14 @@ impl<'a, W: Write> Lines<'a, W> {
         Ok(())
     }
 
-    // Ends the last part of a value, and the value.
+    // Ends the last field of a value, and closes the value.
     fn close(&mut self, closer: &str) -> fmt::Result {
         self.write_str(",\n")?;
         self.depth = self.depth.saturating_sub(1);
         self.write_str(closer)
     }
 
-    // Writes a value under the options of the formatter.
+    // Writes a value with the options of the formatter.
     fn write_value<T: Debug>(&mut self, value: &T) -> fmt::Result {
         let f = &*self.f;
         let mut shown = value

@@ -1,4 +1,4 @@
-//! What calls that read a text or bytes share.
+//! Helpers of the calls that parse a text or bytes.
 
 ghost use Rattle.std.specs.Prelude.{◌≡◌, string_bytes, String, IfSome, IfNone, IsErrAnd};
 ghost use Rattle.std.specs.Str.{IsNotAscii};
@@ -8,8 +8,8 @@ use crate::errors::{Error, ReadError};
 use std::alloc::Global;
 use std::str;
 
-// The value that was read, and else the error that `wrong` makes of a copy of the text; want of memory, if there is
-// none for that copy.
+// Returns the parsed value. Otherwise fails with the error that `wrong` makes of a copy of the text, or with `Memory`
+// if that copy cannot be allocated.
 pub(crate) fn or_illegal<T: Drop, F: FnOnce(String) -> Error + Drop>(
     alloc: Global,
     value: Option<T>,
@@ -29,7 +29,7 @@ pub(crate) fn or_illegal<T: Drop, F: FnOnce(String) -> Error + Drop>(
     }
 }
 
-// The text that bytes are, where all of them are ASCII. No other bytes spell a version.
+// Returns the bytes as a text if all of them are ASCII. No other bytes spell a version.
 #[inline(always)]
 pub(crate) fn ascii_text(bytes: &[u8]) -> Option<&str>
     ensures some { IfSome result (λ text. text.now ≡ bytes.now) }

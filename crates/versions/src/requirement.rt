@@ -1,4 +1,4 @@
-//! Requirements: what `^1.2.3` and `>=1.0` ask for.
+//! Requirements, such as `^1.2.3` and `>=1.0`, and what they match.
 
 ghost use Rattle.std.specs.Prelude.{◌≡◌, ◌↔◌, IfOk, IfSome, IsSomeAnd, IsTrue, None, OnErr, Some};
 ghost use Rattle.std.specs.Option.{is_some, option_map};
@@ -16,30 +16,31 @@ use crate::versioning::Versioning;
 use std::alloc::{AllocError, Global};
 use std::fmt;
 
-/// An operator, and the version that it stands before, as `^1.2.3`; or `*` alone. docs/REQUIREMENTS.md has the rules.
+/// An operator and a version, such as `^1.2.3`; or `*` alone. docs/REQUIREMENTS.md has the rules.
 #[derive(Debug, PartialEq, Eq, Hash, Drop)]
 pub struct Requirement {
     pub op: Op,
-    /// What versions are held against. `*` has none where it was read; without one, no other operator asks for anything.
+    /// The version that others are compared with. A parsed `*` has none. Any other operator without a version matches
+    /// nothing.
     pub version: Option<Versioning>,
 }
 
 impl Requirement {
-    /// The requirement that the whole text spells, or None where it spells none: an operator and a text that
-    /// `Versioning::new` reads, or `*` alone. None takes no memory, nor does `*` or a version of three plain numbers;
-    /// otherwise the error is that there is no memory for the version.
+    /// Parses the whole text as a requirement; returns None if it does not parse. A requirement is an operator and a
+    /// text that `Versioning::new` parses, or `*` alone. Allocates only for the version; nothing for None. `Err` means
+    /// allocation failure.
     pub fn new(alloc: Global, s: &str) -> Result<Option<Requirement>, AllocError>
-        // What is read is spelled so, and prints the text again.
+        // The text spells the requirement that is returned, and that requirement prints the text.
         ensures spelled { IfOk result (λ o. IfSome o
             (λ r. SpellsRequirement s.now (plain_requirement r))) }
         ensures printed { IfOk result (λ o. IfSome o
             (λ r. requirement_text (plain_requirement r) ≡ s.now)) }
 
-        // What is spelled is read. So None comes exactly where nothing is spelled.
+        // If the text spells a requirement, it is returned. So None means that the text spells no requirement.
         ensures read { (r : PlainRequirement) → SpellsRequirement s.now r
             → IfOk result (λ o. option_map plain_requirement o ≡ Some r) }
 
-        // Memory is wanted only where the text spells a requirement that owns some.
+        // An allocation fails only if the text spells a requirement that owns memory.
         ensures memory { OnErr result ((r : PlainRequirement) × SpellsRequirement s.now r
             × RequirementOwns r) }
 
@@ -49,7 +50,7 @@ impl Requirement {
         read_whole(alloc, s)
     }
 
-    /// Whether the whole text spells a requirement, so that `new` would give one. Takes no memory.
+    /// Returns whether the whole text parses as a requirement, so that `new` returns one. Doesn't allocate.
     pub fn is_spelled_by(s: &str) -> bool
         ensures { result ≡ is_some (requirement_of s.now) }
     {
@@ -60,8 +61,8 @@ impl Requirement {
         }
     }
 
-    /// The requirement that the whole text spells; else `Illegal`, with `IllegalOp` and the whole text in it. `Memory`
-    /// comes where there is no memory for the version or for that text.
+    /// Parses the whole text as a requirement. Fails with `Illegal` if it does not parse: the error is `IllegalOp` with
+    /// the text. Fails with `Memory` if an allocation fails, for the version or for that text.
     pub fn from_str(alloc: Global, s: &str) -> Result<Requirement, ReadError>
         ensures { ReadsOr plain_requirement RequirementOwns (IllegalOp s.now) result
             (requirement_of s.now) }
@@ -69,9 +70,9 @@ impl Requirement {
         or_illegal(alloc, read_whole(alloc, s)?, s, Error::IllegalOp)
     }
 
-    /// The requirement at the front of a text, and the rest: an operator, then what `Versioning::parse` reads, or after
-    /// `*` nothing more. So `=1.2.3.4` is `=1.2.3`, with the rest `.4`. None takes no memory, nor does `*` or a version
-    /// of three plain numbers; otherwise the error is that there is no memory for the version.
+    /// Parses a prefix as a requirement; returns it and the rest, or None. A requirement is an operator and what
+    /// `Versioning::parse` parses, or `*` alone. So `=1.2.3.4` is `=1.2.3` with the rest `.4`. Allocates only for the
+    /// version; nothing for None. `Err` means allocation failure.
     pub fn parse(alloc: Global, i: &str) -> Result<Option<(Requirement, &str)>, AllocError>
         ensures { Reads plain_requirement RequirementOwns result (requirement_front i.now) }
     {
@@ -87,7 +88,7 @@ impl Requirement {
         }
     }
 
-    /// A copy, with the same in every field, metadata included. The error is that there is no memory for it.
+    /// Returns a copy, metadata included. `Err` means allocation failure.
     pub fn clone(&self, alloc: Global) -> Result<Requirement, AllocError>
         ensures { IfOk result (λ copy. plain_requirement copy ≡ plain_requirement self.now) }
     {
@@ -101,15 +102,16 @@ impl Requirement {
         })
     }
 
-    /// Whether it asks for a version: `=` by `==`, `>`, `>=`, `<` and `<=` by precedence, `~` and `^` by the rules of
-    /// strict or of general versions, both having to be of one of these kinds, and `*` for any. Without a version, `*`
-    /// alone asks for any. Takes no memory.
+    /// Returns whether the version matches. `=` compares by `==`, and `>`, `>=`, `<` and `<=` by precedence. `~` and
+    /// `^` match by the rule of strict versions if both are strict, by that of general ones if both are general, else
+    /// never. `*` matches every version, with or without a version of its own. Any other operator without a version
+    /// matches nothing. Doesn't allocate.
     #[tactic(auto, using(crate::proofs::Convex::requirement_convex))]
     pub fn matches(&self, version: &Versioning) -> bool
         ensures set { IsTrue result
             ↔ Matches (plain_requirement self.now) (plain_versioning version.now) }
 
-        // With two strict versions it asks for those between them.
+        // If two strict versions match, so do the strict versions between them.
         ensures convex { IsConvex (Matches (plain_requirement self.now)) }
     {
         match &self.version {
@@ -118,7 +120,7 @@ impl Requirement {
         }
     }
 
-    // An operator before a version.
+    // Returns a requirement of an operator and a version.
     fn of(op: Op, version: Versioning) -> Requirement
         ensures { plain_requirement result
             ≡ record { op = op; version = Some (plain_versioning version) } }
@@ -130,7 +132,7 @@ impl Requirement {
     }
 }
 
-/// `*`.
+/// The default is `*`.
 impl Default for Requirement {
     ghost is_default = { λ r. plain_requirement r ≡ record { op = Wildcard; version = None } };
 
@@ -155,7 +157,7 @@ impl fmt::Display for Requirement {
     }
 }
 
-// Whether an operator before one version asks for another.
+// Returns whether an operator with one version matches another version.
 fn asks_for(op: Op, wanted: &Versioning, version: &Versioning) -> bool
     ensures { IsTrue result
         ↔ MatchesOp op (plain_versioning wanted.now) (plain_versioning version.now) }
@@ -171,7 +173,7 @@ fn asks_for(op: Op, wanted: &Versioning, version: &Versioning) -> bool
     }
 }
 
-// Whether `~wanted` asks for a version.
+// Returns whether `~wanted` matches a version.
 fn matches_tilde(wanted: &Versioning, version: &Versioning) -> bool
     ensures { IsTrue result
         ↔ MatchesTilde (plain_versioning wanted.now) (plain_versioning version.now) }
@@ -185,7 +187,7 @@ fn matches_tilde(wanted: &Versioning, version: &Versioning) -> bool
     }
 }
 
-// Whether `^wanted` asks for a version.
+// Returns whether `^wanted` matches a version.
 fn matches_caret(wanted: &Versioning, version: &Versioning) -> bool
     ensures { IsTrue result
         ↔ MatchesCaret (plain_versioning wanted.now) (plain_versioning version.now) }
@@ -199,7 +201,7 @@ fn matches_caret(wanted: &Versioning, version: &Versioning) -> bool
     }
 }
 
-// The requirement that the whole text spells.
+// Parses the whole text as a requirement.
 fn read_whole(alloc: Global, s: &str) -> Result<Option<Requirement>, AllocError>
     ensures ok { IfOk result (λ o. option_map plain_requirement o ≡ requirement_of s.now) }
     ensures err { OnErr result (IsSomeAnd (requirement_of s.now) RequirementOwns) }

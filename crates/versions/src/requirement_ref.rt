@@ -1,4 +1,4 @@
-//! A requirement as a text spells it.
+//! Requirements that are borrowed from their texts.
 
 ghost use Rattle.std.specs.Prelude.{◌≡◌, ◌↔◌, IsTrue};
 ghost use Rattle.std.specs.Option.{option_map};
@@ -11,18 +11,19 @@ ghost use Rattle.versions.specs.Versioning.{is_ideal, PlainVersioning};
 use crate::op::Op;
 use crate::versioning_ref::VersioningRef;
 
-/// A requirement, read off its text: a [`Requirement`](crate::Requirement) that owns nothing. No call takes memory.
+/// A requirement borrowed from its text: a [`Requirement`](crate::Requirement) that owns nothing. No call allocates.
 /// docs/REQUIREMENTS.md has the rules.
 #[derive(Drop)]
 pub struct RequirementRef<'a> {
     pub op: Op,
-    /// What versions are held against. `*` has none where it was read; without one, no other operator asks for anything.
+    /// The version that others are compared with. A parsed `*` has none. Any other operator without a version matches
+    /// nothing.
     pub version: Option<VersioningRef<'a>>,
 }
 
 impl<'a> RequirementRef<'a> {
-    /// The requirement that the whole text spells, or None where it spells none: an operator and a text that
-    /// `VersioningRef::new` reads, or `*` alone. Takes no memory.
+    /// Parses the whole text as a requirement; returns None if it does not parse. A requirement is an operator and a
+    /// text that `VersioningRef::new` parses, or `*` alone. Doesn't allocate.
     pub fn new(s: &'a str) -> Option<RequirementRef<'a>>
         ensures { option_map plain_requirement_ref result ≡ requirement_of s.now }
     {
@@ -35,9 +36,10 @@ impl<'a> RequirementRef<'a> {
         Some(RequirementRef { op, version })
     }
 
-    /// Whether it asks for a version: `=` by `==`, `>`, `>=`, `<` and `<=` by precedence, `~` and `^` by the rules of
-    /// strict or of general versions, both having to be of one of these kinds, and `*` for any. Without a version, `*`
-    /// alone asks for any. Takes no memory.
+    /// Returns whether the version matches. `=` compares by `==`, and `>`, `>=`, `<` and `<=` by precedence. `~` and
+    /// `^` match by the rule of strict versions if both are strict, by that of general ones if both are general, else
+    /// never. `*` matches every version, with or without a version of its own. Any other operator without a version
+    /// matches nothing. Doesn't allocate.
     pub fn matches(&self, version: &VersioningRef<'_>) -> bool
         ensures { IsTrue result
             ↔ Matches (plain_requirement_ref self.now) (plain_versioning_ref version.now) }
@@ -48,7 +50,7 @@ impl<'a> RequirementRef<'a> {
         }
     }
 
-    // Whether it is a tilde or a caret of a strict version, which asks for no version of another kind.
+    // Returns whether it is `~` or `^` with a strict version, which matches only strict versions.
     pub(crate) fn asks_for_strict_alone(&self) -> bool
         ensures { IsTrue result → (v : PlainVersioning)
             → Matches (plain_requirement_ref self.now) v → IsTrue (is_ideal v) }
@@ -60,7 +62,7 @@ impl<'a> RequirementRef<'a> {
     }
 }
 
-// Whether an operator before one version asks for another.
+// Returns whether an operator with one version matches another version.
 fn asks_for(op: Op, wanted: &VersioningRef<'_>, version: &VersioningRef<'_>) -> bool
     ensures { IsTrue result
         ↔ MatchesOp op (plain_versioning_ref wanted.now) (plain_versioning_ref version.now) }
@@ -76,7 +78,7 @@ fn asks_for(op: Op, wanted: &VersioningRef<'_>, version: &VersioningRef<'_>) -> 
     }
 }
 
-// Whether `~wanted` asks for a version.
+// Returns whether `~wanted` matches a version.
 fn matches_tilde(wanted: &VersioningRef<'_>, version: &VersioningRef<'_>) -> bool
     ensures { IsTrue result
         ↔ MatchesTilde (plain_versioning_ref wanted.now) (plain_versioning_ref version.now) }
@@ -90,7 +92,7 @@ fn matches_tilde(wanted: &VersioningRef<'_>, version: &VersioningRef<'_>) -> boo
     }
 }
 
-// Whether `^wanted` asks for a version.
+// Returns whether `^wanted` matches a version.
 fn matches_caret(wanted: &VersioningRef<'_>, version: &VersioningRef<'_>) -> bool
     ensures { IsTrue result
         ↔ MatchesCaret (plain_versioning_ref wanted.now) (plain_versioning_ref version.now) }

@@ -1,4 +1,4 @@
-//! Lists of requirements, as `>=1.1.1,<2.0.0`.
+//! Lists of requirements, such as `>=1.1.1,<2.0.0`.
 
 ghost use Rattle.std.specs.Prelude.{◌≡◌, ◌↔◌, IfOk, IfSome, IsSome, IsTrue, List, OnErr, Some};
 ghost use Rattle.std.specs.Option.{is_some, option_map};
@@ -15,26 +15,26 @@ use crate::versioning::Versioning;
 use std::alloc::{AllocError, Global};
 use std::fmt;
 
-/// Requirements that have to be met all, as `>=1.1.1,<2.0.0`.
+/// A list of requirements, such as `>=1.1.1,<2.0.0`. It matches the versions that each member matches.
 #[derive(Debug, PartialEq, Eq, Hash, Drop)]
 pub struct Requirements(pub Vec<Requirement>);
 
 impl Requirements {
-    /// The list that the whole text spells, or None where it spells none: one requirement or more, joined by single
-    /// commas. So neither the empty text nor an empty member is read. None takes no memory; otherwise the error is that
-    /// there is no memory for the list.
+    /// Parses the whole text as a list; returns None if it does not parse. A list is one requirement or more with
+    /// single commas between. So neither the empty text nor an empty member parses. Allocates nothing for None. `Err`
+    /// means allocation failure.
     pub fn new(alloc: Global, s: &str) -> Result<Option<Requirements>, AllocError>
-        // What is read is spelled so, and prints the text again.
+        // The text spells the list that is returned, and that list prints the text.
         ensures spelled { IfOk result (λ o. IfSome o
             (λ list. SpellsRequirements s.now (plain_requirements list))) }
         ensures printed { IfOk result (λ o. IfSome o
             (λ list. requirements_text (plain_requirements list) ≡ s.now)) }
 
-        // What is spelled is read. So None comes exactly where nothing is spelled.
+        // If the text spells a list, it is returned. So None means that the text spells no list.
         ensures read { (list : List PlainRequirement) → SpellsRequirements s.now list
             → IfOk result (λ o. option_map plain_requirements o ≡ Some list) }
 
-        // Memory is wanted only where the text spells a list.
+        // An allocation fails only if the text spells a list.
         ensures memory { OnErr result ((list : List PlainRequirement)
             × SpellsRequirements s.now list) }
 
@@ -44,15 +44,15 @@ impl Requirements {
         read_whole(alloc, s)
     }
 
-    /// Whether the whole text spells a list, so that `new` would give one. Takes no memory.
+    /// Returns whether the whole text parses as a list, so that `new` returns one. Doesn't allocate.
     pub fn is_spelled_by(s: &str) -> bool
         ensures { result ≡ is_some (requirements_of s.now) }
     {
         s.split(',').all(Requirement::is_spelled_by)
     }
 
-    /// The list that the whole text spells; else `Illegal`, with `IllegalOp` and the whole text in it. `Memory` comes
-    /// where there is no memory for the list or for that text.
+    /// Parses the whole text as a list. Fails with `Illegal` if it does not parse: the error is `IllegalOp` with the
+    /// text. Fails with `Memory` if an allocation fails, for the list or for that text.
     pub fn from_str(alloc: Global, s: &str) -> Result<Requirements, ReadError>
         ensures { ReadsOr plain_requirements
             (λ _. Unit {0}) (IllegalOp s.now) result (requirements_of s.now) }
@@ -60,7 +60,7 @@ impl Requirements {
         or_illegal(alloc, read_whole(alloc, s)?, s, Error::IllegalOp)
     }
 
-    /// A copy, with the same in every field of every member. The error is that there is no memory for it.
+    /// Returns a copy. `Err` means allocation failure.
     pub fn clone(&self, alloc: Global) -> Result<Requirements, AllocError>
         ensures { IfOk result (λ copy. plain_requirements copy ≡ plain_requirements self.now) }
     {
@@ -71,13 +71,13 @@ impl Requirements {
         Ok(Requirements(copy))
     }
 
-    /// Whether each member asks for a version; an empty list asks for any. Takes no memory.
+    /// Returns whether each member matches the version; an empty list matches every version. Doesn't allocate.
     #[tactic(auto, using(crate::proofs::Convex::requirements_convex))]
     pub fn matches(&self, version: &Versioning) -> bool
         ensures set { IsTrue result
             ↔ MatchesAll (plain_requirements self.now) (plain_versioning version.now) }
 
-        // With two strict versions it asks for those between them.
+        // If two strict versions match, so do the strict versions between them.
         ensures convex { IsConvex (MatchesAll (plain_requirements self.now)) }
     {
         for requirement in &self.0 {
@@ -89,7 +89,7 @@ impl Requirements {
     }
 }
 
-/// The members with commas between them.
+/// Writes the members with commas between.
 impl fmt::Display for Requirements {
     ghost output = { λ list. Some (requirements_text (plain_requirements list)) };
 
@@ -105,7 +105,7 @@ impl fmt::Display for Requirements {
     }
 }
 
-// The list that the whole text spells.
+// Parses the whole text as a list.
 fn read_whole(alloc: Global, s: &str) -> Result<Option<Requirements>, AllocError>
     ensures ok { IfOk result (λ o. option_map plain_requirements o ≡ requirements_of s.now) }
     ensures err { OnErr result (IsSome (requirements_of s.now)) }
@@ -116,7 +116,7 @@ fn read_whole(alloc: Global, s: &str) -> Result<Option<Requirements>, AllocError
     read_members(alloc, s)
 }
 
-// The members of the list that the whole text spells, one after another.
+// Parses the members of a list, one after another.
 fn read_members(alloc: Global, s: &str) -> Result<Option<Requirements>, AllocError>
     ensures { IfOk result (λ o. option_map plain_requirements o ≡ requirements_of s.now) }
 {

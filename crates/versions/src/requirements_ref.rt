@@ -1,4 +1,4 @@
-//! A list of requirements as a text spells it.
+//! Lists of requirements that are borrowed from their texts.
 
 ghost use Rattle.std.specs.Prelude.{◌≡◌, ◌<◌, ◌↔◌, IfSome, IsTrue, length};
 ghost use Rattle.std.specs.Option.{is_some, option_map, IsSomeAnd};
@@ -16,13 +16,13 @@ use crate::semver::SemVerRef;
 use crate::versioning_ref::VersioningRef;
 use std::marker::Model;
 
-/// Requirements that have to be met all, read off their text: a [`Requirements`](crate::Requirements) that owns nothing.
-/// No call takes memory. The first two members are scanned once, and the others each time that it is their turn.
+/// A list of requirements borrowed from its text: a [`Requirements`](crate::Requirements) that owns nothing. No call
+/// allocates. The first two members are parsed once, and each further member again for each version.
 #[derive(Drop)]
 pub struct RequirementsRef<'a> {
     first: RequirementRef<'a>,
     second: Option<RequirementRef<'a>>,
-    // The text of the others, after the second comma.
+    // The text of the further members, after the second comma.
     others: Option<&'a str>,
 }
 
@@ -39,8 +39,8 @@ impl<'a> Model for RequirementsRef<'a> {
 }
 
 impl<'a> RequirementsRef<'a> {
-    /// The list that the whole text spells, or None where it spells none: one requirement or more, joined by single
-    /// commas. So neither the empty text nor an empty member is read. Takes no memory.
+    /// Parses the whole text as a list; returns None if it does not parse. A list is one requirement or more with
+    /// single commas between. So neither the empty text nor an empty member parses. Doesn't allocate.
     pub fn new(s: &'a str) -> Option<RequirementsRef<'a>>
         ensures { result ≡ requirements_of s.now }
     {
@@ -65,23 +65,24 @@ impl<'a> RequirementsRef<'a> {
         })
     }
 
-    /// The list that bytes spell, as `new` reads their text. Bytes that are no UTF-8 spell none. Takes no memory.
+    /// Parses bytes as `new` parses their text; returns None if they do not parse. Bytes that are not UTF-8 are not a
+    /// list. Doesn't allocate.
     pub fn from_bytes(bytes: &'a [u8]) -> Option<RequirementsRef<'a>>
         ensures { result ≡ requirements_of bytes.now }
     {
         RequirementsRef::new(ascii_text(bytes)?)
     }
 
-    /// Whether each member asks for a version. The members are held against it in turn, up to the first that doesn't ask
-    /// for it. Takes no memory.
+    /// Returns whether each member matches the version. The members are tried in turn, up to the first that doesn't
+    /// match. Doesn't allocate.
     pub fn matches(&self, version: &VersioningRef<'_>) -> bool
         ensures { IsTrue result ↔ MatchesAll self.now (plain_versioning_ref version.now) }
     {
         self.first.matches(version) && second_and_others_ask(&self.second, self.others, version)
     }
 
-    /// Whether bytes spell a version that each member asks for. Where the first member is a tilde or a caret of a strict
-    /// version, none of another kind is looked for. Takes no memory.
+    /// Returns whether the bytes parse as a version that each member matches. If the first member is `~` or `^` with a
+    /// strict version, the bytes are parsed only as a strict version. Doesn't allocate.
     pub fn keeps(&self, text: &[u8]) -> bool
         ensures { IsTrue result ↔ Keeps self.now (versioning_of text.now) }
     {
@@ -91,7 +92,7 @@ impl<'a> RequirementsRef<'a> {
         }
     }
 
-    // The version that bytes spell, unless it is of a kind that isn't asked for.
+    // Parses bytes as a version, but not as a kind that the first member never matches.
     fn candidate<'t>(&self, text: &'t [u8]) -> Option<VersioningRef<'t>>
         ensures { Keeps self.now (option_map plain_versioning_ref result)
             ↔ Keeps self.now (versioning_of text.now) }
@@ -103,7 +104,7 @@ impl<'a> RequirementsRef<'a> {
     }
 }
 
-// The text before the first comma of a list, and what stands behind it, if there is one.
+// Returns the text before the first comma, and the text after it, if there is one.
 fn split_first(list: &str) -> (&str, Option<&str>)
     ensures members { requirements_of list.now
         ≡ before_others (requirement_of result.0.now) (members_of result.1) }
@@ -115,7 +116,7 @@ fn split_first(list: &str) -> (&str, Option<&str>)
     }
 }
 
-// Whether a text spells members; without a text there is none to spell.
+// Returns whether the text parses as members. True without a text.
 fn are_members(text: Option<&str>) -> bool
     ensures { result ≡ is_some (members_of text.entry) }
 {
@@ -125,7 +126,7 @@ fn are_members(text: Option<&str>) -> bool
     }
 }
 
-// Whether the second member, if there is one, and each of the others ask for a version.
+// Returns whether the second member, if there is one, and each further member match the version.
 fn second_and_others_ask(
     second: &Option<RequirementRef<'_>>,
     others: Option<&str>,
@@ -141,7 +142,7 @@ fn second_and_others_ask(
     }
 }
 
-// Whether each of the members that a text spells asks for a version.
+// Returns whether each member of the text matches the version.
 fn each_asks_for(mut members: Option<&str>, version: &VersioningRef<'_>) -> bool
     ensures { IsTrue result ↔ IsSomeAnd (members_of members.entry)
         (λ list. MatchesAll list (plain_versioning_ref version.now)) }

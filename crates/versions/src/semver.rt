@@ -30,33 +30,32 @@ use std::fmt;
 use std::hash::{Hash, Hasher};
 use version_parts::{Chunk, Chunks, Last, Release, ReleaseRef, scan};
 
-/// A strict version: `major.minor.patch`, then perhaps a pre-release, then perhaps build metadata, as
+/// A strict version: `major.minor.patch`, then perhaps a pre-release, then perhaps build metadata, such as
 /// `1.2.3-rc.1+x86` (SemVer 2.0, sections 2, 9 and 10). The numbers are below 2^32.
 #[derive(Debug, Drop, Serialize, Deserialize)]
 pub struct SemVer {
     pub major: u32,
     pub minor: u32,
     pub patch: u32,
-    /// What stands behind the hyphen. It has at least one chunk where it was read.
+    /// The pre-release, which follows the hyphen. A parsed version has at least one chunk here.
     pub pre_rel: Option<Release>,
-    /// What stands behind the plus.
+    /// The build metadata, which follows the plus.
     pub meta: Option<String>,
 }
 
 impl SemVer {
-    /// The strict version that the whole text spells, or None where it spells none. None takes no memory, nor do
-    /// three plain numbers; otherwise the release and the metadata are copied, and the error is that there is no
-    /// memory for them.
+    /// Parses the whole text as a strict version; returns None if it does not parse. Allocates only for a pre-release
+    /// and metadata, which it copies. `Err` means allocation failure.
     pub fn new(alloc: Global, s: &str) -> Result<Option<SemVer>, AllocError>
-        // What is read is spelled so, and prints the text again.
+        // The text spells the version that is returned, and that version prints the text.
         ensures spelled { IfOk result (λ o. IfSome o (λ v. SpellsSemVer s.now (plain_semver v))) }
         ensures printed { IfOk result (λ o. IfSome o (λ v. semver_text (plain_semver v) ≡ s.now)) }
 
-        // What is spelled is read. So None comes exactly where nothing is spelled.
+        // If the text spells a version, it is returned. So None means that the text spells no version.
         ensures read { (v : PlainSemVer) → SpellsSemVer s.now v
             → IfOk result (λ o. option_map plain_semver o ≡ Some v) }
 
-        // Memory is wanted only where the text spells a version that owns some.
+        // An allocation fails only if the text spells a version that owns memory.
         ensures memory { OnErr result ((v : PlainSemVer) × SpellsSemVer s.now v × SemVerOwns v) }
 
         // The same as an equation.
@@ -65,24 +64,24 @@ impl SemVer {
         read_whole(alloc, s)
     }
 
-    /// Whether the whole text spells a strict version, so that `new` would give one. Takes no memory.
+    /// Returns whether the whole text parses as a strict version, so that `new` returns one. Doesn't allocate.
     pub fn is_spelled_by(s: &str) -> bool
         ensures { result ≡ is_some (semver_of s.now) }
     {
         SemVerRef::new(s).is_some()
     }
 
-    /// The strict version that the whole text spells; else `Illegal`, with `IllegalSemver` and the whole text in it.
-    /// `Memory` comes where there is no memory for the version or for that text.
+    /// Parses the whole text as a strict version. Fails with `Illegal` if it does not parse: the error is
+    /// `IllegalSemver` with the text. Fails with `Memory` if an allocation fails, for the version or for that text.
     pub fn from_str(alloc: Global, s: &str) -> Result<SemVer, ReadError>
         ensures { ReadsOr plain_semver SemVerOwns (IllegalSemver s.now) result (semver_of s.now) }
     {
         or_illegal(alloc, read_whole(alloc, s)?, s, Error::IllegalSemver)
     }
 
-    /// The strict version at the front of a text, and the rest: three numbers joined by dots, then a release and
-    /// metadata as far as they can be read. None takes no memory, nor do three plain numbers; otherwise the release
-    /// and the metadata are copied, and the error is that there is no memory for them.
+    /// Parses a prefix as a strict version; returns it and the rest, or None. It parses three numbers with dots
+    /// between, then a release and metadata if they parse. Allocates only for a release and metadata, which it copies.
+    /// `Err` means allocation failure.
     pub fn parse(alloc: Global, i: &str) -> Result<Option<(SemVer, &str)>, AllocError>
         ensures { Reads plain_semver SemVerOwns result (semver_front i.now) }
     {
@@ -92,8 +91,8 @@ impl SemVer {
         Ok(Some((version.read().build(alloc)?, rest)))
     }
 
-    /// A copy, with the same in every field, metadata included. Three plain numbers take no memory; the error is that
-    /// there is no memory for more.
+    /// Returns a copy, metadata included. Allocates only for a pre-release and metadata. `Err` means allocation
+    /// failure.
     pub fn clone(&self, alloc: Global) -> Result<SemVer, AllocError>
         ensures ok { IfOk result (λ copy. plain_semver copy ≡ plain_semver self.now) }
         ensures err { OnErr result (SemVerOwns (plain_semver self.now)) }
@@ -119,8 +118,8 @@ impl fmt::Display for SemVer {
 }
 
 impl SemVer {
-    /// Whether `~self` asks for `other`: equal major and minor, and a patch that is not less. Pre-releases are not
-    /// looked at. Takes no memory.
+    /// Returns whether `~self` matches `other`: major and minor are equal, and the patch is not less. Pre-releases and
+    /// metadata do not count. Doesn't allocate.
     pub fn matches_tilde(&self, other: &SemVer) -> bool
         ensures { IsTrue result
             ↔ MatchesTilde (numbers (plain_semver self.now)) (numbers (plain_semver other.now)) }
@@ -128,8 +127,8 @@ impl SemVer {
         numbers_match_tilde(self.numbers(), other.numbers())
     }
 
-    /// Whether `^self` asks for `other`: the first of the three numbers that is not 0 in both is equal, and what
-    /// stands behind it is not less. Pre-releases are not looked at. Takes no memory.
+    /// Returns whether `^self` matches `other`. Leading numbers that are 0 in both are skipped; the next must be equal,
+    /// and those after it not less, compared in turn. Pre-releases and metadata do not count. Doesn't allocate.
     pub fn matches_caret(&self, other: &SemVer) -> bool
         ensures { IsTrue result
             ↔ MatchesCaret (numbers (plain_semver self.now)) (numbers (plain_semver other.now)) }
@@ -137,7 +136,7 @@ impl SemVer {
         numbers_match_caret(self.numbers(), other.numbers())
     }
 
-    // The numbers: major, minor and patch.
+    // Returns major, minor and patch.
     fn numbers(&self) -> Numbers
         ensures { result ≡ numbers (plain_semver self.now) }
     {
@@ -145,7 +144,7 @@ impl SemVer {
     }
 }
 
-/// `0.0.0`.
+/// The default is `0.0.0`.
 impl Default for SemVer {
     ghost is_default = { λ v. plain_semver v
         ≡ record { major = 0; minor = 0; patch = 0; pre_rel = None; meta = None } };
@@ -161,7 +160,7 @@ impl Default for SemVer {
     }
 }
 
-/// Equal in every field but `meta`.
+/// Compares every field but `meta`.
 impl PartialEq for SemVer {
     ghost eq = { on plain_semver (eq_by_cmp semver_cmp) };
 
@@ -176,7 +175,7 @@ impl Eq for SemVer {
     ghost laws = { on_equiv plain_semver (eq_by_cmp_equiv semver_total) };
 }
 
-/// Feeds every field but `meta`.
+/// Hashes every field but `meta`.
 impl Hash for SemVer {
     ghost hash_input = { λ v. semver_fed (plain_semver v) };
 
@@ -190,8 +189,8 @@ impl Hash for SemVer {
     }
 }
 
-/// Major, minor and patch by value, then a pre-release below none, then chunk by chunk (SemVer 2.0, section 11).
-/// Metadata is not looked at. Takes no memory.
+/// Compares major, minor and patch by value, then the pre-releases chunk by chunk (SemVer 2.0, section 11). No
+/// pre-release comes last. Metadata does not count. Doesn't allocate.
 impl Ord for SemVer {
     ghost cmp = { on plain_semver semver_cmp };
 
@@ -224,7 +223,7 @@ impl PartialOrd for SemVer {
     }
 }
 
-// A pre-release is below none (SemVer 2.0, section 11).
+// Compares two pre-releases. No pre-release comes last (SemVer 2.0, section 11).
 fn compare_pre_releases(a: &Option<Release>, b: &Option<Release>) -> Ordering
     ensures { result ≡ none_last_cmp release_cmp (option_map plain_release a.now)
         (option_map plain_release b.now) }
@@ -237,7 +236,7 @@ fn compare_pre_releases(a: &Option<Release>, b: &Option<Release>) -> Ordering
     }
 }
 
-// The strict version that the whole text spells.
+// Parses the whole text as a strict version.
 fn read_whole(alloc: Global, s: &str) -> Result<Option<SemVer>, AllocError>
     ensures ok { IfOk result (λ o. option_map plain_semver o ≡ semver_of s.now) }
     ensures err { OnErr result (IsSomeAnd (semver_of s.now) SemVerOwns) }
@@ -248,7 +247,7 @@ fn read_whole(alloc: Global, s: &str) -> Result<Option<SemVer>, AllocError>
     }
 }
 
-/// A strict version that was scanned, with its texts still in the input: what a [`VersioningRef`] holds of that kind.
+/// A strict version borrowed from its text, as in a [`VersioningRef`].
 ///
 /// [`VersioningRef`]: crate::VersioningRef
 #[derive(Drop)]
@@ -261,7 +260,7 @@ pub struct SemVerRef<'a> {
 }
 
 impl<'a> SemVerRef<'a> {
-    // The strict version that the whole text spells.
+    // Parses the whole text as a strict version.
     #[tactic(auto, unfolding(crate::specs::SemVer::semver_of))]
     #[inline(always)]
     pub(crate) fn new(s: &'a str) -> Option<SemVerRef<'a>>
@@ -273,8 +272,8 @@ impl<'a> SemVerRef<'a> {
         }
     }
 
-    /// The strict version that bytes spell, or None where they spell none: bytes that are no UTF-8 never do. Takes no
-    /// memory.
+    /// Parses bytes as a strict version; returns None if they do not parse. Bytes that are not UTF-8 are not a version.
+    /// Doesn't allocate.
     #[inline(always)]
     pub fn from_bytes(bytes: &'a [u8]) -> Option<SemVerRef<'a>>
         ensures { option_map plain_semver_ref result ≡ semver_of bytes.now }
@@ -282,7 +281,7 @@ impl<'a> SemVerRef<'a> {
         SemVerRef::new(ascii_text(bytes)?)
     }
 
-    // Whether `~self` asks for `other`, by the rule of strict versions.
+    // Returns whether `~self` matches `other`, by the rule of strict versions.
     pub(crate) fn matches_tilde(&self, other: &SemVerRef<'_>) -> bool
         ensures { IsTrue result ↔ MatchesTilde (numbers (plain_semver_ref self.now))
             (numbers (plain_semver_ref other.now)) }
@@ -290,7 +289,7 @@ impl<'a> SemVerRef<'a> {
         numbers_match_tilde(self.numbers(), other.numbers())
     }
 
-    // Whether `^self` asks for `other`, by the rule of strict versions.
+    // Returns whether `^self` matches `other`, by the rule of strict versions.
     pub(crate) fn matches_caret(&self, other: &SemVerRef<'_>) -> bool
         ensures { IsTrue result ↔ MatchesCaret (numbers (plain_semver_ref self.now))
             (numbers (plain_semver_ref other.now)) }
@@ -298,14 +297,14 @@ impl<'a> SemVerRef<'a> {
         numbers_match_caret(self.numbers(), other.numbers())
     }
 
-    // The numbers: major, minor and patch.
+    // Returns major, minor and patch.
     fn numbers(&self) -> Numbers
         ensures { result ≡ numbers (plain_semver_ref self.now) }
     {
         (self.major, self.minor, self.patch)
     }
 
-    // The version with texts of its own.
+    // Copies the version into an owned one.
     pub(crate) fn build(&self, alloc: Global) -> Result<SemVer, AllocError>
         ensures ok { IfOk result (λ v. plain_semver v ≡ plain_semver_ref self.now) }
         ensures err { OnErr result (SemVerOwns (plain_semver_ref self.now)) }
@@ -320,7 +319,7 @@ impl<'a> SemVerRef<'a> {
     }
 }
 
-// A strict version as it stands in its text: its numbers by their digits. These are read once the whole text is scanned.
+// A scanned strict version whose numbers are still digits. Their values are computed once the whole text is scanned.
 #[derive(Drop)]
 pub(crate) struct SemVerText<'a> {
     major: &'a str,
@@ -331,7 +330,7 @@ pub(crate) struct SemVerText<'a> {
 }
 
 impl<'a> SemVerText<'a> {
-    // The strict version at the front of a text, and the rest.
+    // Parses a prefix as a strict version; returns it and the rest.
     #[tactic(auto, unfolding(crate::specs::SemVer::semver_front))]
     #[inline(always)]
     fn scan(i: &'a str) -> Option<(SemVerText<'a>, &'a str)>
@@ -354,7 +353,7 @@ impl<'a> SemVerText<'a> {
         Some((version, rest))
     }
 
-    // The same with its numbers read.
+    // Computes the values of the numbers.
     #[inline(always)]
     fn read(self) -> SemVerRef<'a>
         requires { IsSemVerText self }
@@ -371,7 +370,7 @@ impl<'a> SemVerText<'a> {
 }
 
 impl<'a> SemVerRef<'a> {
-    // How two versions compare, as `SemVer`s do: metadata is not looked at.
+    // Compares two versions as `SemVer` does. Metadata does not count.
     pub(crate) fn compare_plain(&self, other: &SemVerRef<'_>) -> Ordering
         ensures { result ≡ semver_cmp (plain_semver_ref self.now) (plain_semver_ref other.now) }
     {
@@ -386,7 +385,7 @@ impl<'a> SemVerRef<'a> {
         }
     }
 
-    // Major, minor and patch at 0, 1 and 2.
+    // Returns major, minor and patch for 0, 1 and 2.
     pub(crate) fn nth(&self, n: usize) -> Option<u32>
         ensures { result ≡ semver_nth (plain_semver_ref self.now) n }
     {
@@ -399,7 +398,7 @@ impl<'a> SemVerRef<'a> {
     }
 }
 
-// A pre-release that was scanned is below none (SemVer 2.0, section 11).
+// Compares two scanned pre-releases. No pre-release comes last (SemVer 2.0, section 11).
 fn compare_spelled_pre_releases(a: &Option<ReleaseRef<'_>>, b: &Option<ReleaseRef<'_>>) -> Ordering
     ensures { result ≡ none_last_cmp release_cmp a.now b.now }
 {
@@ -411,7 +410,7 @@ fn compare_spelled_pre_releases(a: &Option<ReleaseRef<'_>>, b: &Option<ReleaseRe
     }
 }
 
-/// The text that was read.
+/// Writes the text that the version was parsed from.
 impl<'a> fmt::Display for SemVerRef<'a> {
     ghost output = { λ v. Some (semver_text (plain_semver_ref v)) };
 

@@ -36,37 +36,36 @@ use std::hash::{Hash, Hasher};
 use version_parts::lists::{ListItem, compare_lists};
 use version_parts::{BodyRef, Chunks, Last, Release, ReleaseRef, scan};
 
-/// A general version: perhaps a number and a colon, then parts joined by dots, then perhaps a release, then perhaps
-/// metadata, as `1:2.0rc1-3`. It is what most packages carry. The numbers are below 2^32.
+/// A general version: perhaps a number and a colon, then parts with dots between, then perhaps a release, then perhaps
+/// metadata, such as `1:2.0rc1-3`. Most packages have such versions. The numbers are below 2^32.
 #[derive(Debug, Drop, Serialize, Deserialize)]
 pub struct Version {
-    /// The number before the colon, which outranks all others. None counts as 0.
+    /// The number before the colon, which compares before all else. None counts as 0.
     pub epoch: Option<u32>,
     /// All parts but the last.
     pub chunks: Chunks,
-    /// The last part, taken apart.
+    /// The last part, decomposed.
     pub last: Last,
-    /// What stands behind the hyphen. It has at least one chunk where it was read.
+    /// The release, which follows the hyphen. A parsed version has at least one chunk here.
     pub release: Option<Release>,
-    /// What stands behind the plus.
+    /// The metadata, which follows the plus.
     pub meta: Option<String>,
 }
 
 impl Version {
-    /// The general version that the whole text spells, or None where it spells none. None takes no memory, nor does a
-    /// number alone or behind an epoch; otherwise the texts and the chunks are copied, and the error is that there is
-    /// no memory for them.
+    /// Parses the whole text as a general version; returns None if it does not parse. Copies the chunks and texts;
+    /// allocates nothing for None or for one number with or without epoch. `Err` means allocation failure.
     pub fn new(alloc: Global, s: &str) -> Result<Option<Version>, AllocError>
-        // What is read is spelled so, and prints the text again.
+        // The text spells the version that is returned, and that version prints the text.
         ensures spelled { IfOk result (λ o. IfSome o (λ v. SpellsVersion s.now (plain_version v))) }
         ensures printed { IfOk result (λ o. IfSome o
             (λ v. version_text (plain_version v) ≡ s.now)) }
 
-        // What is spelled is read. So None comes exactly where nothing is spelled.
+        // If the text spells a version, it is returned. So None means that the text spells no version.
         ensures read { (v : PlainVersion) → SpellsVersion s.now v
             → IfOk result (λ o. option_map plain_version o ≡ Some v) }
 
-        // Memory is wanted only where the text spells a version that owns some.
+        // An allocation fails only if the text spells a version that owns memory.
         ensures memory { OnErr result ((v : PlainVersion) × SpellsVersion s.now v × VersionOwns v) }
 
         // The same as an equation.
@@ -75,15 +74,15 @@ impl Version {
         read_whole(alloc, s)
     }
 
-    /// Whether the whole text spells a general version, so that `new` would give one. Takes no memory.
+    /// Returns whether the whole text parses as a general version, so that `new` returns one. Doesn't allocate.
     pub fn is_spelled_by(s: &str) -> bool
         ensures { result ≡ is_some (version_of s.now) }
     {
         VersionRef::new(s).is_some()
     }
 
-    /// The general version that the whole text spells; else `Illegal`, with `IllegalVersion` and the whole text in it.
-    /// `Memory` comes where there is no memory for the version or for that text.
+    /// Parses the whole text as a general version. Fails with `Illegal` if it does not parse: the error is
+    /// `IllegalVersion` with the text. Fails with `Memory` if an allocation fails, for the version or for that text.
     pub fn from_str(alloc: Global, s: &str) -> Result<Version, ReadError>
         ensures { ReadsOr plain_version VersionOwns (IllegalVersion s.now) result
             (version_of s.now) }
@@ -91,10 +90,10 @@ impl Version {
         or_illegal(alloc, read_whole(alloc, s)?, s, Error::IllegalVersion)
     }
 
-    /// The general version at the front of a text, and the rest: a number and a colon if both can be read, then parts
-    /// joined by dots, then a release and metadata as far as they can be read. Behind an epoch there is no way back:
-    /// `1:` is None. None takes no memory, nor does a number alone or behind an epoch; otherwise the texts and the
-    /// chunks are copied, and the error is that there is no memory for them.
+    /// Parses a prefix as a general version; returns it and the rest, or None. It parses a number and a colon if both
+    /// are there, then parts with dots between, then a release and metadata if they parse. An epoch with no part after
+    /// it does not parse: `1:` is None. Copies the chunks and texts; allocates nothing for None or for one number with
+    /// or without epoch. `Err` means allocation failure.
     pub fn parse(alloc: Global, i: &str) -> Result<Option<(Version, &str)>, AllocError>
         ensures { Reads plain_version VersionOwns result (version_front i.now) }
     {
@@ -104,7 +103,7 @@ impl Version {
         Ok(Some((version.build(alloc)?, rest)))
     }
 
-    /// No epoch, no chunks, the last part `0`, and nothing else. Takes no memory.
+    /// Returns a version without epoch, chunks, release and metadata, whose last part is `0`. Doesn't allocate.
     pub fn default_in(alloc: Global) -> Version
         ensures { plain_version result
             ≡ record { epoch = None; chunks = []; last = plain.Numeric 0; release = None; meta = None } }
@@ -118,7 +117,7 @@ impl Version {
         }
     }
 
-    /// A copy, with the same in every field. The error is that there is no memory for it.
+    /// Returns a copy. `Err` means allocation failure.
     pub fn clone(&self, alloc: Global) -> Result<Version, AllocError>
         ensures { IfOk result (λ copy. plain_version copy ≡ plain_version self.now) }
     {
@@ -131,8 +130,8 @@ impl Version {
         })
     }
 
-    /// The number at a place of the chunks, counted from 0, and behind them that of the last part: None where the
-    /// chunk is no number, where the last part doesn't begin with one, and past the end. Takes no memory.
+    /// Returns the number at a place, counted from 0: of a chunk, or after the chunks the first number of the last
+    /// part. None for `Alphanum`, and after the end. Doesn't allocate.
     pub fn nth(&self, n: usize) -> Option<u32>
         ensures { result ≡ version_nth (plain_version self.now) n }
     {
@@ -142,7 +141,7 @@ impl Version {
         self.chunks.0.get(n)?.single_digit()
     }
 
-    // How the keys of two versions compare.
+    // Compares the keys of two versions.
     #[tactic(auto, using(crate::proofs::Orders::key_bytes_alone))]
     fn compare_keys(&self, other: &Version) -> Ordering
         ensures { result ≡ precedence (key_of_version (plain_version self.now))
@@ -151,7 +150,7 @@ impl Version {
         compare_keys(KeyBytes::of_version(self), KeyBytes::of_version(other))
     }
 
-    // How two versions compare field by field, none before some.
+    // Compares two versions field by field, None before Some.
     pub(crate) fn compare_plain(&self, other: &Version) -> Ordering
         ensures { result ≡ version_plain_cmp (plain_version self.now) (plain_version other.now) }
     {
@@ -182,8 +181,8 @@ impl fmt::Display for Version {
 }
 
 impl Version {
-    /// Whether `~self` asks for `other`: the same epoch, none being 0, and equally many parts, of which all but the
-    /// final ones are the same and the final one is not below. Releases and metadata are not looked at. Takes no memory.
+    /// Returns whether `~self` matches `other`: the epochs are equal (no epoch is 0), and there are equally many parts,
+    /// all but the last the same and the last not before. Releases and metadata do not count. Doesn't allocate.
     pub fn matches_tilde(&self, other: &Version) -> bool
         ensures { IsTrue result
             ↔ MatchesTilde (epoch_and_parts (plain_version self.now))
@@ -193,10 +192,9 @@ impl Version {
             && parts_match_tilde(BodyParts::of(self), BodyParts::of(other))
     }
 
-    /// Whether `^self` asks for `other`: the same epoch, none being 0, and at the place of each part of `self` a part
-    /// of `other`: the same for the plain zeros in front and for the first other part, and for each part behind that,
-    /// one that is not below it. Further parts of `other` are free. Releases and metadata are not looked at. Takes no
-    /// memory.
+    /// Returns whether `^self` matches `other`: the epochs are equal (no epoch is 0), and `other` has a part for each
+    /// part of `self`. These are the same for the leading plain zeros of `self` and for its first other part; then they
+    /// are not before those of `self`. More parts may follow. Releases and metadata do not count. Doesn't allocate.
     pub fn matches_caret(&self, other: &Version) -> bool
         ensures { IsTrue result
             ↔ MatchesCaret (epoch_and_parts (plain_version self.now))
@@ -206,7 +204,7 @@ impl Version {
             && parts_match_caret(BodyParts::of(self), BodyParts::of(other))
     }
 
-    // The epoch, none being 0.
+    // Returns the epoch, or 0 without one.
     fn epoch_number(&self) -> u32
         ensures { result ≡ (epoch_and_parts (plain_version self.now)).0 }
     {
@@ -214,7 +212,7 @@ impl Version {
     }
 }
 
-/// Equal in every field.
+/// Compares every field.
 impl PartialEq for Version {
     ghost eq = { on plain_version (eq_by_cmp version_plain_cmp) };
 
@@ -230,7 +228,7 @@ impl Eq for Version {
     ghost laws = { on_equiv plain_version (eq_by_cmp_equiv version_plain_total) };
 }
 
-/// By their keys, and where those tie, field by field, none before some. Takes no memory.
+/// Compares the keys; breaks a tie field by field, None before Some. Doesn't allocate.
 impl Ord for Version {
     ghost cmp = { on plain_version version_cmp };
 
@@ -257,7 +255,7 @@ impl PartialOrd for Version {
     }
 }
 
-/// Feeds every field.
+/// Hashes every field.
 impl Hash for Version {
     ghost hash_input = { λ v. version_fed (plain_version v) };
 
@@ -272,7 +270,7 @@ impl Hash for Version {
     }
 }
 
-// The general version that the whole text spells.
+// Parses the whole text as a general version.
 fn read_whole(alloc: Global, s: &str) -> Result<Option<Version>, AllocError>
     ensures ok { IfOk result (λ o. option_map plain_version o ≡ version_of s.now) }
     ensures err { OnErr result (IsSomeAnd (version_of s.now) VersionOwns) }
@@ -283,7 +281,7 @@ fn read_whole(alloc: Global, s: &str) -> Result<Option<Version>, AllocError>
     }
 }
 
-/// A general version that was scanned, with its texts still in the input: what a [`VersioningRef`] holds of that kind.
+/// A general version borrowed from its text, as in a [`VersioningRef`].
 ///
 /// [`VersioningRef`]: crate::VersioningRef
 #[derive(Drop)]
@@ -295,7 +293,7 @@ pub struct VersionRef<'a> {
 }
 
 impl<'a> VersionRef<'a> {
-    // The general version that the whole text spells.
+    // Parses the whole text as a general version.
     #[tactic(auto, unfolding(crate::specs::Version::version_of))]
     #[inline(always)]
     pub(crate) fn new(s: &'a str) -> Option<VersionRef<'a>>
@@ -307,7 +305,7 @@ impl<'a> VersionRef<'a> {
         }
     }
 
-    // The general version at the front of a text, and the rest.
+    // Parses a prefix as a general version; returns it and the rest.
     #[tactic(auto, unfolding(crate::specs::Version::version_front))]
     #[inline(always)]
     fn scan(i: &'a str) -> Option<(VersionRef<'a>, &'a str)>
@@ -325,7 +323,7 @@ impl<'a> VersionRef<'a> {
         Some((version, rest))
     }
 
-    // Whether `~self` asks for `other`, by the rule of general versions.
+    // Returns whether `~self` matches `other`, by the rule of general versions.
     pub(crate) fn matches_tilde(&self, other: &VersionRef<'_>) -> bool
         ensures { IsTrue result
             ↔ MatchesTilde (epoch_and_parts (plain_version_ref self.now))
@@ -335,7 +333,7 @@ impl<'a> VersionRef<'a> {
             && parts_match_tilde(BodyParts::spelled_by(self), BodyParts::spelled_by(other))
     }
 
-    // Whether `^self` asks for `other`, by the rule of general versions.
+    // Returns whether `^self` matches `other`, by the rule of general versions.
     pub(crate) fn matches_caret(&self, other: &VersionRef<'_>) -> bool
         ensures { IsTrue result
             ↔ MatchesCaret (epoch_and_parts (plain_version_ref self.now))
@@ -345,14 +343,14 @@ impl<'a> VersionRef<'a> {
             && parts_match_caret(BodyParts::spelled_by(self), BodyParts::spelled_by(other))
     }
 
-    // The epoch, none being 0.
+    // Returns the epoch, or 0 without one.
     fn epoch_number(&self) -> u32
         ensures { result ≡ (epoch_and_parts (plain_version_ref self.now)).0 }
     {
         self.epoch.unwrap_or(0)
     }
 
-    // The version with texts of its own.
+    // Copies the version into an owned one.
     pub(crate) fn build(&self, alloc: Global) -> Result<Version, AllocError>
         ensures ok { IfOk result (λ v. plain_version v ≡ plain_version_ref self.now) }
         ensures err { OnErr result (VersionOwns (plain_version_ref self.now)) }
@@ -368,8 +366,8 @@ impl<'a> VersionRef<'a> {
     }
 }
 
-// The epoch at the front of a text, if there is one, the body behind it, and the rest. An epoch is a body too, which a
-// colon follows: a text without one is scanned once.
+// Parses a prefix as an epoch, if there is one, and a body; returns both and the rest. An epoch is itself a body before
+// a colon, so a text without a colon is scanned once.
 #[inline(always)]
 fn scan_body(i: &str) -> Option<(Option<u32>, BodyRef<'_>, &str)>
     ensures epoch { IfSome result (λ r. r.0 ≡ (optional epoch_front i.now).0) }
@@ -385,7 +383,7 @@ fn scan_body(i: &str) -> Option<(Option<u32>, BodyRef<'_>, &str)>
     }
 }
 
-// The same, for a text with an epoch.
+// The same for a text that may have an epoch.
 #[inline(always)]
 fn scan_body_and_epoch(i: &str) -> Option<(Option<u32>, BodyRef<'_>, &str)>
     ensures epoch { IfSome result (λ r. r.0 ≡ (optional epoch_front i.now).0) }
@@ -399,7 +397,7 @@ fn scan_body_and_epoch(i: &str) -> Option<(Option<u32>, BodyRef<'_>, &str)>
     Some((epoch, body, rest))
 }
 
-// The epoch at the front of a text, if there is one, and the rest.
+// Parses a prefix as an epoch; returns it and the rest, or None and the whole text.
 #[tactic(auto, unfolding(version_parts::specs::Front::optional))]
 #[inline(always)]
 fn optional_epoch(i: &str) -> (Option<u32>, &str)
@@ -411,7 +409,7 @@ fn optional_epoch(i: &str) -> (Option<u32>, &str)
     }
 }
 
-// The number and the colon at the front of a text, and the rest.
+// Parses a prefix as a number and a colon; returns the number and the rest.
 #[tactic(auto, unfolding(crate::specs::Version::epoch_front))]
 #[inline(always)]
 fn scan_epoch(i: &str) -> Option<(u32, &str)>
@@ -423,7 +421,7 @@ fn scan_epoch(i: &str) -> Option<(u32, &str)>
 }
 
 impl<'a> VersionRef<'a> {
-    // How two versions compare field by field, none before some.
+    // Compares two versions field by field, None before Some.
     pub(crate) fn compare_plain(&self, other: &VersionRef<'_>) -> Ordering
         ensures { result ≡ version_plain_cmp (plain_version_ref self.now)
             (plain_version_ref other.now) }
@@ -443,7 +441,7 @@ impl<'a> VersionRef<'a> {
         compare_meta(self.meta, other.meta)
     }
 
-    // The number at a place of the body, counted from 0.
+    // Returns the number at a place of the body, counted from 0.
     pub(crate) fn nth(&self, n: usize) -> Option<u32>
         ensures { result ≡ version_nth (plain_version_ref self.now) n }
     {
@@ -451,7 +449,7 @@ impl<'a> VersionRef<'a> {
     }
 }
 
-// None is below any metadata.
+// Compares metadata, None before Some.
 fn compare_meta(a: Option<&str>, b: Option<&str>) -> Ordering
     ensures { result ≡ option_cmp bytes_cmp (option_map (λ text. text.now) a.entry)
         (option_map (λ text. text.now) b.entry) }
@@ -464,7 +462,7 @@ fn compare_meta(a: Option<&str>, b: Option<&str>) -> Ordering
     }
 }
 
-// None is below a release that was scanned.
+// Compares scanned releases, None before Some.
 fn compare_spelled_releases(a: &Option<ReleaseRef<'_>>, b: &Option<ReleaseRef<'_>>) -> Ordering
     ensures { result ≡ option_cmp release_cmp a.now b.now }
 {
@@ -476,7 +474,7 @@ fn compare_spelled_releases(a: &Option<ReleaseRef<'_>>, b: &Option<ReleaseRef<'_
     }
 }
 
-/// The text that was read.
+/// Writes the text that the version was parsed from.
 impl<'a> fmt::Display for VersionRef<'a> {
     ghost output = { λ v. Some (version_text (plain_version_ref v)) };
 

@@ -35,30 +35,30 @@ use std::hash::{Hash, Hasher};
 /// A version of the first kind that fits its text.
 #[derive(Debug, Drop)]
 pub enum Versioning {
-    /// A strict version, as `1.2.3-rc.1`.
+    /// A strict version, such as `1.2.3-rc.1`.
     Ideal(SemVer),
-    /// A general version, as `1:2.0rc1-3`.
+    /// A general version, such as `1:2.0rc1-3`.
     General(Version),
-    /// A messy version, as `10.2+0.93+1-1`.
+    /// A messy version, such as `10.2+0.93+1-1`.
     Complex(Mess),
 }
 
 impl Versioning {
-    /// The version that the whole text spells: of the first of the strict, general and messy kinds whose grammar holds
-    /// it, or None where none does. The kind is found without memory, and that kind alone is built. None takes no
-    /// memory, nor do three plain numbers; otherwise the error is that there is no memory for what is read.
+    /// Parses the whole text as a strict version, else as a general, else as a messy one; returns None if it does not
+    /// parse. Only the kind that is returned is built. Allocates nothing for None, three plain numbers, or one number
+    /// with or without epoch. `Err` means allocation failure.
     pub fn new(alloc: Global, s: &str) -> Result<Option<Versioning>, AllocError>
-        // What is read is spelled so, and prints the text again.
+        // The text spells the version that is returned, and that version prints the text.
         ensures spelled { IfOk result (λ o. IfSome o
             (λ v. SpellsVersioning s.now (plain_versioning v))) }
         ensures printed { IfOk result (λ o. IfSome o
             (λ v. versioning_text (plain_versioning v) ≡ s.now)) }
 
-        // What is spelled is read. So None comes exactly where nothing is spelled.
+        // If the text spells a version, it is returned. So None means that the text spells no version.
         ensures read { (v : PlainVersioning) → SpellsVersioning s.now v
             → IfOk result (λ o. option_map plain_versioning o ≡ Some v) }
 
-        // Memory is wanted only where the text spells a version that owns some.
+        // An allocation fails only if the text spells a version that owns memory.
         ensures memory { OnErr result ((v : PlainVersioning) × SpellsVersioning s.now v
             × VersioningOwns v) }
 
@@ -68,15 +68,15 @@ impl Versioning {
         read_whole(alloc, s)
     }
 
-    /// Whether the whole text spells a version of any kind, so that `new` would give one. Takes no memory.
+    /// Returns whether the whole text parses as a version of any kind, so that `new` returns one. Doesn't allocate.
     pub fn is_spelled_by(s: &str) -> bool
         ensures { result ≡ is_some (versioning_of s.now) }
     {
         VersioningRef::new(s).is_some()
     }
 
-    /// The version that the whole text spells; else `Illegal`, with `IllegalVersioning` and the whole text in it.
-    /// `Memory` comes where there is no memory for the version or for that text.
+    /// Parses the whole text as a version. Fails with `Illegal` if it does not parse: the error is `IllegalVersioning`
+    /// with the text. Fails with `Memory` if an allocation fails, for the version or for that text.
     pub fn from_str(alloc: Global, s: &str) -> Result<Versioning, ReadError>
         ensures { ReadsOr plain_versioning VersioningOwns (IllegalVersioning s.now) result
             (versioning_of s.now) }
@@ -84,9 +84,10 @@ impl Versioning {
         or_illegal(alloc, read_whole(alloc, s)?, s, Error::IllegalVersioning)
     }
 
-    /// The version at the front of a text, and the rest: by the first of the strict, general and messy kinds whose
-    /// front reads anything. So `1.2.3.4` is the strict 1.2.3, with the rest `.4`. None takes no memory, nor do three
-    /// plain numbers; otherwise the error is that there is no memory for what is read.
+    /// Parses a prefix as a version; returns it and the rest, or None. It is the first of `SemVer::parse`,
+    /// `Version::parse` and `Mess::parse` that is not None. So `1.2.3.4` is the strict 1.2.3 with the rest `.4`.
+    /// Allocates nothing for None, three plain numbers, or one number with or without epoch. `Err` means allocation
+    /// failure.
     pub fn parse(alloc: Global, i: &str) -> Result<Option<(Versioning, &str)>, AllocError>
         ensures { Reads plain_versioning VersioningOwns result (versioning_front i.now) }
     {
@@ -102,7 +103,7 @@ impl Versioning {
         }
     }
 
-    /// A copy, with the same in every field, metadata included. The error is that there is no memory for it.
+    /// Returns a copy, metadata included. `Err` means allocation failure.
     pub fn clone(&self, alloc: Global) -> Result<Versioning, AllocError>
         ensures { IfOk result (λ copy. plain_versioning copy ≡ plain_versioning self.now) }
     {
@@ -113,28 +114,28 @@ impl Versioning {
         }
     }
 
-    /// Whether it is a strict version. Takes no memory.
+    /// Returns whether it is a strict version. Doesn't allocate.
     pub fn is_ideal(&self) -> bool
         ensures { result ≡ is_ideal (plain_versioning self.now) }
     {
         matches!(self, Versioning::Ideal(_))
     }
 
-    /// Whether it is a general version. Takes no memory.
+    /// Returns whether it is a general version. Doesn't allocate.
     pub fn is_general(&self) -> bool
         ensures { result ≡ is_general (plain_versioning self.now) }
     {
         matches!(self, Versioning::General(_))
     }
 
-    /// Whether it is a messy version. Takes no memory.
+    /// Returns whether it is a messy version. Doesn't allocate.
     pub fn is_complex(&self) -> bool
         ensures { result ≡ is_complex (plain_versioning self.now) }
     {
         matches!(self, Versioning::Complex(_))
     }
 
-    /// Its kind. Takes no memory.
+    /// Returns its kind. Doesn't allocate.
     pub fn kind(&self) -> Kind
         ensures { result ≡ versioning_kind (plain_versioning self.now) }
     {
@@ -145,8 +146,8 @@ impl Versioning {
         }
     }
 
-    /// The number at a place, counted from 0: major, minor and patch of a strict version, and of the other kinds what
-    /// their `nth` gives. Takes no memory.
+    /// Returns the number at a place, counted from 0: major, minor or patch of a strict version, or what `nth` of the
+    /// other kinds returns. Doesn't allocate.
     pub fn nth(&self, n: usize) -> Option<u32>
         ensures { result ≡ versioning_nth (plain_versioning self.now) n }
     {
@@ -157,14 +158,15 @@ impl Versioning {
         }
     }
 
-    /// How two versions compare in the one order of all versions, by their keys (docs/ORDER.md). `Ord` breaks its ties.
-    /// Takes no memory.
+    /// Compares two versions of any kind by their keys: the order of all versions (docs/ORDER.md). `Ord` breaks its
+    /// ties. Doesn't allocate.
     #[tactic(auto, using(crate::proofs::Orders::laws))]
     pub fn precedence(&self, other: &Versioning) -> Ordering
         ensures keys { result ≡ precedence (key_of (plain_versioning self.now))
             (key_of (plain_versioning other.now)) }
 
-        // That order is total and transitive, and reversed by swapping, over all keys; on strict versions it is theirs.
+        // Over all keys the order is total and transitive, and swapping reverses it. On strict versions it is `Ord` of
+        // `SemVer`.
         ensures total { IsTotalOrder precedence }
         ensures strict { (a b : PlainSemVer)
             → precedence (key_of (plain.Ideal a)) (key_of (plain.Ideal b)) ≡ semver_cmp a b }
@@ -172,7 +174,7 @@ impl Versioning {
         compare_keys(self.key_bytes(), other.key_bytes())
     }
 
-    /// The bytes of its key, one after another, which order as precedence does. Takes no memory.
+    /// Returns the bytes of its key, one after another. They compare as precedence does. Doesn't allocate.
     #[inline(always)]
     pub fn key_bytes(&self) -> KeyBytes<'_>
         ensures { result ≡ key_bytes (key_of (plain_versioning self.now)) }
@@ -180,16 +182,15 @@ impl Versioning {
         KeyBytes::of(self)
     }
 
-    /// The bytes of its key in a list, for a database or a sort that knows nothing of versions: two such lists compare
-    /// byte by byte, the shorter first where one begins the other, as the versions do in precedence. The error is that
-    /// there is no memory for them.
+    /// Returns the bytes of its key as a list, for a database or a sort that knows nothing of versions. Two lists
+    /// compare byte by byte, a prefix first, as the versions do in precedence. `Err` means allocation failure.
     #[tactic(auto, using(crate::proofs::Orders::laws))]
     pub fn sort_key(&self, alloc: Global) -> Result<Vec<u8>, AllocError>
         ensures bytes { IfOk result (λ key. key.items
             ≡ key_bytes (key_of (plain_versioning self.now))) }
 
-        // Against the bytes of any key they compare as precedence does, and where that isn't Equal it stays so
-        // whatever bytes follow the two.
+        // They compare with the bytes of any key as precedence does. If that is not Equal, it stays so whatever bytes
+        // follow the two.
         ensures ordered { IfOk result (λ key. (k : Key)
             → bytes_cmp key.items (key_bytes k)
             ≡ precedence (key_of (plain_versioning self.now)) k) }
@@ -201,8 +202,7 @@ impl Versioning {
         key_list(alloc, self)
     }
 
-    /// How two versions compare by their kinds, and then field by field, which breaks the ties of precedence. Takes no
-    /// memory.
+    /// Compares two versions by kind, then field by field. `Ord` breaks ties of precedence by this. Doesn't allocate.
     pub fn compare_plain(&self, other: &Versioning) -> Ordering
         ensures { result ≡ versioning_plain_cmp (plain_versioning self.now)
             (plain_versioning other.now) }
@@ -215,7 +215,7 @@ impl Versioning {
         }
     }
 
-    // The place of its kind among the three.
+    // Returns the place of its kind among the three.
     fn rank(&self) -> u8
         ensures { result ≡ kind_rank (plain_versioning self.now) }
     {
@@ -227,7 +227,7 @@ impl Versioning {
     }
 }
 
-// Major, minor and patch at 0, 1 and 2.
+// Returns major, minor and patch for 0, 1 and 2.
 fn nth_of_three(ideal: &SemVer, n: usize) -> Option<u32>
     ensures { result ≡ semver_nth (plain_semver ideal.now) n }
 {
@@ -239,7 +239,7 @@ fn nth_of_three(ideal: &SemVer, n: usize) -> Option<u32>
     }
 }
 
-// The version that the whole text spells, by the first kind that holds it.
+// Parses the whole text as a version of the first kind that fits.
 fn read_whole(alloc: Global, s: &str) -> Result<Option<Versioning>, AllocError>
     ensures ok { IfOk result (λ o. option_map plain_versioning o ≡ versioning_of s.now) }
     ensures err { OnErr result (IsSomeAnd (versioning_of s.now) VersioningOwns) }
@@ -250,7 +250,7 @@ fn read_whole(alloc: Global, s: &str) -> Result<Option<Versioning>, AllocError>
     }
 }
 
-/// The strict version `0.0.0`.
+/// The default is the strict version `0.0.0`.
 impl Default for Versioning {
     ghost is_default = { λ v. plain_versioning v
         ≡ plain.Ideal (record { major = 0; minor = 0; patch = 0; pre_rel = None; meta = None }) };
@@ -272,7 +272,7 @@ impl fmt::Display for Versioning {
     }
 }
 
-/// Of one kind, and equal as that kind is: in every field, but for the metadata of strict versions.
+/// Compares the kinds and every field, except metadata of strict versions.
 impl PartialEq for Versioning {
     ghost eq = { on plain_versioning (eq_by_cmp versioning_plain_cmp) };
 
@@ -293,8 +293,8 @@ impl Eq for Versioning {
     ghost laws = { on_equiv plain_versioning (eq_by_cmp_equiv versioning_plain_total) };
 }
 
-/// By precedence; where that ties, the strict before the general and that before the messy, and of one kind field by
-/// field, but for the metadata of strict versions. Takes no memory.
+/// Compares by precedence. Breaks a tie by kind, strict before general before messy, then field by field, except
+/// metadata of strict versions. Doesn't allocate.
 impl Ord for Versioning {
     ghost cmp = { on plain_versioning versioning_cmp };
 
@@ -321,7 +321,7 @@ impl PartialOrd for Versioning {
     }
 }
 
-/// Feeds the kind, and what it feeds.
+/// Hashes the kind, then the version of that kind.
 impl Hash for Versioning {
     ghost hash_input = { λ v. versioning_fed (plain_versioning v) };
 

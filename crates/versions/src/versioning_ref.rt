@@ -1,4 +1,4 @@
-//! Versions of any kind, read off the texts that spell them.
+//! Versions of any kind, borrowed from their texts.
 
 ghost use Rattle.std.specs.Prelude.{◌≡◌, ◌++◌, refl, IfOk, IfSome, OnErr, OnOk, Some};
 ghost use Rattle.std.specs.Cmp.{eq_by_cmp_equiv, on_equiv, on_per, on_total, partial_equiv_from_equiv, po};
@@ -31,22 +31,22 @@ use std::fmt;
 use version_parts::key::{NotShort, ShortKey};
 use version_parts::part::{NumberRef, PartsRef};
 
-/// A version of the first kind that fits its text, read off that text: a [`Versioning`] that owns nothing and lives as
-/// long as the text. It compares, prints and counts as that one does. No call but `to_owned` takes memory, and each
-/// takes time that grows with the text.
+/// A version of the first kind that fits its text, borrowed from that text: a [`Versioning`] that owns nothing. It
+/// compares and prints as that `Versioning` does, and has the same numbers. Only `to_owned` and `append_key` allocate.
+/// Each call takes time at most linear in the text.
 #[derive(Drop)]
 pub enum VersioningRef<'a> {
-    /// A strict version, as `1.2.3-rc.1`.
+    /// A strict version, such as `1.2.3-rc.1`.
     Ideal(SemVerRef<'a>),
-    /// A general version, as `1:2.0rc1-3`.
+    /// A general version, such as `1:2.0rc1-3`.
     General(VersionRef<'a>),
-    /// A messy version, as `10.2+0.93+1-1`.
+    /// A messy version, such as `10.2+0.93+1-1`.
     Complex(MessRef<'a>),
 }
 
 impl<'a> VersioningRef<'a> {
-    /// The version that the whole text spells: of the first of the strict, general and messy kinds whose grammar holds
-    /// it, or None where none does. Takes no memory.
+    /// Parses the whole text as a strict version, else as a general, else as a messy one; returns None if it does not
+    /// parse. Doesn't allocate.
     #[inline(always)]
     pub fn new(s: &'a str) -> Option<VersioningRef<'a>>
         ensures { option_map plain_versioning_ref result ≡ versioning_of s.now }
@@ -60,8 +60,8 @@ impl<'a> VersioningRef<'a> {
         Some(VersioningRef::Complex(MessRef::new(s)?))
     }
 
-    /// The version that bytes spell, as `new` reads their text, or None where they spell none: bytes that are no UTF-8
-    /// never do. Takes no memory.
+    /// Parses bytes as `new` parses their text; returns None if they do not parse. Bytes that are not UTF-8 are not a
+    /// version. Doesn't allocate.
     #[inline(always)]
     pub fn from_bytes(bytes: &'a [u8]) -> Option<VersioningRef<'a>>
         ensures { option_map plain_versioning_ref result ≡ versioning_of bytes.now }
@@ -69,7 +69,7 @@ impl<'a> VersioningRef<'a> {
         VersioningRef::new(ascii_text(bytes)?)
     }
 
-    /// Its kind. Takes no memory.
+    /// Returns its kind. Doesn't allocate.
     pub fn kind(&self) -> Kind
         ensures { result ≡ versioning_kind (plain_versioning_ref self.now) }
     {
@@ -80,9 +80,9 @@ impl<'a> VersioningRef<'a> {
         }
     }
 
-    /// The number at a place, counted from 0: major, minor and patch of a strict version; of a general one the chunks,
-    /// and behind them the number that the last part begins with; of a messy one the chunks of the first section that
-    /// no colon follows. None where no number stands there. Takes no memory; the time grows with the version's text.
+    /// Returns the number at a place, counted from 0, or None if no number is there. Of a strict version the places are
+    /// major, minor and patch; of a general one the chunks, and after them the first number of the last part; of a
+    /// messy one the chunks of the first section that no colon follows. Doesn't allocate.
     pub fn nth(&self, n: usize) -> Option<u32>
         ensures { result ≡ versioning_nth (plain_versioning_ref self.now) n }
     {
@@ -93,8 +93,8 @@ impl<'a> VersioningRef<'a> {
         }
     }
 
-    /// The epoch of a general version: the number before its colon. None for a general version without an epoch, and for
-    /// every strict or messy version. Doesn't allocate.
+    /// Returns the epoch of a general version: the number before its colon. None for a general version without an
+    /// epoch, and for every strict or messy version. Doesn't allocate.
     pub fn epoch(&self) -> Option<u32>
         ensures { result ≡ versioning_epoch (plain_versioning_ref self.now) }
     {
@@ -104,8 +104,8 @@ impl<'a> VersioningRef<'a> {
         }
     }
 
-    /// Whether it is a strict version with a pre-release, such as `1.2.0-rc.1` (SemVer 2.0, section 9). False for every
-    /// general or messy version: their texts don't say which of them are pre-releases. Doesn't allocate.
+    /// Returns whether it is a strict version with a pre-release, such as `1.2.0-rc.1` (SemVer 2.0, section 9). False
+    /// for every general or messy version: their texts don't say which of them are pre-releases. Doesn't allocate.
     pub fn is_prerelease(&self) -> bool
         ensures { result ≡ is_prerelease (plain_versioning_ref self.now) }
     {
@@ -115,8 +115,8 @@ impl<'a> VersioningRef<'a> {
         }
     }
 
-    /// How two versions compare in the one order of all versions, by their keys (docs/ORDER.md). `Ord` breaks its ties.
-    /// Takes no memory.
+    /// Compares two versions of any kind by their keys: the order of all versions (docs/ORDER.md). `Ord` breaks its
+    /// ties. Doesn't allocate.
     #[tactic(auto, using(crate::proofs::Orders::laws))]
     pub fn precedence(&self, other: &VersioningRef<'_>) -> Ordering
         ensures { result ≡ precedence (key_of (plain_versioning_ref self.now))
@@ -138,7 +138,7 @@ impl<'a> VersioningRef<'a> {
         self.key_tail().compare(&other.key_tail())
     }
 
-    // What its key begins with: the epoch, and the parts of the body.
+    // Returns the start of its key: the epoch, and the parts of the body.
     #[inline(always)]
     fn key_start(&self) -> (NumberRef<'a>, PartsRef<'a>)
         ensures epoch { number_ref_value result.0
@@ -158,7 +158,7 @@ impl<'a> VersioningRef<'a> {
         }
     }
 
-    // What its key ends with.
+    // Returns the end of its key: the tail.
     fn key_tail(&self) -> TailRef<'a>
         ensures { tail_ref result ≡ (key_of (plain_versioning_ref self.now)).tail }
     {
@@ -169,8 +169,8 @@ impl<'a> VersioningRef<'a> {
         }
     }
 
-    /// Puts the bytes of its key behind those of a list. The error is that there is no memory for all of them; the list
-    /// then has a beginning of them behind its own.
+    /// Appends the bytes of its key to a list. `Err` means allocation failure; the list then ends with a prefix of the
+    /// bytes.
     pub fn append_key(&self, list: &mut Vec<u8>) -> Result<(), AllocError>
         ensures ok { OnOk result (list.new.items
             ≡ list.old.items ++ key_bytes (key_of (plain_versioning_ref self.now))) }
@@ -185,9 +185,9 @@ impl<'a> VersioningRef<'a> {
         Ok(())
     }
 
-    /// Puts the bytes of its key behind those of an array, which is the quickest way to them. It gives up where the array
-    /// has no room for them, and a caller then goes by `key_bytes`; that it gives up nowhere else is no part of its
-    /// contract, and what the array holds then is of no use. Takes no memory.
+    /// Appends the bytes of its key to a short key, which is the fastest way to get them. Fails if they may not fit;
+    /// then use `key_bytes`. The contract does not say when they fit. After a failure, discard the short key. Doesn't
+    /// allocate.
     #[inline(always)]
     pub fn put_key(&self, key: &mut ShortKey) -> Result<(), NotShort>
         ensures { OnOk result (key.new.items
@@ -200,8 +200,7 @@ impl<'a> VersioningRef<'a> {
         }
     }
 
-    /// How two versions compare by their kinds, and then field by field, which breaks the ties of precedence. Takes no
-    /// memory.
+    /// Compares two versions by kind, then field by field. `Ord` breaks ties of precedence by this. Doesn't allocate.
     pub fn compare_plain(&self, other: &VersioningRef<'_>) -> Ordering
         ensures { result ≡ versioning_plain_cmp (plain_versioning_ref self.now)
             (plain_versioning_ref other.now) }
@@ -214,7 +213,7 @@ impl<'a> VersioningRef<'a> {
         }
     }
 
-    // The place of its kind among the three.
+    // Returns the place of its kind among the three.
     fn rank(&self) -> u8
         ensures { result ≡ kind_rank (plain_versioning_ref self.now) }
     {
@@ -225,7 +224,7 @@ impl<'a> VersioningRef<'a> {
         }
     }
 
-    /// The bytes of its key, one after another, which order as precedence does. Takes no memory.
+    /// Returns the bytes of its key, one after another. They compare as precedence does. Doesn't allocate.
     #[inline(always)]
     pub fn key_bytes(&self) -> KeyBytes<'a>
         ensures { result ≡ key_bytes (key_of (plain_versioning_ref self.now)) }
@@ -237,8 +236,8 @@ impl<'a> VersioningRef<'a> {
         }
     }
 
-    /// The version with texts of its own, which outlives the text that was read. Three plain numbers take no memory;
-    /// otherwise the error is that there is no memory for it.
+    /// Copies the version into a `Versioning` that outlives the text. Allocates nothing for three plain numbers, or for
+    /// one number with or without epoch. `Err` means allocation failure.
     pub fn to_owned(&self, alloc: Global) -> Result<Versioning, AllocError>
         ensures ok { IfOk result (λ v. plain_versioning v ≡ plain_versioning_ref self.now) }
         ensures err { OnErr result (VersioningOwns (plain_versioning_ref self.now)) }
@@ -251,7 +250,7 @@ impl<'a> VersioningRef<'a> {
     }
 }
 
-/// The printed text of the [`Versioning`] that it is: the text that was read.
+/// Writes the text that the version was parsed from, as its [`Versioning`] does.
 impl<'a> fmt::Display for VersioningRef<'a> {
     ghost output = { λ v. Some (versioning_text (plain_versioning_ref v)) };
 
@@ -264,7 +263,7 @@ impl<'a> fmt::Display for VersioningRef<'a> {
     }
 }
 
-/// Of one kind, and equal as that kind is: in every field, but for the metadata of strict versions. Takes no memory.
+/// Compares the kinds and every field, except metadata of strict versions. Doesn't allocate.
 impl<'a> PartialEq for VersioningRef<'a> {
     ghost eq = { on plain_versioning_ref (eq_by_cmp versioning_plain_cmp) };
 
@@ -280,8 +279,8 @@ impl<'a> Eq for VersioningRef<'a> {
     ghost laws = { on_equiv plain_versioning_ref (eq_by_cmp_equiv versioning_plain_total) };
 }
 
-/// By precedence; where that ties, the strict before the general and that before the messy, and of one kind field by
-/// field, but for the metadata of strict versions. Takes no memory.
+/// Compares by precedence. Breaks a tie by kind, strict before general before messy, then field by field, except
+/// metadata of strict versions. Doesn't allocate.
 impl<'a> Ord for VersioningRef<'a> {
     ghost cmp = { on plain_versioning_ref versioning_cmp };
 

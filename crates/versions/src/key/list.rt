@@ -1,4 +1,4 @@
-//! The list that a key has begun: parts of its body or of a section, or the chunks of its release.
+//! The current list of a key: the parts of its body or of a section, or the chunks of its release.
 
 ghost use Rattle.std.specs.Prelude.{◌≡◌, ◌++◌, ◌∷◌, []};
 ghost use Rattle.version_parts.specs.Body.{plain_chunks};
@@ -10,10 +10,10 @@ use std::marker::Model;
 use version_parts::key::{ItemsLeft, ListLeft, PieceBytes};
 use version_parts::{BodyRef, Chunks, Last, MessyChunk, Part, ReleaseChunk};
 
-/// What is still to come of a list, with its end.
+/// What remains of a list, with its end.
 #[derive(Drop)]
 pub enum CurrentList<'a> {
-    /// Nothing, not even its end.
+    /// Nothing, not even the end.
     Ended,
     /// Plain numbers.
     One(u32),
@@ -30,7 +30,7 @@ pub enum CurrentList<'a> {
 impl<'a> CurrentList<'a> {
     ghost use Rattle.versions.specs.KeyStream.{list_left};
 
-    /// Makes a piece the bytes of the next item, or of the end, where there is one.
+    /// Sets the piece to the bytes of the next item, or of the end. Returns false if nothing is left.
     #[inline(always)]
     pub fn next_piece(&mut self, piece: &mut PieceBytes<'a>) -> bool
         ensures { IsNext result (list_left self.old) (list_left self.new) piece.old piece.new }
@@ -59,7 +59,7 @@ impl<'a> CurrentList<'a> {
     }
 }
 
-/// What is still to come of the parts of a body: some items, perhaps a last part that stands elsewhere, and the end.
+/// What remains of the parts of a body: some items, perhaps a last part that lies elsewhere, and the end.
 #[derive(Drop)]
 pub struct PartsLeft<'a> {
     items: ItemsLeft<'a, Part>,
@@ -81,7 +81,7 @@ impl<'a> Model for PartsLeft<'a> {
 }
 
 impl<'a> PartsLeft<'a> {
-    /// The parts of a value: its chunks, and its last part.
+    /// Returns the parts of a value: its chunks and its last part.
     #[tactic(auto, using(crate::proofs::SpelledKey::parts_written))]
     #[inline(always)]
     pub fn of(chunks: &'a Chunks, last: &'a Last) -> PartsLeft<'a>
@@ -96,7 +96,7 @@ impl<'a> PartsLeft<'a> {
         }
     }
 
-    /// The parts of a body that was scanned.
+    /// Returns the parts of a scanned body.
     #[tactic(auto, using(version_parts::proofs::ListBytes::ended))]
     #[inline(always)]
     pub fn spelled_by(body: &BodyRef<'a>) -> PartsLeft<'a>
@@ -110,7 +110,7 @@ impl<'a> PartsLeft<'a> {
         }
     }
 
-    // Makes a piece the bytes of the next part, or of the end, where there is one.
+    // Sets the piece to the bytes of the next part, or of the end. Returns false if nothing is left.
     fn next_piece(&mut self, piece: &mut PieceBytes<'a>) -> bool
         ensures { IsNext result self.old self.new piece.old piece.new }
     {

@@ -6,19 +6,19 @@ use crate::mess::Mess;
 use version_parts::key::ListLeft;
 use version_parts::{MessyChunk, SectionRef, scan};
 
-/// Further sections that are still to come.
+/// The further sections that are still to come.
 #[derive(Clone, Copy)]
 pub enum SectionsLeft<'a> {
-    /// Those behind the first section of a version.
+    /// Those after the first section of a version.
     Built(&'a Mess),
-    /// Those at the front of a text, each behind its sign.
+    /// Those that the text begins with, each after its sign.
     Spelled(&'a str),
 }
 
 impl<'a> SectionsLeft<'a> {
     ghost use Rattle.versions.specs.KeyStream.{sections_left};
 
-    /// The next section, and those behind it.
+    /// Returns the next section, and the sections after it.
     #[tactic(auto, using(crate::proofs::SpelledKey::further_spelled))]
     pub fn next_section(self) -> Option<(ListLeft<'a, MessyChunk>, SectionsLeft<'a>)>
         ensures some { IfSome result

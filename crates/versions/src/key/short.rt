@@ -1,4 +1,4 @@
-//! Short keys of versions that lie in their texts, written at once.
+//! Writes the keys of scanned versions to short keys.
 
 ghost use Rattle.std.specs.Prelude.{◌≡◌, ◌++◌, OnOk};
 ghost use Rattle.std.specs.Option.{option_map};
@@ -21,7 +21,7 @@ use crate::version::VersionRef;
 use version_parts::ReleaseRef;
 use version_parts::key::{NotShort, ShortKey, put_byte, put_digits, put_plain_part, put_value};
 
-/// Puts the key of a strict version behind what a short key has.
+/// Appends the key of a strict version to a short key.
 #[tactic(auto, using(crate::proofs::Tail::pre_release_written))]
 pub fn put_semver(key: &mut ShortKey, ideal: &SemVerRef<'_>) -> Result<(), NotShort>
     ensures { OnOk result (key.new.items
@@ -33,7 +33,7 @@ pub fn put_semver(key: &mut ShortKey, ideal: &SemVerRef<'_>) -> Result<(), NotSh
     Ok(())
 }
 
-// Puts the body of a strict version: its three numbers, and the end of the list.
+// Appends the body of a strict version: its three numbers, and the end of the list.
 #[tactic(auto, using(crate::proofs::Tail::three_put))]
 #[inline(always)]
 fn put_three(key: &mut ShortKey, major: u32, minor: u32, patch: u32) -> Result<(), NotShort>
@@ -47,7 +47,7 @@ fn put_three(key: &mut ShortKey, major: u32, minor: u32, patch: u32) -> Result<(
     Ok(())
 }
 
-/// Puts the key of a general version behind what a short key has.
+/// Appends the key of a general version to a short key.
 #[tactic(auto, using(crate::proofs::Tail::release_written, version_parts::proofs::ListBytes::ended))]
 pub fn put_version(key: &mut ShortKey, general: &VersionRef<'_>) -> Result<(), NotShort>
     ensures { OnOk result (key.new.items
@@ -60,7 +60,7 @@ pub fn put_version(key: &mut ShortKey, general: &VersionRef<'_>) -> Result<(), N
     Ok(())
 }
 
-/// Puts the key of a messy version behind what a short key has.
+/// Appends the key of a messy version to a short key.
 pub fn put_mess(key: &mut ShortKey, complex: &MessRef<'_>) -> Result<(), NotShort>
     ensures { OnOk result (key.new.items
         ≡ key.old.items ++ key_bytes (key_of_mess (plain_mess_ref complex.now))) }
@@ -77,7 +77,7 @@ pub fn put_mess(key: &mut ShortKey, complex: &MessRef<'_>) -> Result<(), NotShor
     Ok(())
 }
 
-// Puts the tail that a release makes: a mark and its chunks, or the mark of nothing.
+// Appends the tail of a release: a mark and its chunks, or the mark of nothing.
 #[inline(always)]
 fn put_release(
     key: &mut ShortKey,
@@ -97,7 +97,7 @@ fn put_release(
     Ok(())
 }
 
-// Puts the tail that further sections make: a mark and these, or the mark of nothing.
+// Appends the tail of further sections: a mark and the sections, or the mark of nothing.
 fn put_sections(key: &mut ShortKey, further: SectionsLeft<'_>) -> Result<(), NotShort>
     ensures { OnOk result (key.new.items
         ≡ key.old.items ++ tail_bytes (sections_tail (sections_of further.entry))) }
@@ -111,7 +111,7 @@ fn put_sections(key: &mut ShortKey, further: SectionsLeft<'_>) -> Result<(), Not
     Ok(())
 }
 
-// Puts further sections, and their end.
+// Appends further sections and their end.
 fn put_all_sections(key: &mut ShortKey, further: SectionsLeft<'_>) -> Result<(), NotShort>
     ensures { OnOk result (key.new.items ≡ key.old.items ++ sections_left further.entry) }
 {

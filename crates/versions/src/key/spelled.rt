@@ -1,4 +1,4 @@
-//! The parts of a key that are read off a version's text.
+//! The parts of a key that are read from the text of a version.
 
 ghost use Rattle.std.specs.Prelude.{◌≡◌};
 ghost use Rattle.version_parts.specs.PartRef.{number_ref_value, parts_left};
@@ -18,8 +18,8 @@ use std::cmp::Ordering;
 use version_parts::ReleaseRef;
 use version_parts::part::{NumberRef, PartsRef};
 
-/// What a key has after its body: a pre-release, nothing, a release, or the further sections at the front of a text, of
-/// which there may be none.
+/// The tail of a key, after the body: a pre-release, nothing, a release, or the further sections that a text begins
+/// with, if any.
 #[derive(Drop)]
 pub enum TailRef<'a> {
     PreReleased(ReleaseRef<'a>),
@@ -28,7 +28,7 @@ pub enum TailRef<'a> {
     Sections(&'a str),
 }
 
-/// The epoch of a messy version, and the parts of its body.
+/// Returns the epoch of a messy version, and the parts of its body.
 pub fn start_of_mess<'a>(complex: &MessRef<'a>) -> (NumberRef<'a>, PartsRef<'a>)
     ensures epoch { number_ref_value result.0 ≡ (key_of_mess (plain_mess_ref complex.now)).epoch }
     ensures body { parts_left result.1 ≡ (key_of_mess (plain_mess_ref complex.now)).body }
@@ -40,7 +40,7 @@ pub fn start_of_mess<'a>(complex: &MessRef<'a>) -> (NumberRef<'a>, PartsRef<'a>)
 }
 
 impl<'a> TailRef<'a> {
-    /// The tail of a strict version.
+    /// Returns the tail of a strict version.
     pub fn of_semver(ideal: &SemVerRef<'a>) -> TailRef<'a>
         ensures { tail_ref result ≡ (key_of_semver (plain_semver_ref ideal.now)).tail }
     {
@@ -50,7 +50,7 @@ impl<'a> TailRef<'a> {
         }
     }
 
-    /// The tail of a general version.
+    /// Returns the tail of a general version.
     pub fn of_version(general: &VersionRef<'a>) -> TailRef<'a>
         ensures { tail_ref result ≡ (key_of_version (plain_version_ref general.now)).tail }
     {
@@ -60,7 +60,7 @@ impl<'a> TailRef<'a> {
         }
     }
 
-    /// The tail of a messy version.
+    /// Returns the tail of a messy version.
     pub fn of_mess(complex: &MessRef<'a>) -> TailRef<'a>
         ensures { tail_ref result ≡ (key_of_mess (plain_mess_ref complex.now)).tail }
     {
@@ -72,7 +72,7 @@ impl<'a> TailRef<'a> {
 }
 
 impl<'a> TailRef<'a> {
-    /// How two tails compare: by kind, and then by what they hold.
+    /// Compares two tails by kind, then by what they hold.
     pub fn compare(&self, other: &TailRef<'_>) -> Ordering
         ensures { result ≡ tail_cmp (tail_ref self.now) (tail_ref other.now) }
     {
@@ -88,7 +88,7 @@ impl<'a> TailRef<'a> {
         }
     }
 
-    // The rank of its kind: the mark that its bytes begin with.
+    // Returns the rank of its kind: the mark that its bytes begin with.
     fn rank(&self) -> u8
         ensures { result ≡ tail_rank (tail_ref self.now) }
     {
@@ -102,7 +102,7 @@ impl<'a> TailRef<'a> {
     }
 }
 
-// How the further sections at the front of two texts compare as lists of parts: section by section, fewer first.
+// Compares the further sections that two texts begin with, as lists of parts; a prefix comes first.
 fn compare_sections(a: &str, b: &str) -> Ordering
     ensures { result ≡ sections_cmp (sections_in a.now) (sections_in b.now) }
 {

@@ -1,4 +1,4 @@
-//! The tail of a key: what stands behind its body.
+//! The tail of a key, which follows its body.
 
 ghost use Rattle.std.specs.Prelude.{◌≡◌};
 ghost use Rattle.versions.specs.Key.{sections_tail};
@@ -12,7 +12,7 @@ use version_parts::key::ListLeft;
 /// The mark of a strict pre-release.
 pub const PRE_RELEASE: u8 = 1;
 
-/// The mark of a tail that holds nothing.
+/// The mark of an empty tail.
 pub const BARE: u8 = 2;
 
 /// The mark of a general release.
@@ -21,25 +21,25 @@ pub const RELEASE: u8 = 3;
 /// The mark of further sections.
 pub const SECTIONS: u8 = 4;
 
-/// What is still to come of a tail.
+/// What remains of a tail.
 #[derive(Drop)]
 pub enum TailLeft<'a> {
-    /// Nothing, or nothing but the list begun.
+    /// Nothing, or only the current list.
     Nothing,
-    /// The mark of a tail that holds nothing.
+    /// The mark of an empty tail.
     Bare,
     /// The mark of a release, and its chunks.
     Release(u8, ListLeft<'a, ReleaseChunk>),
     /// The mark of further sections, and these sections.
     Sections(SectionsLeft<'a>),
-    /// Further sections, after the one that is written now.
+    /// The further sections after the current one.
     AfterSection(SectionsLeft<'a>),
 }
 
 impl<'a> TailLeft<'a> {
     ghost use Rattle.versions.specs.KeyStream.{tail_left};
 
-    /// The mark of a pre-release or release and its chunks, or the mark of nothing.
+    /// Returns the mark of a pre-release or release and its chunks, or the mark of an empty tail.
     #[inline(always)]
     pub fn release(mark: u8, chunks: Option<ListLeft<'a, ReleaseChunk>>) -> TailLeft<'a>
         ensures { tail_left result ≡ release_tail mark chunks.entry }
@@ -50,7 +50,7 @@ impl<'a> TailLeft<'a> {
         }
     }
 
-    /// The mark of further sections and these sections, or the mark of nothing.
+    /// Returns the mark of further sections and these sections, or the mark of an empty tail.
     #[inline(always)]
     pub fn sections(further: SectionsLeft<'a>) -> TailLeft<'a>
         ensures { tail_left result ≡ tail_bytes (sections_tail (sections_of further.entry)) }

@@ -2,6 +2,6 @@ use Rattle.std.proofs.Common.{◌≡◌}
 use Rattle.version_parts.specs.Lists.{bytes_cmp}
 use Rattle.versions.proofs.key.compare_keys.Given as goal
 
--- what is left compares as the whole does
+-- what remains compares as the whole does
 abbrev pub invariant-loop-x : goal.invariant-loop-x
 invariant-loop-x l = bytes_cmp l.fn.a l.fn.b ≡ bytes_cmp l.a l.b

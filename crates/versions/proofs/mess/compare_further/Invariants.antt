@@ -5,7 +5,7 @@ use denote.Shadow.{shadow}
 use Rattle.versions.specs.Mess.{further_in, further_plain_cmp}
 use Rattle.versions.proofs.mess.compare_further.Given as goal
 
--- the sections so far are equal, and what is left decides
+-- the sections so far are equal, and what remains decides
 abbrev pub invariant-sections : goal.invariant-sections
 invariant-sections l = record {
   text : shadow (Utf8 l.a) × shadow (Utf8 l.b);

@@ -5,7 +5,7 @@ use Rattle.version_parts.specs.Front.{repeated}
 use Rattle.versions.specs.Mess.{further_front, plain_further}
 use Rattle.versions.proofs.mess.read_all_further.Given as goal
 
--- the further sections that are read, and those that can be read from the rest, are all of them
+-- the further sections that are parsed, and those that the rest begins with, are all of them
 abbrev pub invariant-loop-more : goal.invariant-loop-more
 invariant-loop-more l = record {
   text : shadow (Utf8 l.rest);

@@ -5,7 +5,7 @@ use Rattle.version_parts.specs.Front.{repeated}
 use Rattle.versions.specs.Mess.{further_front}
 use Rattle.versions.proofs.mess.skip_all_further.Given as goal
 
--- what is behind the further sections of the rest is behind all of them
+-- what follows the further sections of the rest follows all of them
 abbrev pub invariant-loop-after : goal.invariant-loop-after
 invariant-loop-after l = record {
   text : shadow (Utf8 l.rest);

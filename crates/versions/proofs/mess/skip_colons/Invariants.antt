@@ -2,6 +2,6 @@ use Rattle.std.proofs.Common.{◌≡◌}
 use Rattle.versions.specs.Mess.{behind_colons, plain_mess}
 use Rattle.versions.proofs.mess.skip_colons.Given as goal
 
--- what is behind the colons of what is left is behind those of all
+-- what follows the colons of the remaining sections follows those of all
 abbrev pub invariant-loop-current : goal.invariant-loop-current
 invariant-loop-current l = behind_colons (plain_mess l.current).first (plain_mess l.current).more ≡ behind_colons (plain_mess l.mess).first (plain_mess l.mess).more

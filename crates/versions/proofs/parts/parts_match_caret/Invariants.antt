@@ -3,7 +3,7 @@ use Rattle.versions.specs.BodyParts.{parts_left}
 use Rattle.versions.specs.VersionMatch.{PartsMatchCaret}
 use Rattle.versions.proofs.parts.parts_match_caret.Given as goal
 
--- the parts so far are the same plain zeros, and what is left decides
+-- the parts so far are the same plain zeros, and what remains decides
 abbrev pub invariant-loop-wanted_part : goal.invariant-loop-wanted_part
 invariant-loop-wanted_part l =
     PartsMatchCaret (parts_left l.wanted) (parts_left l.parts) ↔ PartsMatchCaret (parts_left l.fn.wanted) (parts_left l.fn.parts)

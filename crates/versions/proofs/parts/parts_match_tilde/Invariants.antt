@@ -3,7 +3,7 @@ use Rattle.versions.specs.BodyParts.{key_of_part, parts_left}
 use Rattle.versions.specs.VersionMatch.{PartsMatchTilde}
 use Rattle.versions.proofs.parts.parts_match_tilde.Given as goal
 
--- the parts before the last ones that were taken are the same, and what is left decides
+-- the parts before those taken last are the same, and what remains decides
 abbrev pub invariant-loop-next_wanted : goal.invariant-loop-next_wanted
 invariant-loop-next_wanted l =
     PartsMatchTilde (key_of_part l.wanted_last ∷ parts_left l.wanted) (key_of_part l.last ∷ parts_left l.parts) ↔ PartsMatchTilde (parts_left l.fn.wanted) (parts_left l.fn.parts)

@@ -5,7 +5,7 @@ use Rattle.versions.specs.VersioningRef.{plain_versioning_ref}
 use Rattle.versions.proofs.ScannedLists.{Asked}
 use Rattle.versions.proofs.requirements_ref.each_asks_for.Given as goal
 
--- the members so far ask for the version, and what is left decides
+-- the members so far match the version, and what remains decides
 abbrev pub invariant-loop-members : goal.invariant-loop-members
 invariant-loop-members l = Asked (plain_versioning_ref l.version) (members_of l.members) ↔ Asked (plain_versioning_ref l.version) (members_of l.fn.members)
 

@@ -3,7 +3,7 @@ use Rattle.version_parts.specs.Lists.{Growing}
 use Rattle.versions.specs.KeyStream.{list_left, tail_left}
 use Rattle.versions.proofs.key.KeyBytes.append_to.Given as goal
 
--- the bytes taken are in the list, and the others still to come
+-- the bytes taken are in the list, and the others remain
 abbrev pub invariant-loop-piece : goal.invariant-loop-piece
 invariant-loop-piece l = Growing l.fn.list.items l.list.items l.fn.self (list_left l.begun ++ tail_left l.tail)
 

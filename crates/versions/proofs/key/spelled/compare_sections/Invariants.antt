@@ -5,7 +5,7 @@ use Rattle.versions.specs.TailRef.{sections_in}
 use Rattle.versions.specs.Tail.{sections_cmp}
 use Rattle.versions.proofs.key.spelled.compare_sections.Given as goal
 
--- the sections so far are equal, and what is left decides
+-- the sections so far are equal, and what remains decides
 abbrev pub invariant-sections : goal.invariant-sections
 invariant-sections l = record {
   text : shadow (Utf8 l.a) × shadow (Utf8 l.b);

@@ -2,6 +2,6 @@ use Rattle.std.proofs.Common.{◌≡◌}
 use Rattle.versions.specs.Mess.{mess_plain_cmp, plain_mess}
 use Rattle.versions.proofs.mess.Mess.compare_plain.Given as goal
 
--- the sections so far are equal, and what is left decides
+-- the sections so far are equal, and what remains decides
 abbrev pub invariant-sections : goal.invariant-sections
 invariant-sections l = mess_plain_cmp (plain_mess l.a) (plain_mess l.b) ≡ mess_plain_cmp (plain_mess l.self) (plain_mess l.other)

@@ -5,7 +5,7 @@ use denote.Shadow.{shadow}
 use Rattle.versions.specs.Mess.{behind_colons, further_in}
 use Rattle.versions.proofs.mess.MessRef.nth.Given as goal
 
--- what is behind the colons of what is left is behind those of all
+-- what follows the colons of the remaining sections follows those of all
 abbrev pub invariant-sections : goal.invariant-sections
 invariant-sections l = record {
   text : shadow (Utf8 l.rest);

@@ -6,7 +6,7 @@ use denote.Shadow.{shadow}
 use Rattle.versions.specs.Mess.{further_in, further_text, mess_text, plain_mess_ref}
 use Rattle.versions.proofs.mess.MessRefDisplay.fmt.Given as goal
 
--- what is written so far and what is left are the text
+-- what is written so far and what remains are the text
 abbrev pub invariant-sections : goal.invariant-sections
 invariant-sections g l = record {
   text : shadow (Utf8 l.rest);

@@ -5,6 +5,6 @@ use Rattle.versions.specs.Requirement.{plain_requirement}
 use Rattle.versions.specs.Versioning.{plain_versioning}
 use Rattle.versions.proofs.requirements.Requirements.matches.Given as goal
 
--- the members so far ask for the version
+-- the members so far match the version
 abbrev pub invariant-loop-requirement : goal.invariant-loop-requirement
 invariant-loop-requirement l = All (λ r. Matches (plain_requirement r) (plain_versioning l.version)) (take l.requirement-index l.requirement-items)

@@ -5,7 +5,7 @@ use Rattle.versions.specs.Requirement.{plain_requirement, requirement_text}
 use Rattle.versions.specs.Requirements.{comma}
 use Rattle.versions.proofs.requirements.RequirementsDisplay.fmt.Given as goal
 
--- the further members so far are written, each behind a comma
+-- the further members so far are written, each after a comma
 abbrev pub invariant-loop-requirement : goal.invariant-loop-requirement
 invariant-loop-requirement g l = IsPlainFormatter l.initial.f
     → HasWritten g.W.Write.write_str_gives l.initial.f (flat_map (λ r. comma ∷ requirement_text (plain_requirement r)) (take l.requirement-index l.others)) l.f
