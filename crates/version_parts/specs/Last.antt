@@ -95,7 +95,7 @@ abbrev pub LastOwns : PlainLast → Type 0
 LastOwns (Numeric n) = ⊥
 LastOwns _ = Unit {0}
 
--- the first number of a last part, if it begins with one
+-- the first number of a last part; None of Alphanum
 abbrev pub first_number : PlainLast → Option ℕ
 first_number (Numeric n) = Some n
 first_number (Rc a text b) = Some a
