@@ -33,8 +33,9 @@ NO_LIBRARY = {"PKG_CONFIG_LIBDIR": "/nowhere", "PKG_CONFIG_PATH": ""}
 def run(*command, folder="/", **variables):
     """The status of a command, and all that it writes."""
     environment = {name: value for name, value in os.environ.items() if name != "C_LIBRARY"}
+    environment.update(variables)
     done = subprocess.run(
-        command, cwd=folder, env={**environment, **variables}, stdout=subprocess.PIPE, stderr=subprocess.STDOUT, text=True
+        command, cwd=folder, env=environment, stdout=subprocess.PIPE, stderr=subprocess.STDOUT, text=True
     )
     return done.returncode, done.stdout
 
@@ -246,7 +247,8 @@ class Installing(Case):
         self.fails_with(code, r"the extension imports getentropy@GLIBC_2\.25, .*")
 
     def test_a_symbol_of_nobody(self):
-        self.fails_with("\nint nobody(void);\nint planted(void) { return nobody(); }\n", "the extension imports nobody, .*")
+        code = "\nint nobody(void);\nint planted(void) { return nobody(); }\n"
+        self.fails_with(code, "the extension imports nobody, .*")
 
     def test_another_export(self):
         code = '\n__attribute__((visibility("default"))) int planted(void) { return 1; }\n'
