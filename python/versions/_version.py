@@ -56,6 +56,24 @@ class Version(_library.Keyed):
         return self.kind == "complex"
 
     @property
+    def is_prerelease(self) -> bool:
+        """Whether it is an ideal version with a pre-release. No version of another kind is a pre-release.
+
+        >>> Version("1.2.0-rc.1").is_prerelease, Version("1.2.0").is_prerelease, Version("1.2rc1").is_prerelease
+        (True, False, False)
+        """
+        return _library.is_prerelease(self._text)
+
+    @property
+    def epoch(self) -> Optional[int]:
+        """The epoch of a general version, or None for a version without one.
+
+        >>> Version("1:2.0-3").epoch, Version("2.0-3").epoch
+        (1, None)
+        """
+        return _library.epoch(self._text)
+
+    @property
     def major(self) -> Optional[int]:
         """The number at place 0, as `nth` returns it.
 
