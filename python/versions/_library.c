@@ -244,7 +244,6 @@ struct keyed {
     PyObject_HEAD
     PyObject *text;
     PyObject *key;
-    PyObject *weak_references;
 };
 
 static PyObject *keyed_new(PyTypeObject *type, PyObject *args, PyObject *named)
@@ -276,8 +275,6 @@ static void keyed_dealloc(PyObject *self)
     PyTypeObject *type = Py_TYPE(self);
     freefunc release = (freefunc)PyType_GetSlot(type, Py_tp_free);
 
-    if (keyed->weak_references != NULL)
-        PyObject_ClearWeakRefs(self);
     Py_XDECREF(keyed->text);
     Py_XDECREF(keyed->key);
     release(self);
@@ -325,7 +322,6 @@ static PyMemberDef keyed_members[] = {
     {"_text", T_OBJECT_EX, offsetof(struct keyed, text), READONLY, "The text as it was written."},
     {"key", T_OBJECT_EX, offsetof(struct keyed, key), READONLY,
      "The sort key: bytes that compare as versions do by precedence, in any program that orders bytes."},
-    {"__weaklistoffset__", T_PYSSIZET, offsetof(struct keyed, weak_references), READONLY, NULL},
     {NULL, 0, 0, 0, NULL},
 };
 

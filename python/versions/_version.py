@@ -27,7 +27,7 @@ class Version(_library.Keyed):
     versions.InvalidVersion: not a version: '1..2'
     """
 
-    __slots__ = ()
+    __slots__ = ("__weakref__",)
 
     @property
     def kind(self) -> Kind:
@@ -56,13 +56,13 @@ class Version(_library.Keyed):
         return self.kind == "complex"
 
     @property
-    def is_prerelease(self) -> bool:
-        """Whether it is an ideal version with a pre-release. No version of another kind is a pre-release.
+    def is_prerelease(self) -> Optional[bool]:
+        """Whether an ideal version is a pre-release, or None for a version of another kind.
 
         >>> Version("1.2.0-rc.1").is_prerelease, Version("1.2.0").is_prerelease, Version("1.2rc1").is_prerelease
-        (True, False, False)
+        (True, False, None)
         """
-        return _library.is_prerelease(self._text)
+        return _library.is_prerelease(self._text) if self.is_ideal else None
 
     @property
     def epoch(self) -> Optional[int]:
