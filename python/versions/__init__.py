@@ -36,8 +36,7 @@ __all__ = [
 ]
 
 # They pickle and are shown under the name by which they are used.
-for _public in (compare, compare_total, kind, kinds, match_all, sort_key, sort_keys, sorted):
-    _public.__module__ = __name__
-for _public in (InvalidRequirement, InvalidVersion, Requirement, Version):
-    _public.__module__ = __name__
-del _public
+for _name in (*__all__, "sorted"):
+    if callable(globals()[_name]) and _name != "Kind":
+        globals()[_name].__module__ = __name__
+del _name

@@ -244,7 +244,6 @@ struct keyed {
     PyObject_HEAD
     PyObject *text;
     PyObject *key;
-    PyObject *weak_references;
 };
 
 static PyObject *keyed_new(PyTypeObject *type, PyObject *args, PyObject *named)
@@ -276,8 +275,6 @@ static void keyed_dealloc(PyObject *self)
     PyTypeObject *type = Py_TYPE(self);
     freefunc release = (freefunc)PyType_GetSlot(type, Py_tp_free);
 
-    if (keyed->weak_references != NULL)
-        PyObject_ClearWeakRefs(self);
     Py_XDECREF(keyed->text);
     Py_XDECREF(keyed->key);
     release(self);
@@ -325,7 +322,6 @@ static PyMemberDef keyed_members[] = {
     {"_text", T_OBJECT_EX, offsetof(struct keyed, text), READONLY, "The text as it was written."},
     {"key", T_OBJECT_EX, offsetof(struct keyed, key), READONLY,
      "The sort key: bytes that compare as versions do by precedence, in any program that orders bytes."},
-    {"__weaklistoffset__", T_PYSSIZET, offsetof(struct keyed, weak_references), READONLY, NULL},
     {NULL, 0, 0, 0, NULL},
 };
 
@@ -359,6 +355,21 @@ static PyObject *text_of(PyObject *module, PyObject *object)
  * Calls for the methods of Version and Requirement
  */
 
+/* What a call answers that gives a number of a version where that has one. */
+static PyObject *number_or_none(int status, uint32_t number, PyObject *object)
+{
+    switch (status) {
+    case VERSIONS_OK:
+        return PyLong_FromUnsignedLong(number);
+    case VERSIONS_NO_NUMBER:
+        Py_RETURN_NONE;
+    case VERSIONS_NO_VERSION:
+        return raise_invalid("InvalidVersion", object);
+    default:
+        return raise_status(status);
+    }
+}
+
 static PyObject *nth(PyObject *Py_UNUSED(module), PyObject *args)
 {
     PyObject *object, *place;
@@ -382,16 +393,41 @@ static PyObject *nth(PyObject *Py_UNUSED(module), PyObject *args)
     status = versions_nth(text.bytes, text.size, (size_t)n, &number);
     take_again(thread);
     Py_XDECREF(text.held);
-    switch (status) {
-    case VERSIONS_OK:
-        return PyLong_FromUnsignedLong(number);
-    case VERSIONS_NO_NUMBER:
-        Py_RETURN_NONE;
-    case VERSIONS_NO_VERSION:
-        return raise_invalid("InvalidVersion", object);
-    default:
-        return raise_status(status);
-    }
+    return number_or_none(status, number, object);
+}
+
+static PyObject *epoch(PyObject *Py_UNUSED(module), PyObject *object)
+{
+    PyThreadState *thread;
+    struct text text;
+    uint32_t number = 0;
+    int status;
+
+    if (read_text(object, &text) < 0)
+        return NULL;
+    thread = let_go(text.size);
+    status = versions_epoch(text.bytes, text.size, &number);
+    take_again(thread);
+    Py_XDECREF(text.held);
+    return number_or_none(status, number, object);
+}
+
+static PyObject *is_prerelease(PyObject *Py_UNUSED(module), PyObject *object)
+{
+    PyThreadState *thread;
+    struct text text;
+    bool answer = false;
+    int status;
+
+    if (read_text(object, &text) < 0)
+        return NULL;
+    thread = let_go(text.size);
+    status = versions_is_prerelease(text.bytes, text.size, &answer);
+    take_again(thread);
+    Py_XDECREF(text.held);
+    if (status == VERSIONS_OK)
+        return PyBool_FromLong(answer);
+    return status == VERSIONS_NO_VERSION ? raise_invalid("InvalidVersion", object) : raise_status(status);
 }
 
 /* matches(requirement, version): the answer, or None where the text of the version is not a version. */
@@ -796,6 +832,24 @@ static int raise_arrow(const char *what)
     return -1;
 }
 
+/* An error that is put aside while what a producer handed out is released, which may run code of Python. */
+struct error {
+    PyObject *type, *value, *trace;
+};
+
+static struct error put_aside(void)
+{
+    struct error error;
+
+    PyErr_Fetch(&error.type, &error.value, &error.trace);
+    return error;
+}
+
+static void put_back(struct error error)
+{
+    PyErr_Restore(error.type, error.value, error.trace);
+}
+
 /* How many bytes an offset has in arrays of the schema's type. */
 static int offset_bytes(const struct ArrowSchema *schema)
 {
@@ -886,11 +940,11 @@ static int ask_array_capsules(const struct call *call, PyObject *capsules, PyObj
     return width < 0 ? -1 : ask_array(call, array, width, answers);
 }
 
-static int raise_stream(struct ArrowArrayStream *stream, int error)
+static int raise_stream(struct ArrowArrayStream *stream, int failure)
 {
     const char *words = stream->get_last_error(stream);
 
-    PyErr_Format(PyExc_ValueError, "an Arrow stream failed with %d: %s", error, words == NULL ? "" : words);
+    PyErr_Format(PyExc_ValueError, "an Arrow stream failed with %d: %s", failure, words == NULL ? "" : words);
     return -1;
 }
 
@@ -898,13 +952,16 @@ static int stream_width(struct ArrowArrayStream *stream)
 {
     struct ArrowSchema schema = {.release = NULL};
     PyThreadState *thread = PyEval_SaveThread();
-    int error = stream->get_schema(stream, &schema), width;
+    int failure = stream->get_schema(stream, &schema), width;
+    struct error error;
 
     PyEval_RestoreThread(thread);
-    if (error != 0)
-        return raise_stream(stream, error);
+    if (failure != 0)
+        return raise_stream(stream, failure);
     width = offset_bytes(&schema);
+    error = put_aside();
     schema.release(&schema);
+    put_back(error);
     return width;
 }
 
@@ -923,16 +980,19 @@ static int ask_stream_capsule(const struct call *call, PyObject *capsule, PyObje
         struct ArrowArray array = {.release = NULL};
         /* A producer may need the lock in another thread of its own. */
         PyThreadState *thread = PyEval_SaveThread();
-        int error = stream->get_next(stream, &array);
+        int failure = stream->get_next(stream, &array);
+        struct error error;
 
         PyEval_RestoreThread(thread);
-        if (error != 0)
-            return raise_stream(stream, error);
+        if (failure != 0)
+            return raise_stream(stream, failure);
         /* An array that is released already ends a stream. */
         if (array.release == NULL)
             break;
         failed = ask_array(call, &array, width, answers);
+        error = put_aside();
         array.release(&array);
+        put_back(error);
     }
     return failed;
 }
@@ -968,6 +1028,7 @@ static int refuse_one(PyObject *texts)
 static PyObject *answers_of(PyObject *module, struct call *call, PyObject *texts)
 {
     PyObject *answers, *capsule = NULL;
+    struct error error;
     int failed;
 
     if (refuse_one(texts) < 0)
@@ -982,9 +1043,11 @@ static PyObject *answers_of(PyObject *module, struct call *call, PyObject *texts
         failed = ask_stream_capsule(call, capsule, answers);
     else
         failed = PyErr_Occurred() ? -1 : ask_iterable(module, call, texts, answers);
+    error = put_aside();
     Py_XDECREF(capsule);
     if (failed < 0)
         Py_CLEAR(answers);
+    put_back(error);
     return answers;
 }
 
@@ -1178,6 +1241,8 @@ static PyMethodDef functions[] = {
     {"sort_keys", NAMED(sort_keys), METH_VARARGS | METH_KEYWORDS, sort_keys_doc},
     {"sorted", NAMED(sorted), METH_VARARGS | METH_KEYWORDS, sorted_doc},
     {"nth", nth, METH_VARARGS, NULL},
+    {"epoch", epoch, METH_O, NULL},
+    {"is_prerelease", is_prerelease, METH_O, NULL},
     {"matches", matches, METH_VARARGS, NULL},
     {"match_all", match_all, METH_VARARGS, NULL},
     {NULL, NULL, 0, NULL},

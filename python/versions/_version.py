@@ -27,7 +27,7 @@ class Version(_library.Keyed):
     versions.InvalidVersion: not a version: '1..2'
     """
 
-    __slots__ = ()
+    __slots__ = ("__weakref__",)
 
     @property
     def kind(self) -> Kind:
@@ -54,6 +54,24 @@ class Version(_library.Keyed):
     def is_complex(self) -> bool:
         """Whether it is neither ideal nor general."""
         return self.kind == "complex"
+
+    @property
+    def is_prerelease(self) -> Optional[bool]:
+        """Whether an ideal version is a pre-release, or None for a version of another kind.
+
+        >>> Version("1.2.0-rc.1").is_prerelease, Version("1.2.0").is_prerelease, Version("1.2rc1").is_prerelease
+        (True, False, None)
+        """
+        return _library.is_prerelease(self._text) if self.is_ideal else None
+
+    @property
+    def epoch(self) -> Optional[int]:
+        """The epoch of a general version, or None for a version without one.
+
+        >>> Version("1:2.0-3").epoch, Version("2.0-3").epoch
+        (1, None)
+        """
+        return _library.epoch(self._text)
 
     @property
     def major(self) -> Optional[int]:
