@@ -31,6 +31,21 @@ struct state {
  * Errors
  */
 
+/* Raises an error with words. What fails while they are made is raised instead; PyErr_Format loses it before 3.12. */
+static void *fail(PyObject *type, const char *format, ...)
+{
+    va_list arguments;
+    PyObject *words;
+
+    va_start(arguments, format);
+    words = PyUnicode_FromFormatV(format, arguments);
+    va_end(arguments);
+    if (words != NULL)
+        PyErr_SetObject(type, words);
+    Py_XDECREF(words);
+    return NULL;
+}
+
 /* Raises an error of the package that holds the text, InvalidVersion or InvalidRequirement. */
 static void *raise_invalid(const char *name, PyObject *text)
 {
@@ -51,7 +66,7 @@ static void *raise_not_a_text(PyObject *object)
     PyObject *name = PyObject_GetAttrString((PyObject *)Py_TYPE(object), "__name__");
 
     if (name != NULL)
-        PyErr_Format(PyExc_TypeError, "a text is a str, and this is of type %S: %R", name, object);
+        fail(PyExc_TypeError, "a text is a str, and this is of type %S: %R", name, object);
     Py_XDECREF(name);
     return NULL;
 }
@@ -60,10 +75,8 @@ static void *raise_not_a_text(PyObject *object)
 static void *raise_status(int status)
 {
     if (status == VERSIONS_BAD_OFFSETS)
-        PyErr_SetString(PyExc_ValueError, "offsets of texts descend, are negative or leave their buffer");
-    else
-        PyErr_Format(PyExc_RuntimeError, "versions: the library returned status %d", status);
-    return NULL;
+        return fail(PyExc_ValueError, "offsets of texts descend, are negative or leave their buffer");
+    return fail(PyExc_RuntimeError, "versions: the library returned status %d", status);
 }
 
 /*
@@ -386,7 +399,7 @@ static PyObject *nth(PyObject *Py_UNUSED(module), PyObject *args)
     if (n == -1 && PyErr_Occurred())
         return NULL;
     if (n < 0)
-        return PyErr_Format(PyExc_ValueError, "places are counted from 0: %S", place);
+        return fail(PyExc_ValueError, "places are counted from 0: %S", place);
     if (read_text(object, &text) < 0)
         return NULL;
     thread = let_go(text.size);
@@ -828,7 +841,7 @@ struct ArrowArrayStream {
 
 static int raise_arrow(const char *what)
 {
-    PyErr_Format(PyExc_ValueError, "an Arrow array of texts %s", what);
+    fail(PyExc_ValueError, "an Arrow array of texts %s", what);
     return -1;
 }
 
@@ -859,10 +872,10 @@ static int offset_bytes(const struct ArrowSchema *schema)
         return 4;
     if (schema->dictionary == NULL && (strcmp(format, "U") == 0 || strcmp(format, "Z") == 0))
         return 8;
-    PyErr_Format(PyExc_TypeError,
-                 "an Arrow array of texts is of type string, binary, large_string or large_binary (format u, z, U or "
-                 "Z), and this is %s of format %s",
-                 schema->dictionary == NULL ? "one" : "a dictionary", format);
+    fail(PyExc_TypeError,
+         "an Arrow array of texts is of type string, binary, large_string or large_binary (format u, z, U or "
+         "Z), and this is %s of format %s",
+         schema->dictionary == NULL ? "one" : "a dictionary", format);
     return -1;
 }
 
@@ -925,7 +938,7 @@ static int ask_array_capsules(const struct call *call, PyObject *capsules, PyObj
     int width;
 
     if (!PyTuple_Check(capsules)) {
-        PyErr_SetString(PyExc_TypeError, "__arrow_c_array__ returned no tuple");
+        fail(PyExc_TypeError, "__arrow_c_array__ returned no tuple");
         return -1;
     }
     if (!PyArg_ParseTuple(capsules, "OO:__arrow_c_array__", &first, &second))
@@ -944,7 +957,7 @@ static int raise_stream(struct ArrowArrayStream *stream, int failure)
 {
     const char *words = stream->get_last_error(stream);
 
-    PyErr_Format(PyExc_ValueError, "an Arrow stream failed with %d: %s", failure, words == NULL ? "" : words);
+    fail(PyExc_ValueError, "an Arrow stream failed with %d: %s", failure, words == NULL ? "" : words);
     return -1;
 }
 
@@ -1021,7 +1034,7 @@ static int refuse_one(PyObject *texts)
 {
     if (!PyUnicode_Check(texts) && !PyBytes_Check(texts))
         return 0;
-    PyErr_Format(PyExc_TypeError, "many texts are wanted, and this is one: %R", texts);
+    fail(PyExc_TypeError, "many texts are wanted, and this is one: %R", texts);
     return -1;
 }
 
@@ -1255,8 +1268,8 @@ static int fill(PyObject *module)
     int number;
 
     if (!versions_processor_suffices()) {
-        PyErr_SetString(PyExc_ImportError,
-                        "versions needs a processor of the level x86-64-v2, which has SSE4.2 and POPCNT");
+        fail(PyExc_ImportError,
+             "versions needs a processor of the level x86-64-v2, which has SSE4.2 and POPCNT");
         return -1;
     }
     Py_INCREF(Py_None);
