@@ -12,7 +12,7 @@ import sys
 import unittest
 
 HERE = os.path.dirname(os.path.abspath(__file__))
-MODULES = ("versions", "versions._library", "versions._version", "versions._requirement")
+MODULES = ("versions", "versions._requirement")
 TOP = os.path.join(HERE, "..", "..")
 PAGES = (os.path.join(TOP, "README.md"), os.path.join(TOP, "docs", "PYTHON.md"))
 
