@@ -1,6 +1,8 @@
 """Runs the tests of the installed package and the examples of its docstrings, of docs/PYTHON.md and of the README.
 
-The last line is 'N passed, M failed'.
+    python/tests [MODULE ..]
+
+The modules that are named are left out, as test_faults. The last line is 'N passed, M failed'.
 """
 
 import doctest
@@ -10,11 +12,12 @@ import sys
 import unittest
 
 HERE = os.path.dirname(os.path.abspath(__file__))
-MODULES = ("versions", "versions._one", "versions._many", "versions._version", "versions._requirement")
+MODULES = ("versions", "versions._requirement")
 TOP = os.path.join(HERE, "..", "..")
 PAGES = (os.path.join(TOP, "README.md"), os.path.join(TOP, "docs", "PYTHON.md"))
 
-tests = unittest.defaultTestLoader.discover(HERE)
+names = {name[: -len(".py")] for name in os.listdir(HERE) if name.startswith("test_") and name.endswith(".py")}
+tests = unittest.defaultTestLoader.loadTestsFromNames(sorted(names - set(sys.argv[1:])))
 for module in MODULES:
     tests.addTest(doctest.DocTestSuite(importlib.import_module(module)))
 tests.addTest(doctest.DocFileSuite(*PAGES, module_relative=False, encoding="utf-8"))

@@ -1,21 +1,32 @@
 """Calls on one text and on many: what they answer, and what they say of what is no text."""
 
+import copy
 import importlib.metadata
+import inspect
 import os
-import re
+import pickle
+import subprocess
+import sys
 import threading
+import types
 import unittest
 from unittest import mock
 
-import arrow
 import versions
 from lists import LongLists
-from versions import _library, _many
+
+# The folder of versions.h: of the library that the package was built with, or else of the repository.
+LIBRARY = os.environ.get("C_LIBRARY") or os.path.join(os.path.dirname(__file__), "..", "..", "c")
 
 USUAL = ["1.2.3", "1..2", "1:2.0rc1-3", "", None, "20.0026.1_0-2+0.93", "\ud800", "1.0", "0:1.0", "é", "1.2.3\0"]
 KINDS = ["ideal", None, "general", None, None, "complex", None, "general", "general", None, None]
 # Of `>=1.2,<1:0`, by docs/REQUIREMENTS.md.
 WANTED = [True, None, False, None, None, True, None, False, False, None, None]
+
+
+class Raising:
+    def __getattr__(self, name):
+        raise OSError("mine")
 
 
 def key_of(text):
@@ -46,24 +57,84 @@ class One(unittest.TestCase):
         self.assertEqual([versions.compare_total("1.0", b) for b in ("0:1.0", "1.0", "1.0rc1")], [-1, 0, 1])
         self.assertEqual(versions.compare_total("1.0.0+a", "1.0.0+b"), 0)
 
-    def test_no_version_is_told(self):
+    def test_the_text_that_is_not_a_version_is_named(self):
         for call in (versions.compare, versions.compare_total):
-            for a, b, told in (("1..2", "1", "1..2"), ("1", "x y", "x y"), ("\ud800", "", "\ud800")):
-                with self.assertRaises(ValueError) as raised:
+            for a, b, named in (("1..2", "1", "1..2"), ("1", "x y", "x y"), ("\ud800", "", "\ud800")):
+                with self.assertRaises(versions.InvalidVersion) as raised:
                     call(a, b)
-                self.assertEqual(str(raised.exception), f"not a version: {told!r}")
+                self.assertEqual(str(raised.exception), f"not a version: {named!r}")
+                self.assertEqual(raised.exception.text, named)
 
     def test_no_text(self):
-        for other in (None, 1.2, b"1.2", versions.Version("1.2")):
+        for other in (None, 1.2, b"1.2", versions.Version("1.2"), float("nan")):
             for call in (
                 lambda: versions.kind(other),
                 lambda: versions.sort_key(other),
                 lambda: versions.compare(other, "1"),
                 lambda: versions.compare("1", other),
-                lambda: versions.kinds(["1", other if other is not None else 0]),
+                lambda: versions.compare_total("1", other),
                 lambda: versions.match_all(other, []),
+                lambda: versions.Version(other),
+                lambda: versions.Requirement(other),
             ):
-                self.assertRaises(TypeError, call)
+                self.assertRaisesRegex(TypeError, f"a text is a str, and this is of type {type(other).__name__}", call)
+
+    def test_names_of_arguments(self):
+        self.assertEqual(versions.kind(text="1.2"), "general")
+        self.assertEqual(versions.sort_key(text="1.2"), versions.sort_key("1.2"))
+        self.assertEqual((versions.compare(a="1", b="2"), versions.compare("2", b="1")), (-1, 1))
+        self.assertEqual(versions.compare_total(b="1", a="2"), 1)
+        self.assertEqual(versions.kinds(texts=["1"]), ["general"])
+        self.assertEqual(versions.sort_keys(texts=["1"]), [versions.sort_key("1")])
+        self.assertEqual(versions.sorted(texts=["2", "1"]), ["1", "2"])
+        self.assertEqual(versions.match_all(requirement="*", texts=["1"]), [True])
+        self.assertEqual(versions.Version(text="1").nth(n=0), 1)
+        self.assertTrue(versions.Requirement(text="*").matches(version="1"))
+        for wrong in ({}, {"texts": "1"}, {"text": "1", "b": "2"}, {"": "1"}):
+            self.assertRaises(TypeError, versions.kind, **wrong)
+        for wrong in ((), ("1",), ("1", "2", "3")):
+            self.assertRaises(TypeError, versions.compare, *wrong)
+        for function, names in (("kind", "(text)"), ("compare", "(a, b)"), ("kinds", "(texts)")):
+            self.assertEqual(str(inspect.signature(getattr(versions, function))), names)
+
+    def test_a_subclass_of_str_is_its_text(self):
+        class Evil(str):
+            def answer(self, *_):
+                return b"9.9.9" * 1000
+
+            encode = __str__ = __repr__ = __format__ = __iter__ = __getitem__ = __hash__ = answer
+
+            def __len__(self):
+                return 10**6
+
+            def __eq__(self, other):
+                return True
+
+        evil, text = Evil("1.2"), "1.2"
+        self.assertEqual(versions.kind(evil), "general")
+        self.assertEqual(versions.sort_key(evil), versions.sort_key(text))
+        self.assertEqual((versions.compare(evil, "1.3"), versions.compare_total("1.1", evil)), (-1, -1))
+        self.assertEqual(versions.kinds([evil, None]), ["general", None])
+        self.assertEqual(versions.sort_keys([evil]), [versions.sort_key(text)])
+        version, wanted = versions.Version(evil), versions.Requirement(Evil("=1.2"))
+        self.assertEqual((str(version), type(str(version)), version.key), (text, str, versions.sort_key(text)))
+        self.assertEqual((version.kind, version.nth(1), repr(version)), ("general", 2, "Version('1.2')"))
+        self.assertEqual((str(wanted), type(str(wanted))), ("=1.2", str))
+        self.assertIs(wanted.matches(evil), True)
+        self.assertIs(versions.sorted([evil])[0], evil)
+        for call in (versions.kinds, versions.sort_keys, versions.sorted, wanted.filter):
+            self.assertRaises(TypeError, call, evil)
+        with self.assertRaises(versions.InvalidVersion) as raised:
+            versions.sort_key(Evil("1..2"))
+        self.assertEqual((type(raised.exception.text), str(raised.exception)), (str, "not a version: '1..2'"))
+
+    def test_a_text_of_every_length_around_the_room_on_the_stack(self):
+        for length in (*range(1, 20), *range(320, 360), *range(500, 530), 1000, 5000, 65536, 65537, 200_000):
+            for text in ("a" * length, "1." * (length // 2) + "1"):
+                key = versions.sort_key(text)
+                self.assertEqual([key], versions.sort_keys([text]), length)
+                self.assertEqual(versions.Version(text).key, key)
+                self.assertEqual((versions.compare(text, text), versions.compare_total(text, text + ".0")), (0, -1))
 
 
 class Many(LongLists):
@@ -80,20 +151,13 @@ class Many(LongLists):
         self.assertEqual(versions.kinds(text for text in USUAL), KINDS)
 
     def test_no_texts(self):
-        for empty in ([], (), iter(()), arrow.Array([]), arrow.Chunked()):
+        for empty in ([], (), iter(()), {}):
             self.assertEqual(versions.kinds(empty), [])
-        for empty in ([], arrow.Array([]), arrow.Chunked(), arrow.Chunked(arrow.Array([]))):
             self.assertEqual(versions.sort_keys(empty), [])
             self.assertEqual(versions.match_all("*", empty), [])
             with self.assertRaisesRegex(ValueError, "not a requirement: '1.2'"):
                 versions.match_all("1.2", empty)
         self.assertEqual(self.answers(["", ""]), ([None] * 2,) * 3)
-
-    def test_one_text_is_not_many(self):
-        for one in ("1.2.3", b"1.2.3"):
-            self.assertRaises(TypeError, versions.kinds, one)
-        self.assertRaises(TypeError, versions.kinds, 5)
-        self.assertRaises(TypeError, versions.sort_keys, None)
 
     def test_requirements_of_both_types(self):
         wanted = versions.Requirement("^1.2")
@@ -112,79 +176,154 @@ class Many(LongLists):
         self.assertEqual(versions.sort_keys(texts), [key_of(text) for text in texts])
 
 
-class Arrow(Many):
-    """Over stand-ins for arrays of `pyarrow`."""
+class Items(LongLists):
+    """What an iterable may hold, and what it may do."""
 
-    def bytes(self):
-        return [None if text is None else text.encode("utf-8", "surrogatepass") for text in USUAL]
+    def test_versions_count_as_texts(self):
+        class Mine(versions.Version):
+            pass
 
-    def test_types(self):
-        for type in ("string", "binary", "large_string", "large_binary"):
-            with self.subTest(type=type):
-                self.assertEqual(self.answers(arrow.Array(self.bytes(), type)), self.usual_answers())
+        mixed = [versions.Version("1.2.3"), "1.2", None, Mine("1_2"), "1..2"]
+        self.assertEqual(versions.kinds(mixed), ["ideal", "general", None, "complex", None])
+        self.assertEqual(versions.sort_keys(mixed)[::3], [mixed[0].key, mixed[3].key])
+        self.assertEqual(versions.match_all(">=1.2.1", mixed), [True, False, None, False, None])
+        self.assertEqual(list(map(str, versions.sorted([mixed[0], "1.2", mixed[3]]))), ["1_2", "1.2", "1.2.3"])
 
-    def test_slices(self):
-        for type in ("string", "large_binary"):
-            for first in range(len(USUAL) + 1):
-                for length in range(len(USUAL) - first + 1):
-                    array = arrow.Array(self.bytes(), type, first, length)
-                    self.assertEqual(self.answers(array), self.usual_answers(slice(first, first + length)))
+    def test_missing_values(self):
+        nan = float("nan")
+        pandas = types.ModuleType("pandas")
+        self.assertEqual(versions.kinds(["1.2", nan, -nan, None]), ["general", None, None, None])
+        for number in (0.0, 1.2, float("inf"), 0, False):
+            self.assertRaises(TypeError, versions.kinds, ["1.2", number])
+        marker = type("NAType", (), {"__eq__": None, "__bool__": None})()
+        with mock.patch.dict(sys.modules):
+            sys.modules.pop("pandas", None)
+            self.assertRaises(TypeError, versions.kinds, [marker])
+            sys.modules["pandas"] = pandas
+            self.assertRaises(TypeError, versions.kinds, [marker])
+            pandas.NA = marker
+            self.assertEqual(versions.kinds(["1.2", marker, nan]), ["general", None, None])
+            self.assertEqual(versions.match_all("*", [marker, "1"]), [None, True])
+            self.assertRaises(TypeError, versions.kinds, [type(marker)()])
+            self.assertRaises(TypeError, versions.kind, marker)
+            for refused in (marker, nan, None):
+                self.assertRaises(TypeError, versions.sorted, [refused])
+                self.assertRaises(TypeError, versions.Requirement("*").filter, ["1.2", refused])
+            sys.modules["pandas"] = Raising()
+            self.assertRaisesRegex(OSError, "mine", versions.kinds, [marker])
 
-    def test_first_offset_above_0_and_an_odd_address(self):
-        array = arrow.Array(self.bytes(), front=b"1.2.3", pad=3)
-        self.assertEqual(self.answers(array), self.usual_answers())
+    def test_an_iterable_with_attributes_of_an_array(self):
+        for name in ("chunks", "buffers", "type", "offset"):
+            for value in (None, [], 5, lambda: []):
+                words = type("Words", (list,), {name: value})
+                self.assertEqual(versions.kinds(words(["1.2"])), ["general"])
+                self.assertEqual(versions.sort_keys(words(["1.2"])), [versions.sort_key("1.2")])
+                self.assertEqual(versions.Requirement("^1").filter(words(["1.2"])), ["1.2"])
 
-    def test_empty_texts_without_a_buffer(self):
-        self.assertEqual(versions.kinds(arrow.Array([b"", b"", None])), [None, None, None])
-        self.assertEqual(versions.kinds(arrow.Array([b"", b""])), [None, None])
+    def test_iterables_that_fail_midway(self):
+        def texts():
+            yield "1.2"
+            raise OSError("mine")
 
-    def test_chunks(self):
-        content = self.bytes()
-        chunked = arrow.Chunked(arrow.Array(content[:3]), arrow.Array([]), arrow.Array(content[3:]))
-        self.assertEqual(self.answers(chunked), self.usual_answers())
+        wanted = versions.Requirement("*")
+        for call in (versions.kinds, versions.sort_keys, versions.sorted, wanted.filter):
+            self.assertRaisesRegex(OSError, "mine", call, texts())
+            self.assertRaises(TypeError, call, ["1.2", 3])
+            self.assertRaises(TypeError, call, 3)
+            self.assertRaises(TypeError, call, None)
 
-    def test_the_buffers_are_read_in_place(self):
-        array = arrow.Array([b"1.2", b"x y"])
-        with mock.patch.object(_library, "kinds", wraps=_library.kinds) as call:
-            versions.kinds(array)
-        texts, texts_len, offsets, offsets_len = call.call_args.args[:4]
-        self.assertEqual((texts, texts_len), (array.parts[2].address, 6))
-        self.assertEqual((offsets, offsets_len), (array.parts[1].address, 3))
+    def test_a_list_that_changes_while_it_is_read(self):
+        class Growing(str):
+            def __str__(self):
+                raise AssertionError
 
-    def test_other_types(self):
-        for type in ("int64", "string_view", "dictionary<values=string, indices=int32, ordered=0>"):
-            array = arrow.Array([b"1.2"])
-            array.type = type
-            with self.assertRaisesRegex(TypeError, "large_string"):
-                versions.kinds(array)
+        texts = ["1.2"] * 10
 
-    def test_bad_offsets(self):
-        for offsets in ((3, 0), (0, 4), (-1, 3), (2**62, 2**62)):
-            array = arrow.Array([b"1.2"])
-            array.parts[1] = arrow.Buffer(b"".join(o.to_bytes(8, "little", signed=True) for o in offsets))
-            for call in (versions.kinds, versions.sort_keys, lambda texts: versions.match_all("*", texts)):
-                with self.subTest(offsets=offsets), self.assertRaisesRegex(ValueError, "offsets"):
-                    call(array)
+        def shrinking():
+            for text in texts:
+                if len(texts) > 5:
+                    texts.pop()
+                yield text
 
-    def test_short_buffers(self):
-        array = arrow.Array([b"1.2", None, b"1.3"])
-        array.length = 9
-        self.assertRaisesRegex(ValueError, "fewer offsets", versions.kinds, array)
-        array.parts[1] = arrow.Buffer(bytes(10 * 8))
-        self.assertRaisesRegex(ValueError, "fewer bits", versions.kinds, array)
+        self.assertEqual(versions.kinds(shrinking()), ["general"] * 5)
+        texts = ["1.2"] * 10
+        self.assertEqual(versions.sorted(shrinking()), ["1.2"] * 5)
+
+    def test_one_text_is_not_many(self):
+        wanted = versions.Requirement("^1")
+        for one in ("1.2.3", b"1.2.3", ""):
+            for call in (versions.kinds, versions.sort_keys, versions.sorted, wanted.filter):
+                self.assertRaisesRegex(TypeError, "many texts", call, one)
+            self.assertRaisesRegex(TypeError, "many texts", versions.match_all, wanted, one)
+
+    def test_dictionaries_and_sets(self):
+        self.assertEqual(versions.kinds({"1.2": 1, "1.2.3": 2}), ["general", "ideal"])
+        self.assertEqual(versions.sorted({"1.3", "1.2"}), ["1.2", "1.3"])
 
 
-class Statuses(unittest.TestCase):
-    def test_a_status_that_is_none_is_told(self):
-        calls = {
-            "kinds": lambda: versions.kinds(["1"]),
-            "sort_keys": lambda: versions.sort_keys(["1"]),
-            "match_all": lambda: versions.match_all("^1.0", ["1.0"]),
-        }
-        for name, call in calls.items():
-            call()
-            with self.subTest(name), mock.patch.object(_library, name, return_value=99):
-                self.assertRaisesRegex(RuntimeError, "99", call)
+class Sorted(unittest.TestCase):
+    # From docs/ORDER.md.
+    def test_order(self):
+        tied = ["1.002", "1.2", "0:1.2", "01.2", "1.2+b", "1.2+a"]
+        self.assertEqual(versions.sorted(tied), ["1.2", "1.2+a", "1.2+b", "0:1.2", "01.2", "1.002"])
+        self.assertEqual(versions.sorted(["1.0.0+b", "1.0.0+a", "0.9.0"]), ["0.9.0", "1.0.0+b", "1.0.0+a"])
+        self.assertEqual(versions.sorted([]), [])
+        self.assertEqual(versions.sorted(iter(["2", "1"])), ["1", "2"])
+
+    def test_the_items_are_those_given(self):
+        items = [versions.Version("2"), "1" + str(0), versions.Version("1")]
+        self.assertEqual(list(map(id, versions.sorted(items))), [id(items[n]) for n in (2, 0, 1)][:1] + [id(items[0]), id(items[1])])
+
+    def test_a_text_that_is_not_a_version(self):
+        for texts in (["1", "1..2", "x y"], ["1..2"], ["2", "1", "1..2"], iter(["1..2", "1"])):
+            with self.assertRaises(versions.InvalidVersion) as raised:
+                versions.sorted(texts)
+            self.assertEqual(raised.exception.text, "1..2")
+        for text in ("", "\ud800", "\udcff"):
+            self.assertRaises(versions.InvalidVersion, versions.sorted, ["1", text])
+
+    def test_is_not_among_the_names_of_a_star(self):
+        names = {}
+        exec("from versions import *", names)
+        self.assertNotIn("sorted", names)
+        self.assertIs(names["kind"], versions.kind)
+
+
+class Errors(unittest.TestCase):
+    def test_texts_and_pickles(self):
+        for error, words in ((versions.InvalidVersion, "version"), (versions.InvalidRequirement, "requirement")):
+            self.assertTrue(issubclass(error, ValueError))
+            self.assertFalse(issubclass(error, UnicodeError))
+            for text in ("1..2", "", "\ud800", "a'b"):
+                for protocol in range(pickle.HIGHEST_PROTOCOL + 1):
+                    back = pickle.loads(pickle.dumps(error(text), protocol))
+                    self.assertEqual((type(back), back.text, str(back)), (error, text, f"not a {words}: {text!r}"))
+                self.assertEqual(copy.copy(error(text)).text, text)
+
+    def test_each_call(self):
+        for call in (
+            lambda: versions.sort_key("1..2"),
+            lambda: versions.compare("1..2", "1..3"),
+            lambda: versions.compare_total("1", "1..2"),
+            lambda: versions.Version("1..2"),
+            lambda: versions.Requirement("*").matches("1..2"),
+            lambda: versions.sorted(["1", "1..2"]),
+        ):
+            with self.assertRaises(versions.InvalidVersion) as raised:
+                call()
+            self.assertEqual((raised.exception.text, type(raised.exception.text)), ("1..2", str))
+        for call in (lambda: versions.Requirement("1"), lambda: versions.match_all("1", [])):
+            with self.assertRaises(versions.InvalidRequirement) as raised:
+                call()
+            self.assertEqual(raised.exception.text, "1")
+
+    def test_a_type_whose_repr_raises(self):
+        class Odd:
+            def __repr__(self):
+                raise OSError("mine")
+
+        for call in (versions.kind, versions.Version, lambda odd: versions.kinds([odd])):
+            self.assertRaisesRegex(OSError, "mine", call, Odd())
 
 
 class Threads(unittest.TestCase):
@@ -208,29 +347,68 @@ class Threads(unittest.TestCase):
         self.assertTrue(all(answer == (wanted, single) for answer in answers))
 
 
+    def test_others_go_on_while_the_library_works(self):
+        # Each call works for some tenths of a second. While it does, a thread that counts must go on counting.
+        long, many = "1." * 3_000_000 + "1", ["1.2.3-rc.1"] * 400_000
+        wanted = versions.Requirement("=1.2")
+        version = versions.Version(long)
+        calls = {
+            "kind": lambda: versions.kind(long),
+            "sort_key": lambda: versions.sort_key(long),
+            "compare": lambda: versions.compare(long, long),
+            "compare_total": lambda: versions.compare_total(long, long),
+            "nth": lambda: version.nth(2_000_000),
+            "epoch": lambda: version.epoch,
+            "matches": lambda: wanted.matches(long),
+            "kinds": lambda: versions.kinds(many),
+            "sort_keys": lambda: versions.sort_keys(many),
+            "match_all": lambda: versions.match_all(wanted, many),
+            "sorted": lambda: versions.sorted(many),
+        }
+        # Only letting the lock go passes it on: the interpreter takes it from no thread for as long as this.
+        interval = sys.getswitchinterval()
+        sys.setswitchinterval(1000)
+        try:
+            for name, call in calls.items():
+                let_go = threading.Event()
+                thread = threading.Thread(target=let_go.set)
+                begun = threading.Lock()
+                begun.acquire()
+                thread = threading.Thread(target=lambda: (begun.acquire(), let_go.set()))
+                thread.start()
+                begun.release()
+                call()
+                self.assertTrue(let_go.is_set(), name)
+                thread.join()
+        finally:
+            sys.setswitchinterval(interval)
+
+
 class Package(unittest.TestCase):
-    def test_a_processor_that_lacks_something_is_an_import_error(self):
-        calls = mock.Mock()
-        calls.versions_processor_suffices.return_value = False
-        with mock.patch.object(_library.ctypes, "CDLL", return_value=calls):
-            self.assertRaisesRegex(ImportError, "x86-64-v2", _library._load)
-        calls.versions_processor_suffices.return_value = True
-        with mock.patch.object(_library.ctypes, "CDLL", return_value=calls):
-            self.assertIs(_library._load(), calls)
-
     def test_names(self):
-        for name in versions.__all__:
+        for name in (*versions.__all__, "sorted"):
             self.assertTrue(hasattr(versions, name), name)
-            self.assertTrue(name == "Kind" or getattr(versions, name).__doc__, name)
+            self.assertTrue(name in ("Kind", "__version__") or getattr(versions, name).__doc__, name)
 
-    def test_version_and_statuses_are_those_of_the_header(self):
-        header = os.path.join(os.path.dirname(__file__), "..", "..", "c", "versions.h")
-        with open(header, encoding="utf-8") as file:
-            text = file.read()
-        self.assertIn(f'#define VERSIONS_VERSION "{importlib.metadata.version("versions")}"\n', text)
-        statuses = dict(re.findall(r"#define VERSIONS_(\w+) (\d+)", text))
-        for name in ("OK", "NO_VERSION_B", "NO_REQUIREMENTS", "NO_NUMBER", "BAD_OFFSETS"):
-            self.assertEqual(getattr(_library, name), int(statuses[name]), name)
-        for name, number in (("NONE", 0), ("IDEAL", 1), ("GENERAL", 2), ("COMPLEX", 3)):
-            self.assertEqual(int(statuses[name]), number)
-            self.assertEqual(_many.KINDS[number], None if number == 0 else name.lower())
+    def test_functions_are_of_the_package(self):
+        for name in ("kind", "sort_key", "compare", "compare_total", "kinds", "sort_keys", "match_all", "sorted"):
+            function = getattr(versions, name)
+            self.assertEqual((function.__module__, function.__name__, function.__qualname__), ("versions", name, name))
+            for protocol in range(pickle.HIGHEST_PROTOCOL + 1):
+                pickled = pickle.dumps(function, protocol)
+                self.assertIs(pickle.loads(pickled), function)
+                self.assertNotIn(b"_library", pickled)
+        for name in ("kind", "sort_key", "compare", "compare_total"):
+            self.assertIsInstance(getattr(versions, name), types.BuiltinFunctionType)
+        for name in ("Version", "Requirement", "InvalidVersion", "InvalidRequirement"):
+            self.assertEqual(getattr(versions, name).__module__, "versions")
+
+    def test_version_is_that_of_the_header_and_of_the_distribution(self):
+        with open(os.path.join(LIBRARY, "versions.h"), encoding="utf-8") as file:
+            self.assertIn(f'#define VERSIONS_VERSION "{versions.__version__}"\n', file.read())
+        self.assertEqual(versions.__version__, importlib.metadata.version("proved-versions"))
+
+    def test_import_is_silent(self):
+        command = [sys.executable, "-I", "-W", "error", "-X", "dev", "-c", "import versions; versions.kind('1')"]
+        done = subprocess.run(command, stdout=subprocess.PIPE, stderr=subprocess.STDOUT)
+        self.assertEqual((done.returncode, done.stdout), (0, b""))

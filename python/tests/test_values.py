@@ -2,11 +2,13 @@
 
 import copy
 import enum
+import gc
 import pickle
 import random
 import unittest
+import weakref
 
-from versions import Requirement, Version, compare, sort_key
+from versions import InvalidRequirement, InvalidVersion, Requirement, Version, compare, sort_key, sort_keys
 
 # In increasing order by docs/ORDER.md.
 INCREASING = "abc.0 0.0 1a.0 1.2.git 1.2 1.2.0-rc.1 1.2.0 1.2.3rc9 1.2.3rc10 1.2.3 1:0.1".split()
@@ -16,6 +18,14 @@ LEVEL = ["1.2", "01.2", "0:1.2", "1.2+x", "1.002"]
 
 # No versions by docs/GRAMMAR.md, and what is no text of Unicode.
 NONE = ["", "1..2", "1.2.3 ", "1.2.3-a_!", ".", "\0", "1\0", "1.2.3-ä", "\ud800", "1.2.3\udcff", "x y"]
+
+
+class MyVersion(Version):
+    pass
+
+
+class MyRequirement(Requirement):
+    pass
 
 
 class Item(str, enum.Enum):
@@ -51,9 +61,9 @@ class Versions(unittest.TestCase):
 
     def test_no_version(self):
         for text in NONE:
-            with self.subTest(text=text), self.assertRaises(ValueError) as raised:
+            with self.subTest(text=text), self.assertRaises(InvalidVersion) as raised:
                 Version(text)
-            self.assertNotIsInstance(raised.exception, UnicodeError)
+            self.assertEqual(raised.exception.text, text)
             self.assertEqual(str(raised.exception), f"not a version: {text!r}")
 
     def test_no_text(self):
@@ -118,13 +128,77 @@ class Versions(unittest.TestCase):
         self.assertEqual(str(Version(Item.FIRST)), "1.2.3")
         self.assertEqual(type(str(Version(Item.FIRST))), str)
 
+    def test_parts(self):
+        # The kind, the epoch, the first three numbers and whether it is a pre-release, by docs/GRAMMAR.md.
+        wanted = {
+            "1.2.3": ("ideal", None, 1, 2, 3, False),
+            "1.2.3-rc.1+x": ("ideal", None, 1, 2, 3, True),
+            "1.2.3+rc-1": ("ideal", None, 1, 2, 3, False),
+            "4294967295.0.0": ("ideal", None, 4294967295, 0, 0, False),
+            "1:2.0rc1-3": ("general", 1, 2, 0, None, None),
+            "0:1": ("general", 0, 1, None, None, None),
+            "4294967295:a.2": ("general", 4294967295, None, 2, None, None),
+            "2.0-3": ("general", None, 2, 0, None, None),
+            "1:20.0026.1_0-2": ("complex", None, 20, 26, 1, None),
+        }
+        for text, parts in wanted.items():
+            version = Version(text)
+            with self.subTest(text=text):
+                found = (version.kind, version.epoch, version.major, version.minor, version.patch)
+                self.assertEqual((*found, version.is_prerelease), parts)
+
     def test_pickles_and_copies(self):
+        class_of = {Version: MyVersion, Requirement: MyRequirement}
         for value in (Version("0:1.2"), Requirement(">=1.2,<2")):
-            for protocol in range(pickle.HIGHEST_PROTOCOL + 1):
-                back = pickle.loads(pickle.dumps(value, protocol))
-                self.assertEqual((back, str(back), type(back)), (value, str(value), type(value)))
-            self.assertIs(copy.copy(value), value)
-            self.assertEqual(copy.deepcopy([value]), [value])
+            mine = class_of[type(value)](str(value))
+            mine.__dict__["note"] = ["mine"]
+            for value in (value, mine):
+                with self.subTest(value=value):
+                    backs = [pickle.loads(pickle.dumps(value, n)) for n in range(pickle.HIGHEST_PROTOCOL + 1)]
+                    for back in (*backs, copy.copy(value), copy.deepcopy([value])[0]):
+                        self.assertEqual((back, str(back), type(back)), (value, str(value), type(value)))
+                        self.assertEqual(getattr(back, "note", None), getattr(value, "note", None))
+
+    def test_weak_references(self):
+        for make in (Version, MyVersion, Requirement, MyRequirement):
+            called, value = [], make("1.2" if issubclass(make, Version) else "*")
+            reference = weakref.ref(value, called.append)
+            self.assertIs(reference(), value)
+            del value
+            gc.collect()
+            self.assertIsNone(reference())
+            self.assertEqual(called, [reference])
+
+    def test_subclasses(self):
+        class Loud(MyVersion):
+            def __str__(self):
+                return "loud"
+
+            def __lt__(self, other):
+                return super().__lt__(other)
+
+            __hash__ = MyVersion.__hash__
+
+            def __eq__(self, other):
+                return super().__eq__(other)
+
+        class Named:
+            name = "mixed in"
+
+        class Mixed(Named, Loud):
+            __slots__ = ("place",)
+
+        plain, mine, loud = Version("1.2"), MyVersion("1.3"), Mixed("1.4")
+        self.assertTrue(plain < mine < loud)
+        self.assertTrue(loud > mine > plain)
+        self.assertEqual(loud, Version("1.4"))
+        self.assertEqual(Version("1.4"), loud)
+        self.assertEqual(MyVersion("1.4"), loud)
+        self.assertNotEqual(loud, "1.4")
+        self.assertEqual(hash(loud), hash(Version("1.4")))
+        self.assertEqual(sort_keys([plain, mine, loud]), [plain.key, mine.key, loud.key])
+        self.assertIn(loud, Requirement("=1.4"))
+        self.assertEqual(repr(mine), "MyVersion('1.3')")
 
     def test_long(self):
         for text in ("1." * 1_000_000 + "1", "1_" * 1_000_000 + "1", "a" * 10_000_000, "9" * 10_000_000):
@@ -160,8 +234,9 @@ class Requirements(unittest.TestCase):
     def test_no_requirement(self):
         of_the_page = ("", "1.2.3", "*1", "=", "=>1.0", ",", ",*", "=1.0.0,", "=1.0.0,,*")
         for text in (*of_the_page, ">= 1", "^\ud800", "=1\0", "=é"):
-            with self.subTest(text=text), self.assertRaises(ValueError) as raised:
+            with self.subTest(text=text), self.assertRaises(InvalidRequirement) as raised:
                 Requirement(text)
+            self.assertEqual(raised.exception.text, text)
             self.assertEqual(str(raised.exception), f"not a requirement: {text!r}")
         for other in (None, 1, b"*", Version("1.2")):
             self.assertRaises(TypeError, Requirement, other)
@@ -170,7 +245,7 @@ class Requirements(unittest.TestCase):
         anything = Requirement("*")
         for text in NONE:
             with self.subTest(text=text):
-                with self.assertRaises(ValueError) as raised:
+                with self.assertRaises(InvalidVersion) as raised:
                     anything.matches(text)
                 self.assertEqual(str(raised.exception), f"not a version: {text!r}")
                 self.assertNotIn(text, anything)
@@ -189,6 +264,7 @@ class Requirements(unittest.TestCase):
     def test_is_a_value(self):
         wanted = Requirement("^1.2")
         self.assertEqual((str(wanted), repr(wanted)), ("^1.2", "Requirement('^1.2')"))
+        self.assertEqual((f"{wanted:>6}|", format(wanted)), ("  ^1.2|", "^1.2"))
         self.assertEqual({wanted, Requirement("^1.2")}, {wanted})
         self.assertNotEqual(wanted, Requirement("^0:1.2"))
         self.assertNotEqual(wanted, "^1.2")

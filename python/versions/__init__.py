@@ -1,4 +1,4 @@
-"""Version numbers, read, ordered and matched by a library that is proved.
+"""Version numbers, parsed, ordered and matched by a library that is proved.
 
 >>> import versions
 >>> sorted(["1.10", "1.9", "1.10rc1"], key=versions.sort_key)
@@ -8,18 +8,24 @@ True
 >>> "1.3.0" in versions.Requirement("^1.2.0")
 True
 
-Nothing here has a state, and every call may be made by any thread; the library runs without Python's lock.
+The package has no state, and any thread may make any call. While the library works on more than 64 KiB of texts, other
+threads of Python go on.
 """
 
-from ._many import kinds, sort_keys
-from ._one import Kind, compare, compare_total, kind, sort_key
+from ._errors import InvalidRequirement, InvalidVersion
+from ._library import __version__, compare, compare_total, kind, kinds, sort_key, sort_keys
+from ._library import sorted as sorted
 from ._requirement import Requirement, match_all
-from ._version import Version
+from ._version import Kind, Version
 
+# Without `sorted`, which would hide Python's own from `from versions import *`.
 __all__ = [
+    "InvalidRequirement",
+    "InvalidVersion",
     "Kind",
     "Requirement",
     "Version",
+    "__version__",
     "compare",
     "compare_total",
     "kind",
@@ -28,3 +34,9 @@ __all__ = [
     "sort_key",
     "sort_keys",
 ]
+
+# They pickle and are shown under the name by which they are used.
+for _name in (*__all__, "sorted"):
+    if callable(globals()[_name]) and _name != "Kind":
+        globals()[_name].__module__ = __name__
+del _name

@@ -3,12 +3,12 @@
 from __future__ import annotations
 
 import os
+import signal
 import sys
-from functools import cmp_to_key
-from itertools import groupby
 from typing import Callable, Iterable
 
-from . import Requirement, compare_total, kinds, match_all, sort_keys
+from . import InvalidRequirement, InvalidVersion, Requirement, kinds, match_all
+from . import sorted as in_order
 
 USAGE = "usage: python -m versions show, sort, match R"
 
@@ -28,25 +28,10 @@ def show(lines: list[bytes], texts: list[str]) -> Iterable[bytes]:
 
 
 def sort(lines: list[bytes], texts: list[str]) -> Iterable[bytes]:
-    keys = sort_keys(texts)
-    for number, key in enumerate(keys, 1):
-        if key is None:
-            raise Fault(f"line {number} is not a version", 1)
-    places = sorted(range(len(lines)), key=lambda place: keys[place] or b"")
-    for _, tied in groupby(places, key=lambda place: keys[place]):
-        for place in in_total_order(list(tied), texts):
-            yield lines[place]
-
-
-def in_total_order(tied: list[int], texts: list[str]) -> list[int]:
-    """Places whose keys tie, by the order that breaks the tie."""
-    if len({texts[place] for place in tied}) == 1:
-        return tied
-
-    def compare(a: int, b: int) -> int:
-        return compare_total(texts[a], texts[b])
-
-    return sorted(tied, key=cmp_to_key(compare))
+    try:
+        return (text.encode("utf-8", "surrogateescape") for text in in_order(texts))
+    except InvalidVersion as error:
+        raise Fault(f"line {texts.index(error.text) + 1} is not a version", 1) from None
 
 
 def match(requirement: Requirement) -> Callable[[list[bytes], list[str]], Iterable[bytes]]:
@@ -64,7 +49,7 @@ def command_of(words: list[str]) -> Callable[[list[bytes], list[str]], Iterable[
     if len(words) == 2 and words[0] == "match":
         try:
             return match(Requirement(words[1]))
-        except ValueError:
+        except InvalidRequirement:
             raise Fault(f"not a requirement: {words[1]}", 1) from None
     raise Fault(USAGE, 2)
 
@@ -75,7 +60,7 @@ def read_lines() -> list[bytes]:
             lines = file.read().split(b"\n")
     except OSError:
         raise Fault("read failed", 3) from None
-    # What stands behind the last line feed is a line where it isn't empty.
+    # What stands after the last line feed is a line where it isn't empty.
     return lines if lines[-1] else lines[:-1]
 
 
@@ -91,7 +76,7 @@ def write_lines(lines: Iterable[bytes]) -> None:
 def run(words: list[str]) -> None:
     command = command_of(words)
     lines = read_lines()
-    # A line that isn't UTF-8 becomes a text with lone surrogates, which is no version.
+    # A line that isn't UTF-8 becomes a text with lone surrogates, which is not a version.
     write_lines(command(lines, [line.decode("utf-8", "surrogateescape") for line in lines]))
 
 
@@ -111,4 +96,7 @@ def main(words: list[str]) -> int:
 
 
 if __name__ == "__main__":
+    # Ctrl-C kills the process by its signal, as it does other programs, unless the signal is ignored from the start.
+    if signal.getsignal(signal.SIGINT) is signal.default_int_handler:
+        signal.signal(signal.SIGINT, signal.SIG_DFL)
     sys.exit(main(sys.argv[1:]))

@@ -2,64 +2,69 @@
 
 from __future__ import annotations
 
-from typing import Any, Iterable, NoReturn, Optional, TypeVar, Union, final
+from typing import TYPE_CHECKING, Any, Iterable, NoReturn, Optional, TypeVar, Union
 
-from . import _library, _many, _one
-from ._many import Texts
+from . import _library
+from ._errors import InvalidVersion
 from ._version import Version
+
+if TYPE_CHECKING:
+    from ._library import Texts
 
 VersionOrText = TypeVar("VersionOrText", str, Version, Union[str, Version])
 
 
-@final
 class Requirement:
-    """A requirement, as `^1.2.3`, or a list of them with commas between, which asks for what each member does.
+    """A requirement, as `^1.2.3`, or a list of them with commas between, which matches what each member matches.
 
-    It can't be changed. `ValueError` with the text where it is none. Two are equal where their texts are.
+    It can't be changed. `InvalidRequirement` where the text is not a requirement. Two are equal where their texts are.
+    `=` compares the fields of versions and not their precedence: `Requirement("=1.0")` doesn't match `0:1.0`, though
+    `Version("1.0") == Version("0:1.0")`.
 
     >>> wanted = Requirement(">=1.1.1,<2.0.0")
     >>> wanted.matches("1.5"), wanted.matches(Version("2.0.0")), "1.1.1" in wanted
     (True, False, True)
+    >>> "0:1.0" in Requirement("=1.0"), "0:1.0" in Requirement(">=1.0,<=1.0")
+    (False, True)
     >>> Requirement("1.2.3")
     Traceback (most recent call last):
-    ValueError: not a requirement: '1.2.3'
+    versions.InvalidRequirement: not a requirement: '1.2.3'
     """
 
-    __slots__ = ("_text",)
+    __slots__ = ("_text", "__weakref__")
     _text: str
 
     def __new__(cls, text: str) -> Requirement:
-        _many.matches(text, [])
+        _library.match_all(text, (), True)
         requirement = super().__new__(cls)
+        # The text of a subclass of str, as it is and not as the subclass shows it.
         object.__setattr__(requirement, "_text", str.__str__(text))
         return requirement
 
     def matches(self, version: Union[str, Version]) -> bool:
-        """Whether it asks for a version, or for the one that a text is.
-
-        `ValueError` with the text where that is none.
-        """
-        return _one.matches(self._text, _text_of(version))
+        """Whether it matches a version. `InvalidVersion` where a text is not a version."""
+        answer = _library.matches(self._text, version)
+        if answer is None:
+            raise InvalidVersion(str(version))
+        return answer
 
     def __contains__(self, version: Union[str, Version]) -> bool:
-        """The same, but False for a text that is no version.
+        """The same, but False for a text that is not a version.
 
         >>> "1..2" in Requirement("*")
         False
         """
-        return _many.matches(self._text, [_text_of(version)]) == [True]
+        return _library.matches(self._text, version) is True
 
     def filter(self, versions: Iterable[VersionOrText]) -> list[VersionOrText]:
-        """Those of many versions that it asks for, as they stand and in their order. Texts that are none are left out.
-
-        It is one call of the library, and takes the memory of `match_all`.
+        """Those of many versions that it matches, in their order. Texts that are not versions are left out.
 
         >>> Requirement("^1.2.0").filter(["1.1.0", "1.3.0", "x y", "2.0.0", "1.2.0"])
         ['1.3.0', '1.2.0']
         """
-        held = list(versions)
-        answers = _many.matches(self._text, map(_text_of, held))
-        return [version for version, answer in zip(held, answers) if answer]
+        # One text isn't many, which the library's call raises.
+        held = versions if isinstance(versions, (str, bytes)) else list(versions)
+        return [version for version, answer in zip(held, _library.match_all(self._text, held, True)) if answer]
 
     def __eq__(self, other: object) -> bool:
         if not isinstance(other, Requirement):
@@ -73,16 +78,13 @@ class Requirement:
         return self._text
 
     def __repr__(self) -> str:
-        return f"Requirement({self._text!r})"
+        return f"{type(self).__name__}({self._text!r})"
+
+    def __format__(self, spec: str) -> str:
+        return format(self._text, spec)
 
     def __reduce__(self) -> tuple[Any, ...]:
-        return Requirement, (self._text,)
-
-    def __copy__(self) -> Requirement:
-        return self
-
-    def __deepcopy__(self, memo: object) -> Requirement:
-        return self
+        return type(self), (self._text,), getattr(self, "__dict__", None)
 
     def __setattr__(self, name: str, value: object) -> NoReturn:
         raise AttributeError(f"a Requirement can't be changed: {name}")
@@ -92,19 +94,11 @@ class Requirement:
 
 
 def match_all(requirement: Union[str, Requirement], texts: Texts) -> list[Optional[bool]]:
-    """Whether a requirement asks for each of many texts, and None for no version, in one call of the library.
+    """Whether a requirement matches each of many texts, and None for a text that is not a version.
 
-    `texts` is what `kinds` takes, and so is the memory. `ValueError` with the requirement where it is none.
+    `texts` is what `kinds` takes. `InvalidRequirement` where the first argument is not a requirement.
 
     >>> match_all(">=1.1.1,<2.0.0", ["1.5", "2.0.0", "1..2", None])
     [True, False, None, None]
     """
-    return _many.matches(str(requirement) if isinstance(requirement, Requirement) else requirement, texts)
-
-
-def _text_of(version: Union[str, Version]) -> str:
-    if isinstance(version, Version):
-        return str(version)
-    if isinstance(version, str):
-        return version
-    raise _library.not_a_text(version)
+    return _library.match_all(requirement._text if isinstance(requirement, Requirement) else requirement, texts, False)

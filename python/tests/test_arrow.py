@@ -1,0 +1,176 @@
+"""Arrow arrays and streams in capsules: what they answer, what is refused, and that each structure is released once."""
+
+import gc
+import struct
+import unittest
+
+import arrow
+import versions
+from test_calls import KINDS, USUAL, WANTED, key_of
+
+CONTENT = [None if text is None else text.encode("utf-8", "surrogatepass") for text in USUAL]
+KEYS = [None if kind is None else key_of(text) for text, kind in zip(USUAL, KINDS)]
+CALLS = (versions.kinds, versions.sort_keys, lambda texts: versions.match_all(">=1.2,<1:0", texts))
+FORMATS = (b"u", b"U", b"z", b"Z")
+
+
+class Arrow(unittest.TestCase):
+    def setUp(self):
+        arrow.made.clear()
+        arrow.released.clear()
+
+    def tearDown(self):
+        gc.collect()
+        self.assertEqual(sorted(arrow.released), sorted(arrow.made))
+
+    def assertAnswers(self, texts, among=slice(None)):
+        self.assertEqual([call(texts) for call in CALLS], [KINDS[among], KEYS[among], WANTED[among]])
+
+    def assertFails(self, error, words, texts):
+        for call in CALLS:
+            before = len(arrow.made)
+            self.assertRaisesRegex(error, words, call, texts)
+            self.assertGreater(len(arrow.made), before)
+
+    def test_formats(self):
+        for format in FORMATS:
+            with self.subTest(format=format):
+                self.assertAnswers(arrow.Array(CONTENT, format))
+                self.assertAnswers(arrow.Stream(arrow.Array(CONTENT, format), format=format))
+
+    def test_slices(self):
+        for format in (b"u", b"Z"):
+            for first in range(len(USUAL) + 1):
+                for length in range(len(USUAL) - first + 1):
+                    among = slice(first, first + length)
+                    self.assertAnswers(arrow.Array(CONTENT, format, first, length), among)
+
+    def test_first_offset_above_0_and_an_odd_address(self):
+        for format in FORMATS:
+            self.assertAnswers(arrow.Array(CONTENT, format, front=b"1.2.3", pad=3))
+
+    def test_more_than_one_byte_of_validity(self):
+        texts = [None if n % 3 else b"1.%d" % n for n in range(100)]
+        for first in range(20):
+            wanted = [None if text is None else "general" for text in texts[first:]]
+            self.assertEqual(versions.kinds(arrow.Array(texts, first=first)), wanted)
+
+    def test_without_nulls_or_without_bytes(self):
+        self.assertEqual(versions.kinds(arrow.Array([b"1.2", b"1.2.3"])), ["general", "ideal"])
+        self.assertEqual(versions.kinds(arrow.Array([b"", b"", None][:2])), [None, None])
+        self.assertEqual(versions.sort_keys(arrow.Array([b"", b""], b"u")), [None, None])
+
+    def test_streams(self):
+        chunks = arrow.Array(CONTENT[:3]), arrow.Array([]), arrow.Array(CONTENT, first=3)
+        self.assertAnswers(arrow.Stream(*chunks))
+        self.assertAnswers(arrow.Stream(), slice(0))
+
+    def test_no_texts(self):
+        for empty in (arrow.Array([]), arrow.Array([b"1"], first=1), arrow.Stream(), arrow.Stream(arrow.Array([]))):
+            self.assertAnswers(empty, slice(0))
+            with self.assertRaisesRegex(versions.InvalidRequirement, "not a requirement: '1.2'"):
+                versions.match_all("1.2", empty)
+
+    def test_an_array_comes_before_a_stream_and_a_stream_before_items(self):
+        class Both(arrow.Stream, arrow.Array):
+            def __iter__(self):
+                return iter(["1_2"])
+
+            __arrow_c_array__ = arrow.Array(["1.2.3".encode()]).__arrow_c_array__
+
+        self.assertEqual(versions.kinds(Both(arrow.Array([b"1.2"]))), ["ideal"])
+        Both.__arrow_c_array__ = None
+        self.assertEqual(versions.kinds(Both(arrow.Array([b"1.2"]))), ["general"])
+        Both.__arrow_c_stream__ = None
+        self.assertEqual(versions.kinds(Both(arrow.Array([b"1.2"]))), ["complex"])
+
+    def test_other_types(self):
+        for format in (b"l", b"vu", b"vz", b"+s", b"+l", b"w:4", b"", b"uu"):
+            for texts in (arrow.Array([b"1.2"], format), arrow.Stream(arrow.Array([b"1.2"], format), format=format)):
+                self.assertFails(TypeError, r"string, binary, large_string.*\(format u, z, U or Z\)", texts)
+
+    def test_dictionaries(self):
+        class Dictionary(arrow.Array):
+            def __arrow_c_array__(self):
+                inner = arrow.CSchema(format=b"u")
+                return arrow.in_capsule(arrow.schema(b"u", inner)), arrow.in_capsule(self.c_array())
+
+        self.assertFails(TypeError, "a dictionary", Dictionary([b"1.2"]))
+
+    def test_bad_offsets(self):
+        for format, code in ((b"u", "i"), (b"U", "q")):
+            largest = 2**31 - 1 if format == b"u" else 2**63 - 1
+            for offsets in ((3, 0), (-1, 3), (0, -1), (-3, -1), (largest, 0), (-largest - 1, 3)):
+                array = arrow.Array([b"1.2"], format)
+                array.offsets = struct.pack(f"=2{code}", *offsets)
+                with self.subTest(offsets=offsets):
+                    self.assertFails(ValueError, "offsets", array)
+        array = arrow.Array([b"1.2", b"1.3", b"1.4"])
+        array.offsets = struct.pack("=4q", 0, 7, 3, 9)
+        self.assertFails(ValueError, "offsets", array)
+        self.assertFails(ValueError, "offsets", arrow.Stream(arrow.Array([b"1.2"]), array))
+
+    def test_bad_structures(self):
+        wrong = ({"length": -1}, {"offset": -1}, {"n_buffers": 2}, {"n_buffers": 4}, {"length": 2**63 - 1})
+        for changed in (*wrong, {"offset": 2**63 - 1}, {"length": 2**62, "offset": 2**62}):
+            for format in (b"u", b"U"):
+                with self.subTest(changed=changed):
+                    self.assertFails(ValueError, "length", arrow.Array([b"1.2"], format, **changed))
+        array = arrow.Array([b"1.2"])
+        array.offsets = None
+        self.assertFails(ValueError, "lacks its offsets", array)
+        array = arrow.Array([b"1.2"])
+        array.content = None
+        self.assertFails(ValueError, "lacks its bytes", array)
+
+    def test_streams_that_fail(self):
+        chunk = arrow.Array([b"1.2"])
+        for texts in (arrow.Stream(chunk, chunk, error_at=n) for n in range(4)):
+            self.assertFails(ValueError, "failed with 5: no more", texts)
+        self.assertFails(ValueError, "failed with 5: ", arrow.Stream(error_at=1, words=None))
+        self.assertFails(ValueError, "failed with 5: ", arrow.Stream(error_at=1, words=b"\xff"))
+
+    def test_released_capsules(self):
+        for texts in (arrow.Array([b"1.2"]), arrow.Stream(arrow.Array([b"1.2"]))):
+            name = "__arrow_c_array__" if isinstance(texts, arrow.Array) else "__arrow_c_stream__"
+            capsules = getattr(texts, name)()
+
+            class Again:
+                pass
+
+            setattr(Again, name, lambda self: capsules)
+            self.assertEqual(versions.kinds(Again()), ["general"])
+            for capsule in capsules if isinstance(capsules, tuple) else (capsules,):
+                kind = arrow.CSchema if "schema" in repr(capsule) else arrow.CArray
+                kind = arrow.CStream if "stream" in repr(capsule) else kind
+                address = arrow.get_pointer(id(capsule), arrow.NAMES[kind])
+                arrow.Release(kind.from_address(address).release)(address)
+                self.assertRaisesRegex(ValueError, "released already", versions.kinds, Again())
+            del capsules, capsule
+            Again.__dict__
+
+    def test_what_is_not_capsules(self):
+        for returned in (None, 5, (), (1, 2), ("arrow_schema", "arrow_array", 3), []):
+            for name in ("__arrow_c_array__", "__arrow_c_stream__"):
+                other = type("Other", (), {name: lambda self: returned})
+                with self.subTest(name=name, returned=returned):
+                    self.assertRaises((TypeError, ValueError), versions.kinds, other())
+        crossed = type("Crossed", (), {"__arrow_c_array__": lambda self: arrow.Array([b"1"]).__arrow_c_array__()[::-1]})
+        self.assertRaises(ValueError, versions.kinds, crossed())
+
+    def test_what_a_producer_raises(self):
+        class Raising:
+            def __arrow_c_array__(self):
+                raise AttributeError("mine")
+
+        class Refusing:
+            @property
+            def __arrow_c_stream__(self):
+                raise OSError("mine")
+
+        self.assertRaisesRegex(AttributeError, "mine", versions.kinds, Raising())
+        self.assertRaisesRegex(OSError, "mine", versions.kinds, Refusing())
+
+    def test_sorted_and_filter_take_no_arrays(self):
+        for call in (versions.sorted, versions.Requirement("*").filter):
+            self.assertRaises(TypeError, call, arrow.Array([b"1.2"]))

@@ -1,0 +1,323 @@
+"""What the extension does where an allocation fails, a processor lacks something or a status is none; and leaks.
+
+`cc` compiles what these tests need beside the package: the extension over a library that returns what it is set to, and
+hooks of Python's allocators.
+"""
+
+import ctypes
+import gc
+import importlib.util
+import os
+import pickle
+import subprocess
+import sys
+import sysconfig
+import tempfile
+import unittest
+
+import arrow
+import versions
+from test_calls import LIBRARY
+
+HERE = os.path.dirname(os.path.abspath(__file__))
+SOURCE = os.path.join(HERE, "..", "versions", "_library.c")
+
+
+def compiled(folder, name, *words):
+    """The path of a shared object of sources."""
+    include, cc = sysconfig.get_paths()["include"], os.environ.get("CC", "cc")
+    if not os.path.exists(os.path.join(include, "Python.h")):
+        raise AssertionError(f"there is no {include}/Python.h (Debian has it in the package python3-dev)")
+    path = os.path.join(folder, name)
+    flags = ["-shared", "-fPIC", "-O1", "-std=c99", "-Wall", "-Wextra", "-I", include, "-I", LIBRARY]
+    subprocess.run([cc, *flags, "-o", path, *words], check=True)
+    return path
+
+
+class WithFolder(unittest.TestCase):
+    @classmethod
+    def setUpClass(cls):
+        folder = tempfile.TemporaryDirectory()
+        cls.addClassCleanup(folder.cleanup)
+        cls.folder = folder.name
+
+
+class FakeLibrary(WithFolder):
+    @classmethod
+    def setUpClass(cls):
+        super().setUpClass()
+        sources = SOURCE, os.path.join(HERE, "fake_library.c")
+        cls.path = compiled(cls.folder, "_library.so", "-DPy_LIMITED_API=0x03090000", *sources)
+        cls.shared = ctypes.CDLL(cls.path)
+
+    def setUp(self):
+        self.set(status=0, number=0)
+        self.set(type=ctypes.c_bool, suffices=True)
+
+    def set(self, type=ctypes.c_int, **values):
+        for name, value in values.items():
+            type.in_dll(self.shared, "fake_" + name).value = value
+
+    def load(self):
+        spec = importlib.util.spec_from_file_location("versions._library", self.path)
+        module = importlib.util.module_from_spec(spec)
+        spec.loader.exec_module(module)
+        return module
+
+    def test_a_processor_that_lacks_something(self):
+        self.assertEqual(self.load().__version__, "9.9.9")
+        self.set(type=ctypes.c_bool, suffices=False)
+        words = "versions needs a processor of the level x86-64-v2, which has SSE4.2 and POPCNT"
+        with self.assertRaises(ImportError) as raised:
+            self.load()
+        self.assertEqual(str(raised.exception), words)
+
+    def test_statuses_that_no_call_should_return(self):
+        module = self.load()
+        version = module.Keyed("1.2")
+        self.set(status=99)
+        calls = {
+            "kind": lambda: module.kind("1"),
+            "sort_key": lambda: module.sort_key("1"),
+            "Keyed": lambda: module.Keyed("1"),
+            "compare": lambda: module.compare("1", "2"),
+            "compare_total": lambda: module.compare_total("1", "2"),
+            "nth": lambda: module.nth("1", 0),
+            "epoch": lambda: module.epoch("1"),
+            "is_prerelease": lambda: module.is_prerelease("1"),
+            "matches": lambda: module.matches("*", version),
+            "kinds": lambda: module.kinds(["1"]),
+            "sort_keys": lambda: module.sort_keys(["1"]),
+            "match_all": lambda: module.match_all("*", ["1"], False),
+            "sorted": lambda: module.sorted(["1"]),
+        }
+        for status in (99, -10, 10):
+            self.set(status=status)
+            for name, call in calls.items():
+                with self.subTest(name):
+                    self.assertRaisesRegex(RuntimeError, f"returned status {status}$", call)
+        self.set(status=7)
+        self.assertRaisesRegex(RuntimeError, "returned status 7$", module.sort_key, "1")
+        self.set(status=0, number=9)
+        for call in (calls["kinds"], calls["match_all"]):
+            self.assertRaisesRegex(RuntimeError, "returned status 9$", call)
+
+    def test_the_bytes_of_an_array_are_read_in_place(self):
+        module, array = self.load(), arrow.Array([b"1.2", None, b"x y"], pad=3)
+        structures = []
+        array.c_array = lambda: structures.append(arrow.Array.c_array(array)) or structures[-1]
+        module.kinds(array)
+        (structure,) = structures
+        content = ctypes.c_void_p.from_address(structure.buffers + 16).value
+        self.assertEqual(ctypes.c_void_p.in_dll(self.shared, "fake_texts").value, content)
+        self.assertEqual(ctypes.c_size_t.in_dll(self.shared, "fake_texts_len").value, 9)
+
+
+class Odd:
+    def __repr__(self):
+        return "odd"
+
+
+LONG = "1_" * 2000 + "1"
+MINE = type("Mine", (versions.Version,), {})
+WANTED = versions.Requirement("^1.2")
+
+
+def midway():
+    yield "1.2"
+    raise OSError("midway")
+
+
+CALLS = {
+    "kind": lambda: versions.kind("1.2.3"),
+    "kind of a surrogate": lambda: versions.kind("\ud800"),
+    "kind of no text": lambda: versions.kind(Odd()),
+    "sort_key": lambda: versions.sort_key("1.2.3"),
+    "sort_key, long": lambda: versions.sort_key(LONG),
+    "sort_key of no version": lambda: versions.sort_key("1..2"),
+    "compare": lambda: versions.compare("1.2", "1.3"),
+    "compare_total by names": lambda: versions.compare_total(a="1.2", b="1.3é"[:-1]),
+    "compare of no version": lambda: versions.compare("1.2", "1..3"),
+    "compare of no text": lambda: versions.compare("1.2", 3),
+    "Version": lambda: versions.Version("1.2.3"),
+    "Version of a subclass": lambda: MINE("1.2"),
+    "Version of no version": lambda: versions.Version("1..2"),
+    "comparisons": lambda: (versions.Version("1.2") < MINE("1.3"), MINE("1.3") > versions.Version("1.2")),
+    "comparison with a text": lambda: versions.Version("1.2") == "1.2",
+    "str, repr and hash": lambda: [call(versions.Version("1.2")) for call in (str, repr, hash)],
+    "parts": lambda: [versions.Version("1:2.7777-3").epoch, versions.Version("1.2-3").nth(1)],
+    "nth below 0": lambda: versions.Version("1.2").nth(-1),
+    "is_prerelease": lambda: versions.Version("1.2.3-1").is_prerelease,
+    "pickle": lambda: pickle.loads(pickle.dumps(versions.Version("1.2"))),
+    "Requirement": lambda: versions.Requirement("^1.2"),
+    "Requirement of none": lambda: versions.Requirement("1.2"),
+    "matches": lambda: WANTED.matches("1.3"),
+    "matches a Version": lambda: WANTED.matches(versions.Version("1.3")),
+    "matches no version": lambda: WANTED.matches("1..3"),
+    "matches no text": lambda: WANTED.matches(3),
+    "in": lambda: ("1..2" in WANTED, "1.2" in WANTED),
+    "filter": lambda: WANTED.filter(["1.1", versions.Version("1.2"), "1..3"]),
+    "kinds": lambda: versions.kinds(["1.2", None, versions.Version("1.2.3"), "\ud800", float("nan")]),
+    "kinds of many": lambda: versions.kinds(["1.2.3" * 10] * 200),
+    "kinds of no text": lambda: versions.kinds(["1.2", Odd()]),
+    "kinds of what fails": lambda: versions.kinds(midway()),
+    "sort_keys": lambda: versions.sort_keys(["1.2", None, "1..2", LONG]),
+    "match_all": lambda: versions.match_all(WANTED, ["1.2", None, "1..2"]),
+    "match_all of no requirement": lambda: versions.match_all("1.2", ["1.2"]),
+    "sorted": lambda: versions.sorted(["1.3", "1.2", LONG]),
+    "sorted of no version": lambda: versions.sorted(["1.2", versions.Version("1.3"), "1..2"]),
+    "sorted of no text": lambda: versions.sorted(["1.2", None]),
+    "sorted of one": lambda: versions.sorted("1.2"),
+}
+
+
+def array(**changed):
+    return arrow.Array([b"1.2", None, b"1.3"], b"u", **changed)
+
+
+# What the stand-in for a producer allocates is not the extension's, and so no allocation fails here.
+ARROW_CALLS = {
+    "array": lambda: versions.kinds(array()),
+    "array's keys": lambda: versions.sort_keys(array()),
+    "array with a bad length": lambda: versions.kinds(array(length=-1)),
+    "array of another type": lambda: versions.kinds(arrow.Array([b"1"], b"l")),
+    "stream": lambda: versions.kinds(arrow.Stream(array(), array(), format=b"u")),
+    "stream that fails": lambda: versions.kinds(arrow.Stream(array(), format=b"u", error_at=2)),
+    "stream with a bad length": lambda: versions.kinds(arrow.Stream(array(), array(length=-1), format=b"u")),
+    "stream of another type": lambda: versions.kinds(arrow.Stream(format=b"vu")),
+}
+
+
+def outcome(call):
+    """What a call returns, or what it raises and with which words."""
+    try:
+        return call()
+    except Exception as error:
+        return type(error), str(error)
+
+
+class Allocations(WithFolder):
+    @classmethod
+    def setUpClass(cls):
+        super().setUpClass()
+        path = compiled(cls.folder, "allocations.so", os.path.join(HERE, "allocations.c"))
+        cls.hooks = ctypes.PyDLL(path)
+        cls.hooks.call_failing.restype = ctypes.py_object
+        cls.hooks.call_failing.argtypes = ctypes.py_object, ctypes.c_long, ctypes.POINTER(ctypes.c_int)
+        cls.hooks.blocks_held.restype = ctypes.c_long
+        cls.hooks.watch()
+        cls.addClassCleanup(cls.hooks.unwatch)
+
+    def growth(self, repeated, times):
+        """By how many blocks the memory grows while a call is repeated."""
+        for _ in range(5):
+            repeated()
+        gc.collect()
+        before = self.hooks.blocks_held()
+        for _ in range(times):
+            repeated()
+        gc.collect()
+        return self.hooks.blocks_held() - before
+
+    def test_an_allocation_that_fails_is_a_memory_error(self):
+        reached = ctypes.c_int()
+        for name, call in CALLS.items():
+            wanted, at, failed = outcome(call), 0, 0
+            reached.value = True
+            while reached.value:
+                def failing():
+                    return self.hooks.call_failing(call, at, ctypes.byref(reached))
+
+                with self.subTest(name, at=at):
+                    found = outcome(failing)
+                    failed += found != wanted
+                    # What Python caches need not be there.
+                    self.assertTrue(found == wanted or found[0] is MemoryError, found)
+                    self.assertLess(self.growth(lambda: outcome(failing), 30), 25)
+                at += 1
+            self.assertTrue(failed > 0 or name in ("comparison with a text",), name)
+
+    def test_nothing_leaks(self):
+        for name, call in {**CALLS, **ARROW_CALLS}.items():
+            with self.subTest(name):
+                def repeated():
+                    outcome(call)
+                    arrow.made.clear(), arrow.released.clear(), arrow.kept.clear()
+
+                self.assertLess(self.growth(repeated, 200), 50)
+
+    def test_references_are_kept(self):
+        inputs = ["1.2.3-" + "a" * 9, "1..2" + "." * 9, MINE("1.2.4"), versions.Version("1.3"), "1.9-" + "b" * 9]
+        held = [*inputs, None, True, False, versions.Version, MINE, versions.kind("1.2.3"), versions.InvalidVersion]
+
+        def work():
+            text, wrong, mine, plain, other = inputs
+            for call in (
+                lambda: versions.kind(text),
+                lambda: versions.sort_key(text),
+                lambda: versions.sort_key(wrong),
+                lambda: versions.compare(text, wrong),
+                lambda: versions.Version(text) < mine < plain,
+                lambda: (mine == text, mine != None),  # noqa: E711
+                lambda: versions.kinds([*inputs, None]),
+                lambda: versions.sort_keys([*inputs, None]),
+                lambda: versions.match_all("*", [*inputs, None]),
+                lambda: versions.sorted([text, mine, plain, other]),
+                lambda: versions.sorted(inputs),
+                lambda: WANTED.filter(inputs),
+                lambda: WANTED.matches(mine),
+                lambda: WANTED.matches(wrong),
+            ):
+                outcome(call)
+
+        work()
+        gc.collect()
+        before = [sys.getrefcount(item) for item in held]
+        for _ in range(100):
+            work()
+        gc.collect()
+        for item, count in zip(held, before):
+            # Python 3.12 and later counts no references of None, True and False.
+            self.assertLess(abs(sys.getrefcount(item) - count), 50, item)
+
+    def test_the_memory_of_ten_megabytes_is_given_back(self):
+        text = "1." * 5_000_000 + "1"
+
+        def peak():
+            with open("/proc/self/status") as status:
+                return next(int(line.split()[1]) for line in status if line.startswith("VmRSS"))
+
+        calls = (
+            lambda: versions.sort_key(text),
+            lambda: versions.sort_keys([text, None, "1..2"]),
+            lambda: versions.kinds([text]),
+            lambda: versions.sorted([text, "1.2"]),
+            lambda: versions.sorted([text, "1..2"]),
+        )
+        for call in calls:
+            outcome(call)
+        before = peak()
+        for _ in range(4):
+            for call in calls:
+                outcome(call)
+        self.assertLess(peak() - before, 20_000)
+
+
+class Interpreters(unittest.TestCase):
+    def test_in_a_second_interpreter(self):
+        program = (
+            "import sys\n"
+            "try:\n    import _interpreters as _x\n    new = _x.create('legacy')\n"
+            "except ImportError:\n    import _xxsubinterpreters as _x\n"
+            "    new = _x.create(isolated=False) if sys.version_info >= (3, 10) else _x.create()\n"
+            "import versions\n"
+            "error = _x.run_string(new, '''import versions\n"
+            "assert versions.kinds([\"1.2\", versions.Version(\"1.2.3\")]) == [\"general\", \"ideal\"]\n"
+            "assert versions.Version(\"1\") < versions.Version(\"2\")\n"
+            "try:\\n    versions.Version(\"1..2\")\\nexcept versions.InvalidVersion:\\n    pass\n''')\n"
+            "assert error is None, error\n"
+            "_x.destroy(new)\n"
+            "print(versions.kinds(['1.2', versions.Version('1.2.3')]))\n"
+        )
+        done = subprocess.run([sys.executable, "-c", program], stdout=subprocess.PIPE, stderr=subprocess.STDOUT)
+        self.assertEqual((done.returncode, done.stdout), (0, b"['general', 'ideal']\n"))
