@@ -10,7 +10,7 @@ import sys
 import unittest
 
 HERE = os.path.dirname(os.path.abspath(__file__))
-MODULES = ("versions", "versions._one", "versions._many", "versions._version", "versions._requirement")
+MODULES = ("versions", "versions._requirement")
 TOP = os.path.join(HERE, "..", "..")
 PAGES = (os.path.join(TOP, "README.md"), os.path.join(TOP, "docs", "PYTHON.md"))
 
