@@ -16,7 +16,8 @@ PAGES = (os.path.join(TOP, "README.md"), os.path.join(TOP, "docs", "PYTHON.md"))
 
 tests = unittest.defaultTestLoader.discover(HERE)
 for module in MODULES:
-    tests.addTest(doctest.DocTestSuite(importlib.import_module(module)))
+    # The examples mean Python's own `sorted`, which `versions.sorted` hides inside the package.
+    tests.addTest(doctest.DocTestSuite(importlib.import_module(module), extraglobs={"sorted": sorted}))
 tests.addTest(doctest.DocFileSuite(*PAGES, module_relative=False, encoding="utf-8"))
 result = unittest.TextTestRunner(sys.stdout).run(tests)
 failed = len({test.id().split(" ")[0] for test, _ in result.failures + result.errors} | set(result.unexpectedSuccesses))
