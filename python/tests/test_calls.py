@@ -406,7 +406,7 @@ class Package(unittest.TestCase):
     def test_version_is_that_of_the_header_and_of_the_distribution(self):
         with open(os.path.join(LIBRARY, "versions.h"), encoding="utf-8") as file:
             self.assertIn(f'#define VERSIONS_VERSION "{versions.__version__}"\n', file.read())
-        self.assertEqual(versions.__version__, importlib.metadata.version("versions"))
+        self.assertEqual(versions.__version__, importlib.metadata.version("proved-versions"))
 
     def test_import_is_silent(self):
         command = [sys.executable, "-I", "-W", "error", "-X", "dev", "-c", "import versions; versions.kind('1')"]
