@@ -19,7 +19,8 @@ PAGES = (os.path.join(TOP, "README.md"), os.path.join(TOP, "docs", "PYTHON.md"))
 names = {name[: -len(".py")] for name in os.listdir(HERE) if name.startswith("test_") and name.endswith(".py")}
 tests = unittest.defaultTestLoader.loadTestsFromNames(sorted(names - set(sys.argv[1:])))
 for module in MODULES:
-    tests.addTest(doctest.DocTestSuite(importlib.import_module(module)))
+    # The examples mean Python's own `sorted`, which `versions.sorted` hides inside the package.
+    tests.addTest(doctest.DocTestSuite(importlib.import_module(module), extraglobs={"sorted": sorted}))
 tests.addTest(doctest.DocFileSuite(*PAGES, module_relative=False, encoding="utf-8"))
 result = unittest.TextTestRunner(sys.stdout).run(tests)
 failed = len({test.id().split(" ")[0] for test, _ in result.failures + result.errors} | set(result.unexpectedSuccesses))

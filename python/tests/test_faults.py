@@ -7,6 +7,7 @@ hooks of Python's allocators.
 import ctypes
 import gc
 import importlib.util
+import operator
 import os
 import pickle
 import subprocess
@@ -14,6 +15,7 @@ import sys
 import sysconfig
 import tempfile
 import unittest
+from functools import partial
 
 import arrow
 import versions
@@ -123,51 +125,75 @@ MINE = type("Mine", (versions.Version,), {})
 WANTED = versions.Requirement("^1.2")
 
 
-def midway():
-    yield "1.2"
-    raise OSError("midway")
+PLAIN = versions.Version("1.2")
+EPOCH = versions.Version("1:2.7777-3")
+library = versions._library
 
-
+# Functions of the extension and what they are called with. They are called without a function of Python between: one
+# whose traceback can't be allocated makes a SystemError of every error, in Python 3.11 and later.
 CALLS = {
-    "kind": lambda: versions.kind("1.2.3"),
-    "kind of a surrogate": lambda: versions.kind("\ud800"),
-    "kind of no text": lambda: versions.kind(Odd()),
-    "sort_key": lambda: versions.sort_key("1.2.3"),
-    "sort_key, long": lambda: versions.sort_key(LONG),
-    "sort_key of no version": lambda: versions.sort_key("1..2"),
-    "compare": lambda: versions.compare("1.2", "1.3"),
-    "compare_total by names": lambda: versions.compare_total(a="1.2", b="1.3é"[:-1]),
-    "compare of no version": lambda: versions.compare("1.2", "1..3"),
-    "compare of no text": lambda: versions.compare("1.2", 3),
-    "Version": lambda: versions.Version("1.2.3"),
-    "Version of a subclass": lambda: MINE("1.2"),
-    "Version of no version": lambda: versions.Version("1..2"),
-    "comparisons": lambda: (versions.Version("1.2") < MINE("1.3"), MINE("1.3") > versions.Version("1.2")),
-    "comparison with a text": lambda: versions.Version("1.2") == "1.2",
-    "str, repr and hash": lambda: [call(versions.Version("1.2")) for call in (str, repr, hash)],
-    "parts": lambda: [versions.Version("1:2.7777-3").epoch, versions.Version("1.2-3").nth(1)],
-    "nth below 0": lambda: versions.Version("1.2").nth(-1),
-    "is_prerelease": lambda: versions.Version("1.2.3-1").is_prerelease,
-    "pickle": lambda: pickle.loads(pickle.dumps(versions.Version("1.2"))),
+    "kind": partial(versions.kind, "1.2.3"),
+    "kind of a surrogate": partial(versions.kind, "\ud800"),
+    "kind of no text": partial(versions.kind, Odd()),
+    "sort_key": partial(versions.sort_key, "1.2.3"),
+    "sort_key, long": partial(versions.sort_key, LONG),
+    "sort_key of no version": partial(versions.sort_key, "1..2"),
+    "compare": partial(versions.compare, "1.2", "1.3"),
+    "compare_total by names": partial(versions.compare_total, a="1.2", b="1.3"),
+    "compare of no version": partial(versions.compare, "1.2", "1..3"),
+    "compare of no text": partial(versions.compare, "1.2", 3),
+    "Version": partial(versions.Version, "1.2.3"),
+    "Version of a subclass of str": partial(versions.Version, type("Text", (str,), {})("1.2.3")),
+    "subclass of Version": partial(MINE, "1.2"),
+    "Version of no version": partial(versions.Version, "1..2"),
+    "comparison": partial(operator.lt, PLAIN, MINE("1.3")),
+    "comparison with a text": partial(operator.eq, PLAIN, "1.2"),
+    "str": partial(str, PLAIN),
+    "hash": partial(hash, PLAIN),
+    "nth": partial(library.nth, EPOCH._text, 1),
+    "nth below 0": partial(library.nth, "1.2", -1),
+    "nth of no number": partial(library.nth, "1.2", 7),
+    "epoch": partial(library.epoch, "70000:1"),
+    "is_prerelease": partial(library.is_prerelease, "1.2.3-1"),
+    "is_prerelease of no version": partial(library.is_prerelease, "1..3"),
+    "matches": partial(library.matches, "^1.2", "1.3"),
+    "matches a Version": partial(library.matches, "^1.2", PLAIN),
+    "matches no version": partial(library.matches, "^1.2", "1..3"),
+    "matches no text": partial(library.matches, "^1.2", 3),
+    "matches of no requirement": partial(library.matches, "1.2", "1.2"),
+    "kinds": partial(versions.kinds, ["1.2", None, PLAIN, "\ud800", float("nan")]),
+    "kinds of many": partial(versions.kinds, ["1.2.3" * 10] * 200),
+    "kinds of no text": partial(versions.kinds, ["1.2", Odd()]),
+    "sort_keys": partial(versions.sort_keys, ["1.2", None, "1..2", LONG]),
+    "match_all": partial(library.match_all, "^1.2", ["1.2", None, "1..2"], False),
+    "match_all of texts alone": partial(library.match_all, "^1.2", ["1.2", None], True),
+    "match_all of no requirement": partial(library.match_all, "1.2", ["1.2"], False),
+    "sorted": partial(versions.sorted, ["1.3", "1.2", LONG]),
+    "sorted of no version": partial(versions.sorted, ["1.2", PLAIN, "1..2"]),
+    "sorted of no text": partial(versions.sorted, ["1.2", None]),
+    "sorted of one": partial(versions.sorted, "1.2"),
+}
+
+
+def failing_midway():
+    def texts():
+        yield "1.2"
+        raise OSError("midway")
+
+    return versions.kinds(texts())
+
+
+# Through functions of Python.
+PYTHON_CALLS = {
+    "parts": lambda: (EPOCH.epoch, EPOCH.major, EPOCH.is_prerelease, EPOCH.kind, repr(EPOCH)),
+    "pickle": lambda: pickle.loads(pickle.dumps(MINE("1.2").__reduce__()[:2][1])),
     "Requirement": lambda: versions.Requirement("^1.2"),
     "Requirement of none": lambda: versions.Requirement("1.2"),
-    "matches": lambda: WANTED.matches("1.3"),
-    "matches a Version": lambda: WANTED.matches(versions.Version("1.3")),
+    "matches": lambda: (WANTED.matches("1.3"), WANTED.matches(PLAIN), "1..2" in WANTED),
     "matches no version": lambda: WANTED.matches("1..3"),
-    "matches no text": lambda: WANTED.matches(3),
-    "in": lambda: ("1..2" in WANTED, "1.2" in WANTED),
-    "filter": lambda: WANTED.filter(["1.1", versions.Version("1.2"), "1..3"]),
-    "kinds": lambda: versions.kinds(["1.2", None, versions.Version("1.2.3"), "\ud800", float("nan")]),
-    "kinds of many": lambda: versions.kinds(["1.2.3" * 10] * 200),
-    "kinds of no text": lambda: versions.kinds(["1.2", Odd()]),
-    "kinds of what fails": lambda: versions.kinds(midway()),
-    "sort_keys": lambda: versions.sort_keys(["1.2", None, "1..2", LONG]),
-    "match_all": lambda: versions.match_all(WANTED, ["1.2", None, "1..2"]),
-    "match_all of no requirement": lambda: versions.match_all("1.2", ["1.2"]),
-    "sorted": lambda: versions.sorted(["1.3", "1.2", LONG]),
-    "sorted of no version": lambda: versions.sorted(["1.2", versions.Version("1.3"), "1..2"]),
-    "sorted of no text": lambda: versions.sorted(["1.2", None]),
-    "sorted of one": lambda: versions.sorted("1.2"),
+    "filter": lambda: WANTED.filter(["1.1", PLAIN, "1..3"]),
+    "kinds of what fails": failing_midway,
+    "kinds of what can't be iterated": lambda: versions.kinds(5),
 }
 
 
@@ -208,16 +234,17 @@ class Allocations(WithFolder):
         cls.hooks.watch()
         cls.addClassCleanup(cls.hooks.unwatch)
 
-    def growth(self, repeated, times):
-        """By how many blocks the memory grows while a call is repeated."""
-        for _ in range(5):
-            repeated()
-        gc.collect()
-        before = self.hooks.blocks_held()
-        for _ in range(times):
-            repeated()
-        gc.collect()
-        return self.hooks.blocks_held() - before
+    def leaks(self, repeated, times=100):
+        """Whether memory grows by a block each time a call is made. What Python caches grows once in a while."""
+        for _ in range(4):
+            gc.collect()
+            before = self.hooks.blocks_held()
+            for _ in range(times):
+                repeated()
+            gc.collect()
+            if self.hooks.blocks_held() - before < times / 2:
+                return False
+        return True
 
     def test_an_allocation_that_fails_is_a_memory_error(self):
         reached = ctypes.c_int()
@@ -233,18 +260,19 @@ class Allocations(WithFolder):
                     failed += found != wanted
                     # What Python caches need not be there.
                     self.assertTrue(found == wanted or found[0] is MemoryError, found)
-                    self.assertLess(self.growth(lambda: outcome(failing), 30), 25)
+                    self.assertFalse(self.leaks(lambda: outcome(failing)))
                 at += 1
-            self.assertTrue(failed > 0 or name in ("comparison with a text",), name)
+            # What allocates nothing can't fail.
+            self.assertTrue(failed > 0 or at == 1 or name == "comparison with a text", name)
 
     def test_nothing_leaks(self):
-        for name, call in {**CALLS, **ARROW_CALLS}.items():
+        for name, call in {**CALLS, **PYTHON_CALLS, **ARROW_CALLS}.items():
             with self.subTest(name):
                 def repeated():
                     outcome(call)
                     arrow.made.clear(), arrow.released.clear(), arrow.kept.clear()
 
-                self.assertLess(self.growth(repeated, 200), 50)
+                self.assertFalse(self.leaks(repeated))
 
     def test_references_are_kept(self):
         inputs = ["1.2.3-" + "a" * 9, "1..2" + "." * 9, MINE("1.2.4"), versions.Version("1.3"), "1.9-" + "b" * 9]

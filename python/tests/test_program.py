@@ -1,6 +1,7 @@
 """`python -m versions`, over standard input: its output, its complaints and its statuses."""
 
 import os
+import signal
 import subprocess
 import sys
 import unittest
@@ -18,6 +19,22 @@ def run(*words, given=b"", **more):
 
 
 class Program(unittest.TestCase):
+    def test_ctrl_c(self):
+        command = [sys.executable, "-I", "-m", "versions", "sort"]
+        for ignored in (False, True):
+            def before():
+                signal.signal(signal.SIGINT, signal.SIG_IGN if ignored else signal.default_int_handler)
+
+            streams = {"stdin": subprocess.PIPE, "stdout": subprocess.PIPE, "stderr": subprocess.PIPE}
+            with subprocess.Popen(command, preexec_fn=before, **streams) as process:
+                # It reads once it has read what is written here, which is more than a pipe holds.
+                process.stdin.write(b"1.2\n" * 100_000)
+                process.stdin.flush()
+                process.send_signal(signal.SIGINT)
+                output, said = process.communicate()
+                wanted = (0, b"1.2\n" * 100_000, b"") if ignored else (-signal.SIGINT, b"", b"")
+                self.assertEqual((process.returncode, output, said), wanted)
+
     # From docs/PROGRAM.md, where `vers` does the same.
     def test_show(self):
         lines = b"1.2.3-1\n1.2.3r1\n000.007-1\n1..2\n\n1.2-\xff\n1.2.3\r\n1.2.3\0\n1.2"

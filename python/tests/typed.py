@@ -2,10 +2,10 @@
 
 from __future__ import annotations
 
-from typing import Optional
+from typing import Optional, Union
 
 import versions
-from versions import Kind, Requirement, Version
+from versions import InvalidRequirement, InvalidVersion, Kind, Requirement, Version
 
 version = Version("1.2.3")
 kind: Kind = version.kind
@@ -21,4 +21,26 @@ wanted = Requirement("^1.2.3")
 kept: list[Version] = wanted.filter(in_order)
 named: list[str] = wanted.filter(texts)
 asked: bool = wanted.matches(version) or wanted.matches("1.2") or version in wanted
-answers: list[Optional[bool]] = versions.match_all(wanted, ["1.2", None])
+answers: list[Optional[bool]] = versions.match_all(wanted, ["1.2", version, None])
+parts: list[Optional[int]] = [version.epoch, version.major, version.minor, version.patch]
+prerelease: Optional[bool] = version.is_prerelease
+sorted_texts: list[str] = versions.sorted(text for text in texts)
+sorted_versions: list[Version] = versions.sorted([version, newest])
+of_both: list[Union[str, Version]] = versions.sorted(["1.2", version])
+text: str = InvalidVersion("1..2").text + InvalidRequirement("1").text + versions.__version__
+errors: list[type[ValueError]] = [InvalidVersion, InvalidRequirement]
+
+
+class Mine(Version):
+    pass
+
+
+mine: Mine = Mine("1.2")
+below: bool = mine < version
+
+# What is wrong at run time is an error of the type checker, too: each comment is one that it must need.
+version < "1.2"  # type: ignore[operator]
+"1.2" >= version  # type: ignore[operator]
+versions.kind(version)  # type: ignore[arg-type]
+versions.kinds([1.2])  # type: ignore[list-item]
+version.key = b""  # type: ignore[misc]
