@@ -2,100 +2,77 @@
 #include "versions.h"
 
 int fake_status = VERSIONS_OK;
-int fake_number = 0;         /* what each answer about many texts is */
+int fake_number = 0; /* what each answer about many texts is */
 bool fake_suffices = true;
-const char *fake_texts;      /* what the last call on many texts was passed */
+const char *fake_texts; /* what the last call on many texts was passed */
 size_t fake_texts_len;
 
-bool versions_processor_suffices(void)
-{
-    return fake_suffices;
+bool versions_processor_suffices(void) { return fake_suffices; }
+
+const char *versions_version(void) { return "9.9.9"; }
+
+int versions_kind(const char *text, size_t text_len) { return (void)text, (void)text_len, fake_status; }
+
+int versions_sort_key(const char *text, size_t text_len, uint8_t *key, size_t room, size_t *key_len) {
+  (void)text, (void)text_len, (void)key, (void)room;
+  *key_len = 5;
+  return fake_status;
 }
 
-const char *versions_version(void)
-{
-    return "9.9.9";
+static int compare(int32_t *order) {
+  *order = 0;
+  return fake_status;
 }
 
-int versions_kind(const char *text, size_t text_len)
-{
-    return (void)text, (void)text_len, fake_status;
+int versions_compare(const char *a, size_t a_len, const char *b, size_t b_len, int32_t *order) {
+  return (void)a, (void)a_len, (void)b, (void)b_len, compare(order);
 }
 
-int versions_sort_key(const char *text, size_t text_len, uint8_t *key, size_t room, size_t *key_len)
-{
-    (void)text, (void)text_len, (void)key, (void)room;
-    *key_len = 5;
-    return fake_status;
+int versions_compare_total(const char *a, size_t a_len, const char *b, size_t b_len, int32_t *order) {
+  return (void)a, (void)a_len, (void)b, (void)b_len, compare(order);
 }
 
-static int compare(int32_t *order)
-{
-    *order = 0;
-    return fake_status;
+int versions_matches(const char *list, size_t list_len, const char *text, size_t text_len, bool *matches) {
+  return (void)list, (void)list_len, (void)text, (void)text_len, (void)matches, fake_status;
 }
 
-int versions_compare(const char *a, size_t a_len, const char *b, size_t b_len, int32_t *order)
-{
-    return (void)a, (void)a_len, (void)b, (void)b_len, compare(order);
+int versions_nth(const char *text, size_t text_len, size_t n, uint32_t *number) {
+  return (void)text, (void)text_len, (void)n, (void)number, fake_status;
 }
 
-int versions_compare_total(const char *a, size_t a_len, const char *b, size_t b_len, int32_t *order)
-{
-    return (void)a, (void)a_len, (void)b, (void)b_len, compare(order);
+int versions_epoch(const char *text, size_t text_len, uint32_t *epoch) {
+  return (void)text, (void)text_len, (void)epoch, fake_status;
 }
 
-int versions_matches(const char *list, size_t list_len, const char *text, size_t text_len, bool *matches)
-{
-    return (void)list, (void)list_len, (void)text, (void)text_len, (void)matches, fake_status;
+int versions_is_prerelease(const char *text, size_t text_len, bool *is_prerelease) {
+  return (void)text, (void)text_len, (void)is_prerelease, fake_status;
 }
 
-int versions_nth(const char *text, size_t text_len, size_t n, uint32_t *number)
-{
-    return (void)text, (void)text_len, (void)n, (void)number, fake_status;
-}
-
-int versions_epoch(const char *text, size_t text_len, uint32_t *epoch)
-{
-    return (void)text, (void)text_len, (void)epoch, fake_status;
-}
-
-int versions_is_prerelease(const char *text, size_t text_len, bool *is_prerelease)
-{
-    return (void)text, (void)text_len, (void)is_prerelease, fake_status;
-}
-
-static int answer(const char *texts, size_t texts_len, uint8_t *numbers, size_t count)
-{
-    fake_texts = texts;
-    fake_texts_len = texts_len;
-    while (count > 0)
-        numbers[--count] = (uint8_t)fake_number;
-    return fake_status;
+static int answer(const char *texts, size_t texts_len, uint8_t *numbers, size_t count) {
+  fake_texts = texts;
+  fake_texts_len = texts_len;
+  while (count > 0) numbers[--count] = (uint8_t)fake_number;
+  return fake_status;
 }
 
 int versions_kinds(const char *texts, size_t texts_len, const int64_t *offsets, size_t offsets_len, uint8_t *kinds,
-                   size_t kinds_len)
-{
-    return (void)offsets, (void)offsets_len, answer(texts, texts_len, kinds, kinds_len);
+                   size_t kinds_len) {
+  return (void)offsets, (void)offsets_len, answer(texts, texts_len, kinds, kinds_len);
 }
 
 int versions_match_all(const char *list, size_t list_len, const char *texts, size_t texts_len, const int64_t *offsets,
-                       size_t offsets_len, uint8_t *matches, size_t matches_len)
-{
-    return (void)list, (void)list_len, (void)offsets, (void)offsets_len, answer(texts, texts_len, matches, matches_len);
+                       size_t offsets_len, uint8_t *matches, size_t matches_len) {
+  return (void)list, (void)list_len, (void)offsets, (void)offsets_len, answer(texts, texts_len, matches, matches_len);
 }
 
 int versions_sort_keys(const char *texts, size_t texts_len, const int64_t *offsets, size_t offsets_len, uint8_t *keys,
-                       size_t room, int64_t *key_offsets, size_t key_offsets_len)
-{
-    (void)offsets, (void)offsets_len, (void)keys, (void)room, (void)key_offsets, (void)key_offsets_len;
-    return answer(texts, texts_len, NULL, 0);
+                       size_t room, int64_t *key_offsets, size_t key_offsets_len) {
+  (void)offsets, (void)offsets_len, (void)keys, (void)room, (void)key_offsets, (void)key_offsets_len;
+  return answer(texts, texts_len, NULL, 0);
 }
 
 int versions_sort(const char *texts, size_t texts_len, const int64_t *offsets, size_t offsets_len, uint8_t *keys,
-                  size_t room, int64_t *key_offsets, size_t key_offsets_len, uint64_t *order, size_t order_len)
-{
-    (void)offsets, (void)offsets_len, (void)keys, (void)room, (void)key_offsets, (void)key_offsets_len;
-    return (void)order, (void)order_len, answer(texts, texts_len, NULL, 0);
+                  size_t room, int64_t *key_offsets, size_t key_offsets_len, uint64_t *order, size_t order_len) {
+  (void)offsets, (void)offsets_len, (void)keys, (void)room, (void)key_offsets, (void)key_offsets_len;
+  return (void)order, (void)order_len, answer(texts, texts_len, NULL, 0);
 }
