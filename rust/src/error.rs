@@ -30,12 +30,12 @@ impl InvalidVersion {
         InvalidVersion { text: text.into() }
     }
 
-    /// The text that is not a version.
+    /// Returns the text that is not a version.
     pub fn text(&self) -> &str {
         &self.text
     }
 
-    /// The same, as the `String` that the error held.
+    /// Returns the same, as the `String` that the error held.
     pub fn into_text(self) -> String {
         self.text
     }
@@ -46,12 +46,12 @@ impl InvalidRequirement {
         InvalidRequirement { text: text.into() }
     }
 
-    /// The text that is not a requirement.
+    /// Returns the text that is not a requirement.
     pub fn text(&self) -> &str {
         &self.text
     }
 
-    /// The same, as the `String` that the error held.
+    /// Returns the same, as the `String` that the error held.
     pub fn into_text(self) -> String {
         self.text
     }

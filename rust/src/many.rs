@@ -1,7 +1,7 @@
 use crate::library::{self, Texts};
 use crate::{Kind, Requirement};
 
-/// The kind of each text, as [`kind`](crate::kind) returns it, in one call of the library.
+/// Returns the kind of each text, as [`kind`](crate::kind) returns it, in one call of the library.
 ///
 /// Allocates, beside the answers, all texts once more, and at most 9 bytes for each text.
 ///
@@ -14,7 +14,7 @@ pub fn kinds<T: AsRef<str>>(texts: &[T]) -> Vec<Option<Kind>> {
     library::kinds(&Texts::new(texts))
 }
 
-/// The sort key of each text, as [`sort_key`](crate::sort_key) returns it, in one call of the
+/// Returns the sort key of each text, as [`sort_key`](crate::sort_key) returns it, in one call of the
 /// library. A text that is not a version has no key.
 ///
 /// The answer is two allocations. Beside these, all texts are allocated once more, and 8 bytes for
@@ -33,8 +33,8 @@ pub fn sort_keys<T: AsRef<str>>(texts: &[T]) -> SortKeys {
     SortKeys { keys, offsets }
 }
 
-/// Whether a requirement matches each text, in one call of the library; `None` for a text that is
-/// not a version.
+/// Returns whether a requirement matches each text, in one call of the library; `None` for a text
+/// that is not a version.
 ///
 /// Allocates, beside the answers, all texts once more, and at most 9 bytes for each text.
 ///
@@ -49,7 +49,7 @@ pub fn match_all<T: AsRef<str>>(requirement: &Requirement<'_>, texts: &[T]) -> V
     library::match_all(requirement.as_str(), &Texts::new(texts))
 }
 
-/// The places of the texts in the order of their versions, that of the least version first.
+/// Returns the places of the texts in the order of their versions, the least version first.
 ///
 /// The order is that of `Ord` of [`Version`](crate::Version). Texts that compare equal keep their
 /// order, as in a stable sort. Texts that are not versions come last, in their order too.
@@ -97,7 +97,7 @@ pub struct SortKeys {
 }
 
 impl SortKeys {
-    /// The key of the text at a place; `None` where that text is not a version, and where there is
+    /// Returns the key of the text at a place, or `None` if that text is not a version or there is
     /// no such place. No key is empty.
     pub fn get(&self, place: usize) -> Option<&[u8]> {
         if place < self.len() {
@@ -107,17 +107,17 @@ impl SortKeys {
         }
     }
 
-    /// How many texts there were, versions or not.
+    /// Returns how many texts there were, versions or not.
     pub fn len(&self) -> usize {
         self.offsets.len() - 1
     }
 
-    /// Whether there was no text.
+    /// Returns whether there was no text.
     pub fn is_empty(&self) -> bool {
         self.len() == 0
     }
 
-    /// What [`get`](SortKeys::get) returns of each place in turn.
+    /// Returns an iterator over what [`get`](SortKeys::get) returns of each place in turn.
     ///
     /// ```
     /// let keys = proved_versions::sort_keys(&["1.10", "1..2", "1.9"]);

@@ -25,8 +25,7 @@ pub struct Requirement<'a> {
 }
 
 impl<'a> Requirement<'a> {
-    /// The requirement, or the list of them, that a text is. Borrows a `&str`, and takes a `String`
-    /// as it is.
+    /// Parses a requirement or a list of them. Borrows a `&str`, and takes a `String` as it is.
     ///
     /// # Errors
     ///
@@ -41,18 +40,18 @@ impl<'a> Requirement<'a> {
         }
     }
 
-    /// The text, as it was given.
+    /// Returns the text, as it was given.
     pub fn as_str(&self) -> &str {
         &self.text
     }
 
-    /// Whether the requirement matches a version. Allocates nothing.
+    /// Returns whether the requirement matches a version. Allocates nothing.
     pub fn matches(&self, version: &Version<'_>) -> bool {
         library::matches(&self.text, version.as_str())
             .expect("the library no longer takes the text of a Version for a version")
     }
 
-    /// Whether the requirement matches the version that a text is, in one call of the library.
+    /// Returns whether the requirement matches a text, in one call of the library.
     ///
     /// # Errors
     ///
@@ -71,7 +70,7 @@ impl<'a> Requirement<'a> {
         library::matches(&self.text, text).ok_or_else(|| InvalidVersion::new(text))
     }
 
-    /// The versions that the requirement matches, in their order. The items may be [`Version`]s or
+    /// Returns the versions that the requirement matches, in their order. The items may be [`Version`]s or
     /// references to them. The iterator is lazy: it matches a version when it comes to it.
     ///
     /// ```
@@ -94,7 +93,7 @@ impl<'a> Requirement<'a> {
         }
     }
 
-    /// The same requirement, with a text of its own. Copies a borrowed text.
+    /// Returns the same requirement, with a text of its own. Copies a borrowed text.
     pub fn into_owned(self) -> Requirement<'static> {
         Requirement {
             text: Cow::Owned(self.text.into_owned()),
