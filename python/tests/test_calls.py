@@ -233,10 +233,6 @@ class Items(LongLists):
             self.assertRaises(TypeError, call, None)
 
     def test_a_list_that_changes_while_it_is_read(self):
-        class Growing(str):
-            def __str__(self):
-                raise AssertionError
-
         texts = ["1.2"] * 10
 
         def shrinking():
@@ -272,7 +268,7 @@ class Sorted(unittest.TestCase):
 
     def test_the_items_are_those_given(self):
         items = [versions.Version("2"), "1" + str(0), versions.Version("1")]
-        self.assertEqual(list(map(id, versions.sorted(items))), [id(items[n]) for n in (2, 0, 1)][:1] + [id(items[0]), id(items[1])])
+        self.assertEqual(list(map(id, versions.sorted(items))), [id(items[n]) for n in (2, 0, 1)])
 
     def test_a_text_that_is_not_a_version(self):
         for texts in (["1", "1..2", "x y"], ["1..2"], ["2", "1", "1..2"], iter(["1..2", "1"])):
@@ -347,8 +343,19 @@ class Threads(unittest.TestCase):
         self.assertTrue(all(answer == (wanted, single) for answer in answers))
 
 
+    def goes_on_during(self, call):
+        """Whether another thread runs before a call has returned."""
+        run, begun = threading.Event(), threading.Lock()
+        begun.acquire()
+        thread = threading.Thread(target=lambda: (begun.acquire(), run.set()))
+        thread.start()
+        begun.release()
+        call()
+        answer = run.is_set()
+        thread.join()
+        return answer
+
     def test_others_go_on_while_the_library_works(self):
-        # Each call works for some tenths of a second. While it does, a thread that counts must go on counting.
         long, many = "1." * 3_000_000 + "1", ["1.2.3-rc.1"] * 400_000
         wanted = versions.Requirement("=1.2")
         version = versions.Version(long)
@@ -370,16 +377,8 @@ class Threads(unittest.TestCase):
         sys.setswitchinterval(1000)
         try:
             for name, call in calls.items():
-                let_go = threading.Event()
-                thread = threading.Thread(target=let_go.set)
-                begun = threading.Lock()
-                begun.acquire()
-                thread = threading.Thread(target=lambda: (begun.acquire(), let_go.set()))
-                thread.start()
-                begun.release()
-                call()
-                self.assertTrue(let_go.is_set(), name)
-                thread.join()
+                # On a busy machine the other thread may wait for a processor for longer than one call takes.
+                self.assertTrue(any(self.goes_on_during(call) for _ in range(50)), name)
         finally:
             sys.setswitchinterval(interval)
 

@@ -426,8 +426,7 @@ static PyObject *matches(PyObject *module, PyObject *args) {
 
 static int64_t no_offsets[] = {0};
 
-/* Texts in one buffer, as versions.h describes them. Of Arrow's, `validity` may have a bit for each, from `first` on.
- */
+/* Texts in one buffer, as versions.h describes them. Of Arrow, `validity` may have a bit for each, from `first` on. */
 struct texts {
   const char *bytes;
   size_t size;
