@@ -1,11 +1,15 @@
 """Arrow arrays and streams in capsules: what they answer, what is refused, and that each structure is released once."""
 
 import gc
+import importlib.util
+import os
 import struct
 import unittest
+from types import SimpleNamespace
 
 import arrow
 import versions
+from compiled import WithFolder, compiled
 from test_calls import KINDS, USUAL, WANTED, key_of
 
 CONTENT = [None if text is None else text.encode("utf-8", "surrogatepass") for text in USUAL]
@@ -174,3 +178,39 @@ class Arrow(unittest.TestCase):
     def test_sorted_and_filter_take_no_arrays(self):
         for call in (versions.sorted, versions.Requirement("*").filter):
             self.assertRaises(TypeError, call, arrow.Array([b"1.2"]))
+
+
+class FromC(WithFolder):
+    """Texts of producer.c: "1.2.3", null, "x y" and "1.10"."""
+
+    ANSWERS = [
+        ["ideal", None, None, "general"],
+        [key_of("1.2.3"), None, None, key_of("1.10")],
+        [True, None, None, True],
+    ]
+
+    @classmethod
+    def setUpClass(cls):
+        super().setUpClass()
+        source = os.path.join(os.path.dirname(os.path.abspath(__file__)), "producer.c")
+        spec = importlib.util.spec_from_file_location("producer", compiled(cls.folder, "producer.so", source))
+        cls.producer = importlib.util.module_from_spec(spec)
+        spec.loader.exec_module(cls.producer)
+
+    def tearDown(self):
+        gc.collect()
+        self.assertEqual(self.producer.alive(), 0)
+
+    def test_an_array(self):
+        texts = SimpleNamespace(__arrow_c_array__=self.producer.array)
+        self.assertEqual([call(texts) for call in CALLS], self.ANSWERS)
+
+    def test_a_stream(self):
+        for chunks in range(4):
+            texts = SimpleNamespace(__arrow_c_stream__=lambda: self.producer.stream(chunks))
+            self.assertEqual([call(texts) for call in CALLS], [chunks * answers for answers in self.ANSWERS])
+
+    def test_what_is_not_read_is_released(self):
+        for capsules in (self.producer.array(), self.producer.stream(2)):
+            self.assertGreater(self.producer.alive(), 0)
+            del capsules
