@@ -263,6 +263,26 @@ class Installing(Case):
         self.succeeds("cc", *flags, include, f"-I{LIBRARY}", str(TOP / "python/versions/_library.c"))
 
 
+class Page(Case):
+    """The commands of docs/PYTHON.md, in a folder with the package and the library as the repository has them."""
+
+    def test_its_commands(self):
+        page = (TOP / "docs/PYTHON.md").read_text(encoding="utf-8")
+        blocks = re.findall(r"^```sh\n(.*?)^```$", page, re.M | re.S)
+        self.assertEqual(len(blocks), 2)
+        shutil.copytree(TOP / "python", self.work / "python", ignore=shutil.ignore_patterns("out", "__pycache__"))
+        (self.work / "c").mkdir()
+        (self.work / "c/out").symlink_to(LIBRARY)
+        # python3 is the Python that builds.
+        path = f"{Path(shutil.which(os.environ['PYTHON'])).parent}:{os.environ['PATH']}"
+        call = "import versions; print(versions.__file__, versions.kind('1:1.0'))"
+        for block in blocks:
+            self.succeeds("bash", "-euc", block, folder=self.work, PATH=path, C_LIBRARY=str(LIBRARY))
+            said = self.succeeds(str(self.work / "environment/bin/python"), "-W", "error", "-c", call)
+            self.assertRegex(said, f"^{self.work}/environment/lib/.*/versions/__init__.py general\n$")
+            shutil.rmtree(self.work / "environment")
+
+
 tests = unittest.defaultTestLoader.loadTestsFromModule(sys.modules["__main__"])
 result = unittest.TextTestRunner(sys.stdout).run(tests)
 failed = len({test.id().split(" ")[0] for test, _ in result.failures + result.errors})
