@@ -1,0 +1,11 @@
+use Rattle.std.proofs.Common.{◌↔◌, length}
+use Rattle.versions.specs.VersionMatch.{PartsNotBelow}
+use Rattle.version_texts.proofs.matching.parts.no_part_is_below.Given as goal
+use Rattle.version_texts.specs.TextKey.{parts_of}
+
+-- the parts so far match, and what is left decides
+abbrev pub invariant-parts : goal.invariant-parts
+invariant-parts l = PartsNotBelow (parts_of l.a) (parts_of l.b) ↔ PartsNotBelow (parts_of l.wanted) (parts_of l.parts)
+
+abbrev pub decreases-parts : goal.decreases-parts
+decreases-parts l = length l.a

@@ -1,0 +1,11 @@
+use Rattle.std.proofs.Common.{◌↔◌, length}
+use Rattle.versions.specs.VersionMatch.{PartsMatchTilde}
+use Rattle.version_texts.proofs.matching.parts.parts_match_tilde.Given as goal
+use Rattle.version_texts.specs.TextKey.{parts_of}
+
+-- the parts so far match, and what is left decides
+abbrev pub invariant-parts : goal.invariant-parts
+invariant-parts l = PartsMatchTilde (parts_of l.a) (parts_of l.b) ↔ PartsMatchTilde (parts_of l.wanted) (parts_of l.parts)
+
+abbrev pub decreases-parts : goal.decreases-parts
+decreases-parts l = length l.a

@@ -1,0 +1,11 @@
+use Rattle.std.proofs.Common.{◌∙◌, [], ℕ, List, ap, append-nil}
+use Rattle.version_parts.specs.Lists.{bytes_cmp}
+use Rattle.versions.specs.KeyBytes.{key_bytes}
+use Rattle.version_texts.specs.Sinks.{is_between}
+use Rattle.version_texts.specs.TextKey.{text_key}
+use Rattle.version_texts.proofs.sinks.key_between.Goals as goal
+
+pub returns : goal.returns
+returns c =
+    let key = key_bytes (text_key c.args.text.now c.args.shape) in
+    c.is_between.ensures ∙ c.put_key.ensures [] ∙ ap (λ (l : List ℕ). is_between (bytes_cmp l c.args.low.now) (bytes_cmp l c.args.high.now)) (append-nil key)

@@ -1,0 +1,5 @@
+use Rattle.version_texts.proofs.Borrowed.{kind-is}
+use Rattle.version_texts.proofs.versioning_ref.VersioningRef.kind.Goals as goal
+
+pub returns : goal.returns
+returns c = kind-is _ _ c.args.self.now.read

@@ -1,0 +1,11 @@
+use Rattle.version_texts.proofs.Borrowed.{key-is, shape_fits}
+use Rattle.version_texts.proofs.versioning_ref.VersioningRefAsked.precedence.Goals as goal
+
+pub compare-requires-clause-a_fits : goal.compare-requires-clause-a_fits
+compare-requires-clause-a_fits c = shape_fits _ _ c.args.self.now.read
+
+pub compare-requires-clause-b_fits : goal.compare-requires-clause-b_fits
+compare-requires-clause-b_fits c = shape_fits _ _ c.args.other.now.read
+
+pub returns : goal.returns
+returns c = rw (key-is _ _ c.args.self.now.read, key-is _ _ c.args.other.now.read) c.compare.ensures

@@ -1,0 +1,31 @@
+-- The classes of bytes whose runs are scanned.
+use Rattle.std.specs.Prelude.{◌==◌, ◌||◌, ℕ, Bool, not, if◌then◌else◌}
+use Rattle.std.specs.Char.{is_ascii_alphabetic, is_ascii_alphanumeric, is_ascii_digit}
+use Rattle.version_parts.specs.Bytes.{dot, hyphen, is_identifier_byte, is_metadata_byte}
+use Rattle.version_parts.specs.Sep.{is_sep}
+use Rattle.version_texts.specs.declared.class.Class.{Class}
+use Rattle.version_texts.specs.declared.class.Class.TheVariants.{Zero, Digit, Letter, Alphanumeric, Identifier, Metadata, Mark, NotDot}
+
+-- a dot or a sign
+abbrev pub is_mark : ℕ → Bool
+is_mark b = b == dot || is_sep b
+
+-- the rank of a byte: of a digit, a letter, a hyphen, a dot, another sign, and any other byte
+abbrev pub byte_rank : ℕ → ℕ
+byte_rank b =
+    if is_ascii_digit b then 0 else
+    if is_ascii_alphabetic b then 1 else
+    if b == hyphen then 2 else
+    if b == dot then 3 else
+    if is_sep b then 4 else 5
+
+-- whether a byte is of the class
+abbrev pub contains : Class → ℕ → Bool
+contains Zero b = b == 48
+contains Digit b = is_ascii_digit b
+contains Letter b = is_ascii_alphabetic b
+contains Alphanumeric b = is_ascii_alphanumeric b
+contains Identifier b = is_identifier_byte b
+contains Metadata b = is_metadata_byte b
+contains Mark b = is_mark b
+contains NotDot b = not (b == dot)

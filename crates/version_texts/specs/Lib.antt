@@ -1,0 +1,11 @@
+pub mod Class
+pub mod Matching
+pub mod Parts
+pub mod Piece
+pub mod RequirementRef
+pub mod RequirementsRef
+pub mod Shape
+pub mod Sinks
+pub mod TextKey
+pub mod TextKind
+pub mod VersioningRef

@@ -1,0 +1,7 @@
+-- What `~` and `^` ask of the key of a version.
+use Rattle.versions.specs.Key.{Key}
+use Rattle.versions.specs.VersionMatch.{EpochAndParts}
+
+-- the epoch and the parts of the body
+abbrev pub epoch_and_parts_of : Key → EpochAndParts
+epoch_and_parts_of k = (k.epoch, k.body)

@@ -1,0 +1,13 @@
+-- The version of any kind that a borrowed text spells.
+use Rattle.std.specs.Prelude.{ℕ, List, []}
+use Rattle.std.specs.Option.{unwrap_or}
+use Rattle.versions.specs.Versioning.{PlainVersioning, Complex, versioning_of}
+use Rattle.version_texts.specs.declared.versioning_ref.VersioningRef.{VersioningRef}
+
+-- the version that a text spells; for a text that spells none, one that no text spells
+unfoldable pub version_in : List ℕ → PlainVersioning
+version_in text = unwrap_or (versioning_of text) (Complex (record { first = []; more = [] }))
+
+-- the version that a scanned value holds
+abbrev pub plain_versioning_ref : VersioningRef → PlainVersioning
+plain_versioning_ref v = version_in v.text.now

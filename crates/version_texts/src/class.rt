@@ -1,0 +1,97 @@
+//! The classes of the bytes that versions are made of, all of them ASCII, and where runs of a class end.
+
+ghost use Rattle.std.specs.Prelude.{◌≡◌, ◌+◌, ◌≤◌, drop, length};
+ghost use Rattle.std.specs.List.{prefix_len, take_while};
+ghost use Rattle.version_parts.specs.Front.{begins};
+ghost use Rattle.version_texts.specs.Class.{byte_rank, contains};
+
+/// A class of bytes.
+#[derive(Clone, Copy)]
+pub enum Class {
+    Zero,
+    Digit,
+    Letter,
+    /// Letters and digits.
+    Alphanumeric,
+    /// Letters, digits and hyphens.
+    Identifier,
+    /// Letters, digits, hyphens and dots.
+    Metadata,
+    /// Dots and signs.
+    Mark,
+    /// All but dots.
+    NotDot,
+}
+
+// The rank of each byte: of a digit, a letter, a hyphen, a dot, another sign, and any other byte.
+static RANKS: [u8; 256] = [
+    5, 5, 5, 5, 5, 5, 5, 5, 5, 5, 5, 5, 5, 5, 5, 5, 5, 5, 5, 5, 5, 5, 5, 5, 5, 5, 5, 5, 5, 5, 5, 5,
+    5, 5, 5, 5, 5, 5, 5, 5, 5, 5, 5, 4, 5, 2, 3, 5, 0, 0, 0, 0, 0, 0, 0, 0, 0, 0, 4, 5, 5, 5, 5, 5,
+    5, 1, 1, 1, 1, 1, 1, 1, 1, 1, 1, 1, 1, 1, 1, 1, 1, 1, 1, 1, 1, 1, 1, 1, 1, 1, 1, 5, 5, 5, 5, 4,
+    5, 1, 1, 1, 1, 1, 1, 1, 1, 1, 1, 1, 1, 1, 1, 1, 1, 1, 1, 1, 1, 1, 1, 1, 1, 1, 1, 5, 5, 5, 4, 5,
+    5, 5, 5, 5, 5, 5, 5, 5, 5, 5, 5, 5, 5, 5, 5, 5, 5, 5, 5, 5, 5, 5, 5, 5, 5, 5, 5, 5, 5, 5, 5, 5,
+    5, 5, 5, 5, 5, 5, 5, 5, 5, 5, 5, 5, 5, 5, 5, 5, 5, 5, 5, 5, 5, 5, 5, 5, 5, 5, 5, 5, 5, 5, 5, 5,
+    5, 5, 5, 5, 5, 5, 5, 5, 5, 5, 5, 5, 5, 5, 5, 5, 5, 5, 5, 5, 5, 5, 5, 5, 5, 5, 5, 5, 5, 5, 5, 5,
+    5, 5, 5, 5, 5, 5, 5, 5, 5, 5, 5, 5, 5, 5, 5, 5, 5, 5, 5, 5, 5, 5, 5, 5, 5, 5, 5, 5, 5, 5, 5, 5,
+];
+
+// Returns the rank of a byte, which the classes go by: a look-up is faster than comparisons.
+#[inline(always)]
+fn rank(byte: u8) -> u8
+    ensures { result ≡ byte_rank byte }
+{
+    RANKS[usize::from(byte)]
+}
+
+impl Class {
+    /// Returns whether a byte is of the class.
+    #[inline(always)]
+    pub fn contains(self, byte: u8) -> bool
+        ensures { result ≡ contains self byte }
+    {
+        match self {
+            Class::Zero => byte == b'0',
+            Class::Digit => byte.is_ascii_digit(),
+            Class::Letter => byte.is_ascii_alphabetic(),
+            Class::Alphanumeric => rank(byte) < 2,
+            Class::Identifier => rank(byte) < 3,
+            Class::Metadata => rank(byte) < 4,
+            Class::Mark => matches!(rank(byte), 2..=4),
+            Class::NotDot => byte != b'.',
+        }
+    }
+}
+
+/// Returns where the bytes of a class from a place on end.
+#[inline(always)]
+pub fn run_end(text: &[u8], start: usize, class: Class) -> usize
+    requires { start ≤ length text.now }
+    ensures end { result ≡ start + prefix_len (contains class) (drop start text.now) }
+    ensures within { result ≤ length text.now }
+{
+    let mut end = start;
+    while end < text.len() && class.contains(text[end]) {
+        end += 1;
+    }
+    end
+}
+
+/// Returns the longest run of a class at the start of a text, which may be empty, and the rest.
+#[inline(always)]
+pub fn split_run(text: &[u8], class: Class) -> (&[u8], &[u8])
+    ensures run { result.0.now ≡ take_while (contains class) text.now }
+    ensures rest { result.1.now ≡ drop (prefix_len (contains class) text.now) text.now }
+{
+    text.split_at(run_end(text, 0, class))
+}
+
+/// Returns whether a text begins with a byte of a class.
+#[inline(always)]
+pub fn begins_with(text: &[u8], class: Class) -> bool
+    ensures { result ≡ begins (contains class) text.now }
+{
+    match text {
+        [first, ..] => class.contains(*first),
+        [] => false,
+    }
+}

@@ -1,0 +1,273 @@
+//! The one writer of keys: it reads a text by its shape, and writes into any sink.
+
+ghost use Rattle.std.specs.Prelude.{◌≡◌, ◌==◌, ◌||◌, false, ◌∷◌, ◌++◌, ◌-◌, ◌≤◌, [], List, ℕ, IfNone, IfSome, MatchOption, Some, None, drop, length, true};
+ghost use Rattle.std.specs.Char.{is_ascii_alphanumeric, is_ascii_digit};
+ghost use Rattle.std.specs.List.{list_all, prefix_len, take_while};
+ghost use Rattle.std.specs.Str.Parse.{digits_value};
+ghost use Rattle.version_parts.specs.Bytes.{dot, is_identifier_byte, is_metadata_byte};
+ghost use Rattle.version_parts.specs.Codes.{list_bytes};
+ghost use Rattle.version_parts.specs.DigitRun.{run_value};
+ghost use Rattle.version_parts.specs.Front.{begins};
+ghost use Rattle.version_parts.specs.NumberBytes.{length_bytes, number_bytes};
+ghost use Rattle.version_parts.specs.PartKey.{part_bytes, part_key, parts_bytes};
+ghost use Rattle.version_parts.specs.ReleaseOrder.{chunk_bytes, release_bytes};
+ghost use Rattle.version_parts.specs.Split.{split_bytes, split_of};
+ghost use Rattle.versions.specs.KeyBytes.{key_bytes};
+ghost use Rattle.versions.specs.Tail.{section_bytes, tail_bytes};
+ghost use Rattle.version_texts.specs.Shape.{body_in, epoch_in, is_section_byte, is_tail_byte, tail_in, Fits};
+ghost use Rattle.version_texts.specs.TextKey.{chunk_of, chunks_of, parts_of, sections_of, tail_of, text_key};
+
+use crate::class::{Class, begins_with, split_run};
+use crate::shape::{Shape, TailKind};
+use crate::sink::{Sink, put_all};
+
+// Writes a length.
+#[inline(always)]
+fn put_length<S: Sink>(sink: &mut S, length: usize)
+    ensures { S.takes sink.old (length_bytes length) sink.new }
+{
+    let mut left = length;
+    while left >= 255 {
+        sink.put(255);
+        left -= 255;
+    }
+    sink.put(left as u8);
+}
+
+// Writes the number at the start of a text, and returns the rest.
+#[inline(always)]
+fn put_number<'t, S: Sink>(sink: &mut S, text: &'t [u8]) -> &'t [u8]
+    ensures bytes { S.takes sink.old (number_bytes (run_value text.now)) sink.new }
+    ensures rest { result.now ≡ drop (prefix_len is_ascii_digit text.now) text.now }
+{
+    let (_, text) = split_run(text, Class::Zero);
+    let (digits, rest) = split_run(text, Class::Digit);
+    put_length(sink, digits.len());
+    put_all(sink, digits);
+    rest
+}
+
+// Writes the run of letters and digits at the start of a text, split before its first digit, and returns the rest.
+#[inline(always)]
+fn put_split<'t, S: Sink>(sink: &mut S, text: &'t [u8]) -> &'t [u8]
+    ensures bytes { S.takes sink.old
+        (split_bytes (split_of (take_while is_ascii_alphanumeric text.now))) sink.new }
+    ensures rest { result.now ≡ drop (prefix_len is_ascii_alphanumeric text.now) text.now }
+{
+    let (letters, rest) = split_run(text, Class::Letter);
+    put_all(sink, letters);
+    sink.put(0);
+    if !begins_with(rest, Class::Digit) {
+        sink.put(0);
+        return rest;
+    }
+    sink.put(1);
+    let behind = put_number(sink, rest);
+    let (run, rest) = split_run(behind, Class::Alphanumeric);
+    put_all(sink, run);
+    sink.put(0);
+    rest
+}
+
+// Writes the part at the start of a text, and returns the rest.
+#[inline(always)]
+fn put_part<'t, S: Sink>(sink: &mut S, text: &'t [u8]) -> &'t [u8]
+    ensures bytes { S.takes sink.old
+        (part_bytes (Some (part_key (take_while is_ascii_alphanumeric text.now)))) sink.new }
+    ensures rest { result.now ≡ drop (prefix_len is_ascii_alphanumeric text.now) text.now }
+{
+    let mut left = text;
+    if begins_with(text, Class::Digit) {
+        sink.put(3);
+        left = put_number(sink, text);
+        if !begins_with(left, Class::Letter) {
+            sink.put(2);
+            return left;
+        }
+    }
+    sink.put(1);
+    put_split(sink, left)
+}
+
+// The text behind the dot that it begins with, or None if it begins with no dot.
+#[inline(always)]
+fn after_dot(text: &[u8]) -> Option<&[u8]>
+    ensures { MatchOption result (begins (λ b. b == dot) text.now ≡ false)
+        (λ behind. text.now ≡ dot ∷ behind.now) }
+{
+    match text.split_first() {
+        Some((b'.', behind)) => Some(behind),
+        _ => None,
+    }
+}
+
+// Writes the parts at the start of a text, with dots between them, and the end of the list, and returns the rest.
+// Returns None once the sink is decided.
+#[inline(always)]
+fn put_list<'t, S: Sink>(sink: &mut S, text: &'t [u8]) -> Option<&'t [u8]>
+    ensures bytes { S.takes sink.old
+        (parts_bytes (parts_of (take_while is_section_byte text.now))) sink.new }
+    ensures rest { IfSome result
+        (λ rest. rest.now ≡ drop (prefix_len is_section_byte text.now) text.now) }
+    ensures decided { IfNone result
+        ((bytes : List ℕ) → S.takes sink.new bytes sink.new) }
+{
+    let mut left = text;
+    'parts: loop {
+        let rest = put_part(sink, left);
+        if sink.is_decided() {
+            return None;
+        }
+        match after_dot(rest) {
+            Some(behind) => left = behind,
+            None => {
+                sink.put(2);
+                return Some(rest);
+            }
+        }
+    }
+}
+
+// Writes a chunk of a release, by its text.
+#[inline(always)]
+fn put_chunk<S: Sink>(sink: &mut S, text: &[u8])
+    requires { list_all is_identifier_byte text.now ≡ true }
+    ensures { S.takes sink.old (chunk_bytes (Some (chunk_of text.now))) sink.new }
+{
+    let (_, behind) = split_run(text, Class::Digit);
+    if behind.is_empty() {
+        sink.put(2);
+        put_number(sink, text);
+        return;
+    }
+    sink.put(3);
+    put_all(sink, text);
+    sink.put(0);
+}
+
+// Writes a release, by its text.
+#[inline(always)]
+fn put_release<S: Sink>(sink: &mut S, text: &[u8])
+    requires { list_all is_metadata_byte text.now ≡ true }
+    ensures { S.takes sink.old (release_bytes (chunks_of text.now)) sink.new }
+{
+    let mut left = text;
+    'chunks: loop {
+        let (chunk, rest) = split_run(left, Class::NotDot);
+        put_chunk(sink, chunk);
+        match rest.split_first() {
+            Some((_, behind)) => left = behind,
+            None => {
+                sink.put(1);
+                return;
+            }
+        }
+    }
+}
+
+// Writes the sections of a text, between its signs, and their end.
+#[inline(always)]
+fn put_sections<S: Sink>(sink: &mut S, text: &[u8])
+    requires { list_all (is_tail_byte TailKind.Sections) text.now ≡ true }
+    ensures { S.takes sink.old (list_bytes section_bytes (sections_of text.now)) sink.new }
+{
+    let mut left = text;
+    'sections: loop {
+        sink.put(2);
+        let Some(rest) = put_list(sink, left) else {
+            return;
+        };
+        match rest.split_first() {
+            Some((_, behind)) => left = behind,
+            None => {
+                sink.put(1);
+                return;
+            }
+        }
+    }
+}
+
+// Writes a tail, by its kind and its text.
+#[inline(always)]
+fn put_tail<S: Sink>(sink: &mut S, kind: TailKind, text: &[u8])
+    requires { list_all (is_tail_byte kind) text.now ≡ true }
+    ensures { S.takes sink.old (tail_bytes (tail_of kind text.now)) sink.new }
+{
+    match kind {
+        TailKind::PreRelease => {
+            sink.put(1);
+            put_release(sink, text);
+        }
+        TailKind::Nothing => sink.put(2),
+        TailKind::Release => {
+            sink.put(3);
+            put_release(sink, text);
+        }
+        TailKind::Sections => {
+            sink.put(4);
+            put_sections(sink, text);
+        }
+    }
+}
+
+// Writes an epoch, by its digits.
+#[inline(always)]
+fn put_epoch<S: Sink>(sink: &mut S, digits: &[u8])
+    requires { list_all is_ascii_digit digits.now ≡ true }
+    ensures { S.takes sink.old (number_bytes (digits_value 10 digits.now)) sink.new }
+{
+    if digits.is_empty() {
+        sink.put(0);
+    } else {
+        put_number(sink, digits);
+    }
+}
+
+// The epoch in a text, without its colon.
+#[inline(always)]
+fn epoch_at(text: &[u8], shape: Shape) -> &[u8]
+    requires { Fits text.now shape }
+    ensures { result.now ≡ epoch_in text.now shape }
+{
+    if shape.body == 0 {
+        return &[];
+    }
+    &text[..shape.body - 1]
+}
+
+// The body in a text.
+#[inline(always)]
+fn body_at(text: &[u8], shape: Shape) -> &[u8]
+    requires { Fits text.now shape }
+    ensures { result.now ≡ body_in text.now shape }
+{
+    &text[shape.body..shape.end]
+}
+
+// The tail in a text, without the byte before it.
+#[inline(always)]
+fn tail_at(text: &[u8], shape: Shape) -> &[u8]
+    requires { Fits text.now shape }
+    ensures { result.now ≡ tail_in text.now shape }
+{
+    if shape.end >= shape.tail_end {
+        return &[];
+    }
+    &text[shape.end + 1..shape.tail_end]
+}
+
+/// Writes the key of a version, by its text and its shape. Returns early once the sink is decided. Doesn't allocate.
+#[inline(always)]
+pub fn put_key<S: Sink>(sink: &mut S, text: &[u8], shape: Shape)
+    requires { Fits text.now shape }
+    ensures { S.takes sink.old (key_bytes (text_key text.now shape)) sink.new }
+{
+    put_epoch(sink, epoch_at(text, shape));
+    if sink.is_decided() {
+        return;
+    }
+    let Some(_) = put_list(sink, body_at(text, shape)) else {
+        return;
+    };
+    put_tail(sink, shape.tail, tail_at(text, shape));
+}

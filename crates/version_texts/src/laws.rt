@@ -1,0 +1,4 @@
+//! Laws of the definitions that contracts cite. Each is the contract of a function that does nothing.
+
+mod keys;
+mod kinds;

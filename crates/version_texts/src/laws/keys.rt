@@ -1,0 +1,18 @@
+//! Laws of shapes and keys: the shape of a version fits its text, and the key of the version is read off its text by
+//! its shape.
+
+ghost use Rattle.std.specs.Prelude.{◌≡◌, List, Some, ℕ};
+ghost use Rattle.version_texts.specs.Shape.{shape_at, Fits};
+ghost use Rattle.version_texts.specs.TextKey.{text_key};
+ghost use Rattle.versions.specs.Key.{key_of};
+ghost use Rattle.versions.specs.Kind.{versioning_kind};
+ghost use Rattle.versions.specs.Versioning.{versioning_of, PlainVersioning};
+
+/// The pieces that the shape of a version names lie in its text, and have only bytes of their kinds. The key of the
+/// version is the one that these pieces give.
+fn keys()
+    ensures fits { (text : List ℕ) (v : PlainVersioning) → versioning_of text ≡ Some v
+        → Fits text (shape_at (versioning_kind v) text) }
+    ensures key { (text : List ℕ) (v : PlainVersioning) → versioning_of text ≡ Some v
+        → key_of v ≡ text_key text (shape_at (versioning_kind v) text) }
+{}

@@ -1,0 +1,24 @@
+//! Versions and requirements borrowed from their texts. A version is its text and where its pieces lie in it: its kind,
+//! what its tail is, where the body begins and ends, where the tail ends. One scan tells these, and with the text they
+//! answer every question: the order, the key, and what a requirement matches. Only `to_owned` and `append_key` allocate.
+#![tactic(auto)]
+
+mod asked;
+mod class;
+mod key;
+mod laws;
+mod matching;
+mod order;
+mod requirement_ref;
+mod requirements_ref;
+mod scan;
+mod shape;
+mod sink;
+mod sinks;
+mod versioning_ref;
+
+pub use asked::{Asked, asks_for};
+pub use requirement_ref::RequirementRef;
+pub use requirements_ref::RequirementsRef;
+pub use sink::Sink;
+pub use versioning_ref::VersioningRef;

@@ -1,0 +1,101 @@
+//! What an operator asks of two versions, by their texts and shapes. Nothing here allocates.
+
+ghost use Rattle.std.specs.Prelude.{◌≡◌, ◌↔◌, IsTrue, Some};
+ghost use Rattle.std.specs.Ordering.{eq_by_cmp};
+ghost use Rattle.version_texts.specs.Matching.{epoch_and_parts_of};
+ghost use Rattle.version_texts.specs.Shape.{body_in, shape_of, Fits};
+ghost use Rattle.version_texts.specs.TextKey.{text_key};
+ghost use Rattle.versions.specs.Matching.{MatchesCaret, MatchesTilde};
+ghost use Rattle.versions.specs.VersionMatch.{MatchesCaret as PartsCaret, MatchesTilde as PartsTilde};
+ghost use Rattle.versions.specs.Versioning.{versioning_of, versioning_plain_cmp, PlainVersioning};
+
+mod parts;
+
+use crate::matching::parts::{numbers_match_caret, parts_match_caret, parts_match_tilde};
+use crate::order::compare_epochs;
+use crate::shape::Shape;
+use versions::Kind;
+
+/// Returns whether `~wanted` matches a version: by the rule of strict versions if both are strict, by that of general
+/// ones if both are general, else never.
+#[tactic(auto, using(crate::proofs::ShapesMatch::kinds))]
+pub fn matches_tilde(wanted: &[u8], wanted_shape: Shape, text: &[u8], shape: Shape) -> bool
+    requires wanted_is { shape_of wanted.now ≡ Some wanted_shape }
+    requires text_is { shape_of text.now ≡ Some shape }
+    ensures { (w v : PlainVersioning) → versioning_of wanted.now ≡ Some w
+        → versioning_of text.now ≡ Some v → (IsTrue result ↔ MatchesTilde w v) }
+{
+    match (wanted_shape.kind, shape.kind) {
+        (Kind::Ideal, Kind::Ideal) => {
+            parts_match_tilde(body(wanted, wanted_shape), body(text, shape))
+        }
+        (Kind::General, Kind::General) => general_match_tilde(wanted, wanted_shape, text, shape),
+        _ => false,
+    }
+}
+
+/// Returns whether `^wanted` matches a version: by the rule of strict versions if both are strict, by that of general
+/// ones if both are general, else never.
+#[tactic(auto, using(crate::proofs::ShapesMatch::kinds))]
+pub fn matches_caret(wanted: &[u8], wanted_shape: Shape, text: &[u8], shape: Shape) -> bool
+    requires wanted_is { shape_of wanted.now ≡ Some wanted_shape }
+    requires text_is { shape_of text.now ≡ Some shape }
+    ensures { (w v : PlainVersioning) → versioning_of wanted.now ≡ Some w
+        → versioning_of text.now ≡ Some v → (IsTrue result ↔ MatchesCaret w v) }
+{
+    match (wanted_shape.kind, shape.kind) {
+        (Kind::Ideal, Kind::Ideal) => {
+            numbers_match_caret(body(wanted, wanted_shape), body(text, shape))
+        }
+        (Kind::General, Kind::General) => general_match_caret(wanted, wanted_shape, text, shape),
+        _ => false,
+    }
+}
+
+/// Returns whether two versions are the same, except for metadata of strict ones.
+#[tactic(auto, using(crate::proofs::ShapesMatch::kinds))]
+pub fn is_same(wanted: &[u8], wanted_shape: Shape, text: &[u8], shape: Shape) -> bool
+    requires wanted_is { shape_of wanted.now ≡ Some wanted_shape }
+    requires text_is { shape_of text.now ≡ Some shape }
+    ensures { (w v : PlainVersioning) → versioning_of wanted.now ≡ Some w
+        → versioning_of text.now ≡ Some v → (IsTrue result
+        ↔ IsTrue (eq_by_cmp versioning_plain_cmp v w)) }
+{
+    match (wanted_shape.kind, shape.kind) {
+        (Kind::Ideal, Kind::Ideal) => wanted[..wanted_shape.tail_end] == text[..shape.tail_end],
+        (Kind::General, Kind::General) => wanted == text,
+        (Kind::Complex, Kind::Complex) => wanted == text,
+        _ => false,
+    }
+}
+
+// Whether `~wanted` matches by epochs and parts.
+fn general_match_tilde(wanted: &[u8], wanted_shape: Shape, text: &[u8], shape: Shape) -> bool
+    requires wanted_fits { Fits wanted.now wanted_shape }
+    requires text_fits { Fits text.now shape }
+    ensures { IsTrue result ↔ PartsTilde (epoch_and_parts_of (text_key wanted.now wanted_shape))
+        (epoch_and_parts_of (text_key text.now shape)) }
+{
+    compare_epochs(wanted, wanted_shape, text, shape).is_eq()
+        && parts_match_tilde(body(wanted, wanted_shape), body(text, shape))
+}
+
+// Whether `^wanted` matches by epochs and parts.
+fn general_match_caret(wanted: &[u8], wanted_shape: Shape, text: &[u8], shape: Shape) -> bool
+    requires wanted_fits { Fits wanted.now wanted_shape }
+    requires text_fits { Fits text.now shape }
+    ensures { IsTrue result ↔ PartsCaret (epoch_and_parts_of (text_key wanted.now wanted_shape))
+        (epoch_and_parts_of (text_key text.now shape)) }
+{
+    compare_epochs(wanted, wanted_shape, text, shape).is_eq()
+        && parts_match_caret(body(wanted, wanted_shape), body(text, shape))
+}
+
+// The body of a version.
+#[inline(always)]
+fn body(text: &[u8], shape: Shape) -> &[u8]
+    requires { Fits text.now shape }
+    ensures { result.now ≡ body_in text.now shape }
+{
+    &text[shape.body..shape.end]
+}

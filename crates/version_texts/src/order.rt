@@ -1,0 +1,108 @@
+//! The order of versions, read off their texts up to the first difference. Nothing here allocates.
+
+ghost use Rattle.std.specs.Prelude.{◌≡◌, ◌<◌, List, ℕ};
+ghost use Rattle.std.specs.Ordering.{nat_cmp};
+ghost use Rattle.std.specs.Str.Parse.{digits_value};
+ghost use Rattle.versions.specs.Key.{precedence};
+ghost use Rattle.versions.specs.Tail.{tail_cmp, tail_rank};
+ghost use Rattle.version_texts.specs.Shape.{Fits, epoch_in, tail_in};
+ghost use Rattle.version_texts.specs.TextKey.{tail_of, text_key};
+
+mod digits;
+pub(crate) mod list;
+pub(crate) mod part;
+pub(crate) mod piece;
+mod release;
+mod section;
+
+use crate::order::digits::compare_digits;
+use crate::order::list::compare_parts;
+use crate::order::release::compare_releases;
+use crate::order::section::compare_sections;
+use crate::shape::{Shape, TailKind};
+use std::cmp::Ordering;
+
+/// Compares two versions by their texts, part by part, up to the first difference.
+pub fn compare(a: &[u8], a_shape: Shape, b: &[u8], b_shape: Shape) -> Ordering
+    requires a_fits { Fits a.now a_shape }
+    requires b_fits { Fits b.now b_shape }
+    ensures { result ≡ precedence (text_key a.now a_shape) (text_key b.now b_shape) }
+{
+    let epochs = compare_epochs(a, a_shape, b, b_shape);
+    if epochs != Ordering::Equal {
+        return epochs;
+    }
+    let bodies = compare_parts(&a[a_shape.body..a_shape.end], &b[b_shape.body..b_shape.end]);
+    if bodies != Ordering::Equal {
+        return bodies;
+    }
+    compare_tails(a, a_shape, b, b_shape)
+}
+
+// Compares two epochs. An absent one is 0.
+#[inline(always)]
+pub(crate) fn compare_epochs(a: &[u8], a_shape: Shape, b: &[u8], b_shape: Shape) -> Ordering
+    requires a_fits { Fits a.now a_shape }
+    requires b_fits { Fits b.now b_shape }
+    ensures { result
+        ≡ nat_cmp (digits_value 10 (epoch_in a.now a_shape))
+        (digits_value 10 (epoch_in b.now b_shape)) }
+{
+    if a_shape.body == 0 && b_shape.body == 0 {
+        return Ordering::Equal;
+    }
+    compare_digits(epoch(a, a_shape), epoch(b, b_shape))
+}
+
+// The digits of an epoch. None if there is no epoch.
+#[inline(always)]
+fn epoch(text: &[u8], shape: Shape) -> &[u8]
+    requires { Fits text.now shape }
+    ensures { result.now ≡ epoch_in text.now shape }
+{
+    &text[..shape.body.saturating_sub(1)]
+}
+
+// Compares two tails, by their ranks and then by what they hold.
+#[inline(always)]
+fn compare_tails(a: &[u8], a_shape: Shape, b: &[u8], b_shape: Shape) -> Ordering
+    requires a_fits { Fits a.now a_shape }
+    requires b_fits { Fits b.now b_shape }
+    ensures { result
+        ≡ tail_cmp (tail_of a_shape.tail (tail_in a.now a_shape))
+        (tail_of b_shape.tail (tail_in b.now b_shape)) }
+{
+    match (a_shape.tail, b_shape.tail) {
+        (TailKind::Nothing, TailKind::Nothing) => Ordering::Equal,
+        (TailKind::PreRelease, TailKind::PreRelease) | (TailKind::Release, TailKind::Release) => {
+            compare_releases(tail(a, a_shape), tail(b, b_shape))
+        }
+        (TailKind::Sections, TailKind::Sections) => {
+            compare_sections(tail(a, a_shape), tail(b, b_shape))
+        }
+        (kind, other) => rank(kind).cmp(&rank(other)),
+    }
+}
+
+// The place of a tail in the order of tails.
+#[inline(always)]
+fn rank(kind: TailKind) -> u8
+    ensures { (text : List ℕ) → result ≡ tail_rank (tail_of kind text) }
+{
+    match kind {
+        TailKind::PreRelease => 1,
+        TailKind::Nothing => 2,
+        TailKind::Release => 3,
+        TailKind::Sections => 4,
+    }
+}
+
+// The text of a tail.
+#[inline(always)]
+fn tail(text: &[u8], shape: Shape) -> &[u8]
+    requires fits { Fits text.now shape }
+    requires some { shape.end < shape.tail_end }
+    ensures { result.now ≡ tail_in text.now shape }
+{
+    &text[shape.end + 1..shape.tail_end]
+}

@@ -1,0 +1,51 @@
+//! The pieces of a text between its dots.
+
+ghost use Rattle.std.specs.Prelude.{◌≡◌, ◌==◌, ◌≤◌, ◌∷◌, [], ℕ, length, IfNone, IfSome};
+ghost use Rattle.std.specs.List.{position_or_len};
+ghost use Rattle.version_texts.specs.Piece.{behind_piece, first_piece, is_dot};
+
+// Whether a text is empty or begins with a dot.
+#[inline(always)]
+pub(crate) fn piece_is_empty(text: &[u8]) -> bool
+    ensures { result ≡ (length (first_piece text.now) == 0) }
+{
+    match text {
+        [first, ..] => *first == b'.',
+        [] => true,
+    }
+}
+
+// The first piece of a text, and what follows it.
+#[inline(always)]
+pub(crate) fn split_piece(text: &[u8]) -> (&[u8], &[u8])
+    ensures piece { result.0.now ≡ first_piece text.now }
+    ensures rest { result.1.now ≡ behind_piece text.now }
+{
+    text.split_at(first_dot(text))
+}
+
+// The place of the first dot of a text, or the length of a text without dots.
+#[inline(always)]
+fn first_dot(text: &[u8]) -> usize
+    ensures place { result ≡ position_or_len is_dot text.now }
+    ensures within { result ≤ length text.now }
+{
+    for (place, byte) in text.iter().enumerate() {
+        if *byte == b'.' {
+            return place;
+        }
+    }
+    text.len()
+}
+
+// What follows the first byte of a text, or None if the text is empty.
+#[inline(always)]
+pub(crate) fn behind_first(text: &[u8]) -> Option<&[u8]>
+    ensures some { IfSome result (λ more. (b : ℕ) × (text.now ≡ b ∷ more.now)) }
+    ensures none { IfNone result (text.now ≡ []) }
+{
+    match text {
+        [_, more @ ..] => Some(more),
+        [] => None,
+    }
+}

@@ -1,0 +1,167 @@
+//! Lists of requirements that are borrowed from their texts.
+
+ghost use Rattle.std.specs.Prelude.{◌≡◌, ◌==◌, ◌<◌, ◌≤◌, ◌↔◌, IfSome, IsTrue, length};
+ghost use Rattle.std.specs.List.{position_or_len};
+ghost use Rattle.std.specs.Option.{is_some, option_map, IsSomeAnd};
+ghost use Rattle.version_texts.specs.RequirementsRef.{from_second};
+ghost use Rattle.version_texts.specs.VersioningRef.{plain_versioning_ref};
+ghost use Rattle.versions.specs.Matching.{MatchesAll};
+ghost use Rattle.versions.specs.Requirement.{requirement_of};
+ghost use Rattle.versions.specs.Requirements.{comma, requirements_of};
+ghost use Rattle.versions.specs.RequirementsRef.{before_others, members_of, AreMembers, Keeps};
+ghost use Rattle.versions.specs.Versioning.{versioning_of};
+
+use crate::requirement_ref::RequirementRef;
+use crate::versioning_ref::VersioningRef;
+use std::marker::Model;
+
+/// A list of requirements borrowed from its text: a `Requirements` that owns nothing. No call allocates. The first two
+/// members are parsed once, and each further member again for each version.
+#[derive(Drop)]
+pub struct RequirementsRef<'a> {
+    first: RequirementRef<'a>,
+    second: Option<RequirementRef<'a>>,
+    // The text of the further members, after the second comma.
+    others: Option<&'a [u8]>,
+}
+
+impl<'a> Model for RequirementsRef<'a> {
+    ghost use Rattle.std.specs.Prelude.{List};
+    ghost use Rattle.version_texts.specs.RequirementsRef.{scanned_requirements};
+    ghost use Rattle.versions.specs.Requirement.{PlainRequirement};
+    ghost use Rattle.versions.specs.RequirementsRef.{AreMembers};
+
+    ghost Value = { List PlainRequirement };
+
+    ghost view = { λ list. scanned_requirements list.first list.second list.others };
+
+    ghost invariant = { λ list. AreMembers list.others };
+}
+
+impl<'a> RequirementsRef<'a> {
+    /// Parses the whole text as a list; returns None if it does not parse. A list is one requirement or more with
+    /// single commas between. So neither the empty text nor an empty member parses. Doesn't allocate.
+    pub fn new(s: &'a str) -> Option<RequirementsRef<'a>>
+        ensures { result ≡ requirements_of s.now }
+    {
+        RequirementsRef::from_bytes(s.as_bytes())
+    }
+
+    /// Parses bytes as `new` parses their text; returns None if they do not parse. Bytes that are not UTF-8 are not a
+    /// list. Doesn't allocate.
+    pub fn from_bytes(bytes: &'a [u8]) -> Option<RequirementsRef<'a>>
+        ensures { result ≡ requirements_of bytes.now }
+    {
+        let (first, others) = split_first(bytes);
+        let first = RequirementRef::from_bytes(first)?;
+        let Some(others) = others else {
+            return Some(RequirementsRef {
+                first,
+                second: None,
+                others: None,
+            });
+        };
+        let (second, others) = split_first(others);
+        let second = RequirementRef::from_bytes(second)?;
+        if !are_members(others) {
+            return None;
+        }
+        Some(RequirementsRef {
+            first,
+            second: Some(second),
+            others,
+        })
+    }
+
+    /// Returns whether each member matches the version. The members are tried in turn, up to the first that doesn't
+    /// match. Doesn't allocate.
+    pub fn matches(&self, version: &VersioningRef<'_>) -> bool
+        ensures { IsTrue result ↔ MatchesAll self.now (plain_versioning_ref version.now) }
+    {
+        self.first.matches(version) && second_and_others_ask(&self.second, self.others, version)
+    }
+
+    /// Returns whether the bytes parse as a version that each member matches. Doesn't allocate.
+    pub fn keeps(&self, text: &[u8]) -> bool
+        ensures { IsTrue result ↔ Keeps self.now (versioning_of text.now) }
+    {
+        match VersioningRef::from_bytes(text) {
+            Some(version) => self.matches(&version),
+            None => false,
+        }
+    }
+}
+
+// Returns the text before the first comma, and the text after it, if there is one.
+fn split_first(list: &[u8]) -> (&[u8], Option<&[u8]>)
+    ensures members { requirements_of list.now
+        ≡ before_others (requirement_of result.0.now) (members_of result.1) }
+    ensures shorter { IfSome result.1 (λ others. length others.now < length list.now) }
+{
+    let end = first_comma(list);
+    if end == list.len() {
+        return (list, None);
+    }
+    (&list[..end], Some(&list[end + 1..]))
+}
+
+// The place of the first comma of a text, or the length of a text without commas.
+fn first_comma(text: &[u8]) -> usize
+    ensures place { result ≡ position_or_len (λ b. b == comma) text.now }
+    ensures within { result ≤ length text.now }
+{
+    for (place, byte) in text.iter().enumerate() {
+        if *byte == b',' {
+            return place;
+        }
+    }
+    text.len()
+}
+
+// Returns whether the text parses as members. True without a text.
+fn are_members(mut members: Option<&[u8]>) -> bool
+    ensures { result ≡ is_some (members_of members.entry) }
+{
+    while let Some(list) = members {
+        let (first, others) = split_first(list);
+        if RequirementRef::from_bytes(first).is_none() {
+            return false;
+        }
+        members = others;
+    }
+    true
+}
+
+// Returns whether the second member, if there is one, and each further member match the version.
+fn second_and_others_ask(
+    second: &Option<RequirementRef<'_>>,
+    others: Option<&[u8]>,
+    version: &VersioningRef<'_>,
+) -> bool
+    requires { AreMembers others }
+    ensures { IsTrue result ↔ MatchesAll (from_second second.now others.entry)
+        (plain_versioning_ref version.now) }
+{
+    match second {
+        Some(second) => second.matches(version) && each_asks_for(others, version),
+        None => true,
+    }
+}
+
+// Returns whether each member of the text matches the version.
+fn each_asks_for(mut members: Option<&[u8]>, version: &VersioningRef<'_>) -> bool
+    ensures { IsTrue result ↔ IsSomeAnd (members_of members.entry)
+        (λ list. MatchesAll list (plain_versioning_ref version.now)) }
+{
+    while let Some(list) = members {
+        let (first, others) = split_first(list);
+        let Some(first) = RequirementRef::from_bytes(first) else {
+            return false;
+        };
+        if !first.matches(version) {
+            return false;
+        }
+        members = others;
+    }
+    true
+}

@@ -1,0 +1,331 @@
+//! One scan of a text, for the three kinds.
+
+ghost use Rattle.std.specs.Prelude.{◌≡◌, ◌==◌, ◌+◌, ◌<◌, ◌≤◌, ◌^◌, ◌&&◌, drop, false, if◌then◌else◌, is_some, length, nat_lt, true, IfNone, IfSome};
+ghost use Rattle.std.specs.Char.{is_ascii_alphanumeric, is_ascii_digit};
+ghost use Rattle.std.specs.List.{list_all, prefix_len, take_while};
+ghost use Rattle.std.specs.Option.{option_map};
+ghost use Rattle.std.specs.Str.Parse.{digits_value};
+ghost use Rattle.version_parts.specs.Class.{HasDigits};
+ghost use Rattle.version_parts.specs.DigitRun.{is_digits};
+ghost use Rattle.version_parts.specs.Front.{begins};
+ghost use Rattle.version_texts.specs.Class.{contains};
+ghost use Rattle.version_texts.specs.Shape.{behind_body, body_end, body_start, is_section_byte, shape_at, shape_of};
+ghost use Rattle.version_texts.specs.TextKey.{pieces};
+ghost use Rattle.version_texts.specs.TextKind.{are_marked_runs, body_of, epoch_is_numeral, has_three_numbers, is_chunk, is_general, is_metadata_tail, is_not_plus, is_numeral, is_released, is_run, is_tail, kind_in, section_end, section_pieces};
+
+use crate::class::{Class, run_end};
+use crate::shape::{Shape, TailKind};
+use versions::Kind;
+
+/// Scans a text once, and returns its shape, or None if it is not a version of any kind. Takes time linear in the text.
+/// Doesn't allocate.
+#[inline(always)]
+pub fn scan(text: &[u8]) -> Option<Shape>
+    ensures { result ≡ shape_of text.now }
+{
+    let first = scan_section(text, 0)?;
+    let epoch = (first.count == 1) & first.digits & begins_at(text, first.end, b':');
+    if epoch {
+        return scan_behind_epoch(text, first.end + 1, first.chunks);
+    }
+    let three_numbers = (first.count == 3) & first.digits;
+    finish(text, 0, first.end, first.chunks, three_numbers)
+}
+
+// Scans a text behind its epoch, which may be a numeral.
+#[inline(never)]
+fn scan_behind_epoch(text: &[u8], body: usize, numeral: bool) -> Option<Shape>
+    requires body { body ≡ body_start text.now }
+    requires some { 0 < body }
+    requires within { body ≤ length text.now }
+    requires numeral { numeral ≡ is_numeral (take_while is_ascii_digit text.now) }
+    ensures { result ≡ option_map (λ k. shape_at k text.now) (kind_in text.now) }
+{
+    let section = scan_section(text, body)?;
+    finish(text, body, section.end, numeral & section.chunks, false)
+}
+
+// Returns the shape of a text, by what is known of its body.
+#[inline(always)]
+fn finish(text: &[u8], body: usize, end: usize, chunks: bool, three_numbers: bool) -> Option<Shape>
+    requires body { body ≡ body_start text.now }
+    requires end { end ≡ body_end text.now }
+    requires within { end ≤ length text.now }
+    requires runs { list_all (is_run is_ascii_alphanumeric) (pieces (body_of text.now)) ≡ true }
+    requires chunks { chunks ≡ (epoch_is_numeral text.now
+        && list_all (is_chunk is_ascii_alphanumeric) (pieces (body_of text.now))) }
+    requires three_numbers { three_numbers ≡ has_three_numbers text.now }
+    ensures { result ≡ option_map (λ k. shape_at k text.now) (kind_in text.now) }
+{
+    if !chunks {
+        return scan_messy(text, body, end);
+    }
+    match scan_tail(text, end) {
+        Some(tail_end) => Some(spelled_shape(text, body, end, tail_end, three_numbers)),
+        None => scan_messy(text, body, end),
+    }
+}
+
+// Returns the shape of a text that is messy or no version.
+#[inline(always)]
+fn scan_messy(text: &[u8], body: usize, end: usize) -> Option<Shape>
+    requires body { body ≡ body_start text.now }
+    requires end { end ≡ body_end text.now }
+    requires within { end ≤ length text.now }
+    requires runs { list_all (is_run is_ascii_alphanumeric) (pieces (body_of text.now)) ≡ true }
+    requires not_general { is_general text.now ≡ false }
+    ensures { result ≡ option_map (λ k. shape_at k text.now) (kind_in text.now) }
+{
+    if !are_marked_runs(text, end) {
+        return None;
+    }
+    let tail = if end == text.len() {
+        TailKind::Nothing
+    } else {
+        TailKind::Sections
+    };
+    Some(Shape {
+        kind: Kind::Complex,
+        tail,
+        body,
+        end,
+        tail_end: text.len(),
+    })
+}
+
+// Returns the shape of a strict or general version.
+#[inline(always)]
+fn spelled_shape(text: &[u8], body: usize, end: usize, tail_end: usize, strict: bool) -> Shape
+    requires body { body ≡ body_start text.now }
+    requires end { end ≡ body_end text.now }
+    requires tail_end { tail_end ≡ end + prefix_len is_not_plus (behind_body text.now) }
+    ensures { result ≡ shape_at (if strict then Kind.Ideal else Kind.General) text.now }
+{
+    let (kind, released) = if strict {
+        (Kind::Ideal, TailKind::PreRelease)
+    } else {
+        (Kind::General, TailKind::Release)
+    };
+    let tail = if begins_at(text, end, b'-') {
+        released
+    } else {
+        TailKind::Nothing
+    };
+    Shape {
+        kind,
+        tail,
+        body,
+        end,
+        tail_end,
+    }
+}
+
+// Returns whether a byte stands at a place.
+#[inline(always)]
+fn begins_at(text: &[u8], place: usize, byte: u8) -> bool
+    ensures { result ≡ begins (λ b. b == byte) (drop place text.now) }
+{
+    place < text.len() && text[place] == byte
+}
+
+// Runs of letters and digits with dots between: where they end, how many they are, whether each is all digits, and
+// whether each is a chunk.
+#[derive(Clone, Copy)]
+struct Section {
+    end: usize,
+    count: usize,
+    digits: bool,
+    chunks: bool,
+}
+
+// Scans the letters, digits and dots from a place on. Returns None if a run between the dots is empty.
+#[inline(always)]
+fn scan_section(text: &[u8], start: usize) -> Option<Section>
+    requires { start ≤ length text.now }
+    ensures end { IfSome result (λ s. s.end ≡ section_end text.now start) }
+    ensures count { IfSome result (λ s. s.count ≡ length (section_pieces text.now start)) }
+    ensures digits { IfSome result (λ s. s.digits
+        ≡ list_all is_digits (section_pieces text.now start)) }
+    ensures chunks { IfSome result (λ s. s.chunks
+        ≡ list_all (is_chunk is_ascii_alphanumeric) (section_pieces text.now start)) }
+    ensures runs { is_some result
+        ≡ list_all (is_run is_ascii_alphanumeric) (section_pieces text.now start) }
+{
+    let mut section = Section {
+        end: start,
+        count: 0,
+        digits: true,
+        chunks: true,
+    };
+    'parts: loop {
+        let run = scan_run(text, section.end, Class::Alphanumeric)?;
+        section = Section {
+            end: run.end,
+            count: section.count + 1,
+            digits: section.digits & run.digits,
+            chunks: section.chunks & run.chunk,
+        };
+        if !begins_at(text, section.end, b'.') {
+            return Some(section);
+        }
+        section.end += 1;
+    }
+}
+
+// A run of a class: where it ends, whether it is all digits, and whether it is a chunk.
+#[derive(Clone, Copy)]
+struct Run {
+    end: usize,
+    digits: bool,
+    chunk: bool,
+}
+
+// Scans the run of a class at a place. Returns None if it is empty.
+#[inline(always)]
+fn scan_run(text: &[u8], start: usize, class: Class) -> Option<Run>
+    requires within { start ≤ length text.now }
+    requires class { HasDigits (contains class) }
+    ensures end { IfSome result (λ run. run.end
+        ≡ start + prefix_len (contains class) (drop start text.now)) }
+    ensures digits { IfSome result (λ run. run.digits
+        ≡ is_digits (take_while (contains class) (drop start text.now))) }
+    ensures chunk { IfSome result (λ run. run.chunk
+        ≡ is_chunk (contains class) (take_while (contains class) (drop start text.now))) }
+    ensures some { IfSome result (λ run. start < run.end) }
+    ensures within { IfSome result (λ run. run.end ≤ length text.now) }
+    ensures none { IfNone result (prefix_len (contains class) (drop start text.now) ≡ 0) }
+{
+    let digits_end = run_end(text, start, Class::Digit);
+    let end = run_end(text, digits_end, class);
+    if end == start {
+        return None;
+    }
+    if digits_end < end {
+        return Some(Run {
+            end,
+            digits: false,
+            chunk: true,
+        });
+    }
+    Some(Run {
+        end,
+        digits: true,
+        chunk: is_numeral(&text[start..end]),
+    })
+}
+
+// Returns whether digits are a numeral.
+#[inline(always)]
+fn is_numeral(digits: &[u8]) -> bool
+    requires { is_digits digits.now ≡ true }
+    ensures { result ≡ is_numeral digits.now }
+{
+    digits.len() == 1 || (digits[0] != b'0' && is_below_limit(digits))
+}
+
+// Returns whether the value of digits is below 2 ^ 32. That of nine digits is.
+#[inline(always)]
+fn is_below_limit(digits: &[u8]) -> bool
+    requires { is_digits digits.now ≡ true }
+    ensures { result ≡ nat_lt (digits_value 10 digits.now) (2 ^ 32) }
+{
+    digits.len() < 10 || value_fits(digits)
+}
+
+// The same for digits of any length. Few have the ten digits that need this call, so it isn't inlined.
+#[inline(never)]
+fn value_fits(digits: &[u8]) -> bool
+    requires { is_digits digits.now ≡ true }
+    ensures { result ≡ nat_lt (digits_value 10 digits.now) (2 ^ 32) }
+{
+    let mut value: u64 = 0;
+    for digit in digits {
+        value = value * 10 + u64::from(*digit - b'0');
+        if value >= 0x1_0000_0000 {
+            return false;
+        }
+    }
+    true
+}
+
+// Scans what follows the body of a strict or general version: perhaps a hyphen and a release, then perhaps a plus and
+// metadata. Returns where the release ends, or None if something else follows.
+#[inline(always)]
+fn scan_tail(text: &[u8], end: usize) -> Option<usize>
+    requires { end ≤ length text.now }
+    ensures end { IfSome result (λ tail_end. tail_end
+        ≡ end + prefix_len is_not_plus (drop end text.now)) }
+    ensures whole { is_some result ≡ is_tail (drop end text.now) }
+{
+    if begins_at(text, end, b'-') {
+        return scan_release(text, end + 1);
+    }
+    if is_metadata_tail(text, end) {
+        Some(end)
+    } else {
+        None
+    }
+}
+
+// Scans a release and perhaps a plus and metadata. Returns where the release ends, or None if something else stands
+// there.
+#[inline(always)]
+fn scan_release(text: &[u8], start: usize) -> Option<usize>
+    requires { start ≤ length text.now }
+    ensures end { IfSome result (λ end. end
+        ≡ start + prefix_len is_not_plus (drop start text.now)) }
+    ensures whole { is_some result ≡ is_released (drop start text.now) }
+{
+    let mut place = start;
+    'chunks: loop {
+        let run = scan_run(text, place, Class::Identifier)?;
+        if !run.chunk {
+            return None;
+        }
+        if !begins_at(text, run.end, b'.') {
+            if is_metadata_tail(text, run.end) {
+                return Some(run.end);
+            }
+            return None;
+        }
+        place = run.end + 1;
+    }
+}
+
+// Returns whether nothing follows a place, or a plus and metadata.
+#[inline(always)]
+fn is_metadata_tail(text: &[u8], start: usize) -> bool
+    requires { start ≤ length text.now }
+    ensures { result ≡ is_metadata_tail (drop start text.now) }
+{
+    if start == text.len() {
+        return true;
+    }
+    if text[start] != b'+' {
+        return false;
+    }
+    if start + 1 == text.len() {
+        return false;
+    }
+    run_end(text, start + 1, Class::Metadata) == text.len()
+}
+
+// Returns whether only runs of letters and digits follow a place, each behind a dot or a sign.
+#[inline(always)]
+fn are_marked_runs(text: &[u8], start: usize) -> bool
+    requires { start ≤ length text.now }
+    ensures { result ≡ are_marked_runs (drop start text.now) }
+{
+    let mut place = start;
+    'runs: while place < text.len() {
+        if !Class::Mark.contains(text[place]) {
+            return false;
+        }
+        let end = run_end(text, place + 1, Class::Alphanumeric);
+        if end == place + 1 {
+            return false;
+        }
+        place = end;
+    }
+    true
+}

@@ -1,0 +1,32 @@
+//! Where the pieces of a version lie in its text.
+
+use versions::Kind;
+
+/// What follows the body of a version in the order, by its rank there.
+#[derive(Clone, Copy, Debug, PartialEq, Eq)]
+pub enum TailKind {
+    /// The pre-release of a strict version.
+    PreRelease,
+    /// Nothing.
+    Nothing,
+    /// The release of a general version.
+    Release,
+    /// Further sections of a messy version.
+    Sections,
+}
+
+/// The kind of a version, what its tail is, and where its pieces lie in its text, as counts of bytes from the start.
+/// With the text this is all of a version.
+#[derive(Clone, Copy)]
+pub struct Shape {
+    /// The kind.
+    pub kind: Kind,
+    /// What follows the body.
+    pub tail: TailKind,
+    /// Where the body begins: behind the epoch and its colon, if there is one.
+    pub body: usize,
+    /// Where the body ends.
+    pub end: usize,
+    /// Where the release, or the last section, ends. Metadata follows it.
+    pub tail_end: usize,
+}

@@ -1,0 +1,33 @@
+//! Sinks: what the bytes of a key are written into.
+
+ghost use Rattle.std.specs.Prelude.{◌≡◌, ◌∷◌, ◌++◌, ◌^◌, ◌+◌, ◌-◌, [], List, ℕ, IsTrue, length};
+
+/// Where bytes are written, one after another.
+pub trait Sink {
+    // The second sink is the first after the bytes.
+    ghost takes: { Self → List ℕ → Self → Type 0 };
+
+    /// Writes a byte.
+    fn put(&mut self, byte: u8)
+        ensures { takes self.old (byte ∷ []) self.new };
+
+    /// Returns whether no further byte changes the sink.
+    fn is_decided(&self) -> bool
+        ensures { IsTrue result → (bytes : List ℕ) → takes self.now bytes self.now };
+
+    // No bytes leave a sink as it is. Bytes after bytes are one list.
+    ghost takes_none: { (sink : Self) → takes sink [] sink };
+
+    ghost takes_both: { (first middle last : Self) (xs ys : List ℕ) → takes first xs middle
+        → takes middle ys last → takes first (xs ++ ys) last };
+}
+
+/// Writes bytes.
+#[inline(always)]
+pub fn put_all<S: Sink>(sink: &mut S, bytes: &[u8])
+    ensures { S.takes sink.old bytes.now sink.new }
+{
+    for byte in bytes {
+        sink.put(*byte);
+    }
+}

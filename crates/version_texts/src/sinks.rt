@@ -1,0 +1,285 @@
+//! Sinks: a count of bytes, a buffer with room, a comparison with given bytes, and a list that grows.
+
+ghost use Rattle.std.specs.Prelude.{◌≡◌, ◌∷◌, ◌++◌, ◌+◌, [], List, ℕ, IsTrue, OnErr, OnOk, length};
+ghost use Rattle.version_parts.specs.Lists.{bytes_cmp, GrowsWithin};
+ghost use Rattle.versions.specs.KeyBytes.{key_bytes};
+ghost use Rattle.version_texts.specs.Shape.{Fits};
+ghost use Rattle.version_texts.specs.Sinks.{between_with, count_with, is_between, leads_both, leads_none, list_both, list_none, order_with, put_at, room_both, room_none, room_with, saturated, Leads, LeadsList, LeadsRoom};
+ghost use Rattle.version_texts.specs.TextKey.{text_key};
+
+use crate::key::put_key;
+use crate::shape::Shape;
+use crate::sink::Sink;
+use std::alloc::AllocError;
+use std::cmp::Ordering;
+
+/// A count of bytes. Past the largest number it stays there.
+#[derive(Drop)]
+pub(crate) struct Count {
+    length: usize,
+}
+
+impl Sink for Count {
+    ghost takes = { Leads count_with };
+
+    #[inline(always)]
+    fn put(&mut self, _byte: u8) {
+        self.length = self.length.saturating_add(1);
+    }
+
+    #[inline(always)]
+    fn is_decided(&self) -> bool {
+        false
+    }
+
+    ghost takes_none = { leads_none count_with };
+
+    ghost takes_both = { leads_both count_with };
+}
+
+impl Count {
+    // The count.
+    #[inline(always)]
+    fn length(&self) -> usize
+        ensures { result ≡ count_with self.now [] }
+    {
+        self.length
+    }
+}
+
+/// A buffer and the place after the bytes written. Bytes that don't fit are only counted.
+#[derive(Drop)]
+pub(crate) struct Room<'a> {
+    room: &'a mut [u8],
+    end: usize,
+}
+
+impl<'a> Sink for Room<'a> {
+    ghost takes = { LeadsRoom };
+
+    #[inline(always)]
+    fn put(&mut self, byte: u8) {
+        if self.end >= self.room.len() {
+            self.end = self.end.saturating_add(1);
+            return;
+        }
+        self.room[self.end] = byte;
+        self.end += 1;
+    }
+
+    #[inline(always)]
+    fn is_decided(&self) -> bool {
+        false
+    }
+
+    ghost takes_none = { room_none };
+
+    ghost takes_both = { room_both };
+}
+
+impl<'a> Room<'a> {
+    // The place after the bytes written.
+    #[inline(always)]
+    fn end(&self) -> usize
+        ensures { result ≡ saturated self.now.end }
+    {
+        self.end
+    }
+}
+
+/// A comparison of the bytes written with given ones, of which these are left, as far as no byte differed.
+#[derive(Drop)]
+pub(crate) struct Beside<'a> {
+    left: &'a [u8],
+    order: Ordering,
+}
+
+impl<'a> Sink for Beside<'a> {
+    ghost takes = { Leads order_with };
+
+    #[inline(always)]
+    fn put(&mut self, byte: u8) {
+        if self.order != Ordering::Equal {
+            return;
+        }
+        match self.left.split_first() {
+            Some((first, rest)) => {
+                self.order = byte.cmp(first);
+                self.left = rest;
+            }
+            None => self.order = Ordering::Greater,
+        }
+    }
+
+    #[inline(always)]
+    fn is_decided(&self) -> bool {
+        self.order != Ordering::Equal
+    }
+
+    ghost takes_none = { leads_none order_with };
+
+    ghost takes_both = { leads_both order_with };
+}
+
+impl<'a> Beside<'a> {
+    // How all bytes written compare with the given ones.
+    #[inline(always)]
+    fn order(&self) -> Ordering
+        ensures { result ≡ order_with self.now [] }
+    {
+        if self.order != Ordering::Equal {
+            return self.order;
+        }
+        if self.left.is_empty() {
+            Ordering::Equal
+        } else {
+            Ordering::Less
+        }
+    }
+}
+
+/// A list that grows. After a refused request it takes no more bytes.
+#[derive(Drop)]
+pub(crate) struct Growing<'a> {
+    list: &'a mut Vec<u8>,
+    refused: bool,
+}
+
+impl<'a> Sink for Growing<'a> {
+    ghost takes = { LeadsList };
+
+    #[inline(always)]
+    fn put(&mut self, byte: u8) {
+        if self.refused {
+            return;
+        }
+        if self.list.push(byte).is_err() {
+            self.refused = true;
+        }
+    }
+
+    #[inline(always)]
+    fn is_decided(&self) -> bool {
+        self.refused
+    }
+
+    ghost takes_none = { list_none };
+
+    ghost takes_both = { list_both };
+}
+
+/// Two comparisons of the bytes written, with a low and a high bound.
+#[derive(Drop)]
+pub(crate) struct Between<'a> {
+    low: Beside<'a>,
+    high: Beside<'a>,
+}
+
+impl<'a> Sink for Between<'a> {
+    ghost takes = { Leads between_with };
+
+    #[inline(always)]
+    fn put(&mut self, byte: u8) {
+        self.low.put(byte);
+        self.high.put(byte);
+    }
+
+    #[inline(always)]
+    fn is_decided(&self) -> bool {
+        match (self.low.order, self.high.order) {
+            (Ordering::Less, _) | (_, Ordering::Greater) => true,
+            (low, high) => low != Ordering::Equal && high != Ordering::Equal,
+        }
+    }
+
+    ghost takes_none = { leads_none between_with };
+
+    ghost takes_both = { leads_both between_with };
+}
+
+impl<'a> Between<'a> {
+    // Whether all bytes written are at least the low bound and below the high one.
+    #[inline(always)]
+    fn is_between(&self) -> bool
+        ensures { result ≡ between_with self.now [] }
+    {
+        self.low.order() != Ordering::Less && self.high.order() == Ordering::Less
+    }
+}
+
+/// Returns how many bytes the key of a version has. Doesn't allocate.
+pub fn key_length(text: &[u8], shape: Shape) -> usize
+    requires { Fits text.now shape }
+    ensures { result ≡ saturated (length (key_bytes (text_key text.now shape))) }
+{
+    let mut count = Count { length: 0 };
+    put_key(&mut count, text, shape);
+    count.length()
+}
+
+/// Writes the key of a version into a buffer from a place on, as far as it fits, and returns the place after it.
+/// Doesn't allocate.
+#[inline(always)]
+pub fn write_key(text: &[u8], shape: Shape, room: &mut [u8], start: usize) -> usize
+    requires { Fits text.now shape }
+    ensures bytes { room.new ≡ put_at room.old start (key_bytes (text_key text.now shape)) }
+    ensures end { result ≡ saturated (start + length (key_bytes (text_key text.now shape))) }
+{
+    let mut sink = Room { room, end: start };
+    put_key(&mut sink, text, shape);
+    sink.end()
+}
+
+/// Compares the key of a version with given bytes, as far as they are the same and one byte further. Doesn't allocate.
+#[inline(always)]
+pub fn compare_key(text: &[u8], shape: Shape, bytes: &[u8]) -> Ordering
+    requires { Fits text.now shape }
+    ensures { result ≡ bytes_cmp (key_bytes (text_key text.now shape)) bytes.now }
+{
+    let mut sink = Beside {
+        left: bytes,
+        order: Ordering::Equal,
+    };
+    put_key(&mut sink, text, shape);
+    sink.order()
+}
+
+/// Returns whether the key of a version is at least the low bound and below the high one. Doesn't allocate.
+#[inline(always)]
+pub fn key_between(text: &[u8], shape: Shape, low: &[u8], high: &[u8]) -> bool
+    requires { Fits text.now shape }
+    ensures { result ≡ is_between (bytes_cmp (key_bytes (text_key text.now shape)) low.now)
+        (bytes_cmp (key_bytes (text_key text.now shape)) high.now) }
+{
+    let mut sink = Between {
+        low: Beside {
+            left: low,
+            order: Ordering::Equal,
+        },
+        high: Beside {
+            left: high,
+            order: Ordering::Equal,
+        },
+    };
+    put_key(&mut sink, text, shape);
+    sink.is_between()
+}
+
+/// Appends the key of a version to a list. `Err` means allocation failure; the list then ends with a prefix of the key.
+pub fn append_key(text: &[u8], shape: Shape, list: &mut Vec<u8>) -> Result<(), AllocError>
+    requires { Fits text.now shape }
+    ensures ok { OnOk result (list.new.items
+        ≡ list.old.items ++ key_bytes (text_key text.now shape)) }
+    ensures err { OnErr result (GrowsWithin list.old.items list.new.items
+        (key_bytes (text_key text.now shape))) }
+{
+    let mut sink = Growing {
+        list,
+        refused: false,
+    };
+    put_key(&mut sink, text, shape);
+    if sink.refused {
+        return Err(AllocError);
+    }
+    Ok(())
+}

@@ -1,0 +1,306 @@
+//! Versions of any kind, borrowed from their texts.
+
+ghost use Rattle.std.specs.Prelude.{◌≡◌, Some};
+ghost use Rattle.version_texts.specs.Shape.{shape_of};
+
+use crate::asked::Asked;
+use crate::scan::scan;
+use crate::shape::{Shape, TailKind};
+use crate::sink::Sink;
+use crate::{key, matching, order, sinks};
+use std::alloc::{AllocError, Global};
+use std::cmp::Ordering;
+use std::fmt;
+use versions::key::KeyBytes;
+use versions::{Kind, Versioning};
+
+/// A version of the first kind that fits its text, borrowed from that text: a `Versioning` that owns nothing. It
+/// compares and prints as that `Versioning` does, and has the same numbers. Only `to_owned` and `append_key` allocate.
+/// Each call takes time at most linear in the text.
+#[derive(Clone, Copy)]
+pub struct VersioningRef<'a> {
+    text: &'a [u8],
+    shape: Shape,
+    ghost read: { shape_of text.now ≡ Some shape },
+}
+
+impl<'a> VersioningRef<'a> {
+    ghost use Rattle.std.specs.Prelude.{◌+◌, ◌++◌, length, IfOk, OnErr, OnOk};
+    ghost use Rattle.std.specs.Option.{option_map};
+    ghost use Rattle.version_parts.specs.Lists.{bytes_cmp, GrowsWithin};
+    ghost use Rattle.versions.specs.Key.{key_of, precedence};
+    ghost use Rattle.versions.specs.KeyBytes.{key_bytes};
+    ghost use Rattle.versions.specs.Kind.{versioning_kind};
+    ghost use Rattle.versions.specs.Versioning.{is_prerelease, plain_versioning, versioning_epoch, versioning_nth, versioning_of, versioning_plain_cmp, VersioningOwns};
+    ghost use Rattle.versions.specs.VersioningRef.{plain_versioning_ref as plain_read};
+    ghost use Rattle.version_texts.specs.Sinks.{is_between, put_at, saturated};
+    ghost use Rattle.version_texts.specs.VersioningRef.{plain_versioning_ref};
+
+    /// Parses the whole text as a strict version, else as a general, else as a messy one; returns None if it does not
+    /// parse. Doesn't allocate.
+    #[inline(always)]
+    pub fn new(s: &'a str) -> Option<VersioningRef<'a>>
+        ensures { option_map plain_versioning_ref result ≡ versioning_of s.now }
+    {
+        VersioningRef::from_bytes(s.as_bytes())
+    }
+
+    /// Parses bytes as `new` parses their text; returns None if they do not parse. Bytes that are not UTF-8 are not a
+    /// version. Doesn't allocate.
+    #[inline(always)]
+    pub fn from_bytes(bytes: &'a [u8]) -> Option<VersioningRef<'a>>
+        ensures { option_map plain_versioning_ref result ≡ versioning_of bytes.now }
+    {
+        let shape = scan(bytes)?;
+        Some(VersioningRef { text: bytes, shape })
+    }
+
+    /// Returns its kind. Doesn't allocate.
+    #[inline(always)]
+    pub fn kind(&self) -> Kind
+        ensures { result ≡ versioning_kind (plain_versioning_ref self.now) }
+    {
+        self.shape.kind
+    }
+
+    /// Returns whether it is a strict version with a pre-release, such as `1.2.0-rc.1` (SemVer 2.0, section 9). False
+    /// for every general or messy version: their texts don't say which of them are pre-releases. Doesn't allocate.
+    #[inline(always)]
+    pub fn is_prerelease(&self) -> bool
+        ensures { result ≡ is_prerelease (plain_versioning_ref self.now) }
+    {
+        matches!(self.shape.tail, TailKind::PreRelease)
+    }
+
+    // Reads its fields.
+    fn read(&self) -> versions::VersioningRef<'a>
+        ensures { plain_read result ≡ plain_versioning_ref self.now }
+    {
+        versions::VersioningRef::from_bytes(self.text).unwrap()
+    }
+
+    /// Returns the number at a place, counted from 0, or None if no number is there. Of a strict version the places are
+    /// major, minor and patch; of a general one the chunks, and after them the first number of the last part; of a
+    /// messy one the chunks of the first section that no colon follows. Doesn't allocate.
+    pub fn nth(&self, n: usize) -> Option<u32>
+        ensures { result ≡ versioning_nth (plain_versioning_ref self.now) n }
+    {
+        self.read().nth(n)
+    }
+
+    /// Returns the epoch of a general version: the number before its colon. None for a general version without an
+    /// epoch, and for every strict or messy version. Doesn't allocate.
+    pub fn epoch(&self) -> Option<u32>
+        ensures { result ≡ versioning_epoch (plain_versioning_ref self.now) }
+    {
+        self.read().epoch()
+    }
+
+    /// Compares two versions of any kind by their keys: the order of all versions (docs/ORDER.md). `Ord` breaks its
+    /// ties. Doesn't allocate.
+    pub fn precedence(&self, other: &VersioningRef<'_>) -> Ordering
+        ensures { result ≡ precedence (key_of (plain_versioning_ref self.now))
+            (key_of (plain_versioning_ref other.now)) }
+    {
+        order::compare(self.text, self.shape, other.text, other.shape)
+    }
+
+    /// Appends the bytes of its key to a list. `Err` means allocation failure; the list then ends with a prefix of the
+    /// bytes.
+    pub fn append_key(&self, list: &mut Vec<u8>) -> Result<(), AllocError>
+        ensures ok { OnOk result (list.new.items
+            ≡ list.old.items ++ key_bytes (key_of (plain_versioning_ref self.now))) }
+        ensures err { OnErr result (GrowsWithin list.old.items list.new.items
+            (key_bytes (key_of (plain_versioning_ref self.now)))) }
+    {
+        sinks::append_key(self.text, self.shape, list)
+    }
+
+    /// Writes the bytes of its key into a sink. Returns early once the sink is decided. Doesn't allocate.
+    #[inline(always)]
+    pub fn put_key<S: Sink>(&self, sink: &mut S)
+        ensures { S.takes sink.old (key_bytes (key_of (plain_versioning_ref self.now))) sink.new }
+    {
+        key::put_key(sink, self.text, self.shape);
+    }
+
+    /// Writes the bytes of its key into a buffer from a place on, as far as they fit, and returns the place after them.
+    /// Doesn't allocate.
+    #[inline(always)]
+    pub fn write_key(&self, room: &mut [u8], start: usize) -> usize
+        ensures bytes { room.new ≡ put_at room.old start
+            (key_bytes (key_of (plain_versioning_ref self.now))) }
+        ensures end { result ≡ saturated (start
+            + length (key_bytes (key_of (plain_versioning_ref self.now)))) }
+    {
+        sinks::write_key(self.text, self.shape, room, start)
+    }
+
+    /// Returns how many bytes its key has. Doesn't allocate.
+    pub fn key_length(&self) -> usize
+        ensures { result ≡ saturated (length (key_bytes (key_of (plain_versioning_ref self.now)))) }
+    {
+        sinks::key_length(self.text, self.shape)
+    }
+
+    /// Compares the bytes of its key with given bytes, up to the first difference. Doesn't allocate.
+    #[inline(always)]
+    pub fn compare_key(&self, bytes: &[u8]) -> Ordering
+        ensures { result ≡ bytes_cmp (key_bytes (key_of (plain_versioning_ref self.now)))
+            bytes.now }
+    {
+        sinks::compare_key(self.text, self.shape, bytes)
+    }
+
+    /// Returns whether the bytes of its key are at least the low bound and below the high one. Doesn't allocate.
+    #[inline(always)]
+    pub fn has_key_between(&self, low: &[u8], high: &[u8]) -> bool
+        ensures { result
+            ≡ is_between (bytes_cmp (key_bytes (key_of (plain_versioning_ref self.now))) low.now)
+            (bytes_cmp (key_bytes (key_of (plain_versioning_ref self.now))) high.now) }
+    {
+        sinks::key_between(self.text, self.shape, low, high)
+    }
+
+    /// Compares two versions by kind, then field by field. `Ord` breaks ties of precedence by this. Doesn't allocate.
+    pub fn compare_plain(&self, other: &VersioningRef<'_>) -> Ordering
+        ensures { result ≡ versioning_plain_cmp (plain_versioning_ref self.now)
+            (plain_versioning_ref other.now) }
+    {
+        if self.text == other.text {
+            return Ordering::Equal;
+        }
+        self.read().compare_plain(&other.read())
+    }
+
+    /// Returns the bytes of its key, one after another. They compare as precedence does. Doesn't allocate.
+    pub fn key_bytes(&self) -> KeyBytes<'a>
+        ensures { result ≡ key_bytes (key_of (plain_versioning_ref self.now)) }
+    {
+        self.read().key_bytes()
+    }
+
+    /// Copies the version into a `Versioning` that outlives the text. Allocates nothing for three plain numbers, or for
+    /// one number with or without epoch. `Err` means allocation failure.
+    pub fn to_owned(&self, alloc: Global) -> Result<Versioning, AllocError>
+        ensures ok { IfOk result (λ v. plain_versioning v ≡ plain_versioning_ref self.now) }
+        ensures err { OnErr result (VersioningOwns (plain_versioning_ref self.now)) }
+    {
+        self.read().to_owned(alloc)
+    }
+}
+
+/// Writes the text that the version was parsed from, as its `Versioning` does.
+impl<'a> fmt::Display for VersioningRef<'a> {
+    ghost use Rattle.versions.specs.Versioning.{versioning_text};
+    ghost use Rattle.version_texts.specs.VersioningRef.{plain_versioning_ref};
+
+    ghost output = { λ v. Some (versioning_text (plain_versioning_ref v)) };
+
+    fn fmt<W: fmt::Write>(&self, f: &mut fmt::Formatter<W>) -> fmt::Result {
+        let version = self.read();
+        write!(f, "{version}")
+    }
+}
+
+/// Compares the kinds and every field, except metadata of strict versions. Doesn't allocate.
+impl<'a> PartialEq for VersioningRef<'a> {
+    ghost use Rattle.std.specs.Cmp.{eq_by_cmp_equiv, on_per, partial_equiv_from_equiv};
+    ghost use Rattle.std.specs.Ordering.{eq_by_cmp, on};
+    ghost use Rattle.versions.specs.Versioning.{versioning_plain_cmp};
+    ghost use Rattle.versions.specs.VersioningLaws.{versioning_plain_total};
+    ghost use Rattle.version_texts.specs.VersioningRef.{plain_versioning_ref};
+
+    ghost eq = { on plain_versioning_ref (eq_by_cmp versioning_plain_cmp) };
+
+    ghost laws = { on_per plain_versioning_ref
+        (partial_equiv_from_equiv (eq_by_cmp_equiv versioning_plain_total)) };
+
+    fn eq(&self, other: &VersioningRef<'a>) -> bool {
+        if self.shape.kind != other.shape.kind {
+            return false;
+        }
+        match self.shape.kind {
+            Kind::Ideal => {
+                self.text[..self.shape.tail_end] == other.text[..other.shape.tail_end]
+            }
+            _ => self.text == other.text,
+        }
+    }
+}
+
+impl<'a> Eq for VersioningRef<'a> {
+    ghost use Rattle.std.specs.Cmp.{eq_by_cmp_equiv, on_equiv};
+    ghost use Rattle.versions.specs.VersioningLaws.{versioning_plain_total};
+    ghost use Rattle.version_texts.specs.VersioningRef.{plain_versioning_ref};
+
+    ghost laws = { on_equiv plain_versioning_ref (eq_by_cmp_equiv versioning_plain_total) };
+}
+
+/// Compares by precedence. Breaks a tie by kind, strict before general before messy, then field by field, except
+/// metadata of strict versions. Doesn't allocate.
+impl<'a> Ord for VersioningRef<'a> {
+    ghost use Rattle.std.specs.Prelude.{refl};
+    ghost use Rattle.std.specs.Cmp.{on_total};
+    ghost use Rattle.std.specs.Ordering.{on};
+    ghost use Rattle.versions.specs.Orders.{versioning_cmp};
+    ghost use Rattle.versions.specs.OrdersLaws.{versioning_cmp_ties, versioning_cmp_total};
+    ghost use Rattle.version_texts.specs.VersioningRef.{plain_versioning_ref};
+
+    ghost cmp = { on plain_versioning_ref versioning_cmp };
+
+    ghost total = { on_total plain_versioning_ref versioning_cmp_total };
+
+    ghost matches_partial_cmp = { λ a b. refl };
+
+    ghost matches_eq = { λ a b. versioning_cmp_ties (plain_versioning_ref a)
+        (plain_versioning_ref b) };
+
+    fn cmp(&self, other: &VersioningRef<'a>) -> Ordering {
+        let keys = self.precedence(other);
+        match keys {
+            Ordering::Equal => self.compare_plain(other),
+            _ => keys,
+        }
+    }
+}
+
+impl<'a> PartialOrd for VersioningRef<'a> {
+    ghost use Rattle.std.specs.Cmp.{on_total, po};
+    ghost use Rattle.std.specs.Ordering.{as_partial_cmp, on};
+    ghost use Rattle.versions.specs.Orders.{versioning_cmp};
+    ghost use Rattle.versions.specs.OrdersLaws.{versioning_cmp_ties, versioning_cmp_total};
+    ghost use Rattle.version_texts.specs.VersioningRef.{plain_versioning_ref};
+
+    ghost partial_cmp = { as_partial_cmp (on plain_versioning_ref versioning_cmp) };
+
+    ghost laws = { po (on_total plain_versioning_ref versioning_cmp_total)
+        (λ a b. versioning_cmp_ties (plain_versioning_ref a) (plain_versioning_ref b)) };
+
+    fn partial_cmp(&self, other: &VersioningRef<'a>) -> Option<Ordering> {
+        Some(self.cmp(other))
+    }
+}
+
+/// The questions that the operators of requirements ask. No call allocates.
+impl<'a> Asked for VersioningRef<'a> {
+    ghost use Rattle.version_texts.specs.VersioningRef.{plain_versioning_ref};
+
+    ghost plain = { plain_versioning_ref };
+
+    fn is_same(&self, other: &VersioningRef<'a>) -> bool {
+        matching::is_same(other.text, other.shape, self.text, self.shape)
+    }
+
+    fn precedence(&self, other: &VersioningRef<'a>) -> Ordering {
+        order::compare(self.text, self.shape, other.text, other.shape)
+    }
+
+    fn matches_tilde(&self, version: &VersioningRef<'a>) -> bool {
+        matching::matches_tilde(self.text, self.shape, version.text, version.shape)
+    }
+
+    fn matches_caret(&self, version: &VersioningRef<'a>) -> bool {
+        matching::matches_caret(self.text, self.shape, version.text, version.shape)
+    }
+}
