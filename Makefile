@@ -17,13 +17,13 @@ sources = $(shell find $(addprefix crates/,$(1)) -name out -prune -o -type f -pr
 
 ifndef C_LIBRARY
 C_LIBRARY := c/out
-$(C_LIBRARY)/versions.pc: crates.txt c/build c/versions.c c/versions.h $(call sources,version_parts versions versions_c)
+$(C_LIBRARY)/versions.pc: crates.txt c/build c/versions.c c/versions.h $(call sources,version_parts versions version_texts versions_c)
 	c/build $(C_LIBRARY)
 endif
 
 ifndef VERS
 VERS := crates/vers/out/vers
-$(VERS): crates.txt $(call sources,version_parts versions version_lines vers)
+$(VERS): crates.txt $(call sources,version_parts versions version_texts version_lines vers)
 	cd crates/vers && rt run </dev/null
 	touch $(VERS)
 endif

@@ -2,7 +2,8 @@
 
 use std::test::Fail;
 use vectors_support::{any, holds, prints};
-use versions::{Op, Requirement, RequirementRef, Requirements, RequirementsRef, VersioningRef};
+use version_texts::{RequirementRef, RequirementsRef, VersioningRef};
+use versions::{Op, Requirement, Requirements};
 
 // A requirement or a list in each row, and then versions: it doesn't match those after a `!`.
 const TILDES_AND_CARETS: &str = "\

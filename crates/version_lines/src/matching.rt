@@ -5,7 +5,7 @@ ghost use Rattle.versions.specs.Versioning.{versioning_of};
 
 use crate::answer::Answer;
 use crate::lines::LineCommand;
-use versions::RequirementsRef;
+use version_texts::RequirementsRef;
 
 /// Keeps the lines whose versions the requirements match.
 #[derive(Drop)]

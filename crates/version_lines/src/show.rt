@@ -5,7 +5,8 @@ ghost use Rattle.versions.specs.Versioning.{versioning_of};
 
 use crate::answer::{Answer, Label};
 use crate::lines::LineCommand;
-use versions::VersioningRef;
+use version_texts::VersioningRef;
+use versions::Kind;
 
 /// Labels each line by its kind of version.
 #[derive(Clone, Copy)]
@@ -25,10 +26,12 @@ impl LineCommand for Show {
 fn answer_for(line: &[u8]) -> Answer
     ensures { result ≡ show_answer (versioning_of line.now) }
 {
-    match VersioningRef::from_bytes(line) {
-        Some(VersioningRef::Ideal(_)) => Answer::Labelled(Label::Ideal),
-        Some(VersioningRef::General(_)) => Answer::Labelled(Label::General),
-        Some(VersioningRef::Complex(_)) => Answer::Labelled(Label::Complex),
-        None => Answer::NoVersion,
+    let Some(version) = VersioningRef::from_bytes(line) else {
+        return Answer::NoVersion;
+    };
+    match version.kind() {
+        Kind::Ideal => Answer::Labelled(Label::Ideal),
+        Kind::General => Answer::Labelled(Label::General),
+        Kind::Complex => Answer::Labelled(Label::Complex),
     }
 }

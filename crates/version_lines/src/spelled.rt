@@ -4,11 +4,12 @@ ghost use Rattle.std.specs.Option.{option_map};
 ghost use Rattle.version_lines.specs.Spelled.{line_key, line_tie_breaker, line_tie_cmp};
 ghost use Rattle.versions.specs.Kind.{versioning_kind};
 ghost use Rattle.versions.specs.Versioning.{versioning_of};
-ghost use Rattle.versions.specs.VersioningRef.{plain_versioning_ref};
+ghost use Rattle.version_texts.specs.VersioningRef.{plain_versioning_ref};
 
 use std::alloc::AllocError;
 use std::cmp::Ordering;
-use versions::{Kind, VersioningRef};
+use version_texts::VersioningRef;
+use versions::Kind;
 
 /// Compares two lines with equal keys. Doesn't allocate.
 pub fn compare_ties(a: &[u8], b: &[u8]) -> Ordering

@@ -4,11 +4,11 @@ ghost use Rattle.version_lines.specs.Fault.{ComesOfRequirements, ComesOfWords};
 ghost use Rattle.version_lines.specs.Run.{unless_requirements, unless_version};
 ghost use Rattle.versions.specs.Requirements.{requirements_of};
 ghost use Rattle.versions.specs.Versioning.{versioning_of};
-ghost use Rattle.versions.specs.VersioningRef.{plain_versioning_ref};
+ghost use Rattle.version_texts.specs.VersioningRef.{plain_versioning_ref};
 
 use crate::faults::Fault;
 use std::alloc::Global;
-use versions::{RequirementsRef, VersioningRef};
+use version_texts::{RequirementsRef, VersioningRef};
 
 /// Parses a word as a version. Otherwise the fault holds a copy of the word.
 pub fn version_of_word(alloc: Global, word: &str) -> Result<VersioningRef<'_>, Fault>

@@ -1,9 +1,10 @@
 -- Bytes written into a buffer, byte by byte and list by list.
-use Rattle.std.proofs.Common.{◌≡◌, ◌∙◌, ◌+◌, ◌-◌, ◌<◌, ◌≤◌, ◌^◌, ℕ, zero, suc, Bool, true, false, List, [], ◌∷◌, ◌++◌, drop, take, get_or, length, nat_eq, set, Option, Some, None, IfSome, nat_le, if◌then◌else◌, refl, ap, sym, arith}
+use Rattle.std.proofs.Common.{◌≡◌, ◌∙◌, ◌+◌, ◌-◌, ◌<◌, ◌≤◌, ◌^◌, ℕ, zero, suc, Bool, true, false, List, [], ◌∷◌, ◌++◌, drop, get_or, length, nat_eq, set, Option, Some, None, IfSome, nat_le, if◌then◌else◌, refl, ap, sym, arith}
 use Rattle.std.proofs.lemmas.Bool.Decides.{nat_tests}
 use Rattle.std.proofs.lemmas.List.{append-nil, get_or-set_other, get_or-set_same, length-append}
 use Rattle.std.specs.Option.{unwrap_or}
-use Rattle.versions_c.specs.Keys.{keys_before, length_past, put_at, saturated, saturated_offset, spelled_key}
+use Rattle.version_texts.specs.Sinks.{put_at, saturated}
+use Rattle.versions_c.specs.Keys.{keys_before, length_past, saturated_offset, spelled_key}
 use Rattle.versions_c.specs.Offsets.{text_at}
 
 -- writing nothing changes nothing
@@ -17,14 +18,6 @@ pub put_past : (room : List ℕ) (start : ℕ) (bytes : List ℕ) → length roo
 put_past [] start bytes past = refl
 put_past (x ∷ room) zero bytes past = absurd (omega (arith, past))
 put_past (x ∷ room) (suc start) bytes past = ap (λ (l : List ℕ). x ∷ l) (put_past room start bytes (omega (arith, past)))
-
--- the first byte, and then the others
-pub put_first : (room : List ℕ) (start b : ℕ) (bytes : List ℕ) → start < length room → put_at (set room start b) (start + 1) bytes ≡ put_at room start (b ∷ bytes)
-put_first [] start b bytes fits = absurd (omega (arith, fits))
-put_first (x ∷ room) zero b bytes fits = refl
-put_first (x ∷ room) (suc start) b bytes fits =
-    let one_more : suc start + 1 ≡ suc (start + 1) = omega arith in
-    rw one_more (ap (λ (l : List ℕ). x ∷ l) (put_first room start b bytes (omega (arith, fits))))
 
 -- one list after another
 pub put_more : (room : List ℕ) (start : ℕ) (first more : List ℕ) → put_at (put_at room start first) (start + length first) more ≡ put_at room start (first ++ more)
@@ -43,12 +36,6 @@ put_fits [] [] fits = refl
 put_fits [] (b ∷ bytes) fits = absurd (omega (arith, fits))
 put_fits (x ∷ room) [] fits = refl
 put_fits (x ∷ room) (b ∷ bytes) fits = ap (λ (l : List ℕ). b ∷ l) (put_fits room bytes (omega (arith, fits)))
-
--- the same from a later place on
-pub put_within : (room : List ℕ) (start : ℕ) (bytes : List ℕ) → start + length bytes ≤ length room → take start room ++ (bytes ++ drop (length bytes) (drop start room)) ≡ put_at room start bytes
-put_within room zero bytes fits = sym (put_fits room bytes (omega (arith, fits)))
-put_within [] (suc start) bytes fits = absurd (omega (arith, fits))
-put_within (x ∷ room) (suc start) bytes fits = ap (λ (l : List ℕ). x ∷ l) (put_within room start bytes (omega (arith, fits)))
 
 pub length-put : (room : List ℕ) (start : ℕ) (bytes : List ℕ) → length (put_at room start bytes) ≡ length room
 length-put [] start bytes = refl

@@ -1,9 +1,10 @@
 -- Sort keys in the caller's buffer.
-use Rattle.std.specs.Prelude.{◌≡◌, ℕ, zero, suc, ◌+◌, ◌*◌, ◌-◌, ◌^◌, min, ℤ, nat_le, List, [], ◌∷◌, ◌++◌, length, Option, Some, None, if◌then◌else◌}
+use Rattle.std.specs.Prelude.{◌≡◌, ℕ, zero, suc, ◌+◌, ◌*◌, ◌-◌, ◌^◌, min, ℤ, nat_le, List, [], ◌++◌, length, Option, Some, None, if◌then◌else◌}
 use Rattle.std.specs.Option.{option_map, unwrap_or}
 use Rattle.versions.specs.Key.{key_of}
 use Rattle.versions.specs.KeyBytes.{key_bytes}
 use Rattle.versions.specs.Versioning.{versioning_of}
+use Rattle.version_texts.specs.Sinks.{saturated}
 use Rattle.versions_c.specs.Offsets.{AreOffsets, text_at}
 use Rattle.versions_c.specs.declared.status.TheConstants.{OK, NO_ROOM, NO_VERSION}
 
@@ -29,11 +30,7 @@ pub record AreKeyOffsets (offsets : List ℕ) (buffer key_offsets : ℕ) : Type 
 abbrev pub room_for : ℕ → ℕ
 room_for len = 3 * len + 5
 
--- a number, or the largest number of 64 bits if it is larger
-abbrev pub saturated : ℕ → ℕ
-saturated n = min n (2 ^ 64 - 1)
-
--- the same for a signed number
+-- a number, or the largest signed number of 64 bits if it is larger
 abbrev pub saturated_offset : ℕ → ℕ
 saturated_offset n = min n (2 ^ 63 - 1)
 
@@ -50,10 +47,3 @@ key_status (Some bytes) room = room_status bytes room
 abbrev pub length_past : Option (List ℕ) → ℕ → Option ℕ
 length_past None room = None
 length_past (Some bytes) room = if nat_le (length bytes) room then None else Some (saturated (length bytes))
-
--- bytes written into a buffer from a place on, as far as they fit
-abbrev pub put_at : List ℕ → ℕ → List ℕ → List ℕ
-put_at [] start bytes = []
-put_at (x ∷ room) (suc start) bytes = x ∷ put_at room start bytes
-put_at (x ∷ room) zero [] = x ∷ room
-put_at (x ∷ room) zero (b ∷ bytes) = b ∷ put_at room zero bytes

@@ -1,5 +1,5 @@
 -- How two texts compare.
-use Rattle.std.specs.Prelude.{Bool, true, false, ℤ, pos, negsuc, Option, Some, None}
+use Rattle.std.specs.Prelude.{Bool, true, false, ℤ, pos, negsuc}
 use Rattle.std.specs.declared.cmp.Ordering.{Ordering}
 use Rattle.std.specs.declared.cmp.Ordering.TheVariants.{Less, Equal, Greater}
 use Rattle.versions_c.specs.declared.status.TheConstants.{OK, NO_VERSION_A, NO_VERSION_B, NO_VERSION_AB}
@@ -9,11 +9,6 @@ abbrev pub sign : Ordering → ℤ
 sign Less = negsuc 0
 sign Equal = pos 0
 sign Greater = pos 1
-
--- how the values of two texts compare, if both texts have a value
-abbrev pub both : {X Y : Type 0} → (X → X → Y) → Option X → Option X → Option Y
-both compare (Some a) (Some b) = Some (compare a b)
-both compare _ _ = None
 
 -- the status for two texts, by whether each is a version
 abbrev pub pair_status : Bool → Bool → ℤ

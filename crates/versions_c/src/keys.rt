@@ -4,15 +4,13 @@ ghost use Rattle.std.specs.Prelude.{◌≡◌, ◌≢◌, ◌↔◌, ◌+◌, �
 ghost use Rattle.versions.specs.Key.{key_of};
 ghost use Rattle.versions.specs.KeyBytes.{key_bytes};
 ghost use Rattle.versions.specs.Versioning.{versioning_of, PlainVersioning};
-ghost use Rattle.versions.specs.VersioningRef.{plain_versioning_ref};
-ghost use Rattle.versions_c.specs.Keys.{all_keys, key_status, keys_before, length_past, put_at, room_for, room_status, saturated, saturated_offset, spelled_key, AreKeyOffsets};
+ghost use Rattle.version_texts.specs.Sinks.{put_at, saturated};
+ghost use Rattle.versions_c.specs.Keys.{all_keys, key_status, keys_before, length_past, room_for, room_status, saturated_offset, spelled_key, AreKeyOffsets};
 ghost use Rattle.versions_c.specs.Offsets.{AreOffsets};
 
 use crate::offsets::{are_offsets, text_at};
-use crate::spelled::key_of;
 use crate::status::{BAD_OFFSETS, NO_ROOM, NO_VERSION, OK};
-use versions::VersioningRef;
-use versions::key::{KeyBytes, NotShort, ShortKey};
+use version_texts::VersioningRef;
 
 // The largest offset that C has.
 const LARGEST: u64 = 0x7FFF_FFFF_FFFF_FFFF;
@@ -49,7 +47,7 @@ pub extern "C" fn versions_sort_key(text: &[u8], key: &mut [u8], key_len: &mut u
     let Some(version) = VersioningRef::from_bytes(text) else {
         return NO_VERSION;
     };
-    *key_len = put_key(key, 0, &version);
+    *key_len = version.write_key(key, 0);
     OK
 }
 
@@ -136,7 +134,7 @@ fn put_all(
     key_offsets[0] = 0;
     for place in 0..count {
         if let Some(version) = VersioningRef::from_bytes(text_at(texts, offsets, count, place)) {
-            end = put_key(keys, end, &version);
+            end = version.write_key(keys, end);
         }
         key_offsets[place + 1] = (end as u64).min(LARGEST);
     }
@@ -151,7 +149,7 @@ fn length_past(text: &[u8], room: usize) -> Option<usize>
     if is_enough(room, text.len()) {
         return None;
     }
-    let length = length_of(key_of(text)?);
+    let length = VersioningRef::from_bytes(text)?.key_length();
     if length <= room {
         return None;
     }
@@ -163,68 +161,4 @@ fn is_enough(room: usize, text_len: usize) -> bool
     ensures { IsTrue result ↔ (room_for text_len ≤ room) }
 {
     5 <= room && text_len <= (room - 5) / 3
-}
-
-// Returns how many bytes a key has.
-fn length_of(key: KeyBytes<'_>) -> usize
-    ensures { result ≡ saturated (length key.entry) }
-{
-    let mut length: usize = 0;
-    for _byte in key {
-        length = length.saturating_add(1);
-    }
-    length
-}
-
-// Writes the key of a version from a place on, as far as it fits, and returns the place after it.
-fn put_key(keys: &mut [u8], start: usize, version: &VersioningRef<'_>) -> usize
-    ensures bytes { keys.new ≡ put_at keys.old start
-        (key_bytes (key_of (plain_versioning_ref version.now))) }
-    ensures end { result ≡ saturated (start
-        + length (key_bytes (key_of (plain_versioning_ref version.now)))) }
-{
-    let mut key = ShortKey::new();
-    match version.put_key(&mut key) {
-        Ok(()) => put_bytes(keys, start, key.as_slice()),
-        Err(NotShort) => put(keys, start, version.key_bytes()),
-    }
-}
-
-// Writes bytes from a place on, as far as they fit, and returns the place after them.
-#[tactic(auto, using(crate::proofs::Putting::put_nothing, crate::proofs::Putting::put_past, crate::proofs::Putting::put_first))]
-fn put_bytes(keys: &mut [u8], start: usize, bytes: &[u8]) -> usize
-    ensures bytes { keys.new ≡ put_at keys.old start bytes.now }
-    ensures end { result ≡ saturated (start + length bytes.now) }
-{
-    if start <= keys.len() && bytes.len() <= keys.len() - start {
-        let end = start + bytes.len();
-        keys[start..end].copy_from_slice(bytes);
-        return end;
-    }
-    let mut end = start;
-    let mut rest = bytes;
-    while let Some((byte, behind)) = rest.split_first() {
-        if end < keys.len() {
-            keys[end] = *byte;
-        }
-        end = end.saturating_add(1);
-        rest = behind;
-    }
-    end
-}
-
-// Writes a key from a place on, as far as it fits, and returns the place after it.
-#[tactic(auto, using(crate::proofs::Putting::put_nothing, crate::proofs::Putting::put_past, crate::proofs::Putting::put_first))]
-fn put(keys: &mut [u8], start: usize, key: KeyBytes<'_>) -> usize
-    ensures bytes { keys.new ≡ put_at keys.old start key.entry }
-    ensures end { result ≡ saturated (start + length key.entry) }
-{
-    let mut end = start;
-    for byte in key {
-        if end < keys.len() {
-            keys[end] = byte;
-        }
-        end = end.saturating_add(1);
-    }
-    end
 }

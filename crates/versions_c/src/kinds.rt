@@ -8,7 +8,7 @@ ghost use Rattle.versions_c.specs.Offsets.{text_at, AreOffsets};
 use crate::offsets::{are_offsets, text_at};
 use crate::spelled::kind_of;
 use crate::status::{BAD_OFFSETS, NO_VERSION, OK};
-use versions::VersioningRef;
+use version_texts::VersioningRef;
 
 /// The kind of a text.
 #[unsafe(no_mangle)]

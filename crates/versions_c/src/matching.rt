@@ -8,7 +8,7 @@ ghost use Rattle.versions_c.specs.Offsets.{text_at, AreOffsets};
 
 use crate::offsets::{are_offsets, text_at};
 use crate::status::{BAD_OFFSETS, NO_REQUIREMENTS, NO_VERSION, OK};
-use versions::{RequirementsRef, VersioningRef};
+use version_texts::{RequirementsRef, VersioningRef};
 
 /// Writes whether a list matches a version.
 #[unsafe(no_mangle)]

@@ -5,7 +5,7 @@ ghost use Rattle.versions.specs.Versioning.{versioning_epoch, versioning_nth, ve
 ghost use Rattle.versions_c.specs.Numbers.{number_status};
 
 use crate::status::{NO_NUMBER, NO_VERSION, OK};
-use versions::VersioningRef;
+use version_texts::VersioningRef;
 
 /// Writes the number at a place of a version.
 #[unsafe(no_mangle)]

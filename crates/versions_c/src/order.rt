@@ -1,16 +1,14 @@
 //! How two versions compare.
 
 ghost use Rattle.std.specs.Prelude.{◌≡◌, ◌≢◌, IfSome, is_some};
-ghost use Rattle.std.specs.Ordering.{on};
 ghost use Rattle.versions.specs.Key.{key_of, precedence};
 ghost use Rattle.versions.specs.Orders.{versioning_cmp};
 ghost use Rattle.versions.specs.Versioning.{versioning_of};
-ghost use Rattle.versions_c.specs.Order.{both, pair_status, sign};
+ghost use Rattle.versions_c.specs.Order.{pair_status, sign};
 
-use crate::spelled::kind_of;
 use crate::status::{NO_VERSION_A, NO_VERSION_AB, NO_VERSION_B, OK};
 use std::cmp::Ordering;
-use versions::VersioningRef;
+use version_texts::VersioningRef;
 
 /// Writes how two versions compare by precedence.
 #[unsafe(no_mangle)]
@@ -22,12 +20,13 @@ pub extern "C" fn versions_compare(a: &[u8], b: &[u8], order: &mut i32) -> i32
         (λ w. order.new ≡ sign (precedence (key_of v) (key_of w)))) }
     ensures kept { result ≢ OK → order.new ≡ order.old }
 {
-    match precedence_of(a, b) {
-        Some(found) => {
-            *order = sign(found);
+    let (a, b) = (VersioningRef::from_bytes(a), VersioningRef::from_bytes(b));
+    match (a, b) {
+        (Some(a), Some(b)) => {
+            *order = sign(a.precedence(&b));
             OK
         }
-        None => pair_status(a, b),
+        _ => pair_status(a.is_some(), b.is_some()),
     }
 }
 
@@ -40,38 +39,21 @@ pub extern "C" fn versions_compare_total(a: &[u8], b: &[u8], order: &mut i32) ->
         (λ v. IfSome (versioning_of b.now) (λ w. order.new ≡ sign (versioning_cmp v w))) }
     ensures kept { result ≢ OK → order.new ≡ order.old }
 {
-    match total_order_of(a, b) {
-        Some(found) => {
-            *order = sign(found);
+    let (a, b) = (VersioningRef::from_bytes(a), VersioningRef::from_bytes(b));
+    match (a, b) {
+        (Some(a), Some(b)) => {
+            *order = sign(a.cmp(&b));
             OK
         }
-        None => pair_status(a, b),
+        _ => pair_status(a.is_some(), b.is_some()),
     }
 }
 
-// Compares two versions by precedence.
-fn precedence_of(a: &[u8], b: &[u8]) -> Option<Ordering>
-    ensures { result ≡ both (on key_of precedence) (versioning_of a.now) (versioning_of b.now) }
-{
-    let a = VersioningRef::from_bytes(a)?;
-    let b = VersioningRef::from_bytes(b)?;
-    Some(a.precedence(&b))
-}
-
-// Compares two versions by `Ord`.
-fn total_order_of(a: &[u8], b: &[u8]) -> Option<Ordering>
-    ensures { result ≡ both versioning_cmp (versioning_of a.now) (versioning_of b.now) }
-{
-    let a = VersioningRef::from_bytes(a)?;
-    let b = VersioningRef::from_bytes(b)?;
-    Some(a.cmp(&b))
-}
-
 // Returns the status for two texts, by whether each is a version.
-fn pair_status(a: &[u8], b: &[u8]) -> i32
-    ensures { result ≡ pair_status (is_some (versioning_of a.now)) (is_some (versioning_of b.now)) }
+fn pair_status(a: bool, b: bool) -> i32
+    ensures { result ≡ pair_status a b }
 {
-    match (kind_of(a) != 0, kind_of(b) != 0) {
+    match (a, b) {
         (true, true) => OK,
         (false, true) => NO_VERSION_A,
         (true, false) => NO_VERSION_B,

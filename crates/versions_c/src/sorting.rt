@@ -14,7 +14,7 @@ use crate::keys::put_keys;
 use crate::offsets::are_offsets;
 use crate::status::{BAD_OFFSETS, NO_ROOM, OK};
 use std::cmp::Ordering;
-use versions::VersioningRef;
+use version_texts::VersioningRef;
 
 /// Writes the places of all texts, sorted by their versions.
 #[unsafe(no_mangle)]

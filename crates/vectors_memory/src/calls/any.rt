@@ -3,7 +3,8 @@
 use crate::table::Table;
 use std::alloc::{AllocError, Global};
 use std::io;
-use versions::{Error, Versioning, VersioningRef};
+use version_texts::VersioningRef;
+use versions::{Error, Versioning};
 
 const IDEAL: &str = "1.2.3-rc.1+x86";
 

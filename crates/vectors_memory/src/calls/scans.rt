@@ -11,7 +11,7 @@ use version_parts::{
     BodyRef, Chunk, Chunks, Last, LastRef, MChunk, MessyChunk, Part, Release, ReleaseChunk,
     ReleaseRef, SectionRef,
 };
-use versions::VersioningRef;
+use version_texts::VersioningRef;
 use versions::key::KeyBytes;
 
 pub fn make_all(table: &mut Table<'_>) -> io::Result<()> {

@@ -3,8 +3,9 @@ use Rattle.std.proofs.lemmas.List.{length-set}
 use Rattle.std.specs.Option.{option_map}
 use Rattle.versions.specs.Key.{key_of}
 use Rattle.versions.specs.KeyBytes.{key_bytes}
-use Rattle.versions.specs.VersioningRef.{plain_versioning_ref}
-use Rattle.versions_c.specs.Keys.{keys_before, put_at, saturated}
+use Rattle.version_texts.specs.VersioningRef.{plain_versioning_ref}
+use Rattle.version_texts.specs.Sinks.{put_at, saturated}
+use Rattle.versions_c.specs.Keys.{keys_before}
 use Rattle.versions_c.proofs.Putting.{first_told, next_told, no_more_key, one_more_key, put_nothing}
 use Rattle.versions_c.proofs.keys.put_all.Goals as goal
 use Rattle.versions_c.proofs.keys.put_all.Goals.{in-Some, in_default}
@@ -25,7 +26,7 @@ loop-place-preserved c =
     let both : (c.match-from_bytes.end ≡ saturated (length (keys_before texts offsets (i + 1)))) × (c.match-from_bytes.keys ≡ put_at c.args.keys.now 0 (keys_before texts offsets (i + 1))) =
     elim c.match-from_bytes.branch [
       | in-Some w ↦ one_more_key texts offsets c.args.keys.now i c.text_at.result.now (key_bytes (key_of (plain_versioning_ref w.in-Some.version))) c.loop-place.keys c.match-from_bytes.keys c.loop-place.end c.match-from_bytes.end
-          (omega arith) c.text_at.ensures (ap (option_map (λ v. key_bytes (key_of v))) w.in-Some.ensures) before.ended before.written (w.end-is ∙ w.put_key-end.ensures.end) (w.keys-is ∙ w.put_key-end.ensures.bytes)
+          (omega arith) c.text_at.ensures (ap (option_map (λ v. key_bytes (key_of v))) w.in-Some.ensures) before.ended before.written (w.end-is ∙ w.write_key-end.ensures.end) (w.keys-is ∙ w.write_key-end.ensures.bytes)
       | in_default w ↦ no_more_key texts offsets c.args.keys.now i c.text_at.result.now c.match-from_bytes.keys c.match-from_bytes.end c.text_at.ensures (ap (option_map (λ v. key_bytes (key_of v))) w.in_default.ensures)
           (w.end-is ∙ before.ended) (w.keys-is ∙ before.written)
     ] in

@@ -1,5 +1,6 @@
 use Rattle.std.proofs.Common.{◌≡◌, ◌≤◌, ℕ, length, slice_index}
-use Rattle.versions_c.specs.Keys.{keys_before, put_at, saturated, saturated_offset}
+use Rattle.version_texts.specs.Sinks.{put_at, saturated}
+use Rattle.versions_c.specs.Keys.{keys_before, saturated_offset}
 use Rattle.versions_c.proofs.keys.put_all.Given as goal
 
 abbrev pub invariant-loop-place : goal.invariant-loop-place
