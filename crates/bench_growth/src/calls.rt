@@ -4,8 +4,8 @@ use std::hash::{DefaultHasher, Hash, Hasher};
 use std::io;
 use std::io::ErrorKind;
 use std::time::{CpuClock, Duration};
+use version_texts::VersioningRef;
 use versions::Versioning;
-use versions::key::{KeyBytes, compare_bytes};
 
 /// How many calls are timed.
 pub const COUNT: usize = 10;
@@ -34,12 +34,12 @@ pub fn times(rt: &HostRuntime, text: &str) -> io::Result<[Duration; COUNT]> {
     let printed = watch.lap(rt)?;
     let key = version.sort_key(rt.alloc())?;
     let keyed = watch.lap(rt)?;
-    let mut spelled = KeyBytes::spelled_by(text).ok_or(ErrorKind::InvalidInput)?;
-    let from_text = compare_bytes(&mut spelled, &mut key.iter().copied()).is_eq();
+    let spelled = VersioningRef::new(text).ok_or(ErrorKind::InvalidInput)?;
+    let from_text = spelled.compare_key(key.as_slice()).is_eq();
     let spelled_key = watch.lap(rt)?;
     let mut block = Vec::new(rt.alloc());
-    let spelled = KeyBytes::spelled_by(text).ok_or(ErrorKind::InvalidInput)?;
-    spelled.append_to(&mut block)?;
+    let spelled = VersioningRef::new(text).ok_or(ErrorKind::InvalidInput)?;
+    spelled.append_key(&mut block)?;
     let appended_key = watch.lap(rt)?;
     let copy = version.clone(rt.alloc())?;
     let cloned = watch.lap(rt)?;

@@ -9,7 +9,8 @@ use std::test::Fail;
 use vectors_support::{
     any, are_ordered, as_messy, bytes, hash_of, holds, key, kind_of, prints, repeated,
 };
-use versions::key::{KeyBytes, compare_bytes};
+use version_texts::VersioningRef;
+use versions::key::compare_bytes;
 use versions::{MChunk, Mess, Requirements, Versioning};
 
 #[test]
@@ -208,21 +209,30 @@ fn is_key(version: &Versioning, key: &[u8]) -> Result<(), Fail> {
     holds(answer.is_eq(), "the bytes of the key")
 }
 
-// The key bytes of a text, one after another and all at once, are those of its version's key.
+// The key off a text, one byte after another and all at once, is that of its version.
 fn spells_key(text: &str, version: &Versioning, list: &mut Vec<u8>) -> Result<(), Fail> {
-    let mut spelled = KeyBytes::spelled_by(text).ok_or("no key")?;
-    let answer = compare_bytes(&mut spelled, &mut version.key_bytes());
-    holds(answer.is_eq(), "the bytes of the text's key")?;
-    KeyBytes::spelled_by(text).ok_or("no key")?.append_to(list)?;
-    is_key(version, list.as_slice())
+    let spelled = VersioningRef::new(text).ok_or("no version")?;
+    spelled.append_key(list)?;
+    is_key(version, list.as_slice())?;
+    holds(
+        spelled.compare_key(list.as_slice()).is_eq(),
+        "the bytes of the text's key",
+    )?;
+    holds(
+        spelled.key_length() == list.len(),
+        "the length of the text's key",
+    )
 }
 
-// A text with a bad end is not a version, and has no key.
+// A text with a bad end is not a version, owned or borrowed.
 fn spells_none(rt: &impl AllocGlobal, mut text: String, end: &str) -> Result<(), Fail> {
     text.push_str(end)?;
     let version = Versioning::new(rt.alloc(), text.as_str())?;
     holds(version.is_none(), "a version")?;
-    holds(KeyBytes::spelled_by(text.as_str()).is_none(), "a key")
+    holds(
+        VersioningRef::new(text.as_str()).is_none(),
+        "a borrowed version",
+    )
 }
 
 // Fails if the key of a version begins with other bytes.

@@ -5,7 +5,8 @@ use std::alloc::AllocError;
 use std::hash::Hash;
 use std::test::Fail;
 use vectors_support::{answered, are_apart, columns, hash_of, prints, shown};
-use versions::{Op, Requirement, RequirementRef, Requirements, RequirementsRef};
+use version_texts::{RequirementRef, RequirementsRef};
+use versions::{Op, Requirement, Requirements};
 
 const READ: &str =
     r#"Requirement::new|=1.2.3.4|Some(Requirement { op: Exact, version: Some(General(Version { epoch: None, chunks: Chunks([Numeric(1), Numeric(2), Numeric(3)]), last: Numeric(4), release: None, meta: None })) })

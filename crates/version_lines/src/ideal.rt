@@ -4,7 +4,8 @@ ghost use Rattle.versions.specs.SemVer.{semver_of};
 
 use crate::answer::{Answer, Label};
 use crate::lines::LineCommand;
-use versions::SemVerRef;
+use version_texts::VersioningRef;
+use versions::Kind;
 
 /// Labels the lines that are strict versions.
 #[derive(Clone, Copy)]
@@ -28,5 +29,8 @@ impl LineCommand for Ideal {
 pub fn is_strict(line: &[u8]) -> bool
     ensures { result ≡ is_some (semver_of line.now) }
 {
-    SemVerRef::from_bytes(line).is_some()
+    match VersioningRef::from_bytes(line) {
+        Some(version) => matches!(version.kind(), Kind::Ideal),
+        None => false,
+    }
 }

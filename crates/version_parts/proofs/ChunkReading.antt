@@ -3,7 +3,7 @@ use Rattle.std.proofs.Common.{◌≡◌, ◌==◌, ℕ, Bool, true, false, List,
 use Rattle.std.proofs.lemmas.Bool.{cases_Bool}
 use Rattle.std.proofs.lemmas.List.{drop_at, take-append-drop, take_at}
 use Rattle.std.specs.Char.{is_ascii_alphanumeric, is_ascii_digit}
-use Rattle.std.specs.Cmp.{first_so, nat_eq_equiv, second_so}
+use Rattle.std.specs.Cmp.{nat_eq_equiv}
 use Rattle.std.specs.List.{join_with_byte, list_all, prefix_len, take_while}
 use Rattle.version_parts.specs.Bytes.{dot, is_identifier_byte, is_metadata_byte}
 use Rattle.version_parts.specs.Chunk.{PlainChunk, Numeric, Alphanum, SpellsChunk, SpellsChunkOf, SpellsPart, chunk_front, chunk_front_of, chunk_text, part_front}
@@ -15,21 +15,14 @@ use Rattle.version_parts.specs.Reading.{EndsList, EndsRun, IsComplete, IsPrinted
 use Rattle.version_parts.specs.Release.{SpellsRelease, release_text}
 use Rattle.version_parts.proofs.Dotted.{behind-Some, cases_Option, dotted_complete, dotted_sound}
 use Rattle.version_parts.proofs.NumeralReading.{numeral_printed, unsigned_complete, unsigned_sound}
-use Rattle.version_parts.proofs.RunFronts.{list_all-take_while, prefix_len-append, reads_run, run_front-reads}
-
--- the tests of the two kinds of run pass digits
-digit_identifier : (b : ℕ) → is_ascii_digit b ≡ true → is_identifier_byte b ≡ true
-digit_identifier b h = rw h refl
+use Rattle.version_parts.proofs.RunFronts.{all_weaker, list_all-take_while, prefix_len-append, reads_run, run_front-reads}
+use Rattle.version_parts.proofs.ShortRuns.{digits_identify}
 
 pub digit_alphanumeric : (b : ℕ) → is_ascii_digit b ≡ true → is_ascii_alphanumeric b ≡ true
 digit_alphanumeric b h = rw h refl
 
 -- chunks whose runs are of bytes that pass a test, which digits pass
 module _ (test : ℕ → Bool) (digits_pass : (b : ℕ) → is_ascii_digit b ≡ true → test b ≡ true) where
-  pub all_pass : (text : List ℕ) → list_all is_ascii_digit text ≡ true → list_all test text ≡ true
-  all_pass [] h = refl
-  all_pass (b ∷ text) h = rw (digits_pass b (first_so _ _ h)) (all_pass text (second_so _ _ h))
-
   ends_numeral : (rest : List ℕ) → EndsRun test rest → EndsRun is_ascii_digit rest
   ends_numeral [] e = refl
   ends_numeral (b ∷ rest) e = elim (cases_Bool (is_ascii_digit b)) [
@@ -75,7 +68,7 @@ module _ (test : ℕ → Bool) (digits_pass : (b : ℕ) → is_ascii_digit b ≡
 
   pub chunk_complete_of : IsComplete (SpellsChunkOf test) (EndsRun test) (chunk_front_of test)
   chunk_complete_of piece (Numeric n) rest s ends =
-      let run = whole_run piece rest (all_pass piece s.digits) ends in
+      let run = whole_run piece rest (all_weaker is_ascii_digit test digits_pass piece s.digits) ends in
       let digits : list_all is_ascii_digit (take_while test (piece ++ rest)) ≡ true = rw run.0 s.digits in
       rw (chunk-digits (piece ++ rest) digits, unsigned_complete piece n rest s (ends_numeral rest ends)) refl
   chunk_complete_of piece (Alphanum text) rest s ends =
@@ -89,13 +82,13 @@ module _ (test : ℕ → Bool) (digits_pass : (b : ℕ) → is_ascii_digit b ≡
   chunk_printed_of text (Alphanum run) s = sym s.0
 
 pub chunk_sound : IsSound SpellsChunk chunk_front
-chunk_sound = chunk_sound_of is_identifier_byte digit_identifier
+chunk_sound = chunk_sound_of is_identifier_byte digits_identify
 
 pub chunk_complete : IsComplete SpellsChunk (EndsRun is_identifier_byte) chunk_front
-chunk_complete = chunk_complete_of is_identifier_byte digit_identifier
+chunk_complete = chunk_complete_of is_identifier_byte digits_identify
 
 pub chunk_printed : IsPrinted SpellsChunk chunk_text
-chunk_printed = chunk_printed_of is_identifier_byte digit_identifier
+chunk_printed = chunk_printed_of is_identifier_byte digits_identify
 
 pub part_sound : IsSound SpellsPart part_front
 part_sound = chunk_sound_of is_ascii_alphanumeric digit_alphanumeric

@@ -7,19 +7,11 @@ use Rattle.std.proofs.lemmas.List.{append-nil, drop_all, drop_at, take_all, take
 use Rattle.std.specs.Char.{is_ascii_digit}
 use Rattle.std.specs.Cmp.{first_so, second_so}
 use Rattle.std.specs.Fmt.{decimal}
-use Rattle.std.specs.List.{list_all, list_any, position_or_len, prefix_len}
+use Rattle.std.specs.List.{list_all, list_any, position_or_len}
 use Rattle.std.specs.Str.Parse.{digits_value}
 use Rattle.version_parts.specs.DigitRun.{is_digits, number_front, starts_with_digit}
 use Rattle.version_parts.specs.Split.{split_of}
-
--- a run ends if what follows it doesn't begin with a digit
-digits_end : (digits rest : List ℕ) → list_all is_ascii_digit digits ≡ true → starts_with_digit rest ≡ false
-    → prefix_len is_ascii_digit (digits ++ rest) ≡ length digits
-digits_end [] [] all ends = refl
-digits_end [] (b ∷ rest) all ends = rw ends refl
-digits_end (b ∷ digits) rest all ends =
-    rw (first_so (is_ascii_digit b) (list_all is_ascii_digit digits) all, digits_end digits rest (second_so (is_ascii_digit b) (list_all is_ascii_digit digits) all) ends)
-    (omega arith)
+use Rattle.version_parts.proofs.RunFronts.{prefix_len-append}
 
 begins : (digits rest : List ℕ) → starts_with_digit digits ≡ true → starts_with_digit (digits ++ rest) ≡ true
 begins [] rest e = cc e
@@ -30,7 +22,7 @@ pub number_front-digits : (digits rest : List ℕ) → is_digits digits ≡ true
 number_front-digits digits rest run ends =
     let first = first_so (starts_with_digit digits) (list_all is_ascii_digit digits) run in
     let all = second_so (starts_with_digit digits) (list_all is_ascii_digit digits) run in
-    rw (begins digits rest first, digits_end digits rest all ends, take_at digits rest (length digits) refl, drop_at digits rest (length digits) refl) refl
+    rw (begins digits rest first, prefix_len-append is_ascii_digit digits rest all ends, take_at digits rest (length digits) refl, drop_at digits rest (length digits) refl) refl
 
 pub number_front-none : (text : List ℕ) → starts_with_digit text ≡ false → number_front text ≡ None
 number_front-none text e = rw e refl

@@ -1,6 +1,5 @@
 -- How a scan goes over a dotted list: what it has read so far, and what is left.
 use Rattle.std.proofs.Common.{◌≡◌, ◌∙◌, ◌+◌, ◌-◌, ◌<◌, ◌≤◌, ℕ, suc, take, append-nil, List, [], ◌∷◌, ◌++◌, length, Option, Some, None, refl, sym, ap, arith, append_assoc, length-append}
-use Rattle.std.proofs.Math.Nat.{sub-zero}
 use Rattle.std.proofs.Math.Seq.{take-nil}
 use Rattle.std.specs.Option.{option_map, option_map_or}
 use Rattle.version_parts.specs.Bytes.{dot}
@@ -86,18 +85,9 @@ module _ {X : Type 0} (front : Front X) (consumes : Consumes front) where
     pub fits : length sofar ≤ count
     pub all : sofar ++ take (count - length sofar) (elements_at front left) ≡ take count (elements_at front text)
 
-  pub built_none : (text : List ℕ) (count : ℕ) → Built text count [] text
-  built_none text count = record { fits = omega arith; all = rw (sub-zero count) refl }
-
   -- no more elements are there
   pub built_all : (text : List ℕ) (count : ℕ) (sofar : List X) (left : List ℕ) → Built text count sofar left → front left ≡ None → sofar ≡ take count (elements_at front text)
   built_all text count sofar left b none = rw (unlisted front left none, take-nil, append-nil) at b.all
-
-  -- no more elements are needed
-  pub built_enough : (text : List ℕ) (count : ℕ) (sofar : List X) (left : List ℕ) → Built text count sofar left → count ≤ length sofar → sofar ≡ take count (elements_at front text)
-  built_enough text count sofar left b enough =
-      let done : count - length sofar ≡ 0 = omega arith in
-      rw (done, append-nil) at b.all
 
   -- one more element, and what follows the dot after it
   built_step : (text : List ℕ) (count : ℕ) (sofar : List X) (left rest : List ℕ) (x : X) → Built text count sofar left → length sofar < count → front left ≡ Some (x, rest)

@@ -12,10 +12,6 @@ grows_by old new after bytes more left g e = record {
   new_is = e ∙ ap (λ (l : List ℕ). l ++ more) g.new_is ∙ append_assoc old g.taken more;
 }
 
--- nothing is left
-pub grown : (old new bytes : List ℕ) → Growing old new bytes [] → new ≡ old ++ bytes
-grown old new bytes g = g.new_is ∙ ap (λ (l : List ℕ). old ++ l) (sym (append-nil g.taken) ∙ sym g.bytes_are)
-
 -- a prefix of what is appended next
 pub grows_within : (old new after bytes more left : List ℕ) → Growing old new bytes (more ++ left) → GrowsWithin new after more → GrowsWithin old after bytes
 grows_within old new after bytes more left g (rest, h) = (

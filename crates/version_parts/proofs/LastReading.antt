@@ -12,10 +12,8 @@ use Rattle.version_parts.specs.Last.{IsLastOf, IsLetters, IsNumbered, IsOther, P
 use Rattle.version_parts.specs.Numeral.{SpellsNumeral, unsigned_front}
 use Rattle.version_parts.proofs.Dotted.{cases_Option}
 use Rattle.version_parts.proofs.NumeralReading.{numeral_printed, unsigned_complete, unsigned_sound}
+use Rattle.version_parts.proofs.PieceBytes.{letter_other}
 use Rattle.version_parts.proofs.RunFronts.{reads_run, run_front-reads}
-
-letter_no_digit : (b : ℕ) → is_ascii_alphabetic b ≡ true → is_ascii_digit b ≡ false
-letter_no_digit b h = grind (arith, nat_tests)
 
 digit_no_letter : (b : ℕ) → is_ascii_digit b ≡ true → is_ascii_alphabetic b ≡ false
 digit_no_letter b h = grind (arith, nat_tests)
@@ -23,7 +21,7 @@ digit_no_letter b h = grind (arith, nat_tests)
 -- letters end a number, and a number ends letters
 letters_end : (letters rest : List ℕ) → IsLetters letters → begins is_ascii_digit (letters ++ rest) ≡ false
 letters_end [] rest h = absurd (omega (arith, h.1))
-letters_end (b ∷ letters) rest h = letter_no_digit b (first_so _ _ h.0)
+letters_end (b ∷ letters) rest h = letter_other b (first_so _ _ h.0)
 
 numeral_ends : (text : List ℕ) (n : ℕ) → SpellsNumeral text n → begins is_ascii_alphabetic text ≡ false
 numeral_ends [] n s = refl

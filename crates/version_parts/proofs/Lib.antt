@@ -11,13 +11,10 @@ pub mod ElementsLeft
 pub mod Fed
 pub mod Growing
 pub mod InlineBytes
-pub mod ItemsLeft
 pub mod LastReading
 pub mod ListBytes
 pub mod MChunkReading
-pub mod Mapped
 pub mod NumberBytes
-pub mod Numbers
 pub mod NumeralReading
 pub mod Numerals
 pub mod OrderLemmas
@@ -31,7 +28,6 @@ pub mod ReleaseOrder
 pub mod Repeated
 pub mod RunFronts
 pub mod Runs
-pub mod Short
 pub mod ShortRuns
 pub mod Spelled
 pub mod Split

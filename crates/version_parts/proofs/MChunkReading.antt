@@ -15,10 +15,10 @@ use Rattle.version_parts.specs.Grammar.{SpellsDotted}
 use Rattle.version_parts.specs.MChunk.{Digits, Rev, Plain, EndsChunk, PlainMChunk, SpellsDigits, SpellsMChunk, SpellsRevision, chunk_before, ends_chunk, mchunk_front, mchunk_text, value_of_digits, value_of_revision, variant_of}
 use Rattle.version_parts.specs.Reading.{EndsList, EndsRun, IsComplete, IsKept, IsPrinted, IsSoundBefore}
 use Rattle.version_parts.specs.Sep.{PlainSep, Colon, Hyphen, Plus, Underscore, Tilde, sep_byte, sep_front, sep_of}
-use Rattle.version_parts.proofs.ChunkReading.{all_pass, digit_alphanumeric, dotted_printed}
+use Rattle.version_parts.proofs.ChunkReading.{digit_alphanumeric, dotted_printed}
 use Rattle.version_parts.proofs.Dotted.{dotted_complete, dotted_consumes}
 use Rattle.version_parts.proofs.Repeated.{cases_Option}
-use Rattle.version_parts.proofs.RunFronts.{after_mark-Some, reads_run, run_front-reads}
+use Rattle.version_parts.proofs.RunFronts.{after_mark-Some, all_weaker, reads_run, run_front-reads}
 
 -- ---- the value of a text of digits, and of a revision
 
@@ -102,7 +102,7 @@ some_digits [] e = cc e
 some_digits (b ∷ text) e = omega arith
 
 digits_run : (text : List ℕ) (value : ℕ) → SpellsDigits text value → list_all is_ascii_alphanumeric text ≡ true
-digits_run text value s = all_pass is_ascii_alphanumeric digit_alphanumeric text (second_so _ _ s.digits)
+digits_run text value s = all_weaker _ is_ascii_alphanumeric digit_alphanumeric text (second_so _ _ s.digits)
 
 nonempty : (text : List ℕ) → ¬ (text ≡ []) → 0 < length text
 nonempty [] some = absurd (some refl)

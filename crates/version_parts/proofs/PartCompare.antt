@@ -1,27 +1,17 @@
 -- Parts compared by their slices.
-use Rattle.std.proofs.Common.{◌≡◌, ◌∙◌, ◌==◌, ◌<◌, ◌^◌, ℕ, true, List, [], ◌∷◌, ◌++◌, drop, length, refl, sym, ap, inl, inr, append-nil, arith, one-add}
+use Rattle.std.proofs.Common.{◌≡◌, ◌∙◌, ◌==◌, ℕ, true, List, [], ◌∷◌, ◌++◌, drop, length, refl, sym, ap, inl, inr, one-add}
 use Rattle.std.proofs.lemmas.Bool.{cases_Bool, eqb-true}
 use Rattle.std.specs.Char.{is_ascii_digit}
 use Rattle.std.specs.Cmp.{second_so}
-use Rattle.std.specs.Fmt.{decimal}
-use Rattle.std.proofs.lemmas.Fmt.{decimal_is_IsNumeral}
 use Rattle.std.specs.List.{list_all, prefix_len}
 use Rattle.std.specs.Ordering.{nat_cmp, ordering_then}
 use Rattle.std.specs.Str.Parse.{digits_value}
-use Rattle.std.specs.declared.cmp.Ordering.{Ordering}
-use Rattle.std.specs.declared.cmp.Ordering.TheVariants.{Less, Equal, Greater}
+use Rattle.version_parts.proofs.Codes.{writes_alone}
 use Rattle.version_parts.proofs.NumberBytes.{length_writes, number_bytes-digits, number_writes}
-use Rattle.version_parts.proofs.PieceBytes.{digits_of_run, is_zero, take_while-all}
-use Rattle.version_parts.proofs.DigitRun.{decimal-digits}
-use Rattle.version_parts.specs.DigitRun.{run_value}
+use Rattle.version_parts.proofs.PieceBytes.{digits_of_run, is_zero}
 use Rattle.version_parts.proofs.RunFronts.{begins-drop}
 use Rattle.version_parts.specs.Lists.{bytes_cmp}
 use Rattle.version_parts.specs.NumberBytes.{length_bytes, number_bytes}
-
-then_equal : (o : Ordering) → ordering_then o Equal ≡ o
-then_equal Less = refl
-then_equal Equal = refl
-then_equal Greater = refl
 
 abbrev without_zeros : List ℕ → List ℕ
 without_zeros ds = drop (prefix_len is_zero ds) ds
@@ -54,19 +44,8 @@ pub numbers_compared : (a b : List ℕ) → list_all is_ascii_digit a ≡ true �
     → nat_cmp (digits_value 10 a) (digits_value 10 b)
     ≡ ordering_then (nat_cmp (length (without_zeros a)) (length (without_zeros b))) (bytes_cmp (without_zeros a) (without_zeros b))
 numbers_compared a b all_a all_b =
-    let m = digits_value 10 a in
-    let n = digits_value 10 b in
-    let written : bytes_cmp (number_bytes m ++ []) (number_bytes n ++ []) ≡ ordering_then (nat_cmp m n) Equal = number_writes.compares m n [] [] in
-    sym (then_equal (nat_cmp m n)) ∙ sym written ∙ (λ i. bytes_cmp (append-nil (number_bytes m) i) (append-nil (number_bytes n) i))
+    sym (writes_alone number_writes (digits_value 10 a) (digits_value 10 b))
     ∙ (λ i. bytes_cmp (number_written a all_a i) (number_written b all_b i))
     ∙ length_writes.compares (length (without_zeros a)) (length (without_zeros b)) (without_zeros a) (without_zeros b)
 
 pub ruleset digits_compared = (numbers_compared)
-
--- a number is the value of its decimal digits
-pub decimal_value : (n : ℕ) → n < 2 ^ 32 → run_value (decimal n) ≡ n
-decimal_value n small =
-    let fits : n < 2 ^ 64 = omega arith in
-    ap (digits_value 10) (take_while-all is_ascii_digit (decimal n) (second_so _ _ (decimal-digits n fits))) ∙ (decimal_is_IsNumeral n fits).1
-
-pub ruleset decimals = (decimal_value)

@@ -206,7 +206,7 @@ as_it_is (suc (suc n)) above = refl
 letter_above : (b : ℕ) → is_ascii_alphabetic b ≡ true → 1 < b
 letter_above b letter = grind (arith, nat_tests)
 
-letter_other : (b : ℕ) → is_ascii_alphabetic b ≡ true → is_ascii_digit b ≡ false
+pub letter_other : (b : ℕ) → is_ascii_alphabetic b ≡ true → is_ascii_digit b ≡ false
 letter_other b letter = grind (arith, nat_tests)
 
 identifier_above : (b : ℕ) → is_identifier_byte b ≡ true → 1 < b

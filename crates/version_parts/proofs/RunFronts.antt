@@ -16,6 +16,13 @@ after_mark-Some mark (b ∷ text) tail e = elim (cases_Bool (b == mark)) [
   | inr other ↦ cc (rw other at e)
 ]
 
+-- what passes one test passes a weaker one
+pub all_weaker : (p q : ℕ → Bool) → ((b : ℕ) → p b ≡ true → q b ≡ true) → (text : List ℕ)
+    → list_all p text ≡ true → list_all q text ≡ true
+all_weaker p q weaker [] h = refl
+all_weaker p q weaker (b ∷ text) h =
+    rw (weaker b (first_so _ _ h)) (all_weaker p q weaker text (second_so _ _ h))
+
 -- the run and the rest that a front of a run gives
 pub record ReadsRun (test : ℕ → Bool) (text run rest : List ℕ) : Type 0 where
   pub whole : text ≡ run ++ rest

@@ -101,5 +101,3 @@ pub numeral_scanned : (test : ℕ → Bool) → HasDigits test → (text : List 
     → map_value Numeric (unsigned_front text) ≡ chunk_front_of test text
 unfolding chunk_front_of
 numeral_scanned test has text ends = rw (run_of_digits test has text (sym ends)) refl
-
-pub ruleset chunks_scanned = (run_scanned, numeral_scanned)

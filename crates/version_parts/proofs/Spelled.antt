@@ -2,7 +2,6 @@
 -- dots, and of two texts joined if it holds of both.
 use Rattle.std.proofs.Common.{◌≡◌, ℕ, Bool, true, List, [], ◌∷◌, ◌++◌, Option, Some, None, refl}
 use Rattle.std.specs.Char.{is_ascii_alphanumeric, is_ascii_digit}
-use Rattle.std.specs.Cmp.{first_so, second_so}
 use Rattle.std.specs.List.{list_all}
 use Rattle.version_parts.specs.Body.{PlainBody, SpellsBody}
 use Rattle.version_parts.specs.Bytes.{dot, is_identifier_byte, is_metadata_byte}
@@ -13,11 +12,7 @@ use Rattle.version_parts.specs.Metadata.{SpellsMetadata}
 use Rattle.version_parts.specs.Numeral.{SpellsNumeral}
 use Rattle.version_parts.specs.Release.{SpellsRelease}
 use Rattle.version_parts.proofs.MChunkReading.{spelled_run}
-
--- what passes one test passes a weaker one
-pub all_weaker : (p q : ℕ → Bool) → ((b : ℕ) → p b ≡ true → q b ≡ true) → (text : List ℕ) → list_all p text ≡ true → list_all q text ≡ true
-all_weaker p q weaker [] h = refl
-all_weaker p q weaker (b ∷ text) h = rw (weaker b (first_so _ _ h)) (all_weaker p q weaker text (second_so _ _ h))
+pub use Rattle.version_parts.proofs.RunFronts.{all_weaker}
 
 digit_byte : (b : ℕ) → is_ascii_digit b ≡ true → is_metadata_byte b ≡ true
 digit_byte b h = rw h refl

@@ -1,8 +1,8 @@
 -- Whole texts: what follows if a front reads what is spelled and nothing else.
-use Rattle.std.proofs.Common.{◌≡◌, ◌==◌, ◌∙◌, List, ℕ, [], length, Option, Some, None, Result, Ok, Err, IfOk, IfSome, OnErr, IsSomeAnd, true, refl, sym, ap, subst, inl, inr, append-nil}
+use Rattle.std.proofs.Common.{◌≡◌, ◌==◌, ◌∙◌, List, ℕ, [], length, Option, Some, None, Result, Ok, Err, IfOk, IfSome, OnErr, IsSomeAnd, refl, sym, ap, subst, inl, inr, append-nil}
 use Rattle.std.proofs.lemmas.Bool.{cases_Bool, eqb-true}
 use Rattle.std.proofs.lemmas.List.{nil_from_length}
-use Rattle.std.specs.Option.{is_some, option_map}
+use Rattle.std.specs.Option.{option_map}
 use Rattle.version_parts.specs.Front.{Front, whole}
 use Rattle.version_parts.specs.Reading.{IsPrinted, IsSound}
 
@@ -15,13 +15,6 @@ whole-Some {X} (Some p) x e = elim (cases_Bool (length p.1 == 0)) [
       let value : p.0 ≡ x = cc (rw done at e) in
       ap (λ (q : X × List ℕ). Some q) (λ i. (value i, none i))
   | inr more ↦ cc (rw more at e)
-]
-
--- if a value is read from the whole text, it is the value that was read
-pub whole-is : {X : Type 0} (read : Option (X × List ℕ)) (x : X) (rest : List ℕ) → is_some (whole read) ≡ true → read ≡ Some (x, rest) → whole read ≡ Some x
-whole-is read x rest some e = elim (cases_Bool (length rest == 0)) [
-  | inl done ↦ rw (e, done) refl
-  | inr more ↦ cc (rw (e, more) at some)
 ]
 
 module _ {X : Type 0} (Spells : List ℕ → X → Type 0) (front : Front X) (sound : IsSound Spells front)

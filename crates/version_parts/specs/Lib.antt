@@ -24,7 +24,6 @@ pub mod PartKey
 pub mod PartLaws
 pub mod PartOrder
 pub mod PartOrderLaws
-pub mod PartRef
 pub mod Pieces
 pub mod Reading
 pub mod Release

@@ -4,12 +4,11 @@ use Rattle.std.specs.Option.{option_map_or}
 use Rattle.std.specs.Ordering.{nat_cmp, ordering_then}
 use Rattle.std.specs.declared.cmp.Ordering.{Ordering}
 use Rattle.std.specs.declared.cmp.Ordering.TheVariants.{Less, Equal, Greater}
-use Rattle.version_parts.specs.Chunk.{PlainChunk, chunk_text, part_front}
+use Rattle.version_parts.specs.Chunk.{PlainChunk, chunk_text}
 use Rattle.version_parts.specs.Codes.{list_bytes}
 use Rattle.version_parts.specs.DigitRun.{number_front}
-use Rattle.version_parts.specs.Front.{Front, map_value}
 use Rattle.version_parts.specs.Lists.{ended_cmp, none_last_cmp}
-use Rattle.version_parts.specs.MChunk.{PlainMChunk, mchunk_front, mchunk_text}
+use Rattle.version_parts.specs.MChunk.{PlainMChunk, mchunk_text}
 use Rattle.version_parts.specs.NumberBytes.{number_bytes}
 use Rattle.version_parts.specs.Split.{Split, split_bytes, split_cmp, split_of}
 
@@ -33,13 +32,6 @@ chunk_parts chunks = map (λ chunk. part_key (chunk_text chunk)) chunks
 
 abbrev pub section_parts : List PlainMChunk → List PartKey
 section_parts chunks = map (λ chunk. part_key (mchunk_text chunk)) chunks
-
--- the key of the part, and of the messy chunk, at the start of a text, and the rest
-abbrev pub part_key_front : Front PartKey
-part_key_front text = map_value (λ chunk. part_key (chunk_text chunk)) (part_front text)
-
-abbrev pub mchunk_key_front : Front PartKey
-mchunk_key_front text = map_value (λ chunk. part_key (mchunk_text chunk)) (mchunk_front text)
 
 -- two parts, or the end of a list of them: word < end of the list < number; of two equal numbers the one with a suffix
 -- comes first

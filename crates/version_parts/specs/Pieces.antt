@@ -6,7 +6,7 @@ use Rattle.std.specs.Option.{option_to_list}
 use Rattle.version_parts.specs.declared.key.place.AfterNumber.{AfterNumber}
 use Rattle.version_parts.specs.declared.key.place.AfterNumber.TheVariants.{Suffix, Text, Nothing}
 use Rattle.version_parts.specs.declared.key.place.Place.{Place}
-use Rattle.version_parts.specs.declared.key.place.Place.TheVariants.{Part, Split, Numbered, Number, Length, Digit, Rest, End}
+use Rattle.version_parts.specs.declared.key.place.Place.TheVariants.{Part, Split, Numbered, Number, Length, Digit, Rest}
 use Rattle.version_parts.specs.declared.key.place.Step.{Step}
 use Rattle.version_parts.specs.DigitRun.{number_front, run_value}
 use Rattle.version_parts.specs.NumberBytes.{length_bytes, number_bytes}
@@ -38,7 +38,6 @@ place_bytes (Length left after) text = length_bytes left ++ run_bytes after text
 place_bytes (Digit after) [] = []
 place_bytes (Digit after) (digit ∷ text) = digit ∷ run_bytes after text
 place_bytes (Rest after) text = after_number_bytes after text
-place_bytes (End byte) text = byte ∷ []
 
 -- a byte, a byte that must follow it, if any, and the remaining bytes after them
 abbrev pub step_bytes : Step → List ℕ → List ℕ

@@ -97,10 +97,7 @@ impl Chunk {
         ensures ok { IfOk result (λ copy. plain_chunk copy ≡ plain_chunk self.now) }
         ensures err { OnErr result (ChunkOwns (plain_chunk self.now)) }
     {
-        match self {
-            Chunk::Numeric(number) => Ok(Chunk::Numeric(*number)),
-            Chunk::Alphanum(text) => Ok(Chunk::Alphanum(String::from_str(alloc, text.as_str())?)),
-        }
+        self.lent().build(alloc)
     }
 }
 
@@ -241,9 +238,7 @@ impl<'a> ChunkRef<'a> {
             ChunkRef::Alphanum(text) => Ok(Chunk::Alphanum(String::from_str(alloc, text)?)),
         }
     }
-}
 
-impl<'a> ChunkRef<'a> {
     /// Returns the number of a `Numeric`, or None. Does not allocate.
     pub fn number(self) -> Option<u32>
         ensures { result ≡ number_of (plain_chunk_ref self.entry) }
@@ -263,17 +258,6 @@ impl<'a> ChunkRef<'a> {
             (ChunkRef::Numeric(_), ChunkRef::Alphanum(_)) => Ordering::Less,
             (ChunkRef::Alphanum(_), ChunkRef::Numeric(_)) => Ordering::Greater,
             (ChunkRef::Alphanum(a), ChunkRef::Alphanum(b)) => a.cmp(b),
-        }
-    }
-}
-
-impl<'a> fmt::Display for ChunkRef<'a> {
-    ghost output = { λ chunk. Some (chunk_text (plain_chunk_ref chunk)) };
-
-    fn fmt<W: fmt::Write>(&self, f: &mut fmt::Formatter<W>) -> fmt::Result {
-        match self {
-            ChunkRef::Numeric(number) => write!(f, "{number}"),
-            ChunkRef::Alphanum(text) => f.write_str(text),
         }
     }
 }
@@ -399,11 +383,7 @@ impl<'a> Spelled<'a> for ReleaseChunk {
 
     ghost front = { chunk_front };
 
-    ghost text = { chunk_text };
-
     ghost plain_cmp = { chunk_cmp };
-
-    ghost prints = { λ chunk. refl };
 
     ghost consumes = { chunk_consumes is_identifier_byte };
 
@@ -425,11 +405,7 @@ impl<'a> Spelled<'a> for Part {
 
     ghost front = { part_front };
 
-    ghost text = { chunk_text };
-
     ghost plain_cmp = { chunk_cmp };
-
-    ghost prints = { λ chunk. refl };
 
     ghost consumes = { chunk_consumes is_ascii_alphanumeric };
 

@@ -1,33 +1,29 @@
 //! The chunks of a general version, and its body: the chunks, and the last part after them.
 
-ghost use Rattle.std.specs.Prelude.{◌≡◌, ◌==◌, ◌<◌, ◌-◌, ◌∷◌, ◌++◌, [], if◌then◌else◌, length, refl, IfOk, OnErr, Some};
+ghost use Rattle.std.specs.Prelude.{◌≡◌, ◌==◌, [], if◌then◌else◌, length, refl, IfOk, OnErr, Some};
 ghost use Rattle.std.proofs.Common.{ap};
 ghost use Rattle.std.specs.Cmp.{eq_by_cmp_equiv, on_equiv, on_per, on_total, partial_equiv_from_equiv, po};
 ghost use Rattle.std.specs.List.{slice_get};
 ghost use Rattle.std.specs.Option.{option_and_then, option_map};
 ghost use Rattle.std.specs.Ordering.{as_partial_cmp, eq_by_cmp, on, ordering_then};
-ghost use Rattle.version_parts.specs.Body.{body_front, body_text, chunks_front, plain_chunks, BodyOwns};
+ghost use Rattle.version_parts.specs.Body.{body_front, chunks_front, plain_chunks, BodyOwns};
 ghost use Rattle.version_parts.specs.Front.{Reads};
 ghost use Rattle.version_parts.specs.Chunk.{number_of, part_front};
 ghost use Rattle.version_parts.specs.ElementsLeft.{elements_left};
-ghost use Rattle.version_parts.specs.Last.{first_number, last_text, plain_last, plain_last_ref};
+ghost use Rattle.version_parts.specs.Last.{first_number, plain_last, plain_last_ref};
 ghost use Rattle.version_parts.specs.LastOrder.{last_plain_cmp};
 ghost use Rattle.version_parts.specs.OrderLaws.{same_where_tied};
-ghost use Rattle.version_parts.specs.Codes.{items_bytes};
-ghost use Rattle.version_parts.specs.PartKey.{chunk_parts, part_bytes, part_key};
 ghost use Rattle.version_parts.specs.PartOrder.{chunks_cmp};
 ghost use Rattle.version_parts.specs.PartOrderLaws.{chunks_cmp_ties, chunks_cmp_total};
-ghost use Rattle.version_parts.specs.PartRef.{parts_left};
 ghost use Rattle.version_parts.specs.Release.{release_fed, release_text};
 ghost use Rattle.version_parts.specs.ReleaseLaws.{release_total, releases_same};
 ghost use Rattle.version_parts.specs.ReleaseOrder.{release_cmp};
 
 use crate::chunk::{Chunk, Part};
-use crate::elements::{ElementsLeft, compare_elements, nth_element, write_elements};
-use crate::key::{ItemsLeft, compare_part_lists};
+use crate::elements::{ElementsLeft, compare_elements, nth_element};
+use crate::key::compare_part_lists;
 use crate::last::{Last, LastRef};
 use crate::lists::{compare_lists, copy_list, write_dotted};
-use crate::part::PartsRef;
 use crate::scan::Dotted;
 use serde::{Deserialize, Serialize};
 use std::alloc::{AllocError, Global};
@@ -166,15 +162,6 @@ impl<'a> BodyRef<'a> {
         }
     }
 
-    /// Returns the parts as items of a key. Does not allocate.
-    #[tactic(auto, using(crate::proofs::ListBytes::body_spelled))]
-    pub fn parts(&self) -> ItemsLeft<'a, Part>
-        ensures { result ≡ items_bytes part_bytes
-            (chunk_parts self.now.0 ++ part_key (last_text self.now.1) ∷ []) }
-    {
-        ItemsLeft::spelled_by(self.list)
-    }
-
     /// Returns the body with texts of its own. A body of one number does not allocate. Fails on allocation failure.
     pub fn build(&self, alloc: Global) -> Result<(Chunks, Last), AllocError>
         ensures ok { IfOk result (λ body. (plain_chunks body.0, plain_last body.1) ≡ self.now) }
@@ -184,9 +171,7 @@ impl<'a> BodyRef<'a> {
         let last = self.last().build(alloc)?;
         Ok((Chunks(chunks), last))
     }
-}
 
-impl<'a> BodyRef<'a> {
     /// Compares two bodies chunk by chunk, and then their last parts field by field. Does not allocate.
     pub fn compare(&self, other: &BodyRef<'_>) -> Ordering
         ensures { result ≡ ordering_then (release_cmp self.now.0 other.now.0)
@@ -211,42 +196,10 @@ impl<'a> BodyRef<'a> {
         nth_element::<Part>(self.chunks(), n)?.number()
     }
 
-    /// Returns the parts, to compare with those of any version. Does not allocate.
-    #[inline(always)]
-    pub fn compared_parts(&self) -> PartsRef<'a>
-        ensures { parts_left result
-            ≡ chunk_parts self.now.0 ++ part_key (last_text self.now.1) ∷ [] }
-    {
-        PartsRef::General(self.spelled_parts())
-    }
-
-    /// Returns the parts: the chunks, and the last part as a chunk, not decomposed. Does not allocate.
-    #[inline(always)]
-    #[tactic(auto, using(crate::proofs::ListBytes::parts_spelled))]
-    pub fn spelled_parts(&self) -> ElementsLeft<'a>
-        ensures { chunk_parts (elements_left part_front result)
-            ≡ chunk_parts self.now.0 ++ part_key (last_text self.now.1) ∷ [] }
-    {
-        ElementsLeft::of(self.list, self.list.count)
-    }
-
     // The chunks.
     fn chunks(&self) -> ElementsLeft<'a>
         ensures { elements_left part_front result ≡ self.now.0 }
     {
         ElementsLeft::of(self.list, self.list.count - 1)
-    }
-}
-
-impl<'a> fmt::Display for BodyRef<'a> {
-    ghost output = { λ body. Some (body_text body) };
-
-    fn fmt<W: fmt::Write>(&self, f: &mut fmt::Formatter<W>) -> fmt::Result {
-        if self.list.count > 1 {
-            write_elements::<Part, W>(self.chunks(), f)?;
-            f.write_str(".")?;
-        }
-        let last = self.last();
-        write!(f, "{last}")
     }
 }

@@ -1,33 +1,27 @@
-//! Lists read from the text that spells them: compared, printed and indexed, for elements of any kind.
+//! Lists read from the text that spells them: compared and indexed, for elements of any kind.
 
-ghost use Rattle.std.specs.Prelude.{◌≡◌, ◌∷◌, [], ℕ, List, Some, map, take, IfNone, IfSome};
+ghost use Rattle.std.specs.Prelude.{◌≡◌, ◌∷◌, [], IfNone, IfSome};
 ghost use Rattle.std.specs.Cmp.Lexicographic.{slice_cmp};
-ghost use Rattle.std.specs.Fmt.{WritesOnOk};
-ghost use Rattle.std.specs.List.{join_with_byte, slice_get};
+ghost use Rattle.std.specs.List.{slice_get};
 ghost use Rattle.std.specs.Option.{option_map};
 ghost use Rattle.std.specs.declared.cmp.Ordering.{Ordering};
-ghost use Rattle.version_parts.specs.Bytes.{dot};
 ghost use Rattle.version_parts.specs.Front.{Consumes, Front};
 ghost use Rattle.version_parts.specs.ElementsLeft.{elements_left};
 
 use crate::scan::{Dotted, after_mark};
 use std::cmp::Ordering;
-use std::fmt;
-use std::fmt::Display;
 
 /// A kind of element that is scanned in its text.
 pub trait Spelled<'a> {
     /// An element. Its text is part of the input.
-    type Piece: Copy + Display;
+    type Piece: Copy;
 
-    // The value of an element, the front that reads it, its printed text, and how two compare.
+    // The value of an element, the front that reads it, and how two compare.
     ghost Plain: { Type 0 };
 
     ghost plain: { Self.Piece → Plain };
 
     ghost front: { Front Plain };
-
-    ghost text: { Plain → List ℕ };
 
     ghost plain_cmp: { Plain → Plain → Ordering };
 
@@ -38,10 +32,6 @@ pub trait Spelled<'a> {
     /// Compares two elements field by field. Does not allocate.
     fn compare(a: Self::Piece, b: Self::Piece) -> Ordering
         ensures { result ≡ plain_cmp (plain a) (plain b) };
-
-    // An element prints its text.
-    ghost prints: { (piece : Self.Piece)
-        → Self.Piece.output piece ≡ Some (text (plain piece)) };
 
     // The rest is no longer than the text.
     ghost consumes: { Consumes front };
@@ -123,23 +113,4 @@ pub fn nth_element<'a, E: Spelled<'a>>(list: ElementsLeft<'a>, at: usize) -> Opt
         before -= 1;
     }
     left.next::<E>()
-}
-
-/// Writes the elements with dots between them.
-pub fn write_elements<'a, E: Spelled<'a>, W: fmt::Write>(
-    list: ElementsLeft<'a>,
-    f: &mut fmt::Formatter<W>,
-) -> fmt::Result
-    ensures { WritesOnOk W.write_str_gives f.old result
-        (join_with_byte dot (map E.text (elements_left E.front list.entry))) f.new }
-{
-    let mut left = list;
-    let Some(first) = left.next::<E>() else {
-        return Ok(());
-    };
-    write!(f, "{first}")?;
-    while let Some(piece) = left.next::<E>() {
-        write!(f, ".{piece}")?;
-    }
-    Ok(())
 }

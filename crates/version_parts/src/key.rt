@@ -5,11 +5,9 @@ pub(crate) mod inline;
 mod list;
 mod piece;
 mod place;
-mod short;
 mod text;
 
 pub use compare::{compare_bytes, compare_part_lists, compare_parts};
 pub use list::{Code, ItemsLeft, ListBytes, ListLeft};
 pub use piece::PieceBytes;
-pub use short::{NotShort, SHORT, ShortKey, put_byte, put_digits, put_plain_part, put_value};
 pub use text::PartText;

@@ -279,9 +279,7 @@ impl<'a> LastRef<'a> {
             LastRef::Alphanum(text) => Ok(Last::Alphanum(String::from_str(alloc, text)?)),
         }
     }
-}
 
-impl<'a> LastRef<'a> {
     /// Returns the first number of a `Numeric`, `Rc` or `Post`, or None. Does not allocate.
     pub fn first_number(self) -> Option<u32>
         ensures { result ≡ first_number (plain_last_ref self.entry) }
@@ -318,19 +316,6 @@ impl<'a> LastRef<'a> {
             LastRef::Rc(_, _, _) => 1,
             LastRef::Post(_, _) => 2,
             LastRef::Alphanum(_) => 3,
-        }
-    }
-}
-
-impl<'a> fmt::Display for LastRef<'a> {
-    ghost output = { λ last. Some (last_text (plain_last_ref last)) };
-
-    fn fmt<W: fmt::Write>(&self, f: &mut fmt::Formatter<W>) -> fmt::Result {
-        match self {
-            LastRef::Numeric(number) => write!(f, "{number}"),
-            LastRef::Rc(first, text, second) => write!(f, "{first}{text}{second}"),
-            LastRef::Post(number, text) => write!(f, "{number}{text}"),
-            LastRef::Alphanum(text) => f.write_str(text),
         }
     }
 }

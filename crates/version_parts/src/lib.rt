@@ -4,14 +4,13 @@
 
 mod chunk;
 mod chunks;
-pub mod elements;
+mod elements;
 pub mod key;
 mod last;
 mod laws;
 pub mod lists;
 mod mchunk;
 pub mod parsers;
-pub mod part;
 mod release;
 pub mod scan;
 mod sep;
@@ -19,6 +18,6 @@ mod sep;
 pub use chunk::{Chunk, ChunkRef, Part, ReleaseChunk};
 pub use chunks::{BodyRef, Chunks};
 pub use last::{Last, LastRef};
-pub use mchunk::{MChunk, MChunkRef, MessyChunk, SectionRef};
+pub use mchunk::{MChunk, MessyChunk, SectionRef};
 pub use release::{Release, ReleaseRef};
 pub use sep::Sep;

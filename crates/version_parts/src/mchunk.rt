@@ -1,10 +1,9 @@
 //! Chunks of a messy version: the pieces between its dots and signs.
 
-ghost use Rattle.std.specs.Prelude.{◌≡◌, ◌≢◌, ◌<◌, ◌∷◌, [], refl, length, map, string_bytes, IfNone, IfOk, IfSome, Some};
+ghost use Rattle.std.specs.Prelude.{◌≡◌, refl, map, IfOk, Some};
 ghost use Rattle.std.specs.Cmp.Lexicographic.{slice_cmp};
-ghost use Rattle.std.specs.List.{join_with_byte, slice_get};
+ghost use Rattle.std.specs.List.{slice_get};
 ghost use Rattle.std.specs.Option.{option_and_then, option_map};
-ghost use Rattle.version_parts.specs.Bytes.{dot};
 ghost use Rattle.version_parts.specs.ElementsLeft.{elements_left};
 ghost use Rattle.std.proofs.Common.{ap};
 ghost use Rattle.std.specs.Cmp.{eq_by_cmp_equiv, on_equiv, on_per, on_total, partial_equiv_from_equiv, po};
@@ -15,15 +14,12 @@ ghost use Rattle.version_parts.specs.FrontLaws.{mchunk_consumes};
 ghost use Rattle.version_parts.specs.MChunk.{chunk_before, digits_number, ends_chunk, mchunk_fed, mchunk_front, mchunk_plain_cmp, mchunk_rank, mchunk_text, mchunk_value, plain_mchunk, plain_mchunk_ref, value_of_digits, value_of_revision, variant_of, PlainMChunk};
 ghost use Rattle.version_parts.specs.MChunkLaws.{mchunk_total, mchunks_same};
 ghost use Rattle.version_parts.specs.OrderLaws.{same_where_tied};
-ghost use Rattle.version_parts.specs.PartKey.{parts_bytes, section_parts};
 ghost use Rattle.version_parts.specs.PartOrder.{mchunk_cmp};
 ghost use Rattle.version_parts.specs.PartOrderLaws.{mchunk_cmp_ties, mchunk_cmp_total};
-ghost use Rattle.version_parts.specs.PartRef.{parts_left};
 
-use crate::elements::{ElementsLeft, Spelled, compare_elements, nth_element, write_elements};
-use crate::key::{ItemsLeft, ListLeft, PartText, compare_parts};
+use crate::elements::{ElementsLeft, Spelled, compare_elements, nth_element};
+use crate::key::{PartText, compare_parts};
 use crate::lists::ListItem;
-use crate::part::PartsRef;
 use crate::scan::{Class, Dotted, Element, after_mark, is_all_digits, nonempty_run, value_of};
 use crate::sep::Sep;
 use serde::{Deserialize, Serialize};
@@ -48,41 +44,13 @@ impl MChunk {
     /// Parses the messy chunk at the start of a text, the longest run of letters and digits, and returns it with the
     /// rest. The chunk is `Plain` unless a dot, a sign or the end follows it. Returns None, without allocating, if the
     /// run is empty. Fails on allocation failure.
-    #[tactic(auto, unfolding(crate::specs::MChunk::mchunk_front))]
     pub fn parse(alloc: Global, i: &str) -> Result<Option<(MChunk, &str)>, AllocError>
         ensures { Reads plain_mchunk (λ _. Unit {0}) result (mchunk_front i.now) }
     {
-        let Some((run, rest)) = nonempty_run(i, Class::Alphanumeric) else {
+        let Some((piece, rest)) = MChunkRef::scan(i) else {
             return Ok(None);
         };
-        let text = String::from_str(alloc, run)?;
-        let chunk = MChunk::before(rest, text);
-        Ok(Some((chunk, rest)))
-    }
-
-    // The chunk of a run, by what follows it.
-    fn before(rest: &str, run: String) -> MChunk
-        ensures { plain_mchunk result ≡ chunk_before (string_bytes run, rest.now) }
-    {
-        if ends_chunk(rest) {
-            MChunk::of(run)
-        } else {
-            MChunk::Plain(run)
-        }
-    }
-
-    // The chunk of a run of letters and digits.
-    #[tactic(auto, unfolding(crate::specs::MChunk::variant_of))]
-    fn of(run: String) -> MChunk
-        ensures { plain_mchunk result ≡ variant_of (string_bytes run) }
-    {
-        if let Some(value) = value_of_digits(run.as_str()) {
-            return MChunk::Digits(value, run);
-        }
-        match value_of_revision(run.as_str()) {
-            Some(value) => MChunk::Rev(value, run),
-            None => MChunk::Plain(run),
-        }
+        Ok(Some((piece.build(alloc)?, rest)))
     }
 
     /// Returns the text, which is what the chunk prints.
@@ -119,12 +87,7 @@ impl MChunk {
     pub fn clone(&self, alloc: Global) -> Result<MChunk, AllocError>
         ensures { IfOk result (λ copy. plain_mchunk copy ≡ plain_mchunk self.now) }
     {
-        let copy = String::from_str(alloc, self.text())?;
-        match self {
-            MChunk::Digits(value, _) => Ok(MChunk::Digits(*value, copy)),
-            MChunk::Rev(value, _) => Ok(MChunk::Rev(*value, copy)),
-            MChunk::Plain(_) => Ok(MChunk::Plain(copy)),
-        }
+        self.lent().build(alloc)
     }
 
     // The same chunk with its text borrowed.
@@ -309,28 +272,6 @@ impl<'a> SectionRef<'a> {
         Some((SectionRef { list }, rest))
     }
 
-    /// Returns the chunks as items of a key, and the end of their list. Does not allocate.
-    #[tactic(auto, using(crate::proofs::ListBytes::section_spelled))]
-    pub fn left(&self) -> ListLeft<'a, MessyChunk>
-        ensures { result ≡ parts_bytes (section_parts self.now) }
-    {
-        ListLeft::of(ItemsLeft::spelled_by(self.list))
-    }
-
-    /// Returns the text of the only chunk, or None if there are more. Does not allocate.
-    #[tactic(auto, using(crate::proofs::ListBytes::only_chunk))]
-    pub fn only_text(&self) -> Option<&'a str>
-        ensures one { IfSome result
-            (λ text. (chunk : PlainMChunk) × (self.now ≡ chunk ∷ [])
-            × (mchunk_text chunk ≡ text.now)) }
-        ensures other { IfNone result (length self.now ≢ 1) }
-    {
-        if self.list.count != 1 {
-            return None;
-        }
-        Some(nonempty_run(self.list.text, Class::Alphanumeric)?.0)
-    }
-
     /// Returns the section with chunks of its own. Fails on allocation failure.
     pub fn build(&self, alloc: Global) -> Result<Vec<MChunk>, AllocError>
         ensures { IfOk result (λ chunks. map plain_mchunk chunks.items ≡ self.now) }
@@ -383,6 +324,18 @@ impl<'a> MChunkRef<'a> {
         match value_of_revision(run) {
             Some(value) => MChunkRef::Rev(value, run),
             None => MChunkRef::Plain(run),
+        }
+    }
+
+    // The chunk with a text of its own.
+    fn build(self, alloc: Global) -> Result<MChunk, AllocError>
+        ensures { IfOk result (λ chunk. plain_mchunk chunk ≡ plain_mchunk_ref self.entry) }
+    {
+        let copy = String::from_str(alloc, self.text())?;
+        match self {
+            MChunkRef::Digits(value, _) => Ok(MChunk::Digits(value, copy)),
+            MChunkRef::Rev(value, _) => Ok(MChunk::Rev(value, copy)),
+            MChunkRef::Plain(_) => Ok(MChunk::Plain(copy)),
         }
     }
 
@@ -440,14 +393,6 @@ impl<'a> MChunkRef<'a> {
     }
 }
 
-impl<'a> fmt::Display for MChunkRef<'a> {
-    ghost output = { λ chunk. Some (mchunk_text (plain_mchunk_ref chunk)) };
-
-    fn fmt<W: fmt::Write>(&self, f: &mut fmt::Formatter<W>) -> fmt::Result {
-        f.write_str(self.text())
-    }
-}
-
 impl<'a> Spelled<'a> for MessyChunk {
     type Piece = MChunkRef<'a>;
 
@@ -457,11 +402,7 @@ impl<'a> Spelled<'a> for MessyChunk {
 
     ghost front = { mchunk_front };
 
-    ghost text = { mchunk_text };
-
     ghost plain_cmp = { mchunk_plain_cmp };
-
-    ghost prints = { λ chunk. refl };
 
     ghost consumes = { mchunk_consumes };
 
@@ -491,27 +432,11 @@ impl<'a> SectionRef<'a> {
         nth_element::<MessyChunk>(self.elements(), at)?.number()
     }
 
-    /// Returns the chunks, to compare with the parts of any version. Does not allocate.
-    #[inline(always)]
-    pub fn compared_parts(&self) -> PartsRef<'a>
-        ensures { parts_left result ≡ section_parts self.now }
-    {
-        PartsRef::Messy(self.elements())
-    }
-
     // The chunks.
     #[tactic(auto, using(crate::proofs::ElementsLeft::all_elements))]
     fn elements(&self) -> ElementsLeft<'a>
         ensures { elements_left mchunk_front result ≡ self.now }
     {
         ElementsLeft::of(self.list, self.list.count)
-    }
-}
-
-impl<'a> fmt::Display for SectionRef<'a> {
-    ghost output = { λ section. Some (join_with_byte dot (map mchunk_text section)) };
-
-    fn fmt<W: fmt::Write>(&self, f: &mut fmt::Formatter<W>) -> fmt::Result {
-        write_elements::<MessyChunk, W>(self.elements(), f)
     }
 }

@@ -14,7 +14,7 @@ ghost use Rattle.version_parts.specs.ReleaseLaws.{release_total, releases_same};
 ghost use Rattle.version_parts.specs.ReleaseOrder.{release_bytes, release_cmp};
 
 use crate::chunk::{Chunk, ReleaseChunk};
-use crate::elements::{ElementsLeft, compare_elements, write_elements};
+use crate::elements::{ElementsLeft, compare_elements};
 use crate::key::{ItemsLeft, ListLeft};
 use crate::lists::{compare_lists, copy_list, write_dotted};
 use crate::scan::{Dotted, after_mark};
@@ -141,22 +141,6 @@ impl<'a> ReleaseRef<'a> {
         Some((ReleaseRef { list }, rest))
     }
 
-    /// Returns the same release. Does not allocate.
-    #[inline(always)]
-    pub fn lent(&self) -> ReleaseRef<'a>
-        ensures { result ≡ self.now }
-    {
-        ReleaseRef { list: self.list }
-    }
-
-    /// Returns the chunks as items of a key, and the end of their list. Does not allocate.
-    #[tactic(auto, using(crate::proofs::ListBytes::list_spelled))]
-    pub fn left(&self) -> ListLeft<'a, ReleaseChunk>
-        ensures { result ≡ release_bytes self.now }
-    {
-        ListLeft::of(ItemsLeft::spelled_by(self.list))
-    }
-
     /// Returns the release with chunks of its own. Fails on allocation failure.
     pub fn build(&self, alloc: Global) -> Result<Release, AllocError>
         ensures { IfOk result (λ release. plain_release release ≡ self.now) }
@@ -164,9 +148,7 @@ impl<'a> ReleaseRef<'a> {
         let count = self.list.count;
         Ok(Release(self.list.build::<ReleaseChunk>(alloc, count)?))
     }
-}
 
-impl<'a> ReleaseRef<'a> {
     /// Compares two releases chunk by chunk, as [`Release`]s compare. Does not allocate.
     pub fn compare(&self, other: &ReleaseRef<'_>) -> Ordering
         ensures { result ≡ release_cmp self.now other.now }
@@ -180,13 +162,5 @@ impl<'a> ReleaseRef<'a> {
         ensures { elements_left chunk_front result ≡ self.now }
     {
         ElementsLeft::of(self.list, self.list.count)
-    }
-}
-
-impl<'a> fmt::Display for ReleaseRef<'a> {
-    ghost output = { λ release. Some (release_text release) };
-
-    fn fmt<W: fmt::Write>(&self, f: &mut fmt::Formatter<W>) -> fmt::Result {
-        write_elements::<ReleaseChunk, W>(self.elements(), f)
     }
 }

@@ -7,7 +7,7 @@ ghost use Rattle.std.specs.List.{list_all, prefix_len, take_while};
 ghost use Rattle.std.specs.Str.Parse.{digits_value};
 ghost use Rattle.version_parts.specs.Bytes.{dot, is_identifier_byte};
 ghost use Rattle.version_parts.specs.Class.{contains};
-ghost use Rattle.version_parts.specs.Front.{after_mark, begins, behind, dotted_front, elements_at, run_front, Consumes, Front, Reads};
+ghost use Rattle.version_parts.specs.Front.{after_mark, behind, dotted_front, elements_at, run_front, Consumes, Front, Reads};
 ghost use Rattle.version_parts.specs.Lists.{split_last};
 ghost use Rattle.version_parts.specs.Metadata.{meta_front};
 ghost use Rattle.version_parts.specs.Numeral.{unsigned_front, SpellsNumeral};
@@ -54,27 +54,6 @@ pub(crate) fn run_len(bytes: &[u8], class: Class) -> usize
     bytes.len()
 }
 
-// The longest run of a class at the start of some bytes, which may be empty, and the rest.
-#[tactic(auto, using(crate::proofs::Runs::runs_of_two))]
-#[inline(always)]
-pub(crate) fn split_bytes(bytes: &[u8], class: Class) -> (&[u8], &[u8])
-    ensures run { result.0.now ≡ take_while (contains class) bytes.now }
-    ensures rest { result.1.now ≡ drop (prefix_len (contains class) bytes.now) bytes.now }
-{
-    bytes.split_at(run_len(bytes, class))
-}
-
-// Whether a text begins with a byte of a class.
-#[inline(always)]
-pub(crate) fn begins_with(bytes: &[u8], class: Class) -> bool
-    ensures { result ≡ begins (contains class) bytes.now }
-{
-    match bytes {
-        [first, ..] => class.contains(*first),
-        [] => false,
-    }
-}
-
 // The longest run of a class at the start of a text, which may be empty, and the rest.
 #[inline(always)]
 pub(crate) fn split_run(i: &str, class: Class) -> (&str, &str)
@@ -84,9 +63,9 @@ pub(crate) fn split_run(i: &str, class: Class) -> (&str, &str)
     i.split_at(run_len(i.as_bytes(), class))
 }
 
-/// Returns whether all bytes of a text are digits. Does not allocate.
+// Whether all bytes of a text are digits.
 #[inline(always)]
-pub fn is_all_digits(text: &str) -> bool
+pub(crate) fn is_all_digits(text: &str) -> bool
     ensures { result ≡ list_all is_ascii_digit text.now }
 {
     text.as_bytes().iter().all(|byte| byte.is_ascii_digit())

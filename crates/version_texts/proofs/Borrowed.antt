@@ -1,8 +1,9 @@
 -- What the text and the shape of a borrowed version say of the version that it is.
-use Rattle.std.proofs.Common.{◌≡◌, ◌==◌, ◌≤◌, ◌∙◌, ℕ, Bool, true, false, List, length, Option, Some, None, refl, sym, ap, inl, inr}
-use Rattle.std.proofs.lemmas.Bool.{cases_Bool}
+use Rattle.std.proofs.Common.{if◌then◌else◌, ◌≡◌, ◌==◌, ◌≤◌, ◌∙◌, ℕ, Bool, true, false, List, length, Option, Some, None, refl, sym, ap, inl, inr}
+use Rattle.std.proofs.lemmas.Str.{IsUtf8-from_ascii}
 use Rattle.std.specs.Cmp.{tied_itself}
 use Rattle.std.specs.Option.{is_some, option_map}
+use Rattle.std.specs.Str.{IsUtf8}
 use Rattle.std.specs.declared.cmp.Ordering.TheVariants.{Equal}
 use Rattle.version_parts.specs.Chunk.{PlainChunk}
 use Rattle.version_parts.specs.Front.{begins}
@@ -11,9 +12,9 @@ use Rattle.versions.specs.declared.kind.Kind.TheVariants as kind
 use Rattle.versions.specs.Conversions.{version_of_semver}
 use Rattle.versions.specs.Key.{key_of}
 use Rattle.versions.specs.Kind.{versioning_kind}
-use Rattle.versions.specs.Versioning.{PlainVersioning, Ideal, General, Complex, SpellsVersioning, is_prerelease, versioning_of, versioning_plain_cmp}
+use Rattle.versions.specs.Versioning.{PlainVersioning, Ideal, General, Complex, SpellsVersioning, is_prerelease, versioning_of, versioning_plain_cmp, versioning_text}
 use Rattle.versions.specs.VersioningLaws.{versioning_plain_total}
-use Rattle.versions.proofs.VersioningReading.{versioning_of-spells}
+use Rattle.versions.proofs.VersioningReading.{versioning_ascii, versioning_of-spells, versioning_printed}
 use Rattle.versions.proofs.Widening.{strict_is_general}
 use Rattle.version_texts.specs.declared.shape.Shape.{Shape}
 use Rattle.version_texts.specs.declared.shape.TailKind.{TailKind}
@@ -48,6 +49,16 @@ unspelled text e = elim (cases_Option (versioning_of text)) [
   | inl none ↦ none
   | inr some ↦ cc (ap (option_map (λ v. shape_at (versioning_kind v) text)) some.1, e)
 ]
+
+-- its version prints the text
+pub printed-is : (text : List ℕ) (s : Shape) → shape_of text ≡ Some s
+    → versioning_text (version_in text) ≡ text
+printed-is text s e = versioning_printed text (version_in text) (spells-is text s e)
+
+-- the text is UTF-8
+pub utf8-is : (text : List ℕ) (s : Shape) → shape_of text ≡ Some s → IsUtf8 text
+utf8-is text s e =
+    IsUtf8-from_ascii text (versioning_ascii text (version_in text) (spells-is text s e))
 
 -- a value of another type that is read of the text holds the version that it spells
 pub read-is : {R : Type 0} (view : R → PlainVersioning) (text : List ℕ) (s : Shape)
@@ -107,25 +118,20 @@ dashed_prerelease : (text : List ℕ) (o : Option (List PlainChunk)) → IsDashe
 dashed_prerelease text None d = rw d.0 refl
 dashed_prerelease text (Some chunks) d = rw d.0 refl
 
-general_tail : (text : List ℕ) → is_prerelease_tail (tail_kind kind.General text) ≡ false
-general_tail text = elim (cases_Bool (begins is_hyphen (behind_body text))) [
-  | inl there ↦ rw there refl
-  | inr other ↦ rw other refl
-]
-
-complex_tail : (text : List ℕ) → is_prerelease_tail (tail_kind kind.Complex text) ≡ false
-complex_tail text = elim (cases_Bool (length (behind_body text) == 0)) [
-  | inl none ↦ rw none refl
-  | inr some ↦ rw some refl
-]
+either_other : (b : Bool) (t u : TailKind) → is_prerelease_tail t ≡ false
+    → is_prerelease_tail u ≡ false → false ≡ is_prerelease_tail (if b then t else u)
+either_other true t u e f = sym e
+either_other false t u e f = sym f
 
 tail_prerelease : (text : List ℕ) (v : PlainVersioning) → SpellsVersioning text v
     → is_prerelease v ≡ is_prerelease_tail (tail_kind (versioning_kind v) text)
 tail_prerelease text (Ideal v) s =
     dashed_prerelease text v.pre_rel
     (version_dashed text (version_of_semver v) (strict_is_general text v s))
-tail_prerelease text (General v) s = sym (general_tail text)
-tail_prerelease text (Complex m) s = sym (complex_tail text)
+tail_prerelease text (General v) s =
+    either_other (begins is_hyphen (behind_body text)) Release Nothing refl refl
+tail_prerelease text (Complex m) s =
+    either_other (length (behind_body text) == 0) Nothing Sections refl refl
 
 -- a version is a pre-release exactly if its tail is one
 pub prerelease-is : (text : List ℕ) (s : Shape) → shape_of text ≡ Some s

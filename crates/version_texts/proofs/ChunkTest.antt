@@ -1,23 +1,24 @@
 -- A text is a numeral, a chunk, or a list of chunks with dots between, exactly if it passes the test of
 -- one.
-use Rattle.std.proofs.Common.{◌≡◌, ◌==◌, ◌&&◌, ◌||◌, ◌∙◌, ◌<◌, ◌^◌, ℕ, Bool, true, false, not, List, [], ◌∷◌, ◌++◌, length, nat_lt, refl, sym, ap, subst, arith, inl, inr}
+use Rattle.std.proofs.Common.{Option, Some, None, ◌≡◌, ◌==◌, ◌&&◌, ◌||◌, ◌∙◌, ◌<◌, ◌^◌, ℕ, Bool, true, false, not, List, [], ◌∷◌, ◌++◌, length, nat_lt, refl, sym, ap, subst, arith, inl, inr}
 use Rattle.std.proofs.lemmas.Bool.{eqb-false, ne_eqb, and_from, and_parts, eqb-true, lt-ltb, ltb-true, not-true, or_cases, or_left, or_right}
-use Rattle.std.proofs.lemmas.Bool.Decides.{nat_tests}
-use Rattle.std.specs.Char.{is_ascii_alphanumeric, is_ascii_digit}
+use Rattle.std.specs.Char.{is_ascii_digit}
 use Rattle.std.specs.Cmp.{first_so, second_so}
 use Rattle.std.specs.List.{list_all}
+use Rattle.std.specs.Option.{is_some}
 use Rattle.std.specs.Str.Parse.{digits_value}
-use Rattle.version_parts.specs.Bytes.{dot, is_identifier_byte}
+use Rattle.version_parts.specs.Bytes.{dot}
 use Rattle.version_parts.specs.Chunk.{PlainChunk, Numeric, Alphanum, SpellsChunkOf}
 use Rattle.version_parts.specs.DigitRun.{is_digits}
 use Rattle.version_parts.specs.Front.{begins}
 use Rattle.version_parts.specs.Grammar.{SpellsDotted}
 use Rattle.version_parts.specs.Numeral.{HasNoLeadingZero, SpellsNumeral}
-use Rattle.version_parts.proofs.Spelled.{all_weaker}
 use Rattle.version_texts.specs.TextKey.{pieces}
 use Rattle.version_texts.specs.TextKind.{is_chunk, is_numeral, is_run}
-use Rattle.version_texts.proofs.Pieces.{is_dot}
-use Rattle.version_texts.proofs.Splits.{JoinedBy, dotted_more, dotted_pass, split_is_joined, split_run}
+use Rattle.version_texts.specs.Piece.{is_dot}
+use Rattle.version_texts.proofs.Numeral.{some_digits}
+use Rattle.version_texts.proofs.Pieces.{chunk_bytes}
+use Rattle.version_texts.proofs.Splits.{JoinedBy, dotted_more, dotted_one, dotted_pass, split_is_joined, split_run}
 
 -- ---- runs
 
@@ -86,20 +87,11 @@ some_bytes : (text : List ℕ) → list_all is_ascii_digit text ≡ false → 0 
 some_bytes [] h = cc h
 some_bytes (b ∷ text) h = omega arith
 
-digits_some : (text : List ℕ) → is_digits text ≡ true → 0 < length text
-digits_some [] h = cc h
-digits_some (b ∷ text) h = omega arith
-
 -- chunks whose runs are of bytes that pass a test, which digits pass and a dot does not
 module _ (test : ℕ → Bool) (digits_pass : (b : ℕ) → is_ascii_digit b ≡ true → test b ≡ true)
     (no_dot : (b : ℕ) → test b ≡ true → is_dot b ≡ false) where
-  chunk_all : (text : List ℕ) (x : PlainChunk) → SpellsChunkOf test text x
-      → list_all test text ≡ true
-  chunk_all text (Numeric n) s = all_weaker is_ascii_digit test digits_pass text s.digits
-  chunk_all text (Alphanum run) s = rw s.0 s.1
-
   chunk_some : (text : List ℕ) (x : PlainChunk) → SpellsChunkOf test text x → 0 < length text
-  chunk_some text (Numeric n) s = digits_some text (digits_from text n s)
+  chunk_some text (Numeric n) s = some_digits text (digits_from text n s)
   chunk_some text (Alphanum run) s = rw s.0 (some_bytes run s.2)
 
   chunk_told : (text : List ℕ) (x : PlainChunk) → SpellsChunkOf test text x
@@ -111,13 +103,14 @@ module _ (test : ℕ → Bool) (digits_pass : (b : ℕ) → is_ascii_digit b ≡
   chunk_passes : (text : List ℕ) (x : PlainChunk) → SpellsChunkOf test text x
       → is_chunk test text ≡ true
   chunk_passes text x s =
-      let run = run_from test text (chunk_some text x s) (chunk_all text x s) in
+      let run = run_from test text (chunk_some text x s) (chunk_bytes test digits_pass text x s) in
       and_from _ _ run (chunk_told text x s)
 
   lone_passes : (text : List ℕ) (x : PlainChunk) → SpellsChunkOf test text x
       → list_all (is_chunk test) (pieces text) ≡ true
   lone_passes text x s =
-      ap (list_all (is_chunk test)) (split_run test is_dot no_dot text (chunk_all text x s))
+      ap (list_all (is_chunk test))
+      (split_run test is_dot no_dot text (chunk_bytes test digits_pass text x s))
       ∙ and_from _ _ (chunk_passes text x s) refl
 
   pub dotted_passes : (text : List ℕ) (xs : List PlainChunk)
@@ -134,11 +127,6 @@ module _ (test : ℕ → Bool) (digits_pass : (b : ℕ) → is_ascii_digit b ≡
         | inr other ↦ (Alphanum text, (refl, second_so _ _ both.0, not-true _ other))
       ]
 
-  lone : (text : List ℕ) (x : PlainChunk) → SpellsChunkOf test text x
-      → SpellsDotted (SpellsChunkOf test) text (x ∷ [])
-  unfolding SpellsDotted
-  lone text x s = s
-
   joined_spell : (text : List ℕ) (parts : List (List ℕ)) → JoinedBy is_dot text parts
       → list_all (is_chunk test) parts ≡ true
       → (xs : List PlainChunk) × SpellsDotted (SpellsChunkOf test) text xs
@@ -146,7 +134,7 @@ module _ (test : ℕ → Bool) (digits_pass : (b : ℕ) → is_ascii_digit b ≡
   joined_spell text [] j passes = absurd j
   joined_spell text (first ∷ []) j passes =
       let chunk = chunk_spells text (rw j (first_so _ _ passes)) in
-      (chunk.0 ∷ [], lone text chunk.0 chunk.1)
+      (chunk.0 ∷ [], dotted_one (SpellsChunkOf test) text chunk.0 chunk.1)
   joined_spell text (first ∷ next ∷ more) j passes =
       let both = and_parts (is_chunk test first) (list_all (is_chunk test) (next ∷ more)) passes in
       let chunk = chunk_spells first both.0 in
@@ -162,13 +150,10 @@ module _ (test : ℕ → Bool) (digits_pass : (b : ℕ) → is_ascii_digit b ≡
       → (xs : List PlainChunk) × SpellsDotted (SpellsChunkOf test) text xs
   dotted_spells text passes = joined_spell text (pieces text) (split_is_joined is_dot text) passes
 
--- ---- the two kinds of chunks
+-- ---- what is read exactly where a test passes
 
-pub digit_identifier : (b : ℕ) → is_ascii_digit b ≡ true → is_identifier_byte b ≡ true
-digit_identifier b h = rw h refl
-
-pub identifier_no_dot : (b : ℕ) → is_identifier_byte b ≡ true → is_dot b ≡ false
-identifier_no_dot b h = grind (arith, nat_tests)
-
-pub alphanumeric_no_dot : (b : ℕ) → is_ascii_alphanumeric b ≡ true → is_dot b ≡ false
-alphanumeric_no_dot b h = grind (arith, nat_tests)
+pub told_by_test : {X : Type 0} (o : Option X) (test : Bool) → ((x : X) → o ≡ Some x → test ≡ true)
+    → (test ≡ true → (x : X) × (o ≡ Some x)) → is_some o ≡ test
+told_by_test None true passes reads = cc (reads refl).1
+told_by_test None false passes reads = refl
+told_by_test (Some x) test passes reads = sym (passes x refl)

@@ -1,5 +1,5 @@
 -- A text spells a general version exactly if its pieces pass the tests of one.
-use Rattle.std.proofs.Common.{◌≡◌, ◌==◌, ◌&&◌, ◌+◌, Bool, ◌∙◌, ℕ, true, false, List, [], ◌∷◌, ◌++◌, drop, length, take, length-append, Option, Some, None, refl, sym, ap, subst, arith, inl, inr, append_assoc}
+use Rattle.std.proofs.Common.{◌≡◌, ◌==◌, ◌&&◌, ◌+◌, Bool, ◌∙◌, ℕ, true, false, List, [], ◌∷◌, ◌++◌, length, take, length-append, Option, Some, None, refl, sym, ap, subst, arith, inl, inr, append_assoc}
 use Rattle.std.proofs.lemmas.Bool.{and_from, and_parts, cases_Bool, eq-eqb, eqb-true, or_cases, or_left, or_right}
 use Rattle.std.proofs.lemmas.List.{drop-drop, take-append-drop, take_at}
 use Rattle.std.proofs.lemmas.List.Folds.{length-prefix_len}
@@ -11,7 +11,6 @@ use Rattle.std.specs.Str.Parse.{digits_value}
 use Rattle.version_parts.specs.Body.{PlainBody, SpellsBody}
 use Rattle.version_parts.specs.Bytes.{colon}
 use Rattle.version_parts.specs.Chunk.{PlainChunk, SpellsPart}
-use Rattle.version_parts.specs.Front.{begins}
 use Rattle.version_parts.specs.Grammar.{SpellsDotted}
 use Rattle.version_parts.specs.Last.{last_of}
 use Rattle.version_parts.specs.Lists.{split_last}
@@ -25,8 +24,10 @@ use Rattle.versions.proofs.VersionReading.{version_of-Some, version_of-spells}
 use Rattle.version_texts.specs.Shape.{behind_body, body_end, body_start, digits_len, from_body, has_epoch, is_section_byte}
 use Rattle.version_texts.specs.TextKey.{pieces}
 use Rattle.version_texts.specs.TextKind.{body_of, epoch_is_numeral, is_chunk, is_general, is_numeral, is_tail}
-use Rattle.version_texts.proofs.ChunkTest.{alphanumeric_no_dot, dotted_passes, dotted_spells, numeral_passes, numeral_spells}
-use Rattle.version_texts.proofs.Positions.{IsCut, behind_body-is, from_body-is, is_colon}
+use Rattle.version_texts.proofs.ChunkTest.{dotted_passes, dotted_spells, numeral_passes, numeral_spells, told_by_test}
+use Rattle.version_texts.proofs.Pieces.{alphanumeric_no_dot}
+use Rattle.version_texts.proofs.Positions.{IsCut, behind_body-is, from_body-is}
+use Rattle.version_texts.proofs.Runs.{behind_mark}
 use Rattle.version_texts.proofs.TailTest.{tail_passes, tail_spells}
 use Rattle.version_texts.proofs.TextShape.{version_cut}
 
@@ -54,11 +55,6 @@ without_epoch : (text : List ℕ) → has_epoch text ≡ false → body_start te
 unfolding body_start
 without_epoch text h = rw h refl
 
-begins_colon : (text : List ℕ) → begins is_colon text ≡ true
-    → (rest : List ℕ) × (text ≡ colon ∷ rest)
-begins_colon [] h = cc h
-begins_colon (b ∷ text) h = (text, ap (λ (c : ℕ). c ∷ text) (eqb-true b colon h))
-
 taken_behind : (text digits rest : List ℕ) (n : ℕ) → text ≡ digits ++ colon ∷ rest
     → length digits ≡ n → take (n + 1) text ≡ digits ++ colon ∷ []
 taken_behind text digits rest n whole count =
@@ -70,12 +66,12 @@ taken_behind text digits rest n whole count =
 epoch_taken : (text : List ℕ) → has_epoch text ≡ true
     → take (body_start text) text ≡ take_while is_ascii_digit text ++ colon ∷ []
 epoch_taken text here =
-    let behind = begins_colon (drop (digits_len text) text) (second_so _ _ here) in
-    let whole : text ≡ take_while is_ascii_digit text ++ colon ∷ behind.0 =
+    let whole =
     sym (take-append-drop (digits_len text) text)
-    ∙ ap (λ (l : List ℕ). take_while is_ascii_digit text ++ l) behind.1 in
+    ∙ ap (λ (l : List ℕ). take_while is_ascii_digit text ++ l)
+    (behind_mark colon text (digits_len text) (second_so _ _ here)) in
     ap (λ (n : ℕ). take n text) (with_epoch text here)
-    ∙ taken_behind text (take_while is_ascii_digit text) behind.0 (digits_len text) whole
+    ∙ taken_behind text (take_while is_ascii_digit text) _ (digits_len text) whole
     (length-prefix_len is_ascii_digit text)
 
 epoch_numeral : (text : List ℕ) → has_epoch text ≡ true → epoch_is_numeral text ≡ true
@@ -106,11 +102,8 @@ epoch_spells text passes = elim (cases_Bool (has_epoch text)) [
 abbrev are_parts : List ℕ → Bool
 are_parts text = list_all (is_chunk is_ascii_alphanumeric) (pieces text)
 
-split_none : {X : Type 0} (xs : List X) → split_last xs ≡ None → xs ≡ []
-split_none [] e = refl
-split_none (x ∷ xs) e = cc e
-
-no_parts : (text : List ℕ) (xs : List PlainChunk) → xs ≡ [] → ¬ SpellsDotted SpellsPart text xs
+no_parts : (text : List ℕ) (xs : List PlainChunk) → split_last xs ≡ None
+    → ¬ SpellsDotted SpellsPart text xs
 unfolding SpellsDotted
 no_parts text [] e s = s
 no_parts text (x ∷ xs) e s = cc e
@@ -118,7 +111,7 @@ no_parts text (x ∷ xs) e s = cc e
 parts_spell : (text : List ℕ) (xs : List PlainChunk) → SpellsDotted SpellsPart text xs
     → (body : PlainBody) × SpellsBody text body
 parts_spell text xs s = elim (cases_Option (split_last xs)) [
-  | inl none ↦ absurd (no_parts text xs (split_none xs none) s)
+  | inl none ↦ absurd (no_parts text xs none s)
   | inr split ↦ (
     (split.0.0, last_of split.0.1),
     record {
@@ -129,7 +122,8 @@ parts_spell text xs s = elim (cases_Option (split_last xs)) [
   )
 ]
 
-pub body_spells : (text : List ℕ) → are_parts text ≡ true → (body : PlainBody) × SpellsBody text body
+pub body_spells : (text : List ℕ) → are_parts text ≡ true
+    → (body : PlainBody) × SpellsBody text body
 body_spells text passes =
     let parts =
     dotted_spells is_ascii_alphanumeric digit_alphanumeric alphanumeric_no_dot text passes in
@@ -200,10 +194,6 @@ epoch_passes text epoch body rest (Some n) cut s =
     ∙ rw count (take_at s.0 (colon ∷ (body ++ rest)) (length s.0) refl) in
     or_right _ _ (ap is_numeral taken ∙ numeral_passes s.0 n s.2)
 
-parts_pass : (text : List ℕ) (xs : List PlainChunk) → SpellsDotted SpellsPart text xs
-    → are_parts text ≡ true
-parts_pass = dotted_passes is_ascii_alphanumeric digit_alphanumeric alphanumeric_no_dot
-
 pub spelled_is_general : (text : List ℕ) (v : PlainVersion) → SpellsVersion text v
     → is_general text ≡ true
 spelled_is_general text v s =
@@ -212,7 +202,8 @@ spelled_is_general text v s =
     let epoch = epoch_passes text s.epoch s.body rest v.epoch cut s.epoch_is in
     let body =
     ap are_parts (body_of-is text s.epoch s.body rest cut)
-    ∙ parts_pass s.body (v.chunks ++ s.body_is.part ∷ []) s.body_is.parts_are in
+    ∙ dotted_passes is_ascii_alphanumeric digit_alphanumeric alphanumeric_no_dot s.body
+    (v.chunks ++ s.body_is.part ∷ []) s.body_is.parts_are in
     let tail =
     ap is_tail (behind_body-is text s.epoch s.body rest cut)
     ∙ tail_passes s.release s.meta v.release v.meta s.release_is s.meta_is in
@@ -220,12 +211,6 @@ spelled_is_general text v s =
 
 -- a text that spells no general version does not pass
 pub general_kind : (text : List ℕ) → is_some (version_of text) ≡ is_general text
-general_kind text = elim (cases_Option (version_of text)) [
-  | inr one ↦ rw one.1 (sym (spelled_is_general text one.0 (version_of-spells text one.0 one.1)))
-  | inl none ↦ elim (cases_Bool (is_general text)) [
-    | inl passes ↦
-        let spelled = general_is_spelled text passes in
-        cc (version_of-Some text spelled.0 spelled.1, none)
-    | inr fails ↦ rw (none, fails) refl
-  ]
-]
+general_kind text = told_by_test (version_of text) (is_general text)
+    (λ v read. spelled_is_general text v (version_of-spells text v read))
+    (λ passes. let s = general_is_spelled text passes in (s.0, version_of-Some text s.0 s.1))

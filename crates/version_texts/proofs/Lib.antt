@@ -5,15 +5,18 @@ pub mod CommonParts
 pub mod DotPieces
 pub mod GeneralKind
 pub mod ListOrder
+pub mod MajorText
 pub mod Members
 pub mod MessKind
 pub mod MessShape
 pub mod Messy
+pub mod NextByte
 pub mod Numeral
 pub mod PartOrder
 pub mod PartsMatch
 pub mod Piece
 pub mod Pieces
+pub mod PlainOrder
 pub mod Positions
 pub mod Released
 pub mod Rooms
@@ -21,7 +24,6 @@ pub mod RunKeys
 pub mod Runs
 pub mod RunsWithin
 pub mod SameText
-pub mod Sameness
 pub mod ScanMessy
 pub mod ScanRun
 pub mod ScanText

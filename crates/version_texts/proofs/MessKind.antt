@@ -1,17 +1,16 @@
 -- A text spells a messy version exactly if it is runs of letters and digits with single dots and signs
 -- between.
-use Rattle.std.proofs.Common.{◌≡◌, ◌==◌, ◌∙◌, ℕ, true, false, List, [], ◌∷◌, ◌++◌, Some, refl, sym, ap, subst, arith, inl, inr, append-nil, append_assoc}
-use Rattle.std.proofs.lemmas.Bool.{and_parts, cases_Bool, eqb-true, or_cases}
-use Rattle.std.proofs.lemmas.Bool.Decides.{nat_tests}
+use Rattle.std.proofs.Common.{◌≡◌, ◌==◌, ◌∙◌, ℕ, true, List, [], ◌∷◌, ◌++◌, Some, refl, sym, ap, subst, inl, inr, append-nil, append_assoc}
+use Rattle.std.proofs.lemmas.Bool.{and_parts, eqb-true, or_cases}
 use Rattle.std.specs.Char.{is_ascii_alphanumeric}
 use Rattle.std.specs.Cmp.{second_so}
 use Rattle.std.specs.List.{list_all, slice_split}
 use Rattle.std.specs.Option.{is_some}
 use Rattle.version_parts.specs.Bytes.{dot}
 use Rattle.version_parts.specs.Front.{run_front}
-use Rattle.version_parts.specs.Grammar.{SpellsDotted, SpellsEach}
+use Rattle.version_parts.specs.Grammar.{SpellsEach}
 use Rattle.version_parts.specs.MChunk.{PlainMChunk, SpellsMChunk, chunk_before, mchunk_front}
-use Rattle.version_parts.specs.Sep.{PlainSep, Colon, Hyphen, Plus, Underscore, Tilde, is_sep, sep_byte, sep_of}
+use Rattle.version_parts.specs.Sep.{PlainSep, is_sep, sep_byte, sep_of}
 use Rattle.version_parts.proofs.Dotted.{cases_Option}
 use Rattle.version_parts.proofs.MChunkReading.{byte_of_sep, mchunk_sound, spelled_run, spelled_some}
 use Rattle.version_parts.proofs.RunFronts.{run_front-reads}
@@ -19,32 +18,24 @@ use Rattle.versions.specs.Mess.{Further, PlainMess, mess_of, Section, SpellsFurt
 use Rattle.versions.proofs.MessReading.{mess_of-Some, mess_of-spells}
 use Rattle.version_texts.specs.Class.{is_mark}
 use Rattle.version_texts.specs.TextKind.{is_messy, is_run}
-use Rattle.version_texts.proofs.ChunkTest.{run_from, run_some}
-use Rattle.version_texts.proofs.Splits.{JoinedBy, both_pass, dotted_more, dotted_pass, split_is_joined, split_run}
+use Rattle.version_texts.proofs.ChunkTest.{run_from, run_some, told_by_test}
+use Rattle.version_texts.proofs.Messy.{no_mark_in_run}
+use Rattle.version_texts.proofs.Sections.{sign_bytes}
+use Rattle.version_texts.proofs.Splits.{JoinedBy, both_pass, dotted_more, dotted_one, dotted_pass, split_is_joined, split_run}
 
 -- ---- what spells a messy version passes
-
-alphanumeric_no_mark : (b : ℕ) → is_ascii_alphanumeric b ≡ true → is_mark b ≡ false
-alphanumeric_no_mark b h = grind (arith, nat_tests)
 
 chunk_passes : (text : List ℕ) (chunk : PlainMChunk) → SpellsMChunk text chunk
     → is_messy text ≡ true
 chunk_passes text chunk s =
     let all = spelled_run text chunk s in
     ap (list_all (is_run is_ascii_alphanumeric))
-    (split_run is_ascii_alphanumeric is_mark alphanumeric_no_mark text all)
+    (split_run is_ascii_alphanumeric is_mark no_mark_in_run text all)
     ∙ rw (run_from is_ascii_alphanumeric text (spelled_some text chunk s) all) refl
 
 section_passes : (text : List ℕ) (chunks : Section) → SpellsSection text chunks
     → is_messy text ≡ true
 section_passes = dotted_pass SpellsMChunk is_mark (is_run is_ascii_alphanumeric) refl chunk_passes
-
-sign_marks : (sign : PlainSep) → is_mark (sep_byte sign) ≡ true
-sign_marks Colon = refl
-sign_marks Hyphen = refl
-sign_marks Plus = refl
-sign_marks Underscore = refl
-sign_marks Tilde = refl
 
 -- sections behind a text that passes
 behind_passes : (text more : List ℕ) (sections : List Further) → is_messy text ≡ true
@@ -56,7 +47,8 @@ behind_passes text more (further ∷ sections) passes s =
     let mark = sep_byte further.0 in
     let section = s.3 in
     let joined : is_messy (text ++ mark ∷ section.0) ≡ true =
-    both_pass is_mark (is_run is_ascii_alphanumeric) text mark section.0 (sign_marks further.0) passes
+    both_pass is_mark (is_run is_ascii_alphanumeric) text mark section.0
+    (sign_bytes further.0).3 passes
     (section_passes section.0 further.1 section.2) in
     let whole : text ++ more ≡ (text ++ mark ∷ section.0) ++ s.1 =
     ap (λ (l : List ℕ). text ++ l) (s.2 ∙ ap (λ (l : List ℕ). l ++ s.1) section.1)
@@ -81,7 +73,8 @@ run_spells : (text : List ℕ) → is_run is_ascii_alphanumeric text ≡ true
 run_spells text passes =
     let some = run_some is_ascii_alphanumeric text passes in
     let run =
-    rw append-nil at (run_front-reads is_ascii_alphanumeric text [] (second_so _ _ passes) some refl) in
+    rw append-nil at
+    (run_front-reads is_ascii_alphanumeric text [] (second_so _ _ passes) some refl) in
     let read = mchunk_sound text (chunk_before (text, [])) [] (mchunk_reads text run) refl in
     let chunk = chunk_before (text, []) in
     (chunk, subst (λ (l : List ℕ). SpellsMChunk l chunk) (sym (read.1 ∙ append-nil read.0)) read.2)
@@ -97,11 +90,6 @@ sign_of b h = elim (cases_Option (sep_of b)) [
 abbrev Spelled : List ℕ → Type 0
 Spelled text = (m : PlainMess) × SpellsMess text m
 
-lone_chunk : (text : List ℕ) (chunk : PlainMChunk) → SpellsMChunk text chunk
-    → SpellsSection text (chunk ∷ [])
-unfolding SpellsDotted
-lone_chunk text chunk s = s
-
 no_further : SpellsEach SpellsFurther [] []
 unfolding SpellsEach
 no_further = refl
@@ -113,47 +101,38 @@ unfolding SpellsEach
 one_more sign text more section sections s others =
     (sep_byte sign ∷ text, more, refl, (text, refl, s), others)
 
-alone : (text : List ℕ) (chunk : PlainMChunk) → SpellsMChunk text chunk → Spelled text
-alone text chunk s = (
-  record { first = chunk ∷ []; more = [] },
-  record {
-    first = text;
-    more = [];
-    whole_is = sym (append-nil text);
-    first_is = lone_chunk text chunk s;
-    more_is = no_further;
-  },
+-- a first section, and those after it
+made : (text first more : List ℕ) (section : Section) (sections : List Further)
+    → text ≡ first ++ more → SpellsSection first section → SpellsEach SpellsFurther more sections
+    → Spelled text
+made text first more section sections whole s each = (
+  record { first = section; more = sections },
+  record { first = first; more = more; whole_is = whole; first_is = s; more_is = each },
 )
+
+alone : (text : List ℕ) (chunk : PlainMChunk) → SpellsMChunk text chunk → Spelled text
+alone text chunk s =
+    made text text [] (chunk ∷ []) [] (sym (append-nil text)) (dotted_one SpellsMChunk text chunk s)
+    no_further
 
 -- a chunk before a version, with a dot between
 before_dot : (first others : List ℕ) (chunk : PlainMChunk) → SpellsMChunk first chunk
     → Spelled others → Spelled (first ++ dot ∷ others)
-before_dot first others chunk s m = (
-  record { first = chunk ∷ m.0.first; more = m.0.more },
-  record {
-    first = first ++ dot ∷ m.1.first;
-    more = m.1.more;
-    whole_is =
-        ap (λ (l : List ℕ). first ++ dot ∷ l) m.1.whole_is
-        ∙ sym (append_assoc first (dot ∷ m.1.first) m.1.more);
-    first_is = dotted_more SpellsMChunk first m.1.first chunk m.0.first s m.1.first_is;
-    more_is = m.1.more_is;
-  },
-)
+before_dot first others chunk s m =
+    made (first ++ dot ∷ others) (first ++ dot ∷ m.1.first) m.1.more (chunk ∷ m.0.first) m.0.more
+    (ap (λ (l : List ℕ). first ++ dot ∷ l) m.1.whole_is
+    ∙ sym (append_assoc first (dot ∷ m.1.first) m.1.more))
+    (dotted_more SpellsMChunk first m.1.first chunk m.0.first s m.1.first_is) m.1.more_is
 
 -- and with a sign between
 before_sign : (first others : List ℕ) (chunk : PlainMChunk) (sign : PlainSep)
     → SpellsMChunk first chunk → Spelled others → Spelled (first ++ sep_byte sign ∷ others)
-before_sign first others chunk sign s m = (
-  record { first = chunk ∷ []; more = (sign, m.0.first) ∷ m.0.more },
-  record {
-    first = first;
-    more = sep_byte sign ∷ (m.1.first ++ m.1.more);
-    whole_is = ap (λ (l : List ℕ). first ++ sep_byte sign ∷ l) m.1.whole_is;
-    first_is = lone_chunk first chunk s;
-    more_is = one_more sign m.1.first m.1.more m.0.first m.0.more m.1.first_is m.1.more_is;
-  },
-)
+before_sign first others chunk sign s m =
+    made (first ++ sep_byte sign ∷ others) first (sep_byte sign ∷ (m.1.first ++ m.1.more))
+    (chunk ∷ []) ((sign, m.0.first) ∷ m.0.more)
+    (ap (λ (l : List ℕ). first ++ sep_byte sign ∷ l) m.1.whole_is)
+    (dotted_one SpellsMChunk first chunk s)
+    (one_more sign m.1.first m.1.more m.0.first m.0.more m.1.first_is m.1.more_is)
 
 before_mark : (first others : List ℕ) (chunk : PlainMChunk) (mark : ℕ) → is_mark mark ≡ true
     → SpellsMChunk first chunk → Spelled others → Spelled (first ++ mark ∷ others)
@@ -176,7 +155,8 @@ pieces_spell text (first ∷ []) j passes =
     subst Spelled (sym j) (alone first chunk.0 chunk.1)
 pieces_spell text (first ∷ next ∷ more) j passes =
     let both =
-    and_parts (is_run is_ascii_alphanumeric first) (list_all (is_run is_ascii_alphanumeric) (next ∷ more))
+    and_parts (is_run is_ascii_alphanumeric first)
+    (list_all (is_run is_ascii_alphanumeric) (next ∷ more))
     passes in
     let chunk = run_spells first both.0 in
     let others = pieces_spell j.1 (next ∷ more) j.4 both.1 in
@@ -188,12 +168,6 @@ messy_is_spelled text passes =
 
 -- a text that spells no messy version does not pass
 pub mess_kind : (text : List ℕ) → is_some (mess_of text) ≡ is_messy text
-mess_kind text = elim (cases_Option (mess_of text)) [
-  | inr one ↦ rw one.1 (sym (spelled_is_messy text one.0 (mess_of-spells text one.0 one.1)))
-  | inl none ↦ elim (cases_Bool (is_messy text)) [
-    | inl passes ↦
-        let spelled = messy_is_spelled text passes in
-        cc (mess_of-Some text spelled.0 spelled.1, none)
-    | inr fails ↦ rw (none, fails) refl
-  ]
-]
+mess_kind text = told_by_test (mess_of text) (is_messy text)
+    (λ m read. spelled_is_messy text m (mess_of-spells text m read))
+    (λ passes. let s = messy_is_spelled text passes in (s.0, mess_of-Some text s.0 s.1))

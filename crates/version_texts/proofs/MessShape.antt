@@ -1,5 +1,5 @@
 -- The pieces of a messy version by its shape, and that its shape fits its text.
-use Rattle.std.proofs.Common.{◌≡◌, ◌==◌, ◌&&◌, ◌+◌, ◌<◌, ◌∙◌, ℕ, Bool, true, false, List, [], ◌∷◌, ◌++◌, drop, length, map, Option, Some, None, refl, ap, arith, inl, inr}
+use Rattle.std.proofs.Common.{◌≡◌, ◌==◌, ◌&&◌, ◌+◌, ◌<◌, ◌∙◌, ℕ, Bool, true, false, List, [], ◌∷◌, ◌++◌, drop, length, Option, Some, None, refl, ap, arith, inl, inr}
 use Rattle.std.proofs.lemmas.Bool.{cases_Bool, ne_eqb}
 use Rattle.std.proofs.lemmas.List.{take_rest}
 use Rattle.std.specs.Cmp.{second_so}
@@ -10,14 +10,13 @@ use Rattle.version_parts.specs.Bytes.{colon}
 use Rattle.version_parts.specs.DigitRun.{is_digits}
 use Rattle.version_parts.specs.Front.{begins}
 use Rattle.version_parts.specs.Grammar.{SpellsEach}
-use Rattle.version_parts.specs.PartKey.{section_parts}
 use Rattle.version_parts.specs.Sep.{PlainSep, Colon, Hyphen, Plus, Underscore, Tilde, sep_byte}
 use Rattle.versions.specs.declared.kind.Kind.TheVariants as kind
-use Rattle.versions.specs.Key.{key_behind_epoch, key_from_first, key_of_sections}
+use Rattle.versions.specs.Key.{key_behind_epoch, key_from_first, key_of_sections, sections_tail}
 use Rattle.versions.specs.Mess.{Further, PlainMess, Section, SpellsFurther, SpellsMess, SpellsSection}
 use Rattle.version_texts.specs.declared.shape.TailKind.TheVariants.{Nothing, Sections}
 use Rattle.version_texts.specs.Shape.{Fits, TailFits, behind_body, body_end, is_tail_byte, shape_at, tail_kind}
-use Rattle.version_texts.specs.TextKey.{sections_of}
+use Rattle.version_texts.specs.TextKey.{sections_of, tail_of, tail_of_sections}
 use Rattle.version_texts.proofs.Positions.{IsCut, and_false, behind_body-is, cut_behind_epoch, cut_without_epoch, is_colon}
 use Rattle.version_texts.proofs.Pieces.{section_bytes}
 use Rattle.version_texts.proofs.Sections.{further_text-is, no_further, section_epoch-is, sections_are, sections_bytes, sections_end}
@@ -108,31 +107,24 @@ behind_epoch text first rest chunks section more whole s each digits =
       key_is = rw (section_epoch-is first chunks s, digits) refl;
     }
 
-signed : (text first rest : List ℕ) (chunks : Section) (sign : PlainSep) (section : Section)
-    (more : List Further) → text ≡ first ++ rest → SpellsSection first chunks
-    → SpellsEach SpellsFurther rest ((sign, section) ∷ more)
-    → IsMessCut text chunks ((sign, section) ∷ more)
-signed text first rest chunks Colon section more whole s each =
-    elim (cases_Bool (is_digits first)) [
-      | inl digits ↦ behind_epoch text first rest chunks section more whole s each digits
-      | inr other ↦
-          without_epoch text first rest chunks ((Colon, section) ∷ more) whole s each
-          (rw other refl) (rw (section_epoch-is first chunks s, other) refl)
-    ]
-signed text first rest chunks sign section more whole s each =
-    let next = further_text-is rest (sign, section) more each in
-    without_epoch text first rest chunks ((sign, section) ∷ more) whole s each
-    (no_epoch (is_digits first) rest (ap (begins is_colon) next.2))
-    (apart _ chunks sign section more refl)
-
 messy_cut : (text first rest : List ℕ) (chunks : Section) (more : List Further)
     → text ≡ first ++ rest → SpellsSection first chunks → SpellsEach SpellsFurther rest more
     → IsMessCut text chunks more
 messy_cut text first rest chunks [] whole s each =
     without_epoch text first rest chunks [] whole s each
     (no_epoch (is_digits first) rest (ap (begins is_colon) (no_further rest each))) (alone _ chunks)
+messy_cut text first rest chunks ((Colon, section) ∷ more) whole s each =
+    elim (cases_Bool (is_digits first)) [
+      | inl digits ↦ behind_epoch text first rest chunks section more whole s each digits
+      | inr other ↦
+          without_epoch text first rest chunks ((Colon, section) ∷ more) whole s each
+          (rw other refl) (rw (section_epoch-is first chunks s, other) refl)
+    ]
 messy_cut text first rest chunks ((sign, section) ∷ more) whole s each =
-    signed text first rest chunks sign section more whole s each
+    let next = further_text-is rest (sign, section) more each in
+    without_epoch text first rest chunks ((sign, section) ∷ more) whole s each
+    (no_epoch (is_digits first) rest (ap (begins is_colon) next.2))
+    (apart _ chunks sign section more refl)
 
 -- a messy version is cut into its sections
 pub mess_cut : (text : List ℕ) (m : PlainMess) → SpellsMess text m → IsMessCut text m.first m.more
@@ -140,15 +132,16 @@ mess_cut text m s = messy_cut text s.first s.more m.first m.more s.whole_is s.fi
 
 -- ---- what follows the body
 
+-- the text behind the body and a sign, if there is any
+abbrev behind_sign : List ℕ → List ℕ
+behind_sign text = slice_range text (body_end text + 1) (length text)
+
 -- nothing follows the body of a messy version, or further sections up to the end of its text
 abbrev pub IsMessTail : List ℕ → List Further → Type 0
-IsMessTail text [] = (tail_kind kind.Complex text ≡ Nothing) × (body_end text ≡ length text)
-IsMessTail text (further ∷ more) =
-    (tail_kind kind.Complex text ≡ Sections) × (body_end text < length text)
-    × (sections_of (slice_range text (body_end text + 1) (length text))
-    ≡ map (λ f. section_parts f.1) (further ∷ more))
-    × (list_all (is_tail_byte Sections) (slice_range text (body_end text + 1) (length text))
-    ≡ true)
+IsMessTail text more =
+    (tail_of (tail_kind kind.Complex text) (behind_sign text) ≡ sections_tail more)
+    × TailFits (tail_kind kind.Complex text) (body_end text) (length text)
+    × (list_all (is_tail_byte (tail_kind kind.Complex text)) (behind_sign text) ≡ true)
 
 -- what follows the body are the further sections
 mess_tail : (text epoch body rest : List ℕ) (more : List Further) → IsCut text epoch body rest
@@ -157,35 +150,27 @@ mess_tail text epoch body rest [] cut each =
     let none : rest ≡ [] = no_further rest each in
     let behind : behind_body text ≡ [] = behind_body-is text epoch body rest cut ∙ none in
     let count : length rest ≡ 0 = ap (λ (l : List ℕ). length l) none in
-    (rw behind refl, omega (arith, length_cut text epoch body rest cut))
+    let end : body_end text ≡ length text = omega (arith, length_cut text epoch body rest cut) in
+    let kind_is : tail_kind kind.Complex text ≡ Nothing = rw behind refl in
+    (rw kind_is refl, rw kind_is end, rw (kind_is, ← end, none_taken text epoch body rest cut) refl)
 mess_tail text epoch body rest (further ∷ more) cut each =
     let next = further_text-is rest further more each in
     let tail = next.0 ++ next.1 in
     let behind : behind_body text ≡ sep_byte further.0 ∷ tail =
     behind_body-is text epoch body rest cut ∙ next.2 in
-    let taken : slice_range text (body_end text + 1) (length text) ≡ tail =
+    let taken : behind_sign text ≡ tail =
     take_rest text (body_end text + 1) ∙ behind_taken text epoch body rest cut
     ∙ ap (drop 1) next.2 in
     let some : (length (sep_byte further.0 ∷ tail) == 0) ≡ false =
-    ne_eqb (length (sep_byte further.0 ∷ tail)) 0 (omega arith) in (
-      rw (behind, some) refl,
-      omega (arith, length_cut text epoch body rest cut, ap (λ (l : List ℕ). length l) next.2),
-      ap sections_of taken ∙ sections_are next.0 next.1 further.1 more next.3 next.4,
-      rw taken (sections_bytes next.0 next.1 further.1 more next.3 next.4),
+    ne_eqb (length (sep_byte further.0 ∷ tail)) 0 (omega arith) in
+    let less : body_end text < length text =
+    omega (arith, length_cut text epoch body rest cut, ap (λ (l : List ℕ). length l) next.2) in
+    let kind_is : tail_kind kind.Complex text ≡ Sections = rw (behind, some) refl in
+    let sections = ap sections_of taken ∙ sections_are next.0 next.1 further.1 more next.3 next.4 in (
+      rw kind_is (ap tail_of_sections sections),
+      rw kind_is less,
+      rw (kind_is, taken) (sections_bytes next.0 next.1 further.1 more next.3 next.4),
     )
-
-tail_lies : (text : List ℕ) (more : List Further) → IsMessTail text more
-    → TailFits (tail_kind kind.Complex text) (body_end text) (length text)
-tail_lies text [] t = rw t.0 t.1
-tail_lies text (further ∷ more) t = rw t.0 t.1
-
-tail_passes : (text epoch body rest : List ℕ) (more : List Further) → IsCut text epoch body rest
-    → IsMessTail text more
-    → list_all (is_tail_byte (tail_kind kind.Complex text))
-    (slice_range text (body_end text + 1) (length text)) ≡ true
-tail_passes text epoch body rest [] cut t =
-    rw (t.0, ← t.1, none_taken text epoch body rest cut) refl
-tail_passes text epoch body rest (further ∷ more) cut t = rw t.0 t.3
 
 module _ (text : List ℕ) (m : PlainMess) (s : SpellsMess text m) where
   pub mess_tail-is : IsMessTail text (mess_cut text m s).more
@@ -199,9 +184,9 @@ module _ (text : List ℕ) (m : PlainMess) (s : SpellsMess text m) where
       let c = mess_cut text m s in
       record {
         epoch_fits = body_ordered text c.epoch c.body c.rest c.cut;
-        tail_fits = tail_lies text c.more mess_tail-is;
+        tail_fits = mess_tail-is.1;
         within = omega arith;
         epoch_is = c.epoch_is.0;
         body_is = rw (body_taken text c.epoch c.body c.rest c.cut) c.cut.bytes;
-        tail_is = tail_passes text c.epoch c.body c.rest c.more c.cut mess_tail-is;
+        tail_is = mess_tail-is.2;
       }

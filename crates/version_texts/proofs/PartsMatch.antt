@@ -117,10 +117,6 @@ module _ (all_wanted all : List PartKey) (w p : PartKey) (wanted_more more : Lis
     | inr other ↦ rw other at match.1
   ])
 
-  pub caret_goes_on : is_ne (part_cmp (Some p) (Some w)) ≡ false → is_plain_zero w ≡ true
-      → PartsMatchCaret wanted_more more ↔ PartsMatchCaret all_wanted all
-  caret_goes_on tied zero = rw (wanted_is, all_is) (λ match. (parts_same w p tied, rw zero match), λ match. rw zero at match.1)
-
   pub caret_other : is_ne (part_cmp (Some p) (Some w)) ≡ false → is_plain_zero w ≡ false
       → PartsNotBelow wanted_more more ↔ PartsMatchCaret all_wanted all
   caret_other tied other = first_other w p wanted_is all_is tied other
@@ -136,7 +132,3 @@ module _ (all_wanted all : List PartKey) (w p : PartKey) (wanted_more more : Lis
   pub below_longer : (next : PartKey) (others : List PartKey) → wanted_more ≡ next ∷ others → more ≡ []
       → ¬ PartsNotBelow all_wanted all
   below_longer next others goes none = rw (wanted_is, all_is, none, goes) (λ match. match.1)
-
-  pub below_goes_on : is_lt (part_cmp (Some p) (Some w)) ≡ false
-      → PartsNotBelow wanted_more more ↔ PartsNotBelow all_wanted all
-  below_goes_on above = rw (wanted_is, all_is) (λ match. (no_less _ above, match), λ match. match.1)

@@ -1,5 +1,5 @@
 -- The pieces of a text between its dots are the texts of the elements of a list that it spells.
-use Rattle.std.proofs.Common.{◌≡◌, ◌==◌, ◌∙◌, ℕ, Bool, true, false, List, [], ◌∷◌, ◌++◌, map, refl, sym, ap, arith}
+use Rattle.std.proofs.Common.{◌≡◌, ◌∙◌, ℕ, Bool, true, false, List, [], ◌∷◌, ◌++◌, map, refl, sym, ap, arith}
 use Rattle.std.proofs.lemmas.Bool.Decides.{nat_tests}
 use Rattle.std.proofs.lemmas.List.{map-append, map-id}
 use Rattle.std.proofs.lemmas.List.Elements.{All-cons, All-nil}
@@ -20,12 +20,9 @@ use Rattle.version_parts.proofs.ChunkReading.{digit_alphanumeric, part_printed}
 use Rattle.version_parts.proofs.LastReading.{last_printed}
 use Rattle.version_parts.proofs.MChunkReading.{mchunk_printed, spelled_run}
 use Rattle.version_parts.proofs.Spelled.{all_weaker}
+use Rattle.version_texts.specs.Piece.{is_dot}
 use Rattle.version_texts.specs.Shape.{is_section_byte}
 use Rattle.version_texts.specs.TextKey.{chunk_of, chunks_of, parts_of, pieces}
-
--- whether a byte is a dot
-abbrev pub is_dot : ℕ → Bool
-is_dot b = b == dot
 
 -- no byte of a text passes a test
 abbrev pub NonePass : (ℕ → Bool) → List ℕ → Type 0
@@ -76,23 +73,29 @@ module _ {X : Type 0} (Spells : List ℕ → X → Type 0) where
 
 -- ---- releases
 
-digit_identifier : (b : ℕ) → is_ascii_digit b ≡ true → is_identifier_byte b ≡ true
+pub digit_identifier : (b : ℕ) → is_ascii_digit b ≡ true → is_identifier_byte b ≡ true
 digit_identifier b h = rw h refl
 
-identifier_no_dot : (b : ℕ) → is_identifier_byte b ≡ true → is_dot b ≡ false
+pub identifier_no_dot : (b : ℕ) → is_identifier_byte b ≡ true → is_dot b ≡ false
 identifier_no_dot b h = grind (arith, nat_tests)
+
+pub alphanumeric_identifier : (b : ℕ) → is_ascii_alphanumeric b ≡ true → is_identifier_byte b ≡ true
+alphanumeric_identifier b h = rw h refl
+
+pub alphanumeric_no_dot : (b : ℕ) → is_ascii_alphanumeric b ≡ true → is_dot b ≡ false
+alphanumeric_no_dot b h = identifier_no_dot b (alphanumeric_identifier b h)
+
+pub digit_no_dot : (b : ℕ) → is_ascii_digit b ≡ true → is_dot b ≡ false
+digit_no_dot b h = identifier_no_dot b (digit_identifier b h)
 
 identifier_metadata : (b : ℕ) → is_identifier_byte b ≡ true → is_metadata_byte b ≡ true
 identifier_metadata b h = rw h refl
 
-alphanumeric_identifier : (b : ℕ) → is_ascii_alphanumeric b ≡ true → is_identifier_byte b ≡ true
-alphanumeric_identifier b h = rw h refl
-
-alphanumeric_section : (b : ℕ) → is_ascii_alphanumeric b ≡ true → is_section_byte b ≡ true
+pub alphanumeric_section : (b : ℕ) → is_ascii_alphanumeric b ≡ true → is_section_byte b ≡ true
 alphanumeric_section b h = rw h refl
 
 -- a chunk has only bytes that pass its test
-chunk_bytes : (test : ℕ → Bool) → ((b : ℕ) → is_ascii_digit b ≡ true → test b ≡ true)
+pub chunk_bytes : (test : ℕ → Bool) → ((b : ℕ) → is_ascii_digit b ≡ true → test b ≡ true)
     → (text : List ℕ) (x : PlainChunk) → SpellsChunkOf test text x
     → list_all test text ≡ true
 chunk_bytes test digits text (Numeric n) s = all_weaker is_ascii_digit test digits text s.digits
@@ -128,9 +131,7 @@ part_bytes : (text : List ℕ) (x : PlainChunk) → SpellsPart text x
 part_bytes = chunk_bytes is_ascii_alphanumeric digit_alphanumeric
 
 run_no_dot : (text : List ℕ) → list_all is_ascii_alphanumeric text ≡ true → NonePass is_dot text
-run_no_dot =
-    none_pass is_ascii_alphanumeric is_dot
-    (λ b h. identifier_no_dot b (alphanumeric_identifier b h))
+run_no_dot = none_pass is_ascii_alphanumeric is_dot alphanumeric_no_dot
 
 run_section : (text : List ℕ) → list_all is_ascii_alphanumeric text ≡ true
     → list_all is_section_byte text ≡ true

@@ -1,5 +1,5 @@
 -- Where the body of a text lies, if the text is cut into an epoch, a body and a rest.
-use Rattle.std.proofs.Common.{◌≡◌, ◌==◌, ◌&&◌, ◌+◌, ◌∙◌, ℕ, Bool, true, false, List, [], ◌∷◌, ◌++◌, drop, length, refl, sym, ap, arith, inl, inr, one-add, append_assoc, length-append}
+use Rattle.std.proofs.Common.{◌≡◌, ◌==◌, ◌&&◌, ◌+◌, ◌∙◌, ℕ, Bool, true, false, List, [], ◌∷◌, ◌++◌, drop, length, refl, sym, ap, arith, inl, inr, append_assoc, length-append}
 use Rattle.std.proofs.lemmas.Bool.{cases_Bool}
 use Rattle.std.proofs.lemmas.Bool.Decides.{nat_tests}
 use Rattle.std.proofs.lemmas.List.{drop_at}
@@ -12,6 +12,7 @@ use Rattle.version_parts.specs.Front.{begins}
 use Rattle.version_parts.specs.Reading.{EndsRun}
 use Rattle.version_parts.proofs.RunFronts.{prefix_len-append}
 use Rattle.version_parts.proofs.Spelled.{all_weaker}
+use Rattle.version_texts.proofs.Runs.{run_cons, run_none}
 use Rattle.version_texts.specs.Shape.{behind_body, body_end, body_start, digits_len, from_body, has_epoch, is_section_byte}
 
 -- whether a byte is a colon
@@ -33,14 +34,6 @@ pub ends_digits : (rest : List ℕ) → EndsRun is_section_byte rest → EndsRun
 ends_digits [] ends = refl
 ends_digits (b ∷ rest) ends = other_no_digit b ends
 
-digits_step : (b : ℕ) (text : List ℕ) → is_ascii_digit b ≡ true
-    → drop (digits_len (b ∷ text)) (b ∷ text) ≡ drop (digits_len text) text
-digits_step b text h = rw (h, one-add) refl
-
-digits_stop : (b : ℕ) (text : List ℕ) → is_ascii_digit b ≡ false
-    → drop (digits_len (b ∷ text)) (b ∷ text) ≡ b ∷ text
-digits_stop b text h = rw h refl
-
 -- a colon follows the digits at the start of a text if all before the rest are digits and the rest
 -- begins with a colon
 colon_behind : (first rest : List ℕ) → list_all is_section_byte first ≡ true
@@ -49,13 +42,13 @@ colon_behind : (first rest : List ℕ) → list_all is_section_byte first ≡ tr
     ≡ (list_all is_ascii_digit first && begins is_colon rest)
 colon_behind [] [] all ends = refl
 colon_behind [] (b ∷ rest) all ends =
-    ap (begins is_colon) (digits_stop b rest (other_no_digit b ends))
+    ap (begins is_colon) (run_none is_ascii_digit b rest (other_no_digit b ends)).1
 colon_behind (b ∷ first) rest all ends = elim (cases_Bool (is_ascii_digit b)) [
   | inl digit ↦
-      ap (begins is_colon) (digits_step b (first ++ rest) digit)
+      ap (begins is_colon) (run_cons is_ascii_digit b (first ++ rest) digit).1
       ∙ colon_behind first rest (second_so _ _ all) ends ∙ rw digit refl
   | inr other ↦
-      ap (begins is_colon) (digits_stop b (first ++ rest) other)
+      ap (begins is_colon) (run_none is_ascii_digit b (first ++ rest) other).1
       ∙ section_no_colon b (first_so _ _ all) ∙ rw other refl
 ]
 
@@ -88,13 +81,6 @@ cut_without_epoch text body rest whole bytes ends none = record {
   ends = ends;
 }
 
-digit_of_section : (b : ℕ) → is_ascii_digit b ≡ true → is_section_byte b ≡ true
-digit_of_section b h = rw h refl
-
-digits_section : (digits : List ℕ) → list_all is_ascii_digit digits ≡ true
-    → list_all is_section_byte digits ≡ true
-digits_section = all_weaker is_ascii_digit is_section_byte digit_of_section
-
 -- a text that begins with digits and a colon is cut behind them
 pub cut_behind_epoch : (text digits body rest : List ℕ) → text ≡ digits ++ colon ∷ (body ++ rest)
     → is_digits digits ≡ true
@@ -102,7 +88,8 @@ pub cut_behind_epoch : (text digits body rest : List ℕ) → text ≡ digits ++
     → IsCut text (digits ++ colon ∷ []) body rest
 unfolding body_start
 cut_behind_epoch text digits body rest whole run bytes ends =
-    let all = digits_section digits (second_so _ _ run) in
+    let all =
+    all_weaker is_ascii_digit is_section_byte (λ b h. rw h refl) digits (second_so _ _ run) in
     let epoch : has_epoch (digits ++ colon ∷ (body ++ rest)) ≡ true =
     has_epoch-append digits (colon ∷ (body ++ rest)) all refl ∙ rw run refl in
     let len : digits_len (digits ++ colon ∷ (body ++ rest)) ≡ length digits =

@@ -8,11 +8,9 @@ use Rattle.version_parts.specs.Bytes.{dot, hyphen, is_identifier_byte, plus}
 use Rattle.version_parts.specs.Front.{begins}
 use Rattle.version_texts.specs.TextKey.{pieces}
 use Rattle.version_texts.specs.TextKind.{is_chunk, is_metadata_tail, is_not_plus, is_released, is_tail}
+use Rattle.version_texts.proofs.Pieces.{identifier_no_dot}
 use Rattle.version_texts.proofs.Messy.{fails_first}
 use Rattle.version_texts.proofs.Runs.{and-false, behind_mark, behind_run, larger_run, last_piece, next_piece, other_piece}
-
-no_dot : (b : ℕ) → is_identifier_byte b ≡ true → (b == dot) ≡ false
-no_dot b h = grind (arith, nat_tests)
 
 no_plus : (b : ℕ) → is_identifier_byte b ≡ true → is_not_plus b ≡ true
 no_plus b h = grind (arith, nat_tests)
@@ -29,13 +27,13 @@ module _ (text : List ℕ) where
   bad_piece : (rest : List ℕ) → drop (prefix_len is_identifier_byte text) text ≡ rest → is_chunk is_identifier_byte (take_while is_identifier_byte text) ≡ false
       → list_all (is_chunk is_identifier_byte) (pieces (take_while is_not_plus text)) ≡ false
   bad_piece [] e bad =
-      fails_first (is_chunk is_identifier_byte) _ _ _ (last_piece is_identifier_byte is_not_plus no_plus (λ b. b == dot) no_dot text (rw e refl)) bad
+      fails_first (is_chunk is_identifier_byte) _ _ _ (last_piece is_identifier_byte is_not_plus no_plus (λ b. b == dot) identifier_no_dot text (rw e refl)) bad
   bad_piece (c ∷ rest) e bad = elim (cases_Bool (c == dot)) [
-    | inl dots ↦ fails_first (is_chunk is_identifier_byte) _ _ _ (next_piece is_identifier_byte is_not_plus no_plus (λ b. b == dot) no_dot text c rest e dots (dot_is_no_plus c dots)) bad
+    | inl dots ↦ fails_first (is_chunk is_identifier_byte) _ _ _ (next_piece is_identifier_byte is_not_plus no_plus (λ b. b == dot) identifier_no_dot text c rest e dots (dot_is_no_plus c dots)) bad
     | inr other ↦ elim (cases_Bool (c == plus)) [
-      | inl ends ↦ fails_first (is_chunk is_identifier_byte) _ _ _ (last_piece is_identifier_byte is_not_plus no_plus (λ b. b == dot) no_dot text (rw (e, ends) refl)) bad
+      | inl ends ↦ fails_first (is_chunk is_identifier_byte) _ _ _ (last_piece is_identifier_byte is_not_plus no_plus (λ b. b == dot) identifier_no_dot text (rw (e, ends) refl)) bad
       | inr goes_on ↦
-          let more = other_piece is_identifier_byte is_not_plus no_plus (λ b. b == dot) no_dot text c rest e other (rw goes_on refl) in
+          let more = other_piece is_identifier_byte is_not_plus no_plus (λ b. b == dot) identifier_no_dot text c rest e other (rw goes_on refl) in
           fails_first (is_chunk is_identifier_byte) _ more.1 more.0 more.2 (no_chunk more.0 more.3)
     ]
   ]
@@ -53,16 +51,16 @@ module _ (text : List ℕ) where
   module _ (good : is_chunk is_identifier_byte (take_while is_identifier_byte text) ≡ true) where
     pub released_next : (rest : List ℕ) → drop (prefix_len is_identifier_byte text) text ≡ dot ∷ rest → is_released text ≡ is_released rest
     released_next rest e =
-        rw (next_piece is_identifier_byte is_not_plus no_plus (λ b. b == dot) no_dot text dot rest e refl refl, good, behind_plus (dot ∷ rest) e) (rw one-add refl)
+        rw (next_piece is_identifier_byte is_not_plus no_plus (λ b. b == dot) identifier_no_dot text dot rest e refl refl, good, behind_plus (dot ∷ rest) e) (rw one-add refl)
 
     pub released_last : (rest : List ℕ) → drop (prefix_len is_identifier_byte text) text ≡ rest → begins (λ b. b == dot) rest ≡ false → is_released text ≡ is_metadata_tail rest
     released_last [] e ends =
-        rw (last_piece is_identifier_byte is_not_plus no_plus (λ b. b == dot) no_dot text (rw e refl), good, behind_plus [] e) refl
+        rw (last_piece is_identifier_byte is_not_plus no_plus (λ b. b == dot) identifier_no_dot text (rw e refl), good, behind_plus [] e) refl
     released_last (c ∷ rest) e ends = elim (cases_Bool (c == plus)) [
       | inl at_plus ↦
-          rw (last_piece is_identifier_byte is_not_plus no_plus (λ b. b == dot) no_dot text (rw (e, at_plus) refl), good, behind_plus (c ∷ rest) e, at_plus) (rw at_plus refl)
+          rw (last_piece is_identifier_byte is_not_plus no_plus (λ b. b == dot) identifier_no_dot text (rw (e, at_plus) refl), good, behind_plus (c ∷ rest) e, at_plus) (rw at_plus refl)
       | inr goes_on ↦
-          let more = other_piece is_identifier_byte is_not_plus no_plus (λ b. b == dot) no_dot text c rest e ends (rw goes_on refl) in
+          let more = other_piece is_identifier_byte is_not_plus no_plus (λ b. b == dot) identifier_no_dot text c rest e ends (rw goes_on refl) in
           rw (fails_first (is_chunk is_identifier_byte) _ more.1 more.0 more.2 (no_chunk more.0 more.3), goes_on) refl
     ]
 

@@ -1,5 +1,5 @@
 -- A messy text, behind its body.
-use Rattle.std.proofs.Common.{◌≡◌, ◌≢◌, ◌==◌, ◌+◌, ◌<◌, ◌≤◌, ◌∙◌, ℕ, zero, suc, Bool, true, false, List, [], ◌∷◌, drop, length, Some, None, refl, sym, ap, arith, inl, inr}
+use Rattle.std.proofs.Common.{◌&&◌, ◌≡◌, ◌≢◌, ◌==◌, ◌+◌, ◌<◌, ◌≤◌, ◌∙◌, ℕ, zero, suc, true, false, List, [], ◌∷◌, drop, length, Some, None, refl, ap, arith, inl, inr}
 use Rattle.std.proofs.lemmas.Bool.{cases_Bool, cases_lt, eq-eqb, ne_eqb}
 use Rattle.std.proofs.lemmas.List.{length-drop}
 use Rattle.std.proofs.lemmas.List.Sums.{prefix_len-le-length}
@@ -21,68 +21,71 @@ use Rattle.version_texts.proofs.Runs.{behind_mark, behind_run, larger_run}
 use Rattle.version_texts.proofs.Section.{empty_piece, end_last, end_next, pieces_last, pieces_next}
 use Rattle.version_texts.proofs.TakenRun.{run_some}
 
-runs : List ℕ → ℕ → Bool
-runs text place = list_all (is_run is_ascii_alphanumeric) (section_pieces text place)
-
--- a section of runs leaves what follows it
-messy_section : (n : ℕ) (text : List ℕ) (place : ℕ) → length text < place + n → runs text place ≡ true → is_messy (drop place text) ≡ are_marked_runs (drop (section_end text place) text)
-unfolding runs
-messy_section zero text place enough all = elim (cases_lt 0 (prefix_len is_ascii_alphanumeric (drop place text))) [
-  | inl some ↦
-      let inside : prefix_len is_ascii_alphanumeric (drop place text) ≤ length (drop place text) = prefix_len-le-length is_ascii_alphanumeric (drop place text) in
-      absurd (omega (arith, length-drop place text))
-  | inr none ↦ cc (sym all ∙ empty_piece text place (omega arith))
-]
-messy_section (suc n) text place enough all = elim (cases_lt 0 (prefix_len is_ascii_alphanumeric (drop place text))) [
-  | inl some ↦
-      let end = place + prefix_len is_ascii_alphanumeric (drop place text) in
-      let behind = behind_run is_ascii_alphanumeric text place end refl in
-      let first = messy_next (drop place text) some ∙ ap are_marked_runs behind in
-      elim (cases_Bool (begins (λ b. b == dot) (drop end text))) [
-        | inl dots ↦
-            let later : runs text (end + 1) ≡ true = second_so _ _ (rw (pieces_next text place end refl dots) at all) in
-            let more = messy_section n text (end + 1) (omega arith) later in
-            first ∙ rw (behind_mark dot text end dots) (more ∙ ap (λ (k : ℕ). are_marked_runs (drop k text)) (sym (end_next text place end refl dots)))
-        | inr other ↦ first ∙ ap (λ (k : ℕ). are_marked_runs (drop k text)) (sym (end_last text place end refl other))
-      ]
-  | inr none ↦ cc (sym all ∙ empty_piece text place (omega arith))
-]
+-- a section that is messy is runs, and what follows it is marked runs
+messy_section : (n : ℕ) (text : List ℕ) (place : ℕ) → length text < place + n
+    → is_messy (drop place text)
+    ≡ (list_all (is_run is_ascii_alphanumeric) (section_pieces text place)
+    && are_marked_runs (drop (section_end text place) text))
+messy_section zero text place enough =
+    elim (cases_lt 0 (prefix_len is_ascii_alphanumeric (drop place text))) [
+      | inl some ↦ absurd (omega (
+        arith,
+        prefix_len-le-length is_ascii_alphanumeric (drop place text),
+        length-drop place text,
+      ))
+      | inr none ↦
+          rw (empty_piece text place (omega arith)) (messy_empty (drop place text) (omega arith))
+    ]
+messy_section (suc n) text place enough =
+    elim (cases_lt 0 (prefix_len is_ascii_alphanumeric (drop place text))) [
+      | inl some ↦
+          let end = place + prefix_len is_ascii_alphanumeric (drop place text) in
+          let behind = behind_run is_ascii_alphanumeric text place end refl in
+          let first = messy_next (drop place text) some ∙ ap are_marked_runs behind in
+          let run = run_some is_ascii_alphanumeric (drop place text) some in
+          elim (cases_Bool (begins (λ b. b == dot) (drop end text))) [
+            | inl dots ↦
+                let more = messy_section n text (end + 1) (omega arith) in
+                first ∙ ap are_marked_runs (behind_mark dot text end dots) ∙ more
+                ∙ rw (pieces_next text place end refl dots, end_next text place end refl dots, run)
+                refl
+            | inr other ↦
+                first
+                ∙ rw (pieces_last text place end refl other, end_last text place end refl other, run)
+                refl
+          ]
+      | inr none ↦
+          rw (empty_piece text place (omega arith)) (messy_empty (drop place text) (omega arith))
+    ]
 
 -- a section with an empty piece is not messy
-pub messy_bad : (n : ℕ) (text : List ℕ) (place : ℕ) → length text < place + n → list_all (is_run is_ascii_alphanumeric) (section_pieces text place) ≡ false → is_messy (drop place text) ≡ false
-messy_bad zero text place enough bad = elim (cases_lt 0 (prefix_len is_ascii_alphanumeric (drop place text))) [
-  | inl some ↦
-      let inside : prefix_len is_ascii_alphanumeric (drop place text) ≤ length (drop place text) = prefix_len-le-length is_ascii_alphanumeric (drop place text) in
-      absurd (omega (arith, length-drop place text))
-  | inr none ↦ messy_empty (drop place text) (omega arith)
-]
-messy_bad (suc n) text place enough bad = elim (cases_lt 0 (prefix_len is_ascii_alphanumeric (drop place text))) [
-  | inl some ↦
-      let end = place + prefix_len is_ascii_alphanumeric (drop place text) in
-      let first = messy_next (drop place text) some ∙ ap are_marked_runs (behind_run is_ascii_alphanumeric text place end refl) in
-      let run = run_some is_ascii_alphanumeric (drop place text) some in
-      elim (cases_Bool (begins (λ b. b == dot) (drop end text))) [
-        | inl dots ↦
-            let later = rw (pieces_next text place end refl dots, run) at bad in
-            first ∙ rw (behind_mark dot text end dots) (messy_bad n text (end + 1) (omega arith) later)
-        | inr other ↦ cc (rw (pieces_last text place end refl other, run) at bad)
-      ]
-  | inr none ↦ messy_empty (drop place text) (omega arith)
-]
+pub messy_bad : (n : ℕ) (text : List ℕ) (place : ℕ) → length text < place + n
+    → list_all (is_run is_ascii_alphanumeric) (section_pieces text place) ≡ false
+    → is_messy (drop place text) ≡ false
+messy_bad n text place enough bad =
+    messy_section n text place enough
+    ∙ ap (λ t. t && are_marked_runs (drop (section_end text place) text)) bad
 
-pub messy_from_body : (text : List ℕ) → list_all (is_run is_ascii_alphanumeric) (pieces (body_of text)) ≡ true → is_messy (from_body text) ≡ are_marked_runs (behind_body text)
-unfolding body_end runs
-messy_from_body text all = messy_section (length text + 1) text (body_start text) (omega arith) all
+pub messy_from_body : (text : List ℕ)
+    → list_all (is_run is_ascii_alphanumeric) (pieces (body_of text)) ≡ true
+    → is_messy (from_body text) ≡ are_marked_runs (behind_body text)
+unfolding body_end
+messy_from_body text all =
+    messy_section (length text + 1) text (body_start text) (omega arith)
+    ∙ ap (λ t. t && are_marked_runs (drop (section_end text (body_start text)) text)) all
 
 pub some_digits : (text : List ℕ) → starts_with_digit text ≡ true → 0 < digits_len text
 some_digits [] digit = cc digit
 some_digits (b ∷ text) digit = rw digit (omega arith)
 
 -- digits and a colon before the body are a run and a mark
-messy_epoch : (text : List ℕ) → starts_with_digit text ≡ true → begins (λ b. b == colon) (drop (digits_len text) text) ≡ true → is_messy text ≡ is_messy (drop (digits_len text + 1) text)
+messy_epoch : (text : List ℕ) → starts_with_digit text ≡ true
+    → begins (λ b. b == colon) (drop (digits_len text) text) ≡ true
+    → is_messy text ≡ is_messy (drop (digits_len text + 1) text)
 messy_epoch text digit colons =
     let after = behind_mark colon text (digits_len text) colons in
-    let whole = rw after at (larger_run is_ascii_digit is_ascii_alphanumeric digits_alphanumeric text) in
+    let whole =
+    rw after at (larger_run is_ascii_digit is_ascii_alphanumeric digits_alphanumeric text) in
     let same : prefix_len is_ascii_alphanumeric text ≡ digits_len text = omega (arith, whole) in
     messy_next text (rw same (some_digits text digit)) ∙ rw (same, after) refl
 
@@ -95,23 +98,33 @@ messy_behind_epoch text = elim (cases_Bool (has_epoch text)) [
 
 -- ---- the shape of a text that isn't general
 
-module _ (text : List ℕ) (all : list_all (is_run is_ascii_alphanumeric) (pieces (body_of text)) ≡ true) (other : is_general text ≡ false) where
+module _ (text : List ℕ)
+    (all : list_all (is_run is_ascii_alphanumeric) (pieces (body_of text)) ≡ true)
+    (other : is_general text ≡ false) where
   pub messy_is : is_messy text ≡ are_marked_runs (behind_body text)
   messy_is = messy_behind_epoch text ∙ messy_from_body text all
 
-  pub no_kind : are_marked_runs (behind_body text) ≡ false → None ≡ option_map (λ k. shape_at k text) (kind_in text)
+  pub no_kind : are_marked_runs (behind_body text) ≡ false
+      → None ≡ option_map (λ k. shape_at k text) (kind_in text)
   no_kind fails = rw (other, messy_is, fails) refl
 
   pub complex_kind : are_marked_runs (behind_body text) ≡ true → kind_in text ≡ Some Complex
   complex_kind passes = rw (other, messy_is, passes) refl
 
-  module _ (body end : ℕ) (body_is : body ≡ body_start text) (end_is : end ≡ body_end text) (within : end ≤ length text) (passes : are_marked_runs (behind_body text) ≡ true) where
-    pub ended : end ≡ length text → Some (record { kind = Complex; tail = Nothing; body = body; end = end; tail_end = length text }) ≡ option_map (λ k. shape_at k text) (kind_in text)
+  module _ (body end : ℕ) (body_is : body ≡ body_start text) (end_is : end ≡ body_end text)
+      (within : end ≤ length text) (passes : are_marked_runs (behind_body text) ≡ true) where
+    pub ended : end ≡ length text
+        → Some (record { kind = Complex; tail = Nothing; body = body; end = end; tail_end = length text })
+        ≡ option_map (λ k. shape_at k text) (kind_in text)
     ended whole =
-        let none : (length (behind_body text) == 0) ≡ true = eq-eqb _ _ (omega (arith, length-drop (body_end text) text)) in
+        let none : (length (behind_body text) == 0) ≡ true =
+        eq-eqb _ _ (omega (arith, length-drop (body_end text) text)) in
         rw (complex_kind passes, none, body_is, end_is) refl
 
-    pub goes_on : end ≢ length text → Some (record { kind = Complex; tail = Sections; body = body; end = end; tail_end = length text }) ≡ option_map (λ k. shape_at k text) (kind_in text)
+    pub goes_on : end ≢ length text
+        → Some (record { kind = Complex; tail = Sections; body = body; end = end; tail_end = length text })
+        ≡ option_map (λ k. shape_at k text) (kind_in text)
     goes_on more =
-        let some : (length (behind_body text) == 0) ≡ false = ne_eqb _ _ (omega (arith, length-drop (body_end text) text)) in
+        let some : (length (behind_body text) == 0) ≡ false =
+        ne_eqb _ _ (omega (arith, length-drop (body_end text) text)) in
         rw (complex_kind passes, some, body_is, end_is) refl

@@ -1,17 +1,35 @@
 -- A run that begins at a place of a text, by where its digits end.
-use Rattle.std.proofs.Common.{◌≡◌, ◌+◌, ◌-◌, ◌<◌, ◌≤◌, ℕ, Bool, true, false, List, drop, take, refl, sym, ap, ◌∙◌, arith}
+use Rattle.std.proofs.Common.{◌≡◌, ◌+◌, ◌-◌, ◌<◌, ◌≤◌, ℕ, Bool, true, false, List, drop, take, refl, sym, ap, ◌∙◌, [], ◌∷◌, arith}
 use Rattle.std.proofs.lemmas.List.{drop-drop}
 use Rattle.std.proofs.lemmas.List.Folds.{length-prefix_len}
 use Rattle.std.specs.Char.{is_ascii_digit}
 use Rattle.std.specs.List.{list_all, prefix_len, take_while}
 use Rattle.version_parts.specs.Class.{HasDigits}
 use Rattle.version_parts.specs.DigitRun.{is_digits}
+use Rattle.version_parts.specs.Front.{begins}
 use Rattle.version_texts.specs.Class.{contains}
 use Rattle.version_texts.specs.Shape.{digits_len}
 use Rattle.version_texts.specs.TextKind.{is_chunk, is_numeral}
 use Rattle.version_texts.specs.declared.class.Class.{Class}
 use Rattle.version_texts.proofs.Runs.{all_smaller, larger_run, some_larger}
 use Rattle.version_texts.proofs.TakenRun.{chunk_digits, chunk_word, digits_not, digits_some}
+
+-- whether a run goes on behind a place
+begun_some : (test : ℕ → Bool) (text : List ℕ) → begins test text ≡ true → 0 < prefix_len test text
+begun_some test [] e = cc e
+begun_some test (b ∷ text) e = rw e (omega arith)
+
+begun_none : (test : ℕ → Bool) (text : List ℕ) → begins test text ≡ false → prefix_len test text ≡ 0
+begun_none test [] e = refl
+begun_none test (b ∷ text) e = rw e refl
+
+pub goes_on : (test : ℕ → Bool) (text : List ℕ) (place end : ℕ) → begins test (drop place text) ≡ true
+    → end ≡ place + prefix_len test (drop place text) → place < end
+goes_on test text place end e end_is = omega (arith, begun_some test (drop place text) e, end_is)
+
+pub stops : (test : ℕ → Bool) (text : List ℕ) (place : ℕ) → begins test (drop place text) ≡ false
+    → place ≡ place + prefix_len test (drop place text)
+stops test text place e = omega (arith, begun_none test (drop place text) e)
 
 module _ (class : Class) (has : HasDigits (contains class)) (text : List ℕ) (start digits_end end : ℕ) (digits_is : digits_end ≡ start + digits_len (drop start text))
     (end_is : end ≡ digits_end + prefix_len (contains class) (drop digits_end text)) where

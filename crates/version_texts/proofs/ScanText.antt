@@ -1,6 +1,6 @@
 -- What a text is by its first section.
 use Rattle.std.proofs.Common.{◌≡◌, ◌==◌, ◌&&◌, ◌+◌, ◌<◌, ◌∙◌, ℕ, Bool, true, false, List, [], ◌∷◌, drop, length, None, zero-add, refl, sym, ap, arith, inl, inr}
-use Rattle.std.proofs.lemmas.Bool.{cases_Bool, eq-eqb, eqb-true}
+use Rattle.std.proofs.lemmas.Bool.{cases_Bool, eq-eqb, eqb-true, ne_eqb}
 use Rattle.std.proofs.lemmas.Bool.Decides.{nat_tests}
 use Rattle.std.proofs.lemmas.List.{take-append-drop}
 use Rattle.std.proofs.lemmas.List.Splits.{join_with_byte-slice_split, slice_split_none}
@@ -54,6 +54,15 @@ module _ (text : List ℕ) (epoch : has_epoch text ≡ true) where
   unfolding body_start
   behind_colon = rw epoch refl
 
+  starts_later : (body_start text == 0) ≡ false
+  starts_later = ne_eqb _ _ (omega (arith, behind_colon))
+
+  pub numeral_epoch : is_numeral (take_while is_ascii_digit text) ≡ epoch_is_numeral text
+  numeral_epoch = rw starts_later refl
+
+  pub not_three : false ≡ has_three_numbers text
+  not_three = rw starts_later refl
+
   all : list_all is_ascii_digit (take_while is_ascii_digit text) ≡ true
   all = list_all-take_while is_ascii_digit text
 
@@ -97,6 +106,19 @@ one_piece_of_digits text = elim (cases_Bool (is_digits text)) [
   ]
 ]
 
+-- the same by its dots, one less than its pieces
+no_dots_one : (n : ℕ) → (n == 0) ≡ (n + 1 == 1)
+no_dots_one n = grind (arith, nat_tests)
+
+two_dots_three : (n : ℕ) → (n == 2) ≡ (n + 1 == 3)
+two_dots_three n = grind (arith, nat_tests)
+
+pub one_by_dots : (dots count : ℕ) → dots + 1 ≡ count → (dots == 0) ≡ (count == 1)
+one_by_dots dots count e = no_dots_one dots ∙ ap (λ (n : ℕ). n == 1) e
+
+pub three_by_dots : (dots count : ℕ) → dots + 1 ≡ count → (dots == 2) ≡ (count == 3)
+three_by_dots dots count e = two_dots_three dots ∙ ap (λ (n : ℕ). n == 3) e
+
 pub section_is_epoch : (text : List ℕ)
     → (((length (section_pieces text 0) == 1) && list_all is_digits (section_pieces text 0)) && begins (λ b. b == colon) (drop (section_end text 0) text)) ≡ has_epoch text
 section_is_epoch text =
@@ -134,10 +156,11 @@ bad_body text bad =
     rw (general, messy) refl
 
 -- a first section with an empty piece is no epoch
-pub bad_first : (text : List ℕ) → list_all (is_run is_ascii_alphanumeric) (section_pieces text 0) ≡ false → None ≡ option_map (λ k. shape_at k text) (kind_in text)
+pub bad_first : (text : List ℕ) → list_all (is_run is_ascii_alphanumeric) (section_pieces text 0) ≡ false
+    → list_all (is_run is_ascii_alphanumeric) (pieces (body_of text)) ≡ false
 bad_first text bad = elim (cases_Bool (has_epoch text)) [
   | inl epoch ↦ cc (sym bad ∙ epoch_runs text epoch)
-  | inr none ↦ bad_body text (rw (same_pieces text none) at bad)
+  | inr none ↦ rw (same_pieces text none) at bad
 ]
 
 pub body_end-section : (text : List ℕ) → section_end text (body_start text) ≡ body_end text

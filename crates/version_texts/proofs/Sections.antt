@@ -16,6 +16,7 @@ use Rattle.version_parts.proofs.MChunkReading.{mchunk_printed}
 use Rattle.version_parts.proofs.Spelled.{all_weaker}
 use Rattle.versions.specs.Key.{section_epoch}
 use Rattle.versions.specs.Mess.{Further, Section, SpellsFurther, SpellsSection}
+use Rattle.version_texts.specs.Class.{is_mark}
 use Rattle.version_texts.specs.declared.shape.TailKind.TheVariants.{Sections}
 use Rattle.version_texts.specs.Shape.{is_section_byte, is_tail_byte}
 use Rattle.version_texts.specs.TextKey.{parts_of, sections_of}
@@ -24,28 +25,17 @@ use Rattle.version_texts.proofs.Pieces.{NonePass, all_pass, none_pass, section_b
 
 -- ---- signs
 
-sign_is_sep : (sign : PlainSep) → is_sep (sep_byte sign) ≡ true
-sign_is_sep Colon = refl
-sign_is_sep Hyphen = refl
-sign_is_sep Plus = refl
-sign_is_sep Underscore = refl
-sign_is_sep Tilde = refl
+-- the byte of a sign is one, and so a byte of a tail and a mark, and no byte of a section
+pub sign_bytes : (sign : PlainSep) → (is_sep (sep_byte sign) ≡ true)
+    × (is_section_byte (sep_byte sign) ≡ false)
+    × (is_tail_byte Sections (sep_byte sign) ≡ true) × (is_mark (sep_byte sign) ≡ true)
+sign_bytes Colon = (refl, refl, refl, refl)
+sign_bytes Hyphen = (refl, refl, refl, refl)
+sign_bytes Plus = (refl, refl, refl, refl)
+sign_bytes Underscore = (refl, refl, refl, refl)
+sign_bytes Tilde = (refl, refl, refl, refl)
 
-sign_no_section : (sign : PlainSep) → is_section_byte (sep_byte sign) ≡ false
-sign_no_section Colon = refl
-sign_no_section Hyphen = refl
-sign_no_section Plus = refl
-sign_no_section Underscore = refl
-sign_no_section Tilde = refl
-
-sign_tail : (sign : PlainSep) → is_tail_byte Sections (sep_byte sign) ≡ true
-sign_tail Colon = refl
-sign_tail Hyphen = refl
-sign_tail Plus = refl
-sign_tail Underscore = refl
-sign_tail Tilde = refl
-
-section_no_sep : (b : ℕ) → is_section_byte b ≡ true → is_sep b ≡ false
+pub section_no_sep : (b : ℕ) → is_section_byte b ≡ true → is_sep b ≡ false
 section_no_sep b h = grind (arith, nat_tests)
 
 section_tail : (b : ℕ) → is_section_byte b ≡ true → is_tail_byte Sections b ≡ true
@@ -69,7 +59,7 @@ no_further rest s = s
 pub sections_end : (rest : List ℕ) (more : List Further) → SpellsEach SpellsFurther rest more
     → EndsRun is_section_byte rest
 sections_end rest [] s = rw (no_further rest s) refl
-sections_end rest (f ∷ more) s = rw (further_text-is rest f more s).2 (sign_no_section f.0)
+sections_end rest (f ∷ more) s = rw (further_text-is rest f more s).2 (sign_bytes f.0).1
 
 section_unsigned : (text : List ℕ) (chunks : Section) → SpellsSection text chunks
     → NonePass is_sep text
@@ -92,29 +82,25 @@ sections_are text rest chunks (f ∷ more) s others =
     ap (λ (l : List ℕ). sections_of (text ++ l)) next.2
     ∙ ap (map parts_of)
     (slice_split_at is_sep text (sep_byte f.0) (next.0 ++ next.1) (section_unsigned text chunks s)
-    (sign_is_sep f.0))
+    (sign_bytes f.0).0)
     ∙ λ i. section_parts-is text chunks s i ∷ sections_are next.0 next.1 f.1 more next.3 next.4 i
 
 -- and their bytes
+tail_bytes_of : (text : List ℕ) (chunks : Section) → SpellsSection text chunks
+    → list_all (is_tail_byte Sections) text ≡ true
+tail_bytes_of text chunks s =
+    all_weaker is_section_byte (is_tail_byte Sections) section_tail text (section_bytes text chunks s)
+
 pub sections_bytes : (text rest : List ℕ) (chunks : Section) (more : List Further)
     → SpellsSection text chunks → SpellsEach SpellsFurther rest more
     → list_all (is_tail_byte Sections) (text ++ rest) ≡ true
-sections_bytes text rest chunks more s others =
-    all_pass (is_tail_byte Sections) text rest
-    (all_weaker is_section_byte (is_tail_byte Sections) section_tail text
-    (section_bytes text chunks s)) (behind rest more others)
-  where
-    behind : (rest : List ℕ) (more : List Further) → SpellsEach SpellsFurther rest more
-        → list_all (is_tail_byte Sections) rest ≡ true
-    behind rest [] none = rw (no_further rest none) refl
-    behind rest (f ∷ more) each =
-        let next = further_text-is rest f more each in
-        let first =
-        all_weaker is_section_byte (is_tail_byte Sections) section_tail next.0
-        (section_bytes next.0 f.1 next.3) in
-        let others : list_all (is_tail_byte Sections) (next.0 ++ next.1) ≡ true =
-        all_pass (is_tail_byte Sections) next.0 next.1 first (behind next.1 more next.4) in
-        rw next.2 (rw (sign_tail f.0) others)
+sections_bytes text rest chunks [] s none =
+    rw (no_further rest none, append-nil) (tail_bytes_of text chunks s)
+sections_bytes text rest chunks (f ∷ more) s others =
+    let next = further_text-is rest f more others in
+    let behind : list_all (is_tail_byte Sections) rest ≡ true =
+    rw next.2 (rw (sign_bytes f.0).2 (sections_bytes next.0 next.1 f.1 more next.3 next.4)) in
+    all_pass (is_tail_byte Sections) text rest (tail_bytes_of text chunks s) behind
 
 -- ---- the epoch
 

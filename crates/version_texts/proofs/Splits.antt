@@ -36,7 +36,8 @@ pub split_is_joined : (cut : ℕ → Bool) (text : List ℕ) → JoinedBy cut te
 unfolding JoinedBy
 split_is_joined cut [] = refl
 split_is_joined cut (b ∷ text) = elim (cases_Bool (cut b)) [
-  | inl here ↦ rw here (begin_piece cut b text (slice_split cut text) here (split_is_joined cut text))
+  | inl here ↦
+      rw here (begin_piece cut b text (slice_split cut text) here (split_is_joined cut text))
   | inr other ↦ rw other (extend_piece cut b text (slice_split cut text) (split_is_joined cut text))
 ]
 
@@ -87,6 +88,12 @@ dotted_pass Spells cut test at_dot each text (x ∷ y ∷ xs) s =
     let others = dotted_pass Spells cut test at_dot each s.1 (y ∷ xs) s.4 in
     ap (λ (l : List ℕ). list_all test (slice_split cut l)) s.2
     ∙ both_pass cut test s.0 dot s.1 at_dot (each s.0 x s.3) others
+
+-- one element is a list
+pub dotted_one : {X : Type 0} (Spells : List ℕ → X → Type 0) (text : List ℕ) (x : X) → Spells text x
+    → SpellsDotted Spells text (x ∷ [])
+unfolding SpellsDotted
+dotted_one Spells text x s = s
 
 -- an element before the others of a list, with a dot between
 pub dotted_more : {X : Type 0} (Spells : List ℕ → X → Type 0) (first others : List ℕ) (x : X) (xs : List X)

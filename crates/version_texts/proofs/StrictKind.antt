@@ -1,7 +1,7 @@
 -- A text spells a strict version exactly if it spells a general one without an epoch, whose body is three
 -- runs of digits.
-use Rattle.std.proofs.Common.{◌≡◌, ◌==◌, ◌&&◌, ◌||◌, ◌∙◌, ℕ, true, false, not, List, [], ◌∷◌, ◌++◌, length, take, None, refl, sym, ap, subst, arith, inl, inr, append_assoc}
-use Rattle.std.proofs.lemmas.Bool.{and_from, and_parts, cases_Bool, eq-eqb, eqb-true, not-true, or_cases}
+use Rattle.std.proofs.Common.{◌≡◌, ◌==◌, ◌&&◌, ◌||◌, ◌∙◌, ℕ, true, not, List, [], ◌∷◌, ◌++◌, length, take, None, refl, sym, ap, subst, arith, inl, inr, append_assoc}
+use Rattle.std.proofs.lemmas.Bool.{and_from, and_parts, eq-eqb, eqb-true, not-true, or_cases}
 use Rattle.std.specs.Char.{is_ascii_alphanumeric, is_ascii_digit}
 use Rattle.std.specs.Cmp.{first_so, second_so}
 use Rattle.std.specs.List.{list_all}
@@ -14,7 +14,6 @@ use Rattle.version_parts.specs.Grammar.{SpellsDotted}
 use Rattle.version_parts.specs.Last as last
 use Rattle.version_parts.specs.Last.{IsLastOf}
 use Rattle.version_parts.specs.Numeral.{SpellsNumeral}
-use Rattle.version_parts.proofs.Dotted.{cases_Option}
 use Rattle.versions.specs.Conversions.{version_of_semver}
 use Rattle.versions.specs.SemVer.{PlainSemVer, SpellsSemVer, semver_of}
 use Rattle.versions.specs.Version.{SpellsEpoch}
@@ -23,18 +22,16 @@ use Rattle.versions.proofs.Widening.{strict_is_general}
 use Rattle.version_texts.specs.Shape.{behind_body, body_start}
 use Rattle.version_texts.specs.TextKey.{pieces}
 use Rattle.version_texts.specs.TextKind.{body_of, has_three_numbers, is_chunk, is_general, is_numeral, is_run}
-use Rattle.version_texts.proofs.ChunkTest.{alphanumeric_no_dot, digits_from, numeral_spells}
+use Rattle.version_texts.proofs.ChunkTest.{digits_from, numeral_spells, told_by_test}
 use Rattle.version_texts.proofs.GeneralKind.{body_of-is, cut_at_body, general_parts, spelled_is_general}
-use Rattle.version_texts.proofs.Pieces.{is_dot}
+use Rattle.version_texts.proofs.Pieces.{digit_no_dot}
+use Rattle.version_texts.specs.Piece.{is_dot}
 use Rattle.version_texts.proofs.Positions.{IsCut}
 use Rattle.version_texts.proofs.Splits.{JoinedBy, split-append, split_is_joined, split_run}
-use Rattle.version_texts.proofs.TailTest.{SpellsTail, tail_spells}
+use Rattle.version_texts.proofs.TailTest.{tail_spells}
 use Rattle.version_texts.proofs.TextShape.{version_cut}
 
 -- ---- what spells a strict version passes
-
-digit_no_dot : (b : ℕ) → is_ascii_digit b ≡ true → is_dot b ≡ false
-digit_no_dot b h = alphanumeric_no_dot b (rw h refl)
 
 numeral_alone : (text : List ℕ) (n : ℕ) → SpellsNumeral text n → pieces text ≡ text ∷ []
 numeral_alone text n s = split_run is_ascii_digit is_dot digit_no_dot text s.digits
@@ -111,9 +108,7 @@ digits_spell text passes digits =
     elim (or_cases (is_numeral text) (not (list_all is_ascii_digit text)) told) [
       | inl numeral ↦ numeral_spells text numeral
       | inr other ↦
-          let all : list_all is_ascii_digit text ≡ true =
-          (and_parts (starts_with_digit text) (list_all is_ascii_digit text) digits).1 in
-          cc (not-true (list_all is_ascii_digit text) other, all)
+          cc (not-true _ other, second_so (starts_with_digit text) (list_all is_ascii_digit text) digits)
     ]
 
 -- the pieces are chunks, and runs of digits
@@ -121,15 +116,11 @@ abbrev AllNumerals : List (List ℕ) → Type 0
 AllNumerals parts =
     (list_all (is_chunk is_ascii_alphanumeric) parts ≡ true) × (list_all is_digits parts ≡ true)
 
-head_numeral : (part : List ℕ) (parts : List (List ℕ)) → AllNumerals (part ∷ parts)
-    → SpellsNumeral part (digits_value 10 part)
-head_numeral part parts all = digits_spell part (first_so _ _ all.0) (first_so _ _ all.1)
-
-tail_numerals : (part : List ℕ) (parts : List (List ℕ)) → AllNumerals (part ∷ parts)
-    → AllNumerals parts
-tail_numerals part parts all = (
-  second_so (is_chunk is_ascii_alphanumeric part) (list_all (is_chunk is_ascii_alphanumeric) parts) all.0,
-  second_so (is_digits part) (list_all is_digits parts) all.1,
+numerals : (part : List ℕ) (parts : List (List ℕ)) → AllNumerals (part ∷ parts)
+    → SpellsNumeral part (digits_value 10 part) × AllNumerals parts
+numerals part parts all = (
+  digits_spell part (first_so _ _ all.0) (first_so _ _ all.1),
+  (second_so (is_chunk is_ascii_alphanumeric part) _ all.0, second_so (is_digits part) _ all.1),
 )
 
 at_dot : (text first others : List ℕ) (mark : ℕ) → is_dot mark ≡ true
@@ -144,7 +135,8 @@ three_spell text (a ∷ []) j count all = absurd (omega arith)
 three_spell text (a ∷ b ∷ []) j count all = absurd (omega arith)
 three_spell text (a ∷ b ∷ c ∷ []) j count all =
     let others = j.4 in
-    let behind = tail_numerals a (b ∷ c ∷ []) all in
+    let first = numerals a (b ∷ c ∷ []) all in
+    let second = numerals b (c ∷ []) first.1 in
     let two : j.1 ≡ b ++ dot ∷ c =
     at_dot j.1 b others.1 others.0 others.2 others.3 ∙ ap (λ (l : List ℕ). b ++ dot ∷ l) others.4 in
     record {
@@ -152,74 +144,62 @@ three_spell text (a ∷ b ∷ c ∷ []) j count all =
       minor = b;
       patch = c;
       whole = at_dot text a j.1 j.0 j.2 j.3 ∙ ap (λ (l : List ℕ). a ++ dot ∷ l) two;
-      major_is = head_numeral a (b ∷ c ∷ []) all;
-      minor_is = head_numeral b (c ∷ []) behind;
-      patch_is = head_numeral c [] (tail_numerals b (c ∷ []) behind);
+      major_is = first.0;
+      minor_is = second.0;
+      patch_is = (numerals c [] second.1).0;
     }
 three_spell text (a ∷ b ∷ c ∷ d ∷ more) j count all = absurd (omega arith)
 
 regroup : (a b c d : List ℕ) → (a ++ dot ∷ (b ++ dot ∷ c)) ++ d ≡ a ++ dot ∷ (b ++ dot ∷ (c ++ d))
 regroup a b c d = simp append_assoc
 
-three_before_tail : (text body rest : List ℕ) → text ≡ body ++ rest → SpellsThree body
-    → SpellsTail rest → (v : PlainSemVer) × SpellsSemVer text v
-three_before_tail text body rest whole three tail = (
-  record {
-    major = digits_value 10 three.major;
-    minor = digits_value 10 three.minor;
-    patch = digits_value 10 three.patch;
-    pre_rel = tail.chunks;
-    meta = tail.bytes;
-  },
-  record {
-    major = three.major;
-    minor = three.minor;
-    patch = three.patch;
-    pre_rel = tail.release;
-    meta = tail.meta;
-    whole =
-        whole ∙ (λ i. three.whole i ++ tail.whole i)
-        ∙ regroup three.major three.minor three.patch (tail.release ++ tail.meta);
-    major_is = three.major_is;
-    minor_is = three.minor_is;
-    patch_is = three.patch_is;
-    pre_rel_is = tail.release_is;
-    meta_is = tail.meta_is;
-  },
-)
-
 pub three_is_strict : (text : List ℕ) → is_general text ≡ true → has_three_numbers text ≡ true
     → (v : PlainSemVer) × SpellsSemVer text v
-three_is_strict text passes three =
+three_is_strict text passes has_three =
     let told = general_parts text passes in
     let parts = pieces (body_of text) in
-    let rest = behind_body text in
+    let tail = tail_spells (behind_body text) told.tail in
     let both =
-    and_parts (body_start text == 0 && length parts == 3) (list_all is_digits parts) three in
+    and_parts (body_start text == 0 && length parts == 3) (list_all is_digits parts) has_three in
     let first = and_parts (body_start text == 0) (length parts == 3) both.0 in
     let start = eqb-true (body_start text) 0 first.0 in
-    let whole : text ≡ body_of text ++ rest =
-    cut_at_body text ∙ ap (λ (n : ℕ). take n text ++ (body_of text ++ rest)) start in
     let joined = split_is_joined is_dot (body_of text) in
     let count = eqb-true (length parts) 3 first.1 in
-    let body = three_spell (body_of text) parts joined count (told.body, both.1) in
-    three_before_tail text (body_of text) rest whole body (tail_spells rest told.tail)
+    let three = three_spell (body_of text) parts joined count (told.body, both.1) in (
+      record {
+        major = digits_value 10 three.major;
+        minor = digits_value 10 three.minor;
+        patch = digits_value 10 three.patch;
+        pre_rel = tail.chunks;
+        meta = tail.bytes;
+      },
+      record {
+        major = three.major;
+        minor = three.minor;
+        patch = three.patch;
+        pre_rel = tail.release;
+        meta = tail.meta;
+        whole =
+            cut_at_body text
+            ∙ ap (λ (n : ℕ). take n text ++ (body_of text ++ behind_body text)) start
+            ∙ (λ i. three.whole i ++ tail.whole i)
+            ∙ regroup three.major three.minor three.patch (tail.release ++ tail.meta);
+        major_is = three.major_is;
+        minor_is = three.minor_is;
+        patch_is = three.patch_is;
+        pre_rel_is = tail.release_is;
+        meta_is = tail.meta_is;
+      },
+    )
 
 -- a text that spells no strict version does not pass
 pub strict_kind : (text : List ℕ)
     → is_some (semver_of text) ≡ (is_general text && has_three_numbers text)
-strict_kind text = elim (cases_Option (semver_of text)) [
-  | inr one ↦
-      let s = semver_of-spells text one.0 one.1 in
-      let general =
-      spelled_is_general text (version_of_semver one.0) (strict_is_general text one.0 s) in
-      let three = strict_has_three text one.0 s in
-      rw one.1 (sym (and_from (is_general text) (has_three_numbers text) general three))
-  | inl none ↦ elim (cases_Bool (is_general text && has_three_numbers text)) [
-    | inl passes ↦
-        let both = and_parts (is_general text) (has_three_numbers text) passes in
-        let spelled = three_is_strict text both.0 both.1 in
-        cc (semver_of-Some text spelled.0 spelled.1, none)
-    | inr fails ↦ rw (none, fails) refl
-  ]
-]
+strict_kind text = told_by_test (semver_of text) (is_general text && has_three_numbers text)
+    (λ v read.
+    let s = semver_of-spells text v read in
+    let general = spelled_is_general text (version_of_semver v) (strict_is_general text v s) in
+    and_from (is_general text) (has_three_numbers text) general (strict_has_three text v s))
+    (λ passes.
+    let both = and_parts (is_general text) (has_three_numbers text) passes in
+    let s = three_is_strict text both.0 both.1 in (s.0, semver_of-Some text s.0 s.1))

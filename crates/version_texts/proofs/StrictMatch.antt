@@ -2,7 +2,7 @@
 use Rattle.std.proofs.Common.{◌≡◌, ◌↔◌, ◌⊎◌, ◌∙◌, ◌<◌, ◌≤◌, ◌==◌, ℕ, suc, zero, true, false, List, [], ◌∷◌, Some, IsTrue, ap, arith, inl, inr, refl, sym}
 use Rattle.std.proofs.Math.Dec.{eqb-suc-zero}
 use Rattle.std.specs.Bool.{MatchBool, ⊤}
-use Rattle.std.specs.Cmp.{nat_cmp_is}
+use Rattle.std.specs.Cmp.{Equal-is, nat_cmp_is}
 use Rattle.std.specs.Ordering.{is_eq, is_ge, nat_cmp, ordering_then}
 use Rattle.std.specs.declared.cmp.Ordering.{Ordering}
 use Rattle.std.specs.declared.cmp.Ordering.TheVariants.{Less, Equal, Greater}
@@ -29,8 +29,10 @@ three_ways m n = grind (arith)
 not_below : (m n : ℕ) → IsNotBelow (plain m) (plain n) ↔ (m ≤ n)
 not_below m n = elim (three_ways n m) [
   | inl less ↦ (λ above. absurd (above (plain_cmp n m ∙ below n m less)), λ e. absurd (omega arith))
-  | inr (inl same) ↦ (λ e. omega arith, λ e less. let there = sym (nat_cmp_is n m Equal same) in cc (plain_cmp n m ∙ there, less))
-  | inr (inr more) ↦ (λ e. omega arith, λ e less. let there = above n m more in cc (plain_cmp n m ∙ there, less))
+  | inr (inl same) ↦
+      (λ e. omega arith, λ e less. let there = sym (nat_cmp_is n m Equal same) in cc (plain_cmp n m ∙ there, less))
+  | inr (inr more) ↦
+      (λ e. omega arith, λ e less. let there = above n m more in cc (plain_cmp n m ∙ there, less))
 ]
 
 -- ---- a tilde
@@ -39,14 +41,20 @@ pub tilde_of_numbers : (a b c x y z : ℕ)
     → PartsMatchTilde (strict_body a b c) (strict_body x y z) ↔ MatchesTilde (a, b, c) (x, y, z)
 tilde_of_numbers a b c x y z = (
   λ match.
-      let majors = (first_same (plain a) (plain x) (plain b) (plain y) (plain c ∷ []) (plain z ∷ [])).0 match in
+      let majors =
+      (first_same (plain a) (plain x) (plain b) (plain y) (plain c ∷ []) (plain z ∷ [])).0 match in
       let minors = (first_same (plain b) (plain y) (plain c) (plain z) [] []).0 majors.1 in
-      let patch : IsTrue (is_ge (part_cmp (Some (plain z)) (Some (plain c)))) = (at_the_end {all_wanted = []} {all = []} (plain c) (plain z) refl refl).1 minors.1 in
+      let patch : IsTrue (is_ge (part_cmp (Some (plain z)) (Some (plain c)))) =
+      (at_the_end {all_wanted = []} {all = []} (plain c) (plain z) refl refl).1 minors.1 in
       (plain_same a x majors.0, plain_same b y minors.0, (not_below c z).0 (ge_not_less _ patch)),
   λ match.
-      let patch = (at_the_end {all_wanted = []} {all = []} (plain c) (plain z) refl refl).0 (not_less_ge _ ((not_below c z).1 match.2)) in
-      let minors = (first_same (plain b) (plain y) (plain c) (plain z) [] []).1 (ap plain match.1, patch) in
-      (first_same (plain a) (plain x) (plain b) (plain y) (plain c ∷ []) (plain z ∷ [])).1 (ap plain match.0, minors),
+      let patch =
+      (at_the_end {all_wanted = []} {all = []} (plain c) (plain z) refl refl).0
+      (not_less_ge _ ((not_below c z).1 match.2)) in
+      let minors =
+      (first_same (plain b) (plain y) (plain c) (plain z) [] []).1 (ap plain match.1, patch) in
+      (first_same (plain a) (plain x) (plain b) (plain y) (plain c ∷ []) (plain z ∷ [])).1
+      (ap plain match.0, minors),
 )
   where
     ge_not_less : (o : Ordering) → IsTrue (is_ge o) → ¬ (o ≡ Less)
@@ -71,22 +79,29 @@ last_free (suc n) = tt
 -- behind a major of 0: equal patches if both minors are 0, else equal minors and a patch that is not less
 minors_caret : (b c y z : ℕ) → PartsMatchCaret (plain b ∷ plain c ∷ []) (plain y ∷ plain z ∷ [])
     ↔ MatchesCaret (0, b, c) (0, y, z)
-minors_caret zero c zero z = (λ match. plain_same c z match.1.0, λ e. (refl, (ap plain e, last_free c)))
-minors_caret zero c (suc y) z = rw (eqb-suc-zero y) (λ match. absurd (no_zero y match.0), λ match. absurd (omega (arith, match.0)))
+minors_caret zero c zero z =
+    (λ match. plain_same c z match.1.0, λ e. (refl, (ap plain e, last_free c)))
+minors_caret zero c (suc y) z =
+    rw (eqb-suc-zero y)
+    (λ match. absurd (no_zero y match.0), λ match. absurd (omega (arith, match.0)))
 minors_caret (suc b) c y z = rw (eqb-suc-zero b) (
   λ match. (plain_same (suc b) y match.0, (not_below c z).0 match.1.0),
   λ match. (ap plain match.0, ((not_below c z).1 match.1, tt)),
 )
 
-majors_caret : (b c x y z : ℕ) → PartsMatchCaret (strict_body 0 b c) (strict_body x y z) ↔ MatchesCaret (0, b, c) (x, y, z)
+majors_caret : (b c x y z : ℕ)
+    → PartsMatchCaret (strict_body 0 b c) (strict_body x y z) ↔ MatchesCaret (0, b, c) (x, y, z)
 majors_caret b c zero y z =
     let minors = minors_caret b c y z in
     (λ match. minors.0 match.1, λ match. (refl, minors.1 match))
-majors_caret b c (suc x) y z = rw (eqb-suc-zero x) (λ match. absurd (no_zero x match.0), λ match. absurd (omega (arith, match.0)))
+majors_caret b c (suc x) y z =
+    rw (eqb-suc-zero x)
+    (λ match. absurd (no_zero x match.0), λ match. absurd (omega (arith, match.0)))
 
 -- a minor and patch are not less
 pairs_not_less : (b c y z : ℕ)
-    → IsTrue (is_ge (ordering_then (nat_cmp y b) (nat_cmp z c))) ↔ ((b < y) ⊎ MatchesMinor (0, b, c) (0, y, z))
+    → IsTrue (is_ge (ordering_then (nat_cmp y b) (nat_cmp z c)))
+    ↔ ((b < y) ⊎ MatchesMinor (0, b, c) (0, y, z))
 pairs_not_less b c y z = elim (three_ways y b) [
   | inl less ↦ rw (below y b less) (
     λ e. cc e,
@@ -103,7 +118,8 @@ pairs_not_less b c y z = elim (three_ways y b) [
         | inr minor ↦ absurd (omega (arith, minor.1))
       ],
     )
-    | inr (inl tied) ↦ rw (sym (nat_cmp_is z c Equal tied)) (λ e. inr (sym same, omega arith), λ more. refl)
+    | inr (inl tied) ↦
+        rw (sym (nat_cmp_is z c Equal tied)) (λ e. inr (sym same, omega arith), λ more. refl)
     | inr (inr more) ↦ rw (above z c more) (λ e. inr (sym same, omega arith), λ more. refl)
   ])
   | inr (inr more) ↦ rw (above y b more) (λ e. inl more, λ more. refl)
@@ -121,11 +137,6 @@ no_plain_zero : (n : ℕ) → is_plain_zero (plain n) ≡ false → (n == 0) ≡
 no_plain_zero zero e = cc e
 no_plain_zero (suc n) e = eqb-suc-zero n
 
-is_tied : (o : Ordering) → is_eq o ≡ true → o ≡ Equal
-is_tied Less e = cc e
-is_tied Equal e = refl
-is_tied Greater e = cc e
-
 -- two bodies of three plain numbers, by their first parts
 module _ (all_wanted all : List PartKey) (w p : PartKey) (wanted_more more : List PartKey)
     (wanted_is : all_wanted ≡ w ∷ wanted_more) (all_is : all ≡ p ∷ more)
@@ -138,18 +149,21 @@ module _ (all_wanted all : List PartKey) (w p : PartKey) (wanted_more more : Lis
   first = cc (sym all_is ∙ numbers)
 
   -- the wanted major is 0
-  pub caret_of_zero : is_plain_zero w ≡ true → PartsMatchCaret all_wanted all ↔ MatchesCaret wanted v
+  pub caret_of_zero : is_plain_zero w ≡ true
+      → PartsMatchCaret all_wanted all ↔ MatchesCaret wanted v
   caret_of_zero is_none =
       let none = is_zero wanted.0 (rw first_wanted at is_none) in
       let both = majors_caret wanted.1 wanted.2 v.0 v.1 v.2 in
       rw (wanted_numbers, numbers, none) both
 
   -- the majors differ
-  pub caret_differs : is_plain_zero w ≡ false → is_eq (part_cmp (Some p) (Some w)) ≡ false → ¬ MatchesCaret wanted v
+  pub caret_differs : is_plain_zero w ≡ false → is_eq (part_cmp (Some p) (Some w)) ≡ false
+      → ¬ MatchesCaret wanted v
   caret_differs other differ =
       rw (no_plain_zero wanted.0 (rw first_wanted at other)) (λ match.
       let tied : part_cmp (Some p) (Some w) ≡ Equal =
-      rw (first_wanted, first) (plain_cmp v.0 wanted.0 ∙ sym (nat_cmp_is v.0 wanted.0 Equal (sym match.0))) in
+      rw (first_wanted, first)
+      (plain_cmp v.0 wanted.0 ∙ sym (nat_cmp_is v.0 wanted.0 Equal (sym match.0))) in
       cc (rw tied at differ))
 
   -- they are equal
@@ -157,8 +171,10 @@ module _ (all_wanted all : List PartKey) (w p : PartKey) (wanted_more more : Lis
       → IsTrue (is_ge (list_cmp all all_wanted)) ↔ MatchesCaret wanted v
   caret_of_major other same =
       let tied : nat_cmp v.0 wanted.0 ≡ Equal =
-      sym (plain_cmp v.0 wanted.0) ∙ (λ i. part_cmp (Some (sym first i)) (Some (sym first_wanted i))) ∙ is_tied _ same in
-      let order : list_cmp all all_wanted ≡ ordering_then (nat_cmp v.1 wanted.1) (nat_cmp v.2 wanted.2) =
+      sym (plain_cmp v.0 wanted.0)
+      ∙ (λ i. part_cmp (Some (sym first i)) (Some (sym first_wanted i))) ∙ (Equal-is _).0 same in
+      let order : list_cmp all all_wanted
+      ≡ ordering_then (nat_cmp v.1 wanted.1) (nat_cmp v.2 wanted.2) =
       (λ i. list_cmp (numbers i) (wanted_numbers i))
       ∙ bodies_cmp wanted.0 wanted.1 wanted.2 v.0 v.1 v.2
       ∙ ap (λ o. ordering_then o (ordering_then (nat_cmp v.1 wanted.1) (nat_cmp v.2 wanted.2))) tied in

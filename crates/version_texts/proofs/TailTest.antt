@@ -16,8 +16,8 @@ use Rattle.version_parts.proofs.RunFronts.{prefix_len-append}
 use Rattle.version_parts.proofs.Spelled.{all_weaker}
 use Rattle.version_texts.specs.TextKey.{pieces}
 use Rattle.version_texts.specs.TextKind.{is_chunk, is_metadata_tail, is_not_plus, is_run, is_tail}
-use Rattle.version_texts.proofs.ChunkTest.{digit_identifier, dotted_passes, dotted_spells, identifier_no_dot, run_from, run_some}
-use Rattle.version_texts.proofs.Pieces.{release_bytes}
+use Rattle.version_texts.proofs.ChunkTest.{dotted_passes, dotted_spells, run_from, run_some}
+use Rattle.version_texts.proofs.Pieces.{digit_identifier, identifier_no_dot, release_bytes}
 
 -- ---- what passes is spelled
 

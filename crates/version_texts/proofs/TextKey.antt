@@ -1,6 +1,5 @@
 -- The key of a version is the one that is read off its text by its shape.
-use Rattle.std.proofs.Common.{◌≡◌, ◌∙◌, ◌+◌, ℕ, List, length, [], ◌∷◌, ◌++◌, Option, Some, None, refl, sym, ap}
-use Rattle.std.specs.Prelude.{slice_range}
+use Rattle.std.proofs.Common.{◌≡◌, ◌∙◌, ℕ, List, [], ◌∷◌, ◌++◌, Option, Some, None, refl, sym, ap}
 use Rattle.std.specs.Option.{option_map_or}
 use Rattle.version_parts.specs.Chunk.{PlainChunk}
 use Rattle.version_parts.specs.Last.{last_text}
@@ -9,9 +8,9 @@ use Rattle.version_parts.proofs.ListBytes.{plain_number}
 use Rattle.versions.specs.declared.kind.Kind.{Kind}
 use Rattle.versions.specs.declared.kind.Kind.TheVariants as kind
 use Rattle.versions.specs.Conversions.{version_of_semver}
-use Rattle.versions.specs.Key.{key_of, key_of_mess, key_of_semver, key_of_version, sections_tail, strict_body}
+use Rattle.versions.specs.Key.{key_of, key_of_mess, key_of_semver, key_of_version, strict_body}
 use Rattle.versions.specs.Kind.{versioning_kind}
-use Rattle.versions.specs.Mess.{Further, PlainMess, SpellsMess}
+use Rattle.versions.specs.Mess.{PlainMess, SpellsMess}
 use Rattle.versions.specs.SemVer.{PlainSemVer, SpellsSemVer}
 use Rattle.versions.specs.Tail as tail
 use Rattle.versions.specs.Tail.{Tail}
@@ -21,9 +20,9 @@ use Rattle.versions.proofs.VersioningReading.{versioning_of-spells}
 use Rattle.versions.proofs.Widening.{strict_is_general}
 use Rattle.version_texts.specs.declared.shape.TailKind.{TailKind}
 use Rattle.version_texts.specs.declared.shape.TailKind.TheVariants.{PreRelease, Release}
-use Rattle.version_texts.specs.Shape.{Fits, body_end, body_in, shape_at, tail_in, tail_kind}
-use Rattle.version_texts.specs.TextKey.{chunks_of, parts_of, tail_of, tail_of_sections, text_key}
-use Rattle.version_texts.proofs.MessShape.{IsMessTail, mess_cut, mess_fits, mess_tail-is}
+use Rattle.version_texts.specs.Shape.{Fits, body_in, shape_at, tail_in}
+use Rattle.version_texts.specs.TextKey.{chunks_of, parts_of, tail_of, text_key}
+use Rattle.version_texts.proofs.MessShape.{mess_cut, mess_fits, mess_tail-is}
 use Rattle.version_texts.proofs.Pieces.{body_parts, release_chunks, section_parts-is}
 use Rattle.version_texts.proofs.TextShape.{IsDashed, body_taken, dashed_shape, general_fits, strict_fits, version_cut, version_dashed, version_epoch}
 
@@ -88,13 +87,6 @@ strict_key text v s =
 
 -- ---- messy versions
 
--- the tail of a messy version
-mess_tail_key : (text : List ℕ) (more : List Further) → IsMessTail text more
-    → tail_of (tail_kind kind.Complex text) (slice_range text (body_end text + 1) (length text))
-    ≡ sections_tail more
-mess_tail_key text [] t = rw t.0 refl
-mess_tail_key text (further ∷ more) t = rw t.0 (ap tail_of_sections t.2)
-
 -- the key of a messy version
 pub mess_key : (text : List ℕ) (m : PlainMess) → SpellsMess text m
     → key_of_mess m ≡ text_key text (shape_at kind.Complex text)
@@ -103,27 +95,22 @@ mess_key text m s =
     let body =
     ap parts_of (body_taken text c.epoch c.body c.rest c.cut)
     ∙ section_parts-is c.body c.chunks c.body_is in
-    let tail = mess_tail_key text c.more (mess_tail-is text m s) in
+    let tail = (mess_tail-is text m s).0 in
     c.key_is ∙ sym (λ i. record { epoch = c.epoch_is.1 i; body = body i; tail = tail i })
 
 -- ---- versions of any kind
 
+spelled : (text : List ℕ) (v : PlainVersioning) → SpellsVersioning text v
+    → (key_of v ≡ text_key text (shape_at (versioning_kind v) text))
+    × Fits text (shape_at (versioning_kind v) text)
+spelled text (Ideal v) s = (strict_key text v s, strict_fits text v s)
+spelled text (General v) s = (general_key text v s.0, general_fits text v s.0)
+spelled text (Complex m) s = (mess_key text m s.0, mess_fits text m s.0)
+
 pub versioning_key : (text : List ℕ) (v : PlainVersioning) → versioning_of text ≡ Some v
     → key_of v ≡ text_key text (shape_at (versioning_kind v) text)
-versioning_key text v e = spelled v (versioning_of-spells text v e)
-  where
-    spelled : (v : PlainVersioning) → SpellsVersioning text v
-        → key_of v ≡ text_key text (shape_at (versioning_kind v) text)
-    spelled (Ideal v) s = strict_key text v s
-    spelled (General v) s = general_key text v s.0
-    spelled (Complex m) s = mess_key text m s.0
+versioning_key text v e = (spelled text v (versioning_of-spells text v e)).0
 
 pub versioning_fits : (text : List ℕ) (v : PlainVersioning) → versioning_of text ≡ Some v
     → Fits text (shape_at (versioning_kind v) text)
-versioning_fits text v e = spelled v (versioning_of-spells text v e)
-  where
-    spelled : (v : PlainVersioning) → SpellsVersioning text v
-        → Fits text (shape_at (versioning_kind v) text)
-    spelled (Ideal v) s = strict_fits text v s
-    spelled (General v) s = general_fits text v s.0
-    spelled (Complex m) s = mess_fits text m s.0
+versioning_fits text v e = (spelled text v (versioning_of-spells text v e)).1

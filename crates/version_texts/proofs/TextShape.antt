@@ -4,7 +4,6 @@ use Rattle.std.proofs.lemmas.Bool.Decides.{nat_tests}
 use Rattle.std.proofs.lemmas.List.{drop-drop, take_at}
 use Rattle.std.proofs.lemmas.List.Sums.{prefix_len-le-length}
 use Rattle.std.specs.Char.{is_ascii_digit}
-use Rattle.std.specs.Cmp.{first_so, second_so}
 use Rattle.std.specs.List.{list_all, prefix_len}
 use Rattle.std.specs.Option.{unwrap_or}
 use Rattle.std.specs.Prelude.{slice_range}
@@ -15,7 +14,6 @@ use Rattle.version_parts.specs.DigitRun.{is_digits}
 use Rattle.version_parts.specs.Front.{begins}
 use Rattle.version_parts.specs.Grammar.{SpellsOptional}
 use Rattle.version_parts.specs.Metadata.{SpellsMetadata}
-use Rattle.version_parts.specs.Numeral.{SpellsNumeral}
 use Rattle.version_parts.specs.Reading.{EndsRun}
 use Rattle.version_parts.specs.Release.{SpellsRelease}
 use Rattle.version_parts.proofs.RunFronts.{prefix_len-append}
@@ -32,6 +30,7 @@ use Rattle.version_texts.specs.declared.shape.TailKind.{TailKind}
 use Rattle.version_texts.specs.declared.shape.TailKind.TheVariants.{Nothing, PreRelease, Release}
 use Rattle.version_texts.specs.Shape.{Fits, TailFits, behind_body, body_end, body_start, is_section_byte, is_tail_byte, shape_at, tail_in}
 use Rattle.version_texts.specs.TextKind.{is_not_plus}
+use Rattle.version_texts.proofs.ChunkTest.{digits_from}
 use Rattle.version_texts.proofs.Pieces.{body_bytes, release_bytes}
 use Rattle.version_texts.proofs.Positions.{IsCut, and_false, behind_body-is, body_end-is, cut_behind_epoch, cut_without_epoch, from_body-is, is_colon}
 
@@ -100,13 +99,6 @@ no_epoch_taken text body rest cut = rw cut.starts refl
 
 -- ---- general versions, the strict ones among them
 
--- a numeral is a run of digits
-numeral_digits : (text : List ℕ) (n : ℕ) → SpellsNumeral text n → is_digits text ≡ true
-numeral_digits [] n s = absurd s.canonical
-numeral_digits (b ∷ text) n s =
-    let first : is_ascii_digit b ≡ true = first_so _ _ s.digits in
-    rw first (second_so _ _ s.digits)
-
 -- a text is cut behind the epoch that it spells
 epoch_cut : (text epoch body rest : List ℕ) (o : Option ℕ) → SpellsEpoch epoch o
     → text ≡ epoch ++ (body ++ rest) → list_all is_section_byte body ≡ true
@@ -118,10 +110,10 @@ epoch_cut text epoch body rest None s whole bytes ends no_colon =
 epoch_cut text epoch body rest (Some n) s whole bytes ends no_colon =
     let behind : text ≡ s.0 ++ colon ∷ (body ++ rest) =
     rw s.1 at whole ∙ append_assoc s.0 (colon ∷ []) (body ++ rest) in
-    rw s.1 (cut_behind_epoch text s.0 body rest behind (numeral_digits s.0 n s.2) bytes ends)
+    rw s.1 (cut_behind_epoch text s.0 body rest behind (digits_from s.0 n s.2) bytes ends)
 
 module _ (text : List ℕ) (v : PlainVersion) (s : SpellsVersion text v) where
-  no_meta : (test : ℕ → Bool) → test plus ≡ false → begins test s.meta ≡ false
+  pub no_meta : (test : ℕ → Bool) → test plus ≡ false → begins test s.meta ≡ false
   no_meta test other =
       rw append-nil at
       (optional_begins plus SpellsMetadata test s.meta v.meta [] s.meta_is other refl)
@@ -163,8 +155,14 @@ IsDashed text (Some chunks) =
     (begins is_hyphen (behind_body text) ≡ true) × (body_end text < dashed_end text)
     × SpellsRelease (slice_range text (body_end text + 1) (dashed_end text)) chunks
 
-pub metadata_not_plus : (b : ℕ) → is_metadata_byte b ≡ true → is_not_plus b ≡ true
+metadata_not_plus : (b : ℕ) → is_metadata_byte b ≡ true → is_not_plus b ≡ true
 metadata_not_plus b h = grind (arith, nat_tests)
+
+-- no byte of a release is a plus
+pub release_not_plus : (tail : List ℕ) (chunks : List PlainChunk) → SpellsRelease tail chunks
+    → list_all is_not_plus tail ≡ true
+release_not_plus tail chunks s =
+    all_weaker is_metadata_byte is_not_plus metadata_not_plus tail (release_bytes tail chunks s)
 
 -- what follows a body is a release behind a hyphen, or none
 dashed : (text epoch body release meta : List ℕ) (o : Option (List PlainChunk))
@@ -184,11 +182,8 @@ dashed text epoch body release meta (Some chunks) cut s no_hyphen no_byte =
     subst (IsCut text epoch body) whole cut in
     let behind : behind_body text ≡ hyphen ∷ (tail ++ meta) =
     behind_body-is text epoch body (hyphen ∷ (tail ++ meta)) here in
-    let all : list_all is_not_plus (hyphen ∷ tail) ≡ true =
-    all_weaker is_metadata_byte is_not_plus metadata_not_plus tail
-    (release_bytes tail chunks s.2) in
     let count : prefix_len is_not_plus (hyphen ∷ (tail ++ meta)) ≡ length (hyphen ∷ tail) =
-    prefix_len-append is_not_plus (hyphen ∷ tail) meta all no_byte in
+    prefix_len-append is_not_plus (hyphen ∷ tail) meta (release_not_plus tail chunks s.2) no_byte in
     let end : dashed_end text ≡ body_end text + length (hyphen ∷ tail) =
     ap (λ l. body_end text + prefix_len is_not_plus l) behind ∙ ap (λ n. body_end text + n) count in
     let taken = tail_taken text epoch body hyphen tail meta (dashed_end text) here end in
@@ -220,6 +215,16 @@ epoch_is text epoch body rest (Some n) cut s =
     rw (epoch_taken text s.0 body rest (subst (λ (l : List ℕ). IsCut text l body rest) s.1 cut))
     (s.2.digits, s.2.value)
 
+module _ (text : List ℕ) (v : PlainVersion) (s : SpellsVersion text v) where
+  pub version_dashed : IsDashed text v.release
+  version_dashed =
+      dashed text s.epoch s.body s.release s.meta v.release (version_cut text v s) s.release_is
+      (no_meta text v s is_hyphen refl) (no_meta text v s is_not_plus refl)
+
+  pub version_epoch : IsEpoch text (unwrap_or v.epoch 0)
+  version_epoch =
+      epoch_is text s.epoch s.body (s.release ++ s.meta) v.epoch (version_cut text v s) s.epoch_is
+
 module _ (k : Kind) (some : TailKind)
     (lies : (end tail_end : ℕ) → end < tail_end → TailFits some end tail_end)
     (passes : (tail : List ℕ) → list_all is_metadata_byte tail ≡ true
@@ -238,46 +243,31 @@ module _ (k : Kind) (some : TailKind)
   tail_passes text epoch body rest (Some chunks) cut d =
       rw d.0 (passes _ (release_bytes _ chunks d.2))
 
-  -- the shape of a text with or without a release fits it
-  pub dashed_fits : (text epoch body rest : List ℕ) (n : ℕ) (o : Option (List PlainChunk))
-      → IsCut text epoch body rest → IsEpoch text n → IsDashed text o
+  -- the shape of a version with or without a release fits its text
+  pub version_fits : (text : List ℕ) (v : PlainVersion) → SpellsVersion text v
       → Fits text (dashed_shape k some text)
-  dashed_fits text epoch body rest n o cut e d = record {
-    epoch_fits = body_ordered text epoch body rest cut;
-    tail_fits = tail_lies text o d;
-    within = dashed_within text epoch body rest cut;
-    epoch_is = e.0;
-    body_is = rw (body_taken text epoch body rest cut) cut.bytes;
-    tail_is = tail_passes text epoch body rest o cut d;
-  }
-
-module _ (text : List ℕ) (v : PlainVersion) (s : SpellsVersion text v) where
-  pub version_dashed : IsDashed text v.release
-  version_dashed =
-      dashed text s.epoch s.body s.release s.meta v.release (version_cut text v s) s.release_is
-      (no_meta text v s is_hyphen refl) (no_meta text v s is_not_plus refl)
-
-  pub version_epoch : IsEpoch text (unwrap_or v.epoch 0)
-  version_epoch =
-      epoch_is text s.epoch s.body (s.release ++ s.meta) v.epoch (version_cut text v s) s.epoch_is
-
-  pub version_fits : (k : Kind) (some : TailKind)
-      (lies : (end tail_end : ℕ) → end < tail_end → TailFits some end tail_end)
-      (passes : (tail : List ℕ) → list_all is_metadata_byte tail ≡ true
-      → list_all (is_tail_byte some) tail ≡ true) → Fits text (dashed_shape k some text)
-  version_fits k some lies passes =
-      dashed_fits k some lies passes text s.epoch s.body (s.release ++ s.meta) (unwrap_or v.epoch 0)
-      v.release (version_cut text v s) version_epoch version_dashed
+  version_fits text v s =
+      let rest = s.release ++ s.meta in
+      let cut = version_cut text v s in
+      let dash = version_dashed text v s in
+      record {
+        epoch_fits = body_ordered text s.epoch s.body rest cut;
+        tail_fits = tail_lies text v.release dash;
+        within = dashed_within text s.epoch s.body rest cut;
+        epoch_is = (version_epoch text v s).0;
+        body_is = rw (body_taken text s.epoch s.body rest cut) cut.bytes;
+        tail_is = tail_passes text s.epoch s.body rest v.release cut dash;
+      }
 
 -- the shape of a general version fits its text
 pub general_fits : (text : List ℕ) (v : PlainVersion) → SpellsVersion text v
     → Fits text (shape_at kind.General text)
-general_fits text v s =
-    version_fits text v s kind.General Release (λ end tail_end less. less) (λ tail all. all)
+general_fits =
+    version_fits kind.General Release (λ end tail_end less. less) (λ tail all. all)
 
 -- and so does that of a strict one
 pub strict_fits : (text : List ℕ) (v : PlainSemVer) → SpellsSemVer text v
     → Fits text (shape_at kind.Ideal text)
 strict_fits text v s =
-    version_fits text (version_of_semver v) (strict_is_general text v s) kind.Ideal PreRelease
-    (λ end tail_end less. less) (λ tail all. all)
+    version_fits kind.Ideal PreRelease (λ end tail_end less. less) (λ tail all. all) text
+    (version_of_semver v) (strict_is_general text v s)

@@ -1,7 +1,7 @@
 -- The classes of bytes whose runs are scanned.
-use Rattle.std.specs.Prelude.{◌==◌, ◌||◌, ℕ, Bool, not, if◌then◌else◌}
+use Rattle.std.specs.Prelude.{◌==◌, ◌||◌, ℕ, Bool, List, [], ◌∷◌, not, if◌then◌else◌}
 use Rattle.std.specs.Char.{is_ascii_alphabetic, is_ascii_alphanumeric, is_ascii_digit}
-use Rattle.version_parts.specs.Bytes.{dot, hyphen, is_identifier_byte, is_metadata_byte}
+use Rattle.version_parts.specs.Bytes.{colon, dot, hyphen, is_identifier_byte, is_metadata_byte, plus}
 use Rattle.version_parts.specs.Sep.{is_sep}
 use Rattle.version_texts.specs.declared.class.Class.{Class}
 use Rattle.version_texts.specs.declared.class.Class.TheVariants.{Zero, Digit, Letter, Alphanumeric, Identifier, Metadata, Mark, NotDot}
@@ -10,14 +10,21 @@ use Rattle.version_texts.specs.declared.class.Class.TheVariants.{Zero, Digit, Le
 abbrev pub is_mark : ℕ → Bool
 is_mark b = b == dot || is_sep b
 
--- the rank of a byte: of a digit, a letter, a hyphen, a dot, another sign, and any other byte
+-- the rank of a byte: of a digit, a letter, a hyphen, a dot, a plus, a colon, another sign, and any other byte
 abbrev pub byte_rank : ℕ → ℕ
 byte_rank b =
     if is_ascii_digit b then 0 else
     if is_ascii_alphabetic b then 1 else
     if b == hyphen then 2 else
     if b == dot then 3 else
-    if is_sep b then 4 else 5
+    if b == plus then 4 else
+    if b == colon then 5 else
+    if is_sep b then 6 else 7
+
+-- the rank of the first byte of a text, and 8 if there is none
+abbrev pub first_rank : List ℕ → ℕ
+first_rank [] = 8
+first_rank (b ∷ text) = byte_rank b
 
 -- whether a byte is of the class
 abbrev pub contains : Class → ℕ → Bool

@@ -1,9 +1,10 @@
 //! The classes of the bytes that versions are made of, all of them ASCII, and where runs of a class end.
 
-ghost use Rattle.std.specs.Prelude.{◌≡◌, ◌+◌, ◌≤◌, drop, length};
+ghost use Rattle.std.specs.Prelude.{◌≡◌, ◌+◌, ◌≤◌, ℕ, List, drop, length};
 ghost use Rattle.std.specs.List.{prefix_len, take_while};
+ghost use Rattle.version_parts.specs.Class.{HasDigits};
 ghost use Rattle.version_parts.specs.Front.{begins};
-ghost use Rattle.version_texts.specs.Class.{byte_rank, contains};
+ghost use Rattle.version_texts.specs.Class.{byte_rank, contains, first_rank};
 
 /// A class of bytes.
 #[derive(Clone, Copy)]
@@ -23,16 +24,29 @@ pub enum Class {
     NotDot,
 }
 
-// The rank of each byte: of a digit, a letter, a hyphen, a dot, another sign, and any other byte.
+/// The ranks of a letter, a hyphen, a dot, a plus and a colon, and the rank where a text ends.
+pub const LETTER: u8 = 1;
+
+pub const HYPHEN: u8 = 2;
+
+pub const DOT: u8 = 3;
+
+pub const PLUS: u8 = 4;
+
+pub const COLON: u8 = 5;
+
+pub const END: u8 = 8;
+
+// The rank of each byte: of a digit, a letter, a hyphen, a dot, a plus, a colon, another sign, and any other byte.
 static RANKS: [u8; 256] = [
-    5, 5, 5, 5, 5, 5, 5, 5, 5, 5, 5, 5, 5, 5, 5, 5, 5, 5, 5, 5, 5, 5, 5, 5, 5, 5, 5, 5, 5, 5, 5, 5,
-    5, 5, 5, 5, 5, 5, 5, 5, 5, 5, 5, 4, 5, 2, 3, 5, 0, 0, 0, 0, 0, 0, 0, 0, 0, 0, 4, 5, 5, 5, 5, 5,
-    5, 1, 1, 1, 1, 1, 1, 1, 1, 1, 1, 1, 1, 1, 1, 1, 1, 1, 1, 1, 1, 1, 1, 1, 1, 1, 1, 5, 5, 5, 5, 4,
-    5, 1, 1, 1, 1, 1, 1, 1, 1, 1, 1, 1, 1, 1, 1, 1, 1, 1, 1, 1, 1, 1, 1, 1, 1, 1, 1, 5, 5, 5, 4, 5,
-    5, 5, 5, 5, 5, 5, 5, 5, 5, 5, 5, 5, 5, 5, 5, 5, 5, 5, 5, 5, 5, 5, 5, 5, 5, 5, 5, 5, 5, 5, 5, 5,
-    5, 5, 5, 5, 5, 5, 5, 5, 5, 5, 5, 5, 5, 5, 5, 5, 5, 5, 5, 5, 5, 5, 5, 5, 5, 5, 5, 5, 5, 5, 5, 5,
-    5, 5, 5, 5, 5, 5, 5, 5, 5, 5, 5, 5, 5, 5, 5, 5, 5, 5, 5, 5, 5, 5, 5, 5, 5, 5, 5, 5, 5, 5, 5, 5,
-    5, 5, 5, 5, 5, 5, 5, 5, 5, 5, 5, 5, 5, 5, 5, 5, 5, 5, 5, 5, 5, 5, 5, 5, 5, 5, 5, 5, 5, 5, 5, 5,
+    7, 7, 7, 7, 7, 7, 7, 7, 7, 7, 7, 7, 7, 7, 7, 7, 7, 7, 7, 7, 7, 7, 7, 7, 7, 7, 7, 7, 7, 7, 7, 7,
+    7, 7, 7, 7, 7, 7, 7, 7, 7, 7, 7, 4, 7, 2, 3, 7, 0, 0, 0, 0, 0, 0, 0, 0, 0, 0, 5, 7, 7, 7, 7, 7,
+    7, 1, 1, 1, 1, 1, 1, 1, 1, 1, 1, 1, 1, 1, 1, 1, 1, 1, 1, 1, 1, 1, 1, 1, 1, 1, 1, 7, 7, 7, 7, 6,
+    7, 1, 1, 1, 1, 1, 1, 1, 1, 1, 1, 1, 1, 1, 1, 1, 1, 1, 1, 1, 1, 1, 1, 1, 1, 1, 1, 7, 7, 7, 6, 7,
+    7, 7, 7, 7, 7, 7, 7, 7, 7, 7, 7, 7, 7, 7, 7, 7, 7, 7, 7, 7, 7, 7, 7, 7, 7, 7, 7, 7, 7, 7, 7, 7,
+    7, 7, 7, 7, 7, 7, 7, 7, 7, 7, 7, 7, 7, 7, 7, 7, 7, 7, 7, 7, 7, 7, 7, 7, 7, 7, 7, 7, 7, 7, 7, 7,
+    7, 7, 7, 7, 7, 7, 7, 7, 7, 7, 7, 7, 7, 7, 7, 7, 7, 7, 7, 7, 7, 7, 7, 7, 7, 7, 7, 7, 7, 7, 7, 7,
+    7, 7, 7, 7, 7, 7, 7, 7, 7, 7, 7, 7, 7, 7, 7, 7, 7, 7, 7, 7, 7, 7, 7, 7, 7, 7, 7, 7, 7, 7, 7, 7,
 ];
 
 // Returns the rank of a byte, which the classes go by: a look-up is faster than comparisons.
@@ -56,9 +70,39 @@ impl Class {
             Class::Alphanumeric => rank(byte) < 2,
             Class::Identifier => rank(byte) < 3,
             Class::Metadata => rank(byte) < 4,
-            Class::Mark => matches!(rank(byte), 2..=4),
+            Class::Mark => matches!(rank(byte), 2..=6),
             Class::NotDot => byte != b'.',
         }
+    }
+
+    /// Returns whether bytes of a rank are of the class, which is of whole ranks and has the digits. `END` isn't.
+    #[inline(always)]
+    pub fn has_rank(self, rank: u8) -> bool
+        requires { HasDigits (contains self) }
+        ensures { (text : List ℕ) → first_rank text ≡ rank → begins (contains self) text ≡ result }
+    {
+        match self {
+            Class::Zero => false,
+            Class::Digit => rank < LETTER,
+            Class::Letter => rank == LETTER,
+            Class::Alphanumeric => rank <= LETTER,
+            Class::Identifier => rank <= HYPHEN,
+            Class::Metadata => rank <= DOT,
+            Class::Mark => matches!(rank, 2..=6),
+            Class::NotDot => rank != DOT && rank != END,
+        }
+    }
+}
+
+/// Returns the rank of the byte at a place, or that of the end of the text.
+#[inline(always)]
+pub fn rank_at(text: &[u8], place: usize) -> u8
+    ensures { result ≡ first_rank (drop place text.now) }
+{
+    if place < text.len() {
+        rank(text[place])
+    } else {
+        END
     }
 }
 

@@ -15,7 +15,7 @@ ghost use Rattle.version_parts.specs.Split.{split_bytes, split_of};
 ghost use Rattle.versions.specs.KeyBytes.{key_bytes};
 ghost use Rattle.versions.specs.Tail.{section_bytes, tail_bytes};
 ghost use Rattle.version_texts.specs.Shape.{body_in, epoch_in, is_section_byte, is_tail_byte, tail_in, Fits};
-ghost use Rattle.version_texts.specs.TextKey.{chunk_of, chunks_of, parts_of, sections_of, tail_of, text_key};
+ghost use Rattle.version_texts.specs.TextKey.{chunk_of, chunks_of, parts_of, sections_of, tail_mark, tail_of, text_key};
 
 use crate::class::{Class, begins_with, split_run};
 use crate::shape::{Shape, TailKind};
@@ -34,14 +34,25 @@ fn put_length<S: Sink>(sink: &mut S, length: usize)
     sink.put(left as u8);
 }
 
+// The text behind the zeros that it begins with. Few numbers begin with one.
+#[inline(always)]
+fn behind_zeros(text: &[u8]) -> &[u8]
+    ensures { result.now ≡ drop (prefix_len (λ b. b == 48) text.now) text.now }
+{
+    if !begins_with(text, Class::Zero) {
+        return text;
+    }
+    let (_, rest) = split_run(text, Class::Zero);
+    rest
+}
+
 // Writes the number at the start of a text, and returns the rest.
 #[inline(always)]
 fn put_number<'t, S: Sink>(sink: &mut S, text: &'t [u8]) -> &'t [u8]
     ensures bytes { S.takes sink.old (number_bytes (run_value text.now)) sink.new }
     ensures rest { result.now ≡ drop (prefix_len is_ascii_digit text.now) text.now }
 {
-    let (_, text) = split_run(text, Class::Zero);
-    let (digits, rest) = split_run(text, Class::Digit);
+    let (digits, rest) = split_run(behind_zeros(text), Class::Digit);
     put_length(sink, digits.len());
     put_all(sink, digits);
     rest
@@ -187,26 +198,30 @@ fn put_sections<S: Sink>(sink: &mut S, text: &[u8])
     }
 }
 
+// The byte that a kind of tail begins with.
+#[inline(always)]
+fn tail_mark(kind: TailKind) -> u8
+    ensures { result ≡ tail_mark kind }
+{
+    match kind {
+        TailKind::PreRelease => 1,
+        TailKind::Nothing => 2,
+        TailKind::Release => 3,
+        TailKind::Sections => 4,
+    }
+}
+
 // Writes a tail, by its kind and its text.
 #[inline(always)]
 fn put_tail<S: Sink>(sink: &mut S, kind: TailKind, text: &[u8])
     requires { list_all (is_tail_byte kind) text.now ≡ true }
     ensures { S.takes sink.old (tail_bytes (tail_of kind text.now)) sink.new }
 {
+    sink.put(tail_mark(kind));
     match kind {
-        TailKind::PreRelease => {
-            sink.put(1);
-            put_release(sink, text);
-        }
-        TailKind::Nothing => sink.put(2),
-        TailKind::Release => {
-            sink.put(3);
-            put_release(sink, text);
-        }
-        TailKind::Sections => {
-            sink.put(4);
-            put_sections(sink, text);
-        }
+        TailKind::Nothing => {}
+        TailKind::Sections => put_sections(sink, text),
+        TailKind::PreRelease | TailKind::Release => put_release(sink, text),
     }
 }
 

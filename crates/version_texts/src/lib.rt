@@ -3,7 +3,6 @@
 //! answer every question: the order, the key, and what a requirement matches. Only `to_owned` and `append_key` allocate.
 #![tactic(auto)]
 
-mod asked;
 mod class;
 mod key;
 mod laws;
@@ -17,8 +16,7 @@ mod sink;
 mod sinks;
 mod versioning_ref;
 
-pub use asked::{Asked, asks_for};
 pub use requirement_ref::RequirementRef;
-pub use requirements_ref::RequirementsRef;
+pub use requirements_ref::{RequirementsRef, list_matches};
 pub use sink::Sink;
 pub use versioning_ref::VersioningRef;

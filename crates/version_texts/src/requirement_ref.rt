@@ -9,9 +9,8 @@ ghost use Rattle.versions.specs.Matching.{Matches};
 ghost use Rattle.versions.specs.Op.{after_word, op_front, op_text};
 ghost use Rattle.versions.specs.Requirement.{requirement_of};
 
-use crate::asked::asks_for;
 use crate::versioning_ref::VersioningRef;
-use versions::Op;
+use versions::{Op, asks_for};
 
 /// A requirement borrowed from its text: a `Requirement` that owns nothing. No call allocates. docs/REQUIREMENTS.md has
 /// the rules.

@@ -3,7 +3,8 @@
 ghost use Rattle.std.specs.Prelude.{◌≡◌, ◌==◌, ◌<◌, ◌≤◌, ◌↔◌, IfSome, IsTrue, length};
 ghost use Rattle.std.specs.List.{position_or_len};
 ghost use Rattle.std.specs.Option.{is_some, option_map, IsSomeAnd};
-ghost use Rattle.version_texts.specs.RequirementsRef.{from_second};
+ghost use Rattle.version_texts.specs.RequirementRef.{plain_requirement_ref};
+ghost use Rattle.version_texts.specs.RequirementsRef.{from_second, IsFront};
 ghost use Rattle.version_texts.specs.VersioningRef.{plain_versioning_ref};
 ghost use Rattle.versions.specs.Matching.{MatchesAll};
 ghost use Rattle.versions.specs.Requirement.{requirement_of};
@@ -14,6 +15,7 @@ ghost use Rattle.versions.specs.Versioning.{versioning_of};
 use crate::requirement_ref::RequirementRef;
 use crate::versioning_ref::VersioningRef;
 use std::marker::Model;
+use versions::Op;
 
 /// A list of requirements borrowed from its text: a `Requirements` that owns nothing. No call allocates. The first two
 /// members are parsed once, and each further member again for each version.
@@ -85,10 +87,51 @@ impl<'a> RequirementsRef<'a> {
     pub fn keeps(&self, text: &[u8]) -> bool
         ensures { IsTrue result ↔ Keeps self.now (versioning_of text.now) }
     {
+        // The first bytes decide most texts without a scan.
+        if !text.starts_with(front_of(&self.first)) {
+            return false;
+        }
         match VersioningRef::from_bytes(text) {
             Some(version) => self.matches(&version),
             None => false,
         }
+    }
+}
+
+/// Returns whether bytes are a list whose members each match the version, or None if they do not parse as a list. It
+/// stores no member, so it is faster than `from_bytes` and `matches` for one version. Doesn't allocate.
+pub fn list_matches(list: &[u8], version: &VersioningRef<'_>) -> Option<bool>
+    ensures parses { is_some result ≡ is_some (requirements_of list.now) }
+    ensures matches { IfSome result (λ all. IsTrue all ↔ IsSomeAnd (requirements_of list.now)
+        (λ wanted. MatchesAll wanted (plain_versioning_ref version.now))) }
+{
+    let mut members = Some(list);
+    while let Some(left) = members {
+        let (first, others) = split_first(left);
+        let first = RequirementRef::from_bytes(first)?;
+        if !first.matches(version) {
+            return if are_members(others) {
+                Some(false)
+            } else {
+                None
+            };
+        }
+        members = others;
+    }
+    Some(true)
+}
+
+// Returns what each version that a requirement matches begins with: for `~` or `^` with a strict version the major
+// number and a dot, else nothing.
+fn front_of<'a>(member: &RequirementRef<'a>) -> &'a [u8]
+    ensures { IsFront (plain_requirement_ref member.now) result.now }
+{
+    let Some(version) = &member.version else {
+        return &[];
+    };
+    match member.op {
+        Op::Tilde | Op::Caret => version.major(),
+        _ => &[],
     }
 }
 

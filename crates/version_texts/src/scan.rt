@@ -1,19 +1,18 @@
 //! One scan of a text, for the three kinds.
 
 ghost use Rattle.std.specs.Prelude.{◌≡◌, ◌==◌, ◌+◌, ◌<◌, ◌≤◌, ◌^◌, ◌&&◌, drop, false, if◌then◌else◌, is_some, length, nat_lt, true, IfNone, IfSome};
-ghost use Rattle.std.specs.Char.{is_ascii_alphanumeric, is_ascii_digit};
+ghost use Rattle.std.specs.Char.{is_ascii_alphanumeric};
 ghost use Rattle.std.specs.List.{list_all, prefix_len, take_while};
 ghost use Rattle.std.specs.Option.{option_map};
 ghost use Rattle.std.specs.Str.Parse.{digits_value};
 ghost use Rattle.version_parts.specs.Class.{HasDigits};
 ghost use Rattle.version_parts.specs.DigitRun.{is_digits};
-ghost use Rattle.version_parts.specs.Front.{begins};
-ghost use Rattle.version_texts.specs.Class.{contains};
+ghost use Rattle.version_texts.specs.Class.{contains, first_rank};
 ghost use Rattle.version_texts.specs.Shape.{behind_body, body_end, body_start, is_section_byte, shape_at, shape_of};
 ghost use Rattle.version_texts.specs.TextKey.{pieces};
 ghost use Rattle.version_texts.specs.TextKind.{are_marked_runs, body_of, epoch_is_numeral, has_three_numbers, is_chunk, is_general, is_metadata_tail, is_not_plus, is_numeral, is_released, is_run, is_tail, kind_in, section_end, section_pieces};
 
-use crate::class::{Class, run_end};
+use crate::class::{COLON, Class, DOT, END, HYPHEN, PLUS, rank_at, run_end};
 use crate::shape::{Shape, TailKind};
 use versions::Kind;
 
@@ -23,46 +22,74 @@ use versions::Kind;
 pub fn scan(text: &[u8]) -> Option<Shape>
     ensures { result ≡ shape_of text.now }
 {
-    let first = scan_section(text, 0)?;
-    let epoch = (first.count == 1) & first.digits & begins_at(text, first.end, b':');
-    if epoch {
-        return scan_behind_epoch(text, first.end + 1, first.chunks);
-    }
-    let three_numbers = (first.count == 3) & first.digits;
-    finish(text, 0, first.end, first.chunks, three_numbers)
+    let body = scan_body(text)?;
+    finish(text, body)
 }
 
-// Scans a text behind its epoch, which may be a numeral.
-#[inline(never)]
-fn scan_behind_epoch(text: &[u8], body: usize, numeral: bool) -> Option<Shape>
-    requires body { body ≡ body_start text.now }
-    requires some { 0 < body }
-    requires within { body ≤ length text.now }
-    requires numeral { numeral ≡ is_numeral (take_while is_ascii_digit text.now) }
-    ensures { result ≡ option_map (λ k. shape_at k text.now) (kind_in text.now) }
-{
-    let section = scan_section(text, body)?;
-    finish(text, body, section.end, numeral & section.chunks, false)
+// The body of a text: where it begins and ends, the rank of what follows, whether its pieces are chunks and its epoch,
+// if it has one, is a numeral, and whether it is three runs of digits and has no epoch.
+#[derive(Clone, Copy)]
+struct Body {
+    start: usize,
+    end: usize,
+    next: u8,
+    chunks: bool,
+    three_numbers: bool,
 }
 
-// Returns the shape of a text, by what is known of its body.
+// Scans the epoch of a text, if it has one, and its body. Returns None if a run between the dots of the body is empty.
 #[inline(always)]
-fn finish(text: &[u8], body: usize, end: usize, chunks: bool, three_numbers: bool) -> Option<Shape>
-    requires body { body ≡ body_start text.now }
-    requires end { end ≡ body_end text.now }
-    requires within { end ≤ length text.now }
+fn scan_body(text: &[u8]) -> Option<Body>
+    ensures start { IfSome result (λ body. body.start ≡ body_start text.now) }
+    ensures end { IfSome result (λ body. body.end ≡ body_end text.now) }
+    ensures within { IfSome result (λ body. body.end ≤ length text.now) }
+    ensures next { IfSome result (λ body. body.next ≡ first_rank (drop body.end text.now)) }
+    ensures chunks { IfSome result (λ body. body.chunks ≡ (epoch_is_numeral text.now
+        && list_all (is_chunk is_ascii_alphanumeric) (pieces (body_of text.now)))) }
+    ensures three_numbers { IfSome result (λ body. body.three_numbers ≡ has_three_numbers text.now) }
+    ensures runs { is_some result
+        ≡ list_all (is_run is_ascii_alphanumeric) (pieces (body_of text.now)) }
+{
+    let first = scan_section(text, 0)?;
+    let epoch = (first.dots == 0) & first.digits & (first.next == COLON);
+    if epoch {
+        let section = scan_section(text, first.end + 1)?;
+        return Some(Body {
+            start: first.end + 1,
+            end: section.end,
+            next: section.next,
+            chunks: first.chunks & section.chunks,
+            three_numbers: false,
+        });
+    }
+    Some(Body {
+        start: 0,
+        end: first.end,
+        next: first.next,
+        chunks: first.chunks,
+        three_numbers: (first.dots == 2) & first.digits,
+    })
+}
+
+// Returns the shape of a text, by its body.
+#[inline(always)]
+fn finish(text: &[u8], body: Body) -> Option<Shape>
+    requires start { body.start ≡ body_start text.now }
+    requires end { body.end ≡ body_end text.now }
+    requires within { body.end ≤ length text.now }
+    requires next { body.next ≡ first_rank (drop body.end text.now) }
     requires runs { list_all (is_run is_ascii_alphanumeric) (pieces (body_of text.now)) ≡ true }
-    requires chunks { chunks ≡ (epoch_is_numeral text.now
+    requires chunks { body.chunks ≡ (epoch_is_numeral text.now
         && list_all (is_chunk is_ascii_alphanumeric) (pieces (body_of text.now))) }
-    requires three_numbers { three_numbers ≡ has_three_numbers text.now }
+    requires three_numbers { body.three_numbers ≡ has_three_numbers text.now }
     ensures { result ≡ option_map (λ k. shape_at k text.now) (kind_in text.now) }
 {
-    if !chunks {
-        return scan_messy(text, body, end);
+    if !body.chunks {
+        return scan_messy(text, body.start, body.end);
     }
-    match scan_tail(text, end) {
-        Some(tail_end) => Some(spelled_shape(text, body, end, tail_end, three_numbers)),
-        None => scan_messy(text, body, end),
+    match scan_tail(text, body.end, body.next) {
+        Some(tail_end) => Some(spelled_shape(text, body, tail_end)),
+        None => scan_messy(text, body.start, body.end),
     }
 }
 
@@ -95,18 +122,19 @@ fn scan_messy(text: &[u8], body: usize, end: usize) -> Option<Shape>
 
 // Returns the shape of a strict or general version.
 #[inline(always)]
-fn spelled_shape(text: &[u8], body: usize, end: usize, tail_end: usize, strict: bool) -> Shape
-    requires body { body ≡ body_start text.now }
-    requires end { end ≡ body_end text.now }
-    requires tail_end { tail_end ≡ end + prefix_len is_not_plus (behind_body text.now) }
-    ensures { result ≡ shape_at (if strict then Kind.Ideal else Kind.General) text.now }
+fn spelled_shape(text: &[u8], body: Body, tail_end: usize) -> Shape
+    requires start { body.start ≡ body_start text.now }
+    requires end { body.end ≡ body_end text.now }
+    requires next { body.next ≡ first_rank (drop body.end text.now) }
+    requires tail_end { tail_end ≡ body.end + prefix_len is_not_plus (behind_body text.now) }
+    ensures { result ≡ shape_at (if body.three_numbers then Kind.Ideal else Kind.General) text.now }
 {
-    let (kind, released) = if strict {
+    let (kind, released) = if body.three_numbers {
         (Kind::Ideal, TailKind::PreRelease)
     } else {
         (Kind::General, TailKind::Release)
     };
-    let tail = if begins_at(text, end, b'-') {
+    let tail = if body.next == HYPHEN {
         released
     } else {
         TailKind::Nothing
@@ -114,26 +142,19 @@ fn spelled_shape(text: &[u8], body: usize, end: usize, tail_end: usize, strict: 
     Shape {
         kind,
         tail,
-        body,
-        end,
+        body: body.start,
+        end: body.end,
         tail_end,
     }
 }
 
-// Returns whether a byte stands at a place.
-#[inline(always)]
-fn begins_at(text: &[u8], place: usize, byte: u8) -> bool
-    ensures { result ≡ begins (λ b. b == byte) (drop place text.now) }
-{
-    place < text.len() && text[place] == byte
-}
-
-// Runs of letters and digits with dots between: where they end, how many they are, whether each is all digits, and
-// whether each is a chunk.
+// Runs of letters and digits with dots between: where they end, the rank of what follows, how many the dots are,
+// whether each run is all digits, and whether each is a chunk.
 #[derive(Clone, Copy)]
 struct Section {
     end: usize,
-    count: usize,
+    next: u8,
+    dots: usize,
     digits: bool,
     chunks: bool,
 }
@@ -143,7 +164,8 @@ struct Section {
 fn scan_section(text: &[u8], start: usize) -> Option<Section>
     requires { start ≤ length text.now }
     ensures end { IfSome result (λ s. s.end ≡ section_end text.now start) }
-    ensures count { IfSome result (λ s. s.count ≡ length (section_pieces text.now start)) }
+    ensures next { IfSome result (λ s. s.next ≡ first_rank (drop s.end text.now)) }
+    ensures dots { IfSome result (λ s. s.dots + 1 ≡ length (section_pieces text.now start)) }
     ensures digits { IfSome result (λ s. s.digits
         ≡ list_all is_digits (section_pieces text.now start)) }
     ensures chunks { IfSome result (λ s. s.chunks
@@ -153,7 +175,8 @@ fn scan_section(text: &[u8], start: usize) -> Option<Section>
 {
     let mut section = Section {
         end: start,
-        count: 0,
+        next: DOT,
+        dots: 0,
         digits: true,
         chunks: true,
     };
@@ -161,21 +184,32 @@ fn scan_section(text: &[u8], start: usize) -> Option<Section>
         let run = scan_run(text, section.end, Class::Alphanumeric)?;
         section = Section {
             end: run.end,
-            count: section.count + 1,
-            digits: section.digits & run.digits,
-            chunks: section.chunks & run.chunk,
+            next: run.next,
+            dots: section.dots,
+            digits: both(section.digits, run.digits),
+            chunks: both(section.chunks, run.chunk),
         };
-        if !begins_at(text, section.end, b'.') {
+        if section.next != DOT {
             return Some(section);
         }
         section.end += 1;
+        section.dots += 1;
     }
 }
 
-// A run of a class: where it ends, whether it is all digits, and whether it is a chunk.
+// Returns whether both hold, by the second first: a compiler then tests the second alone.
+#[inline(always)]
+fn both(first: bool, second: bool) -> bool
+    ensures { result ≡ (first && second) }
+{
+    if second { first } else { false }
+}
+
+// A run of a class: where it ends, the rank of what follows, whether it is all digits, and whether it is a chunk.
 #[derive(Clone, Copy)]
 struct Run {
     end: usize,
+    next: u8,
     digits: bool,
     chunk: bool,
 }
@@ -187,6 +221,7 @@ fn scan_run(text: &[u8], start: usize, class: Class) -> Option<Run>
     requires class { HasDigits (contains class) }
     ensures end { IfSome result (λ run. run.end
         ≡ start + prefix_len (contains class) (drop start text.now)) }
+    ensures next { IfSome result (λ run. run.next ≡ first_rank (drop run.end text.now)) }
     ensures digits { IfSome result (λ run. run.digits
         ≡ is_digits (take_while (contains class) (drop start text.now))) }
     ensures chunk { IfSome result (λ run. run.chunk
@@ -196,21 +231,24 @@ fn scan_run(text: &[u8], start: usize, class: Class) -> Option<Run>
     ensures none { IfNone result (prefix_len (contains class) (drop start text.now) ≡ 0) }
 {
     let digits_end = run_end(text, start, Class::Digit);
-    let end = run_end(text, digits_end, class);
-    if end == start {
-        return None;
-    }
-    if digits_end < end {
+    let next = rank_at(text, digits_end);
+    if class.has_rank(next) {
+        let end = run_end(text, digits_end, class);
         return Some(Run {
             end,
+            next: rank_at(text, end),
             digits: false,
             chunk: true,
         });
     }
+    if digits_end == start {
+        return None;
+    }
     Some(Run {
-        end,
+        end: digits_end,
+        next,
         digits: true,
-        chunk: is_numeral(&text[start..end]),
+        chunk: is_numeral(&text[start..digits_end]),
     })
 }
 
@@ -251,16 +289,17 @@ fn value_fits(digits: &[u8]) -> bool
 // Scans what follows the body of a strict or general version: perhaps a hyphen and a release, then perhaps a plus and
 // metadata. Returns where the release ends, or None if something else follows.
 #[inline(always)]
-fn scan_tail(text: &[u8], end: usize) -> Option<usize>
-    requires { end ≤ length text.now }
+fn scan_tail(text: &[u8], end: usize, next: u8) -> Option<usize>
+    requires within { end ≤ length text.now }
+    requires next { next ≡ first_rank (drop end text.now) }
     ensures end { IfSome result (λ tail_end. tail_end
         ≡ end + prefix_len is_not_plus (drop end text.now)) }
     ensures whole { is_some result ≡ is_tail (drop end text.now) }
 {
-    if begins_at(text, end, b'-') {
+    if next == HYPHEN {
         return scan_release(text, end + 1);
     }
-    if is_metadata_tail(text, end) {
+    if is_metadata_tail(text, end, next) {
         Some(end)
     } else {
         None
@@ -282,8 +321,8 @@ fn scan_release(text: &[u8], start: usize) -> Option<usize>
         if !run.chunk {
             return None;
         }
-        if !begins_at(text, run.end, b'.') {
-            if is_metadata_tail(text, run.end) {
+        if run.next != DOT {
+            if is_metadata_tail(text, run.end, run.next) {
                 return Some(run.end);
             }
             return None;
@@ -294,14 +333,15 @@ fn scan_release(text: &[u8], start: usize) -> Option<usize>
 
 // Returns whether nothing follows a place, or a plus and metadata.
 #[inline(always)]
-fn is_metadata_tail(text: &[u8], start: usize) -> bool
-    requires { start ≤ length text.now }
+fn is_metadata_tail(text: &[u8], start: usize, next: u8) -> bool
+    requires within { start ≤ length text.now }
+    requires next { next ≡ first_rank (drop start text.now) }
     ensures { result ≡ is_metadata_tail (drop start text.now) }
 {
-    if start == text.len() {
+    if next == END {
         return true;
     }
-    if text[start] != b'+' {
+    if next != PLUS {
         return false;
     }
     if start + 1 == text.len() {

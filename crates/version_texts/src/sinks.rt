@@ -219,7 +219,8 @@ pub fn key_length(text: &[u8], shape: Shape) -> usize
 
 /// Writes the key of a version into a buffer from a place on, as far as it fits, and returns the place after it.
 /// Doesn't allocate.
-#[inline(always)]
+// Not inlined: so the writer has one caller with a room, and the compiler keeps the room in registers.
+#[inline(never)]
 pub fn write_key(text: &[u8], shape: Shape, room: &mut [u8], start: usize) -> usize
     requires { Fits text.now shape }
     ensures bytes { room.new ≡ put_at room.old start (key_bytes (text_key text.now shape)) }

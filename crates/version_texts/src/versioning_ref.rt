@@ -2,17 +2,18 @@
 
 ghost use Rattle.std.specs.Prelude.{◌≡◌, Some};
 ghost use Rattle.version_texts.specs.Shape.{shape_of};
+ghost use Rattle.versions.specs.Kind.{versioning_kind};
+ghost use Rattle.versions.specs.Versioning.{kind_rank, PlainVersioning};
 
-use crate::asked::Asked;
+use crate::order::piece::through_dot;
 use crate::scan::scan;
 use crate::shape::{Shape, TailKind};
 use crate::sink::Sink;
 use crate::{key, matching, order, sinks};
 use std::alloc::{AllocError, Global};
 use std::cmp::Ordering;
-use std::fmt;
-use versions::key::KeyBytes;
-use versions::{Kind, Versioning};
+use std::{fmt, str};
+use versions::{Asked, Kind, Versioning};
 
 /// A version of the first kind that fits its text, borrowed from that text: a `Versioning` that owns nothing. It
 /// compares and prints as that `Versioning` does, and has the same numbers. Only `to_owned` and `append_key` allocate.
@@ -27,14 +28,14 @@ pub struct VersioningRef<'a> {
 impl<'a> VersioningRef<'a> {
     ghost use Rattle.std.specs.Prelude.{◌+◌, ◌++◌, length, IfOk, OnErr, OnOk};
     ghost use Rattle.std.specs.Option.{option_map};
+    ghost use Rattle.std.specs.declared.cmp.Ordering.TheVariants.{Equal};
     ghost use Rattle.version_parts.specs.Lists.{bytes_cmp, GrowsWithin};
     ghost use Rattle.versions.specs.Key.{key_of, precedence};
     ghost use Rattle.versions.specs.KeyBytes.{key_bytes};
-    ghost use Rattle.versions.specs.Kind.{versioning_kind};
-    ghost use Rattle.versions.specs.Versioning.{is_prerelease, plain_versioning, versioning_epoch, versioning_nth, versioning_of, versioning_plain_cmp, VersioningOwns};
+    ghost use Rattle.versions.specs.Versioning.{is_prerelease, plain_versioning, versioning_epoch, versioning_nth, versioning_of, versioning_plain_cmp, versioning_text, VersioningOwns};
     ghost use Rattle.versions.specs.VersioningRef.{plain_versioning_ref as plain_read};
     ghost use Rattle.version_texts.specs.Sinks.{is_between, put_at, saturated};
-    ghost use Rattle.version_texts.specs.VersioningRef.{plain_versioning_ref};
+    ghost use Rattle.version_texts.specs.VersioningRef.{major_text, plain_versioning_ref};
 
     /// Parses the whole text as a strict version, else as a general, else as a messy one; returns None if it does not
     /// parse. Doesn't allocate.
@@ -70,6 +71,23 @@ impl<'a> VersioningRef<'a> {
         ensures { result ≡ is_prerelease (plain_versioning_ref self.now) }
     {
         matches!(self.shape.tail, TailKind::PreRelease)
+    }
+
+    // Returns the text that it was parsed from.
+    fn text(&self) -> &'a str
+        ensures { result.now ≡ versioning_text (plain_versioning_ref self.now) }
+    {
+        str::from_utf8(self.text).unwrap()
+    }
+
+    // Returns the major number of a strict version as its text has it, and the dot behind it. Empty for other kinds.
+    pub(crate) fn major(&self) -> &'a [u8]
+        ensures { result.now ≡ major_text (plain_versioning_ref self.now) }
+    {
+        match self.shape.kind {
+            Kind::Ideal => through_dot(self.text),
+            _ => &[],
+        }
     }
 
     // Reads its fields.
@@ -167,17 +185,38 @@ impl<'a> VersioningRef<'a> {
         ensures { result ≡ versioning_plain_cmp (plain_versioning_ref self.now)
             (plain_versioning_ref other.now) }
     {
+        if self.shape.kind != other.shape.kind {
+            return rank(self.shape.kind).cmp(&rank(other.shape.kind));
+        }
+        match self.shape.kind {
+            Kind::Ideal => self.precedence(other),
+            _ => self.compare_fields(other),
+        }
+    }
+
+    // Compares two versions by kind, then field by field. Never inlined, so that callers inline the usual case.
+    #[inline(never)]
+    fn compare_fields(&self, other: &VersioningRef<'_>) -> Ordering
+        ensures { result ≡ versioning_plain_cmp (plain_versioning_ref self.now)
+            (plain_versioning_ref other.now) }
+    {
         if self.text == other.text {
             return Ordering::Equal;
         }
         self.read().compare_plain(&other.read())
     }
 
-    /// Returns the bytes of its key, one after another. They compare as precedence does. Doesn't allocate.
-    pub fn key_bytes(&self) -> KeyBytes<'a>
-        ensures { result ≡ key_bytes (key_of (plain_versioning_ref self.now)) }
+    // Compares two versions of one key by kind, then field by field.
+    fn compare_tied(&self, other: &VersioningRef<'_>) -> Ordering
+        requires { precedence (key_of (plain_versioning_ref self.now))
+            (key_of (plain_versioning_ref other.now)) ≡ Equal }
+        ensures { result ≡ versioning_plain_cmp (plain_versioning_ref self.now)
+            (plain_versioning_ref other.now) }
     {
-        self.read().key_bytes()
+        match (self.shape.kind, other.shape.kind) {
+            (Kind::Ideal, Kind::Ideal) => Ordering::Equal,
+            _ => self.compare_plain(other),
+        }
     }
 
     /// Copies the version into a `Versioning` that outlives the text. Allocates nothing for three plain numbers, or for
@@ -190,6 +229,18 @@ impl<'a> VersioningRef<'a> {
     }
 }
 
+// The place of a kind in the order of versions.
+#[inline(always)]
+fn rank(kind: Kind) -> u8
+    ensures { (v : PlainVersioning) → versioning_kind v ≡ kind → result ≡ kind_rank v }
+{
+    match kind {
+        Kind::Ideal => 0,
+        Kind::General => 1,
+        Kind::Complex => 2,
+    }
+}
+
 /// Writes the text that the version was parsed from, as its `Versioning` does.
 impl<'a> fmt::Display for VersioningRef<'a> {
     ghost use Rattle.versions.specs.Versioning.{versioning_text};
@@ -198,8 +249,7 @@ impl<'a> fmt::Display for VersioningRef<'a> {
     ghost output = { λ v. Some (versioning_text (plain_versioning_ref v)) };
 
     fn fmt<W: fmt::Write>(&self, f: &mut fmt::Formatter<W>) -> fmt::Result {
-        let version = self.read();
-        write!(f, "{version}")
+        f.write_str(self.text())
     }
 }
 
@@ -259,7 +309,7 @@ impl<'a> Ord for VersioningRef<'a> {
     fn cmp(&self, other: &VersioningRef<'a>) -> Ordering {
         let keys = self.precedence(other);
         match keys {
-            Ordering::Equal => self.compare_plain(other),
+            Ordering::Equal => self.compare_tied(other),
             _ => keys,
         }
     }

@@ -14,16 +14,15 @@ pub mod MessScan
 pub mod MessText
 pub mod OpReading
 pub mod Orders
+pub mod PartsWritten
 pub mod Precedence
 pub mod RequirementReading
-pub mod RequirementsAscii
 pub mod RequirementsReading
 pub mod ScannedLists
 pub mod SemVerOrder
 pub mod SemVerReading
 pub mod SortKey
 pub mod SpelledTexts
-pub mod SpelledKey
 pub mod Tail
 pub mod Texts
 pub mod VersionMatch

@@ -1,6 +1,5 @@
 -- Operators: a prefix that parses as an operator is the text of that operator, and that text parses as the operator.
-use Rattle.std.proofs.Common.{◌≡◌, ◌==◌, ◌+◌, ◌<◌, ◌∙◌, ℕ, suc, false, arith, List, [], ◌∷◌, ◌++◌, drop, length, codes, Some, None, slice_index_or, refl, ap, inl, inr}
-use Rattle.std.proofs.Math.Seq.{drop-cons}
+use Rattle.std.proofs.Common.{◌≡◌, ◌==◌, ◌∙◌, ℕ, false, List, [], ◌∷◌, ◌++◌, codes, Some, None, refl, ap, inl, inr}
 use Rattle.version_parts.specs.Front.{after_mark, begins}
 use Rattle.version_parts.proofs.Dotted.{cases_Option}
 use Rattle.version_parts.proofs.RunFronts.{after_mark-Some}
@@ -15,13 +14,6 @@ after_word-Some (b ∷ word) text rest e = elim (cases_Option (after_mark b text
   | inl none ↦ cc (rw none at e)
   | inr tail ↦ after_mark-Some b text tail.0 tail.1 ∙ ap (λ (l : List ℕ). b ∷ l) (after_word-Some word tail.0 rest (rw tail.1 at e))
 ]
-
--- an operator that the text doesn't begin with is skipped
-pub first_op-passed : (ops : List Op) (n : ℕ) (d : Op) (text : List ℕ) → n < length ops → after_word (op_text (slice_index_or ops n d)) text ≡ None
-    → first_op (drop (n + 1) ops) text ≡ first_op (drop n ops) text
-first_op-passed ops n d text fits none =
-    let next : n + 1 ≡ suc n = omega arith in
-    rw (drop-cons ops n d fits, none) (ap (λ (m : ℕ). first_op (drop m ops) text) next)
 
 first_op-Some : (ops : List Op) (text : List ℕ) (op : Op) (rest : List ℕ) → first_op ops text ≡ Some (op, rest) → text ≡ op_text op ++ rest
 first_op-Some [] text op rest e = cc e

@@ -1,18 +1,15 @@
 -- A scanned list of requirements: its members, one after another, and what they match.
-use Rattle.std.proofs.Common.{◌≡◌, ◌↔◌, ◌<◌, ◌∙◌, ℕ, false, eqb, map, IsSome, IsTrue, List, [], ◌∷◌, length, Option, Some, None, sym, ap, arith}
+use Rattle.std.proofs.Common.{◌≡◌, ◌↔◌, ◌<◌, ◌∙◌, ℕ, false, eqb, map, IsSome, List, [], ◌∷◌, length, Option, Some, None, sym, ap, arith}
 use Rattle.std.proofs.lemmas.List.Elements.{All-cons, All-from_get_or, All-head, All-tail}
 use Rattle.std.proofs.lemmas.List.Splits.{slice_split_first, slice_split_none}
 use Rattle.std.proofs.lemmas.List.Sums.{fails_before_first}
 use Rattle.std.specs.List.{after_first, before_first, position_or_len}
-use Rattle.std.specs.Option.{IsSomeAnd, option_map, option_or, unwrap_or}
+use Rattle.std.specs.Option.{IsSomeAnd, unwrap_or}
 use Rattle.versions.specs.Matching.{Matches, MatchesAll}
-use Rattle.versions.specs.Mess.{PlainMess, mess_of}
 use Rattle.versions.specs.Requirement.{PlainRequirement, requirement_of}
 use Rattle.versions.specs.Requirements.{comma, every, requirements_of}
-use Rattle.versions.specs.RequirementsRef.{Keeps, before_others}
-use Rattle.versions.specs.SemVer.{semver_of}
-use Rattle.versions.specs.Version.{PlainVersion, version_of}
-use Rattle.versions.specs.Versioning.{PlainVersioning, General, Complex, is_ideal, versioning_of}
+use Rattle.versions.specs.RequirementsRef.{before_others}
+use Rattle.versions.specs.Versioning.{PlainVersioning}
 
 -- ---- the first member, and the others
 
@@ -65,21 +62,3 @@ all_ask v r (Some list) some asks = first_asks v r list asks
 
 pub first_asks_not : (v : PlainVersioning) (r : PlainRequirement) (list : List PlainRequirement) → ¬ (Matches r v) → ¬ (MatchesAll (r ∷ list) v)
 first_asks_not v r list other all = other (All-head (λ q. Matches q v) r list all)
-
--- ---- only strict versions
-
-other_kinds : (list : List PlainRequirement) (general : Option PlainVersion) (complex : Option PlainMess) → ((v : PlainVersioning) → MatchesAll list v → IsTrue (is_ideal v))
-    → ¬ (Keeps list (option_or (option_map General general) (option_map Complex complex)))
-other_kinds list (Some v) complex strict all = cc (strict (General v) all)
-other_kinds list None (Some m) strict all = cc (strict (Complex m) all)
-other_kinds list None None strict all = absurd all
-
--- a text that is not a strict version isn't kept
-pub none_strict : (list : List PlainRequirement) (text : List ℕ) → ((v : PlainVersioning) → MatchesAll list v → IsTrue (is_ideal v)) → None ≡ semver_of text
-    → ¬ (Keeps list (versioning_of text))
-none_strict list text strict none = rw (← none) (other_kinds list (version_of text) (mess_of text) strict)
-
--- if the first member matches only strict versions, so does the list
-pub strict_by_first : (r : PlainRequirement) (list : List PlainRequirement) → ((v : PlainVersioning) → Matches r v → IsTrue (is_ideal v))
-    → (v : PlainVersioning) → MatchesAll (r ∷ list) v → IsTrue (is_ideal v)
-strict_by_first r list strict v all = strict v (All-head (λ q. Matches q v) r list all)

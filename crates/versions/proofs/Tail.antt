@@ -1,5 +1,5 @@
 -- The order of tails distinguishes all of them, and their bytes compare as they do.
-use Rattle.std.proofs.Common.{◌≡◌, ◌∙◌, ℕ, List, [], ◌∷◌, ◌++◌, Option, Some, None, refl, ap, append_assoc, append-nil, sym}
+use Rattle.std.proofs.Common.{◌≡◌, ℕ, List, ◌∷◌, ◌++◌, Option, Some, None, refl, ap}
 use Rattle.std.specs.FinMap.{IsAntisymmetric, slice_cmp-IsAntisymmetric}
 use Rattle.std.specs.Option.{option_cmp, option_map, option_map_or}
 use Rattle.std.specs.Ordering.{ordering_then}
@@ -58,10 +58,3 @@ pre_release_written (Some chunks) = refl
 pub release_written : (o : Option (List PlainChunk)) → release_tail 3 (option_map release_bytes o) ≡ tail_bytes (option_map_or Released o Bare)
 release_written None = refl
 release_written (Some chunks) = refl
-
--- three pieces and an end, one after another
-pub three_put : (key a b c d first second third end : List ℕ) → first ≡ key ++ a → second ≡ first ++ b → third ≡ second ++ c → end ≡ third ++ d → end ≡ key ++ (a ++ (b ++ (c ++ (d ++ []))))
-three_put key a b c d first second third end e f g h =
-    h ∙ ap (λ (l : List ℕ). l ++ d) (g ∙ ap (λ (l : List ℕ). l ++ c) (f ∙ ap (λ (l : List ℕ). l ++ b) e))
-    ∙ append_assoc ((key ++ a) ++ b) c d ∙ append_assoc (key ++ a) b (c ++ d) ∙ append_assoc key a (b ++ (c ++ d))
-    ∙ ap (λ (l : List ℕ). key ++ (a ++ (b ++ (c ++ l)))) (sym (append-nil d))

@@ -58,7 +58,7 @@ versioning_printed text (Ideal v) s = semver_printed text v s
 versioning_printed text (General v) s = version_printed text v s.0
 versioning_printed text (Complex m) s = mess_printed text m s.0
 
-versioning_ascii : (text : List ℕ) (v : PlainVersioning) → SpellsVersioning text v → IsAscii text
+pub versioning_ascii : (text : List ℕ) (v : PlainVersioning) → SpellsVersioning text v → IsAscii text
 versioning_ascii text (Ideal v) s = semver_ascii text v s
 versioning_ascii text (General v) s = version_ascii text v s.0
 versioning_ascii text (Complex m) s = mess_ascii text m s.0

@@ -1,26 +1,20 @@
 -- The parts of a general version that remain at a point of a walk over them.
 use Rattle.std.specs.Prelude.{List, [], ◌∷◌, ◌++◌, map}
 use Rattle.std.specs.Option.{option_map_or}
-use Rattle.version_parts.specs.Chunk.{chunk_text, part_front, plain_chunk, plain_chunk_ref}
-use Rattle.version_parts.specs.ElementsLeft.{elements_left}
+use Rattle.version_parts.specs.Chunk.{chunk_text, plain_chunk, plain_chunk_ref}
 use Rattle.version_parts.specs.Last.{last_text, plain_last}
 use Rattle.version_parts.specs.PartKey.{PartKey, chunk_parts, part_key}
 use Rattle.versions.specs.declared.parts.BodyPart.{BodyPart}
 use Rattle.versions.specs.declared.parts.BodyPart.TheVariants as part
-use Rattle.versions.specs.declared.parts.BuiltParts.{BuiltParts}
 use Rattle.versions.specs.declared.parts.BodyParts.{BodyParts}
-use Rattle.versions.specs.declared.parts.BodyParts.TheVariants.{Built, Spelled}
 
 -- the key of a part
 abbrev pub key_of_part : BodyPart → PartKey
 key_of_part (part.Chunk chunk) = part_key (chunk_text (plain_chunk_ref chunk))
 key_of_part (part.Last last) = part_key (last_text (plain_last last.now))
 
--- the keys of the remaining parts of an owned version: those of the chunks, and that of the last part if it isn't taken
-abbrev pub built_left : BuiltParts → List PartKey
-built_left parts = chunk_parts (map plain_chunk parts.chunks.now) ++ option_map_or (λ last. key_of_part (part.Last last) ∷ []) parts.last []
-
--- the keys of the remaining parts
+-- the keys of the remaining parts: those of the chunks, and that of the last part if it isn't taken
 abbrev pub parts_left : BodyParts → List PartKey
-parts_left (Built parts) = built_left parts
-parts_left (Spelled parts) = chunk_parts (elements_left part_front parts)
+parts_left parts =
+    chunk_parts (map plain_chunk parts.chunks.now)
+    ++ option_map_or (λ last. key_of_part (part.Last last) ∷ []) parts.last []

@@ -1,16 +1,16 @@
 -- What remains of the bytes of a key, after the current piece.
 use Rattle.std.specs.Prelude.{ℕ, List, [], ◌∷◌, Option}
+use Rattle.std.specs.Borrow.{Bor}
 use Rattle.std.specs.Option.{option_map_or}
 use Rattle.version_parts.specs.PartKey.{parts_bytes}
-use Rattle.versions.specs.declared.key.sections.SectionsLeft.{SectionsLeft}
-use Rattle.versions.specs.declared.key.sections.SectionsLeft.TheVariants.{Built, Spelled}
 use Rattle.versions.specs.declared.key.list.CurrentList.{CurrentList}
 use Rattle.versions.specs.declared.key.list.CurrentList.TheVariants.{Ended, One, Two, Three, Parts, Section, Chunks}
 use Rattle.versions.specs.declared.key.tail.TailLeft.{TailLeft}
 use Rattle.versions.specs.declared.key.tail.TailLeft.TheVariants.{Nothing, Bare, Release, Sections, AfterSection}
 use Rattle.versions.specs.Key.{plain}
 use Rattle.versions.specs.KeyBytes.{further_bytes}
-use Rattle.versions.specs.Mess.{Further, further_in, plain_mess}
+use Rattle.versions.specs.Mess.{plain_mess}
+use Rattle.versions.specs.declared.mess.Mess.{Mess}
 use Rattle.versions.specs.Tail as tail
 use Rattle.versions.specs.Tail.{tail_bytes}
 
@@ -24,14 +24,9 @@ list_left (Parts left) = left
 list_left (Section left) = left
 list_left (Chunks left) = left
 
--- the further sections themselves: those after the first of a version, or those that a text begins with
-abbrev pub sections_of : SectionsLeft → List Further
-sections_of (Built mess) = (plain_mess mess.now).more
-sections_of (Spelled text) = further_in text.now
-
--- of further sections
-abbrev pub sections_left : SectionsLeft → List ℕ
-sections_left further = further_bytes (sections_of further)
+-- of the sections after the first of a version
+abbrev pub sections_left : Bor Mess → List ℕ
+sections_left mess = further_bytes (plain_mess mess.now).more
 
 -- of a release: its mark and its chunks, or the mark of an empty tail
 abbrev pub release_tail : ℕ → Option (List ℕ) → List ℕ
@@ -42,5 +37,5 @@ abbrev pub tail_left : TailLeft → List ℕ
 tail_left Nothing = []
 tail_left Bare = tail_bytes tail.Bare
 tail_left (Release rank left) = rank ∷ left
-tail_left (Sections further) = 4 ∷ sections_left further
-tail_left (AfterSection further) = sections_left further
+tail_left (Sections mess) = 4 ∷ sections_left mess
+tail_left (AfterSection mess) = sections_left mess

@@ -15,7 +15,6 @@ pub mod Op
 pub mod Orders
 pub mod OrdersLaws
 pub mod Requirement
-pub mod RequirementRef
 pub mod Requirements
 pub mod RequirementsRef
 pub mod SemVer
@@ -24,7 +23,6 @@ pub mod SemVerMatch
 pub mod SemVerOrder
 pub mod VersioningRef
 pub mod Tail
-pub mod TailRef
 pub mod Texts
 pub mod Version
 pub mod VersionLaws

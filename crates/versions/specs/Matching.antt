@@ -2,7 +2,6 @@
 use Rattle.std.specs.Prelude.{◌≡◌, ⊤, List, IsTrue, MatchOption}
 use Rattle.std.specs.List.{All}
 use Rattle.std.specs.Ordering.{eq_by_cmp}
-use Rattle.std.specs.declared.cmp.Ordering.{Ordering}
 use Rattle.std.specs.declared.cmp.Ordering.TheVariants as ordering
 use Rattle.versions.specs.declared.op.Op.{Op}
 use Rattle.versions.specs.declared.op.Op.TheVariants.{Exact, Greater, GreaterEq, Less, LessEq, Tilde, Caret, Wildcard}
@@ -49,11 +48,3 @@ MatchesAll list v = All (λ r. Matches r v) list
 -- what holds of two strict versions holds of the strict versions between them
 abbrev pub IsConvex : (PlainVersioning → Type 0) → Type 0
 IsConvex Holds = (a b c : PlainSemVer) → Holds (Ideal a) → Holds (Ideal c) → ¬ (semver_cmp a b ≡ ordering.Greater) → ¬ (semver_cmp b c ≡ ordering.Greater) → Holds (Ideal b)
-
--- a comparison operator matches a version with this order to the wanted one
-abbrev pub AsksOrder : Op → Ordering → Type 0
-AsksOrder Greater order = order ≡ ordering.Greater
-AsksOrder GreaterEq order = ¬ (order ≡ ordering.Less)
-AsksOrder Less order = order ≡ ordering.Less
-AsksOrder LessEq order = ¬ (order ≡ ordering.Greater)
-AsksOrder _ order = ⊥

@@ -11,37 +11,33 @@ ghost use Rattle.version_parts.specs.PartKey.{parts_bytes};
 ghost use Rattle.version_parts.specs.Pieces.{IsNext};
 ghost use Rattle.version_parts.specs.Release.{plain_release};
 ghost use Rattle.version_parts.specs.ReleaseOrder.{release_bytes};
-ghost use Rattle.versions.specs.Key.{key_from_first, key_of, key_of_mess, key_of_sections, key_of_semver, key_of_version, key_with_epoch, section_epoch, sections_tail, strict_body};
+ghost use Rattle.versions.specs.Key.{key_of, key_of_mess, key_of_semver, key_of_version, key_with_epoch, section_epoch, sections_tail, strict_body};
 ghost use Rattle.versions.specs.KeyBytes.{key_bytes};
-ghost use Rattle.versions.specs.KeyStream.{list_left, release_tail, sections_of, tail_left};
-ghost use Rattle.versions.specs.Mess.{further_in, plain_mess, plain_mess_ref};
-ghost use Rattle.versions.specs.SemVer.{plain_semver, plain_semver_ref};
+ghost use Rattle.versions.specs.KeyStream.{list_left, release_tail, tail_left};
+ghost use Rattle.versions.specs.Mess.{plain_mess};
+ghost use Rattle.versions.specs.SemVer.{plain_semver};
 ghost use Rattle.versions.specs.Tail.{tail_bytes};
-ghost use Rattle.versions.specs.Version.{plain_version, plain_version_ref};
-ghost use Rattle.versions.specs.Versioning.{plain_versioning, versioning_of};
+ghost use Rattle.versions.specs.Version.{plain_version};
+ghost use Rattle.versions.specs.Versioning.{plain_versioning};
 
 mod list;
 mod sections;
-pub(crate) mod short;
-pub(crate) mod spelled;
 mod tail;
 
-use crate::mess::{self, Mess};
-use crate::semver::{self, SemVer};
-use crate::version::{self, Version};
+use crate::mess::Mess;
+use crate::semver::SemVer;
+use crate::version::Version;
 use crate::versioning::Versioning;
-use crate::versioning_ref::VersioningRef;
 use list::{CurrentList, PartsLeft};
-use sections::SectionsLeft;
+use sections::next_section;
 use std::alloc::{AllocError, Global};
 use std::cmp::Ordering;
 use std::marker::Model;
 use std::mem;
 use tail::{BARE, PRE_RELEASE, RELEASE, SECTIONS, TailLeft};
-pub use version_parts::key::{NotShort, SHORT, ShortKey, compare_bytes};
+pub use version_parts::key::compare_bytes;
 use version_parts::key::{ListLeft, PieceBytes};
-use version_parts::scan::{after_mark, is_all_digits};
-use version_parts::{MChunk, MessyChunk, Release, ReleaseChunk, ReleaseRef, SectionRef, Sep};
+use version_parts::{MChunk, MessyChunk, Release, ReleaseChunk, Sep};
 
 // The bytes reserved for a key at first: enough for three numbers and a short pre-release.
 const CAPACITY: usize = 32;
@@ -67,14 +63,6 @@ impl<'a> Model for KeyBytes<'a> {
 }
 
 impl<'a> KeyBytes<'a> {
-    /// Returns the bytes of the key of the version that the whole text parses as, or None if it is not a version.
-    /// Doesn't build an owned version, and doesn't allocate.
-    pub fn spelled_by(s: &'a str) -> Option<KeyBytes<'a>>
-        ensures { result ≡ option_map (λ v. key_bytes (key_of v)) (versioning_of s.now) }
-    {
-        Some(VersioningRef::new(s)?.key_bytes())
-    }
-
     // Returns the bytes of the key of a version of any kind.
     #[inline(always)]
     pub(crate) fn of(version: &'a Versioning) -> KeyBytes<'a>
@@ -97,16 +85,6 @@ impl<'a> KeyBytes<'a> {
         KeyBytes::strict(ideal.major, ideal.minor, ideal.patch, chunks)
     }
 
-    // Returns the bytes of the key of a scanned strict version.
-    #[tactic(auto, using(crate::proofs::Tail::pre_release_written))]
-    #[inline(always)]
-    pub(crate) fn of_semver_ref(ideal: &semver::SemVerRef<'a>) -> KeyBytes<'a>
-        ensures { result ≡ key_bytes (key_of_semver (plain_semver_ref ideal.now)) }
-    {
-        let chunks = spelled_chunks_left(&ideal.pre_rel);
-        KeyBytes::strict(ideal.major, ideal.minor, ideal.patch, chunks)
-    }
-
     // Returns the bytes of the key of a general version.
     #[tactic(auto, using(crate::proofs::Tail::release_written))]
     #[inline(always)]
@@ -115,16 +93,6 @@ impl<'a> KeyBytes<'a> {
     {
         let parts = PartsLeft::of(&general.chunks, &general.last);
         KeyBytes::general(general.epoch, parts, chunks_left(&general.release))
-    }
-
-    // Returns the bytes of the key of a scanned general version.
-    #[tactic(auto, using(crate::proofs::Tail::release_written))]
-    #[inline(always)]
-    pub(crate) fn of_version_ref(general: &version::VersionRef<'a>) -> KeyBytes<'a>
-        ensures { result ≡ key_bytes (key_of_version (plain_version_ref general.now)) }
-    {
-        let parts = PartsLeft::spelled_by(&general.body);
-        KeyBytes::general(general.epoch, parts, spelled_chunks_left(&general.release))
     }
 
     // Returns the bytes of the key of a messy version.
@@ -137,19 +105,7 @@ impl<'a> KeyBytes<'a> {
             None => (PieceBytes::number(0), complex),
         };
         let first = ListLeft::section(sections.chunks.as_slice());
-        KeyBytes::messy(epoch, first, SectionsLeft::Built(sections))
-    }
-
-    // Returns the bytes of the key of a scanned messy version.
-    pub(crate) fn of_mess_ref(complex: &mess::MessRef<'a>) -> KeyBytes<'a>
-        ensures { result ≡ key_bytes (key_of_mess (plain_mess_ref complex.now)) }
-    {
-        if let Some((digits, first, rest)) = spelled_epoch(&complex.first, complex.rest) {
-            let epoch = PieceBytes::digits(digits);
-            return KeyBytes::messy(epoch, first.left(), SectionsLeft::Spelled(rest));
-        }
-        let further = SectionsLeft::Spelled(complex.rest);
-        KeyBytes::messy(PieceBytes::number(0), complex.first.left(), further)
+        KeyBytes::messy(epoch, first, sections)
     }
 
     // Returns the bytes of a key with three plain numbers, and the chunks of a pre-release, if there is one.
@@ -187,20 +143,20 @@ impl<'a> KeyBytes<'a> {
         }
     }
 
-    // Returns the bytes of a key with an epoch, a section, and the sections after it.
+    // Returns the bytes of a key with an epoch, a section, and the sections after the first of a version.
     #[inline(always)]
     fn messy(
         epoch: PieceBytes<'a>,
         section: ListLeft<'a, MessyChunk>,
-        further: SectionsLeft<'a>,
+        mess: &'a Mess,
     ) -> KeyBytes<'a>
         ensures { result ≡ epoch.entry ++ (section.entry
-            ++ tail_bytes (sections_tail (sections_of further.entry))) }
+            ++ tail_bytes (sections_tail (plain_mess mess.now).more)) }
     {
         KeyBytes {
             piece: epoch,
             list: CurrentList::Section(section),
-            tail: TailLeft::sections(further),
+            tail: TailLeft::sections(mess),
         }
     }
 
@@ -245,17 +201,6 @@ fn chunks_left(release: &Option<Release>) -> Option<ListLeft<'_, ReleaseChunk>>
     }
 }
 
-// Returns the chunks of a scanned release for a key, if there is one.
-#[inline(always)]
-fn spelled_chunks_left<'a>(release: &Option<ReleaseRef<'a>>) -> Option<ListLeft<'a, ReleaseChunk>>
-    ensures { result ≡ option_map release_bytes release.now }
-{
-    match release {
-        Some(release) => Some(release.left()),
-        None => None,
-    }
-}
-
 // Sets the piece to the next of the current list, else to the next of the tail. Returns false if nothing is left.
 fn next_piece<'a>(
     list: &mut CurrentList<'a>,
@@ -285,11 +230,11 @@ fn begin_tail<'a>(
             *list = CurrentList::Chunks(chunks);
             piece.set_byte(rank);
         }
-        TailLeft::Sections(further) => {
-            *tail = TailLeft::AfterSection(further);
+        TailLeft::Sections(mess) => {
+            *tail = TailLeft::AfterSection(mess);
             piece.set_byte(SECTIONS);
         }
-        TailLeft::AfterSection(further) => match further.next_section() {
+        TailLeft::AfterSection(mess) => match next_section(mess) {
             Some((section, behind)) => {
                 *list = CurrentList::Section(section);
                 *tail = TailLeft::AfterSection(behind);
@@ -324,25 +269,6 @@ fn digits_of(section: &[MChunk]) -> Option<&str>
         [chunk] if chunk.is_digits() => Some(chunk.text()),
         _ => None,
     }
-}
-
-// Returns the digits of the epoch, the section after it, and the rest, if the first section is an epoch.
-#[tactic(auto, using(crate::proofs::SpelledKey::epoch_spelled))]
-fn spelled_epoch<'a>(
-    first: &SectionRef<'a>,
-    rest: &'a str,
-) -> Option<(&'a str, SectionRef<'a>, &'a str)>
-    ensures some { IfSome result (λ r. key_from_first first.now (further_in rest.now)
-        ≡ key_of_sections (run_value r.0.now) r.1 (further_in r.2.now)) }
-    ensures none { IfNone result (key_from_first first.now (further_in rest.now)
-        ≡ key_of_sections 0 first.now (further_in rest.now)) }
-{
-    let digits = first.only_text()?;
-    if digits.is_empty() || !is_all_digits(digits) {
-        return None;
-    }
-    let (body, behind) = SectionRef::scan(after_mark(rest, b':')?)?;
-    Some((digits, body, behind))
 }
 
 impl<'a> Iterator for KeyBytes<'a> {

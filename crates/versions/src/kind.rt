@@ -23,6 +23,10 @@ impl Kind {
     pub fn of(text: &str) -> Option<Kind>
         ensures { result ≡ option_map versioning_kind (versioning_of text.now) }
     {
-        Some(VersioningRef::new(text)?.kind())
+        match VersioningRef::new(text)? {
+            VersioningRef::Ideal(_) => Some(Kind::Ideal),
+            VersioningRef::General(_) => Some(Kind::General),
+            VersioningRef::Complex(_) => Some(Kind::Complex),
+        }
     }
 }

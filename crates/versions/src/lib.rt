@@ -5,13 +5,15 @@
 //! epoch, a release and metadata, as in `1:2.0rc1-3`. A messy version (`Mess`) is runs of letters and digits with dots
 //! and single signs between, as in `10.2+0.93+1-1`. A `Versioning` is the first of these that fits. A `Requirement`,
 //! such as `^1.2.3`, matches versions. A list of them, a `Requirements`, matches the versions that each member matches.
-//! A `VersioningRef` borrows a version from its text: it gives the kind, order, key and numbers without allocating.
+//! A `VersioningRef` has the fields of a version, read from its text: what orders, prints and matches texts is the crate
+//! `version_texts`.
 //!
 //! In a JSON document a `Versioning` is a string, by `serialize_pretty` and `deserialize_pretty`; so are a
 //! `Requirement` and a `Requirements`, by `serialize` and `deserialize`. `SemVer`, `Version` and the parts of versions
 //! derive serde's forms.
 #![tactic(auto)]
 
+mod asked;
 mod conversions;
 mod errors;
 mod json;
@@ -26,22 +28,19 @@ mod parts;
 mod pretty;
 mod reading;
 mod requirement;
-mod requirement_ref;
 mod requirements;
-mod requirements_ref;
 mod semver;
 mod version;
 mod versioning;
 mod versioning_ref;
 
+pub use asked::{Asked, asks_for};
 pub use errors::{Error, JsonError, ReadError};
 pub use kind::Kind;
 pub use mess::{Mess, MessRef};
 pub use op::Op;
 pub use requirement::Requirement;
-pub use requirement_ref::RequirementRef;
 pub use requirements::Requirements;
-pub use requirements_ref::RequirementsRef;
 pub use semver::{SemVer, SemVerRef};
 pub use version::{Version, VersionRef};
 pub use version_parts::{Chunk, Chunks, Last, MChunk, Release, Sep, parsers};

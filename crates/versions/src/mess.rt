@@ -425,22 +425,6 @@ impl<'a> MessRef<'a> {
     }
 }
 
-/// Writes the text that the version was parsed from.
-impl<'a> fmt::Display for MessRef<'a> {
-    ghost output = { λ m. Some (mess_text (plain_mess_ref m)) };
-
-    fn fmt<W: fmt::Write>(&self, f: &mut fmt::Formatter<W>) -> fmt::Result {
-        let first = &self.first;
-        write!(f, "{first}")?;
-        let mut rest = self.rest;
-        'sections: while let Some((sign, section, after)) = scan_further(rest) {
-            write!(f, "{sign}{section}")?;
-            rest = after;
-        }
-        Ok(())
-    }
-}
-
 // Compares the further sections that two texts begin with, field by field; a prefix comes first.
 fn compare_further(a: &str, b: &str) -> Ordering
     ensures { result ≡ slice_cmp further_plain_cmp (further_in a.now) (further_in b.now) }

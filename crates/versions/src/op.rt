@@ -1,11 +1,9 @@
 //! The operators of requirements.
 
-ghost use Rattle.std.specs.Prelude.{◌≡◌, ◌↔◌, IsTrue, Some};
+ghost use Rattle.std.specs.Prelude.{◌≡◌, Some};
 ghost use Rattle.std.specs.Option.{option_map};
-ghost use Rattle.versions.specs.Matching.{AsksOrder};
 ghost use Rattle.versions.specs.Op.{after_word, op_front, op_text};
 
-use std::cmp::Ordering;
 use std::fmt;
 use version_parts::scan::after_mark;
 
@@ -63,22 +61,6 @@ impl Op {
             Op::Tilde => after_mark(i, b'~'),
             Op::Caret => after_mark(i, b'^'),
             Op::Wildcard => after_mark(i, b'*'),
-        }
-    }
-
-    // Returns whether a comparison operator matches a version with this order to the wanted one. False for the others.
-    pub(crate) fn asks_order(self, order: Ordering) -> bool
-        ensures { IsTrue result ↔ AsksOrder self order }
-    {
-        match self {
-            Op::Greater => order.is_gt(),
-            Op::GreaterEq => order.is_ge(),
-            Op::Less => order.is_lt(),
-            Op::LessEq => order.is_le(),
-            Op::Exact => false,
-            Op::Tilde => false,
-            Op::Caret => false,
-            Op::Wildcard => false,
         }
     }
 }

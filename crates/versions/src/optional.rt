@@ -108,22 +108,3 @@ pub(crate) fn write_tail<W: fmt::Write>(
     }
     Ok(())
 }
-
-// Writes a hyphen and the scanned release, if there is one, then a plus and the metadata, if there is any.
-pub(crate) fn write_spelled_tail<W: fmt::Write>(
-    f: &mut fmt::Formatter<W>,
-    release: &Option<ReleaseRef<'_>>,
-    meta: Option<&str>,
-) -> fmt::Result
-    ensures { WritesOnOk W.write_str_gives f.old result
-        (optional_text hyphen release_text release.now
-        ++ optional_text plus (λ text. text) (option_map (λ text. text.now) meta.entry)) f.new }
-{
-    if let Some(release) = release {
-        write!(f, "-{release}")?;
-    }
-    if let Some(meta) = meta {
-        write!(f, "+{meta}")?;
-    }
-    Ok(())
-}

@@ -2,19 +2,17 @@
 
 ghost use Rattle.std.specs.Prelude.{◌≡◌, ◌∷◌, ◌↔◌, [], IfNone, IfSome, IsTrue, Some};
 ghost use Rattle.version_parts.specs.PartKey.{part_cmp, part_key};
-ghost use Rattle.versions.specs.BodyParts.{built_left, key_of_part, parts_left};
+ghost use Rattle.versions.specs.BodyParts.{key_of_part, parts_left};
 ghost use Rattle.versions.specs.Key.{key_of_version};
-ghost use Rattle.versions.specs.Version.{plain_version, plain_version_ref};
+ghost use Rattle.versions.specs.Version.{plain_version};
 ghost use Rattle.versions.specs.VersionMatch.{is_plain_zero, PartsMatchCaret, PartsMatchTilde, PartsNotBelow};
 
-use crate::version::{Version, VersionRef};
+use crate::version::Version;
 use std::cmp::Ordering;
-use version_parts::elements::ElementsLeft;
 use version_parts::key::{PartText, compare_parts};
-use version_parts::{Chunk, ChunkRef, Last, Part};
+use version_parts::{Chunk, ChunkRef, Last};
 
-// A part of a general version: a chunk, or the last part of an owned version. The last part of a scanned version is a
-// chunk too.
+// A part of a general version: a chunk, or the last part.
 #[derive(Clone, Copy)]
 enum BodyPart<'a> {
     Chunk(ChunkRef<'a>),
@@ -49,51 +47,22 @@ impl<'a> BodyPart<'a> {
     }
 }
 
-// The remaining parts of an owned version: its chunks, then its last part if that isn't taken yet.
+// The remaining parts of a version: its chunks, then its last part if that isn't taken yet.
 #[derive(Drop)]
-pub(crate) struct BuiltParts<'a> {
+pub(crate) struct BodyParts<'a> {
     chunks: &'a [Chunk],
     last: Option<&'a Last>,
 }
 
-impl<'a> BuiltParts<'a> {
-    // Takes the first of the parts.
-    fn take_first(&mut self) -> Option<BodyPart<'a>>
-        ensures some { IfSome result
-            (λ part. built_left self.old ≡ key_of_part part ∷ built_left self.new) }
-        ensures none { IfNone result (built_left self.old ≡ []) }
-    {
-        if let Some((first, rest)) = self.chunks.split_first() {
-            self.chunks = rest;
-            return Some(BodyPart::Chunk(first.lent()));
-        }
-        Some(BodyPart::Last(self.last.take()?))
-    }
-}
-
-// The remaining parts of a general version, owned or scanned.
-#[derive(Drop)]
-pub(crate) enum BodyParts<'a> {
-    Built(BuiltParts<'a>),
-    Spelled(ElementsLeft<'a>),
-}
-
 impl<'a> BodyParts<'a> {
-    // Returns all parts of an owned version.
+    // Returns all parts of a version.
     pub(crate) fn of(version: &'a Version) -> BodyParts<'a>
         ensures { parts_left result ≡ (key_of_version (plain_version version.now)).body }
     {
-        BodyParts::Built(BuiltParts {
+        BodyParts {
             chunks: version.chunks.0.as_slice(),
             last: Some(&version.last),
-        })
-    }
-
-    // Returns all parts of a scanned version.
-    pub(crate) fn spelled_by(version: &VersionRef<'a>) -> BodyParts<'a>
-        ensures { parts_left result ≡ (key_of_version (plain_version_ref version.now)).body }
-    {
-        BodyParts::Spelled(version.body.spelled_parts())
+        }
     }
 
     // Takes the first of the parts.
@@ -102,10 +71,11 @@ impl<'a> BodyParts<'a> {
             (λ part. parts_left self.old ≡ key_of_part part ∷ parts_left self.new) }
         ensures none { IfNone result (parts_left self.old ≡ []) }
     {
-        match self {
-            BodyParts::Built(parts) => parts.take_first(),
-            BodyParts::Spelled(parts) => Some(BodyPart::Chunk(parts.next::<Part>()?)),
+        if let Some((first, rest)) = self.chunks.split_first() {
+            self.chunks = rest;
+            return Some(BodyPart::Chunk(first.lent()));
         }
+        Some(BodyPart::Last(self.last.take()?))
     }
 }
 

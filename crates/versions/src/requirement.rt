@@ -4,11 +4,12 @@ ghost use Rattle.std.specs.Prelude.{◌≡◌, ◌↔◌, IfOk, IfSome, IsSomeAn
 ghost use Rattle.std.specs.Option.{is_some, option_map};
 ghost use Rattle.version_parts.specs.Front.{Reads};
 ghost use Rattle.versions.specs.Errors.{IllegalOp, ReadsOr};
-ghost use Rattle.versions.specs.Matching.{IsConvex, Matches, MatchesCaret, MatchesOp, MatchesTilde};
+ghost use Rattle.versions.specs.Matching.{IsConvex, Matches};
 ghost use Rattle.versions.specs.Requirement.{plain_requirement, requirement_front, requirement_of, requirement_text, PlainRequirement, RequirementOwns, SpellsRequirement};
 ghost use Rattle.versions.specs.Versioning.{plain_versioning};
 ghost use Rattle.versions.specs.declared.op.Op.TheVariants.{Wildcard};
 
+use crate::asked::asks_for;
 use crate::errors::{Error, ReadError};
 use crate::op::Op;
 use crate::reading::or_illegal;
@@ -154,50 +155,6 @@ impl fmt::Display for Requirement {
             write!(f, "{version}")?;
         }
         Ok(())
-    }
-}
-
-// Returns whether an operator with one version matches another version.
-fn asks_for(op: Op, wanted: &Versioning, version: &Versioning) -> bool
-    ensures { IsTrue result
-        ↔ MatchesOp op (plain_versioning wanted.now) (plain_versioning version.now) }
-{
-    match op {
-        Op::Exact => version == wanted,
-        Op::Greater | Op::GreaterEq | Op::Less | Op::LessEq => {
-            op.asks_order(version.precedence(wanted))
-        }
-        Op::Tilde => matches_tilde(wanted, version),
-        Op::Caret => matches_caret(wanted, version),
-        Op::Wildcard => true,
-    }
-}
-
-// Returns whether `~wanted` matches a version.
-fn matches_tilde(wanted: &Versioning, version: &Versioning) -> bool
-    ensures { IsTrue result
-        ↔ MatchesTilde (plain_versioning wanted.now) (plain_versioning version.now) }
-{
-    match (wanted, version) {
-        (Versioning::Ideal(wanted), Versioning::Ideal(ideal)) => wanted.matches_tilde(ideal),
-        (Versioning::General(wanted), Versioning::General(general)) => {
-            wanted.matches_tilde(general)
-        }
-        _ => false,
-    }
-}
-
-// Returns whether `^wanted` matches a version.
-fn matches_caret(wanted: &Versioning, version: &Versioning) -> bool
-    ensures { IsTrue result
-        ↔ MatchesCaret (plain_versioning wanted.now) (plain_versioning version.now) }
-{
-    match (wanted, version) {
-        (Versioning::Ideal(wanted), Versioning::Ideal(ideal)) => wanted.matches_caret(ideal),
-        (Versioning::General(wanted), Versioning::General(general)) => {
-            wanted.matches_caret(general)
-        }
-        _ => false,
     }
 }
 

@@ -18,10 +18,9 @@ ghost use Rattle.versions.specs.SemVer.{plain_semver, semver_fed, plain_semver_r
 use crate::errors::{Error, ReadError};
 use crate::numbers::{Numbers, numbers_match_caret, numbers_match_tilde};
 use crate::optional::{
-    build_release, copy_meta, copy_release, copy_text, optional_meta, optional_release,
-    write_spelled_tail, write_tail,
+    build_release, copy_meta, copy_release, copy_text, optional_meta, optional_release, write_tail,
 };
-use crate::reading::{ascii_text, or_illegal};
+use crate::reading::or_illegal;
 use crate::version::Version;
 use serde::{Deserialize, Serialize};
 use std::alloc::{AllocError, Global};
@@ -272,38 +271,6 @@ impl<'a> SemVerRef<'a> {
         }
     }
 
-    /// Parses bytes as a strict version; returns None if they do not parse. Bytes that are not UTF-8 are not a version.
-    /// Doesn't allocate.
-    #[inline(always)]
-    pub fn from_bytes(bytes: &'a [u8]) -> Option<SemVerRef<'a>>
-        ensures { option_map plain_semver_ref result ≡ semver_of bytes.now }
-    {
-        SemVerRef::new(ascii_text(bytes)?)
-    }
-
-    // Returns whether `~self` matches `other`, by the rule of strict versions.
-    pub(crate) fn matches_tilde(&self, other: &SemVerRef<'_>) -> bool
-        ensures { IsTrue result ↔ MatchesTilde (numbers (plain_semver_ref self.now))
-            (numbers (plain_semver_ref other.now)) }
-    {
-        numbers_match_tilde(self.numbers(), other.numbers())
-    }
-
-    // Returns whether `^self` matches `other`, by the rule of strict versions.
-    pub(crate) fn matches_caret(&self, other: &SemVerRef<'_>) -> bool
-        ensures { IsTrue result ↔ MatchesCaret (numbers (plain_semver_ref self.now))
-            (numbers (plain_semver_ref other.now)) }
-    {
-        numbers_match_caret(self.numbers(), other.numbers())
-    }
-
-    // Returns major, minor and patch.
-    fn numbers(&self) -> Numbers
-        ensures { result ≡ numbers (plain_semver_ref self.now) }
-    {
-        (self.major, self.minor, self.patch)
-    }
-
     // Copies the version into an owned one.
     pub(crate) fn build(&self, alloc: Global) -> Result<SemVer, AllocError>
         ensures ok { IfOk result (λ v. plain_semver v ≡ plain_semver_ref self.now) }
@@ -407,16 +374,5 @@ fn compare_spelled_pre_releases(a: &Option<ReleaseRef<'_>>, b: &Option<ReleaseRe
         (Some(_), None) => Ordering::Less,
         (None, Some(_)) => Ordering::Greater,
         (None, None) => Ordering::Equal,
-    }
-}
-
-/// Writes the text that the version was parsed from.
-impl<'a> fmt::Display for SemVerRef<'a> {
-    ghost output = { λ v. Some (semver_text (plain_semver_ref v)) };
-
-    fn fmt<W: fmt::Write>(&self, f: &mut fmt::Formatter<W>) -> fmt::Result {
-        let (major, minor, patch) = (self.major, self.minor, self.patch);
-        write!(f, "{major}.{minor}.{patch}")?;
-        write_spelled_tail(f, &self.pre_rel, self.meta)
     }
 }

@@ -23,8 +23,7 @@ ghost use Rattle.versions.specs.VersionOrder.{version_plain_cmp};
 use crate::errors::{Error, ReadError};
 use crate::key::{KeyBytes, compare_keys};
 use crate::optional::{
-    build_release, copy_meta, copy_release, copy_text, optional_meta, optional_release,
-    write_spelled_tail, write_tail,
+    build_release, copy_meta, copy_release, copy_text, optional_meta, optional_release, write_tail,
 };
 use crate::parts::{BodyParts, parts_match_caret, parts_match_tilde};
 use crate::reading::or_illegal;
@@ -323,33 +322,6 @@ impl<'a> VersionRef<'a> {
         Some((version, rest))
     }
 
-    // Returns whether `~self` matches `other`, by the rule of general versions.
-    pub(crate) fn matches_tilde(&self, other: &VersionRef<'_>) -> bool
-        ensures { IsTrue result
-            ↔ MatchesTilde (epoch_and_parts (plain_version_ref self.now))
-            (epoch_and_parts (plain_version_ref other.now)) }
-    {
-        self.epoch_number() == other.epoch_number()
-            && parts_match_tilde(BodyParts::spelled_by(self), BodyParts::spelled_by(other))
-    }
-
-    // Returns whether `^self` matches `other`, by the rule of general versions.
-    pub(crate) fn matches_caret(&self, other: &VersionRef<'_>) -> bool
-        ensures { IsTrue result
-            ↔ MatchesCaret (epoch_and_parts (plain_version_ref self.now))
-            (epoch_and_parts (plain_version_ref other.now)) }
-    {
-        self.epoch_number() == other.epoch_number()
-            && parts_match_caret(BodyParts::spelled_by(self), BodyParts::spelled_by(other))
-    }
-
-    // Returns the epoch, or 0 without one.
-    fn epoch_number(&self) -> u32
-        ensures { result ≡ (epoch_and_parts (plain_version_ref self.now)).0 }
-    {
-        self.epoch.unwrap_or(0)
-    }
-
     // Copies the version into an owned one.
     pub(crate) fn build(&self, alloc: Global) -> Result<Version, AllocError>
         ensures ok { IfOk result (λ v. plain_version v ≡ plain_version_ref self.now) }
@@ -471,19 +443,5 @@ fn compare_spelled_releases(a: &Option<ReleaseRef<'_>>, b: &Option<ReleaseRef<'_
         (Some(_), None) => Ordering::Greater,
         (None, Some(_)) => Ordering::Less,
         (None, None) => Ordering::Equal,
-    }
-}
-
-/// Writes the text that the version was parsed from.
-impl<'a> fmt::Display for VersionRef<'a> {
-    ghost output = { λ v. Some (version_text (plain_version_ref v)) };
-
-    fn fmt<W: fmt::Write>(&self, f: &mut fmt::Formatter<W>) -> fmt::Result {
-        if let Some(epoch) = self.epoch {
-            write!(f, "{epoch}:")?;
-        }
-        let body = &self.body;
-        write!(f, "{body}")?;
-        write_spelled_tail(f, &self.release, self.meta)
     }
 }

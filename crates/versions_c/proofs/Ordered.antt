@@ -17,7 +17,7 @@ use Rattle.std.specs.FinMap.{IsAntisymmetric, nat_cmp-IsAntisymmetric}
 use Rattle.std.specs.Int.Digits.{digits_of}
 use Rattle.std.specs.List.{IsDistinct, range_with_len}
 use Rattle.std.specs.List.Sorted.{IsPermutation, IsSorted}
-use Rattle.std.specs.Option.{option_cmp, option_map, unwrap_or}
+use Rattle.std.specs.Option.{option_and_then, option_cmp, option_map, unwrap_or}
 use Rattle.std.specs.Ordering.{is_lt, nat_cmp, on, ordering_reverse, ordering_then}
 use Rattle.std.specs.declared.cmp.Ordering.{Ordering}
 use Rattle.std.specs.declared.cmp.Ordering.TheVariants.{Less, Equal, Greater}
@@ -26,23 +26,24 @@ use Rattle.version_parts.specs.Lists.{none_last_cmp}
 use Rattle.version_parts.specs.NumberBytes.{length_bytes, number_bytes}
 use Rattle.version_parts.specs.PartKey.{parts_bytes}
 use Rattle.versions.proofs.Orders.{key_bytes_alone}
-use Rattle.versions.specs.Key.{Key, key_of, precedence}
+use Rattle.versions.proofs.SemVerOrder.{precedence_of_semvers}
+use Rattle.versions.specs.Key.{Key, key_of, key_of_semver, precedence}
 use Rattle.versions.specs.KeyBytes.{key_bytes}
 use Rattle.versions.specs.Orders.{versioning_cmp}
 use Rattle.versions.specs.Tail.{tail_bytes}
-use Rattle.versions.specs.Versioning.{PlainVersioning, versioning_of, versioning_plain_cmp}
+use Rattle.versions.specs.Versioning.{PlainVersioning, Ideal, General, Complex, versioning_of, versioning_plain_cmp}
 use Rattle.versions.specs.VersioningLaws.{versioning_plain_total}
 use Rattle.versions_c.specs.Keys.{keys_before, saturated_offset}
 use Rattle.versions_c.specs.Offsets.{text_at}
-use Rattle.versions_c.specs.Sorting.{AreInOrder, keyed_cmp, keys_cmp, place_cmp, tie_breaker}
+use Rattle.versions_c.specs.Sorting.{AreInOrder, keyed_cmp, keys_cmp, place_cmp, text_tie_breaker, tie_breaker, unless_strict}
 
 -- numbers that are each its own place
 pub counted : (xs : List ℕ) (n : ℕ) → length xs ≡ n → ((i : ℕ) → i < n → get_or xs i 0 ≡ i) → xs ≡ range_with_len 0 n
 counted xs n long each = fill_by_all (λ i. i) xs n 0 long each ∙ map-id (range_with_len 0 n)
 
 -- a text ties with itself
-pub same_text_ties : (a b : List ℕ) → a ≡ b → Equal ≡ option_cmp versioning_plain_cmp (versioning_of a) (versioning_of b)
-same_text_ties a b same = rw same (sym (tied_itself (options_total versioning_plain_total) (versioning_of b)))
+pub same_text_ties : (a b : List ℕ) → a ≡ b → Equal ≡ option_cmp versioning_plain_cmp (text_tie_breaker a) (text_tie_breaker b)
+same_text_ties a b same = rw same (sym (tied_itself (options_total versioning_plain_total) (text_tie_breaker b)))
 
 -- the order by keys is total
 keys_total : IsTotalOrder keys_cmp
@@ -116,7 +117,29 @@ no_key_empty k =
 
 -- what breaks a tie, by the text's version
 abbrev breaker : Option PlainVersioning → Option PlainVersioning
-breaker spelled = if length (key_or_nothing spelled) == 0 then None else spelled
+breaker spelled = if length (key_or_nothing spelled) == 0 then None else option_and_then unless_strict spelled
+
+-- an order followed by itself is the same order
+then_twice : (first : Ordering) → ordering_then first Equal ≡ ordering_then first first
+then_twice Less = refl
+then_twice Equal = refl
+then_twice Greater = refl
+
+-- if keys tie, two versions compare by their fields, unless both are strict
+ties_alike : (a b : PlainVersioning)
+    → ordering_then (precedence (key_of a) (key_of b))
+    (option_cmp versioning_plain_cmp (unless_strict a) (unless_strict b)) ≡ versioning_cmp a b
+ties_alike (Ideal a) (Ideal b) =
+    let keys = precedence (key_of_semver a) (key_of_semver b) in
+    then_twice keys ∙ ap (ordering_then keys) (precedence_of_semvers a b)
+ties_alike (Ideal a) (General b) = refl
+ties_alike (Ideal a) (Complex b) = refl
+ties_alike (General a) (Ideal b) = refl
+ties_alike (General a) (General b) = refl
+ties_alike (General a) (Complex b) = refl
+ties_alike (Complex a) (Ideal b) = refl
+ties_alike (Complex a) (General b) = refl
+ties_alike (Complex a) (Complex b) = refl
 
 alike : (v w : Option PlainVersioning) (o : Ordering)
     → ordering_then (keys_cmp (key_or_nothing v) (key_or_nothing w)) (ordering_then (option_cmp versioning_plain_cmp (breaker v) (breaker w)) o) ≡ ordering_then (none_last_cmp versioning_cmp v w) o
@@ -124,7 +147,9 @@ alike None None o = refl
 alike (Some v) None o = rw (no_key_empty (key_of v)) refl
 alike None (Some w) o = rw (no_key_empty (key_of w)) refl
 alike (Some v) (Some w) o =
-    rw (no_key_empty (key_of v), no_key_empty (key_of w), key_bytes_alone (key_of v) (key_of w)) (sym (then_assoc (precedence (key_of v) (key_of w)) (versioning_plain_cmp v w) o))
+    rw (no_key_empty (key_of v), no_key_empty (key_of w), key_bytes_alone (key_of v) (key_of w))
+    (sym (then_assoc (precedence (key_of v) (key_of w)) (option_cmp versioning_plain_cmp (unless_strict v) (unless_strict w)) o)
+    ∙ ap (λ r. ordering_then r o) (ties_alike v w))
 
 -- two places compare as their texts do, if their keys lie there
 pub places_alike : (texts offsets keys key_offsets : List ℕ) (i j : ℕ) → text_at keys key_offsets i ≡ key_or_nothing (versioning_of (text_at texts offsets i))

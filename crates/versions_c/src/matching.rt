@@ -1,6 +1,6 @@
 //! Which versions a list of requirements matches.
 
-ghost use Rattle.std.specs.Prelude.{◌≡◌, ◌≢◌, ◌<◌, ℕ, length, slice_index, IfSome};
+ghost use Rattle.std.specs.Prelude.{◌≡◌, ◌≢◌, ◌<◌, ℕ, length, slice_index, IfSome, None};
 ghost use Rattle.versions.specs.Requirements.{requirements_of};
 ghost use Rattle.versions.specs.Versioning.{versioning_of};
 ghost use Rattle.versions_c.specs.Matching.{list_status, match_code, match_status};
@@ -8,7 +8,7 @@ ghost use Rattle.versions_c.specs.Offsets.{text_at, AreOffsets};
 
 use crate::offsets::{are_offsets, text_at};
 use crate::status::{BAD_OFFSETS, NO_REQUIREMENTS, NO_VERSION, OK};
-use version_texts::{RequirementsRef, VersioningRef};
+use version_texts::{RequirementsRef, VersioningRef, list_matches};
 
 /// Writes whether a list matches a version.
 #[unsafe(no_mangle)]
@@ -18,15 +18,24 @@ pub extern "C" fn versions_matches(list: &[u8], text: &[u8], matches: &mut u8) -
         (λ wanted. matches.new ≡ match_code wanted (versioning_of text.now)) }
     ensures kept { result ≢ OK → matches.new ≡ matches.old }
 {
-    let Some(wanted) = RequirementsRef::from_bytes(list) else {
-        return NO_REQUIREMENTS;
+    let Some(version) = VersioningRef::from_bytes(text) else {
+        return status_without_version(list);
     };
-    match asked_for(&wanted, text) {
-        2 => NO_VERSION,
-        asked => {
-            *matches = asked;
-            OK
-        }
+    match list_matches(list, &version) {
+        Some(true) => *matches = 1,
+        Some(false) => *matches = 0,
+        None => return NO_REQUIREMENTS,
+    }
+    OK
+}
+
+// Returns the status for a list and a text that isn't a version.
+fn status_without_version(list: &[u8]) -> i32
+    ensures { result ≡ match_status (requirements_of list.now) None }
+{
+    match RequirementsRef::from_bytes(list) {
+        Some(_) => NO_VERSION,
+        None => NO_REQUIREMENTS,
     }
 }
 
@@ -62,6 +71,8 @@ pub extern "C" fn versions_match_all(
 }
 
 // Returns the answer for a text: 1 if the list matches it, 0 if not, 2 if it isn't a version.
+// Not inlined: else the compiler moves the list by a call of memcpy, which the library may not need.
+#[inline(never)]
 #[tactic(auto, using(crate::proofs::Answers::coded))]
 fn asked_for(wanted: &RequirementsRef<'_>, text: &[u8]) -> u8
     ensures { result ≡ match_code wanted.now (versioning_of text.now) }

@@ -12,7 +12,7 @@ use version_parts::{
     ReleaseRef, SectionRef,
 };
 use version_texts::VersioningRef;
-use versions::key::KeyBytes;
+use versions::Versioning;
 
 pub fn make_all(table: &mut Table<'_>) -> io::Result<()> {
     elements(table)?;
@@ -63,8 +63,9 @@ fn scanned(table: &mut Table<'_>) -> io::Result<()> {
 
 fn streams(table: &mut Table<'_>) -> io::Result<()> {
     table.reads("PieceBytes::append_to", "7rc12", part_bytes)?;
-    table.reads("KeyBytes::append_to", "1.2.3-rc.1", key_bytes)?;
-    table.reads("KeyBytes::append_to", "1:2_a", key_bytes)?;
+    for text in ["1.2.3-rc.1", "1:2_a"] {
+        table.borrows("KeyBytes::append_to", text, Versioning::new, key_bytes)?;
+    }
     table.reads("VersioningRef::append_key", "1.2.3-rc.1", written_key)?;
     table.reads("VersioningRef::append_key", "1:2_a", written_key)
 }
@@ -110,13 +111,10 @@ fn part_bytes(alloc: Global, text: &str) -> Result<Vec<u8>, AllocError> {
     Ok(list)
 }
 
-fn key_bytes(alloc: Global, text: &str) -> Result<Option<Vec<u8>>, AllocError> {
-    let Some(key) = KeyBytes::spelled_by(text) else {
-        return Ok(None);
-    };
+fn key_bytes(version: &Versioning, alloc: Global) -> Result<Vec<u8>, AllocError> {
     let mut list = Vec::new(alloc);
-    key.append_to(&mut list)?;
-    Ok(Some(list))
+    version.key_bytes().append_to(&mut list)?;
+    Ok(list)
 }
 
 fn written_key(alloc: Global, text: &str) -> Result<Option<Vec<u8>>, AllocError> {

@@ -53,8 +53,7 @@ impl InlineBytes {
     /// Returns the bytes of a number: the count of its digits, then the digits.
     #[inline(always)]
     pub(crate) fn number(number: u32) -> InlineBytes
-        ensures value { result ≡ number_bytes number }
-        ensures short { length result ≤ 11 }
+        ensures { result ≡ number_bytes number }
     {
         let mut inline = InlineBytes::none();
         inline.put_number(number);
@@ -76,15 +75,6 @@ impl InlineBytes {
     {
         self.clear();
         self.put(byte);
-    }
-
-    /// Sets the bytes to two bytes.
-    #[inline(always)]
-    pub(crate) fn set_two(&mut self, first: u8, second: u8)
-        ensures { self.new ≡ first ∷ second ∷ [] }
-    {
-        self.set_byte(second);
-        self.put(first);
     }
 
     /// Sets the bytes to a plain number as a part.

@@ -1,19 +1,16 @@
 //! The bytes of one piece of a key: of a part, of a number or of a text.
 
-ghost use Rattle.std.specs.Prelude.{◌≡◌, ◌<◌, ◌≤◌, ◌∷◌, ◌++◌, [], length, List, ℕ, Some, None, OnErr, OnOk};
+ghost use Rattle.std.specs.Prelude.{◌≡◌, ◌∷◌, ◌++◌, [], Some, None, OnErr, OnOk};
 ghost use Rattle.std.specs.Iterator.{item_count, YieldsFirst};
-ghost use Rattle.std.specs.Str.Parse.{digits_value};
-ghost use Rattle.version_parts.specs.Chunk.{chunk_of_text, chunk_text, plain_chunk_ref, IsChunkText};
+ghost use Rattle.version_parts.specs.Chunk.{chunk_text, plain_chunk_ref};
 ghost use Rattle.version_parts.specs.DigitRun.{run_value};
 ghost use Rattle.version_parts.specs.Lists.{Growing, GrowsWithin};
 ghost use Rattle.version_parts.specs.NumberBytes.{number_bytes};
-ghost use Rattle.version_parts.specs.Numeral.{SpellsNumeral};
 ghost use Rattle.version_parts.specs.PartKey.{part_bytes, part_key, Number};
 ghost use Rattle.version_parts.specs.Pieces.{GonePast, after_number_bytes, place_bytes};
 ghost use Rattle.version_parts.specs.ReleaseOrder.{chunk_bytes};
-ghost use Rattle.version_parts.specs.TextBytes.{text_bytes};
 
-use crate::chunk::{ChunkRef, ChunkText};
+use crate::chunk::ChunkRef;
 use crate::key::PartText;
 use crate::key::inline::InlineBytes;
 use crate::key::place::{AfterNumber, Place, run_step};
@@ -74,18 +71,6 @@ impl<'a> PieceBytes<'a> {
         PieceBytes::at_place(
             InlineBytes::none(),
             Place::Number(AfterNumber::Nothing),
-            PartText::text(text),
-        )
-    }
-
-    /// Returns the bytes of a text.
-    #[tactic(auto, using(crate::proofs::PieceBytes::alone))]
-    pub fn text(text: &'a str) -> PieceBytes<'a>
-        ensures { result ≡ text_bytes text.now }
-    {
-        PieceBytes::at_place(
-            InlineBytes::none(),
-            Place::Rest(AfterNumber::Text),
             PartText::text(text),
         )
     }
@@ -210,66 +195,6 @@ impl<'a> PieceBytes<'a> {
         }
     }
 
-    // Sets the piece to the bytes of a chunk of a release, from the text of the chunk.
-    #[tactic(auto, using(crate::proofs::PieceBytes::alone))]
-    #[inline(always)]
-    pub(crate) fn set_chunk_text(&mut self, chunk: ChunkText<'a>)
-        requires { IsChunkText chunk }
-        ensures { self.new ≡ chunk_bytes (Some (chunk_of_text chunk.entry)) }
-    {
-        match chunk {
-            ChunkText::Numeral(digits) => {
-                let digits = counted_digits(digits);
-                self.set_digits(2, digits);
-            }
-            ChunkText::Alphanum(text) => {
-                self.ready.set_byte(3);
-                self.run = &[];
-                self.text.set_text(text);
-                self.place = Place::Rest(AfterNumber::Text);
-            }
-        }
-    }
-
-    // Sets the piece to the bytes of a chunk as a part, from the text of the chunk.
-    #[tactic(auto, using(crate::proofs::Numbers::numeral_part))]
-    #[inline(always)]
-    pub(crate) fn set_chunk_text_as_part(&mut self, chunk: ChunkText<'a>)
-        requires { IsChunkText chunk }
-        ensures { self.new ≡ part_bytes (Some (part_key (chunk_text (chunk_of_text chunk.entry)))) }
-    {
-        match chunk {
-            ChunkText::Numeral(digits) => {
-                self.set_ended_digits(3, counted_digits(digits), 2);
-            }
-            ChunkText::Alphanum(text) => self.set_text_part(text),
-        }
-    }
-
-    // Sets the piece to a mark, the count of some digits, and the digits.
-    #[tactic(auto, unfolding(crate::specs::Pieces::place_bytes, crate::specs::Pieces::after_number_bytes))]
-    #[inline(always)]
-    fn set_digits(&mut self, mark: u8, digits: &'a [u8])
-        requires { length digits.now < 256 }
-        ensures { self.new ≡ mark ∷ length digits.now ∷ digits.now }
-    {
-        self.ready.set_two(mark, digits.len() as u8);
-        self.run = digits;
-        self.place = Place::Rest(AfterNumber::Nothing);
-    }
-
-    // Sets the piece to a mark, the count of some digits, the digits, and a byte after them.
-    #[tactic(auto, unfolding(crate::specs::Pieces::place_bytes))]
-    #[inline(always)]
-    fn set_ended_digits(&mut self, mark: u8, digits: &'a [u8], end: u8)
-        requires { length digits.now < 256 }
-        ensures { self.new ≡ mark ∷ length digits.now ∷ (digits.now ++ end ∷ []) }
-    {
-        self.ready.set_two(mark, digits.len() as u8);
-        self.run = digits;
-        self.place = Place::End(end);
-    }
-
     /// Removes the same bytes from the start of both, perhaps not all that are the same. Does not allocate.
     #[inline(always)]
     pub fn pass_same(&mut self, other: &mut PieceBytes<'_>)
@@ -330,21 +255,6 @@ impl<'a> Iterator for PieceBytes<'a> {
         }
         (self.run, self.place) = run_step(step.place, &mut self.text);
         Some(step.byte)
-    }
-}
-
-// The digits of a numeral as keys have them: 0 has no digits.
-#[tactic(auto, using(crate::proofs::Numbers::numeral_bytes))]
-#[inline(always)]
-pub(crate) fn counted_digits(numeral: &str) -> &[u8]
-    requires { SpellsNumeral numeral.now (digits_value 10 numeral.now) }
-    ensures bytes { number_bytes (digits_value 10 numeral.now)
-        ≡ length result.now ∷ result.now }
-    ensures short { length result.now ≤ 10 }
-{
-    match numeral.as_bytes() {
-        [b'0', ..] => &[],
-        digits => digits,
     }
 }
 

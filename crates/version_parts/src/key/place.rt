@@ -36,8 +36,6 @@ pub(crate) enum Place {
     Digit(AfterNumber),
     // What is read after a number.
     Rest(AfterNumber),
-    // One byte, and nothing of the text.
-    End(u8),
 }
 
 // The next byte, a byte that must follow it, if any, and the place of the stream after them.
@@ -96,7 +94,6 @@ impl Place {
                 Some(Step::to(digit, within_run(after, text)))
             }
             Place::Rest(after) => rest_step(after, text),
-            Place::End(byte) => Some(Step::to(byte, Place::Rest(AfterNumber::Nothing))),
         }
     }
 }

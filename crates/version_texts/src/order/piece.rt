@@ -1,6 +1,6 @@
 //! The pieces of a text between its dots.
 
-ghost use Rattle.std.specs.Prelude.{◌≡◌, ◌==◌, ◌≤◌, ◌∷◌, [], ℕ, length, IfNone, IfSome};
+ghost use Rattle.std.specs.Prelude.{◌≡◌, ◌==◌, ◌≤◌, ◌∷◌, [], ℕ, length, suc, take, IfNone, IfSome};
 ghost use Rattle.std.specs.List.{position_or_len};
 ghost use Rattle.version_texts.specs.Piece.{behind_piece, first_piece, is_dot};
 
@@ -36,6 +36,13 @@ fn first_dot(text: &[u8]) -> usize
         }
     }
     text.len()
+}
+
+// The text up to its first dot, with the dot; all of a text without dots.
+pub(crate) fn through_dot(text: &[u8]) -> &[u8]
+    ensures { result.now ≡ take (suc (position_or_len is_dot text.now)) text.now }
+{
+    text.get(..first_dot(text) + 1).unwrap_or(text)
 }
 
 // What follows the first byte of a text, or None if the text is empty.

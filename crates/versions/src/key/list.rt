@@ -8,7 +8,7 @@ ghost use Rattle.version_parts.specs.Pieces.{IsNext};
 
 use std::marker::Model;
 use version_parts::key::{ItemsLeft, ListLeft, PieceBytes};
-use version_parts::{BodyRef, Chunks, Last, MessyChunk, Part, ReleaseChunk};
+use version_parts::{Chunks, Last, MessyChunk, Part, ReleaseChunk};
 
 /// What remains of a list, with its end.
 #[derive(Drop)]
@@ -82,7 +82,7 @@ impl<'a> Model for PartsLeft<'a> {
 
 impl<'a> PartsLeft<'a> {
     /// Returns the parts of a value: its chunks and its last part.
-    #[tactic(auto, using(crate::proofs::SpelledKey::parts_written))]
+    #[tactic(auto, using(crate::proofs::PartsWritten::parts_written))]
     #[inline(always)]
     pub fn of(chunks: &'a Chunks, last: &'a Last) -> PartsLeft<'a>
         ensures { result ≡ parts_bytes
@@ -92,20 +92,6 @@ impl<'a> PartsLeft<'a> {
         PartsLeft {
             items: ItemsLeft::of(chunks.0.as_slice()),
             last: Some(last),
-            ended: false,
-        }
-    }
-
-    /// Returns the parts of a scanned body.
-    #[tactic(auto, using(version_parts::proofs::ListBytes::ended))]
-    #[inline(always)]
-    pub fn spelled_by(body: &BodyRef<'a>) -> PartsLeft<'a>
-        ensures { result ≡ parts_bytes
-            (chunk_parts body.now.0 ++ part_key (last_text body.now.1) ∷ []) }
-    {
-        PartsLeft {
-            items: body.parts(),
-            last: None,
             ended: false,
         }
     }

@@ -2,10 +2,11 @@
 
 ghost use Rattle.std.specs.Prelude.{◌≡◌};
 ghost use Rattle.versions.specs.Key.{sections_tail};
-ghost use Rattle.versions.specs.KeyStream.{release_tail, sections_of};
+ghost use Rattle.versions.specs.KeyStream.{release_tail};
+ghost use Rattle.versions.specs.Mess.{plain_mess};
 ghost use Rattle.versions.specs.Tail.{tail_bytes};
 
-use crate::key::sections::SectionsLeft;
+use crate::mess::Mess;
 use version_parts::ReleaseChunk;
 use version_parts::key::ListLeft;
 
@@ -30,10 +31,10 @@ pub enum TailLeft<'a> {
     Bare,
     /// The mark of a release, and its chunks.
     Release(u8, ListLeft<'a, ReleaseChunk>),
-    /// The mark of further sections, and these sections.
-    Sections(SectionsLeft<'a>),
-    /// The further sections after the current one.
-    AfterSection(SectionsLeft<'a>),
+    /// The mark of further sections, and those after the first of a version.
+    Sections(&'a Mess),
+    /// The further sections after the current one, which is the first of a version.
+    AfterSection(&'a Mess),
 }
 
 impl<'a> TailLeft<'a> {
@@ -50,13 +51,13 @@ impl<'a> TailLeft<'a> {
         }
     }
 
-    /// Returns the mark of further sections and these sections, or the mark of an empty tail.
+    /// Returns the mark of further sections and those of the version, or the mark of an empty tail.
     #[inline(always)]
-    pub fn sections(further: SectionsLeft<'a>) -> TailLeft<'a>
-        ensures { tail_left result ≡ tail_bytes (sections_tail (sections_of further.entry)) }
+    pub fn sections(mess: &'a Mess) -> TailLeft<'a>
+        ensures { tail_left result ≡ tail_bytes (sections_tail (plain_mess mess.now).more) }
     {
-        match further.next_section() {
-            Some(_) => TailLeft::Sections(further),
+        match mess.next {
+            Some(_) => TailLeft::Sections(mess),
             None => TailLeft::Bare,
         }
     }

@@ -1,5 +1,6 @@
 use Rattle.std.proofs.Common.{ap}
-use Rattle.version_texts.proofs.ShapesMatch.{tilde_of_general, tilde_of_strict, shape_fits}
+use Rattle.version_texts.proofs.Borrowed.{shape_fits}
+use Rattle.version_texts.proofs.ShapesMatch.{match_of_general, tilde_of_strict}
 use Rattle.version_texts.proofs.PartsMatch.{chain}
 use Rattle.version_texts.specs.TextKey.{parts_of}
 use Rattle.version_texts.proofs.matching.matches_tilde.Goals as goal
@@ -25,7 +26,7 @@ returns-in-Ideal-Ideal c w v wanted_is text_is =
 
 pub returns-in-General-General : goal.returns-in-General-General
 returns-in-General-General c w v wanted_is text_is =
-    let both = tilde_of_general c.args.wanted.now c.args.text.now c.args.wanted_shape c.args.shape
+    let both = match_of_general c.args.wanted.now c.args.text.now c.args.wanted_shape c.args.shape
     c.requires.wanted_is c.requires.text_is w v wanted_is text_is c.in-General-General.is-0
     c.in-General-General.is-1 in
-    chain c.general_match_tilde.ensures both
+    chain c.general_match_tilde.ensures both.0

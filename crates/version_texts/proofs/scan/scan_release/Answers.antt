@@ -1,5 +1,6 @@
 use Rattle.std.proofs.Common.{◌==◌, ◌∙◌, drop, sym, arith}
 use Rattle.version_parts.specs.Bytes.{dot, is_identifier_byte}
+use Rattle.version_texts.proofs.NextByte.{is_dot, no_dot}
 use Rattle.version_texts.proofs.Released.{bad_chunk, from_last, from_next, place_last, place_next}
 use Rattle.version_texts.proofs.Runs.{not_false, not_true}
 use Rattle.version_texts.proofs.Section.{begins_within}
@@ -16,7 +17,7 @@ returns-then-not-run-clause-whole c =
 
 pub chunks-preserved : goal.chunks-preserved
 chunks-preserved c =
-    let goes_on = sym c.begins_at.ensures ∙ c.if-not-begins_at.false in
+    let goes_on = is_dot (drop c.in_ok-run.run'.end c.args.text.now) c.in_ok-run.run'.next c.in_ok-run.ensures.next c.if-run-ne-DOT.false in
     let good = sym c.in_ok-run.ensures.chunk ∙ not_false _ c.if-not-run.false in
     record {
       end = c.chunks.invariant.end ∙ place_next c.args.text.now c.chunks.place c.in_ok-run.run'.end c.in_ok-run.ensures.end goes_on;
@@ -31,11 +32,11 @@ returns-then-is_metadata_tail-clause-end c =
 pub returns-then-is_metadata_tail-clause-whole : goal.returns-then-is_metadata_tail-clause-whole
 returns-then-is_metadata_tail-clause-whole c =
     let good = sym c.in_ok-run.ensures.chunk ∙ not_false _ c.if-not-run.false in
-    let ends = sym c.begins_at.ensures ∙ c.if-not-begins_at.true in
+    let ends = no_dot (drop c.in_ok-run.run'.end c.args.text.now) c.in_ok-run.run'.next c.in_ok-run.ensures.next c.if-run-ne-DOT.true in
     sym (c.chunks.invariant.same ∙ from_last c.args.text.now c.chunks.place c.in_ok-run.run'.end c.in_ok-run.ensures.end good ends ∙ sym c.is_metadata_tail.ensures ∙ c.if-is_metadata_tail.true)
 
-pub returns-then-not-begins_at-clause-whole : goal.returns-then-not-begins_at-clause-whole
-returns-then-not-begins_at-clause-whole c =
+pub returns-then-run-ne-DOT-clause-whole : goal.returns-then-run-ne-DOT-clause-whole
+returns-then-run-ne-DOT-clause-whole c =
     let good = sym c.in_ok-run.ensures.chunk ∙ not_false _ c.if-not-run.false in
-    let ends = sym c.begins_at.ensures ∙ c.if-not-begins_at.true in
+    let ends = no_dot (drop c.in_ok-run.run'.end c.args.text.now) c.in_ok-run.run'.next c.in_ok-run.ensures.next c.if-run-ne-DOT.true in
     sym (c.chunks.invariant.same ∙ from_last c.args.text.now c.chunks.place c.in_ok-run.run'.end c.in_ok-run.ensures.end good ends ∙ sym c.is_metadata_tail.ensures ∙ c.if-is_metadata_tail.false)

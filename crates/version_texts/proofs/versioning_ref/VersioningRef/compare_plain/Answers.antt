@@ -1,7 +1,20 @@
-use Rattle.std.proofs.Common.{sym}
-use Rattle.std.specs.Cmp.Lexicographic.{same_text}
-use Rattle.version_texts.proofs.Borrowed.{same_text-ties}
+use Rattle.std.proofs.Common.{◌≡◌, ◌∙◌, rules, sym}
+use Rattle.std.specs.Ordering.{nat_cmp}
+use Rattle.version_texts.proofs.Borrowed.{kind-is}
+use Rattle.version_texts.proofs.PlainOrder.{kinds_decide, strict_decides}
 use Rattle.version_texts.proofs.versioning_ref.VersioningRef.compare_plain.Goals as goal
 
-pub returns-then-eq : goal.returns-then-eq
-returns-then-eq c = sym (same_text-ties _ _ (same_text _ _ c.if-eq.ensures))
+pub returns-then-ne : goal.returns-then-ne
+returns-then-ne c =
+    let self = c.args.self.now in
+    let other = c.args.other.now in
+    let a = c.rank.ensures _ (sym (kind-is _ _ self.read)) in
+    let b = c.rank-then-ne.ensures _ (sym (kind-is _ _ other.read)) in
+    c.cmp.ensures ∙ (λ i. nat_cmp (a i) (b i)) ∙ kinds_decide _ _ _ _ self.read other.read (search rules)
+
+pub returns-in-Ideal : goal.returns-in-Ideal
+returns-in-Ideal c =
+    let same : c.args.self.now.shape.kind ≡ c.args.other.now.shape.kind = search rules in
+    c.precedence.ensures
+    ∙ strict_decides _ _ _ _ c.args.self.now.read c.args.other.now.read c.in-Ideal.is
+    (sym same ∙ c.in-Ideal.is)

@@ -1,6 +1,0 @@
-use Rattle.std.specs.Char.{is_ascii_digit}
-use Rattle.version_parts.proofs.RunFronts.{list_all-take_while}
-use Rattle.version_parts.proofs.part.number.split_digits.Goals as goal
-
-pub returns-clause-digits : goal.returns-clause-digits
-returns-clause-digits c = rw c.split_bytes.ensures.run (list_all-take_while is_ascii_digit c.args.text.now)
