@@ -53,6 +53,23 @@ static long matches(const std::string &a, const std::string &) {
   return matches;
 }
 
+// The range of a list: its bounds and its flags.
+static uint8_t low[64], high[64];
+static size_t low_length, high_length;
+static uint32_t flags;
+
+static long range_of(const std::string &, const std::string &) {
+  versions_range(">=1.2.3,<2.0.0", 14, low, sizeof low, &low_length, high, sizeof high, &high_length, &flags);
+  return static_cast<long>(flags);
+}
+
+static long in_range(const std::string &a, const std::string &b) {
+  bool is_in = false;
+  if (flags == 0) range_of(a, b);
+  versions_in_range(a.data(), a.size(), low, low_length, high, high_length, flags, &is_in);
+  return is_in;
+}
+
 static const struct {
   const char *name;
   Call call;
@@ -62,6 +79,8 @@ static const struct {
     {"versions_compare", compare},
     {"versions_compare_total", compare_total},
     {"versions_matches", matches},
+    {"versions_range", range_of},
+    {"versions_in_range", in_range},
 #ifdef WITH_RPM
     {"rpmvercmp", [](const std::string &a, const std::string &b) -> long { return rpmvercmp(a.c_str(), b.c_str()); }},
 #endif

@@ -16,6 +16,10 @@ int proved_versions_compare_total(const char *a, size_t a_len, const char *b, si
 int proved_versions_sort_key(const char *text, size_t text_len, uint8_t *key, size_t room, size_t *key_len);
 size_t proved_versions_sort_key_bound(size_t text_len);
 int proved_versions_matches(const char *list, size_t list_len, const char *text, size_t text_len, bool *matches);
+int proved_versions_range(const char *list, size_t list_len, uint8_t *low, size_t low_room, size_t *low_len,
+                          uint8_t *high, size_t high_room, size_t *high_len, uint32_t *flags);
+int proved_versions_in_range(const char *text, size_t text_len, const uint8_t *low, size_t low_len, const uint8_t *high,
+                             size_t high_len, uint32_t flags, bool *is_in);
 int proved_versions_nth(const char *text, size_t text_len, size_t n, uint32_t *number);
 int proved_versions_epoch(const char *text, size_t text_len, uint32_t *epoch);
 int proved_versions_is_prerelease(const char *text, size_t text_len, bool *is_prerelease);
@@ -28,6 +32,9 @@ int proved_versions_sort(const char *texts, size_t texts_len, const int64_t *off
                          size_t order_len);
 int proved_versions_match_all(const char *list, size_t list_len, const char *texts, size_t texts_len,
                               const int64_t *offsets, size_t offsets_len, uint8_t *matches, size_t matches_len);
+int proved_versions_in_range_all(const char *texts, size_t texts_len, const int64_t *offsets, size_t offsets_len,
+                                 const uint8_t *low, size_t low_len, const uint8_t *high, size_t high_len,
+                                 uint32_t flags, uint8_t *answers, size_t answers_len);
 
 /* Stands in for a null pointer to an empty array. It is aligned for each type, and is neither read nor written. */
 static uint64_t nothing;
@@ -66,6 +73,21 @@ size_t versions_sort_key_bound(size_t text_len) { return proved_versions_sort_ke
 int versions_matches(const char *list, size_t list_len, const char *text, size_t text_len, bool *matches) {
   if (lacks(list, list_len) || lacks(text, text_len) || matches == NULL) return VERSIONS_NULL;
   return proved_versions_matches(from(list), list_len, from(text), text_len, matches);
+}
+
+int versions_range(const char *list, size_t list_len, uint8_t *low, size_t low_room, size_t *low_len, uint8_t *high,
+                   size_t high_room, size_t *high_len, uint32_t *flags) {
+  if (lacks(list, list_len) || lacks(low, low_room) || low_len == NULL || lacks(high, high_room) || high_len == NULL ||
+      flags == NULL) {
+    return VERSIONS_NULL;
+  }
+  return proved_versions_range(from(list), list_len, to(low), low_room, low_len, to(high), high_room, high_len, flags);
+}
+
+int versions_in_range(const char *text, size_t text_len, const uint8_t *low, size_t low_len, const uint8_t *high,
+                      size_t high_len, uint32_t flags, bool *is_in) {
+  if (lacks(text, text_len) || lacks(low, low_len) || lacks(high, high_len) || is_in == NULL) return VERSIONS_NULL;
+  return proved_versions_in_range(from(text), text_len, from(low), low_len, from(high), high_len, flags, is_in);
 }
 
 int versions_nth(const char *text, size_t text_len, size_t n, uint32_t *number) {
@@ -118,6 +140,17 @@ int versions_match_all(const char *list, size_t list_len, const char *texts, siz
                                    to(matches), matches_len);
 }
 
+int versions_in_range_all(const char *texts, size_t texts_len, const int64_t *offsets, size_t offsets_len,
+                          const uint8_t *low, size_t low_len, const uint8_t *high, size_t high_len, uint32_t flags,
+                          uint8_t *answers, size_t answers_len) {
+  if (lacks(texts, texts_len) || lacks(offsets, offsets_len) || lacks(low, low_len) || lacks(high, high_len) ||
+      lacks(answers, answers_len)) {
+    return VERSIONS_NULL;
+  }
+  return proved_versions_in_range_all(from(texts), texts_len, from(offsets), offsets_len, from(low), low_len,
+                                      from(high), high_len, flags, to(answers), answers_len);
+}
+
 const char *versions_status_text(int status) {
   switch (status) {
     case VERSIONS_OK: return "success";
@@ -127,7 +160,7 @@ const char *versions_status_text(int status) {
     case VERSIONS_NO_VERSION_AB: return "neither text is a version";
     case VERSIONS_NO_REQUIREMENTS: return "the list does not parse as a list of requirements";
     case VERSIONS_NO_NUMBER: return "the version has no number at that place, or no epoch";
-    case VERSIONS_NO_ROOM: return "the buffer for keys is too small";
+    case VERSIONS_NO_ROOM: return "a buffer for keys or for a bound is too small";
     case VERSIONS_BAD_OFFSETS: return "an offset is bad, or the lengths of two arrays do not match";
     case VERSIONS_NO_MEMORY: return "memory allocation failed";
     case VERSIONS_NULL: return "a pointer is null, and what it should point to is not empty";

@@ -55,7 +55,7 @@ extern "C" {
 #define VERSIONS_NO_VERSION_AB 4   /* neither of two texts is a version */
 #define VERSIONS_NO_REQUIREMENTS 5 /* the list does not parse as a list of requirements */
 #define VERSIONS_NO_NUMBER 6       /* the version has no number at that place, or no epoch */
-#define VERSIONS_NO_ROOM 7         /* the buffer for keys is too small */
+#define VERSIONS_NO_ROOM 7         /* a buffer for keys or for a bound is too small */
 #define VERSIONS_BAD_OFFSETS 8     /* an offset is bad, or the lengths of two arrays do not match */
 #define VERSIONS_NO_MEMORY 9       /* reserved for an allocation failure; no call allocates, and none returns this */
 #define VERSIONS_NULL 10           /* a pointer is null, and what it should point to is not empty */
@@ -65,6 +65,13 @@ extern "C" {
 #define VERSIONS_IDEAL 1   /* strict, such as 1.2.3-rc.1+x86 */
 #define VERSIONS_GENERAL 2 /* such as 1:2.0rc1-3 */
 #define VERSIONS_COMPLEX 3 /* messy, such as 10.2+0.93+1-1 */
+
+/* The flags of a range. */
+#define VERSIONS_RANGE_IDEAL 1   /* ideal versions are in the range */
+#define VERSIONS_RANGE_GENERAL 2 /* general versions are in the range */
+#define VERSIONS_RANGE_COMPLEX 4 /* complex versions are in the range */
+#define VERSIONS_RANGE_HIGH 8    /* the range has a high bound */
+#define VERSIONS_RANGE_EXACT 16  /* the list matches every version in the range */
 
 /*
  * Returns the kind of a text: VERSIONS_NONE, VERSIONS_IDEAL, VERSIONS_GENERAL or VERSIONS_COMPLEX.
@@ -122,6 +129,53 @@ size_t versions_sort_key_bound(size_t text_len);
  * Returns VERSIONS_OK, VERSIONS_NO_REQUIREMENTS (whatever the text is) or VERSIONS_NO_VERSION.
  */
 int versions_matches(const char *list, size_t list_len, const char *text, size_t text_len, bool *matches);
+
+/*
+ * Writes the range of sort keys that a list of requirements asks for.
+ *
+ * A version is in the range if its key is not below the low bound, is below the high bound, if there is one, and its
+ * kind is one of the kinds. Bounds and keys compare by memcmp, the shorter first if it is a prefix of the other. Every
+ * version that the list matches is in the range. With VERSIONS_RANGE_EXACT the list matches every version in it too;
+ * without, ask versions_matches about each version in the range. A range can be empty.
+ *
+ * The call writes the low bound to `low`, a buffer of low_room bytes, and its length to *low_len; the high bound to
+ * `high`, a buffer of high_room bytes, and its length to *high_len; and the flags, VERSIONS_RANGE_IDEAL to
+ * VERSIONS_RANGE_EXACT added, to *flags. No low bound is missing, but it can be empty: every key is above it. Without
+ * VERSIONS_RANGE_HIGH there is no high bound, and *high_len is 0. The rest of each buffer is then unspecified.
+ *
+ * If a buffer is too small, the call returns VERSIONS_NO_ROOM, sets *low_len and *high_len to sizes that are large
+ * enough, which may be larger than the bounds, and writes nothing else. Buffers of versions_sort_key_bound(list_len)
+ * bytes are always large enough. To get only the sizes, pass the rooms 0; `low` and `high` may then be null. If room 0
+ * is enough for both bounds, as for *, the call returns VERSIONS_OK.
+ *
+ * An index over keys answers a list by one scan. With a table that has the key and the kind of each version, in the
+ * order of the keys:
+ *
+ *     uint8_t low[256], high[256];
+ *     size_t low_len, high_len;
+ *     uint32_t flags;
+ *     int status = versions_range(list, list_len, low, sizeof low, &low_len, high, sizeof high, &high_len, &flags);
+ *
+ * the rows from the first key that is not below `low` up to the first that is not below `high` are those to read, and
+ * flags & 1 << (kind - 1) tells whether a row's kind is one of the kinds.
+ *
+ * Returns VERSIONS_OK, VERSIONS_NO_REQUIREMENTS or VERSIONS_NO_ROOM.
+ */
+int versions_range(const char *list, size_t list_len, uint8_t *low, size_t low_room, size_t *low_len, uint8_t *high,
+                   size_t high_room, size_t *high_len, uint32_t *flags);
+
+/*
+ * Tests whether a version is in a range, without writing its key.
+ *
+ * The bounds and the flags are those of versions_range, or any others: bytes of every kind are bounds. Without
+ * VERSIONS_RANGE_HIGH `high` is not read. VERSIONS_RANGE_EXACT and unknown flags mean nothing here.
+ *
+ * Sets *is_in to true or false.
+ *
+ * Returns VERSIONS_OK or VERSIONS_NO_VERSION.
+ */
+int versions_in_range(const char *text, size_t text_len, const uint8_t *low, size_t low_len, const uint8_t *high,
+                      size_t high_len, uint32_t flags, bool *is_in);
 
 /*
  * Gets the number at a place of a version. Places are counted from 0.
@@ -212,6 +266,18 @@ int versions_sort(const char *texts, size_t texts_len, const int64_t *offsets, s
  */
 int versions_match_all(const char *list, size_t list_len, const char *texts, size_t texts_len, const int64_t *offsets,
                        size_t offsets_len, uint8_t *matches, size_t matches_len);
+
+/*
+ * Tests for each of n texts whether its version is in a range, as versions_in_range does.
+ *
+ * Sets answers[i] to 1 if the version is in the range, to 0 if it is not, and to 2 if the text is not a version.
+ * offsets_len is n + 1, and answers_len is n.
+ *
+ * Returns VERSIONS_OK or VERSIONS_BAD_OFFSETS.
+ */
+int versions_in_range_all(const char *texts, size_t texts_len, const int64_t *offsets, size_t offsets_len,
+                          const uint8_t *low, size_t low_len, const uint8_t *high, size_t high_len, uint32_t flags,
+                          uint8_t *answers, size_t answers_len);
 
 /*
  * Returns a description of a status, in English; never null. The text stays valid as long as the library is loaded.

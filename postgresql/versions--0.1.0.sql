@@ -1,9 +1,14 @@
--- versions--0.1.0.sql: functions on versions, and the type version with its operators and indexes. A later version of
--- the extension adds a file versions--0.1.0--NEXT.sql with the changes, which ALTER EXTENSION versions UPDATE runs.
+-- versions--0.1.0.sql: functions on versions, the types version and requirement, and their operators and indexes. A
+-- later version of the extension adds a file versions--0.1.0--NEXT.sql with the changes, which ALTER EXTENSION versions
+-- UPDATE runs.
 \echo Use "CREATE EXTENSION versions" to load this file. \quit
 
 -- Functions on texts. They return NULL if a text is not a version. Each parses its texts, which costs as much as ten
 -- operators on numbers.
+
+-- Whether a text is a version. It is never NULL for a text.
+CREATE FUNCTION is_version(text) RETURNS boolean
+  AS 'MODULE_PATHNAME' LANGUAGE C IMMUTABLE STRICT PARALLEL SAFE COST 10;
 
 -- The sort key: bytes that sort by precedence.
 CREATE FUNCTION version_key(text) RETURNS bytea
@@ -23,17 +28,25 @@ CREATE FUNCTION version_compare_total(text, text) RETURNS integer
 
 -- Whether a version matches a requirement, or a comma-separated list of requirements. Fails if that does not parse.
 CREATE FUNCTION version_matches(requirement text, version text) RETURNS boolean
-  AS 'MODULE_PATHNAME' LANGUAGE C IMMUTABLE STRICT PARALLEL SAFE COST 10;
+  AS 'MODULE_PATHNAME', 'version_matches_text' LANGUAGE C IMMUTABLE STRICT PARALLEL SAFE COST 10;
 
 -- The number at a place, counted from 0; NULL if the version has no number there.
 CREATE FUNCTION version_nth(text, place integer) RETURNS bigint
+  AS 'MODULE_PATHNAME' LANGUAGE C IMMUTABLE STRICT PARALLEL SAFE COST 10;
+
+-- The epoch of a general version; NULL if the version has none.
+CREATE FUNCTION version_epoch(text) RETURNS bigint
+  AS 'MODULE_PATHNAME' LANGUAGE C IMMUTABLE STRICT PARALLEL SAFE COST 10;
+
+-- Whether a version is a strict one with a pre-release.
+CREATE FUNCTION version_is_prerelease(text) RETURNS boolean
   AS 'MODULE_PATHNAME' LANGUAGE C IMMUTABLE STRICT PARALLEL SAFE COST 10;
 
 -- The version of the library that the extension contains.
 CREATE FUNCTION versions_version() RETURNS text
   AS 'MODULE_PATHNAME', 'version_of_library' LANGUAGE C STABLE STRICT PARALLEL SAFE;
 
--- The type: the text of a version, unchanged. Its output and send functions are those of text.
+-- The type version: the text of a version, unchanged. Its output and send functions are those of text.
 
 CREATE TYPE version;
 
@@ -62,6 +75,10 @@ CREATE CAST (varchar AS version) WITH FUNCTION version(text) AS ASSIGNMENT;
 CREATE CAST (version AS text) WITHOUT FUNCTION AS ASSIGNMENT;
 CREATE CAST (version AS varchar) WITHOUT FUNCTION AS ASSIGNMENT;
 
+-- A text as a version; NULL if it is not one.
+CREATE FUNCTION to_version(text) RETURNS version
+  AS 'MODULE_PATHNAME' LANGUAGE C IMMUTABLE STRICT PARALLEL SAFE COST 10;
+
 -- The functions on texts, for versions.
 
 CREATE FUNCTION version_key(version) RETURNS bytea
@@ -74,23 +91,12 @@ CREATE FUNCTION version_compare_total(version, version) RETURNS integer
   AS 'MODULE_PATHNAME' LANGUAGE C IMMUTABLE STRICT PARALLEL SAFE COST 10;
 CREATE FUNCTION version_nth(version, place integer) RETURNS bigint
   AS 'MODULE_PATHNAME' LANGUAGE C IMMUTABLE STRICT PARALLEL SAFE COST 10;
+CREATE FUNCTION version_epoch(version) RETURNS bigint
+  AS 'MODULE_PATHNAME' LANGUAGE C IMMUTABLE STRICT PARALLEL SAFE COST 10;
+CREATE FUNCTION version_is_prerelease(version) RETURNS boolean
+  AS 'MODULE_PATHNAME' LANGUAGE C IMMUTABLE STRICT PARALLEL SAFE COST 10;
 
--- Requirements. An index on versions is scanned between the bounds that =, >=, >, <= and < of a list set.
-
-CREATE FUNCTION version_matches_support(internal) RETURNS internal
-  AS 'MODULE_PATHNAME' LANGUAGE C IMMUTABLE STRICT PARALLEL SAFE;
-CREATE FUNCTION version_matches(requirement text, version version) RETURNS boolean
-  AS 'MODULE_PATHNAME' LANGUAGE C IMMUTABLE STRICT PARALLEL SAFE COST 10 SUPPORT version_matches_support;
-CREATE FUNCTION version_matched_by(version version, requirement text) RETURNS boolean
-  AS 'MODULE_PATHNAME' LANGUAGE C IMMUTABLE STRICT PARALLEL SAFE COST 10 SUPPORT version_matches_support;
-
--- The estimate tests the requirement on the versions that ANALYZE has sampled.
-CREATE OPERATOR ~ (
-  LEFTARG = version, RIGHTARG = text, FUNCTION = version_matched_by,
-  RESTRICT = matchingsel, JOIN = matchingjoinsel
-);
-
--- The order, by precedence. Versions that tie are equal, such as 1.0 and 0:1.0.
+-- The order of versions, by precedence. Versions that tie are equal, such as 1.0 and 0:1.0.
 
 CREATE FUNCTION version_lt(version, version) RETURNS boolean
   AS 'MODULE_PATHNAME' LANGUAGE C IMMUTABLE STRICT PARALLEL SAFE COST 10;
@@ -167,3 +173,217 @@ CREATE AGGREGATE max(version) (
 CREATE AGGREGATE min(version) (
   SFUNC = version_smaller, STYPE = version, COMBINEFUNC = version_smaller, SORTOP = <, PARALLEL = SAFE
 );
+
+-- The type requirement: a list of requirements as written, and the range of keys that it asks for.
+
+CREATE TYPE requirement;
+
+CREATE FUNCTION requirement_in(cstring) RETURNS requirement
+  AS 'MODULE_PATHNAME' LANGUAGE C IMMUTABLE STRICT PARALLEL SAFE;
+CREATE FUNCTION requirement_out(requirement) RETURNS cstring
+  AS 'MODULE_PATHNAME' LANGUAGE C IMMUTABLE STRICT PARALLEL SAFE;
+CREATE FUNCTION requirement_recv(internal) RETURNS requirement
+  AS 'MODULE_PATHNAME' LANGUAGE C IMMUTABLE STRICT PARALLEL SAFE;
+CREATE FUNCTION requirement_send(requirement) RETURNS bytea
+  AS 'MODULE_PATHNAME' LANGUAGE C IMMUTABLE STRICT PARALLEL SAFE;
+
+CREATE TYPE requirement (
+  INPUT = requirement_in,
+  OUTPUT = requirement_out,
+  RECEIVE = requirement_recv,
+  SEND = requirement_send,
+  LIKE = bytea
+);
+
+-- No cast is implicit, as for versions.
+CREATE CAST (text AS requirement) WITH INOUT AS ASSIGNMENT;
+CREATE CAST (varchar AS requirement) WITH INOUT AS ASSIGNMENT;
+CREATE CAST (requirement AS text) WITH INOUT AS ASSIGNMENT;
+CREATE CAST (requirement AS varchar) WITH INOUT AS ASSIGNMENT;
+
+-- Requirements are equal if their texts are.
+
+CREATE FUNCTION requirement_eq(requirement, requirement) RETURNS boolean
+  AS 'byteaeq' LANGUAGE internal IMMUTABLE STRICT PARALLEL SAFE;
+CREATE FUNCTION requirement_ne(requirement, requirement) RETURNS boolean
+  AS 'byteane' LANGUAGE internal IMMUTABLE STRICT PARALLEL SAFE;
+CREATE FUNCTION requirement_hash(requirement) RETURNS integer
+  AS 'hashvarlena' LANGUAGE internal IMMUTABLE STRICT PARALLEL SAFE;
+CREATE FUNCTION requirement_hash_extended(requirement, bigint) RETURNS bigint
+  AS 'hashvarlenaextended' LANGUAGE internal IMMUTABLE STRICT PARALLEL SAFE;
+CREATE OPERATOR = (
+  LEFTARG = requirement, RIGHTARG = requirement, FUNCTION = requirement_eq, COMMUTATOR = =, NEGATOR = <>,
+  RESTRICT = eqsel, JOIN = eqjoinsel, HASHES
+);
+CREATE OPERATOR <> (
+  LEFTARG = requirement, RIGHTARG = requirement, FUNCTION = requirement_ne, COMMUTATOR = <>, NEGATOR = =,
+  RESTRICT = neqsel, JOIN = neqjoinsel
+);
+CREATE OPERATOR CLASS requirement_ops DEFAULT FOR TYPE requirement USING hash AS
+  OPERATOR 1 =,
+  FUNCTION 1 requirement_hash(requirement),
+  FUNCTION 2 requirement_hash_extended(requirement, bigint);
+
+-- Whether a version matches. The planner scans an index on versions between the bounds of the requirement, and
+-- estimates the rows by the column's statistics.
+
+CREATE FUNCTION version_matches_support(internal) RETURNS internal
+  AS 'MODULE_PATHNAME' LANGUAGE C IMMUTABLE STRICT PARALLEL SAFE;
+CREATE FUNCTION version_matches_sel(internal, oid, internal, integer) RETURNS double precision
+  AS 'MODULE_PATHNAME' LANGUAGE C STABLE STRICT PARALLEL SAFE;
+CREATE FUNCTION version_matches(requirement requirement, version version) RETURNS boolean
+  AS 'MODULE_PATHNAME' LANGUAGE C IMMUTABLE STRICT PARALLEL SAFE COST 10 SUPPORT version_matches_support;
+CREATE FUNCTION version_matched_by(version version, requirement requirement) RETURNS boolean
+  AS 'MODULE_PATHNAME' LANGUAGE C IMMUTABLE STRICT PARALLEL SAFE COST 10 SUPPORT version_matches_support;
+
+CREATE OPERATOR <@ (
+  LEFTARG = version, RIGHTARG = requirement, FUNCTION = version_matched_by, COMMUTATOR = @>,
+  RESTRICT = version_matches_sel, JOIN = matchingjoinsel
+);
+CREATE OPERATOR @> (
+  LEFTARG = requirement, RIGHTARG = version, FUNCTION = version_matches, COMMUTATOR = <@,
+  RESTRICT = version_matches_sel, JOIN = matchingjoinsel
+);
+
+-- The type version_bound, for conditions that the planner makes: a bound of a range. Its bytes compare with the keys of
+-- versions. It has no input.
+
+CREATE TYPE version_bound;
+
+CREATE FUNCTION version_bound_in(cstring) RETURNS version_bound
+  AS 'MODULE_PATHNAME' LANGUAGE C IMMUTABLE STRICT PARALLEL SAFE;
+CREATE FUNCTION version_bound_out(version_bound) RETURNS cstring
+  AS 'MODULE_PATHNAME' LANGUAGE C IMMUTABLE STRICT PARALLEL SAFE;
+
+CREATE TYPE version_bound (
+  INPUT = version_bound_in,
+  OUTPUT = version_bound_out,
+  LIKE = bytea
+);
+
+-- The bounds of a requirement: no version that matches is below the first, and all are below the second.
+CREATE FUNCTION requirement_low(requirement) RETURNS version_bound
+  AS 'MODULE_PATHNAME' LANGUAGE C IMMUTABLE STRICT PARALLEL SAFE;
+CREATE FUNCTION requirement_high(requirement) RETURNS version_bound
+  AS 'MODULE_PATHNAME' LANGUAGE C IMMUTABLE STRICT PARALLEL SAFE;
+
+-- Versions and bounds are in one order, that of keys, so the class of versions for b-trees has all their comparisons.
+
+CREATE FUNCTION version_bound_lt(version, version_bound) RETURNS boolean
+  AS 'MODULE_PATHNAME' LANGUAGE C IMMUTABLE STRICT PARALLEL SAFE COST 10;
+CREATE FUNCTION version_bound_le(version, version_bound) RETURNS boolean
+  AS 'MODULE_PATHNAME' LANGUAGE C IMMUTABLE STRICT PARALLEL SAFE COST 10;
+CREATE FUNCTION version_bound_eq(version, version_bound) RETURNS boolean
+  AS 'MODULE_PATHNAME' LANGUAGE C IMMUTABLE STRICT PARALLEL SAFE COST 10;
+CREATE FUNCTION version_bound_ge(version, version_bound) RETURNS boolean
+  AS 'MODULE_PATHNAME' LANGUAGE C IMMUTABLE STRICT PARALLEL SAFE COST 10;
+CREATE FUNCTION version_bound_gt(version, version_bound) RETURNS boolean
+  AS 'MODULE_PATHNAME' LANGUAGE C IMMUTABLE STRICT PARALLEL SAFE COST 10;
+CREATE FUNCTION version_bound_cmp(version, version_bound) RETURNS integer
+  AS 'MODULE_PATHNAME' LANGUAGE C IMMUTABLE STRICT PARALLEL SAFE COST 10;
+CREATE OPERATOR < (
+  LEFTARG = version, RIGHTARG = version_bound, FUNCTION = version_bound_lt, COMMUTATOR = >, NEGATOR = >=,
+  RESTRICT = scalarltsel, JOIN = scalarltjoinsel
+);
+CREATE OPERATOR <= (
+  LEFTARG = version, RIGHTARG = version_bound, FUNCTION = version_bound_le, COMMUTATOR = >=, NEGATOR = >,
+  RESTRICT = scalarlesel, JOIN = scalarlejoinsel
+);
+CREATE OPERATOR = (
+  LEFTARG = version, RIGHTARG = version_bound, FUNCTION = version_bound_eq, COMMUTATOR = =,
+  RESTRICT = eqsel, JOIN = eqjoinsel
+);
+CREATE OPERATOR >= (
+  LEFTARG = version, RIGHTARG = version_bound, FUNCTION = version_bound_ge, COMMUTATOR = <=, NEGATOR = <,
+  RESTRICT = scalargesel, JOIN = scalargejoinsel
+);
+CREATE OPERATOR > (
+  LEFTARG = version, RIGHTARG = version_bound, FUNCTION = version_bound_gt, COMMUTATOR = <, NEGATOR = <=,
+  RESTRICT = scalargtsel, JOIN = scalargtjoinsel
+);
+
+CREATE FUNCTION bound_version_lt(version_bound, version) RETURNS boolean
+  AS 'MODULE_PATHNAME' LANGUAGE C IMMUTABLE STRICT PARALLEL SAFE COST 10;
+CREATE FUNCTION bound_version_le(version_bound, version) RETURNS boolean
+  AS 'MODULE_PATHNAME' LANGUAGE C IMMUTABLE STRICT PARALLEL SAFE COST 10;
+CREATE FUNCTION bound_version_eq(version_bound, version) RETURNS boolean
+  AS 'MODULE_PATHNAME' LANGUAGE C IMMUTABLE STRICT PARALLEL SAFE COST 10;
+CREATE FUNCTION bound_version_ge(version_bound, version) RETURNS boolean
+  AS 'MODULE_PATHNAME' LANGUAGE C IMMUTABLE STRICT PARALLEL SAFE COST 10;
+CREATE FUNCTION bound_version_gt(version_bound, version) RETURNS boolean
+  AS 'MODULE_PATHNAME' LANGUAGE C IMMUTABLE STRICT PARALLEL SAFE COST 10;
+CREATE FUNCTION bound_version_cmp(version_bound, version) RETURNS integer
+  AS 'MODULE_PATHNAME' LANGUAGE C IMMUTABLE STRICT PARALLEL SAFE COST 10;
+CREATE OPERATOR < (
+  LEFTARG = version_bound, RIGHTARG = version, FUNCTION = bound_version_lt, COMMUTATOR = >, NEGATOR = >=,
+  RESTRICT = scalarltsel, JOIN = scalarltjoinsel
+);
+CREATE OPERATOR <= (
+  LEFTARG = version_bound, RIGHTARG = version, FUNCTION = bound_version_le, COMMUTATOR = >=, NEGATOR = >,
+  RESTRICT = scalarlesel, JOIN = scalarlejoinsel
+);
+CREATE OPERATOR = (
+  LEFTARG = version_bound, RIGHTARG = version, FUNCTION = bound_version_eq, COMMUTATOR = =,
+  RESTRICT = eqsel, JOIN = eqjoinsel
+);
+CREATE OPERATOR >= (
+  LEFTARG = version_bound, RIGHTARG = version, FUNCTION = bound_version_ge, COMMUTATOR = <=, NEGATOR = <,
+  RESTRICT = scalargesel, JOIN = scalargejoinsel
+);
+CREATE OPERATOR > (
+  LEFTARG = version_bound, RIGHTARG = version, FUNCTION = bound_version_gt, COMMUTATOR = <, NEGATOR = <=,
+  RESTRICT = scalargtsel, JOIN = scalargtjoinsel
+);
+
+CREATE FUNCTION version_bound_lt(version_bound, version_bound) RETURNS boolean
+  AS 'bytealt' LANGUAGE internal IMMUTABLE STRICT PARALLEL SAFE;
+CREATE FUNCTION version_bound_le(version_bound, version_bound) RETURNS boolean
+  AS 'byteale' LANGUAGE internal IMMUTABLE STRICT PARALLEL SAFE;
+CREATE FUNCTION version_bound_eq(version_bound, version_bound) RETURNS boolean
+  AS 'byteaeq' LANGUAGE internal IMMUTABLE STRICT PARALLEL SAFE;
+CREATE FUNCTION version_bound_ge(version_bound, version_bound) RETURNS boolean
+  AS 'byteage' LANGUAGE internal IMMUTABLE STRICT PARALLEL SAFE;
+CREATE FUNCTION version_bound_gt(version_bound, version_bound) RETURNS boolean
+  AS 'byteagt' LANGUAGE internal IMMUTABLE STRICT PARALLEL SAFE;
+CREATE FUNCTION version_bound_cmp(version_bound, version_bound) RETURNS integer
+  AS 'byteacmp' LANGUAGE internal IMMUTABLE STRICT PARALLEL SAFE;
+CREATE OPERATOR < (
+  LEFTARG = version_bound, RIGHTARG = version_bound, FUNCTION = version_bound_lt, COMMUTATOR = >, NEGATOR = >=,
+  RESTRICT = scalarltsel, JOIN = scalarltjoinsel
+);
+CREATE OPERATOR <= (
+  LEFTARG = version_bound, RIGHTARG = version_bound, FUNCTION = version_bound_le, COMMUTATOR = >=, NEGATOR = >,
+  RESTRICT = scalarlesel, JOIN = scalarlejoinsel
+);
+CREATE OPERATOR = (
+  LEFTARG = version_bound, RIGHTARG = version_bound, FUNCTION = version_bound_eq, COMMUTATOR = =,
+  RESTRICT = eqsel, JOIN = eqjoinsel
+);
+CREATE OPERATOR >= (
+  LEFTARG = version_bound, RIGHTARG = version_bound, FUNCTION = version_bound_ge, COMMUTATOR = <=, NEGATOR = <,
+  RESTRICT = scalargesel, JOIN = scalargejoinsel
+);
+CREATE OPERATOR > (
+  LEFTARG = version_bound, RIGHTARG = version_bound, FUNCTION = version_bound_gt, COMMUTATOR = <, NEGATOR = <=,
+  RESTRICT = scalargtsel, JOIN = scalargtjoinsel
+);
+
+ALTER OPERATOR FAMILY version_ops USING btree ADD
+  OPERATOR 1 < (version, version_bound),
+  OPERATOR 2 <= (version, version_bound),
+  OPERATOR 3 = (version, version_bound),
+  OPERATOR 4 >= (version, version_bound),
+  OPERATOR 5 > (version, version_bound),
+  FUNCTION 1 (version, version_bound) version_bound_cmp(version, version_bound),
+  OPERATOR 1 < (version_bound, version),
+  OPERATOR 2 <= (version_bound, version),
+  OPERATOR 3 = (version_bound, version),
+  OPERATOR 4 >= (version_bound, version),
+  OPERATOR 5 > (version_bound, version),
+  FUNCTION 1 (version_bound, version) bound_version_cmp(version_bound, version),
+  OPERATOR 1 < (version_bound, version_bound),
+  OPERATOR 2 <= (version_bound, version_bound),
+  OPERATOR 3 = (version_bound, version_bound),
+  OPERATOR 4 >= (version_bound, version_bound),
+  OPERATOR 5 > (version_bound, version_bound),
+  FUNCTION 1 (version_bound, version_bound) version_bound_cmp(version_bound, version_bound);

@@ -1,10 +1,10 @@
 /*
- * versions.c: versions in PostgreSQL, as functions on texts and as a type. The Makefile builds it. versions--0.1.0.sql
- * declares the functions to PostgreSQL and describes their results.
+ * versions.c: versions and requirements in PostgreSQL, as functions on texts and as types. The Makefile builds it.
+ * versions--0.1.0.sql declares the functions to PostgreSQL and describes their results.
  *
- * A value of the type is the text of a version, unchanged: its representation is that of `text`. Versions are ASCII,
- * and in every server encoding an ASCII byte is that character. So texts are passed to the library unconverted: a text
- * with a byte that is not ASCII is not a version in any encoding.
+ * A value of the type `version` is the text of a version, unchanged: its representation is that of `text`. Versions are
+ * ASCII, and in every server encoding an ASCII byte is that character. So texts are passed to the library unconverted:
+ * a text with a byte that is not ASCII is not a version in any encoding.
  *
  * All memory is PostgreSQL's, so it is freed even if an error ends the statement. The library does not allocate.
  *
@@ -18,19 +18,23 @@
 
 #include "access/stratnum.h"
 #include "catalog/pg_am.h"
+#include "catalog/pg_proc.h"
+#include "catalog/pg_statistic.h"
 #include "catalog/pg_type.h"
 #include "common/hashfn.h"
 #include "fmgr.h"
 #include "lib/stringinfo.h"
 #include "libpq/pqformat.h"
-#include "miscadmin.h"
 #include "nodes/makefuncs.h"
 #include "nodes/nodeFuncs.h"
 #include "nodes/pathnodes.h"
 #include "nodes/supportnodes.h"
+#include "optimizer/optimizer.h"
 #include "utils/builtins.h"
 #include "utils/lsyscache.h"
+#include "utils/selfuncs.h"
 #include "utils/sortsupport.h"
+#include "utils/syscache.h"
 #if PG_VERSION_NUM >= 160000
 #include "varatt.h"
 #endif
@@ -63,7 +67,7 @@ static Span span_of(const text *value) {
   return span;
 }
 
-static bool is_version(Span span) { return versions_kind(span.bytes, span.len) != VERSIONS_NONE; }
+static bool parses(Span span) { return versions_kind(span.bytes, span.len) != VERSIONS_NONE; }
 
 /*
  * Returns the first 60 bytes of a text in quotes, and the number of further bytes. Quotes, backslashes and bytes that
@@ -123,6 +127,14 @@ static void free_key(bytea *key, KeyRoom *room) {
 
 /* Functions on texts. The functions on versions are the same, since a version is stored as its text. */
 
+SQL_FUNCTION(is_version) { PG_RETURN_BOOL(parses(span_of(PG_GETARG_TEXT_PP(0)))); }
+
+SQL_FUNCTION(to_version) {
+  text *value = PG_GETARG_TEXT_PP(0);
+  if (!parses(span_of(value))) PG_RETURN_NULL();
+  PG_RETURN_TEXT_P(value);
+}
+
 SQL_FUNCTION(version_key) {
   KeyRoom room;
   bytea *key = key_of(span_of(PG_GETARG_TEXT_PP(0)), &room);
@@ -164,25 +176,22 @@ SQL_FUNCTION(version_compare_total) {
   PG_RETURN_INT32(order);
 }
 
-static Datum matches(FunctionCallInfo fcinfo, Span list, Span span) {
+/* What a list of requirements looks like, for the errors about texts that are not one. */
+#define HINT_OF_LISTS                                                                                       \
+  errhint("Each requirement is * or an operator and a version, such as >=1.2; the operators are =, >, >=, " \
+          "<, <=, ~ and ^. Commas separate requirements that all have to match, as in >=1.2,<2. There are " \
+          "no spaces and no ||.")
+
+SQL_FUNCTION(version_matches_text) {
+  Span list = span_of(PG_GETARG_TEXT_PP(0)), span = span_of(PG_GETARG_TEXT_PP(1));
   bool matches = false;
-  /* the planner calls this many times without checking whether the statement is cancelled */
-  CHECK_FOR_INTERRUPTS();
   switch (versions_matches(list.bytes, list.len, span.bytes, span.len, &matches)) {
     case VERSIONS_OK: PG_RETURN_BOOL(matches);
     case VERSIONS_NO_REQUIREMENTS:
-      ereport(ERROR, (errcode(ERRCODE_INVALID_PARAMETER_VALUE), errmsg("not a requirement: %s", quoted(list))));
+      ereport(ERROR,
+              (errcode(ERRCODE_INVALID_PARAMETER_VALUE), errmsg("not a requirement: %s", quoted(list)), HINT_OF_LISTS));
   }
   PG_RETURN_NULL();
-}
-
-SQL_FUNCTION(version_matches) {
-  return matches(fcinfo, span_of(PG_GETARG_TEXT_PP(0)), span_of(PG_GETARG_TEXT_PP(1)));
-}
-
-/* The same with the version first, for the operator ~. */
-SQL_FUNCTION(version_matched_by) {
-  return matches(fcinfo, span_of(PG_GETARG_TEXT_PP(1)), span_of(PG_GETARG_TEXT_PP(0)));
 }
 
 SQL_FUNCTION(version_nth) {
@@ -193,14 +202,28 @@ SQL_FUNCTION(version_nth) {
   PG_RETURN_INT64(number);
 }
 
+SQL_FUNCTION(version_epoch) {
+  Span span = span_of(PG_GETARG_TEXT_PP(0));
+  uint32_t epoch;
+  if (versions_epoch(span.bytes, span.len, &epoch) != VERSIONS_OK) PG_RETURN_NULL();
+  PG_RETURN_INT64(epoch);
+}
+
+SQL_FUNCTION(version_is_prerelease) {
+  Span span = span_of(PG_GETARG_TEXT_PP(0));
+  bool is_prerelease;
+  if (versions_is_prerelease(span.bytes, span.len, &is_prerelease) != VERSIONS_OK) PG_RETURN_NULL();
+  PG_RETURN_BOOL(is_prerelease);
+}
+
 SQL_FUNCTION(version_of_library) { PG_RETURN_TEXT_P(cstring_to_text(versions_version())); }
 
-/* The type: its input from a C string, from a client in binary, and from a text. */
+/* The type `version`: its input from a C string, from a client in binary, and from a text. */
 
 SQL_FUNCTION(version_in) {
   char *bytes = PG_GETARG_CSTRING(0);
   Span span = {bytes, strlen(bytes)};
-  if (!is_version(span)) {
+  if (!parses(span)) {
     ereturn(fcinfo->context, (Datum)0,
             (errcode(ERRCODE_INVALID_TEXT_REPRESENTATION),
              errmsg("invalid input syntax for type version: %s", quoted(span))));
@@ -213,7 +236,7 @@ SQL_FUNCTION(version_recv) {
   int len;
   const char *bytes = pq_getmsgtext(message, message->len - message->cursor, &len);
   Span span = {bytes, (size_t)len};
-  if (!is_version(span)) {
+  if (!parses(span)) {
     ereport(ERROR, (errcode(ERRCODE_INVALID_BINARY_REPRESENTATION),
                     errmsg("invalid binary representation of type version: %s", quoted(span))));
   }
@@ -222,7 +245,7 @@ SQL_FUNCTION(version_recv) {
 
 SQL_FUNCTION(version_of_text) {
   text *value = PG_GETARG_TEXT_PP(0);
-  if (!is_version(span_of(value))) {
+  if (!parses(span_of(value))) {
     ereturn(fcinfo->context, (Datum)0,
             (errcode(ERRCODE_INVALID_TEXT_REPRESENTATION),
              errmsg("invalid input syntax for type version: %s", quoted(span_of(value)))));
@@ -230,7 +253,7 @@ SQL_FUNCTION(version_of_text) {
   PG_RETURN_TEXT_P(value);
 }
 
-/* The order of the type, by precedence. */
+/* The order of versions, by precedence. */
 
 static bool are_same(Span a, Span b) { return a.len == b.len && memcmp(a.bytes, b.bytes, a.len) == 0; }
 
@@ -246,9 +269,9 @@ static int32_t order_of(Span a, Span b) {
   return order;
 }
 
-/* Frees the text of a value if it is a copy, of a compressed value or of a value stored out of line. */
-static void free_copy(text *version, Datum value) {
-  if ((Pointer)version != DatumGetPointer(value)) pfree(version);
+/* Frees the bytes of a value if they are a copy, of a compressed value or of a value stored out of line. */
+static void free_copy(struct varlena *bytes, Datum value) {
+  if ((Pointer)bytes != DatumGetPointer(value)) pfree(bytes);
 }
 
 static int order_of_values(Datum a, Datum b) {
@@ -259,15 +282,19 @@ static int order_of_values(Datum a, Datum b) {
   return order;
 }
 
+/* Defines the functions of the operators of an order, and that of an index. */
+#define ORDER_FUNCTIONS(name, order, is_less)               \
+  SQL_FUNCTION(name##_cmp) { PG_RETURN_INT32(order); }      \
+  SQL_FUNCTION(name##_lt) { PG_RETURN_BOOL(is_less); }      \
+  SQL_FUNCTION(name##_le) { PG_RETURN_BOOL((order) <= 0); } \
+  SQL_FUNCTION(name##_eq) { PG_RETURN_BOOL((order) == 0); } \
+  SQL_FUNCTION(name##_ge) { PG_RETURN_BOOL(!(is_less)); }   \
+  SQL_FUNCTION(name##_gt) { PG_RETURN_BOOL((order) > 0); }
+
 #define ORDER_OF_ARGUMENTS order_of_values(PG_GETARG_DATUM(0), PG_GETARG_DATUM(1))
 
-SQL_FUNCTION(version_cmp) { PG_RETURN_INT32(ORDER_OF_ARGUMENTS); }
-SQL_FUNCTION(version_lt) { PG_RETURN_BOOL(ORDER_OF_ARGUMENTS < 0); }
-SQL_FUNCTION(version_le) { PG_RETURN_BOOL(ORDER_OF_ARGUMENTS <= 0); }
-SQL_FUNCTION(version_eq) { PG_RETURN_BOOL(ORDER_OF_ARGUMENTS == 0); }
+ORDER_FUNCTIONS(version, ORDER_OF_ARGUMENTS, ORDER_OF_ARGUMENTS < 0)
 SQL_FUNCTION(version_ne) { PG_RETURN_BOOL(ORDER_OF_ARGUMENTS != 0); }
-SQL_FUNCTION(version_ge) { PG_RETURN_BOOL(ORDER_OF_ARGUMENTS >= 0); }
-SQL_FUNCTION(version_gt) { PG_RETURN_BOOL(ORDER_OF_ARGUMENTS > 0); }
 
 /* The first if both compare equal. */
 SQL_FUNCTION(version_larger) { PG_RETURN_DATUM(PG_GETARG_DATUM(ORDER_OF_ARGUMENTS >= 0 ? 0 : 1)); }
@@ -324,9 +351,9 @@ static void make_codes(void) {
   }
 }
 
-/* The first 64 bits of the code of a key; a shorter code is followed by 0 bits. */
-static uint64 beginning_of_code(const bytea *key) {
-  const unsigned char *byte = (const unsigned char *)VARDATA(key), *end = byte + (VARSIZE(key) - VARHDRSZ);
+/* The first 64 bits of the code of a key or of its beginning; a shorter code is followed by 0 bits. */
+static uint64 beginning_of_code(Span key) {
+  const unsigned char *byte = (const unsigned char *)key.bytes, *end = byte + key.len;
   uint64 beginning = 0;
   int bits = 0;
   for (; byte < end && bits < 64; byte++) {
@@ -336,13 +363,15 @@ static uint64 beginning_of_code(const bytea *key) {
   return beginning;
 }
 
-static Datum abbreviate(Datum value, SortSupport sort) {
+static uint64 beginning_of_value(Datum value) {
   KeyRoom room;
   bytea *key = key_of_value(value, &room);
-  uint64 beginning = beginning_of_code(key);
+  uint64 beginning = beginning_of_code(span_of(key));
   free_key(key, &room);
-  return UInt64GetDatum(beginning);
+  return beginning;
 }
+
+static Datum abbreviate(Datum value, SortSupport sort) { return UInt64GetDatum(beginning_of_value(value)); }
 
 #if PG_VERSION_NUM < 150000
 static int compare_abbreviated(Datum a, Datum b, SortSupport sort) {
@@ -417,88 +446,214 @@ SQL_FUNCTION(version_sortsupport) {
 }
 
 /*
- * Requirements by an index. The operators =, >=, >, <= and < of a list set bounds for the versions that it matches: a
- * version that = matches compares equal to its version, and the others are the comparisons of the type. An index is
- * scanned between the bounds. Each row is then tested against the whole list, so the bounds need not be exact.
+ * The type `requirement`: a list of requirements, with the range of keys that it asks for. Each version that the list
+ * matches is in its range. The range is made once, by the input.
  */
 
-/* A bound on one side: a comparison with a version. InvalidStrategy means that there is no bound. */
+/* A value begins with this; then come the bytes of the low bound, those of the high one, and the list. */
 typedef struct {
-  Span version;
-  StrategyNumber comparison;
-} Bound;
+  uint32 flags, low_len, high_len;
+} RequirementHead;
 
 typedef struct {
-  Bound lower, upper;
-} Bounds;
+  uint32 flags;
+  Span low, high, list;
+} Requirement;
 
-/* Replaces a bound if there is none or if the version is tighter: above it for tighter 1, below it for -1. */
-static void tighten(Bound *bound, Span version, StrategyNumber comparison, int32_t tighter) {
-  if (comparison == InvalidStrategy || !is_version(version)) return;
-  if (bound->comparison == InvalidStrategy || order_of(version, bound->version) == tighter) {
-    bound->version = version;
-    bound->comparison = comparison;
+static Requirement requirement_of(const struct varlena *value) {
+  const char *bytes = VARDATA_ANY(value);
+  size_t len = VARSIZE_ANY_EXHDR(value), of_range;
+  RequirementHead head = {0, 0, 0};
+  Requirement requirement;
+  if (len >= sizeof head) memcpy(&head, bytes, sizeof head);
+  of_range = sizeof head + head.low_len + head.high_len;
+  if (len <= of_range) {
+    ereport(ERROR, (errcode(ERRCODE_DATA_CORRUPTED), errmsg("a value of type requirement is not a requirement")));
   }
+  requirement.flags = head.flags;
+  requirement.low.bytes = bytes + sizeof head;
+  requirement.low.len = head.low_len;
+  requirement.high.bytes = requirement.low.bytes + head.low_len;
+  requirement.high.len = head.high_len;
+  requirement.list.bytes = requirement.high.bytes + head.high_len;
+  requirement.list.len = len - of_range;
+  return requirement;
 }
 
-/* Tightens the bounds by one member of a list. */
-static void tighten_by_member(Bounds *bounds, Span member) {
-  static const struct {
-    const char *operator;
-    StrategyNumber lower, upper;
-  } comparisons[] = {
-      {"=", BTGreaterEqualStrategyNumber, BTLessEqualStrategyNumber},
-      {">=", BTGreaterEqualStrategyNumber, InvalidStrategy},
-      {">", BTGreaterStrategyNumber, InvalidStrategy},
-      {"<=", InvalidStrategy, BTLessEqualStrategyNumber},
-      {"<", InvalidStrategy, BTLessStrategyNumber},
-  };
-  size_t at;
-  for (at = 0; at < lengthof(comparisons); at++) {
-    size_t len = strlen(comparisons[at].operator);
-    if (member.len > len && memcmp(member.bytes, comparisons[at].operator, len) == 0) {
-      Span version = {member.bytes + len, member.len - len};
-      tighten(&bounds->lower, version, comparisons[at].lower, 1);
-      tighten(&bounds->upper, version, comparisons[at].upper, -1);
-      return;
-    }
+/* The value of a list. NULL if that does not parse. */
+static bytea *requirement_from(Span list) {
+  uint8_t low_room[256], high_room[256], *low = low_room, *high = high_room;
+  size_t low_len, high_len, len;
+  uint32_t flags;
+  RequirementHead head;
+  bytea *value;
+  char *end;
+  int status = versions_range(list.bytes, list.len, low, sizeof low_room, &low_len, high, sizeof high_room, &high_len,
+                              &flags);
+  if (status == VERSIONS_NO_ROOM) {
+    low = palloc(low_len);
+    high = palloc(high_len);
+    status = versions_range(list.bytes, list.len, low, low_len, &low_len, high, high_len, &high_len, &flags);
   }
+  if (status != VERSIONS_OK) return NULL;
+  if (!(flags & VERSIONS_RANGE_HIGH)) high_len = 0;
+  head.flags = flags;
+  head.low_len = (uint32)low_len;
+  head.high_len = (uint32)high_len;
+  len = VARHDRSZ + sizeof head + low_len + high_len + list.len;
+  value = palloc(len);
+  SET_VARSIZE(value, len);
+  end = VARDATA(value);
+  end = (char *)memcpy(end, &head, sizeof head) + sizeof head;
+  end = (char *)memcpy(end, low, low_len) + low_len;
+  end = (char *)memcpy(end, high, high_len) + high_len;
+  memcpy(end, list.bytes, list.len);
+  if (low != low_room) pfree(low);
+  if (high != high_room) pfree(high);
+  return value;
 }
 
-static bool is_list_of_requirements(Span list) {
-  static const Span some_version = {"0", 1};
-  bool matches;
-  return versions_matches(list.bytes, list.len, some_version.bytes, some_version.len, &matches) == VERSIONS_OK;
-}
-
-/* The bounds of a list, split at its commas. A list that does not parse has no bounds, and fails when it is used. */
-static Bounds bounds_of(Span list) {
-  Bounds bounds = {{{NULL, 0}, InvalidStrategy}, {{NULL, 0}, InvalidStrategy}};
-  if (!is_list_of_requirements(list)) return bounds;
-  for (;;) {
-    const char *comma = memchr(list.bytes, ',', list.len);
-    Span member = {list.bytes, comma ? (size_t)(comma - list.bytes) : list.len};
-    CHECK_FOR_INTERRUPTS();
-    tighten_by_member(&bounds, member);
-    if (!comma) return bounds;
-    list.bytes += member.len + 1;
-    list.len -= member.len + 1;
+SQL_FUNCTION(requirement_in) {
+  char *bytes = PG_GETARG_CSTRING(0);
+  Span list = {bytes, strlen(bytes)};
+  bytea *value = requirement_from(list);
+  if (!value) {
+    ereturn(fcinfo->context, (Datum)0,
+            (errcode(ERRCODE_INVALID_TEXT_REPRESENTATION),
+             errmsg("invalid input syntax for type requirement: %s", quoted(list)), HINT_OF_LISTS));
   }
+  PG_RETURN_BYTEA_P(value);
 }
 
-/* Appends the condition that a column meets a bound, if the operator family of the index has the comparison. */
-static List *append_condition(List *conditions, Bound bound, Node *column, Oid family) {
-  Oid type = exprType(column), operator;
-  Const *constant;
-  text *version;
-  if (bound.comparison == InvalidStrategy) return conditions;
-  operator = get_opfamily_member(family, type, type, (int16)bound.comparison);
-  if (!OidIsValid(operator)) return conditions;
-  version = cstring_to_text_with_len(bound.version.bytes, (int)bound.version.len);
-  constant = makeConst(type, -1, InvalidOid, -1, PointerGetDatum(version), false, false);
-  return lappend(conditions, make_opclause(operator, BOOLOID, false, (Expr *)copyObject(column), (Expr *)constant,
-                                           InvalidOid, InvalidOid));
+SQL_FUNCTION(requirement_recv) {
+  StringInfo message = (StringInfo)PG_GETARG_POINTER(0);
+  int len;
+  const char *bytes = pq_getmsgtext(message, message->len - message->cursor, &len);
+  Span list = {bytes, (size_t)len};
+  bytea *value = requirement_from(list);
+  if (!value) {
+    ereport(ERROR,
+            (errcode(ERRCODE_INVALID_BINARY_REPRESENTATION),
+             errmsg("invalid binary representation of type requirement: %s", quoted(list)), HINT_OF_LISTS));
+  }
+  PG_RETURN_BYTEA_P(value);
 }
+
+SQL_FUNCTION(requirement_out) {
+  Span list = requirement_of(PG_GETARG_BYTEA_PP(0)).list;
+  PG_RETURN_CSTRING(pnstrdup(list.bytes, list.len));
+}
+
+SQL_FUNCTION(requirement_send) {
+  Span list = requirement_of(PG_GETARG_BYTEA_PP(0)).list;
+  PG_RETURN_TEXT_P(cstring_to_text_with_len(list.bytes, (int)list.len));
+}
+
+/* A version outside the range does not match. One inside is tested against the list only if the range is not exact. */
+static Datum matches(Datum version, Datum list) {
+  text *value = DatumGetTextPP(version);
+  bytea *requirements = DatumGetByteaPP(list);
+  Span span = span_of(value);
+  Requirement requirement = requirement_of(requirements);
+  bool matches = false;
+  int status = versions_in_range(span.bytes, span.len, (const uint8_t *)requirement.low.bytes, requirement.low.len,
+                                 (const uint8_t *)requirement.high.bytes, requirement.high.len, requirement.flags,
+                                 &matches);
+  if (status == VERSIONS_OK && matches && !(requirement.flags & VERSIONS_RANGE_EXACT)) {
+    status = versions_matches(requirement.list.bytes, requirement.list.len, span.bytes, span.len, &matches);
+  }
+  if (status != VERSIONS_OK) report_damage(span);
+  free_copy(value, version);
+  free_copy(requirements, list);
+  PG_RETURN_BOOL(matches);
+}
+
+SQL_FUNCTION(version_matches) { return matches(PG_GETARG_DATUM(1), PG_GETARG_DATUM(0)); }
+SQL_FUNCTION(version_matched_by) { return matches(PG_GETARG_DATUM(0), PG_GETARG_DATUM(1)); }
+
+/*
+ * The type `version_bound`: a bound of a range. Its bytes compare with the key of a version. So versions and bounds are
+ * in one order, that of bytes, and are of one operator family: versions that tie have the same key, and are on the same
+ * side of each bound. A value is one byte, which is 1 for the bound above every key, and otherwise 0; then the bytes.
+ */
+
+enum { ALL_KINDS = VERSIONS_RANGE_IDEAL | VERSIONS_RANGE_GENERAL | VERSIONS_RANGE_COMPLEX };
+
+static Datum bound_from(bool is_above_all, Span bytes) {
+  bytea *bound = palloc(VARHDRSZ + 1 + bytes.len);
+  SET_VARSIZE(bound, VARHDRSZ + 1 + bytes.len);
+  VARDATA(bound)[0] = is_above_all;
+  memcpy(VARDATA(bound) + 1, bytes.bytes, bytes.len);
+  PG_RETURN_BYTEA_P(bound);
+}
+
+SQL_FUNCTION(requirement_low) { return bound_from(false, requirement_of(PG_GETARG_BYTEA_PP(0)).low); }
+
+SQL_FUNCTION(requirement_high) {
+  Requirement requirement = requirement_of(PG_GETARG_BYTEA_PP(0));
+  return bound_from(!(requirement.flags & VERSIONS_RANGE_HIGH), requirement.high);
+}
+
+SQL_FUNCTION(version_bound_in) {
+  ereturn(fcinfo->context, (Datum)0,
+          (errcode(ERRCODE_FEATURE_NOT_SUPPORTED), errmsg("cannot accept a value of type version_bound")));
+}
+
+/* Hexadecimal digits, or the word `infinity`. */
+SQL_FUNCTION(version_bound_out) {
+  bytea *bound = PG_GETARG_BYTEA_PP(0);
+  const char *bytes = VARDATA_ANY(bound);
+  size_t len = VARSIZE_ANY_EXHDR(bound);
+  char *digits;
+  if (bytes[0]) PG_RETURN_CSTRING(pstrdup("infinity"));
+  digits = palloc(2 * len);
+  digits[hex_encode(bytes + 1, len - 1, digits)] = 0;
+  PG_RETURN_CSTRING(digits);
+}
+
+/* Compares the key of a version with a bound: a shorter one that is a prefix comes first. */
+static int order_with_bound(Datum version, Datum value) {
+  bytea *bound = DatumGetByteaPP(value), *key;
+  const char *bytes = VARDATA_ANY(bound);
+  size_t len = VARSIZE_ANY_EXHDR(bound) - 1, key_len;
+  KeyRoom room;
+  int order = -1;
+  if (!bytes[0]) {
+    key = key_of_value(version, &room);
+    key_len = VARSIZE(key) - VARHDRSZ;
+    order = memcmp(VARDATA(key), bytes + 1, Min(key_len, len));
+    if (order == 0) order = key_len < len ? -1 : key_len > len;
+    free_key(key, &room);
+  }
+  free_copy(bound, value);
+  return order;
+}
+
+/* Whether the key of a version is below a bound. No key is made: the scan of an index calls this for each row. */
+static bool is_below(Datum version, Datum value) {
+  text *text_of_version = DatumGetTextPP(version);
+  bytea *bound = DatumGetByteaPP(value);
+  Span span = span_of(text_of_version), limit = span_of(bound);
+  bool is_below = true;
+  if (!limit.bytes[0] &&
+      versions_in_range(span.bytes, span.len, NULL, 0, (const uint8_t *)limit.bytes + 1, limit.len - 1,
+                        ALL_KINDS | VERSIONS_RANGE_HIGH, &is_below) != VERSIONS_OK) {
+    report_damage(span);
+  }
+  free_copy(text_of_version, version);
+  free_copy(bound, value);
+  return is_below;
+}
+
+#define ORDER_WITH_BOUND(version, bound) order_with_bound(PG_GETARG_DATUM(version), PG_GETARG_DATUM(bound))
+
+ORDER_FUNCTIONS(version_bound, ORDER_WITH_BOUND(0, 1), is_below(PG_GETARG_DATUM(0), PG_GETARG_DATUM(1)))
+ORDER_FUNCTIONS(bound_version, -ORDER_WITH_BOUND(1, 0), ORDER_WITH_BOUND(1, 0) > 0)
+
+/*
+ * The planner: a version that matches is not below the low bound of the requirement, and is below the high one. These
+ * two conditions bound the scan of an index, and the bounds' places in a histogram estimate how many rows match.
+ */
 
 static List *arguments_of(Node *call) {
   if (is_opclause(call)) return ((OpExpr *)call)->args;
@@ -506,31 +661,179 @@ static List *arguments_of(Node *call) {
   return NIL;
 }
 
-/* The conditions of an index scan for matching versions, if the requirement is known at planning time. */
-static List *conditions_of(SupportRequestIndexCondition *request) {
+/*
+ * A bound of a requirement: a call of requirement_low or requirement_high, or its result if the requirement is
+ * constant. It is in the schema of the function that the planner has called, as the whole extension is.
+ */
+static Node *bound_of(PlannerInfo *root, Oid caller, const char *name, Node *requirement) {
+  Oid type = exprType(requirement);
+  Oid function = GetSysCacheOid3(PROCNAMEARGSNSP, Anum_pg_proc_oid, CStringGetDatum(name),
+                                 PointerGetDatum(buildoidvector(&type, 1)),
+                                 ObjectIdGetDatum(get_func_namespace(caller)));
+  if (!OidIsValid(function)) return NULL;
+  return eval_const_expressions(root, (Node *)makeFuncExpr(function, get_func_rettype(function),
+                                                           list_make1(copyObject(requirement)), InvalidOid,
+                                                           InvalidOid, COERCE_EXPLICIT_CALL));
+}
+
+/* Appends the condition that a version compares so with a bound, if the operator family has that comparison. */
+static List *append_condition(List *conditions, Node *version, Oid family, int16 strategy, Node *bound) {
+  Oid operator = InvalidOid;
+  if (bound) operator = get_opfamily_member(family, exprType(version), exprType(bound), strategy);
+  if (!OidIsValid(operator)) return conditions;
+  return lappend(conditions, make_opclause(operator, BOOLOID, false, (Expr *)copyObject(version), (Expr *)bound,
+                                           InvalidOid, InvalidOid));
+}
+
+/* Whether every version meets a bound: the constant one with no bytes that is below every key, or above it. */
+static bool is_open(Node *bound, bool is_high) {
+  bytea *value;
+  if (!bound || !IsA(bound, Const)) return false;
+  value = DatumGetByteaPP(((Const *)bound)->constvalue);
+  return VARSIZE_ANY_EXHDR(value) == 1 && VARDATA_ANY(value)[0] == is_high;
+}
+
+/* Whether the versions in the range are all those that match, whatever their kinds. */
+static bool is_whole(Node *requirement) {
+  const uint32 whole = VERSIONS_RANGE_EXACT | ALL_KINDS;
+  return IsA(requirement, Const) &&
+         (requirement_of(DatumGetByteaPP(((Const *)requirement)->constvalue)).flags & whole) == whole;
+}
+
+#if PG_VERSION_NUM < 140000
+#define is_pseudo_constant_for_index(root, expression, index) is_pseudo_constant_for_index(expression, index)
+#endif
+
+/*
+ * The conditions of an index scan. The requirement may be anything that is known when the scan begins: a constant, a
+ * parameter, or a column of another table. Rows are tested again unless the range is known to be all that matters.
+ */
+static List *index_conditions(SupportRequestIndexCondition *request, Oid caller) {
   List *arguments = arguments_of(request->node), *conditions = NIL;
-  Node *column, *requirement;
-  Bounds bounds;
+  Node *version, *requirement, *low, *high;
   if (request->index->relam != BTREE_AM_OID || list_length(arguments) != 2) return NIL;
-  column = list_nth(arguments, request->indexarg);
+  version = list_nth(arguments, request->indexarg);
   requirement = list_nth(arguments, 1 - request->indexarg);
-  if (!IsA(requirement, Const) || ((Const *)requirement)->constisnull) return NIL;
-  /* the requirement is a text, and the column is not */
-  if (exprType(requirement) != TEXTOID || exprType(column) == TEXTOID) return NIL;
-  bounds = bounds_of(span_of(DatumGetTextPP(((Const *)requirement)->constvalue)));
-  conditions = append_condition(conditions, bounds.lower, column, request->opfamily);
-  conditions = append_condition(conditions, bounds.upper, column, request->opfamily);
-  request->lossy = true;
+  if (!is_pseudo_constant_for_index(request->root, requirement, request->index)) return NIL;
+  if (IsA(requirement, Const) && ((Const *)requirement)->constisnull) return NIL;
+  low = bound_of(request->root, caller, "requirement_low", requirement);
+  high = bound_of(request->root, caller, "requirement_high", requirement);
+  if (!is_open(low, false)) {
+    conditions = append_condition(conditions, version, request->opfamily, BTGreaterEqualStrategyNumber, low);
+  }
+  if (!is_open(high, true)) {
+    conditions = append_condition(conditions, version, request->opfamily, BTLessStrategyNumber, high);
+  }
+  request->lossy = !is_whole(requirement);
   return conditions;
 }
 
-SQL_FUNCTION(version_matches_support) {
-  Node *request = (Node *)PG_GETARG_POINTER(0);
-  List *conditions = NIL;
-  if (IsA(request, SupportRequestIndexCondition)) {
-    conditions = conditions_of((SupportRequestIndexCondition *)request);
+/* The share of a histogram's values that are below a bound. Between two of them it grows as the codes of keys do. */
+static double share_below(const AttStatsSlot *histogram, Datum bound) {
+  int below = 0, end = histogram->nvalues;
+  double part = 0.5;
+  uint64 from, to;
+  while (below < end) {
+    int middle = below + (end - below) / 2;
+    if (order_with_bound(histogram->values[middle], bound) < 0) {
+      below = middle + 1;
+    } else {
+      end = middle;
+    }
   }
-  PG_RETURN_POINTER(conditions);
+  if (below == 0) return 0;
+  if (below == histogram->nvalues) return 1;
+  from = beginning_of_value(histogram->values[below - 1]);
+  to = beginning_of_value(histogram->values[below]);
+  if (from < to) {
+    Span bytes = span_of(DatumGetByteaPP(bound));
+    bytes.bytes++; /* after the byte that says whether it is above every key */
+    bytes.len--;
+    part = (double)(beginning_of_code(bytes) - from) / (double)(to - from);
+  }
+  return (below - 1 + part) / (histogram->nvalues - 1);
+}
+
+/* The share of the values of a histogram whose kinds a range has. */
+static double share_of_kinds(const AttStatsSlot *histogram, uint32 flags) {
+  int at, found = 0;
+  for (at = 0; at < histogram->nvalues; at++) {
+    text *version = DatumGetTextPP(histogram->values[at]);
+    bool is_in = false;
+    versions_in_range(VARDATA_ANY(version), VARSIZE_ANY_EXHDR(version), NULL, 0, NULL, 0,
+                      flags & ~VERSIONS_RANGE_HIGH, &is_in);
+    found += is_in;
+  }
+  return (double)found / histogram->nvalues;
+}
+
+/*
+ * The share of the rows of a column that match a constant requirement, by the statistics of ANALYZE: the common values
+ * that match, and of the others those between the bounds and of the kinds, but not less than one value. A negative
+ * number if there are no statistics.
+ */
+static double share_by_statistics(VariableStatData *column, Oid function, Const *requirement, bool is_first,
+                                  Datum low, Datum high) {
+  double common, share, others, values;
+  bool is_default;
+  AttStatsSlot histogram;
+  FmgrInfo matches;
+  if (!HeapTupleIsValid(column->statsTuple)) return -1;
+  fmgr_info(function, &matches);
+  share = mcv_selectivity(column, &matches, InvalidOid, requirement->constvalue, is_first, &common);
+  others = 1 - common - ((Form_pg_statistic)GETSTRUCT(column->statsTuple))->stanullfrac;
+  if (others > 0 && statistic_proc_security_check(column, function) &&
+      get_attstatsslot(&histogram, column->statsTuple, STATISTIC_KIND_HISTOGRAM, InvalidOid, ATTSTATSSLOT_VALUES)) {
+    if (histogram.nvalues > 1) {
+      uint32 flags = requirement_of(DatumGetByteaPP(requirement->constvalue)).flags;
+      double between = share_below(&histogram, high) - share_below(&histogram, low);
+      values = get_variable_numdistinct(column, &is_default);
+      share += others * Max(between * share_of_kinds(&histogram, flags), 1 / values);
+    }
+    free_attstatsslot(&histogram);
+  }
+  return share;
+}
+
+/* The share of the rows for which a function or its operator is true. By default PostgreSQL's own for a match. */
+static Selectivity share_of(PlannerInfo *root, Oid caller, Oid function, List *arguments, int table) {
+  Selectivity share = -1;
+  VariableStatData column;
+  Node *other;
+  bool is_first;
+  if (!get_restriction_variable(root, arguments, table, &column, &other, &is_first)) return DEFAULT_MATCHING_SEL;
+  if (IsA(other, Const) && !((Const *)other)->constisnull) {
+    Node *low = bound_of(root, caller, "requirement_low", other);
+    Node *high = bound_of(root, caller, "requirement_high", other);
+    if (low && IsA(low, Const) && high && IsA(high, Const)) {
+      share = share_by_statistics(&column, function, (Const *)other, is_first, ((Const *)low)->constvalue,
+                                  ((Const *)high)->constvalue);
+    }
+  }
+  ReleaseVariableStats(column);
+  if (share < 0) return DEFAULT_MATCHING_SEL;
+  CLAMP_PROBABILITY(share);
+  return share;
+}
+
+SQL_FUNCTION(version_matches_sel) {
+  PG_RETURN_FLOAT8(share_of((PlannerInfo *)PG_GETARG_POINTER(0), fcinfo->flinfo->fn_oid,
+                            get_opcode(PG_GETARG_OID(1)), (List *)PG_GETARG_POINTER(2), PG_GETARG_INT32(3)));
+}
+
+SQL_FUNCTION(version_matches_support) {
+  Node *node = (Node *)PG_GETARG_POINTER(0);
+  void *answer = NULL;
+  if (IsA(node, SupportRequestIndexCondition)) {
+    answer = index_conditions((SupportRequestIndexCondition *)node, fcinfo->flinfo->fn_oid);
+  } else if (IsA(node, SupportRequestSelectivity)) {
+    SupportRequestSelectivity *request = (SupportRequestSelectivity *)node;
+    request->selectivity = request->is_join ? DEFAULT_MATCHING_SEL
+                                            : share_of(request->root, fcinfo->flinfo->fn_oid, request->funcid,
+                                                       request->args, request->varRelid);
+    answer = request;
+  }
+  PG_RETURN_POINTER(answer);
 }
 
 PGDLLEXPORT void _PG_init(void);

@@ -6,7 +6,11 @@
  *   version_compare(a, b)                -1, 0 or 1 if a is before, equal to or after b by precedence
  *   version_compare_total(a, b)          the same with ties broken
  *   version_matches(requirement, text)   1 or 0: whether a version matches a requirement or a list of requirements
+ *   version_low(requirement)             a BLOB: the key of no version that matches is below it
+ *   version_high(requirement)            a BLOB: the key of each version that matches is below it
  *   version_nth(text, n)                 the number at a place, counted from 0
+ *   version_epoch(text)                  the number before the colon of a general version
+ *   version_is_prerelease(text)          1 or 0: whether a version is strict and has a pre-release
  *   version_max(text)                    aggregate and window function: the greatest version of the rows
  *   version_min(text)                    the least version of the rows
  *   versions_version()                   the version of the library
@@ -14,10 +18,11 @@
  *
  * Each function returns NULL if a value is not a version. NULL, numbers, BLOBs and texts that are not UTF-8 are not
  * versions. A number is not converted to text, since 1.10 is already 1.1. The aggregates skip values that are not
- * versions. version_matches fails if the requirement does not parse. All functions are deterministic and have no side
- * effects, so indexes and generated columns can use them.
+ * versions. A function of a requirement returns NULL for NULL, and fails if the requirement does not parse. All
+ * functions are deterministic and have no side effects, so indexes and generated columns can use them.
  *
- * All memory is SQLite's: keys, the texts that an aggregate keeps, and messages. The other functions do not allocate.
+ * All memory is SQLite's: keys, bounds, the range of a constant requirement, the texts that an aggregate keeps,
+ * messages, and a number for a connection. Nothing else is allocated.
  *
  * The library alone decides what versions are and how they compare. This file only passes texts to it.
  */
@@ -159,22 +164,122 @@ static void give_no_requirement(sqlite3_context *context, struct text text, int 
   sqlite3_free(said);
 }
 
-static void version_matches(sqlite3_context *context, int count, sqlite3_value **values) {
-  struct text list = text_of(values[0]), text = text_of(values[1]);
-  bool matches;
-  (void)count;
-  if (sqlite3_value_type(values[0]) == SQLITE_NULL) {
+/* What a list of requirements asks for, as versions_range returns it. */
+struct range {
+  size_t low_len, high_len;
+  uint32_t flags;
+  uint8_t *high; /* in the same allocation */
+  uint8_t low[];
+};
+
+/* The range of a value, for sqlite3_free. Null for NULL and after a failure, and then the result is set. */
+static struct range *range_of(sqlite3_context *context, sqlite3_value *value) {
+  struct text list = text_of(value);
+  struct range *range;
+  size_t low_room, high_room;
+  uint32_t flags;
+  if (sqlite3_value_type(value) == SQLITE_NULL) {
     sqlite3_result_null(context);
-    return;
+    return NULL;
   }
-  if (!list.bytes || !text.bytes) {
+  if (!list.bytes) {
     sqlite3_result_error_nomem(context);
-    return;
+    return NULL;
+  }
+  if (versions_range(list.bytes, list.len, NULL, 0, &low_room, NULL, 0, &high_room, &flags) ==
+      VERSIONS_NO_REQUIREMENTS) {
+    give_no_requirement(context, list, sqlite3_value_type(value));
+    return NULL;
+  }
+  range = sqlite3_malloc64(sizeof *range + low_room + high_room);
+  if (!range) {
+    sqlite3_result_error_nomem(context);
+    return NULL;
+  }
+  range->high = range->low + low_room;
+  versions_range(list.bytes, list.len, range->low, low_room, &range->low_len, range->high, high_room, &range->high_len,
+                 &range->flags);
+  return range;
+}
+
+static void version_low(sqlite3_context *context, int count, sqlite3_value **values) {
+  struct range *range = range_of(context, values[0]);
+  (void)count;
+  if (range) sqlite3_result_blob64(context, range->low, range->low_len, SQLITE_TRANSIENT);
+  sqlite3_free(range);
+}
+
+/*
+ * Without a high bound the result is the byte FF. It is above the key of each version whose epoch has fewer than 255
+ * digits; no blob is above every key. With NULL instead, a comparison would find no version.
+ */
+static void version_high(sqlite3_context *context, int count, sqlite3_value **values) {
+  struct range *range = range_of(context, values[0]);
+  (void)count;
+  if (range && range->flags & VERSIONS_RANGE_HIGH) {
+    sqlite3_result_blob64(context, range->high, range->high_len, SQLITE_TRANSIENT);
+  } else if (range) {
+    sqlite3_result_blob64(context, "\xff", 1, SQLITE_STATIC);
+  }
+  sqlite3_free(range);
+}
+
+/* Gives whether a version matches a list. Returns false if the list does not parse, and on allocation failure. */
+static bool give_match(sqlite3_context *context, sqlite3_value *requirement, struct text text) {
+  struct text list = text_of(requirement);
+  bool matches;
+  if (!list.bytes) {
+    sqlite3_result_error_nomem(context);
+    return false;
   }
   switch (versions_matches(list.bytes, list.len, text.bytes, text.len, &matches)) {
-    case VERSIONS_OK: sqlite3_result_int(context, matches); break;
-    case VERSIONS_NO_REQUIREMENTS: give_no_requirement(context, list, sqlite3_value_type(values[0])); break;
-    default: sqlite3_result_null(context);
+    case VERSIONS_OK: sqlite3_result_int(context, matches); return true;
+    case VERSIONS_NO_REQUIREMENTS:
+      give_no_requirement(context, list, sqlite3_value_type(requirement));
+      return false;
+    default: sqlite3_result_null(context); return true;
+  }
+}
+
+/* The same by the range of the list. The list is read only where it need not match a version of its range. */
+static void give_match_by_range(sqlite3_context *context, const struct range *range, sqlite3_value *requirement,
+                                struct text text) {
+  bool is_in;
+  if (versions_in_range(text.bytes, text.len, range->low, range->low_len, range->high, range->high_len, range->flags,
+                        &is_in) != VERSIONS_OK) {
+    sqlite3_result_null(context);
+  } else if (is_in && !(range->flags & VERSIONS_RANGE_EXACT)) {
+    give_match(context, requirement, text);
+  } else {
+    sqlite3_result_int(context, is_in);
+  }
+}
+
+/*
+ * SQLite keeps data for an argument that is constant in a statement, but does not say which is. So a call leaves a
+ * mark. The next call finds it, and replaces it by the range of the requirement, which the later calls find. If the
+ * requirement is not constant, no call finds anything, and no range is made. To leave a mark costs half as much as to
+ * read a list, so only one of 16 calls does; the user data counts the calls of the connection.
+ */
+static void version_matches(sqlite3_context *context, int count, sqlite3_value **values) {
+  static char mark;
+  unsigned *calls = sqlite3_user_data(context);
+  void *kept = sqlite3_get_auxdata(context, 0);
+  struct text text = text_of(values[1]);
+  (void)count;
+  if (!text.bytes) {
+    sqlite3_result_error_nomem(context);
+  } else if (kept == &mark) {
+    struct range *range = range_of(context, values[0]);
+    if (!range) return;
+    give_match_by_range(context, range, values[0], text);
+    sqlite3_set_auxdata(context, 0, range, sqlite3_free);
+  } else if (kept) {
+    give_match_by_range(context, kept, values[0], text);
+  } else if (sqlite3_value_type(values[0]) == SQLITE_NULL) {
+    sqlite3_result_null(context);
+  } else if (give_match(context, values[0], text) && (*calls)++ % 16 == 0) {
+    sqlite3_set_auxdata(context, 0, &mark, NULL);
   }
 }
 
@@ -189,6 +294,32 @@ static void version_nth(sqlite3_context *context, int count, sqlite3_value **val
     sqlite3_result_null(context);
   } else if (versions_nth(text.bytes, text.len, (size_t)place, &number) == VERSIONS_OK) {
     sqlite3_result_int64(context, number);
+  } else {
+    sqlite3_result_null(context);
+  }
+}
+
+static void version_epoch(sqlite3_context *context, int count, sqlite3_value **values) {
+  struct text text = text_of(values[0]);
+  uint32_t epoch;
+  (void)count;
+  if (!text.bytes) {
+    sqlite3_result_error_nomem(context);
+  } else if (versions_epoch(text.bytes, text.len, &epoch) == VERSIONS_OK) {
+    sqlite3_result_int64(context, epoch);
+  } else {
+    sqlite3_result_null(context);
+  }
+}
+
+static void version_is_prerelease(sqlite3_context *context, int count, sqlite3_value **values) {
+  struct text text = text_of(values[0]);
+  bool is_prerelease;
+  (void)count;
+  if (!text.bytes) {
+    sqlite3_result_error_nomem(context);
+  } else if (versions_is_prerelease(text.bytes, text.len, &is_prerelease) == VERSIONS_OK) {
+    sqlite3_result_int(context, is_prerelease);
   } else {
     sqlite3_result_null(context);
   }
@@ -350,8 +481,11 @@ static int define_functions(sqlite3 *db) {
       {"version_kind", 1, version_kind},
       {"version_compare", 2, version_compare},
       {"version_compare_total", 2, version_compare_total},
-      {"version_matches", 2, version_matches},
+      {"version_low", 1, version_low},
+      {"version_high", 1, version_high},
       {"version_nth", 2, version_nth},
+      {"version_epoch", 1, version_epoch},
+      {"version_is_prerelease", 1, version_is_prerelease},
       {"versions_version", 0, give_library_version},
   };
   int status = SQLITE_OK;
@@ -361,6 +495,13 @@ static int define_functions(sqlite3 *db) {
                                         NULL, NULL, NULL);
   }
   return status;
+}
+
+static int define_matches(sqlite3 *db) {
+  unsigned *calls = sqlite3_malloc64(sizeof *calls);
+  if (!calls) return SQLITE_NOMEM;
+  *calls = 0;
+  return sqlite3_create_function_v2(db, "version_matches", 2, flags, calls, version_matches, NULL, NULL, sqlite3_free);
 }
 
 static int define_aggregate(sqlite3 *db, const char *name, const int32_t *better) {
@@ -383,10 +524,13 @@ EXPORTED int sqlite3_versions_init(sqlite3 *db, char **fault, const sqlite3_api_
     return SQLITE_ERROR;
   }
   status = define_functions(db);
+  if (status == SQLITE_OK) status = define_matches(db);
   if (status == SQLITE_OK) status = define_aggregate(db, "version_max", &above);
   if (status == SQLITE_OK) status = define_aggregate(db, "version_min", &below);
   if (status == SQLITE_OK) status = sqlite3_create_collation_v2(db, "VERSION", SQLITE_UTF8, NULL, collate, NULL);
-  if (status != SQLITE_OK && fault) *fault = sqlite3_mprintf("%s", sqlite3_errmsg(db));
+  if (status != SQLITE_OK && fault) {
+    *fault = sqlite3_mprintf("%s", status == SQLITE_NOMEM ? sqlite3_errstr(status) : sqlite3_errmsg(db));
+  }
   return status;
 }
 

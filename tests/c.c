@@ -7,6 +7,7 @@
 //   edges     needs no lines: null pointers, buffer sizes, offsets, bytes that are not UTF-8, every status, the version
 //   long      texts of megabytes
 //   many      a hundred thousand texts
+//   ranges    needs no lines: ranges worked out by hand, buffer sizes, random lists and texts, bounds that are not keys
 //   memory    makes every call, and allocates nothing itself
 // A call for many texts and the call for one text must agree wherever both are made. The program prints each check that
 // fails, and its status is then not 0. It is compiled as C and as C++.
@@ -254,6 +255,114 @@ static void compare(const struct lines *lines) {
   }
 }
 
+// A range of keys, in blocks of exactly the sizes that its list needs.
+struct range {
+  uint8_t *low, *high;
+  size_t low_length, high_length;
+  uint32_t flags;
+};
+
+static void free_range(struct range *range) {
+  release(range->low);
+  release(range->high);
+}
+
+// The range that a list asks for. Checks that a buffer that is too small stays unchanged, that the sizes that a call
+// reports are enough, and that so are those of versions_sort_key_bound.
+static bool range_of(const char *list, size_t length, struct range *range) {
+  size_t bound = versions_sort_key_bound(length), low = 77, high = 77, low_room, high_room;
+  uint32_t flags = 77;
+  int status = versions_range(list, length, NULL, 0, &low, NULL, 0, &high, &flags);
+  if (status == VERSIONS_NO_REQUIREMENTS) {
+    CHECK(low == 77 && high == 77 && flags == 77);
+    return false;
+  }
+  CHECK(status == (low == 0 && high == 0 ? VERSIONS_OK : VERSIONS_NO_ROOM));
+  CHECK(low <= bound && high <= bound);
+  low_room = low;
+  high_room = high;
+  range->low = (uint8_t *)block(low_room);
+  range->high = (uint8_t *)block(high_room);
+  memset(range->low, 170, low_room);
+  memset(range->high, 170, high_room);
+  flags = 77;
+  for (int which = 0; which < 2; which++) {
+    size_t low_less = which == 0, high_less = which == 1;
+    if (low_room < low_less || high_room < high_less) continue;
+    low = high = 77;
+    CHECK(versions_range(list, length, range->low, low_room - low_less, &low, range->high, high_room - high_less, &high,
+                         &flags) == VERSIONS_NO_ROOM);
+    CHECK(low == low_room && high == high_room && flags == 77);
+    for (size_t i = 0; i < low_room; i++) CHECK(range->low[i] == 170);
+    for (size_t i = 0; i < high_room; i++) CHECK(range->high[i] == 170);
+  }
+  CHECK(versions_range(list, length, range->low, low_room, &range->low_length, range->high, high_room,
+                       &range->high_length, &range->flags) == VERSIONS_OK);
+  CHECK(range->low_length <= low_room && range->high_length <= high_room && range->flags < 32);
+  CHECK((range->flags & VERSIONS_RANGE_HIGH) != 0 || range->high_length == 0);
+
+  uint8_t *low_bytes = (uint8_t *)block(bound), *high_bytes = (uint8_t *)block(bound);
+  CHECK(versions_range(list, length, low_bytes, bound, &low, high_bytes, bound, &high, &flags) == VERSIONS_OK);
+  CHECK(low == range->low_length && memcmp(low_bytes, range->low, low) == 0);
+  CHECK(high == range->high_length && memcmp(high_bytes, range->high, high) == 0);
+  CHECK(flags == range->flags);
+  release(low_bytes);
+  release(high_bytes);
+  return true;
+}
+
+// How two lists of bytes compare.
+static int bytes_order(const uint8_t *a, size_t a_length, const uint8_t *b, size_t b_length) {
+  size_t length = a_length < b_length ? a_length : b_length;
+  int order = length == 0 ? 0 : memcmp(a, b, length);
+  return order != 0 ? order : (a_length > b_length) - (a_length < b_length);
+}
+
+// Whether a text is in a range, by its key and its kind: 1, 0, or 2 for a text that is not a version. Checks that the
+// call gives the same answer.
+static int in_range(const char *text, size_t length, const struct range *range) {
+  size_t bound = versions_sort_key_bound(length), key_length = 0;
+  uint8_t *key = (uint8_t *)block(bound);
+  int kind = versions_kind(text, length), wanted = 2;
+  bool answer = true, other = false;
+  if (versions_sort_key(text, length, key, bound, &key_length) == VERSIONS_OK) {
+    wanted = bytes_order(key, key_length, range->low, range->low_length) >= 0 &&
+             (!(range->flags & VERSIONS_RANGE_HIGH) ||
+              bytes_order(key, key_length, range->high, range->high_length) < 0) &&
+             (range->flags & 1u << (kind - 1)) != 0;
+  }
+  release(key);
+  int status = versions_in_range(text, length, range->low, range->low_length, range->high, range->high_length,
+                                 range->flags, &answer);
+  CHECK(status == (wanted == 2 ? VERSIONS_NO_VERSION : VERSIONS_OK));
+  CHECK(wanted == 2 ? answer : answer == (wanted == 1));
+  versions_in_range(text, length, range->low, range->low_length, range->high, range->high_length, range->flags, &other);
+  CHECK(wanted == 2 ? !other : other == (wanted == 1));
+  return wanted;
+}
+
+// Each text that a list matches is in its range, and the converse holds if the range is exact.
+static void check_range(const struct lines *lines, const char *list, size_t length, const uint8_t *matches) {
+  struct range range;
+  size_t count = lines->count;
+  if (!range_of(list, length, &range)) {
+    CHECK(!"a list has a range");
+    return;
+  }
+  uint8_t *answers = (uint8_t *)block(count);
+  memset(answers, 77, count);
+  CHECK(versions_in_range_all(lines->texts, lines->length, lines->offsets, count + 1, range.low, range.low_length,
+                              range.high, range.high_length, range.flags, answers, count) == VERSIONS_OK);
+  for (size_t line = 0; line < count; line++) {
+    CHECK(answers[line] == in_range(text_of(lines, line), length_of(lines, line), &range));
+    CHECK((answers[line] == 2) == (matches[line] == 2));
+    CHECK(matches[line] != 1 || answers[line] == 1);
+    if (range.flags & VERSIONS_RANGE_EXACT) CHECK(answers[line] == matches[line]);
+  }
+  release(answers);
+  free_range(&range);
+}
+
 static void match(const struct lines *lines, const char *list) {
   size_t count = lines->count, length = strlen(list);
   uint8_t *matches = (uint8_t *)block(count);
@@ -275,6 +384,7 @@ static void match(const struct lines *lines, const char *list) {
     CHECK(matches[line] == 2 || matches[line] == one);
     printf("%d\n", matches[line]);
   }
+  if (status == VERSIONS_OK) check_range(lines, list, length, matches);
   release(matches);
 }
 
@@ -376,6 +486,8 @@ static void refused_offsets(const int64_t *offsets, size_t offsets_length, size_
   memset(answers, 77, sizeof answers);
   memset(keys, 77, sizeof keys);
   CHECK(versions_kinds("1.2.31.2", 8, offsets, offsets_length, answers, count) == VERSIONS_BAD_OFFSETS);
+  CHECK(versions_in_range_all("1.2.31.2", 8, offsets, offsets_length, NULL, 0, NULL, 0, 7, answers, count) ==
+        VERSIONS_BAD_OFFSETS);
   CHECK(versions_match_all("*", 1, "1.2.31.2", 8, offsets, offsets_length, answers, count) == VERSIONS_BAD_OFFSETS);
   CHECK(versions_match_all("no list", 7, "1.2.31.2", 8, offsets, offsets_length, answers, count) ==
         VERSIONS_BAD_OFFSETS);
@@ -408,6 +520,7 @@ static void refused_null_pointers(void) {
   uint32_t number = 77;
   size_t length = 77;
   uint8_t answers[8];
+  const uint8_t keys[8] = {0};
   int64_t key_offsets[2] = {77, 77};
   uint64_t place = 77;
   memset(answers, 77, sizeof answers);
@@ -436,6 +549,20 @@ static void refused_null_pointers(void) {
   CHECK(versions_matches("*", 1, NULL, 1, &matches) == VERSIONS_NULL);
   CHECK(versions_matches("no list", 7, NULL, 1, &matches) == VERSIONS_NULL);
   CHECK(versions_matches("*", 1, "1", 1, NULL) == VERSIONS_NULL);
+  CHECK(matches);
+  CHECK(versions_range(NULL, 1, answers, 8, &length, answers, 8, &length, &number) == VERSIONS_NULL);
+  CHECK(versions_range("*", 1, NULL, 8, &length, answers, 8, &length, &number) == VERSIONS_NULL);
+  CHECK(versions_range("*", 1, answers, 8, NULL, answers, 8, &length, &number) == VERSIONS_NULL);
+  CHECK(versions_range("*", 1, answers, 8, &length, NULL, 8, &length, &number) == VERSIONS_NULL);
+  CHECK(versions_range("*", 1, answers, 8, &length, answers, 8, NULL, &number) == VERSIONS_NULL);
+  CHECK(versions_range("*", 1, answers, 8, &length, answers, 8, &length, NULL) == VERSIONS_NULL);
+  CHECK(versions_range("no list", 7, NULL, 1, &length, NULL, 0, &length, &number) == VERSIONS_NULL);
+  CHECK(length == 77);
+  CHECK(versions_in_range(NULL, 1, answers, 8, answers, 8, 7, &matches) == VERSIONS_NULL);
+  CHECK(versions_in_range("1", 1, NULL, 8, answers, 8, 7, &matches) == VERSIONS_NULL);
+  CHECK(versions_in_range("1", 1, answers, 8, NULL, 8, 7, &matches) == VERSIONS_NULL);
+  CHECK(versions_in_range("1", 1, answers, 8, answers, 8, 7, NULL) == VERSIONS_NULL);
+  CHECK(versions_in_range("no version", 10, NULL, 1, NULL, 0, 7, &matches) == VERSIONS_NULL);
   CHECK(matches);
   CHECK(versions_nth(NULL, 1, 0, &number) == VERSIONS_NULL);
   CHECK(versions_nth("1", 1, 0, NULL) == VERSIONS_NULL);
@@ -468,6 +595,12 @@ static void refused_null_pointers(void) {
   CHECK(versions_match_all("*", 1, "1.2.3", 5, NULL, 2, answers, 1) == VERSIONS_NULL);
   CHECK(versions_match_all("*", 1, "1.2.3", 5, offsets, 2, NULL, 1) == VERSIONS_NULL);
   CHECK(versions_match_all("no list", 7, "1.2.3", 5, descending, 2, NULL, 1) == VERSIONS_NULL);
+  CHECK(versions_in_range_all(NULL, 5, offsets, 2, keys, 8, keys, 8, 7, answers, 1) == VERSIONS_NULL);
+  CHECK(versions_in_range_all("1.2.3", 5, NULL, 2, keys, 8, keys, 8, 7, answers, 1) == VERSIONS_NULL);
+  CHECK(versions_in_range_all("1.2.3", 5, offsets, 2, NULL, 8, keys, 8, 7, answers, 1) == VERSIONS_NULL);
+  CHECK(versions_in_range_all("1.2.3", 5, offsets, 2, keys, 8, NULL, 8, 7, answers, 1) == VERSIONS_NULL);
+  CHECK(versions_in_range_all("1.2.3", 5, offsets, 2, keys, 8, keys, 8, 7, NULL, 1) == VERSIONS_NULL);
+  CHECK(versions_in_range_all("1.2.3", 5, descending, 2, keys, 8, keys, 8, 7, NULL, 1) == VERSIONS_NULL);
   for (size_t i = 0; i < sizeof answers; i++) CHECK(answers[i] == 77);
   CHECK(key_offsets[0] == 77 && key_offsets[1] == 77);
 }
@@ -561,6 +694,7 @@ static void edges(void) {
   CHECK(versions_kinds(NULL, 0, one_offset, 1, NULL, 0) == VERSIONS_OK);
   CHECK(versions_match_all("*", 1, NULL, 0, one_offset, 1, NULL, 0) == VERSIONS_OK);
   CHECK(versions_sort_keys(NULL, 0, one_offset, 1, NULL, 0, key_offsets, 1) == VERSIONS_OK && key_offsets[0] == 0);
+  CHECK(versions_in_range_all(NULL, 0, one_offset, 1, NULL, 0, NULL, 0, 7, NULL, 0) == VERSIONS_OK);
   CHECK(versions_kinds("1.2.31.2", 8, last, 1, NULL, 0) == VERSIONS_OK);
   CHECK(versions_kinds(NULL, 0, NULL, 0, NULL, 0) == VERSIONS_BAD_OFFSETS);
   CHECK(versions_match_all("*", 1, NULL, 0, NULL, 0, NULL, 0) == VERSIONS_BAD_OFFSETS);
@@ -569,6 +703,9 @@ static void edges(void) {
   CHECK(answers[0] == VERSIONS_IDEAL && answers[1] == VERSIONS_NONE);
   CHECK(answers[2] == VERSIONS_GENERAL && answers[3] == 77);
   CHECK(versions_match_all("1.2", 3, "???1.2.31.2???", 14, apart, 4, answers, 3) == VERSIONS_NO_REQUIREMENTS);
+  CHECK(versions_in_range_all("???1.2.31.2???", 14, apart, 4, NULL, 0, NULL, 0, VERSIONS_RANGE_IDEAL, answers, 3) ==
+        VERSIONS_OK);
+  CHECK(answers[0] == 1 && answers[1] == 2 && answers[2] == 0 && answers[3] == 77);
   CHECK(versions_match_all("<1.2.3", 6, "???1.2.31.2???", 14, apart, 4, answers, 3) == VERSIONS_OK);
   CHECK(answers[0] == 0 && answers[1] == 2 && answers[2] == 1 && answers[3] == 77);
 
@@ -653,6 +790,8 @@ static void long_text(const char *piece, size_t times, int kind, size_t key_leng
   bool matches = false;
   CHECK(versions_matches("*", 1, text, length, &matches) == VERSIONS_OK && matches);
   CHECK(versions_matches(text, length, "1", 1, &matches) == VERSIONS_NO_REQUIREMENTS);
+  struct range all = {NULL, NULL, 0, 0, 1u << (kind - 1)};
+  CHECK(versions_in_range(text, length, all.low, 0, all.high, 0, all.flags, &matches) == VERSIONS_OK && matches);
   uint32_t number = 77;
   int status = versions_nth(text, length, 0, &number);
   CHECK(status == VERSIONS_OK ? number == 1 : status == VERSIONS_NO_NUMBER);
@@ -721,6 +860,198 @@ static void many(void) {
   many_texts(none);
 }
 
+// The ranges of lists that were worked out by hand, byte by byte.
+#define BYTES(text) text, sizeof text - 1
+
+static void worked_ranges(void) {
+  static const struct {
+    const char *list, *low;
+    size_t low_length;
+    const char *high;
+    size_t high_length;
+    uint32_t flags;
+  } worked[] = {
+      {">=1.2.3,<2.0.0", BYTES("\x00\x03\x01\x31\x02\x03\x01\x32\x02\x03\x01\x33\x02\x02\x02"),
+       BYTES("\x00\x03\x01\x32\x02\x03\x00\x02\x03\x00\x02\x02\x02"), 31},
+      {">1.0", BYTES("\x00\x03\x01\x31\x02\x03\x00\x02\x02\x02\x00"), BYTES(""), 23},
+      {"<=1.2", BYTES(""), BYTES("\x00\x03\x01\x31\x02\x03\x01\x32\x02\x02\x02\x00"), 31},
+      {"=1.0.0", BYTES("\x00\x03\x01\x31\x02\x03\x00\x02\x03\x00\x02\x02\x02"),
+       BYTES("\x00\x03\x01\x31\x02\x03\x00\x02\x03\x00\x02\x02\x02\x00"), 25},
+      {"=1.0", BYTES("\x00\x03\x01\x31\x02\x03\x00\x02\x02\x02"),
+       BYTES("\x00\x03\x01\x31\x02\x03\x00\x02\x02\x02\x00"), 10},
+      {"*", BYTES(""), BYTES(""), 23},
+      {"^1.2.3", BYTES("\x00\x03\x01\x31\x02\x03\x01\x32\x02\x03\x01\x33\x02"), BYTES("\x00\x03\x01\x31\x02\x04"), 25},
+      {"^0.3.1", BYTES("\x00\x03\x00\x02\x03\x01\x33\x02\x03\x01\x31\x02"),
+       BYTES("\x00\x03\x00\x02\x03\x01\x33\x02\x04"), 25},
+      {"^0.0.3", BYTES("\x00\x03\x00\x02\x03\x00\x02\x03\x01\x33\x02"),
+       BYTES("\x00\x03\x00\x02\x03\x00\x02\x03\x01\x33\x02\x04"), 25},
+      {"~1.2.3", BYTES("\x00\x03\x01\x31\x02\x03\x01\x32\x02\x03\x01\x33\x02"),
+       BYTES("\x00\x03\x01\x31\x02\x03\x01\x32\x02\x04"), 25},
+      {"~1.2", BYTES("\x00\x03\x01\x31\x02\x03\x01\x32\x02"), BYTES("\x00\x03\x01\x31\x02\x04"), 10},
+      {"~1", BYTES("\x00\x03\x01\x31\x02"), BYTES("\x00\x04"), 10},
+      {"^1.2", BYTES("\x00\x03\x01\x31\x02\x03\x01\x32\x02"), BYTES("\x00\x03\x01\x31\x02\x04"), 10},
+      {"^0.0", BYTES("\x00\x03\x00\x02\x03\x00\x02"), BYTES("\x00\x03\x00\x02\x03\x00\x02\x04"), 10},
+      {"^1:1.2rc1", BYTES("\x01\x31\x03\x01\x31\x02\x03\x01\x32\x01\x72\x63\x00\x01\x01\x31\x00"),
+       BYTES("\x01\x31\x03\x01\x31\x02\x04"), 10},
+      {"~1a", BYTES("\x00\x03\x01\x31\x01\x61\x00\x00"), BYTES("\x00\x04"), 10},
+      {"^1.2.3,<1.9.0", BYTES("\x00\x03\x01\x31\x02\x03\x01\x32\x02\x03\x01\x33\x02"),
+       BYTES("\x00\x03\x01\x31\x02\x03\x01\x39\x02\x03\x00\x02\x02\x02"), 25},
+      {">=2.0.0,<1.0.0", BYTES("\x00\x03\x01\x32\x02\x03\x00\x02\x03\x00\x02\x02\x02"),
+       BYTES("\x00\x03\x01\x31\x02\x03\x00\x02\x03\x00\x02\x02\x02"), 31},
+      {"~1_2", BYTES("\x00"), BYTES("\x00"), 24},
+  };
+  for (size_t i = 0; i < sizeof worked / sizeof *worked; i++) {
+    struct range range;
+    CHECK(range_of(worked[i].list, strlen(worked[i].list), &range));
+    CHECK(range.low_length == worked[i].low_length && memcmp(range.low, worked[i].low, range.low_length) == 0);
+    CHECK(range.high_length == worked[i].high_length && memcmp(range.high, worked[i].high, range.high_length) == 0);
+    CHECK(range.flags == worked[i].flags);
+    free_range(&range);
+  }
+}
+
+// The next of a row of numbers below a bound, the same in each run.
+static uint32_t random_below(uint32_t bound) {
+  static uint64_t state = 1;
+  state = state * 6364136223846793005u + 1442695040888963407u;
+  return (uint32_t)(state >> 33) % bound;
+}
+
+// A random version at the end of a text, from few pieces, so that many are alike.
+static size_t random_version(char *text) {
+  static const char *const numbers[] = {"0", "1", "2", "3", "10", "255", "256", "a", "rc1", "1a", "0a2"};
+  static const char *const fronts[] = {"", "", "", "", "", "1:", "0:"};
+  static const char *const tails[] = {"", "", "", "", "-rc.1", "-1", "-a.2", "+x", "_2", "-1_0", "~1", ":3", "-2+y"};
+  for (;;) {
+    uint32_t few = random_below(3) ? 7 : 11, parts = random_below(2) ? 3 : 1 + random_below(4);
+    int used = sprintf(text, "%s", fronts[random_below(7)]);
+    for (uint32_t i = 0; i < parts; i++) {
+      used += sprintf(text + used, "%s%s", i == 0 ? "" : ".", numbers[random_below(few)]);
+    }
+    used += sprintf(text + used, "%s", tails[random_below(13)]);
+    if (versions_kind(text, (size_t)used) != VERSIONS_NONE) return (size_t)used;
+  }
+}
+
+// A random list of up to three members.
+static size_t random_list(char *list) {
+  static const char *const ops[] = {"=", ">", ">=", "<", "<=", "~", "^"};
+  size_t used = 0;
+  for (uint32_t members = 1 + random_below(3); members > 0; members--) {
+    if (random_below(30) == 0) {
+      list[used++] = '*';
+    } else {
+      used += (size_t)sprintf(list + used, "%s", ops[random_below(7)]);
+      used += random_version(list + used);
+    }
+    list[used++] = ',';
+  }
+  return used - 1;
+}
+
+// Two hundred lists and five hundred texts: a hundred thousand pairs.
+static void random_ranges(void) {
+  enum { LISTS = 200, TEXTS = 500 };
+  struct lines lines;
+  char list[256];
+  size_t matched = 0, only_in_range = 0;
+  lines.count = TEXTS;
+  lines.length = 0;
+  lines.texts = (char *)block(64 * TEXTS);
+  lines.offsets = (int64_t *)block((TEXTS + 1) * sizeof(int64_t));
+  uint8_t *matches = (uint8_t *)block(TEXTS);
+  for (size_t i = 0; i < LISTS; i++) {
+    lines.length = 0;
+    lines.offsets[0] = 0;
+    for (size_t line = 0; line < TEXTS; line++) {
+      lines.length += random_version(lines.texts + lines.length);
+      lines.offsets[line + 1] = (int64_t)lines.length;
+    }
+    size_t length = random_list(list);
+    CHECK(versions_match_all(list, length, lines.texts, lines.length, lines.offsets, TEXTS + 1, matches, TEXTS) ==
+          VERSIONS_OK);
+    check_range(&lines, list, length, matches);
+    struct range range;
+    range_of(list, length, &range);
+    for (size_t line = 0; line < TEXTS; line++) {
+      matched += matches[line];
+      only_in_range += !matches[line] && in_range(text_of(&lines, line), length_of(&lines, line), &range) == 1;
+    }
+    free_range(&range);
+  }
+  // Many match, and some are only in the range.
+  CHECK(matched > 10000 && only_in_range > 50);
+  release(matches);
+  free_lines(&lines);
+}
+
+// Bounds that no list asks for, and flags that mean nothing: random bytes, and keys with a byte changed, cut or added.
+static void other_bounds(void) {
+  char text[64];
+  for (int i = 0; i < 20000; i++) {
+    size_t lengths[2], key_length;
+    uint8_t *bounds[2];
+    for (int which = 0; which < 2; which++) {
+      uint8_t key[256];
+      size_t length = random_version(text);
+      CHECK(versions_sort_key(text, length, key, sizeof key, &key_length) == VERSIONS_OK);
+      if (random_below(4) == 0) {
+        key_length = random_below(9);
+        for (size_t at = 0; at < key_length; at++) key[at] = (uint8_t)random_below(random_below(2) ? 5 : 256);
+      } else if (random_below(2)) {
+        key[random_below((uint32_t)key_length)] += (uint8_t)(1 + random_below(255));
+      }
+      if (random_below(4) == 0) key[key_length++] = (uint8_t)random_below(256);
+      if (random_below(4) == 0) key_length = random_below((uint32_t)key_length + 1);
+      bounds[which] = (uint8_t *)block(key_length);
+      memcpy(bounds[which], key, key_length);
+      lengths[which] = key_length;
+    }
+    uint32_t flags = random_below(2) ? 15 : random_below(1u << 31) ^ random_below(2) << 31;
+    struct range range = {bounds[0], bounds[1], lengths[0], lengths[1], flags};
+    for (int times = 0; times < 5; times++) {
+      size_t length = random_version(text);
+      char *alone = (char *)block(length);
+      memcpy(alone, text, length);
+      CHECK(in_range(alone, length, &range) != 2);
+      release(alone);
+    }
+    free_range(&range);
+  }
+}
+
+static void ranges(void) {
+  worked_ranges();
+  random_ranges();
+  other_bounds();
+
+  // No bounds: without the flag the high bound is not read.
+  struct range every = {NULL, NULL, 0, 0, VERSIONS_RANGE_IDEAL | VERSIONS_RANGE_GENERAL | VERSIONS_RANGE_COMPLEX};
+  CHECK(in_range("1.2.3", 5, &every) == 1);
+  CHECK(in_range("1_2", 3, &every) == 1);
+  CHECK(in_range("1..2", 4, &every) == 2);
+  CHECK(in_range(NULL, 0, &every) == 2);
+  every.flags = UINT32_MAX;
+  CHECK(in_range("1.2.3", 5, &every) == 0);
+  every.flags = 0;
+  CHECK(in_range("1.2.3", 5, &every) == 0);
+
+  // What is no list has no range, and nothing is written: also if a first member could be.
+  uint8_t low[64], high[64];
+  size_t low_length = 77, high_length = 77;
+  uint32_t flags = 77;
+  static const char *const others[] = {"", ",", ">=1,", ",>=1", ">=1,x", ">=1,>=2,1", "1.2", "**", "^"};
+  memset(low, 170, sizeof low);
+  memset(high, 170, sizeof high);
+  for (size_t i = 0; i < sizeof others / sizeof *others; i++) {
+    CHECK(versions_range(others[i], strlen(others[i]), low, sizeof low, &low_length, high, sizeof high, &high_length,
+                         &flags) == VERSIONS_NO_REQUIREMENTS);
+  }
+  CHECK(versions_range(NULL, 0, NULL, 0, &low_length, NULL, 0, &high_length, &flags) == VERSIONS_NO_REQUIREMENTS);
+  for (size_t i = 0; i < sizeof low; i++) CHECK(low[i] == 170 && high[i] == 170);
+  CHECK(low_length == 77 && high_length == 77 && flags == 77);
+}
+
 // Makes every call on every line, with lists of each operator, and on texts with known results. tests/c counts the
 // allocations of this run, so nothing else may allocate here.
 static void without_memory(const struct lines *lines) {
@@ -756,6 +1087,12 @@ static void without_memory(const struct lines *lines) {
     bool matches = false;
     CHECK(versions_match_all(lists[i], length, lines->texts, lines->length, lines->offsets, count + 1, answers,
                              count) == wanted);
+    if (wanted == VERSIONS_OK) {
+      check_range(lines, lists[i], length, answers);
+    } else {
+      struct range none_at_all;
+      CHECK(!range_of(lists[i], length, &none_at_all));
+    }
     for (size_t line = 0; line < count; line++) {
       int status = versions_matches(lists[i], length, text_of(lines, line), length_of(lines, line), &matches);
       CHECK(wanted != VERSIONS_OK ? status == wanted
@@ -788,6 +1125,8 @@ int main(int count, char **words) {
     long_texts();
   } else if (strcmp(word, "many") == 0) {
     many();
+  } else if (strcmp(word, "ranges") == 0) {
+    ranges();
   } else {
     struct lines lines = read_lines();
     if (strcmp(word, "show") == 0) show(&lines);
@@ -796,7 +1135,7 @@ int main(int count, char **words) {
     else if (strcmp(word, "sort") == 0) sort(&lines);
     else if (strcmp(word, "threads") == 0) threads(&lines);
     else if (strcmp(word, "memory") == 0) without_memory(&lines);
-    else CHECK(!"usage: show, compare, match R, sort, threads, edges, long, many or memory");
+    else CHECK(!"usage: show, compare, match R, sort, threads, edges, long, many, ranges or memory");
     free_lines(&lines);
   }
   return failures == 0 ? 0 : 99;

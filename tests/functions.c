@@ -61,6 +61,23 @@ int proved_versions_matches(const char *list, size_t list_len, const char *text,
   return list_len == 0 && text_len == 0 && matches != NULL ? PASSED : 0;
 }
 
+int proved_versions_range(const char *list, size_t list_len, uint8_t *low, size_t low_room, size_t *low_len,
+                          uint8_t *high, size_t high_room, size_t *high_len, uint32_t *flags) {
+  check_pointer(list);
+  check_pointer(low);
+  check_pointer(high);
+  if (list_len != 0 || low_room != 0 || high_room != 0) return 0;
+  return low_len != NULL && high_len != NULL && flags != NULL ? PASSED : 0;
+}
+
+int proved_versions_in_range(const char *text, size_t text_len, const uint8_t *low, size_t low_len, const uint8_t *high,
+                             size_t high_len, uint32_t flags, bool *is_in) {
+  check_pointer(text);
+  check_pointer(low);
+  check_pointer(high);
+  return text_len == 0 && low_len == 0 && high_len == 0 && flags == 9 && is_in != NULL ? PASSED : 0;
+}
+
 int proved_versions_nth(const char *text, size_t text_len, size_t n, uint32_t *number) {
   check_pointer(text);
   return text_len == 0 && n == 7 && number != NULL ? PASSED : 0;
@@ -104,18 +121,29 @@ int proved_versions_match_all(const char *list, size_t list_len, const char *tex
   return list_len == 0 ? proved_versions_kinds(texts, texts_len, offsets, offsets_len, matches, matches_len) : 0;
 }
 
+int proved_versions_in_range_all(const char *texts, size_t texts_len, const int64_t *offsets, size_t offsets_len,
+                                 const uint8_t *low, size_t low_len, const uint8_t *high, size_t high_len,
+                                 uint32_t flags, uint8_t *answers, size_t answers_len) {
+  check_pointer(low);
+  check_pointer(high);
+  if (low_len != 0 || high_len != 0 || flags != 9) return 0;
+  return proved_versions_kinds(texts, texts_len, offsets, offsets_len, answers, answers_len);
+}
+
 // A null pointer with length 0 is replaced by a pointer that is not null.
 static void null_pointers(void) {
   int32_t order;
   size_t length;
   bool matches;
-  uint32_t number;
+  uint32_t number, flags;
   check("kind", versions_kind(NULL, 0) == PASSED);
   check("compare", versions_compare(NULL, 0, NULL, 0, &order) == PASSED);
   check("compare_total", versions_compare_total(NULL, 0, NULL, 0, &order) == PASSED);
   check("sort_key", versions_sort_key(NULL, 0, NULL, 0, &length) == PASSED);
   check("sort_key_bound", versions_sort_key_bound(77) == 77);
   check("matches", versions_matches(NULL, 0, NULL, 0, &matches) == PASSED);
+  check("range", versions_range(NULL, 0, NULL, 0, &length, NULL, 0, &length, &flags) == PASSED);
+  check("in_range", versions_in_range(NULL, 0, NULL, 0, NULL, 0, 9, &matches) == PASSED);
   check("nth", versions_nth(NULL, 0, 7, &number) == PASSED);
   check("epoch", versions_epoch(NULL, 0, &number) == PASSED);
   check("is_prerelease", versions_is_prerelease(NULL, 0, &matches) == PASSED);
@@ -123,6 +151,7 @@ static void null_pointers(void) {
   check("sort_keys", versions_sort_keys(NULL, 0, NULL, 0, NULL, 0, NULL, 0) == PASSED);
   check("sort", versions_sort(NULL, 0, NULL, 0, NULL, 0, NULL, 0, NULL, 0) == PASSED);
   check("match_all", versions_match_all(NULL, 0, NULL, 0, NULL, 0, NULL, 0) == PASSED);
+  check("in_range_all", versions_in_range_all(NULL, 0, NULL, 0, NULL, 0, NULL, 0, 9, NULL, 0) == PASSED);
 }
 
 // The level x86-64-v2 of the System V ABI for AMD64, by the bits in Intel's and AMD's manuals.

@@ -4,4 +4,6 @@
 #[cfg(test)]
 mod matching;
 #[cfg(test)]
+mod ranges;
+#[cfg(test)]
 mod requirements;

@@ -9,12 +9,12 @@ use Rattle.std.specs.Cmp.{first_so, second_so}
 use Rattle.std.specs.List.{list_all, prefix_len, take_while}
 use Rattle.std.specs.Str.Parse.{digits_value}
 use Rattle.version_parts.specs.Bytes.{dot, is_identifier_byte, is_metadata_byte}
-use Rattle.version_parts.specs.Codes.{list_bytes}
+use Rattle.version_parts.specs.Codes.{items_bytes, list_bytes}
 use Rattle.version_parts.specs.DigitRun.{run_value}
 use Rattle.version_parts.specs.Front.{begins}
 use Rattle.version_parts.specs.Lists.{with_end}
 use Rattle.version_parts.specs.NumberBytes.{number_bytes}
-use Rattle.version_parts.specs.PartKey.{part_bytes, part_key, parts_bytes}
+use Rattle.version_parts.specs.PartKey.{part_bytes, part_key}
 use Rattle.version_parts.specs.Pieces.{after_number_bytes, place_bytes}
 use Rattle.version_parts.specs.ReleaseOrder.{chunk_bytes, release_bytes}
 use Rattle.version_parts.proofs.PieceBytes.{identifiers_taken, take_while-all}
@@ -50,8 +50,8 @@ other_dot b h k = rw (h, k) refl
 -- a part and a dot, and the parts behind them
 pub part_and_more : (text rest behind : List ℕ)
     → rest ≡ drop (prefix_len is_ascii_alphanumeric text) text → rest ≡ dot ∷ behind
-    → parts_bytes (parts_of (take_while is_section_byte text))
-    ≡ part_bytes (Some (part_key (take_while is_ascii_alphanumeric text))) ++ parts_bytes
+    → items_bytes part_bytes (parts_of (take_while is_section_byte text))
+    ≡ part_bytes (Some (part_key (take_while is_ascii_alphanumeric text))) ++ items_bytes part_bytes
     (parts_of (take_while is_section_byte behind))
 part_and_more text rest behind r d =
     let run = take_while is_ascii_alphanumeric text in
@@ -59,8 +59,8 @@ part_and_more text rest behind r d =
     let cut : pieces (take_while is_section_byte text) ≡ run ∷ pieces left =
     next_piece is_ascii_alphanumeric is_section_byte alphanumeric_section
     (λ b. b == dot) alphanumeric_no_dot text dot behind (sym r ∙ d) refl refl in
-    ap (λ (l : List (List ℕ)). parts_bytes (map part_key l)) cut
-    ∙ more_items part_bytes (part_key run) (parts_of left)
+    ap (λ (l : List (List ℕ)). items_bytes part_bytes (map part_key l)) cut
+    ∙ flat_map-cons part_bytes (Some (part_key run)) (map Some (parts_of left))
 
 pub rest_and_more : (text rest behind : List ℕ)
     → rest ≡ drop (prefix_len is_ascii_alphanumeric text) text → rest ≡ dot ∷ behind
@@ -84,16 +84,16 @@ nothing_more text rest r other =
 -- the last part
 pub last_part : (text rest : List ℕ) → rest ≡ drop (prefix_len is_ascii_alphanumeric text) text
     → begins (λ b. b == dot) rest ≡ false
-    → parts_bytes (parts_of (take_while is_section_byte text))
-    ≡ part_bytes (Some (part_key (take_while is_ascii_alphanumeric text))) ++ 2 ∷ []
+    → items_bytes part_bytes (parts_of (take_while is_section_byte text))
+    ≡ part_bytes (Some (part_key (take_while is_ascii_alphanumeric text)))
 last_part text rest r other =
     let run = take_while is_ascii_alphanumeric text in
     let cut : pieces (take_while is_section_byte text) ≡ run ∷ [] =
     last_piece is_ascii_alphanumeric is_section_byte alphanumeric_section
     (λ b. b == dot) alphanumeric_no_dot text
     (ap (begins is_section_byte) (sym r) ∙ nothing_more text rest r other) in
-    ap (λ (l : List (List ℕ)). parts_bytes (map part_key l)) cut
-    ∙ last_item part_bytes (part_key run)
+    ap (λ (l : List (List ℕ)). items_bytes part_bytes (map part_key l)) cut
+    ∙ flat_map-cons part_bytes (Some (part_key run)) [] ∙ append-nil (part_bytes (Some (part_key run)))
 
 pub rest_of_last : (text rest : List ℕ) → rest ≡ drop (prefix_len is_ascii_alphanumeric text) text
     → begins (λ b. b == dot) rest ≡ false
@@ -106,13 +106,13 @@ rest_of_last text rest r other =
 -- a list begins with its first part, whatever follows
 pub first_part : (text rest : List ℕ) → rest ≡ drop (prefix_len is_ascii_alphanumeric text) text
     → (more : List ℕ)
-    × (parts_bytes (parts_of (take_while is_section_byte text)) ≡ part_bytes (Some (part_key (take_while is_ascii_alphanumeric text))) ++ more)
-first_part text [] r = (2 ∷ [], last_part text [] r refl)
+    × (items_bytes part_bytes (parts_of (take_while is_section_byte text)) ≡ part_bytes (Some (part_key (take_while is_ascii_alphanumeric text))) ++ more)
+first_part text [] r = ([], last_part text [] r refl ∙ sym (append-nil _))
 first_part text (b ∷ behind) r = elim (cases_Bool (b == dot)) [
   | inl same ↦
       let is : b ∷ behind ≡ dot ∷ behind = ap (λ (n : ℕ). n ∷ behind) (eqb-true b dot same) in
-      (parts_bytes (parts_of (take_while is_section_byte behind)), part_and_more text (b ∷ behind) behind r is)
-  | inr other ↦ (2 ∷ [], last_part text (b ∷ behind) r other)
+      (items_bytes part_bytes (parts_of (take_while is_section_byte behind)), part_and_more text (b ∷ behind) behind r is)
+  | inr other ↦ ([], last_part text (b ∷ behind) r other ∙ sym (append-nil _))
 ]
 
 -- ---- releases

@@ -4,7 +4,11 @@ pub mod ChunkTest
 pub mod CommonParts
 pub mod DotPieces
 pub mod GeneralKind
+pub mod HeldBounds
+pub mod InRange
+pub mod KeptParts
 pub mod ListOrder
+pub mod ListRange
 pub mod MajorText
 pub mod Members
 pub mod MessKind

@@ -1,5 +1,5 @@
 -- Bytes written into a buffer.
-use Rattle.std.proofs.Common.{◌≡◌, ◌∙◌, ◌+◌, ◌-◌, ◌<◌, ◌≤◌, ◌^◌, ℕ, zero, suc, List, [], ◌∷◌, length, min, set, refl, ap, sym, arith}
+use Rattle.std.proofs.Common.{◌≡◌, ◌∙◌, ◌+◌, ◌-◌, ◌<◌, ◌≤◌, ◌^◌, ℕ, zero, suc, List, [], ◌∷◌, ◌++◌, drop, length, min, set, refl, ap, sym, arith}
 use Rattle.version_texts.specs.Sinks.{put_at, saturated}
 
 -- writing nothing changes nothing
@@ -31,3 +31,17 @@ pub byte_past : (room : List ℕ) (end next b : ℕ) (more : List ℕ) → lengt
     → (put_at room next more ≡ put_at room end (b ∷ more)) × (saturated (next + length more) ≡ saturated (end + length (b ∷ more)))
 byte_past room end next b more past small is =
     (put_past room next more (omega (arith, is)) ∙ sym (put_past room end (b ∷ more) past), omega (arith, is))
+
+-- bytes that fit replace the first bytes, and the rest stays
+pub put_fits : (room bytes : List ℕ) → length bytes ≤ length room → put_at room 0 bytes ≡ bytes ++ drop (length bytes) room
+put_fits [] [] fits = refl
+put_fits [] (b ∷ bytes) fits = absurd (omega (arith, fits))
+put_fits (x ∷ room) [] fits = refl
+put_fits (x ∷ room) (b ∷ bytes) fits = ap (λ (l : List ℕ). b ∷ l) (put_fits room bytes (omega (arith, fits)))
+
+-- a buffer keeps its length
+pub length-put : (room : List ℕ) (start : ℕ) (bytes : List ℕ) → length (put_at room start bytes) ≡ length room
+length-put [] start bytes = refl
+length-put (x ∷ room) zero [] = refl
+length-put (x ∷ room) zero (b ∷ bytes) = ap suc (length-put room 0 bytes)
+length-put (x ∷ room) (suc start) bytes = ap suc (length-put room start bytes)

@@ -1,3 +1,4 @@
+pub mod Bounds
 pub mod Class
 pub mod Matching
 pub mod Parts

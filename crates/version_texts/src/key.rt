@@ -5,7 +5,7 @@ ghost use Rattle.std.specs.Char.{is_ascii_alphanumeric, is_ascii_digit};
 ghost use Rattle.std.specs.List.{list_all, prefix_len, take_while};
 ghost use Rattle.std.specs.Str.Parse.{digits_value};
 ghost use Rattle.version_parts.specs.Bytes.{dot, is_identifier_byte, is_metadata_byte};
-ghost use Rattle.version_parts.specs.Codes.{list_bytes};
+ghost use Rattle.version_parts.specs.Codes.{items_bytes, list_bytes};
 ghost use Rattle.version_parts.specs.DigitRun.{run_value};
 ghost use Rattle.version_parts.specs.Front.{begins};
 ghost use Rattle.version_parts.specs.NumberBytes.{length_bytes, number_bytes};
@@ -13,7 +13,9 @@ ghost use Rattle.version_parts.specs.PartKey.{part_bytes, part_key, parts_bytes}
 ghost use Rattle.version_parts.specs.ReleaseOrder.{chunk_bytes, release_bytes};
 ghost use Rattle.version_parts.specs.Split.{split_bytes, split_of};
 ghost use Rattle.versions.specs.KeyBytes.{key_bytes};
+ghost use Rattle.versions.specs.Range.{begun};
 ghost use Rattle.versions.specs.Tail.{section_bytes, tail_bytes};
+ghost use Rattle.version_texts.specs.Parts.{parts_behind};
 ghost use Rattle.version_texts.specs.Shape.{body_in, epoch_in, is_section_byte, is_tail_byte, tail_in, Fits};
 ghost use Rattle.version_texts.specs.TextKey.{chunk_of, chunks_of, parts_of, sections_of, tail_mark, tail_of, text_key};
 
@@ -112,12 +114,12 @@ fn after_dot(text: &[u8]) -> Option<&[u8]>
     }
 }
 
-// Writes the parts at the start of a text, with dots between them, and the end of the list, and returns the rest.
-// Returns None once the sink is decided.
+// Writes the parts at the start of a text, with dots between them, and returns the rest. Returns None once the sink is
+// decided.
 #[inline(always)]
-fn put_list<'t, S: Sink>(sink: &mut S, text: &'t [u8]) -> Option<&'t [u8]>
+fn put_parts<'t, S: Sink>(sink: &mut S, text: &'t [u8]) -> Option<&'t [u8]>
     ensures bytes { S.takes sink.old
-        (parts_bytes (parts_of (take_while is_section_byte text.now))) sink.new }
+        (items_bytes part_bytes (parts_of (take_while is_section_byte text.now))) sink.new }
     ensures rest { IfSome result
         (λ rest. rest.now ≡ drop (prefix_len is_section_byte text.now) text.now) }
     ensures decided { IfNone result
@@ -131,12 +133,24 @@ fn put_list<'t, S: Sink>(sink: &mut S, text: &'t [u8]) -> Option<&'t [u8]>
         }
         match after_dot(rest) {
             Some(behind) => left = behind,
-            None => {
-                sink.put(2);
-                return Some(rest);
-            }
+            None => return Some(rest),
         }
     }
+}
+
+// Writes the same parts and the end of the list, and returns the rest. Returns None once the sink is decided.
+#[inline(always)]
+fn put_list<'t, S: Sink>(sink: &mut S, text: &'t [u8]) -> Option<&'t [u8]>
+    ensures bytes { S.takes sink.old
+        (parts_bytes (parts_of (take_while is_section_byte text.now))) sink.new }
+    ensures rest { IfSome result
+        (λ rest. rest.now ≡ drop (prefix_len is_section_byte text.now) text.now) }
+    ensures decided { IfNone result
+        ((bytes : List ℕ) → S.takes sink.new bytes sink.new) }
+{
+    let rest = put_parts(sink, text)?;
+    sink.put(2);
+    Some(rest)
 }
 
 // Writes a chunk of a release, by its text.
@@ -240,7 +254,7 @@ fn put_epoch<S: Sink>(sink: &mut S, digits: &[u8])
 
 // The epoch in a text, without its colon.
 #[inline(always)]
-fn epoch_at(text: &[u8], shape: Shape) -> &[u8]
+pub(crate) fn epoch_at(text: &[u8], shape: Shape) -> &[u8]
     requires { Fits text.now shape }
     ensures { result.now ≡ epoch_in text.now shape }
 {
@@ -252,7 +266,7 @@ fn epoch_at(text: &[u8], shape: Shape) -> &[u8]
 
 // The body in a text.
 #[inline(always)]
-fn body_at(text: &[u8], shape: Shape) -> &[u8]
+pub(crate) fn body_at(text: &[u8], shape: Shape) -> &[u8]
     requires { Fits text.now shape }
     ensures { result.now ≡ body_in text.now shape }
 {
@@ -269,6 +283,21 @@ fn tail_at(text: &[u8], shape: Shape) -> &[u8]
         return &[];
     }
     &text[shape.end + 1..shape.tail_end]
+}
+
+/// Writes what the keys of an epoch begin with, by its digits, if their bodies begin with the parts of a text. Returns
+/// early once the sink is decided. Doesn't allocate.
+#[inline(always)]
+pub fn put_begun<S: Sink>(sink: &mut S, digits: &[u8], parts: Option<&[u8]>)
+    requires digits { list_all is_ascii_digit digits.now ≡ true }
+    requires parts { IfSome parts (λ text. list_all is_section_byte text.now ≡ true) }
+    ensures { S.takes sink.old (begun (digits_value 10 digits.now) (parts_behind parts.entry))
+        sink.new }
+{
+    put_epoch(sink, digits);
+    if let Some(text) = parts {
+        put_parts(sink, text);
+    }
 }
 
 /// Writes the key of a version, by its text and its shape. Returns early once the sink is decided. Doesn't allocate.

@@ -1,13 +1,16 @@
 //! Versions and requirements borrowed from their texts. A version is its text and where its pieces lie in it: its kind,
 //! what its tail is, where the body begins and ends, where the tail ends. One scan tells these, and with the text they
-//! answer every question: the order, the key, and what a requirement matches. Only `to_owned` and `append_key` allocate.
+//! answer every question: the order, the key, and what a requirement matches. Only `to_owned`, `append_key`,
+//! `append_end` and `range` allocate.
 #![tactic(auto)]
 
+mod bounds;
 mod class;
 mod key;
 mod laws;
 mod matching;
 mod order;
+mod range;
 mod requirement_ref;
 mod requirements_ref;
 mod scan;
@@ -16,6 +19,7 @@ mod sink;
 mod sinks;
 mod versioning_ref;
 
+pub use bounds::{Held, rooms_for, write_range};
 pub use requirement_ref::RequirementRef;
 pub use requirements_ref::{RequirementsRef, list_matches};
 pub use sink::Sink;

@@ -9,7 +9,7 @@ ghost use Rattle.versions.specs.Matching.{MatchesCaret, MatchesTilde};
 ghost use Rattle.versions.specs.VersionMatch.{MatchesCaret as PartsCaret, MatchesTilde as PartsTilde};
 ghost use Rattle.versions.specs.Versioning.{versioning_of, versioning_plain_cmp, PlainVersioning};
 
-mod parts;
+pub(crate) mod parts;
 
 use crate::matching::parts::{numbers_match_caret, parts_match_caret, parts_match_tilde};
 use crate::order::compare_epochs;

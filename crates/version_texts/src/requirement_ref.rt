@@ -1,19 +1,22 @@
 //! Requirements that are borrowed from their texts.
 
-ghost use Rattle.std.specs.Prelude.{◌≡◌, ◌↔◌, IsTrue};
+ghost use Rattle.std.specs.Prelude.{◌≡◌, ◌↔◌, IfOk, IsTrue};
 ghost use Rattle.std.specs.Option.{option_map};
 ghost use Rattle.version_parts.specs.Front.{after_mark};
 ghost use Rattle.version_texts.specs.RequirementRef.{plain_requirement_ref};
 ghost use Rattle.version_texts.specs.VersioningRef.{plain_versioning_ref};
 ghost use Rattle.versions.specs.Matching.{Matches};
 ghost use Rattle.versions.specs.Op.{after_word, op_front, op_text};
+ghost use Rattle.versions.specs.Range.{plain_range, requirement_range, IsIn};
 ghost use Rattle.versions.specs.Requirement.{requirement_of};
+ghost use Rattle.versions.specs.Versioning.{PlainVersioning};
 
 use crate::versioning_ref::VersioningRef;
-use versions::{Op, asks_for};
+use std::alloc::{AllocError, Global};
+use versions::{Op, Range, Requirement, asks_for, ends_of};
 
-/// A requirement borrowed from its text: a `Requirement` that owns nothing. No call allocates. docs/REQUIREMENTS.md has
-/// the rules.
+/// A requirement borrowed from its text: a `Requirement` that owns nothing. Only `range` allocates.
+/// docs/REQUIREMENTS.md has the rules.
 #[derive(Clone, Copy)]
 pub struct RequirementRef<'a> {
     pub op: Op,
@@ -55,6 +58,36 @@ impl<'a> RequirementRef<'a> {
         match &self.version {
             Some(wanted) => asks_for(self.op, wanted, version),
             None => self.op == Op::Wildcard,
+        }
+    }
+
+    /// Returns the range of keys that it asks for. `Err` means allocation failure.
+    #[tactic(auto, using(versions::proofs::RangeLaws::requirement_in, versions::proofs::RangeLaws::requirement_exact))]
+    pub fn range(&self, alloc: Global) -> Result<Range, AllocError>
+        ensures range { IfOk result
+            (λ range. plain_range range ≡ requirement_range (plain_requirement_ref self.now)) }
+
+        // Each version that it matches is in the range. If the range is exact, it matches each version in it.
+        ensures within { IfOk result (λ range. (v : PlainVersioning)
+            → Matches (plain_requirement_ref self.now) v → IsIn (plain_range range) v) }
+        ensures exact { IfOk result (λ range. (v : PlainVersioning) → IsTrue range.is_exact
+            → IsIn (plain_range range) v → Matches (plain_requirement_ref self.now) v) }
+    {
+        self.own_range(alloc)
+    }
+
+    // Returns the range of keys that it asks for.
+    fn own_range(&self, alloc: Global) -> Result<Range, AllocError>
+        ensures { IfOk result
+            (λ range. plain_range range ≡ requirement_range (plain_requirement_ref self.now)) }
+    {
+        match &self.version {
+            Some(version) => version.range(ends_of(self.op, version.kind()), alloc),
+            None => Requirement {
+                op: self.op,
+                version: None,
+            }
+            .range(alloc),
         }
     }
 }

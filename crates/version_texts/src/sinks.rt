@@ -2,16 +2,19 @@
 
 ghost use Rattle.std.specs.Prelude.{◌≡◌, ◌∷◌, ◌++◌, ◌+◌, [], List, ℕ, IsTrue, OnErr, OnOk, length};
 ghost use Rattle.version_parts.specs.Lists.{bytes_cmp, GrowsWithin};
+ghost use Rattle.versions.specs.Ends.{end_bytes};
 ghost use Rattle.versions.specs.KeyBytes.{key_bytes};
 ghost use Rattle.version_texts.specs.Shape.{Fits};
 ghost use Rattle.version_texts.specs.Sinks.{between_with, count_with, is_between, leads_both, leads_none, list_both, list_none, order_with, put_at, room_both, room_none, room_with, saturated, Leads, LeadsList, LeadsRoom};
 ghost use Rattle.version_texts.specs.TextKey.{text_key};
 
 use crate::key::put_key;
+use crate::range::put_end;
 use crate::shape::Shape;
 use crate::sink::Sink;
 use std::alloc::AllocError;
 use std::cmp::Ordering;
+use versions::End;
 
 /// A count of bytes. Past the largest number it stays there.
 #[derive(Drop)]
@@ -279,6 +282,61 @@ pub fn append_key(text: &[u8], shape: Shape, list: &mut Vec<u8>) -> Result<(), A
         refused: false,
     };
     put_key(&mut sink, text, shape);
+    if sink.refused {
+        return Err(AllocError);
+    }
+    Ok(())
+}
+
+/// Returns how many bytes an end of a range has. Doesn't allocate.
+pub fn end_length(text: &[u8], shape: Shape, end: End) -> usize
+    requires { Fits text.now shape }
+    ensures { result ≡ saturated (length (end_bytes end (text_key text.now shape))) }
+{
+    let mut sink = Count { length: 0 };
+    put_end(&mut sink, text, shape, end);
+    sink.length()
+}
+
+/// Writes an end of a range into a buffer from a place on, as far as it fits, and returns the place after it. Doesn't
+/// allocate.
+#[inline(never)]
+pub fn write_end(text: &[u8], shape: Shape, end: End, room: &mut [u8], start: usize) -> usize
+    requires { Fits text.now shape }
+    ensures bytes { room.new ≡ put_at room.old start (end_bytes end (text_key text.now shape)) }
+    ensures end { result ≡ saturated (start + length (end_bytes end (text_key text.now shape))) }
+{
+    let mut sink = Room { room, end: start };
+    put_end(&mut sink, text, shape, end);
+    sink.end()
+}
+
+/// Compares an end of a range with given bytes, as far as they are the same and one byte further. Doesn't allocate.
+pub fn compare_end(text: &[u8], shape: Shape, end: End, bytes: &[u8]) -> Ordering
+    requires { Fits text.now shape }
+    ensures { result ≡ bytes_cmp (end_bytes end (text_key text.now shape)) bytes.now }
+{
+    let mut sink = Beside {
+        left: bytes,
+        order: Ordering::Equal,
+    };
+    put_end(&mut sink, text, shape, end);
+    sink.order()
+}
+
+/// Appends an end of a range to a list. `Err` means allocation failure; the list then ends with a prefix of the end.
+pub fn append_end(text: &[u8], shape: Shape, end: End, list: &mut Vec<u8>) -> Result<(), AllocError>
+    requires { Fits text.now shape }
+    ensures ok { OnOk result (list.new.items
+        ≡ list.old.items ++ end_bytes end (text_key text.now shape)) }
+    ensures err { OnErr result (GrowsWithin list.old.items list.new.items
+        (end_bytes end (text_key text.now shape))) }
+{
+    let mut sink = Growing {
+        list,
+        refused: false,
+    };
+    put_end(&mut sink, text, shape, end);
     if sink.refused {
         return Err(AllocError);
     }

@@ -9,15 +9,15 @@ use crate::order::piece::through_dot;
 use crate::scan::scan;
 use crate::shape::{Shape, TailKind};
 use crate::sink::Sink;
-use crate::{key, matching, order, sinks};
+use crate::{key, matching, order, range, sinks};
 use std::alloc::{AllocError, Global};
 use std::cmp::Ordering;
 use std::{fmt, str};
-use versions::{Asked, Kind, Versioning};
+use versions::{Asked, End, Ends, Kind, Kinds, Range, Versioning};
 
 /// A version of the first kind that fits its text, borrowed from that text: a `Versioning` that owns nothing. It
-/// compares and prints as that `Versioning` does, and has the same numbers. Only `to_owned` and `append_key` allocate.
-/// Each call takes time at most linear in the text.
+/// compares and prints as that `Versioning` does, and has the same numbers. Only `to_owned`, `append_key` and
+/// `append_end` allocate. Each call takes time at most linear in the text.
 #[derive(Clone, Copy)]
 pub struct VersioningRef<'a> {
     text: &'a [u8],
@@ -26,12 +26,14 @@ pub struct VersioningRef<'a> {
 }
 
 impl<'a> VersioningRef<'a> {
-    ghost use Rattle.std.specs.Prelude.{◌+◌, ◌++◌, length, IfOk, OnErr, OnOk};
+    ghost use Rattle.std.specs.Prelude.{◌+◌, ◌++◌, ◌↔◌, length, IfOk, IsTrue, OnErr, OnOk};
     ghost use Rattle.std.specs.Option.{option_map};
     ghost use Rattle.std.specs.declared.cmp.Ordering.TheVariants.{Equal};
     ghost use Rattle.version_parts.specs.Lists.{bytes_cmp, GrowsWithin};
+    ghost use Rattle.versions.specs.Ends.{end_bytes, range_from};
     ghost use Rattle.versions.specs.Key.{key_of, precedence};
     ghost use Rattle.versions.specs.KeyBytes.{key_bytes};
+    ghost use Rattle.versions.specs.Range.{has_kind, plain_range, AreBetween};
     ghost use Rattle.versions.specs.Versioning.{is_prerelease, plain_versioning, versioning_epoch, versioning_nth, versioning_of, versioning_plain_cmp, versioning_text, VersioningOwns};
     ghost use Rattle.versions.specs.VersioningRef.{plain_versioning_ref as plain_read};
     ghost use Rattle.version_texts.specs.Sinks.{is_between, put_at, saturated};
@@ -178,6 +180,99 @@ impl<'a> VersioningRef<'a> {
             (bytes_cmp (key_bytes (key_of (plain_versioning_ref self.now))) high.now) }
     {
         sinks::key_between(self.text, self.shape, low, high)
+    }
+
+    /// Returns whether its key is at least the low bound, and below the high one, if there is one, and its kind is one of
+    /// the kinds: whether the version is in a range. Any bytes may be bounds. Doesn't allocate.
+    #[inline(always)]
+    pub fn is_in(&self, low: &[u8], high: Option<&[u8]>, kinds: Kinds) -> bool
+        ensures { IsTrue result ↔ (AreBetween low.now (option_map (λ bound. bound.now) high.entry)
+            (key_bytes (key_of (plain_versioning_ref self.now)))
+            × IsTrue (has_kind kinds (versioning_kind (plain_versioning_ref self.now)))) }
+    {
+        if !kinds.has(self.shape.kind) {
+            return false;
+        }
+        match high {
+            Some(high) => self.has_key_between(low, high),
+            None => self.compare_key(low).is_ge(),
+        }
+    }
+
+    /// Appends the bytes of an end of a range of its key to a list. `Err` means allocation failure; the list then ends
+    /// with a prefix of the bytes.
+    pub fn append_end(&self, end: End, list: &mut Vec<u8>) -> Result<(), AllocError>
+        ensures ok { OnOk result (list.new.items
+            ≡ list.old.items ++ end_bytes end (key_of (plain_versioning_ref self.now))) }
+        ensures err { OnErr result (GrowsWithin list.old.items list.new.items
+            (end_bytes end (key_of (plain_versioning_ref self.now)))) }
+    {
+        sinks::append_end(self.text, self.shape, end, list)
+    }
+
+    /// Writes the bytes of an end of a range into a sink. Doesn't allocate.
+    #[inline(always)]
+    pub fn put_end<S: Sink>(&self, end: End, sink: &mut S)
+        ensures { S.takes sink.old (end_bytes end (key_of (plain_versioning_ref self.now)))
+            sink.new }
+    {
+        range::put_end(sink, self.text, self.shape, end);
+    }
+
+    /// Writes the bytes of an end of a range into a buffer from a place on, as far as they fit, and returns the place
+    /// after them. Doesn't allocate.
+    #[inline(always)]
+    pub fn write_end(&self, end: End, room: &mut [u8], start: usize) -> usize
+        ensures bytes { room.new ≡ put_at room.old start
+            (end_bytes end (key_of (plain_versioning_ref self.now))) }
+        ensures end { result ≡ saturated (start
+            + length (end_bytes end (key_of (plain_versioning_ref self.now)))) }
+    {
+        sinks::write_end(self.text, self.shape, end, room, start)
+    }
+
+    /// Returns how many bytes an end of a range has. Doesn't allocate.
+    pub fn end_length(&self, end: End) -> usize
+        ensures { result
+            ≡ saturated (length (end_bytes end (key_of (plain_versioning_ref self.now)))) }
+    {
+        sinks::end_length(self.text, self.shape, end)
+    }
+
+    /// Compares the bytes of an end of a range with given bytes, up to the first difference. Doesn't allocate.
+    pub fn compare_end(&self, end: End, bytes: &[u8]) -> Ordering
+        ensures { result ≡ bytes_cmp (end_bytes end (key_of (plain_versioning_ref self.now)))
+            bytes.now }
+    {
+        sinks::compare_end(self.text, self.shape, end, bytes)
+    }
+
+    // Returns the range that has these ends. `Err` means allocation failure.
+    pub(crate) fn range(&self, ends: Ends, alloc: Global) -> Result<Range, AllocError>
+        ensures { IfOk result (λ range. plain_range range
+            ≡ range_from ends (key_of (plain_versioning_ref self.now))) }
+    {
+        let low = self.end(ends.low, alloc)?;
+        let high = match ends.high {
+            Some(high) => Some(self.end(high, alloc)?),
+            None => None,
+        };
+        Ok(Range {
+            low,
+            high,
+            kinds: ends.kinds,
+            is_exact: ends.is_exact,
+        })
+    }
+
+    // Returns the bytes of an end of a range. `Err` means allocation failure.
+    fn end(&self, end: End, alloc: Global) -> Result<Vec<u8>, AllocError>
+        ensures { IfOk result (λ bytes. bytes.items
+            ≡ end_bytes end (key_of (plain_versioning_ref self.now))) }
+    {
+        let mut bytes = Vec::new(alloc);
+        self.append_end(end, &mut bytes)?;
+        Ok(bytes)
     }
 
     /// Compares two versions by kind, then field by field. `Ord` breaks ties of precedence by this. Doesn't allocate.

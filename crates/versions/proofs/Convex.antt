@@ -38,10 +38,10 @@ not_below_turned Greater h = refl
 
 module _ {K : Type 0} (R : K → K → Ordering) (total : IsTotalOrder R) where
   -- the first is not greater than the second; `back` shows it from the swapped comparison
-  abbrev UpTo : K → K → Type 0
+  abbrev pub UpTo : K → K → Type 0
   UpTo a b = is_gt (R a b) ≡ false
 
-  back : (a b : K) → ¬ (R b a ≡ Less) → UpTo a b
+  pub back : (a b : K) → ¬ (R b a ≡ Less) → UpTo a b
   back a b h = rw (total.antisymm a b) (not_below_turned (R b a) h)
 
   above_stays : (w a b : K) → R a w ≡ Greater → UpTo a b → R b w ≡ Greater
@@ -63,7 +63,7 @@ module _ {K : Type 0} (R : K → K → Ordering) (total : IsTotalOrder R) where
       by Equal same = cc (turned, upto total w b c (rw (total.antisymm w b, same) refl) h)
       by Greater same = cc (turned, upto total w b c (rw (total.antisymm w b, same) refl) h)
 
-  not_below_stays : (w a b : K) → ¬ (R a w ≡ Less) → UpTo a b → ¬ (R b w ≡ Less)
+  pub not_below_stays : (w a b : K) → ¬ (R a w ≡ Less) → UpTo a b → ¬ (R b w ≡ Less)
   not_below_stays w a b h upward below =
       let still : is_gt (R w b) ≡ false = upto total w a b (back w a h) upward in
       cc (rw (total.antisymm w b, below) at still)

@@ -16,11 +16,14 @@ pub mod OpReading
 pub mod Orders
 pub mod PartsWritten
 pub mod Precedence
+pub mod RangeEnds
+pub mod RangeLaws
 pub mod RequirementReading
 pub mod RequirementsReading
 pub mod ScannedLists
 pub mod SemVerOrder
 pub mod SemVerReading
+pub mod SeriesRange
 pub mod SortKey
 pub mod SpelledTexts
 pub mod Tail
@@ -30,3 +33,4 @@ pub mod VersionReading
 pub mod VersioningReading
 pub mod Widening
 pub mod Worked
+pub mod WorkedRanges

@@ -1,5 +1,6 @@
 pub mod BodyParts
 pub mod Conversions
+pub mod Ends
 pub mod Errors
 pub mod Json
 pub mod Key
@@ -14,6 +15,7 @@ pub mod MessLaws
 pub mod Op
 pub mod Orders
 pub mod OrdersLaws
+pub mod Range
 pub mod Requirement
 pub mod Requirements
 pub mod RequirementsRef
@@ -31,3 +33,4 @@ pub mod VersionOrder
 pub mod Versioning
 pub mod VersioningLaws
 pub mod Worked
+pub mod WorkedRanges

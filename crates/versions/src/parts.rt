@@ -1,7 +1,9 @@
 //! The parts of a general version, one after another, and whether `~` or `^` matches them.
 
-ghost use Rattle.std.specs.Prelude.{◌≡◌, ◌∷◌, ◌↔◌, [], IfNone, IfSome, IsTrue, Some};
-ghost use Rattle.version_parts.specs.PartKey.{part_cmp, part_key};
+ghost use Rattle.std.specs.Prelude.{◌≡◌, ◌∷◌, ◌++◌, ◌↔◌, [], map, IfNone, IfSome, IsTrue, Some};
+ghost use Rattle.version_parts.specs.Chunk.{plain_chunk};
+ghost use Rattle.version_parts.specs.Last.{last_text, plain_last};
+ghost use Rattle.version_parts.specs.PartKey.{chunk_parts, part_cmp, part_key};
 ghost use Rattle.versions.specs.BodyParts.{key_of_part, parts_left};
 ghost use Rattle.versions.specs.Key.{key_of_version};
 ghost use Rattle.versions.specs.Version.{plain_version};
@@ -14,14 +16,14 @@ use version_parts::{Chunk, ChunkRef, Last};
 
 // A part of a general version: a chunk, or the last part.
 #[derive(Clone, Copy)]
-enum BodyPart<'a> {
+pub(crate) enum BodyPart<'a> {
     Chunk(ChunkRef<'a>),
     Last(&'a Last),
 }
 
 impl<'a> BodyPart<'a> {
     // Returns the bytes of the printed text.
-    fn text(self) -> PartText<'a>
+    pub(crate) fn text(self) -> PartText<'a>
         ensures { part_key result ≡ key_of_part self.entry }
     {
         match self {
@@ -40,7 +42,7 @@ impl<'a> BodyPart<'a> {
 
     // Returns whether the part is the number 0 without a suffix.
     #[tactic(auto, using(crate::proofs::VersionMatch::zero_tied))]
-    fn is_plain_zero(self) -> bool
+    pub(crate) fn is_plain_zero(self) -> bool
         ensures { result ≡ is_plain_zero (key_of_part self.entry) }
     {
         compare_parts(self.text(), PartText::number(0)).is_eq()
@@ -59,14 +61,22 @@ impl<'a> BodyParts<'a> {
     pub(crate) fn of(version: &'a Version) -> BodyParts<'a>
         ensures { parts_left result ≡ (key_of_version (plain_version version.now)).body }
     {
+        BodyParts::with_last(version.chunks.0.as_slice(), &version.last)
+    }
+
+    // Returns chunks as parts, and a last part after them.
+    pub(crate) fn with_last(chunks: &'a [Chunk], last: &'a Last) -> BodyParts<'a>
+        ensures { parts_left result ≡ chunk_parts (map plain_chunk chunks.now)
+            ++ part_key (last_text (plain_last last.now)) ∷ [] }
+    {
         BodyParts {
-            chunks: version.chunks.0.as_slice(),
-            last: Some(&version.last),
+            chunks,
+            last: Some(last),
         }
     }
 
     // Takes the first of the parts.
-    fn take_first(&mut self) -> Option<BodyPart<'a>>
+    pub(crate) fn take_first(&mut self) -> Option<BodyPart<'a>>
         ensures some { IfSome result
             (λ part. parts_left self.old ≡ key_of_part part ∷ parts_left self.new) }
         ensures none { IfNone result (parts_left self.old ≡ []) }

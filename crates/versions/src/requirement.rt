@@ -5,14 +5,19 @@ ghost use Rattle.std.specs.Option.{is_some, option_map};
 ghost use Rattle.version_parts.specs.Front.{Reads};
 ghost use Rattle.versions.specs.Errors.{IllegalOp, ReadsOr};
 ghost use Rattle.versions.specs.Matching.{IsConvex, Matches};
+ghost use Rattle.versions.specs.Range.{plain_range, requirement_range, IsIn};
 ghost use Rattle.versions.specs.Requirement.{plain_requirement, requirement_front, requirement_of, requirement_text, PlainRequirement, RequirementOwns, SpellsRequirement};
-ghost use Rattle.versions.specs.Versioning.{plain_versioning};
+ghost use Rattle.versions.specs.Versioning.{plain_versioning, PlainVersioning};
 ghost use Rattle.versions.specs.declared.op.Op.TheVariants.{Wildcard};
 
 use crate::asked::asks_for;
 use crate::errors::{Error, ReadError};
 use crate::op::Op;
+use crate::range::Range;
+use crate::range::build::range_from;
+use crate::range::ends::{ends_of, ends_without_version};
 use crate::reading::or_illegal;
+use crate::semver::SemVer;
 use crate::versioning::Versioning;
 use std::alloc::{AllocError, Global};
 use std::fmt;
@@ -118,6 +123,36 @@ impl Requirement {
         match &self.version {
             Some(wanted) => asks_for(self.op, wanted, version),
             None => self.op == Op::Wildcard,
+        }
+    }
+
+    /// Returns the range of keys that it asks for. `Err` means allocation failure.
+    #[tactic(auto, using(crate::proofs::RangeLaws::requirement_in, crate::proofs::RangeLaws::requirement_exact))]
+    pub fn range(&self, alloc: Global) -> Result<Range, AllocError>
+        ensures range { IfOk result
+            (λ range. plain_range range ≡ requirement_range (plain_requirement self.now)) }
+
+        // Each version that it matches is in the range. If the range is exact, it matches each version in it.
+        ensures within { IfOk result (λ range. (v : PlainVersioning)
+            → Matches (plain_requirement self.now) v → IsIn (plain_range range) v) }
+        ensures exact { IfOk result (λ range. (v : PlainVersioning) → IsTrue range.is_exact
+            → IsIn (plain_range range) v → Matches (plain_requirement self.now) v) }
+    {
+        self.own_range(alloc)
+    }
+
+    // Returns the range of keys that it asks for.
+    fn own_range(&self, alloc: Global) -> Result<Range, AllocError>
+        ensures { IfOk result
+            (λ range. plain_range range ≡ requirement_range (plain_requirement self.now)) }
+    {
+        match &self.version {
+            Some(version) => range_from(alloc, version, ends_of(self.op, version.kind())),
+            None => {
+                // No end needs the key, so any version will do.
+                let version = Versioning::Ideal(SemVer::default());
+                range_from(alloc, &version, ends_without_version(self.op))
+            }
         }
     }
 

@@ -4,11 +4,13 @@ ghost use Rattle.std.specs.Prelude.{◌≡◌, ◌↔◌, IfOk, IfSome, IsSome, 
 ghost use Rattle.std.specs.Option.{is_some, option_map};
 ghost use Rattle.versions.specs.Errors.{IllegalOp, ReadsOr};
 ghost use Rattle.versions.specs.Matching.{IsConvex, MatchesAll};
+ghost use Rattle.versions.specs.Range.{plain_range, range_of, IsIn};
 ghost use Rattle.versions.specs.Requirement.{plain_requirement, PlainRequirement};
 ghost use Rattle.versions.specs.Requirements.{plain_requirements, requirements_of, requirements_text, SpellsRequirements};
-ghost use Rattle.versions.specs.Versioning.{plain_versioning};
+ghost use Rattle.versions.specs.Versioning.{plain_versioning, PlainVersioning};
 
 use crate::errors::{Error, ReadError};
+use crate::range::Range;
 use crate::reading::or_illegal;
 use crate::requirement::Requirement;
 use crate::versioning::Versioning;
@@ -86,6 +88,33 @@ impl Requirements {
             }
         }
         true
+    }
+
+    /// Returns the range of keys that it asks for: what is in the range of each member. `Err` means allocation failure.
+    #[tactic(auto, using(crate::proofs::RangeLaws::list_in, crate::proofs::RangeLaws::list_exact))]
+    pub fn range(&self, alloc: Global) -> Result<Range, AllocError>
+        ensures range { IfOk result
+            (λ range. plain_range range ≡ range_of (plain_requirements self.now)) }
+
+        // Each version that the list matches is in the range. If the range is exact, the list matches each version in it.
+        ensures within { IfOk result (λ range. (v : PlainVersioning)
+            → MatchesAll (plain_requirements self.now) v → IsIn (plain_range range) v) }
+        ensures exact { IfOk result (λ range. (v : PlainVersioning) → IsTrue range.is_exact
+            → IsIn (plain_range range) v → MatchesAll (plain_requirements self.now) v) }
+    {
+        self.common_range(alloc)
+    }
+
+    // Returns what is in the range of each member.
+    fn common_range(&self, alloc: Global) -> Result<Range, AllocError>
+        ensures { IfOk result
+            (λ range. plain_range range ≡ range_of (plain_requirements self.now)) }
+    {
+        let mut range = Range::everything(alloc);
+        for requirement in &self.0 {
+            range = range.common(requirement.range(alloc)?);
+        }
+        Ok(range)
     }
 }
 

@@ -204,7 +204,7 @@ impl Version {
     }
 
     // Returns the epoch, or 0 without one.
-    fn epoch_number(&self) -> u32
+    pub(crate) fn epoch_number(&self) -> u32
         ensures { result ≡ (epoch_and_parts (plain_version self.now)).0 }
     {
         self.epoch.unwrap_or(0)

@@ -6,11 +6,11 @@ use Rattle.versions.specs.Requirement.{PlainRequirement}
 use Rattle.versions.specs.Versioning.{PlainVersioning}
 use Rattle.versions_c.specs.Matching.{bit, match_code}
 
-bit_holds : {Holds : Type 0} (decided : Holds ⊎ ¬ Holds) → Holds → bit decided ≡ 1
+pub bit_holds : {Holds : Type 0} (decided : Holds ⊎ ¬ Holds) → Holds → bit decided ≡ 1
 bit_holds (inl known) holds = refl
 bit_holds (inr known) holds = absurd (known holds)
 
-bit_fails : {Holds : Type 0} (decided : Holds ⊎ ¬ Holds) → ¬ Holds → bit decided ≡ 0
+pub bit_fails : {Holds : Type 0} (decided : Holds ⊎ ¬ Holds) → ¬ Holds → bit decided ≡ 0
 bit_fails (inl known) fails = absurd (fails known)
 bit_fails (inr known) fails = refl
 

@@ -180,7 +180,7 @@ sections_length text (further ∷ more) s =
 
 -- ---- keys
 
-key_length : (epoch : ℕ) (body : List PartKey) (tail : Tail) → length (key_bytes (record { epoch = epoch; body = body; tail = tail }))
+pub key_length : (epoch : ℕ) (body : List PartKey) (tail : Tail) → length (key_bytes (record { epoch = epoch; body = body; tail = tail }))
     ≡ length (number_bytes epoch) + (length (parts_bytes body) + length (tail_bytes tail))
 key_length epoch body tail = omega (arith, length-append (number_bytes epoch) (parts_bytes body ++ tail_bytes tail), length-append (parts_bytes body) (tail_bytes tail))
 

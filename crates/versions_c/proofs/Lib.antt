@@ -1,7 +1,10 @@
 pub mod Answers
+pub mod Flags
 pub mod KeyLength
 pub mod OffsetsRead
 pub mod OneOrder
 pub mod Ordered
 pub mod PartLength
 pub mod Putting
+pub mod RangeLength
+pub mod RangeStatus

@@ -3,21 +3,10 @@ use Rattle.std.proofs.Common.{◌≡◌, ◌∙◌, ◌+◌, ◌-◌, ◌<◌, �
 use Rattle.std.proofs.lemmas.Bool.Decides.{nat_tests}
 use Rattle.std.proofs.lemmas.List.{append-nil, get_or-set_other, get_or-set_same, length-append}
 use Rattle.std.specs.Option.{unwrap_or}
+use Rattle.version_texts.proofs.Rooms.{length-put, put_fits, put_past}
 use Rattle.version_texts.specs.Sinks.{put_at, saturated}
 use Rattle.versions_c.specs.Keys.{keys_before, length_past, saturated_offset, spelled_key}
 use Rattle.versions_c.specs.Offsets.{text_at}
-
--- writing nothing changes nothing
-pub put_nothing : (room : List ℕ) (start : ℕ) → put_at room start [] ≡ room
-put_nothing [] start = refl
-put_nothing (x ∷ room) zero = refl
-put_nothing (x ∷ room) (suc start) = ap (λ (l : List ℕ). x ∷ l) (put_nothing room start)
-
--- nor does writing after the end of the buffer
-pub put_past : (room : List ℕ) (start : ℕ) (bytes : List ℕ) → length room ≤ start → put_at room start bytes ≡ room
-put_past [] start bytes past = refl
-put_past (x ∷ room) zero bytes past = absurd (omega (arith, past))
-put_past (x ∷ room) (suc start) bytes past = ap (λ (l : List ℕ). x ∷ l) (put_past room start bytes (omega (arith, past)))
 
 -- one list after another
 pub put_more : (room : List ℕ) (start : ℕ) (first more : List ℕ) → put_at (put_at room start first) (start + length first) more ≡ put_at room start (first ++ more)
@@ -29,19 +18,6 @@ put_more (x ∷ room) zero (b ∷ first) more =
 put_more (x ∷ room) (suc start) first more =
     let behind : suc start + length first ≡ suc (start + length first) = omega arith in
     rw behind (ap (λ (l : List ℕ). x ∷ l) (put_more room start first more))
-
--- bytes that fit replace the first bytes, and the rest stays
-pub put_fits : (room bytes : List ℕ) → length bytes ≤ length room → put_at room 0 bytes ≡ bytes ++ drop (length bytes) room
-put_fits [] [] fits = refl
-put_fits [] (b ∷ bytes) fits = absurd (omega (arith, fits))
-put_fits (x ∷ room) [] fits = refl
-put_fits (x ∷ room) (b ∷ bytes) fits = ap (λ (l : List ℕ). b ∷ l) (put_fits room bytes (omega (arith, fits)))
-
-pub length-put : (room : List ℕ) (start : ℕ) (bytes : List ℕ) → length (put_at room start bytes) ≡ length room
-length-put [] start bytes = refl
-length-put (x ∷ room) zero [] = refl
-length-put (x ∷ room) zero (b ∷ bytes) = ap suc (length-put room 0 bytes)
-length-put (x ∷ room) (suc start) bytes = ap suc (length-put room start bytes)
 
 -- ---- one key
 

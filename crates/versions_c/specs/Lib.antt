@@ -4,4 +4,5 @@ pub mod Matching
 pub mod Numbers
 pub mod Offsets
 pub mod Order
+pub mod Ranges
 pub mod Sorting

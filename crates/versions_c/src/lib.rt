@@ -9,6 +9,7 @@ mod matching;
 mod numbers;
 mod offsets;
 mod order;
+mod ranges;
 mod sorting;
 mod spelled;
 mod status;

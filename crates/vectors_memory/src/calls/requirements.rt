@@ -1,8 +1,10 @@
 //! Requirements and lists of them.
 
 use crate::table::Table;
+use std::alloc::{AllocError, Global};
 use std::io;
-use versions::{Requirement, Requirements};
+use version_texts::{RequirementRef, RequirementsRef};
+use versions::{Range, Requirement, Requirements};
 
 const TEXT: &str = ">=1:2.a.7b";
 
@@ -19,6 +21,12 @@ pub fn make_all(table: &mut Table<'_>) -> io::Result<()> {
         Requirement::new,
         Requirement::clone,
     )?;
+    table.borrows(
+        "Requirement::range",
+        TEXT,
+        Requirement::new,
+        Requirement::range,
+    )?;
     table.reads("Requirement::new, without memory", "*", Requirement::new)?;
     table.reads(
         "Requirement::new, without memory",
@@ -34,9 +42,44 @@ pub fn make_all(table: &mut Table<'_>) -> io::Result<()> {
         Requirements::new,
         Requirements::clone,
     )?;
+    table.borrows(
+        "Requirements::range",
+        LIST,
+        Requirements::new,
+        Requirements::range,
+    )?;
+    table.borrows("Range::clone", LIST, range_of, Range::clone)?;
+    table.reads("Range::everything, without memory", "*", everything)?;
+    table.reads("RequirementRef::range", "=1.2", range_of_member)?;
+    table.reads("RequirementsRef::range", LIST, range_of_list)?;
     table.reads(
         "Requirements::new, without memory",
         ">=1.0,",
         Requirements::new,
     )
+}
+
+fn range_of(alloc: Global, list: &str) -> Result<Option<Range>, AllocError> {
+    match Requirements::new(alloc, list)? {
+        Some(list) => Ok(Some(list.range(alloc)?)),
+        None => Ok(None),
+    }
+}
+
+fn everything(alloc: Global, _list: &str) -> Result<Range, AllocError> {
+    Ok(Range::everything(alloc))
+}
+
+fn range_of_member(alloc: Global, text: &str) -> Result<Option<Range>, AllocError> {
+    match RequirementRef::new(text) {
+        Some(member) => Ok(Some(member.range(alloc)?)),
+        None => Ok(None),
+    }
+}
+
+fn range_of_list(alloc: Global, text: &str) -> Result<Option<Range>, AllocError> {
+    match RequirementsRef::new(text) {
+        Some(list) => Ok(Some(list.range(alloc)?)),
+        None => Ok(None),
+    }
 }

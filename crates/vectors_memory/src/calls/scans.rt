@@ -12,7 +12,7 @@ use version_parts::{
     ReleaseRef, SectionRef,
 };
 use version_texts::VersioningRef;
-use versions::Versioning;
+use versions::{End, Kept, Versioning};
 
 pub fn make_all(table: &mut Table<'_>) -> io::Result<()> {
     elements(table)?;
@@ -67,7 +67,8 @@ fn streams(table: &mut Table<'_>) -> io::Result<()> {
         table.borrows("KeyBytes::append_to", text, Versioning::new, key_bytes)?;
     }
     table.reads("VersioningRef::append_key", "1.2.3-rc.1", written_key)?;
-    table.reads("VersioningRef::append_key", "1:2_a", written_key)
+    table.reads("VersioningRef::append_key", "1:2_a", written_key)?;
+    table.reads("VersioningRef::append_end", "1.2.3-rc.1", written_end)
 }
 
 fn build_last(alloc: Global, text: &str) -> Result<Option<Last>, AllocError> {
@@ -123,5 +124,14 @@ fn written_key(alloc: Global, text: &str) -> Result<Option<Vec<u8>>, AllocError>
     };
     let mut list = Vec::new(alloc);
     version.append_key(&mut list)?;
+    Ok(Some(list))
+}
+
+fn written_end(alloc: Global, text: &str) -> Result<Option<Vec<u8>>, AllocError> {
+    let Some(version) = VersioningRef::new(text) else {
+        return Ok(None);
+    };
+    let mut list = Vec::new(alloc);
+    version.append_end(End::AboveBegun(Kept::ButLast), &mut list)?;
     Ok(Some(list))
 }

@@ -24,7 +24,7 @@ fn behind_part(text: &[u8]) -> Option<&[u8]>
 
 // Whether the first part is the number 0 without a suffix.
 #[inline(always)]
-fn begins_with_zero(text: &[u8]) -> bool
+pub(crate) fn begins_with_zero(text: &[u8]) -> bool
     ensures { result ≡ is_plain_zero (part_key (first_piece text.now)) }
 {
     compare_first_parts(text, b"0").0.is_eq()

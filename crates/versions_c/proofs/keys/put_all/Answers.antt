@@ -6,7 +6,8 @@ use Rattle.versions.specs.KeyBytes.{key_bytes}
 use Rattle.version_texts.specs.VersioningRef.{plain_versioning_ref}
 use Rattle.version_texts.specs.Sinks.{put_at, saturated}
 use Rattle.versions_c.specs.Keys.{keys_before}
-use Rattle.versions_c.proofs.Putting.{first_told, next_told, no_more_key, one_more_key, put_nothing}
+use Rattle.version_texts.proofs.Rooms.{put_nothing}
+use Rattle.versions_c.proofs.Putting.{first_told, next_told, no_more_key, one_more_key}
 use Rattle.versions_c.proofs.keys.put_all.Goals as goal
 use Rattle.versions_c.proofs.keys.put_all.Goals.{in-Some, in_default}
 

@@ -1,7 +1,7 @@
 use Rattle.std.proofs.Common.{◌≡◌, ◌∙◌, ◌≤◌, ap, length, arith}
 use Rattle.std.proofs.lemmas.Bool.Decides.{nat_tests}
 use Rattle.versions_c.specs.Keys.{keys_before}
-use Rattle.versions_c.proofs.Putting.{length-put, put_fits}
+use Rattle.version_texts.proofs.Rooms.{length-put, put_fits}
 use Rattle.versions_c.proofs.keys.put_keys.Goals as goal
 
 pub returns-clause-keys : goal.returns-clause-keys

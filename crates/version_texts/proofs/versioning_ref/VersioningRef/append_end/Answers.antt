@@ -1,0 +1,11 @@
+use Rattle.version_texts.proofs.Borrowed.{key-is, shape_fits}
+use Rattle.version_texts.proofs.versioning_ref.VersioningRef.append_end.Goals as goal
+
+pub append_end-requires : goal.append_end-requires
+append_end-requires c = shape_fits _ _ c.args.self.now.read
+
+pub returns-clause-ok : goal.returns-clause-ok
+returns-clause-ok c = rw (key-is _ _ c.args.self.now.read) c.append_end.ensures.ok
+
+pub returns-clause-err : goal.returns-clause-err
+returns-clause-err c = rw (key-is _ _ c.args.self.now.read) c.append_end.ensures.err

@@ -1,0 +1,8 @@
+use Rattle.version_texts.proofs.Borrowed.{key-is, shape_fits}
+use Rattle.version_texts.proofs.versioning_ref.VersioningRef.put_end.Goals as goal
+
+pub put_end-requires : goal.put_end-requires
+put_end-requires g c = shape_fits _ _ c.args.self.now.read
+
+pub returns : goal.returns
+returns g c = rw (key-is _ _ c.args.self.now.read) c.put_end.ensures

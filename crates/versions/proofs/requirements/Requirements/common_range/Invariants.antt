@@ -1,0 +1,9 @@
+use Rattle.std.proofs.Common.{◌≡◌, map, take}
+use Rattle.versions.specs.Range.{plain_range, range_of}
+use Rattle.versions.specs.Requirement.{plain_requirement}
+use Rattle.versions.proofs.requirements.Requirements.common_range.Given as goal
+
+-- what is in the range of each member so far
+abbrev pub invariant-loop-requirement : goal.invariant-loop-requirement
+invariant-loop-requirement l =
+    plain_range l.range ≡ range_of (map plain_requirement (take l.requirement-index l.requirement-items))

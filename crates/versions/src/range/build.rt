@@ -1,0 +1,151 @@
+//! Ranges built from the ends that operators ask for.
+
+ghost use Rattle.std.specs.Prelude.{◌≡◌, ◌++◌, IfOk, IsTrue, OnOk, Some};
+ghost use Rattle.version_parts.specs.Codes.{items_bytes};
+ghost use Rattle.version_parts.specs.PartKey.{part_bytes};
+ghost use Rattle.versions.specs.BodyParts.{key_of_part, parts_left};
+ghost use Rattle.versions.specs.Ends.{end_bytes, is_whole, kept_parts, range_from, AreWhole};
+ghost use Rattle.versions.specs.Key.{key_of, strict_body};
+ghost use Rattle.versions.specs.Kind.{versioning_kind};
+ghost use Rattle.versions.specs.Range.{begun, plain_range};
+ghost use Rattle.versions.specs.Versioning.{plain_versioning};
+ghost use Rattle.versions.specs.declared.kind.Kind.TheVariants.{Complex};
+
+use crate::numbers::Numbers;
+use crate::parts::{BodyPart, BodyParts};
+use crate::range::Range;
+use crate::range::ends::{End, Ends, Kept};
+use crate::versioning::Versioning;
+use std::alloc::{AllocError, Global};
+use version_parts::key::PieceBytes;
+use version_parts::{Chunk, Last};
+
+// Returns the range that has these ends, by the key of a version.
+pub(crate) fn range_from(
+    alloc: Global,
+    version: &Versioning,
+    ends: Ends,
+) -> Result<Range, AllocError>
+    requires { versioning_kind (plain_versioning version.now) ≡ Complex → AreWhole ends }
+    ensures { IfOk result (λ range. plain_range range
+        ≡ range_from ends (key_of (plain_versioning version.now))) }
+{
+    let low = end_list(alloc, version, ends.low)?;
+    let high = match ends.high {
+        Some(high) => Some(end_list(alloc, version, high)?),
+        None => None,
+    };
+    Ok(Range {
+        low,
+        high,
+        kinds: ends.kinds,
+        is_exact: ends.is_exact,
+    })
+}
+
+// Returns the bytes of an end as a list.
+fn end_list(alloc: Global, version: &Versioning, end: End) -> Result<Vec<u8>, AllocError>
+    requires { versioning_kind (plain_versioning version.now) ≡ Complex → IsTrue (is_whole end) }
+    ensures { IfOk result (λ list. list.items
+        ≡ end_bytes end (key_of (plain_versioning version.now))) }
+{
+    let mut list = Vec::new(alloc);
+    append_end(version, end, &mut list)?;
+    Ok(list)
+}
+
+// Appends the bytes of an end to a list.
+fn append_end(version: &Versioning, end: End, list: &mut Vec<u8>) -> Result<(), AllocError>
+    requires { versioning_kind (plain_versioning version.now) ≡ Complex → IsTrue (is_whole end) }
+    ensures { OnOk result (list.new.items
+        ≡ list.old.items ++ end_bytes end (key_of (plain_versioning version.now))) }
+{
+    match end {
+        End::Lowest => {}
+        End::Zero => list.push(0)?,
+        End::Key => version.key_bytes().append_to(list)?,
+        End::AfterKey => {
+            version.key_bytes().append_to(list)?;
+            list.push(0)?;
+        }
+        End::Begun(kept) => append_begun(version, kept, list)?,
+        End::AboveBegun(kept) => {
+            append_begun(version, kept, list)?;
+            list.push(4)?;
+        }
+    }
+    Ok(())
+}
+
+// Appends the bytes of the epoch of a strict or general version, and of the kept parts, to a list.
+fn append_begun(version: &Versioning, kept: Kept, list: &mut Vec<u8>) -> Result<(), AllocError>
+    requires { ¬ (versioning_kind (plain_versioning version.now) ≡ Complex) }
+    ensures { OnOk result (list.new.items ≡ list.old.items
+        ++ begun (key_of (plain_versioning version.now)).epoch
+        (kept_parts kept (key_of (plain_versioning version.now)).body)) }
+{
+    match version {
+        Versioning::Ideal(ideal) => {
+            append_numbers((ideal.major, ideal.minor, ideal.patch), kept, list)
+        }
+        Versioning::General(general) => {
+            append_parts(general.epoch_number(), BodyParts::of(general), kept, list)
+        }
+        Versioning::Complex(_) => unreachable!(),
+    }
+}
+
+// Appends the bytes of the epoch 0, and of those of three numbers that are kept as parts, to a list.
+#[tactic(auto, using(crate::proofs::RangeEnds::three_parts))]
+fn append_numbers(numbers: Numbers, kept: Kept, list: &mut Vec<u8>) -> Result<(), AllocError>
+    ensures { OnOk result (list.new.items ≡ list.old.items
+        ++ begun 0 (kept_parts kept (strict_body numbers.0 numbers.1 numbers.2))) }
+{
+    let chunks = [Chunk::Numeric(numbers.0), Chunk::Numeric(numbers.1)];
+    let last = Last::Numeric(numbers.2);
+    append_parts(0, BodyParts::with_last(&chunks, &last), kept, list)
+}
+
+// Appends the bytes of an epoch, and of the parts that are kept, to a list.
+fn append_parts(
+    epoch: u32,
+    parts: BodyParts<'_>,
+    kept: Kept,
+    list: &mut Vec<u8>,
+) -> Result<(), AllocError>
+    ensures { OnOk result (list.new.items
+        ≡ list.old.items ++ begun epoch (kept_parts kept (parts_left parts.entry))) }
+{
+    PieceBytes::number(epoch).append_to(list)?;
+    append_kept(parts, kept, list)
+}
+
+// Appends the bytes of the parts that are kept to a list.
+#[tactic(auto, using(crate::proofs::RangeEnds::last_kept))]
+fn append_kept(mut parts: BodyParts<'_>, kept: Kept, list: &mut Vec<u8>) -> Result<(), AllocError>
+    ensures { OnOk result (list.new.items ≡ list.old.items
+        ++ items_bytes part_bytes (kept_parts kept (parts_left parts.entry))) }
+{
+    let Some(mut part) = parts.take_first() else {
+        return Ok(());
+    };
+    while let Some(next) = parts.take_first() {
+        append_part(part, list)?;
+        if kept == Kept::ThroughOther && !part.is_plain_zero() {
+            return Ok(());
+        }
+        part = next;
+    }
+    if kept == Kept::ButLast {
+        return Ok(());
+    }
+    append_part(part, list)
+}
+
+// Appends the bytes of a part to a list.
+fn append_part(part: BodyPart<'_>, list: &mut Vec<u8>) -> Result<(), AllocError>
+    ensures { OnOk result (list.new.items
+        ≡ list.old.items ++ part_bytes (Some (key_of_part part.entry))) }
+{
+    PieceBytes::part(part.text()).append_to(list)
+}

@@ -1,0 +1,77 @@
+-- The ranges of lists in the caller's buffers, and which texts have a version in a range.
+use Rattle.std.specs.Prelude.{◌≡◌, ◌⊎◌, ◌&&◌, ℕ, ℤ, Bool, true, false, bit_and, eqb, not, nat_le, IfSome, IsTrue, List, Option, Some, None, if◌then◌else◌}
+use Rattle.std.proofs.Common.{inl, inr, refl}
+use Rattle.std.specs.declared.cmp.Ordering.{Ordering}
+use Rattle.std.specs.declared.cmp.Ordering.TheVariants.{Less, Equal, Greater}
+use Rattle.version_parts.specs.Lists.{bytes_cmp}
+use Rattle.version_texts.specs.Bounds.{high_room, low_room}
+use Rattle.version_texts.specs.Sinks.{saturated}
+use Rattle.versions.specs.Kind.{versioning_kind}
+use Rattle.versions.specs.Range.{IsIn, PlainRange, bytes_of, has_kind}
+use Rattle.versions.specs.Requirement.{PlainRequirement}
+use Rattle.versions.specs.Versioning.{PlainVersioning}
+use Rattle.versions_c.specs.Matching.{bit}
+use Rattle.versions_c.specs.declared.ranges.TheConstants.{COMPLEX, EXACT, GENERAL, HIGH, IDEAL}
+use Rattle.versions_c.specs.declared.status.TheConstants.{OK, NO_REQUIREMENTS, NO_ROOM}
+
+-- whether a flag is one of the flags
+abbrev pub has_flag : ℕ → ℕ → Bool
+has_flag flags flag = not (eqb (bit_and flags flag) 0)
+
+-- 1 if something holds, otherwise 0
+abbrev pub one_if : Bool → ℕ
+one_if true = 1
+one_if false = 0
+
+-- the range that two bounds and flags tell; without its flag there is no high bound
+abbrev pub range_with : List ℕ → List ℕ → ℕ → PlainRange
+range_with low high flags = record {
+  low = low;
+  high = if has_flag flags HIGH then Some high else None;
+  kinds = record { ideal = has_flag flags IDEAL; general = has_flag flags GENERAL; complex = has_flag flags COMPLEX };
+  is_exact = has_flag flags EXACT;
+}
+
+-- the status for a list and the sizes of two buffers
+abbrev pub range_status : Option (List PlainRequirement) → ℕ → ℕ → ℤ
+range_status None low high = NO_REQUIREMENTS
+range_status (Some wanted) low high = if nat_le (low_room wanted) low && nat_le (high_room wanted) high then OK else NO_ROOM
+
+-- the sizes that two buffers must have for the bounds of each member
+pub record AreSizes (low high : ℕ) (wanted : List PlainRequirement) : Type 0 where
+  pub of_low : low ≡ saturated (low_room wanted)
+  pub of_high : high ≡ saturated (high_room wanted)
+
+-- ---- a version is in a range or is not
+
+less_or_not : (o : Ordering) → (o ≡ Less) ⊎ ¬ (o ≡ Less)
+less_or_not Less = inl refl
+less_or_not Equal = inr (λ e. cc e)
+less_or_not Greater = inr (λ e. cc e)
+
+below_or_not : (high : Option (List ℕ)) (bytes : List ℕ)
+    → IfSome high (λ bound. bytes_cmp bytes bound ≡ Less) ⊎ ¬ (IfSome high (λ bound. bytes_cmp bytes bound ≡ Less))
+below_or_not None bytes = inl tt
+below_or_not (Some bound) bytes = less_or_not (bytes_cmp bytes bound)
+
+true_or_not : (b : Bool) → IsTrue b ⊎ ¬ (IsTrue b)
+true_or_not true = inl refl
+true_or_not false = inr (λ e. cc e)
+
+pub is_in_or_not : (range : PlainRange) (v : PlainVersioning) → IsIn range v ⊎ ¬ (IsIn range v)
+is_in_or_not range v =
+    by (less_or_not (bytes_cmp (bytes_of v) range.low)) (below_or_not range.high (bytes_of v)) (true_or_not (has_kind range.kinds (versioning_kind v)))
+  where
+    by : (bytes_cmp (bytes_of v) range.low ≡ Less) ⊎ ¬ (bytes_cmp (bytes_of v) range.low ≡ Less)
+        → IfSome range.high (λ bound. bytes_cmp (bytes_of v) bound ≡ Less) ⊎ ¬ (IfSome range.high (λ bound. bytes_cmp (bytes_of v) bound ≡ Less))
+        → IsTrue (has_kind range.kinds (versioning_kind v)) ⊎ ¬ (IsTrue (has_kind range.kinds (versioning_kind v)))
+        → IsIn range v ⊎ ¬ (IsIn range v)
+    by (inl low) below kind = inr (λ is_in. is_in.between.from_low low)
+    by (inr from) (inr high) kind = inr (λ is_in. high is_in.between.below_high)
+    by (inr from) (inl below) (inr other) = inr (λ is_in. other is_in.of_kind)
+    by (inr from) (inl below) (inl kind) = inl (record { between = record { from_low = from; below_high = below }; of_kind = kind })
+
+-- the answer for a text: 1 if its version is in the range, 0 if it isn't, 2 if it is not a version
+abbrev pub in_range_code : PlainRange → Option PlainVersioning → ℕ
+in_range_code range None = 2
+in_range_code range (Some v) = bit (is_in_or_not range v)
