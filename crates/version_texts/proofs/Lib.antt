@@ -3,6 +3,7 @@ pub mod ByteRank
 pub mod ChunkTest
 pub mod CommonParts
 pub mod DotPieces
+pub mod Fields
 pub mod GeneralKind
 pub mod HeldBounds
 pub mod InRange

@@ -1,9 +1,10 @@
 -- The pieces of a messy version by its shape, and that its shape fits its text.
-use Rattle.std.proofs.Common.{◌≡◌, ◌==◌, ◌&&◌, ◌+◌, ◌<◌, ◌∙◌, ℕ, Bool, true, false, List, [], ◌∷◌, ◌++◌, drop, length, Option, Some, None, refl, ap, arith, inl, inr}
+use Rattle.std.proofs.Common.{◌≡◌, ◌==◌, ◌&&◌, ◌+◌, ◌<◌, ◌∙◌, ℕ, Bool, true, false, List, [], ◌∷◌, ◌++◌, drop, length, Option, Some, None, refl, sym, ap, arith, inl, inr}
 use Rattle.std.proofs.lemmas.Bool.{cases_Bool, ne_eqb}
 use Rattle.std.proofs.lemmas.List.{take_rest}
 use Rattle.std.specs.Cmp.{second_so}
 use Rattle.std.specs.List.{list_all}
+use Rattle.std.specs.Option.{option_map}
 use Rattle.std.specs.Prelude.{slice_range}
 use Rattle.std.specs.Str.Parse.{digits_value}
 use Rattle.version_parts.specs.Bytes.{colon}
@@ -12,15 +13,16 @@ use Rattle.version_parts.specs.Front.{begins}
 use Rattle.version_parts.specs.Grammar.{SpellsEach}
 use Rattle.version_parts.specs.Sep.{PlainSep, Colon, Hyphen, Plus, Underscore, Tilde, sep_byte}
 use Rattle.versions.specs.declared.kind.Kind.TheVariants as kind
-use Rattle.versions.specs.Key.{key_behind_epoch, key_from_first, key_of_sections, sections_tail}
-use Rattle.versions.specs.Mess.{Further, PlainMess, Section, SpellsFurther, SpellsMess, SpellsSection}
+use Rattle.versions.specs.Key.{key_behind_epoch, key_from_first, key_of_sections, mess_epoch, sections_tail}
+use Rattle.versions.specs.Mess.{Further, PlainMess, Section, SpellsFurther, SpellsMess, SpellsSection, joined_section}
 use Rattle.version_texts.specs.declared.shape.TailKind.TheVariants.{Nothing, Sections}
 use Rattle.version_texts.specs.Shape.{Fits, TailFits, behind_body, body_end, is_tail_byte, shape_at, tail_kind}
 use Rattle.version_texts.specs.TextKey.{sections_of, tail_of, tail_of_sections}
 use Rattle.version_texts.proofs.Positions.{IsCut, and_false, behind_body-is, cut_behind_epoch, cut_without_epoch, is_colon}
 use Rattle.version_texts.proofs.Pieces.{section_bytes}
 use Rattle.version_texts.proofs.Sections.{further_text-is, no_further, section_epoch-is, sections_are, sections_bytes, sections_end}
-use Rattle.version_texts.proofs.TextShape.{IsEpoch, behind_taken, body_ordered, body_taken, epoch_taken, length_cut, no_epoch_taken, none_taken}
+use Rattle.version_parts.proofs.MChunkReading.{section_printed}
+use Rattle.version_texts.proofs.TextShape.{IsCounted, IsEpoch, behind_taken, body_ordered, body_taken, epoch_taken, length_cut, no_epoch_taken, none_taken}
 
 -- ---- the epoch and the body
 
@@ -35,6 +37,7 @@ pub record IsMessCut (text : List ℕ) (first : Section) (others : List Further)
   pub more : List Further
   pub cut : IsCut text epoch body rest
   pub epoch_is : IsEpoch text value
+  pub counts : IsCounted epoch (option_map (λ n. joined_section first) (mess_epoch first others)) (mess_epoch first others)
   pub body_is : SpellsSection body chunks
   pub more_is : SpellsEach SpellsFurther rest more
   pub key_is : key_from_first first others ≡ key_of_sections value chunks more
@@ -43,8 +46,9 @@ pub record IsMessCut (text : List ℕ) (first : Section) (others : List Further)
 without_epoch : (text first rest : List ℕ) (chunks : Section) (more : List Further)
     → text ≡ first ++ rest → SpellsSection first chunks → SpellsEach SpellsFurther rest more
     → (is_digits first && begins is_colon rest) ≡ false
-    → key_from_first chunks more ≡ key_of_sections 0 chunks more → IsMessCut text chunks more
-without_epoch text first rest chunks more whole s each none key =
+    → key_from_first chunks more ≡ key_of_sections 0 chunks more → mess_epoch chunks more ≡ None
+    → IsMessCut text chunks more
+without_epoch text first rest chunks more whole s each none key uncounted =
     let bytes = section_bytes first chunks s in
     let cut = cut_without_epoch text first rest whole bytes (sections_end rest more each) none in
     record {
@@ -56,6 +60,7 @@ without_epoch text first rest chunks more whole s each none key =
       more = more;
       cut = cut;
       epoch_is = rw (no_epoch_taken text first rest cut) (refl, refl);
+      counts = rw uncounted refl;
       body_is = s;
       more_is = each;
       key_is = key;
@@ -77,6 +82,14 @@ apart (Some n) first Hyphen section more other = refl
 apart (Some n) first Plus section more other = refl
 apart (Some n) first Underscore section more other = refl
 apart (Some n) first Tilde section more other = refl
+
+uncounted : (first : Section) (sign : PlainSep) (section : Section) (more : List Further)
+    → is_colon (sep_byte sign) ≡ false → mess_epoch first ((sign, section) ∷ more) ≡ None
+uncounted first Colon section more other = cc other
+uncounted first Hyphen section more other = refl
+uncounted first Plus section more other = refl
+uncounted first Underscore section more other = refl
+uncounted first Tilde section more other = refl
 
 no_epoch : (digits : Bool) (rest : List ℕ) → begins is_colon rest ≡ false
     → (digits && begins is_colon rest) ≡ false
@@ -102,6 +115,9 @@ behind_epoch text first rest chunks section more whole s each digits =
       more = more;
       cut = cut;
       epoch_is = rw (epoch_taken text first next.0 next.1 cut) (second_so _ _ digits, refl);
+      counts =
+          rw (section_epoch-is first chunks s, digits)
+          (ap (λ (l : List ℕ). l ++ colon ∷ []) (sym (section_printed first chunks s)), ap (digits_value 10) (section_printed first chunks s));
       body_is = next.3;
       more_is = next.4;
       key_is = rw (section_epoch-is first chunks s, digits) refl;
@@ -113,18 +129,20 @@ messy_cut : (text first rest : List ℕ) (chunks : Section) (more : List Further
 messy_cut text first rest chunks [] whole s each =
     without_epoch text first rest chunks [] whole s each
     (no_epoch (is_digits first) rest (ap (begins is_colon) (no_further rest each))) (alone _ chunks)
+    refl
 messy_cut text first rest chunks ((Colon, section) ∷ more) whole s each =
     elim (cases_Bool (is_digits first)) [
       | inl digits ↦ behind_epoch text first rest chunks section more whole s each digits
       | inr other ↦
           without_epoch text first rest chunks ((Colon, section) ∷ more) whole s each
           (rw other refl) (rw (section_epoch-is first chunks s, other) refl)
+          (rw (section_epoch-is first chunks s, other) refl)
     ]
 messy_cut text first rest chunks ((sign, section) ∷ more) whole s each =
     let next = further_text-is rest (sign, section) more each in
     without_epoch text first rest chunks ((sign, section) ∷ more) whole s each
     (no_epoch (is_digits first) rest (ap (begins is_colon) next.2))
-    (apart _ chunks sign section more refl)
+    (apart _ chunks sign section more refl) (uncounted chunks sign section more refl)
 
 -- a messy version is cut into its sections
 pub mess_cut : (text : List ℕ) (m : PlainMess) → SpellsMess text m → IsMessCut text m.first m.more

@@ -204,6 +204,12 @@ IsEpoch text n =
     (list_all is_ascii_digit (take (body_start text - 1) text) ≡ true)
     × (digits_value 10 (take (body_start text - 1) text) ≡ n)
 
+-- the epoch that counts is digits before a colon, of its value, or there is none
+abbrev pub IsCounted : List ℕ → Option (List ℕ) → Option ℕ → Type 0
+IsCounted epoch None None = epoch ≡ []
+IsCounted epoch (Some digits) (Some n) = (epoch ≡ digits ++ colon ∷ []) × (digits_value 10 digits ≡ n)
+IsCounted epoch _ _ = ⊥
+
 -- the epoch that a text spells is the one of its shape
 pub epoch_is : (text epoch body rest : List ℕ) (o : Option ℕ) → IsCut text epoch body rest
     → SpellsEpoch epoch o → IsEpoch text (unwrap_or o 0)

@@ -1,5 +1,6 @@
 pub mod Bounds
 pub mod Class
+pub mod Field
 pub mod Matching
 pub mod Parts
 pub mod Piece

@@ -6,6 +6,7 @@
 
 mod bounds;
 mod class;
+mod field;
 mod key;
 mod laws;
 mod matching;
@@ -20,6 +21,7 @@ mod sinks;
 mod versioning_ref;
 
 pub use bounds::{Held, rooms_for, write_range};
+pub use field::Field;
 pub use requirement_ref::RequirementRef;
 pub use requirements_ref::{RequirementsRef, list_matches};
 pub use sink::Sink;

@@ -107,7 +107,10 @@ impl<'a> Sink for Beside<'a> {
         }
         match self.left.split_first() {
             Some((first, rest)) => {
-                self.order = byte.cmp(first);
+                // Most bytes are the same, so only others are ordered.
+                if byte != *first {
+                    self.order = byte.cmp(first);
+                }
                 self.left = rest;
             }
             None => self.order = Ordering::Greater,

@@ -1,10 +1,15 @@
 //! Versions of any kind, borrowed from their texts.
 
-ghost use Rattle.std.specs.Prelude.{◌≡◌, Some};
+ghost use Rattle.std.specs.Prelude.{◌≡◌, Some, true};
+ghost use Rattle.std.specs.Char.{is_ascii_digit};
+ghost use Rattle.std.specs.List.{list_all};
+ghost use Rattle.std.specs.Str.Parse.{digits_value};
 ghost use Rattle.version_texts.specs.Shape.{shape_of};
+ghost use Rattle.version_texts.specs.Sinks.{saturated};
 ghost use Rattle.versions.specs.Kind.{versioning_kind};
 ghost use Rattle.versions.specs.Versioning.{kind_rank, PlainVersioning};
 
+use crate::field::Field;
 use crate::order::piece::through_dot;
 use crate::scan::scan;
 use crate::shape::{Shape, TailKind};
@@ -31,11 +36,12 @@ impl<'a> VersioningRef<'a> {
     ghost use Rattle.std.specs.declared.cmp.Ordering.TheVariants.{Equal};
     ghost use Rattle.version_parts.specs.Lists.{bytes_cmp, GrowsWithin};
     ghost use Rattle.versions.specs.Ends.{end_bytes, range_from};
-    ghost use Rattle.versions.specs.Key.{key_of, precedence};
+    ghost use Rattle.versions.specs.Key.{key_of, precedence, versioning_epoch};
     ghost use Rattle.versions.specs.KeyBytes.{key_bytes};
     ghost use Rattle.versions.specs.Range.{has_kind, plain_range, AreBetween};
-    ghost use Rattle.versions.specs.Versioning.{is_prerelease, plain_versioning, versioning_epoch, versioning_nth, versioning_of, versioning_plain_cmp, versioning_text, VersioningOwns};
+    ghost use Rattle.versions.specs.Versioning.{is_prerelease, plain_versioning, versioning_nth, versioning_of, versioning_plain_cmp, versioning_text, VersioningOwns};
     ghost use Rattle.versions.specs.VersioningRef.{plain_versioning_ref as plain_read};
+    ghost use Rattle.version_texts.specs.Field.{field_place};
     ghost use Rattle.version_texts.specs.Sinks.{is_between, put_at, saturated};
     ghost use Rattle.version_texts.specs.VersioningRef.{major_text, plain_versioning_ref};
 
@@ -108,12 +114,36 @@ impl<'a> VersioningRef<'a> {
         self.read().nth(n)
     }
 
-    /// Returns the epoch of a general version: the number before its colon. None for a general version without an
-    /// epoch, and for every strict or messy version. Doesn't allocate.
-    pub fn epoch(&self) -> Option<u32>
-        ensures { result ≡ versioning_epoch (plain_versioning_ref self.now) }
+    /// Returns its epoch: the number before its colon, which counts in the order. None without an epoch, which a strict
+    /// version never has. A number past `u64::MAX` gives `u64::MAX`. Doesn't allocate.
+    pub fn epoch(&self) -> Option<u64>
+        ensures { result ≡ option_map saturated (versioning_epoch (plain_versioning_ref self.now)) }
     {
-        self.read().epoch()
+        if self.shape.body == 0 {
+            return None;
+        }
+        Some(saturated_value(key::epoch_at(self.text, self.shape)))
+    }
+
+    /// Returns where a field lies in the text: where it begins and where it ends. None if the version does not have the
+    /// field. No field is empty. Doesn't allocate.
+    pub fn place(&self, field: Field) -> Option<(usize, usize)>
+        ensures { result ≡ field_place field (plain_versioning_ref self.now) }
+    {
+        let Shape {
+            tail,
+            body,
+            end,
+            tail_end,
+            ..
+        } = self.shape;
+        match field {
+            Field::Epoch if body > 0 => Some((0, body - 1)),
+            Field::PreRelease if tail == TailKind::PreRelease => Some((end + 1, tail_end)),
+            Field::Release if tail == TailKind::Release => Some((end + 1, tail_end)),
+            Field::Metadata if tail_end < self.text.len() => Some((tail_end + 1, self.text.len())),
+            _ => None,
+        }
     }
 
     /// Compares two versions of any kind by their keys: the order of all versions (docs/ORDER.md). `Ord` breaks its
@@ -322,6 +352,20 @@ impl<'a> VersioningRef<'a> {
     {
         self.read().to_owned(alloc)
     }
+}
+
+// Returns the value of digits, or `u64::MAX` if it is larger.
+fn saturated_value(digits: &[u8]) -> u64
+    requires { list_all is_ascii_digit digits.now ≡ true }
+    ensures { result ≡ saturated (digits_value 10 digits.now) }
+{
+    let mut value: u64 = 0;
+    for digit in digits {
+        value = value
+            .saturating_mul(10)
+            .saturating_add(u64::from(*digit - b'0'));
+    }
+    value
 }
 
 // The place of a kind in the order of versions.

@@ -57,7 +57,7 @@ mess_of_version_printed v = by v.epoch
         rw (body_printed v.chunks v.last, tail_printed v.release v.meta) (sym (append_assoc (decimal n) (colon ∷ []) _))
 
 -- a strict version prints the same as its general conversion
-version_of_semver_printed : (v : PlainSemVer) → version_text (version_of_semver v) ≡ semver_text v
+pub version_of_semver_printed : (v : PlainSemVer) → version_text (version_of_semver v) ≡ semver_text v
 version_of_semver_printed v = simp append_assoc
 
 pub mess_of_semver_printed : (v : PlainSemVer) → mess_text (mess_of_semver v) ≡ semver_text v

@@ -87,3 +87,14 @@ abbrev pub key_of : PlainVersioning → Key
 key_of (Ideal v) = key_of_semver v
 key_of (General v) = key_of_version v
 key_of (Complex m) = key_of_mess m
+
+-- the epoch of a messy version: its first section, if it may be the epoch and a colon follows
+abbrev pub mess_epoch : List PlainMChunk → List (PlainSep × List PlainMChunk) → Option ℕ
+mess_epoch first ((Colon, body) ∷ more) = section_epoch first
+mess_epoch first more = None
+
+-- the epoch that counts in the order, if the version has one; a strict version has none
+abbrev pub versioning_epoch : PlainVersioning → Option ℕ
+versioning_epoch (Ideal v) = None
+versioning_epoch (General v) = v.epoch
+versioning_epoch (Complex m) = mess_epoch m.first m.more

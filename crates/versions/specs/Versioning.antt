@@ -74,11 +74,6 @@ versioning_nth (Ideal v) n = semver_nth v n
 versioning_nth (General v) n = version_nth v n
 versioning_nth (Complex m) n = nth_number m n
 
--- the number before the colon of a general version; a version of another kind has no epoch of its own
-abbrev pub versioning_epoch : PlainVersioning → Option ℕ
-versioning_epoch (General v) = v.epoch
-versioning_epoch _ = None
-
 -- whether it is a pre-release, which only a strict version can be (SemVer 2.0, section 9)
 abbrev pub is_prerelease : PlainVersioning → Bool
 is_prerelease (Ideal v) = is_some v.pre_rel

@@ -3,7 +3,7 @@
 ghost use Rattle.std.specs.Prelude.{◌≡◌, IfOk, OnErr};
 ghost use Rattle.std.specs.Option.{option_map};
 ghost use Rattle.versions.specs.VersioningRef.{plain_versioning_ref};
-ghost use Rattle.versions.specs.Versioning.{kind_rank, plain_versioning, versioning_epoch, versioning_nth, versioning_of, versioning_plain_cmp, VersioningOwns};
+ghost use Rattle.versions.specs.Versioning.{kind_rank, plain_versioning, versioning_nth, versioning_of, versioning_plain_cmp, VersioningOwns};
 
 use crate::mess::MessRef;
 use crate::reading::ascii_text;
@@ -60,17 +60,6 @@ impl<'a> VersioningRef<'a> {
             VersioningRef::Ideal(ideal) => ideal.nth(n),
             VersioningRef::General(general) => general.nth(n),
             VersioningRef::Complex(complex) => complex.nth(n),
-        }
-    }
-
-    /// Returns the epoch of a general version: the number before its colon. None for a general version without an
-    /// epoch, and for every strict or messy version. Doesn't allocate.
-    pub fn epoch(&self) -> Option<u32>
-        ensures { result ≡ versioning_epoch (plain_versioning_ref self.now) }
-    {
-        match self {
-            VersioningRef::General(general) => general.epoch,
-            _ => None,
         }
     }
 

@@ -33,7 +33,7 @@ use Rattle.versions.specs.Orders.{versioning_cmp}
 use Rattle.versions.specs.Tail.{tail_bytes}
 use Rattle.versions.specs.Versioning.{PlainVersioning, Ideal, General, Complex, versioning_of, versioning_plain_cmp}
 use Rattle.versions.specs.VersioningLaws.{versioning_plain_total}
-use Rattle.versions_c.specs.Keys.{keys_before, saturated_offset}
+use Rattle.versions_c.specs.Keys.{keys_before, saturated_signed}
 use Rattle.versions_c.specs.Offsets.{text_at}
 use Rattle.versions_c.specs.Sorting.{AreInOrder, keyed_cmp, keys_cmp, place_cmp, text_tie_breaker, tie_breaker, unless_strict}
 
@@ -86,7 +86,7 @@ between_two before key more start end begins ends =
 
 -- the key of each text lies where the offsets of keys say
 pub key_lies : (texts offsets keys key_offsets rest : List ℕ) (count : ℕ) → keys ≡ keys_before texts offsets count ++ rest → length (keys_before texts offsets count) < 2 ^ 63
-    → ((i : ℕ) → i ≤ count → get_or key_offsets i 0 ≡ saturated_offset (length (keys_before texts offsets i)))
+    → ((i : ℕ) → i ≤ count → get_or key_offsets i 0 ≡ saturated_signed (length (keys_before texts offsets i)))
     → (i : ℕ) → i < count → text_at keys key_offsets i ≡ key_or_nothing (versioning_of (text_at texts offsets i))
 key_lies texts offsets keys key_offsets rest count written small told i below =
     let before = keys_before texts offsets i in

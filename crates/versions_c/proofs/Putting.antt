@@ -5,7 +5,7 @@ use Rattle.std.proofs.lemmas.List.{append-nil, get_or-set_other, get_or-set_same
 use Rattle.std.specs.Option.{unwrap_or}
 use Rattle.version_texts.proofs.Rooms.{length-put, put_fits, put_past}
 use Rattle.version_texts.specs.Sinks.{put_at, saturated}
-use Rattle.versions_c.specs.Keys.{keys_before, length_past, saturated_offset, spelled_key}
+use Rattle.versions_c.specs.Keys.{keys_before, length_past, saturated_signed, spelled_key}
 use Rattle.versions_c.specs.Offsets.{text_at}
 
 -- one list after another
@@ -88,17 +88,17 @@ no_more_key texts offsets room i text keys end is spells ended written =
 
 -- ---- where keys begin and end
 
-pub first_told : (texts offsets told : List ℕ) → 0 < length told → (i : ℕ) → i ≤ 0 → get_or (set told 0 0) i 0 ≡ saturated_offset (length (keys_before texts offsets i))
+pub first_told : (texts offsets told : List ℕ) → 0 < length told → (i : ℕ) → i ≤ 0 → get_or (set told 0 0) i 0 ≡ saturated_signed (length (keys_before texts offsets i))
 first_told texts offsets [] some i low = absurd (omega (arith, some))
 first_told texts offsets (x ∷ told) some zero low = refl
 first_told texts offsets (x ∷ told) some (suc i) low = absurd (omega (arith, low))
 
-pub next_told : (texts offsets told : List ℕ) (place end : ℕ) → place + 1 < length told → ((i : ℕ) → i ≤ place → get_or told i 0 ≡ saturated_offset (length (keys_before texts offsets i)))
-    → end ≡ saturated_offset (length (keys_before texts offsets (place + 1)))
-    → (i : ℕ) → i ≤ place + 1 → get_or (set told (place + 1) end) i 0 ≡ saturated_offset (length (keys_before texts offsets i))
+pub next_told : (texts offsets told : List ℕ) (place end : ℕ) → place + 1 < length told → ((i : ℕ) → i ≤ place → get_or told i 0 ≡ saturated_signed (length (keys_before texts offsets i)))
+    → end ≡ saturated_signed (length (keys_before texts offsets (place + 1)))
+    → (i : ℕ) → i ≤ place + 1 → get_or (set told (place + 1) end) i 0 ≡ saturated_signed (length (keys_before texts offsets i))
 next_told texts offsets told place end fits known new i low = by (nat_eq i (place + 1)) refl
   where
-    by : (last : Bool) → nat_eq i (place + 1) ≡ last → get_or (set told (place + 1) end) i 0 ≡ saturated_offset (length (keys_before texts offsets i))
+    by : (last : Bool) → nat_eq i (place + 1) ≡ last → get_or (set told (place + 1) end) i 0 ≡ saturated_signed (length (keys_before texts offsets i))
     by true is =
         let here : i ≡ place + 1 = grind (arith, nat_tests) in
         rw here (get_or-set_same told (place + 1) end 0 fits ∙ new)

@@ -31,8 +31,8 @@ abbrev pub room_for : ℕ → ℕ
 room_for len = 3 * len + 5
 
 -- a number, or the largest signed number of 64 bits if it is larger
-abbrev pub saturated_offset : ℕ → ℕ
-saturated_offset n = min n (2 ^ 63 - 1)
+abbrev pub saturated_signed : ℕ → ℕ
+saturated_signed n = min n (2 ^ 63 - 1)
 
 -- the status for bytes and the size of their buffer
 abbrev pub room_status : List ℕ → ℕ → ℤ

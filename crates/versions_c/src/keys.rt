@@ -5,15 +5,14 @@ ghost use Rattle.versions.specs.Key.{key_of};
 ghost use Rattle.versions.specs.KeyBytes.{key_bytes};
 ghost use Rattle.versions.specs.Versioning.{versioning_of, PlainVersioning};
 ghost use Rattle.version_texts.specs.Sinks.{put_at, saturated};
-ghost use Rattle.versions_c.specs.Keys.{all_keys, key_status, keys_before, length_past, room_for, room_status, saturated_offset, spelled_key, AreKeyOffsets};
+ghost use Rattle.versions_c.specs.Keys.{all_keys, key_status, keys_before, length_past, room_for, room_status, saturated_signed, spelled_key, AreKeyOffsets};
+ghost use Rattle.versions_c.specs.Kinds.{kind_of};
 ghost use Rattle.versions_c.specs.Offsets.{AreOffsets};
 
-use crate::offsets::{are_offsets, text_at};
+use crate::offsets::{LARGEST, are_offsets, text_at};
+use crate::spelled::kind_number;
 use crate::status::{BAD_OFFSETS, NO_ROOM, NO_VERSION, OK};
 use version_texts::VersioningRef;
-
-// The largest offset that C has.
-const LARGEST: u64 = 0x7FFF_FFFF_FFFF_FFFF;
 
 /// Returns a size that is enough for the key of any text of a length.
 #[unsafe(no_mangle)]
@@ -40,6 +39,30 @@ pub extern "C" fn versions_sort_key(text: &[u8], key: &mut [u8], key_len: &mut u
         (λ bytes. key_len.new ≡ saturated (length bytes)) }
     ensures no_length { result ≡ NO_VERSION → key_len.new ≡ key_len.old }
 {
+    let mut kind = 0;
+    versions_parse(text, &mut kind, key, key_len)
+}
+
+/// Writes the kind and the sort key of a version.
+#[unsafe(no_mangle)]
+pub extern "C" fn versions_parse(
+    text: &[u8],
+    kind: &mut u8,
+    key: &mut [u8],
+    key_len: &mut usize,
+) -> i32
+    ensures status { result ≡ key_status (spelled_key text.now) (length key.old) }
+    ensures key { result ≡ OK → IfSome (spelled_key text.now)
+        (λ bytes. key.new ≡ bytes ++ drop (length bytes) key.old) }
+    ensures kept { result ≢ OK → key.new ≡ key.old }
+
+    // Its length is reported even if it doesn't fit.
+    ensures length { IfSome (spelled_key text.now)
+        (λ bytes. key_len.new ≡ saturated (length bytes)) }
+    ensures no_length { result ≡ NO_VERSION → key_len.new ≡ key_len.old }
+    ensures kind { result ≡ OK → kind.new ≡ kind_of (versioning_of text.now) }
+    ensures kept_kind { result ≢ OK → kind.new ≡ kind.old }
+{
     if let Some(length) = length_past(text, key.len()) {
         *key_len = length;
         return NO_ROOM;
@@ -48,6 +71,7 @@ pub extern "C" fn versions_sort_key(text: &[u8], key: &mut [u8], key_len: &mut u
         return NO_VERSION;
     };
     *key_len = version.write_key(key, 0);
+    *kind = kind_number(version.kind());
     OK
 }
 
@@ -69,7 +93,7 @@ pub extern "C" fn versions_sort_keys(
     ensures offsets { AreKeyOffsets offsets.now (length texts.now) (length key_offsets.old)
         → (i : ℕ) → i < length offsets.now
         → slice_index key_offsets.new i
-        ≡ saturated_offset (length (keys_before texts.now offsets.now i)) }
+        ≡ saturated_signed (length (keys_before texts.now offsets.now i)) }
 
     // Otherwise nothing is written.
     ensures bad { ¬ (AreKeyOffsets offsets.now (length texts.now) (length key_offsets.old))
@@ -109,7 +133,7 @@ pub fn put_keys(
         ++ drop (length (keys_before texts.now offsets.now count)) keys.old }
     ensures key_offsets { (i : ℕ) → i ≤ count
         → slice_index key_offsets.new i
-        ≡ saturated_offset (length (keys_before texts.now offsets.now i)) }
+        ≡ saturated_signed (length (keys_before texts.now offsets.now i)) }
 {
     put_all(texts, offsets, count, keys, key_offsets) <= keys.len()
 }
@@ -128,7 +152,7 @@ fn put_all(
     ensures keys { keys.new ≡ put_at keys.old 0 (keys_before texts.now offsets.now count) }
     ensures key_offsets { (i : ℕ) → i ≤ count
         → slice_index key_offsets.new i
-        ≡ saturated_offset (length (keys_before texts.now offsets.now i)) }
+        ≡ saturated_signed (length (keys_before texts.now offsets.now i)) }
 {
     let mut end: usize = 0;
     key_offsets[0] = 0;

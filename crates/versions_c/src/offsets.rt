@@ -3,6 +3,9 @@
 ghost use Rattle.std.specs.Prelude.{◌≡◌, ◌↔◌, ◌+◌, ◌<◌, length, IsTrue};
 ghost use Rattle.versions_c.specs.Offsets.{text_at, AreOffsets};
 
+/// The largest signed number of 64 bits: the largest offset that C has.
+pub const LARGEST: u64 = 0x7FFF_FFFF_FFFF_FFFF;
+
 /// Returns whether offsets fit so many texts in a buffer of that length. An offset below 0 in C is larger than every
 /// length here.
 pub fn are_offsets(offsets: &[u64], buffer: usize, count: usize) -> bool

@@ -7,7 +7,7 @@ ghost use Rattle.std.specs.Option.{option_cmp, option_map};
 ghost use Rattle.std.specs.declared.cmp.Ordering.TheVariants.{Equal};
 ghost use Rattle.version_texts.specs.VersioningRef.{plain_versioning_ref};
 ghost use Rattle.versions.specs.Versioning.{versioning_plain_cmp};
-ghost use Rattle.versions_c.specs.Keys.{all_keys, keys_before, room_status, saturated_offset};
+ghost use Rattle.versions_c.specs.Keys.{all_keys, keys_before, room_status, saturated_signed};
 ghost use Rattle.versions_c.specs.Offsets.{text_at};
 ghost use Rattle.versions_c.specs.Sorting.{keyed_cmp, keys_cmp, text_tie_breaker, tied_cmp, AreInOrder, AreSortOffsets};
 
@@ -41,7 +41,7 @@ pub extern "C" fn versions_sort(
         (length key_offsets.old) (length order.old)
         → (i : ℕ) → i < length offsets.now
         → slice_index key_offsets.new i
-        ≡ saturated_offset (length (keys_before texts.now offsets.now i)) }
+        ≡ saturated_signed (length (keys_before texts.now offsets.now i)) }
 
     // Otherwise nothing is written.
     ensures bad { ¬ (AreSortOffsets offsets.now (length texts.now)

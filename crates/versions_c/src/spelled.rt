@@ -1,7 +1,8 @@
 //! What bytes parse as. Bytes that are not UTF-8 parse as nothing.
 
-ghost use Rattle.std.specs.Prelude.{◌≡◌};
-ghost use Rattle.versions.specs.Versioning.{versioning_of};
+ghost use Rattle.std.specs.Prelude.{◌≡◌, Some};
+ghost use Rattle.versions.specs.Kind.{versioning_kind};
+ghost use Rattle.versions.specs.Versioning.{versioning_of, PlainVersioning};
 ghost use Rattle.versions_c.specs.Kinds.{kind_of};
 
 use version_texts::VersioningRef;
@@ -14,7 +15,15 @@ pub fn kind_of(text: &[u8]) -> u8
     let Some(version) = VersioningRef::from_bytes(text) else {
         return 0;
     };
-    match version.kind() {
+    kind_number(version.kind())
+}
+
+/// Returns the number of a kind.
+#[inline(always)]
+pub fn kind_number(kind: Kind) -> u8
+    ensures { (v : PlainVersioning) → versioning_kind v ≡ kind → result ≡ kind_of (Some v) }
+{
+    match kind {
         Kind::Ideal => 1,
         Kind::General => 2,
         Kind::Complex => 3,

@@ -18,3 +18,5 @@ pub const NO_NUMBER: i32 = 6;
 pub const NO_ROOM: i32 = 7;
 /// An offset is bad, or the lengths of two arrays don't match.
 pub const BAD_OFFSETS: i32 = 8;
+/// The version has no such field.
+pub const NO_FIELD: i32 = 11;

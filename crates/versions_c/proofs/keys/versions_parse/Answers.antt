@@ -5,7 +5,7 @@ use Rattle.versions.specs.KeyBytes.{key_bytes}
 use Rattle.version_texts.specs.VersioningRef.{plain_versioning_ref}
 use Rattle.versions_c.specs.Keys.{spelled_key}
 use Rattle.versions_c.proofs.Putting.{fitting_key}
-use Rattle.versions_c.proofs.keys.versions_sort_key.Goals as goal
+use Rattle.versions_c.proofs.keys.versions_parse.Goals as goal
 
 pub returns-clause-key : goal.returns-clause-key
 returns-clause-key c =

@@ -1,0 +1,23 @@
+use Rattle.std.proofs.Common.{ap, sym}
+use Rattle.std.proofs.lemmas.Bool.{ne_eqb}
+use Rattle.std.specs.Option.{option_map}
+use Rattle.version_texts.specs.Sinks.{saturated}
+use Rattle.version_texts.proofs.Borrowed.{shape_fits}
+use Rattle.version_texts.proofs.Fields.{fields_placed}
+use Rattle.version_texts.proofs.versioning_ref.VersioningRef.epoch.Goals as goal
+
+pub returns-then-self-eq0 : goal.returns-then-self-eq0
+returns-then-self-eq0 c =
+    sym (ap (option_map saturated) (rw c.if-self-eq0.true at (fields_placed _ _ c.args.self.now.read).value))
+
+pub epoch_at-requires : goal.epoch_at-requires
+epoch_at-requires c = shape_fits _ _ c.args.self.now.read
+
+pub saturated_value-requires : goal.saturated_value-requires
+saturated_value-requires c =
+    rw c.epoch_at.ensures (shape_fits _ _ c.args.self.now.read).epoch_is
+
+pub returns : goal.returns
+returns c =
+    let value = rw (ne_eqb _ 0 c.if-self-eq0.false) at (fields_placed _ _ c.args.self.now.read).value in
+    rw (c.saturated_value.ensures, c.epoch_at.ensures) (sym (ap (option_map saturated) value))

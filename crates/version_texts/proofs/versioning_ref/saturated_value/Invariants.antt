@@ -1,0 +1,8 @@
+use Rattle.std.proofs.Common.{◌≡◌, take}
+use Rattle.std.specs.Str.Parse.{digits_value}
+use Rattle.version_texts.specs.Sinks.{saturated}
+use Rattle.version_texts.proofs.versioning_ref.saturated_value.Given as goal
+
+-- the value of the digits so far
+abbrev pub invariant-loop-digit : goal.invariant-loop-digit
+invariant-loop-digit l = l.value ≡ saturated (digits_value 10 (take l.digit-index l.digits))

@@ -1,0 +1,53 @@
+-- The fields of a version that are pieces of its text, and where they lie in it.
+use Rattle.std.specs.Prelude.{◌+◌, ℕ, List, [], ◌∷◌, ◌++◌, length, Option, None}
+use Rattle.std.specs.Fmt.{decimal}
+use Rattle.std.specs.Option.{option_map}
+use Rattle.version_parts.specs.Bytes.{hyphen, plus}
+use Rattle.version_parts.specs.Release.{release_text}
+use Rattle.versions.specs.Key.{mess_epoch}
+use Rattle.versions.specs.Mess.{joined_section}
+use Rattle.versions.specs.SemVer.{PlainSemVer, semver_text}
+use Rattle.versions.specs.Version.{PlainVersion, version_text}
+use Rattle.versions.specs.Versioning.{PlainVersioning, Ideal, General, Complex}
+use Rattle.version_texts.specs.declared.field.Field.{Field}
+use Rattle.version_texts.specs.declared.field.Field.TheVariants.{Epoch, PreRelease, Release, Metadata}
+
+-- the text of a field, if the version has it
+abbrev pub field_text : Field → PlainVersioning → Option (List ℕ)
+field_text Epoch (General v) = option_map decimal v.epoch
+field_text Epoch (Complex m) = option_map (λ n. joined_section m.first) (mess_epoch m.first m.more)
+field_text PreRelease (Ideal v) = option_map release_text v.pre_rel
+field_text Release (General v) = option_map release_text v.release
+field_text Metadata (Ideal v) = v.meta
+field_text Metadata (General v) = v.meta
+field_text _ _ = None
+
+-- the same version without metadata
+abbrev pub bare_semver : PlainSemVer → PlainSemVer
+bare_semver v = record { major = v.major; minor = v.minor; patch = v.patch; pre_rel = v.pre_rel; meta = None }
+
+abbrev pub bare_version : PlainVersion → PlainVersion
+bare_version v = record { epoch = v.epoch; chunks = v.chunks; last = v.last; release = v.release; meta = None }
+
+-- the same version without metadata, and without its pre-release or release
+abbrev pub numbers_alone : PlainSemVer → PlainSemVer
+numbers_alone v = record { major = v.major; minor = v.minor; patch = v.patch; pre_rel = None; meta = None }
+
+abbrev pub body_alone : PlainVersion → PlainVersion
+body_alone v = record { epoch = v.epoch; chunks = v.chunks; last = v.last; release = None; meta = None }
+
+-- the printed text before a field: what is printed without it and what follows it, and its mark
+abbrev pub text_before : Field → PlainVersioning → List ℕ
+text_before PreRelease (Ideal v) = semver_text (numbers_alone v) ++ hyphen ∷ []
+text_before Release (General v) = version_text (body_alone v) ++ hyphen ∷ []
+text_before Metadata (Ideal v) = semver_text (bare_semver v) ++ plus ∷ []
+text_before Metadata (General v) = version_text (bare_version v) ++ plus ∷ []
+text_before _ _ = []
+
+-- where a text lies behind another
+abbrev pub place_behind : List ℕ → List ℕ → ℕ × ℕ
+place_behind before text = (length before, length before + length text)
+
+-- where a field lies in the text of a version, if the version has it
+abbrev pub field_place : Field → PlainVersioning → Option (ℕ × ℕ)
+field_place f v = option_map (place_behind (text_before f v)) (field_text f v)

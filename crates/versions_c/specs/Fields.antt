@@ -1,0 +1,22 @@
+-- The fields of a version by their numbers.
+use Rattle.std.specs.Prelude.{ℕ, ℤ, ◌==◌, Option, Some, None, is_some, if◌then◌else◌}
+use Rattle.std.specs.Option.{option_and_then}
+use Rattle.version_texts.specs.declared.field.Field.{Field}
+use Rattle.version_texts.specs.declared.field.Field.TheVariants.{Epoch, PreRelease, Release, Metadata}
+use Rattle.version_texts.specs.Field.{field_place}
+use Rattle.versions.specs.Versioning.{PlainVersioning}
+use Rattle.versions_c.specs.declared.fields.TheConstants.{EPOCH, METADATA, PRE_RELEASE, RELEASE}
+use Rattle.versions_c.specs.declared.status.TheConstants.{OK, NO_FIELD, NO_VERSION}
+
+-- the field of a number, if there is one
+abbrev pub field_of : ℕ → Option Field
+field_of n =
+    if n == EPOCH then Some Epoch
+    else (if n == PRE_RELEASE then Some PreRelease
+    else (if n == RELEASE then Some Release
+    else (if n == METADATA then Some Metadata else None)))
+
+-- the status for a text, by whether its version has the field
+abbrev pub field_status : Option Field → Option PlainVersioning → ℤ
+field_status f None = NO_VERSION
+field_status f (Some v) = if is_some (option_and_then (λ f. field_place f v) f) then OK else NO_FIELD
