@@ -1023,18 +1023,18 @@ static void long_field(const char *before, char byte, size_t times, const char *
 }
 
 // A million sections, a million parts, and ten megabytes of letters. The key of sections of one digit has the length of
-// the bound.
+// the bound. Then fields of a million bytes.
 static void long_texts(void) {
   size_t million = 1000000;
   long_text("1_", million, VERSIONS_COMPLEX, versions_sort_key_bound(2 * million + 1));
   long_text("1.", million, VERSIONS_GENERAL, 1 + 4 * (million + 1) + 1 + 1);
   long_text("a", 10 * million, VERSIONS_GENERAL, 1 + 1 + 10 * million + 1 + 1 + 3 + 1 + 1);
-  long_field("", '9', 10 * million, ":1", VERSIONS_COMPLEX);
-  long_field("", '0', 10 * million, "7:1", VERSIONS_COMPLEX);
-  long_field("", '0', 10 * million, "9223372036854775808:1", VERSIONS_COMPLEX);
-  long_field("", '9', 10 * million, "a:1", VERSIONS_COMPLEX);
-  long_field("1.2.3-", '-', 10 * million, "+a-b", VERSIONS_IDEAL);
-  long_field("1:2-3+", '.', 10 * million, "", VERSIONS_GENERAL);
+  long_field("", '9', million, ":1", VERSIONS_COMPLEX);
+  long_field("", '0', million, "7:1", VERSIONS_COMPLEX);
+  long_field("", '0', million, "9223372036854775808:1", VERSIONS_COMPLEX);
+  long_field("", '9', million, "a:1", VERSIONS_COMPLEX);
+  long_field("1.2.3-", '-', million, "+a-b", VERSIONS_IDEAL);
+  long_field("1:2-3+", '.', million, "", VERSIONS_GENERAL);
 }
 
 // The ranks of texts by their places: ascending, descending, scattered, all equal, two in turn, and with some or all
