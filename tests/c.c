@@ -157,18 +157,8 @@ static void check_parse(const char *text, size_t length, int kind, const uint8_t
   }
 }
 
-// Every number of a field, and other numbers, of which some have the last bits of a field's number.
-static const uint32_t fields[] = {0,
-                                  VERSIONS_FIELD_EPOCH,
-                                  VERSIONS_FIELD_PRE_RELEASE,
-                                  VERSIONS_FIELD_RELEASE,
-                                  VERSIONS_FIELD_METADATA,
-                                  5,
-                                  8,
-                                  257,
-                                  65538,
-                                  0x80000003u,
-                                  UINT32_MAX};
+// The numbers of the fields, 1 to 4, and others, of which some have the last bits of these.
+static const uint32_t fields[] = {0, 1, 2, 3, 4, 5, 8, 257, 65538, 0x80000003u, UINT32_MAX};
 
 // The place of a field in a text of this kind, by the text. Returns whether the version has the field.
 static bool field_of(const char *text, size_t length, int kind, uint32_t field, size_t *start, size_t *end) {
