@@ -14,6 +14,7 @@ int proved_versions_kind(const char *text, size_t text_len);
 int proved_versions_compare(const char *a, size_t a_len, const char *b, size_t b_len, int32_t *order);
 int proved_versions_compare_total(const char *a, size_t a_len, const char *b, size_t b_len, int32_t *order);
 int proved_versions_sort_key(const char *text, size_t text_len, uint8_t *key, size_t room, size_t *key_len);
+int proved_versions_parse(const char *text, size_t text_len, uint8_t *kind, uint8_t *key, size_t room, size_t *key_len);
 size_t proved_versions_sort_key_bound(size_t text_len);
 int proved_versions_matches(const char *list, size_t list_len, const char *text, size_t text_len, bool *matches);
 int proved_versions_range(const char *list, size_t list_len, uint8_t *low, size_t low_room, size_t *low_len,
@@ -21,7 +22,8 @@ int proved_versions_range(const char *list, size_t list_len, uint8_t *low, size_
 int proved_versions_in_range(const char *text, size_t text_len, const uint8_t *low, size_t low_len, const uint8_t *high,
                              size_t high_len, uint32_t flags, bool *is_in);
 int proved_versions_nth(const char *text, size_t text_len, size_t n, uint32_t *number);
-int proved_versions_epoch(const char *text, size_t text_len, uint32_t *epoch);
+int proved_versions_epoch(const char *text, size_t text_len, uint64_t *epoch);
+int proved_versions_field(const char *text, size_t text_len, uint32_t field, size_t *start, size_t *end);
 int proved_versions_is_prerelease(const char *text, size_t text_len, bool *is_prerelease);
 int proved_versions_kinds(const char *texts, size_t texts_len, const int64_t *offsets, size_t offsets_len,
                           uint8_t *kinds, size_t kinds_len);
@@ -68,6 +70,11 @@ int versions_sort_key(const char *text, size_t text_len, uint8_t *key, size_t ro
   return proved_versions_sort_key(from(text), text_len, to(key), room, key_len);
 }
 
+int versions_parse(const char *text, size_t text_len, uint8_t *kind, uint8_t *key, size_t room, size_t *key_len) {
+  if (lacks(text, text_len) || kind == NULL || lacks(key, room) || key_len == NULL) return VERSIONS_NULL;
+  return proved_versions_parse(from(text), text_len, kind, to(key), room, key_len);
+}
+
 size_t versions_sort_key_bound(size_t text_len) { return proved_versions_sort_key_bound(text_len); }
 
 int versions_matches(const char *list, size_t list_len, const char *text, size_t text_len, bool *matches) {
@@ -95,9 +102,14 @@ int versions_nth(const char *text, size_t text_len, size_t n, uint32_t *number) 
   return proved_versions_nth(from(text), text_len, n, number);
 }
 
-int versions_epoch(const char *text, size_t text_len, uint32_t *epoch) {
+int versions_epoch(const char *text, size_t text_len, uint64_t *epoch) {
   if (lacks(text, text_len) || epoch == NULL) return VERSIONS_NULL;
   return proved_versions_epoch(from(text), text_len, epoch);
+}
+
+int versions_field(const char *text, size_t text_len, uint32_t field, size_t *start, size_t *end) {
+  if (lacks(text, text_len) || start == NULL || end == NULL) return VERSIONS_NULL;
+  return proved_versions_field(from(text), text_len, field, start, end);
 }
 
 int versions_is_prerelease(const char *text, size_t text_len, bool *is_prerelease) {
@@ -164,6 +176,7 @@ const char *versions_status_text(int status) {
     case VERSIONS_BAD_OFFSETS: return "an offset is bad, or the lengths of two arrays do not match";
     case VERSIONS_NO_MEMORY: return "memory allocation failed";
     case VERSIONS_NULL: return "a pointer is null, and what it should point to is not empty";
+    case VERSIONS_NO_FIELD: return "the version has no such field";
     default: return "not a status of this library";
   }
 }

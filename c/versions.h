@@ -59,12 +59,19 @@ extern "C" {
 #define VERSIONS_BAD_OFFSETS 8     /* an offset is bad, or the lengths of two arrays do not match */
 #define VERSIONS_NO_MEMORY 9       /* reserved for an allocation failure; no call allocates, and none returns this */
 #define VERSIONS_NULL 10           /* a pointer is null, and what it should point to is not empty */
+#define VERSIONS_NO_FIELD 11       /* the version has no such field */
 
 /* The kinds. */
 #define VERSIONS_NONE 0    /* not a version */
 #define VERSIONS_IDEAL 1   /* strict, such as 1.2.3-rc.1+x86 */
 #define VERSIONS_GENERAL 2 /* such as 1:2.0rc1-3 */
 #define VERSIONS_COMPLEX 3 /* messy, such as 10.2+0.93+1-1 */
+
+/* The fields of a version, as pieces of its text. */
+#define VERSIONS_FIELD_EPOCH 1       /* the digits before the colon of a general or messy version: 1 of 1:2.0-3 */
+#define VERSIONS_FIELD_PRE_RELEASE 2 /* what follows the hyphen of a strict version: rc.1 of 1.2.3-rc.1+x86 */
+#define VERSIONS_FIELD_RELEASE 3     /* what follows the hyphen of a general version: 3 of 1:2.0-3 */
+#define VERSIONS_FIELD_METADATA 4    /* what follows the plus of a strict or general version: x86 of 1.2.3-rc.1+x86 */
 
 /* The flags of a range. */
 #define VERSIONS_RANGE_IDEAL 1   /* ideal versions are in the range */
@@ -114,6 +121,16 @@ int versions_compare_total(const char *a, size_t a_len, const char *b, size_t b_
  * Returns VERSIONS_OK, VERSIONS_NO_VERSION or VERSIONS_NO_ROOM.
  */
 int versions_sort_key(const char *text, size_t text_len, uint8_t *key, size_t room, size_t *key_len);
+
+/*
+ * Writes the kind and the sort key of a version, with one scan of the text.
+ *
+ * Sets *kind to VERSIONS_IDEAL, VERSIONS_GENERAL or VERSIONS_COMPLEX, if the call returns VERSIONS_OK. `key`, room and
+ * key_len are those of versions_sort_key, and get what that call writes.
+ *
+ * Returns VERSIONS_OK, VERSIONS_NO_VERSION or VERSIONS_NO_ROOM.
+ */
+int versions_parse(const char *text, size_t text_len, uint8_t *kind, uint8_t *key, size_t room, size_t *key_len);
 
 /*
  * Returns a buffer size that is large enough for the key of every text of a length: 3 * text_len + 5, or SIZE_MAX if
@@ -196,12 +213,26 @@ int versions_in_range(const char *text, size_t text_len, const uint8_t *low, siz
 int versions_nth(const char *text, size_t text_len, size_t n, uint32_t *number);
 
 /*
- * Gets the epoch of a general version: the number before its colon. 1:2.0-3 has 1.
+ * Gets the epoch of a version: the number before its colon, which counts first in the order. 1:2.0-3 has 1.
  *
- * Returns VERSIONS_OK, VERSIONS_NO_VERSION, or VERSIONS_NO_NUMBER for a general version without an epoch and for a
- * version of another kind.
+ * A general or messy version has an epoch if its text begins with digits and a colon: 8:2007f~dfsg-7 has 8. For an
+ * epoch above 9223372036854775807 the call sets *epoch to 9223372036854775807; versions_field finds its digits.
+ *
+ * Returns VERSIONS_OK, VERSIONS_NO_VERSION, or VERSIONS_NO_NUMBER for a version without an epoch.
  */
-int versions_epoch(const char *text, size_t text_len, uint32_t *epoch);
+int versions_epoch(const char *text, size_t text_len, uint64_t *epoch);
+
+/*
+ * Finds a field of a version in its text: VERSIONS_FIELD_EPOCH, VERSIONS_FIELD_PRE_RELEASE, VERSIONS_FIELD_RELEASE or
+ * VERSIONS_FIELD_METADATA.
+ *
+ * The field is the bytes of the text from *start up to, but without, *end. No field is empty. A strict version can have
+ * a pre-release and metadata, a general version an epoch, a release and metadata, and a messy version an epoch.
+ *
+ * Returns VERSIONS_OK, VERSIONS_NO_VERSION, or VERSIONS_NO_FIELD for a version without that field and for every other
+ * number of a field.
+ */
+int versions_field(const char *text, size_t text_len, uint32_t field, size_t *start, size_t *end);
 
 /*
  * Tests whether a version is a pre-release (SemVer 2.0, section 9).

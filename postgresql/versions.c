@@ -204,10 +204,22 @@ SQL_FUNCTION(version_nth) {
 
 SQL_FUNCTION(version_epoch) {
   Span span = span_of(PG_GETARG_TEXT_PP(0));
-  uint32_t epoch;
+  uint64_t epoch;
   if (versions_epoch(span.bytes, span.len, &epoch) != VERSIONS_OK) PG_RETURN_NULL();
-  PG_RETURN_INT64(epoch);
+  PG_RETURN_INT64((int64)epoch); /* at most the largest bigint */
 }
+
+/* A field of the argument, as a text. */
+static Datum field_of_argument(FunctionCallInfo fcinfo, uint32_t field) {
+  Span span = span_of(PG_GETARG_TEXT_PP(0));
+  size_t start, end;
+  if (versions_field(span.bytes, span.len, field, &start, &end) != VERSIONS_OK) PG_RETURN_NULL();
+  PG_RETURN_TEXT_P(cstring_to_text_with_len(span.bytes + start, (int)(end - start)));
+}
+
+SQL_FUNCTION(version_pre_release) { return field_of_argument(fcinfo, VERSIONS_FIELD_PRE_RELEASE); }
+SQL_FUNCTION(version_release) { return field_of_argument(fcinfo, VERSIONS_FIELD_RELEASE); }
+SQL_FUNCTION(version_metadata) { return field_of_argument(fcinfo, VERSIONS_FIELD_METADATA); }
 
 SQL_FUNCTION(version_is_prerelease) {
   Span span = span_of(PG_GETARG_TEXT_PP(0));

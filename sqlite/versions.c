@@ -9,19 +9,23 @@
  *   version_low(requirement)             a BLOB: the key of no version that matches is below it
  *   version_high(requirement)            a BLOB: the key of each version that matches is below it
  *   version_nth(text, n)                 the number at a place, counted from 0
- *   version_epoch(text)                  the number before the colon of a general version
+ *   version_epoch(text)                  the epoch, the number before the colon; at most 9223372036854775807
+ *   version_pre_release(text)            the pre-release of a strict version, a TEXT
+ *   version_release(text)                the release of a general version, a TEXT
+ *   version_metadata(text)               the metadata of a strict or general version, a TEXT
  *   version_is_prerelease(text)          1 or 0: whether a version is strict and has a pre-release
  *   version_max(text)                    aggregate and window function: the greatest version of the rows
  *   version_min(text)                    the least version of the rows
  *   versions_version()                   the version of the library
  *   COLLATE VERSION                      by precedence, then by bytes; texts that are not versions come last
  *
- * Each function returns NULL if a value is not a version. NULL, numbers, BLOBs and texts that are not UTF-8 are not
- * versions. A number is not converted to text, since 1.10 is already 1.1. The aggregates skip values that are not
- * versions. A function of a requirement returns NULL for NULL, and fails if the requirement does not parse. All
- * functions are deterministic and have no side effects, so indexes and generated columns can use them.
+ * Each function returns NULL if a value is not a version or lacks what is asked for. NULL, numbers, BLOBs and texts
+ * that are not UTF-8 are not versions. A number is not converted to text, since 1.10 is already 1.1. The aggregates
+ * skip values that are not versions. A function of a requirement returns NULL for NULL, and fails if the requirement
+ * does not parse. All functions are deterministic and have no side effects, so indexes and generated columns can use
+ * them.
  *
- * All memory is SQLite's: keys, bounds, the range of a constant requirement, the texts that an aggregate keeps,
+ * All memory is SQLite's: keys, bounds, fields, the range of a constant requirement, the texts that an aggregate keeps,
  * messages, and a number for a connection. Nothing else is allocated.
  *
  * The library alone decides what versions are and how they compare. This file only passes texts to it.
@@ -301,15 +305,43 @@ static void version_nth(sqlite3_context *context, int count, sqlite3_value **val
 
 static void version_epoch(sqlite3_context *context, int count, sqlite3_value **values) {
   struct text text = text_of(values[0]);
-  uint32_t epoch;
+  uint64_t epoch;
   (void)count;
   if (!text.bytes) {
     sqlite3_result_error_nomem(context);
   } else if (versions_epoch(text.bytes, text.len, &epoch) == VERSIONS_OK) {
-    sqlite3_result_int64(context, epoch);
+    /* At most the largest integer of SQLite. */
+    sqlite3_result_int64(context, (sqlite3_int64)epoch);
   } else {
     sqlite3_result_null(context);
   }
+}
+
+static void give_field(sqlite3_context *context, sqlite3_value *value, uint32_t field) {
+  struct text text = text_of(value);
+  size_t start, end;
+  if (!text.bytes) {
+    sqlite3_result_error_nomem(context);
+  } else if (versions_field(text.bytes, text.len, field, &start, &end) == VERSIONS_OK) {
+    sqlite3_result_text64(context, text.bytes + start, end - start, SQLITE_TRANSIENT, SQLITE_UTF8);
+  } else {
+    sqlite3_result_null(context);
+  }
+}
+
+static void version_pre_release(sqlite3_context *context, int count, sqlite3_value **values) {
+  (void)count;
+  give_field(context, values[0], VERSIONS_FIELD_PRE_RELEASE);
+}
+
+static void version_release(sqlite3_context *context, int count, sqlite3_value **values) {
+  (void)count;
+  give_field(context, values[0], VERSIONS_FIELD_RELEASE);
+}
+
+static void version_metadata(sqlite3_context *context, int count, sqlite3_value **values) {
+  (void)count;
+  give_field(context, values[0], VERSIONS_FIELD_METADATA);
 }
 
 static void version_is_prerelease(sqlite3_context *context, int count, sqlite3_value **values) {
@@ -485,6 +517,9 @@ static int define_functions(sqlite3 *db) {
       {"version_high", 1, version_high},
       {"version_nth", 2, version_nth},
       {"version_epoch", 1, version_epoch},
+      {"version_pre_release", 1, version_pre_release},
+      {"version_release", 1, version_release},
+      {"version_metadata", 1, version_metadata},
       {"version_is_prerelease", 1, version_is_prerelease},
       {"versions_version", 0, give_library_version},
   };

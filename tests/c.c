@@ -137,24 +137,102 @@ static uint8_t *key_of(const char *text, size_t length, size_t *key_length) {
   return key;
 }
 
-// The epoch of a text of this kind, by the text: general versions alone have one, and a colon only after it.
-static void check_epoch(const char *text, size_t length, int kind) {
-  bool has_one = kind == VERSIONS_GENERAL && memchr(text, ':', length) != NULL;
-  int missing = kind == VERSIONS_NONE ? VERSIONS_NO_VERSION : VERSIONS_NO_NUMBER;
-  uint32_t wanted = has_one ? 0 : 77, epoch = 77;
-  for (size_t i = 0; has_one && text[i] != ':'; i++) wanted = 10 * wanted + (uint32_t)(text[i] - '0');
-  CHECK(versions_epoch(text, length, &epoch) == (has_one ? VERSIONS_OK : missing));
-  CHECK(epoch == wanted);
+// Checks versions_parse with buffers of several sizes, beside the kind and the key of the text. The key is NULL if the
+// text is not a version.
+static void check_parse(const char *text, size_t length, int kind, const uint8_t *key, size_t key_length) {
+  const size_t rooms[] = {0, key_length / 2, key_length - (key != NULL), key_length, key_length + 3,
+                          versions_sort_key_bound(length)};
+  for (size_t i = 0; i < sizeof rooms / sizeof *rooms; i++) {
+    size_t room = rooms[i], needed = 77;
+    bool fits = key != NULL && key_length <= room;
+    uint8_t *bytes = (uint8_t *)block(room), parsed = 77;
+    memset(bytes, 170, room);
+    CHECK(versions_parse(text, length, &parsed, bytes, room, &needed) ==
+          (key == NULL ? VERSIONS_NO_VERSION : fits ? VERSIONS_OK : VERSIONS_NO_ROOM));
+    CHECK(parsed == (fits ? kind : 77));
+    CHECK(needed == (key == NULL ? 77 : key_length));
+    CHECK(!fits || memcmp(bytes, key, key_length) == 0);
+    for (size_t at = fits ? key_length : 0; at < room; at++) CHECK(bytes[at] == 170);
+    release(bytes);
+  }
 }
 
-// Whether a text of this kind is a pre-release, by the text: an ideal version with a hyphen before any plus sign.
-static void check_prerelease(const char *text, size_t length, int kind) {
+// The numbers of the fields, 1 to 4, and others, of which some have the last bits of these.
+static const uint32_t fields[] = {0, 1, 2, 3, 4, 5, 8, 257, 65538, 0x80000003u, UINT32_MAX};
+
+// The place of a field in a text of this kind, by the text. Returns whether the version has the field.
+static bool field_of(const char *text, size_t length, int kind, uint32_t field, size_t *start, size_t *end) {
   const char *plus = (const char *)memchr(text, '+', length);
-  size_t until = plus != NULL ? (size_t)(plus - text) : length;
-  bool wanted = kind == VERSIONS_IDEAL && memchr(text, '-', until) != NULL, answer = !wanted;
+  size_t until = plus != NULL ? (size_t)(plus - text) : length, digits = 0;
+  const char *hyphen = (const char *)memchr(text, '-', until);
+  switch (field) {
+    case VERSIONS_FIELD_EPOCH:
+      while (digits < length && text[digits] >= '0' && text[digits] <= '9') digits++;
+      *start = 0;
+      *end = digits;
+      return kind != VERSIONS_NONE && 0 < digits && digits < length && text[digits] == ':';
+    case VERSIONS_FIELD_PRE_RELEASE:
+    case VERSIONS_FIELD_RELEASE:
+      *start = hyphen != NULL ? (size_t)(hyphen - text) + 1 : 0;
+      *end = until;
+      return hyphen != NULL && kind == (field == VERSIONS_FIELD_RELEASE ? VERSIONS_GENERAL : VERSIONS_IDEAL);
+    case VERSIONS_FIELD_METADATA:
+      *start = until + 1;
+      *end = length;
+      return plus != NULL && (kind == VERSIONS_IDEAL || kind == VERSIONS_GENERAL);
+    default: return false;
+  }
+}
+
+static void check_fields(const char *text, size_t length, int kind) {
+  for (size_t i = 0; i < sizeof fields / sizeof *fields; i++) {
+    size_t start = 77, end = 78, wanted_start, wanted_end;
+    int status = versions_field(text, length, fields[i], &start, &end);
+    if (field_of(text, length, kind, fields[i], &wanted_start, &wanted_end)) {
+      CHECK(status == VERSIONS_OK);
+      CHECK(start == wanted_start && end == wanted_end);
+      CHECK(start < end && end <= length);
+    } else {
+      CHECK(status == (kind == VERSIONS_NONE ? VERSIONS_NO_VERSION : VERSIONS_NO_FIELD));
+      CHECK(start == 77 && end == 78);
+    }
+  }
+}
+
+// The number of some digits, or INT64_MAX if it is greater.
+static uint64_t number_of(const char *digits, size_t length) {
+  char number[20] = "";
+  for (; length > 0 && *digits == '0'; length--) digits++;
+  if (length >= sizeof number) return INT64_MAX;
+  memcpy(number, digits, length);
+  uint64_t value = strtoull(number, NULL, 10);
+  return value < INT64_MAX ? value : INT64_MAX;
+}
+
+static void check_epoch(const char *text, size_t length, int kind) {
+  size_t start, end;
+  uint64_t epoch = 77;
+  int status = versions_epoch(text, length, &epoch);
+  if (field_of(text, length, kind, VERSIONS_FIELD_EPOCH, &start, &end)) {
+    CHECK(status == VERSIONS_OK && epoch == number_of(text, end));
+  } else {
+    CHECK(status == (kind == VERSIONS_NONE ? VERSIONS_NO_VERSION : VERSIONS_NO_NUMBER) && epoch == 77);
+  }
+}
+
+static void check_prerelease(const char *text, size_t length, int kind) {
+  size_t start, end;
+  bool wanted = field_of(text, length, kind, VERSIONS_FIELD_PRE_RELEASE, &start, &end), answer = !wanted;
   int status = versions_is_prerelease(text, length, &answer);
   CHECK(status == (kind == VERSIONS_NONE ? VERSIONS_NO_VERSION : VERSIONS_OK));
   CHECK(answer == (kind == VERSIONS_NONE ? !wanted : wanted));
+}
+
+// Checks what a text of this kind says of itself, by the text.
+static void check_values(const char *text, size_t length, int kind) {
+  check_fields(text, length, kind);
+  check_epoch(text, length, kind);
+  check_prerelease(text, length, kind);
 }
 
 static void show(const struct lines *lines) {
@@ -194,6 +272,7 @@ static void show(const struct lines *lines) {
       printf(" ");
       for (size_t i = 0; i < key_length; i++) printf("%02x", key[i]);
     }
+    check_parse(text, length, kind, key, key_length);
     release(key);
     key_end = (size_t)key_offsets[line + 1];
 
@@ -209,8 +288,7 @@ static void show(const struct lines *lines) {
       }
     }
     printf("\n");
-    check_epoch(text, length, kind);
-    check_prerelease(text, length, kind);
+    check_values(text, length, kind);
     release(text);
   }
   CHECK(key_end == all);
@@ -453,7 +531,14 @@ static void *summed(void *argument) {
     size_t a_length = length_of(lines, line), b_length = length_of(lines, line + 1), key_length = 0;
     int32_t order = 5, total = 5;
     bool matches = false;
+    uint8_t kind = 5;
+    uint64_t epoch = 5;
+    size_t start = 5, end = 5;
     sum = sum * 31 + (uint64_t)versions_kind(a, a_length);
+    sum = sum * 31 + (uint64_t)versions_parse(a, a_length, &kind, NULL, 0, &key_length);
+    sum = sum * 31 + (uint64_t)versions_epoch(a, a_length, &epoch);
+    sum = sum * 31 + (uint64_t)versions_field(a, a_length, 1 + (uint32_t)line % 4, &start, &end);
+    sum = sum * 31 + epoch + 50 * start + 500 * end + kind;
     sum = sum * 31 + (uint64_t)versions_compare(a, a_length, b, b_length, &order);
     sum = sum * 31 + (uint64_t)versions_compare_total(a, a_length, b, b_length, &total);
     sum = sum * 31 + (uint64_t)versions_matches("^1.2,<9", 7, a, a_length, &matches);
@@ -518,8 +603,9 @@ static void refused_null_pointers(void) {
   int32_t order = 77;
   bool matches = true;
   uint32_t number = 77;
-  size_t length = 77;
-  uint8_t answers[8];
+  uint64_t epoch = 77;
+  size_t length = 77, end = 77;
+  uint8_t answers[8], kind = 77;
   const uint8_t keys[8] = {0};
   int64_t key_offsets[2] = {77, 77};
   uint64_t place = 77;
@@ -543,7 +629,12 @@ static void refused_null_pointers(void) {
   CHECK(versions_sort_key("", 0, NULL, 1, &length) == VERSIONS_NULL);
   CHECK(versions_sort_key("1.2.3", 5, answers, sizeof answers, NULL) == VERSIONS_NULL);
   CHECK(versions_sort_key("1.2.3", 5, NULL, 0, NULL) == VERSIONS_NULL);
-  CHECK(length == 77);
+  CHECK(versions_parse(NULL, 5, &kind, answers, sizeof answers, &length) == VERSIONS_NULL);
+  CHECK(versions_parse("1.2.3", 5, NULL, answers, sizeof answers, &length) == VERSIONS_NULL);
+  CHECK(versions_parse("1.2.3", 5, &kind, NULL, 20, &length) == VERSIONS_NULL);
+  CHECK(versions_parse("1.2.3", 5, &kind, answers, sizeof answers, NULL) == VERSIONS_NULL);
+  CHECK(versions_parse("no version", 10, NULL, NULL, 0, &length) == VERSIONS_NULL);
+  CHECK(length == 77 && kind == 77);
 
   CHECK(versions_matches(NULL, 1, "1", 1, &matches) == VERSIONS_NULL);
   CHECK(versions_matches("*", 1, NULL, 1, &matches) == VERSIONS_NULL);
@@ -567,9 +658,16 @@ static void refused_null_pointers(void) {
   CHECK(versions_nth(NULL, 1, 0, &number) == VERSIONS_NULL);
   CHECK(versions_nth("1", 1, 0, NULL) == VERSIONS_NULL);
   CHECK(versions_nth("", 0, 0, NULL) == VERSIONS_NULL);
-  CHECK(versions_epoch(NULL, 1, &number) == VERSIONS_NULL);
-  CHECK(versions_epoch("1:2", 3, NULL) == VERSIONS_NULL);
   CHECK(number == 77);
+  CHECK(versions_epoch(NULL, 1, &epoch) == VERSIONS_NULL);
+  CHECK(versions_epoch("1:2", 3, NULL) == VERSIONS_NULL);
+  CHECK(versions_epoch("no version", 10, NULL) == VERSIONS_NULL);
+  CHECK(epoch == 77);
+  CHECK(versions_field(NULL, 1, VERSIONS_FIELD_EPOCH, &length, &end) == VERSIONS_NULL);
+  CHECK(versions_field("1:2", 3, VERSIONS_FIELD_EPOCH, NULL, &end) == VERSIONS_NULL);
+  CHECK(versions_field("1:2", 3, VERSIONS_FIELD_EPOCH, &length, NULL) == VERSIONS_NULL);
+  CHECK(versions_field("no version", 10, UINT32_MAX, &length, NULL) == VERSIONS_NULL);
+  CHECK(length == 77 && end == 77);
   CHECK(versions_is_prerelease(NULL, 1, &matches) == VERSIONS_NULL);
   CHECK(versions_is_prerelease("1.2.3", 5, NULL) == VERSIONS_NULL);
   CHECK(matches);
@@ -605,13 +703,126 @@ static void refused_null_pointers(void) {
   CHECK(key_offsets[0] == 77 && key_offsets[1] == 77);
 }
 
+// Fields of texts, by docs/GRAMMAR.md and docs/ORDER.md. A place that ends at 0 stands for no field.
+struct place {
+  size_t start, end;
+};
+
+static void worked_fields(void) {
+  static const struct {
+    const char *text;
+    int kind;
+    struct place fields[4];
+  } worked[] = {
+      {"1.2.3", VERSIONS_IDEAL, {{0, 0}, {0, 0}, {0, 0}, {0, 0}}},
+      {"1.2.3-rc.1+x86", VERSIONS_IDEAL, {{0, 0}, {6, 10}, {0, 0}, {11, 14}}},
+      {"1.1.1-1+1", VERSIONS_IDEAL, {{0, 0}, {6, 7}, {0, 0}, {8, 9}}},
+      {"1.2.3+a-b", VERSIONS_IDEAL, {{0, 0}, {0, 0}, {0, 0}, {6, 9}}},
+      {"1.0.0-x-y-z.-", VERSIONS_IDEAL, {{0, 0}, {6, 13}, {0, 0}, {0, 0}}},
+      {"1.2.3--+-", VERSIONS_IDEAL, {{0, 0}, {6, 7}, {0, 0}, {8, 9}}},
+      {"1.2.3+..", VERSIONS_IDEAL, {{0, 0}, {0, 0}, {0, 0}, {6, 8}}},
+      {"1.2", VERSIONS_GENERAL, {{0, 0}, {0, 0}, {0, 0}, {0, 0}}},
+      {"1:2.0rc1-3", VERSIONS_GENERAL, {{0, 1}, {0, 0}, {9, 10}, {0, 0}}},
+      {"1:1.1.1-1+1", VERSIONS_GENERAL, {{0, 1}, {0, 0}, {8, 9}, {10, 11}}},
+      {"1:1-1:1+1", VERSIONS_COMPLEX, {{0, 1}, {0, 0}, {0, 0}, {0, 0}}},
+      {"1-1+1", VERSIONS_GENERAL, {{0, 0}, {0, 0}, {2, 3}, {4, 5}}},
+      {"1+1-1", VERSIONS_GENERAL, {{0, 0}, {0, 0}, {0, 0}, {2, 5}}},
+      {"1.0-a--b", VERSIONS_GENERAL, {{0, 0}, {0, 0}, {4, 8}, {0, 0}}},
+      {"4294967295:1", VERSIONS_GENERAL, {{0, 10}, {0, 0}, {0, 0}, {0, 0}}},
+      {"4294967296:1-1+1", VERSIONS_COMPLEX, {{0, 10}, {0, 0}, {0, 0}, {0, 0}}},
+      {"01:1.0", VERSIONS_COMPLEX, {{0, 2}, {0, 0}, {0, 0}, {0, 0}}},
+      {"1:2:3", VERSIONS_COMPLEX, {{0, 1}, {0, 0}, {0, 0}, {0, 0}}},
+      {"8:2007f~dfsg-7", VERSIONS_COMPLEX, {{0, 1}, {0, 0}, {0, 0}, {0, 0}}},
+      {"20081126:1.03-4", VERSIONS_COMPLEX, {{0, 8}, {0, 0}, {0, 0}, {0, 0}}},
+      {"1.2.3-06+1", VERSIONS_COMPLEX, {{0, 0}, {0, 0}, {0, 0}, {0, 0}}},
+      {"1.0_1:2", VERSIONS_COMPLEX, {{0, 0}, {0, 0}, {0, 0}, {0, 0}}},
+      {"1-2:3", VERSIONS_COMPLEX, {{0, 0}, {0, 0}, {0, 0}, {0, 0}}},
+      {"1.2:3", VERSIONS_COMPLEX, {{0, 0}, {0, 0}, {0, 0}, {0, 0}}},
+      {"1a:2", VERSIONS_COMPLEX, {{0, 0}, {0, 0}, {0, 0}, {0, 0}}},
+      {"r1:2", VERSIONS_COMPLEX, {{0, 0}, {0, 0}, {0, 0}, {0, 0}}},
+      {"1+x-y+z", VERSIONS_COMPLEX, {{0, 0}, {0, 0}, {0, 0}, {0, 0}}},
+      {"1:", VERSIONS_NONE, {{0, 0}, {0, 0}, {0, 0}, {0, 0}}},
+      {":1", VERSIONS_NONE, {{0, 0}, {0, 0}, {0, 0}, {0, 0}}},
+      {"1:1..2-3+4", VERSIONS_NONE, {{0, 0}, {0, 0}, {0, 0}, {0, 0}}},
+      {"1.2.3-rc.1+", VERSIONS_NONE, {{0, 0}, {0, 0}, {0, 0}, {0, 0}}},
+      {"1.2.3-rc.1+x\xff", VERSIONS_NONE, {{0, 0}, {0, 0}, {0, 0}, {0, 0}}},
+      {"", VERSIONS_NONE, {{0, 0}, {0, 0}, {0, 0}, {0, 0}}},
+  };
+  for (size_t i = 0; i < sizeof worked / sizeof *worked; i++) {
+    const char *text = worked[i].text;
+    size_t length = strlen(text);
+    CHECK(versions_kind(text, length) == worked[i].kind);
+    for (uint32_t field = 0; field < 6; field++) {
+      size_t start = 77, end = 78;
+      int status = versions_field(text, length, field, &start, &end);
+      if (VERSIONS_FIELD_EPOCH <= field && field <= VERSIONS_FIELD_METADATA && worked[i].fields[field - 1].end > 0) {
+        CHECK(status == VERSIONS_OK);
+        CHECK(start == worked[i].fields[field - 1].start && end == worked[i].fields[field - 1].end);
+      } else {
+        CHECK(status == (worked[i].kind == VERSIONS_NONE ? VERSIONS_NO_VERSION : VERSIONS_NO_FIELD));
+        CHECK(start == 77 && end == 78);
+      }
+    }
+    check_values(text, length, worked[i].kind);
+  }
+  size_t start = 77, end = 78;
+  CHECK(versions_field(NULL, 0, VERSIONS_FIELD_EPOCH, &start, &end) == VERSIONS_NO_VERSION);
+  CHECK(start == 77 && end == 78);
+}
+
+static void worked_epochs(void) {
+  static const struct {
+    const char *text;
+    uint64_t epoch;
+  } worked[] = {
+      {"0:7", 0},
+      {"00:7", 0},
+      {"1:2.0rc1-3", 1},
+      {"01:1.0", 1},
+      {"1:2:3", 1},
+      {"8:2007f~dfsg-7", 8},
+      {"20081126:1.03-4", 20081126},
+      {"4294967295:1", 4294967295},
+      {"4294967296:1", 4294967296},
+      {"4294967297:1", 4294967297},
+      {"9223372036854775806:1", 9223372036854775806},
+      {"9223372036854775807:1", 9223372036854775807},
+      {"9223372036854775808:1", 9223372036854775807},
+      {"9223372036854775810:1", 9223372036854775807},
+      {"10000000000000000000:1", 9223372036854775807},
+      {"18446744073709551615:1", 9223372036854775807},
+      {"18446744073709551616:1", 9223372036854775807},
+      {"18446744073709551623:1", 9223372036854775807},
+      {"99999999999999999999:1", 9223372036854775807},
+      {"1000000000000000000000000000000000000000:1", 9223372036854775807},
+      {"0000000000000000000000000000000000000007:1", 7},
+      {"0000000000000000000009223372036854775807:1", 9223372036854775807},
+      {"0000000000000000000009223372036854775808:1", 9223372036854775807},
+  };
+  static const char *const without[] = {"1.2.3-1", "1.2-1", "1.0_1", "1.0_1:2", "1-2:3", "1.2:3", "1a:2", "r1:2"};
+  uint64_t epoch = 77;
+  CHECK(versions_epoch(NULL, 0, &epoch) == VERSIONS_NO_VERSION);
+  CHECK(versions_epoch("1:", 2, &epoch) == VERSIONS_NO_VERSION);
+  CHECK(versions_epoch("1:2..3", 6, &epoch) == VERSIONS_NO_VERSION);
+  for (size_t i = 0; i < sizeof without / sizeof *without; i++) {
+    CHECK(versions_epoch(without[i], strlen(without[i]), &epoch) == VERSIONS_NO_NUMBER);
+  }
+  CHECK(epoch == 77);
+  for (size_t i = 0; i < sizeof worked / sizeof *worked; i++) {
+    epoch = 77;
+    CHECK(versions_epoch(worked[i].text, strlen(worked[i].text), &epoch) == VERSIONS_OK);
+    CHECK(epoch == worked[i].epoch);
+    check_values(worked[i].text, strlen(worked[i].text), versions_kind(worked[i].text, strlen(worked[i].text)));
+  }
+}
+
 static void edges(void) {
   // Null pointers to empty texts, and bytes that are not UTF-8.
   int32_t order = 77;
   bool matches = true;
   uint32_t number = 77;
   size_t length = 77;
-  uint8_t answers[4] = {77, 77, 77, 77};
+  uint8_t answers[4] = {77, 77, 77, 77}, kind = 77;
   int64_t key_offsets[5] = {77, 77, 77, 77, 77};
   CHECK(versions_kind(NULL, 0) == VERSIONS_NONE);
   CHECK(versions_kind("", 0) == VERSIONS_NONE);
@@ -630,7 +841,9 @@ static void edges(void) {
   CHECK(order == 77);
   CHECK(versions_sort_key(NULL, 0, NULL, 0, &length) == VERSIONS_NO_VERSION);
   CHECK(versions_sort_key("\xff", 1, answers, 4, &length) == VERSIONS_NO_VERSION);
-  CHECK(length == 77 && answers[0] == 77);
+  CHECK(versions_parse(NULL, 0, &kind, NULL, 0, &length) == VERSIONS_NO_VERSION);
+  CHECK(versions_parse("\xff", 1, &kind, answers, 4, &length) == VERSIONS_NO_VERSION);
+  CHECK(length == 77 && kind == 77 && answers[0] == 77);
   CHECK(versions_matches(NULL, 0, "1", 1, &matches) == VERSIONS_NO_REQUIREMENTS);
   CHECK(versions_matches("\xff", 1, "1", 1, &matches) == VERSIONS_NO_REQUIREMENTS);
   CHECK(versions_matches("*", 1, NULL, 0, &matches) == VERSIONS_NO_VERSION);
@@ -656,19 +869,6 @@ static void edges(void) {
   CHECK(versions_nth("1.7d-15", 7, 1, &number) == VERSIONS_OK && number == 7);
   CHECK(versions_nth("2rc1", 4, 0, &number) == VERSIONS_OK && number == 2);
   CHECK(versions_nth("1.7d.3", 6, 1, &number) == VERSIONS_NO_NUMBER && number == 2);
-
-  // Epochs, which general versions alone have. 4294967296 is no number below 2^32, and 1:2:3 is complex.
-  number = 77;
-  CHECK(versions_epoch(NULL, 0, &number) == VERSIONS_NO_VERSION);
-  CHECK(versions_epoch("1:", 2, &number) == VERSIONS_NO_VERSION);
-  CHECK(versions_epoch("1.2.3", 5, &number) == VERSIONS_NO_NUMBER);
-  CHECK(versions_epoch("1.2", 3, &number) == VERSIONS_NO_NUMBER);
-  CHECK(versions_epoch("1:2:3", 5, &number) == VERSIONS_NO_NUMBER);
-  CHECK(versions_epoch("4294967296:1", 12, &number) == VERSIONS_NO_NUMBER);
-  CHECK(number == 77);
-  CHECK(versions_epoch("1:2.0rc1-3", 10, &number) == VERSIONS_OK && number == 1);
-  CHECK(versions_epoch("0:7", 3, &number) == VERSIONS_OK && number == 0);
-  CHECK(versions_epoch("4294967295:1", 12, &number) == VERSIONS_OK && number == UINT32_MAX);
 
   // Pre-releases, which strict versions alone are. Metadata is none.
   matches = true;
@@ -760,7 +960,7 @@ static void edges(void) {
   refused_offsets(good, 0, 0);
 
   // Every status has its own text.
-  for (int a = VERSIONS_OK; a <= VERSIONS_NULL + 1; a++) {
+  for (int a = VERSIONS_OK; a <= VERSIONS_NO_FIELD + 1; a++) {
     CHECK(strlen(versions_status_text(a)) > 5);
     for (int b = VERSIONS_OK; b < a; b++) CHECK(strcmp(versions_status_text(a), versions_status_text(b)) != 0);
   }
@@ -786,6 +986,8 @@ static void long_text(const char *piece, size_t times, int kind, size_t key_leng
   CHECK(versions_sort_key(text, length, NULL, 0, &needed) == VERSIONS_NO_ROOM && needed == key_length);
   uint8_t *key = (uint8_t *)block(needed);
   CHECK(versions_sort_key(text, length, key, needed, &needed) == VERSIONS_OK && needed == key_length);
+  check_parse(text, length, kind, key, needed);
+  check_values(text, length, kind);
   release(key);
   bool matches = false;
   CHECK(versions_matches("*", 1, text, length, &matches) == VERSIONS_OK && matches);
@@ -798,13 +1000,31 @@ static void long_text(const char *piece, size_t times, int kind, size_t key_leng
   release(text);
 }
 
+// Checks a version of three texts, the middle one a byte many times.
+static void long_field(const char *before, char byte, size_t times, const char *after, int kind) {
+  size_t start = strlen(before), end = start + times, length = end + strlen(after);
+  char *text = (char *)block(length);
+  memcpy(text, before, start);
+  memset(text + start, byte, times);
+  memcpy(text + end, after, length - end);
+  CHECK(versions_kind(text, length) == kind);
+  check_values(text, length, kind);
+  release(text);
+}
+
 // A million sections, a million parts, and ten megabytes of letters. The key of sections of one digit has the length of
-// the bound.
+// the bound. Then fields of a million bytes.
 static void long_texts(void) {
   size_t million = 1000000;
   long_text("1_", million, VERSIONS_COMPLEX, versions_sort_key_bound(2 * million + 1));
   long_text("1.", million, VERSIONS_GENERAL, 1 + 4 * (million + 1) + 1 + 1);
   long_text("a", 10 * million, VERSIONS_GENERAL, 1 + 1 + 10 * million + 1 + 1 + 3 + 1 + 1);
+  long_field("", '9', million, ":1", VERSIONS_COMPLEX);
+  long_field("", '0', million, "7:1", VERSIONS_COMPLEX);
+  long_field("", '0', million, "9223372036854775808:1", VERSIONS_COMPLEX);
+  long_field("", '9', million, "a:1", VERSIONS_COMPLEX);
+  long_field("1.2.3-", '-', million, "+a-b", VERSIONS_IDEAL);
+  long_field("1:2-3+", '.', million, "", VERSIONS_GENERAL);
 }
 
 // The ranks of texts by their places: ascending, descending, scattered, all equal, two in turn, and with some or all
@@ -1073,11 +1293,11 @@ static void without_memory(const struct lines *lines) {
     CHECK(versions_compare_total(text, length, text, length, &order) == status_of(is_version, is_version));
     CHECK(order == (is_version ? 0 : 77));
     CHECK((versions_sort_key(text, length, keys, room, &key_length) == VERSIONS_OK) == is_version);
+    check_parse(text, length, answers[line], is_version ? keys : NULL, key_length);
     for (size_t place = 0; place < 4; place++) {
       CHECK((versions_nth(text, length, place, &number) == VERSIONS_NO_VERSION) == !is_version);
     }
-    check_epoch(text, length, answers[line]);
-    check_prerelease(text, length, answers[line]);
+    check_values(text, length, answers[line]);
   }
   CHECK(versions_sort_keys(lines->texts, lines->length, lines->offsets, count + 1, keys, room, key_offsets,
                            count + 1) == VERSIONS_OK);
@@ -1113,6 +1333,7 @@ static void without_memory(const struct lines *lines) {
   CHECK(versions_compare_total("1.00_1-a", 8, "1.0_1-a", 7, &turned) == VERSIONS_OK && turned == -order);
   CHECK(versions_nth("1.2.3-rc.1+x", 12, 2, &number) == VERSIONS_OK && number == 3);
   CHECK(versions_nth("1.2_a", 5, 1, &number) == VERSIONS_OK && number == 2);
+  check_values("18446744073709551616:1", 22, VERSIONS_COMPLEX);
   CHECK(versions_matches("^1.2.3-a,<9,>0.1a", 17, "1.2.3-rc.10+x", 13, &matches) == VERSIONS_OK && matches);
 }
 
@@ -1120,6 +1341,8 @@ int main(int count, char **words) {
   const char *word = count > 1 ? words[1] : "";
   if (strcmp(word, "edges") == 0) {
     edges();
+    worked_fields();
+    worked_epochs();
     refused_null_pointers();
   } else if (strcmp(word, "long") == 0) {
     long_texts();

@@ -53,6 +53,11 @@ int proved_versions_sort_key(const char *text, size_t text_len, uint8_t *key, si
   return text_len == 0 && room == 0 && key_len != NULL ? PASSED : 0;
 }
 
+int proved_versions_parse(const char *text, size_t text_len, uint8_t *kind, uint8_t *key, size_t room,
+                          size_t *key_len) {
+  return kind != NULL ? proved_versions_sort_key(text, text_len, key, room, key_len) : 0;
+}
+
 size_t proved_versions_sort_key_bound(size_t text_len) { return text_len; }
 
 int proved_versions_matches(const char *list, size_t list_len, const char *text, size_t text_len, bool *matches) {
@@ -83,9 +88,14 @@ int proved_versions_nth(const char *text, size_t text_len, size_t n, uint32_t *n
   return text_len == 0 && n == 7 && number != NULL ? PASSED : 0;
 }
 
-int proved_versions_epoch(const char *text, size_t text_len, uint32_t *epoch) {
+int proved_versions_epoch(const char *text, size_t text_len, uint64_t *epoch) {
   check_pointer(text);
   return text_len == 0 && epoch != NULL ? PASSED : 0;
+}
+
+int proved_versions_field(const char *text, size_t text_len, uint32_t field, size_t *start, size_t *end) {
+  check_pointer(text);
+  return text_len == 0 && field == 8 && start != NULL && end != NULL ? PASSED : 0;
 }
 
 int proved_versions_is_prerelease(const char *text, size_t text_len, bool *is_prerelease) {
@@ -133,19 +143,23 @@ int proved_versions_in_range_all(const char *texts, size_t texts_len, const int6
 // A null pointer with length 0 is replaced by a pointer that is not null.
 static void null_pointers(void) {
   int32_t order;
-  size_t length;
+  size_t length, end;
   bool matches;
+  uint8_t kind;
   uint32_t number, flags;
+  uint64_t epoch;
   check("kind", versions_kind(NULL, 0) == PASSED);
   check("compare", versions_compare(NULL, 0, NULL, 0, &order) == PASSED);
   check("compare_total", versions_compare_total(NULL, 0, NULL, 0, &order) == PASSED);
   check("sort_key", versions_sort_key(NULL, 0, NULL, 0, &length) == PASSED);
+  check("parse", versions_parse(NULL, 0, &kind, NULL, 0, &length) == PASSED);
   check("sort_key_bound", versions_sort_key_bound(77) == 77);
   check("matches", versions_matches(NULL, 0, NULL, 0, &matches) == PASSED);
   check("range", versions_range(NULL, 0, NULL, 0, &length, NULL, 0, &length, &flags) == PASSED);
   check("in_range", versions_in_range(NULL, 0, NULL, 0, NULL, 0, 9, &matches) == PASSED);
   check("nth", versions_nth(NULL, 0, 7, &number) == PASSED);
-  check("epoch", versions_epoch(NULL, 0, &number) == PASSED);
+  check("epoch", versions_epoch(NULL, 0, &epoch) == PASSED);
+  check("field", versions_field(NULL, 0, 8, &length, &end) == PASSED);
   check("is_prerelease", versions_is_prerelease(NULL, 0, &matches) == PASSED);
   check("kinds", versions_kinds(NULL, 0, NULL, 0, NULL, 0) == PASSED);
   check("sort_keys", versions_sort_keys(NULL, 0, NULL, 0, NULL, 0, NULL, 0) == PASSED);

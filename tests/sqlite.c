@@ -123,6 +123,7 @@ static const char *const statements[] = {
     ROWS("9") "SELECT version_matches(iif(i % 2, '>=1.2', '<1.40.0'), v) FROM versions",
     "SELECT version_nth('1.2.3', 2)",
     "SELECT version_epoch('1:2.0-3') || version_is_prerelease('1.0.0-rc.1')",
+    "SELECT version_pre_release('1.0.0-rc.1') || version_release('1-2') || version_metadata('1+' || " LONG ")",
     "SELECT column1 FROM (VALUES ('1.10'), ('x y'), (" LONG "), ('1.9')) ORDER BY column1 COLLATE VERSION",
     ROWS("30") "SELECT version_max(v) || version_min(v) FROM versions",
     ROWS("30") "SELECT version_max(v) OVER (ORDER BY i ROWS 3 PRECEDING) FROM versions",
