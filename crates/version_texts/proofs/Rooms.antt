@@ -1,5 +1,6 @@
 -- Bytes written into a buffer.
-use Rattle.std.proofs.Common.{◌≡◌, ◌∙◌, ◌+◌, ◌-◌, ◌<◌, ◌≤◌, ◌^◌, ℕ, zero, suc, List, [], ◌∷◌, ◌++◌, drop, length, min, set, refl, ap, sym, arith}
+use Rattle.std.proofs.Common.{◌≡◌, ◌∙◌, ◌+◌, ◌-◌, ◌<◌, ◌≤◌, ◌^◌, ℕ, zero, suc, List, [], ◌∷◌, ◌++◌, drop, length, min, set, refl, ap, sym, arith, inl, inr, nat_lt}
+use Rattle.std.proofs.lemmas.Bool.{cases_Bool, ltb-false, ltb-true}
 use Rattle.version_texts.specs.Sinks.{put_at, saturated}
 
 -- writing nothing changes nothing
@@ -13,6 +14,18 @@ pub put_past : (room : List ℕ) (start : ℕ) (bytes : List ℕ) → length roo
 put_past [] start bytes past = refl
 put_past (x ∷ room) zero bytes past = absurd (omega (arith, past))
 put_past (x ∷ room) (suc start) bytes past = ap (λ (l : List ℕ). x ∷ l) (put_past room start bytes (omega (arith, past)))
+
+-- no buffer reaches a place that is saturated
+pub put_saturated : (room : List ℕ) (start : ℕ) (bytes : List ℕ) → length room < 2 ^ 64
+    → put_at room (saturated start) bytes ≡ put_at room start bytes
+put_saturated room start bytes small = elim (cases_Bool (nat_lt start (2 ^ 64))) [
+  | inl least ↦
+      let less : start < 2 ^ 64 = ltb-true start (2 ^ 64) least in
+      ap (λ n. put_at room n bytes) (omega (arith, less))
+  | inr more ↦
+      let past : 2 ^ 64 ≤ start = ltb-false start (2 ^ 64) more in
+      put_past room (saturated start) bytes (omega (arith, past, small)) ∙ sym (put_past room start bytes (omega (arith, past, small)))
+]
 
 -- the first byte, and then the others
 pub put_first : (room : List ℕ) (start b : ℕ) (bytes : List ℕ) → start < length room → put_at (set room start b) (start + 1) bytes ≡ put_at room start (b ∷ bytes)

@@ -1,11 +1,12 @@
 -- The key of a version, read off its text by its shape.
-use Rattle.std.specs.Prelude.{◌==◌, ℕ, List, [], ◌∷◌, map, if◌then◌else◌}
+use Rattle.std.specs.Prelude.{◌==◌, ℕ, List, [], ◌∷◌, ◌++◌, map, if◌then◌else◌}
 use Rattle.std.specs.Char.{is_ascii_digit}
 use Rattle.std.specs.List.{list_all, slice_split}
 use Rattle.std.specs.Str.Parse.{digits_value}
 use Rattle.version_parts.specs.Bytes.{dot}
 use Rattle.version_parts.specs.Chunk.{PlainChunk, Numeric, Alphanum}
-use Rattle.version_parts.specs.PartKey.{PartKey, part_key}
+use Rattle.version_parts.specs.NumberBytes.{number_bytes}
+use Rattle.version_parts.specs.PartKey.{PartKey, part_key, parts_bytes}
 use Rattle.version_parts.specs.Sep.{is_sep}
 use Rattle.versions.specs.Key.{Key}
 use Rattle.versions.specs.Tail as tail
@@ -57,3 +58,7 @@ tail_of Sections text = tail_of_sections (sections_of text)
 -- the key of the version that a text holds: the value of its epoch, the parts of its body, and its tail
 abbrev pub text_key : List ℕ → Shape → Key
 text_key text s = record { epoch = digits_value 10 (epoch_in text s); body = parts_of (body_in text s); tail = tail_of s.tail (tail_in text s) }
+
+-- the bytes of a key before its tail
+abbrev pub front_bytes : Key → List ℕ
+front_bytes k = number_bytes k.epoch ++ parts_bytes k.body

@@ -17,7 +17,7 @@ ghost use Rattle.versions.specs.Range.{begun};
 ghost use Rattle.versions.specs.Tail.{section_bytes, tail_bytes};
 ghost use Rattle.version_texts.specs.Parts.{parts_behind};
 ghost use Rattle.version_texts.specs.Shape.{body_in, epoch_in, is_section_byte, is_tail_byte, tail_in, Fits};
-ghost use Rattle.version_texts.specs.TextKey.{chunk_of, chunks_of, parts_of, sections_of, tail_mark, tail_of, text_key};
+ghost use Rattle.version_texts.specs.TextKey.{chunk_of, chunks_of, front_bytes, parts_of, sections_of, tail_mark, tail_of, text_key};
 
 use crate::class::{Class, begins_with, split_run};
 use crate::shape::{Shape, TailKind};
@@ -227,7 +227,7 @@ fn tail_mark(kind: TailKind) -> u8
 
 // Writes a tail, by its kind and its text.
 #[inline(always)]
-fn put_tail<S: Sink>(sink: &mut S, kind: TailKind, text: &[u8])
+pub(crate) fn put_tail<S: Sink>(sink: &mut S, kind: TailKind, text: &[u8])
     requires { list_all (is_tail_byte kind) text.now ≡ true }
     ensures { S.takes sink.old (tail_bytes (tail_of kind text.now)) sink.new }
 {
@@ -275,7 +275,7 @@ pub(crate) fn body_at(text: &[u8], shape: Shape) -> &[u8]
 
 // The tail in a text, without the byte before it.
 #[inline(always)]
-fn tail_at(text: &[u8], shape: Shape) -> &[u8]
+pub(crate) fn tail_at(text: &[u8], shape: Shape) -> &[u8]
     requires { Fits text.now shape }
     ensures { result.now ≡ tail_in text.now shape }
 {
@@ -306,12 +306,21 @@ pub fn put_key<S: Sink>(sink: &mut S, text: &[u8], shape: Shape)
     requires { Fits text.now shape }
     ensures { S.takes sink.old (key_bytes (text_key text.now shape)) sink.new }
 {
+    if put_front(sink, text, shape) {
+        put_tail(sink, shape.tail, tail_at(text, shape));
+    }
+}
+
+/// Writes the epoch and the body of a key. Returns whether the tail has to follow: not if the sink is decided.
+#[inline(always)]
+pub(crate) fn put_front<S: Sink>(sink: &mut S, text: &[u8], shape: Shape) -> bool
+    requires { Fits text.now shape }
+    ensures bytes { S.takes sink.old (front_bytes (text_key text.now shape)) sink.new }
+    ensures decided { result ≡ false → (bytes : List ℕ) → S.takes sink.new bytes sink.new }
+{
     put_epoch(sink, epoch_at(text, shape));
     if sink.is_decided() {
-        return;
+        return false;
     }
-    let Some(_) = put_list(sink, body_at(text, shape)) else {
-        return;
-    };
-    put_tail(sink, shape.tail, tail_at(text, shape));
+    put_list(sink, body_at(text, shape)).is_some()
 }

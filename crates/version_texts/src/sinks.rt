@@ -4,11 +4,12 @@ ghost use Rattle.std.specs.Prelude.{◌≡◌, ◌∷◌, ◌++◌, ◌+◌, [],
 ghost use Rattle.version_parts.specs.Lists.{bytes_cmp, GrowsWithin};
 ghost use Rattle.versions.specs.Ends.{end_bytes};
 ghost use Rattle.versions.specs.KeyBytes.{key_bytes};
-ghost use Rattle.version_texts.specs.Shape.{Fits};
+ghost use Rattle.versions.specs.Tail.{tail_bytes};
+ghost use Rattle.version_texts.specs.Shape.{tail_in, Fits};
 ghost use Rattle.version_texts.specs.Sinks.{between_with, count_with, is_between, leads_both, leads_none, list_both, list_none, order_with, put_at, room_both, room_none, room_with, saturated, Leads, LeadsList, LeadsRoom};
-ghost use Rattle.version_texts.specs.TextKey.{text_key};
+ghost use Rattle.version_texts.specs.TextKey.{tail_of, text_key};
 
-use crate::key::put_key;
+use crate::key::{put_front, put_key, put_tail, tail_at};
 use crate::range::put_end;
 use crate::shape::Shape;
 use crate::sink::Sink;
@@ -108,10 +109,11 @@ impl<'a> Sink for Beside<'a> {
         match self.left.split_first() {
             Some((first, rest)) => {
                 // Most bytes are the same, so only others are ordered.
-                if byte != *first {
+                if byte == *first {
+                    self.left = rest;
+                } else {
                     self.order = byte.cmp(first);
                 }
-                self.left = rest;
             }
             None => self.order = Ordering::Greater,
         }
@@ -233,7 +235,25 @@ pub fn write_key(text: &[u8], shape: Shape, room: &mut [u8], start: usize) -> us
     ensures end { result ≡ saturated (start + length (key_bytes (text_key text.now shape))) }
 {
     let mut sink = Room { room, end: start };
-    put_key(&mut sink, text, shape);
+    if !put_front(&mut sink, text, shape) {
+        return sink.end();
+    }
+    let end = sink.end();
+    write_tail(text, shape, room, end)
+}
+
+// Writes the tail of a key into a buffer from a place on, as far as it fits, and returns the place after it. It has a
+// sink of its own: so the compiler keeps that of `write_key` in registers.
+#[inline(never)]
+fn write_tail(text: &[u8], shape: Shape, room: &mut [u8], start: usize) -> usize
+    requires { Fits text.now shape }
+    ensures bytes { room.new ≡ put_at room.old start
+        (tail_bytes (tail_of shape.tail (tail_in text.now shape))) }
+    ensures end { result ≡ saturated (start
+        + length (tail_bytes (tail_of shape.tail (tail_in text.now shape)))) }
+{
+    let mut sink = Room { room, end: start };
+    put_tail(&mut sink, shape.tail, tail_at(text, shape));
     sink.end()
 }
 
