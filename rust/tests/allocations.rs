@@ -11,7 +11,7 @@ use std::hash::{Hash, Hasher};
 
 use proved_versions::{
     compare, compare_total, kind, kinds, match_all, order, sort, sort_key, sort_keys, Requirement,
-    Version,
+    Versioning,
 };
 
 thread_local! {
@@ -50,7 +50,7 @@ fn of<R>(call: impl FnOnce() -> R) -> (usize, usize) {
     made
 }
 
-fn hash(version: &Version) -> u64 {
+fn hash(version: &Versioning) -> u64 {
     let mut hasher = DefaultHasher::new();
     version.hash(&mut hasher);
     hasher.finish()
@@ -71,8 +71,8 @@ fn calls_that_allocate_nothing() {
         (&*long, &*other),
     ] {
         assert_eq!(of(|| kind(a)), (0, 0));
-        assert_eq!(of(|| Version::new(a)), (0, 0));
-        let (x, y) = (Version::new(a).unwrap(), Version::new(b).unwrap());
+        assert_eq!(of(|| Versioning::new(a)), (0, 0));
+        let (x, y) = (Versioning::new(a).unwrap(), Versioning::new(b).unwrap());
         assert_eq!(of(|| compare(a, b)), (0, 0));
         assert_eq!(of(|| compare_total(a, b)), (0, 0));
         assert_eq!(of(|| (x.precedence(&y), x.cmp(&y), x == y)), (0, 0));
@@ -86,11 +86,11 @@ fn calls_that_allocate_nothing() {
         assert_eq!(of(|| requirement.matches_text(b)), (0, 0));
         assert_eq!(of(|| requirement.filter([&x, &y]).count()), (0, 0));
     }
-    let version = Version::new("1:20.0026.1_0-2+0.93-rc.1").unwrap();
+    let version = Versioning::new("1:20.0026.1_0-2+0.93-rc.1").unwrap();
     assert_eq!(of(|| hash(&version)), (0, 0));
     let owned = String::from("1.2.3");
     assert_eq!(
-        of(|| String::from(Version::new(owned).unwrap().into_owned())),
+        of(|| String::from(Versioning::new(owned).unwrap().into_owned())),
         (0, 0)
     );
 }
@@ -100,7 +100,7 @@ fn keys() {
     // A part of n letters has a key of n + 6 bytes.
     for (letters, allocations) in [(1, 1), (250, 1), (251, 2), (100_000, 2)] {
         let text = "a".repeat(letters);
-        let version = Version::new(&text).unwrap();
+        let version = Versioning::new(&text).unwrap();
         let bytes = (letters + 6) * allocations;
         assert_eq!(of(|| version.sort_key()), (allocations, bytes));
         assert_eq!(of(|| sort_key(&text)), (allocations, bytes));
@@ -113,10 +113,10 @@ fn keys() {
 #[test]
 fn errors_hold_one_copy() {
     let (bad, text) = ("1..2", String::from("1..2"));
-    assert_eq!(of(|| Version::new(bad)), (1, 4));
-    assert_eq!(of(|| Version::new(text)), (0, 0));
-    assert_eq!(of(|| bad.parse::<Version>()), (1, 4));
-    assert_eq!(of(|| "1.2".parse::<Version>()), (1, 3));
+    assert_eq!(of(|| Versioning::new(bad)), (1, 4));
+    assert_eq!(of(|| Versioning::new(text)), (0, 0));
+    assert_eq!(of(|| bad.parse::<Versioning>()), (1, 4));
+    assert_eq!(of(|| "1.2".parse::<Versioning>()), (1, 3));
     assert_eq!(of(|| sort_key(bad)), (1, 4));
     assert_eq!(of(|| compare("1", bad)), (1, 4));
     assert_eq!(of(|| Requirement::new(bad)), (1, 4));

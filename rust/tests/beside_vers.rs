@@ -12,7 +12,7 @@ use std::process::{Command, Output, Stdio};
 
 use proved_versions::{
     compare, compare_total, kind, kinds, match_all, order, sort, sort_key, sort_keys, Requirement,
-    Version,
+    Versioning,
 };
 
 /// How many versions `vers key` and `vers cmp` are asked about, a process each.
@@ -84,7 +84,7 @@ fn kinds_are_those_of_vers() {
         );
         assert_eq!(kind(line), all[n], "{line:?}");
         assert_eq!(
-            Version::new(line).ok().map(|version| version.kind()),
+            Versioning::new(line).ok().map(|version| version.kind()),
             all[n],
             "{line:?}"
         );
@@ -102,12 +102,12 @@ fn the_order_is_that_of_vers() {
     sort(&mut by_call);
     assert!(by_call == sorted);
     assert!(order(&lines).iter().map(|place| &lines[*place]).eq(&sorted));
-    let mut by_ord: Vec<Version> = lines
+    let mut by_ord: Vec<Versioning> = lines
         .iter()
-        .map(|line| Version::new(line).unwrap())
+        .map(|line| Versioning::new(line).unwrap())
         .collect();
     by_ord.sort();
-    assert!(by_ord.iter().map(Version::as_str).eq(&sorted));
+    assert!(by_ord.iter().map(Versioning::as_str).eq(&sorted));
     let mut by_key = lines.clone();
     by_key.sort_by_cached_key(|line| sort_key(line).unwrap());
     let keys = sort_keys(&sorted);
@@ -178,8 +178,8 @@ fn matches_are_those_of_vers() {
     for (line, answer) in lines.iter().zip(&answers) {
         assert_eq!(requirement.matches_text(line).ok(), *answer, "{line:?}");
     }
-    let versions: Vec<Version> = lines.iter().flat_map(Version::new).collect();
-    let found = requirement.filter(&versions).map(Version::as_str);
+    let versions: Vec<Versioning> = lines.iter().flat_map(Versioning::new).collect();
+    let found = requirement.filter(&versions).map(Versioning::as_str);
     assert!(found.eq(&vers(&["match", "^1.1.1"], &lines)));
 }
 

@@ -6,7 +6,7 @@ use std::hash::Hash;
 
 use proved_versions::{
     compare, compare_total, kind, kinds, match_all, order, sort, sort_key, sort_keys, Requirement,
-    Version,
+    Versioning,
 };
 
 const TEXTS: [&str; 15] = [
@@ -48,7 +48,7 @@ fn one_text_and_two() {
             );
             assert_eq!(compare_total(a, b).is_ok(), compare(a, b).is_ok());
         }
-        if let Ok(version) = Version::new(&**a) {
+        if let Ok(version) = Versioning::new(&**a) {
             let mut key = exact(a).into_string().into_bytes();
             version.write_sort_key(&mut key);
             assert_eq!(key, [a.as_bytes(), &version.sort_key()].concat());

@@ -5,7 +5,7 @@ use std::collections::HashSet;
 use std::error::Error;
 use std::hash::{Hash, Hasher};
 
-use proved_versions::{match_all, Requirement, Version};
+use proved_versions::{match_all, Requirement, Versioning};
 
 const ROWS: [(&str, &str, bool); 41] = [
     ("~1.1.1", "1.1.3", true),
@@ -75,8 +75,8 @@ fn requirement(text: &str) -> Requirement<'_> {
     Requirement::new(text).unwrap()
 }
 
-fn version(text: &str) -> Version<'_> {
-    Version::new(text).unwrap()
+fn version(text: &str) -> Versioning<'_> {
+    Versioning::new(text).unwrap()
 }
 
 #[test]
@@ -90,7 +90,7 @@ fn rows_of_the_page() {
             [Some(answer)],
             "{wanted} {text}"
         );
-        let found: Vec<Version> = wanted.filter([version(text)]).collect();
+        let found: Vec<Versioning> = wanted.filter([version(text)]).collect();
         assert_eq!(
             found,
             if answer { vec![version(text)] } else { vec![] },
@@ -168,7 +168,8 @@ fn equality_goes_by_the_text() {
 fn filters() {
     let wanted = requirement(">=1.1.1,<2.0.0");
     let versions = ["1.0", "1.5", "1.1.1", "2.0.0", "2.0.0-rc.1"].map(version);
-    let texts = |found: Vec<Version>| found.iter().map(Version::to_string).collect::<Vec<_>>();
+    let texts =
+        |found: Vec<Versioning>| found.iter().map(Versioning::to_string).collect::<Vec<_>>();
     assert_eq!(
         texts(wanted.filter(&versions).cloned().collect()),
         ["1.5", "1.1.1", "2.0.0-rc.1"]
@@ -180,7 +181,7 @@ fn filters() {
     assert_eq!(texts(wanted.filter(versions.to_vec()).collect()).len(), 3);
     let backwards = wanted.filter(versions.iter()).rev().cloned().collect();
     assert_eq!(texts(backwards), ["2.0.0-rc.1", "1.1.1", "1.5"]);
-    assert_eq!(wanted.filter(Vec::<Version>::new()).count(), 0);
+    assert_eq!(wanted.filter(Vec::<Versioning>::new()).count(), 0);
     assert_eq!(wanted.filter(&versions).size_hint(), (0, Some(5)));
     let mut both = wanted.filter(&versions);
     assert_eq!(both.clone().count(), 3);
@@ -204,9 +205,9 @@ fn filters_lazily() {
     let mut asked = 0;
     let endless = std::iter::repeat_with(|| {
         asked += 1;
-        Version::new(format!("1.{asked}")).unwrap()
+        Versioning::new(format!("1.{asked}")).unwrap()
     });
-    let found: Vec<Version> = requirement(">1.1000").filter(endless).take(2).collect();
+    let found: Vec<Versioning> = requirement(">1.1000").filter(endless).take(2).collect();
     assert_eq!(found, [version("1.1001"), version("1.1002")]);
     assert_eq!(asked, 1002);
 }

@@ -9,7 +9,7 @@ use std::hash::{Hash, Hasher};
 
 use proved_versions::{
     compare, compare_total, kind, sort_key, InvalidRequirement, InvalidVersion, Kind, Requirement,
-    SortKeys, Version,
+    SortKeys, Versioning,
 };
 
 // By docs/GRAMMAR.md.
@@ -63,8 +63,8 @@ const TIES: [&str; 2] = [
     "1.2.3 1.2.3+a 0:1.2.3 01.2.3 1.02.3",
 ];
 
-fn version(text: &str) -> Version<'_> {
-    Version::new(text).unwrap()
+fn version(text: &str) -> Versioning<'_> {
+    Versioning::new(text).unwrap()
 }
 
 fn hash(value: impl Hash) -> u64 {
@@ -119,12 +119,12 @@ fn kinds_are_printed_and_ordered() {
 fn what_is_not_a_version_is_an_error_with_the_text() {
     for text in NOT_VERSIONS {
         let errors = [
-            Version::new(text).unwrap_err(),
-            Version::new(text.to_string()).unwrap_err(),
-            Version::new(Cow::Borrowed(text)).unwrap_err(),
-            text.parse::<Version>().unwrap_err(),
-            Version::try_from(text).unwrap_err(),
-            Version::try_from(text.to_string()).unwrap_err(),
+            Versioning::new(text).unwrap_err(),
+            Versioning::new(text.to_string()).unwrap_err(),
+            Versioning::new(Cow::Borrowed(text)).unwrap_err(),
+            text.parse::<Versioning>().unwrap_err(),
+            Versioning::try_from(text).unwrap_err(),
+            Versioning::try_from(text.to_string()).unwrap_err(),
             sort_key(text).unwrap_err(),
             compare(text, "1").unwrap_err(),
             compare("1", text).unwrap_err(),
@@ -145,7 +145,7 @@ fn what_is_not_a_version_is_an_error_with_the_text() {
             assert_eq!(error.into_text(), text);
         }
     }
-    assert_ne!(Version::new("1..2"), Version::new("1..3"));
+    assert_ne!(Versioning::new("1..2"), Versioning::new("1..3"));
     assert_eq!(
         compare("\"\n", "1").unwrap_err().to_string(),
         r#"not a version: "\"\n""#
@@ -157,8 +157,8 @@ fn the_text_is_kept() {
     for (text, _) in kinds_of_the_page() {
         let versions = [
             version(text),
-            Version::new(text.to_string()).unwrap(),
-            Version::new(Cow::Borrowed(text)).unwrap().into_owned(),
+            Versioning::new(text.to_string()).unwrap(),
+            Versioning::new(Cow::Borrowed(text)).unwrap().into_owned(),
             text.parse().unwrap(),
             text.try_into().unwrap(),
             text.to_string().try_into().unwrap(),
@@ -171,7 +171,7 @@ fn the_text_is_kept() {
             assert_eq!(version.borrowed().as_str(), text);
             assert_eq!(version.borrowed().kind(), kind(text).unwrap());
             assert_eq!(version.to_string(), text);
-            assert_eq!(format!("{version:?}"), format!("Version({text:?})"));
+            assert_eq!(format!("{version:?}"), format!("Versioning({text:?})"));
             assert_eq!(format!("{version:>30}"), format!("{text:>30}"));
             assert_eq!(format!("{version:*^30.3}"), format!("{text:*^30.3}"));
             assert_eq!(String::from(version), text);
@@ -182,21 +182,23 @@ fn the_text_is_kept() {
 #[test]
 fn texts_are_borrowed_and_owned_as_told() {
     let text = String::from("1.2.3-rc.1");
-    let borrowing = Version::new(&text).unwrap();
+    let borrowing = Versioning::new(&text).unwrap();
     assert_eq!(borrowing.as_str().as_ptr(), text.as_ptr());
     assert_eq!(borrowing.borrowed().as_str().as_ptr(), text.as_ptr());
     assert_ne!(borrowing.into_owned().as_str().as_ptr(), text.as_ptr());
     assert_ne!(
-        text.parse::<Version>().unwrap().as_str().as_ptr(),
+        text.parse::<Versioning>().unwrap().as_str().as_ptr(),
         text.as_ptr()
     );
     let start = text.as_ptr();
-    let owned = Version::new(text).unwrap().into_owned();
+    let owned = Versioning::new(text).unwrap().into_owned();
     assert_eq!(owned.borrowed().as_str().as_ptr(), start);
     let text = String::from(owned);
     assert_eq!(text.as_ptr(), start);
     assert_eq!(
-        Version::new(String::from("1..2")).unwrap_err().into_text(),
+        Versioning::new(String::from("1..2"))
+            .unwrap_err()
+            .into_text(),
         "1..2"
     );
 }
@@ -217,10 +219,10 @@ fn all_pairs_of_increasing_versions() {
             assert_eq!(hash(&x) == hash(&y), i == j, "{a} {b}");
         }
     }
-    let mut versions: Vec<Version> = texts.iter().rev().map(|text| version(text)).collect();
+    let mut versions: Vec<Versioning> = texts.iter().rev().map(|text| version(text)).collect();
     versions.sort();
     assert_eq!(
-        versions.iter().map(Version::as_str).collect::<Vec<_>>(),
+        versions.iter().map(Versioning::as_str).collect::<Vec<_>>(),
         texts
     );
     assert_eq!(versions.iter().max().unwrap().as_str(), "10:0");
@@ -264,7 +266,7 @@ fn equal_versions_hash_alike() {
     }
     assert_eq!(alike.iter().collect::<HashSet<_>>().len(), 1);
     // Precedence ties these, but none is another.
-    let apart: HashSet<Version> = TIES[0].split_whitespace().map(version).collect();
+    let apart: HashSet<Versioning> = TIES[0].split_whitespace().map(version).collect();
     assert_eq!(apart.len(), 5);
     assert!(apart.contains(&version("0:1.2")) && !apart.contains(&version("0:1.02")));
     // Keys of less than 256 bytes, of as many, and of more, which differ in their last byte alone.
@@ -281,14 +283,14 @@ fn equal_versions_hash_alike() {
 
 #[test]
 fn comparisons_across_lifetimes() {
-    fn alike<'a, 'b>(a: &mut Version<'a>, b: &mut Version<'b>) -> bool {
+    fn alike<'a, 'b>(a: &mut Versioning<'a>, b: &mut Versioning<'b>) -> bool {
         *a == *b && *b <= *a && Some(&*a) == Some(&*b)
     }
-    let mut of_the_program = Version::new("1.2").unwrap();
+    let mut of_the_program = Versioning::new("1.2").unwrap();
     let text = String::from("1.2");
     assert!(alike(&mut of_the_program, &mut version(&text)));
     assert!(of_the_program == "1.2".parse().unwrap());
-    let set: HashSet<Version<'static>> = HashSet::from([of_the_program]);
+    let set: HashSet<Versioning<'static>> = HashSet::from([of_the_program]);
     assert!(set.contains(&version(&text)));
 }
 
@@ -444,7 +446,7 @@ fn great_lengths() {
         assert!(Requirement::new("<1:0").unwrap().matches(&read));
         assert!(Requirement::new(format!("={text}")).unwrap().matches(&read));
         let spoiled = format!("{text} ");
-        assert_eq!(Version::new(&spoiled).unwrap_err().text(), spoiled);
+        assert_eq!(Versioning::new(&spoiled).unwrap_err().text(), spoiled);
     }
     assert_eq!(version(&texts[5].0).nth(1_000_000), Some(1));
     assert_eq!(version(&texts[5].0).nth(1_000_001), None);
@@ -455,13 +457,13 @@ fn great_lengths() {
 #[test]
 fn every_type_is_send_and_sync() {
     fn holds<T: Send + Sync + Unpin + std::panic::UnwindSafe>() {}
-    holds::<Version>();
+    holds::<Versioning>();
     holds::<Requirement>();
     holds::<Kind>();
     holds::<InvalidVersion>();
     holds::<InvalidRequirement>();
     holds::<SortKeys>();
-    holds::<proved_versions::Filter<'_, std::vec::IntoIter<Version>>>();
+    holds::<proved_versions::Filter<'_, std::vec::IntoIter<Versioning>>>();
 }
 
 #[test]
