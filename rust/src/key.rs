@@ -1,5 +1,6 @@
 use std::borrow::Borrow;
 use std::fmt;
+use std::ops::Deref;
 
 use crate::bytes::Bytes;
 use crate::Versioning;
@@ -46,10 +47,19 @@ impl Key {
     /// use proved_versions::sort_key;
     ///
     /// let [a, b] = ["1.2", "1.2-1"].map(|text| sort_key(text).unwrap());
-    /// assert!(a.as_bytes() < &*a.after() && &*a.after() < b.as_bytes());
+    /// assert!(*a < *a.after() && *a.after() < *b);
     /// ```
     pub fn after(&self) -> Vec<u8> {
         [self.as_bytes(), &[0]].concat()
+    }
+}
+
+/// The bytes.
+impl Deref for Key {
+    type Target = [u8];
+
+    fn deref(&self) -> &[u8] {
+        self.as_bytes()
     }
 }
 

@@ -70,7 +70,10 @@ fn usual_texts() {
             let texts = &USUAL[from..to];
             assert_eq!(kinds(texts), KINDS[from..to]);
             assert_eq!(match_all(&requirement(), texts), MATCHES[from..to]);
-            let single: Vec<_> = texts.iter().map(|text| sort_key(text).ok()).collect();
+            let single: Vec<_> = texts
+                .iter()
+                .map(|text| sort_key(text).ok().map(Vec::from))
+                .collect();
             assert_eq!(keys(texts), single);
             let wanted = ORDER.iter().filter(|place| (from..to).contains(place));
             assert_eq!(
@@ -281,7 +284,10 @@ fn eight_threads_get_the_same_answers() {
         .collect();
     let wanted = Requirement::new("^1:1").unwrap();
     let answers = || {
-        let single: Vec<_> = texts.iter().map(|text| sort_key(text).ok()).collect();
+        let single: Vec<_> = texts
+            .iter()
+            .map(|text| sort_key(text).ok().map(Vec::from))
+            .collect();
         let matches: Vec<_> = texts
             .iter()
             .map(|text| wanted.matches_text(text).ok())
