@@ -11,36 +11,35 @@ pub const WITHIN: usize = 38;
 /// Bytes of any length. They compare and hash as slices do, wherever they lie.
 #[derive(Clone)]
 pub enum Bytes {
-    /// At most `WITHIN` bytes. Those of `room` from `length` on mean nothing.
+    /// At most `WITHIN` bytes, which are the first `length` of `room`. The rest of it is zeros.
     Within { length: u8, room: [u8; WITHIN] },
     /// More bytes, in an allocation of their length.
     Allocated(Box<[u8]>),
 }
 
 impl Bytes {
-    /// Copies the first `length` bytes of a room that has at least `WITHIN` bytes.
+    /// Copies the bytes.
     #[inline]
-    pub fn from_room(room: &[u8], length: usize) -> Bytes {
-        if length > WITHIN {
-            return Bytes::Allocated(room[..length].into());
+    pub fn copied(bytes: &[u8]) -> Bytes {
+        if bytes.len() > WITHIN {
+            return Bytes::Allocated(bytes.into());
         }
-        // As many bytes each time, since that takes fewer instructions.
-        let mut within = [0; WITHIN];
-        within.copy_from_slice(&room[..WITHIN]);
+        let mut room = [0; WITHIN];
+        room[..bytes.len()].copy_from_slice(bytes);
         Bytes::Within {
-            length: length as u8,
-            room: within,
+            length: bytes.len() as u8,
+            room,
         }
     }
 
-    /// Takes over the first `length` bytes of a room that has at least `WITHIN` bytes, and gives
-    /// the rest of its allocation back.
-    pub fn from_vec(mut room: Vec<u8>, length: usize) -> Bytes {
-        if length <= WITHIN {
-            return Bytes::from_room(&room, length);
-        }
+    /// Takes over the first `length` bytes of a room, and gives the rest of its allocation back.
+    pub fn taken_from(mut room: Vec<u8>, length: usize) -> Bytes {
         room.truncate(length);
-        Bytes::Allocated(room.into_boxed_slice())
+        if length <= WITHIN {
+            Bytes::copied(&room)
+        } else {
+            Bytes::Allocated(room.into_boxed_slice())
+        }
     }
 
     #[inline]
@@ -52,9 +51,38 @@ impl Bytes {
     }
 }
 
+/// Where each word of a room begins. The last one overlaps with the one before.
+const WORDS: [usize; 5] = [0, 8, 16, 24, WITHIN - 8];
+
+/// The word of a room that begins there. Words compare as their bytes do.
+#[inline]
+fn word(room: &[u8; WITHIN], start: usize) -> u64 {
+    let mut bytes = [0; 8];
+    bytes.copy_from_slice(&room[start..start + 8]);
+    u64::from_be_bytes(bytes)
+}
+
+/// As slices. Zeros after the end of the shorter one leave it the lesser, unless the longer one has
+/// nothing but zeros there; then the lengths decide.
 impl Ord for Bytes {
     #[inline]
     fn cmp(&self, other: &Self) -> Ordering {
+        if let (
+            Bytes::Within { length, room },
+            Bytes::Within {
+                length: other_length,
+                room: other_room,
+            },
+        ) = (self, other)
+        {
+            for start in WORDS {
+                let (word, other_word) = (word(room, start), word(other_room, start));
+                if word != other_word {
+                    return word.cmp(&other_word);
+                }
+            }
+            return length.cmp(other_length);
+        }
         self.as_slice().cmp(other.as_slice())
     }
 }

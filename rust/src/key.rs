@@ -34,6 +34,11 @@ impl Key {
         Key(bytes)
     }
 
+    #[inline]
+    pub(crate) fn bytes(&self) -> &Bytes {
+        &self.0
+    }
+
     /// Returns the bytes.
     #[inline]
     pub fn as_bytes(&self) -> &[u8] {

@@ -6,7 +6,7 @@ use std::cmp::Ordering;
 use std::fmt::Display;
 use std::os::raw::{c_char, c_int};
 
-use crate::bytes::{Bytes, WITHIN};
+use crate::bytes::Bytes;
 use crate::range::{KeyRange, Kinds};
 use crate::Kind;
 
@@ -35,7 +35,6 @@ const RANGE_EXACT: u32 = 16;
 
 /// How many bytes of room for a key are made on the stack, which is enough for those of most texts.
 const ON_STACK: usize = 128;
-const _: () = assert!(WITHIN <= ON_STACK);
 
 extern "C" {
     fn versions_kind(text: *const c_char, text_len: usize) -> c_int;
@@ -252,11 +251,11 @@ pub fn parse(text: &str) -> Option<(Kind, Bytes)> {
     if bound <= ON_STACK {
         let mut room = [0; ON_STACK];
         let (kind, length) = parse_into(text, &mut room)?;
-        Some((kind, Bytes::from_room(&room, length)))
+        Some((kind, Bytes::copied(&room[..length])))
     } else {
         let mut room = vec![0; bound];
         let (kind, length) = parse_into(text, &mut room)?;
-        Some((kind, Bytes::from_vec(room, length)))
+        Some((kind, Bytes::taken_from(room, length)))
     }
 }
 
@@ -296,15 +295,15 @@ pub fn range(list: &str) -> Option<KeyRange> {
         let (mut low, mut high) = ([0; ON_STACK], [0; ON_STACK]);
         let written = range_into(list, &mut low, &mut high)?;
         Some(written.range(
-            Bytes::from_room(&low, written.low_length),
-            Bytes::from_room(&high, written.high_length),
+            Bytes::copied(&low[..written.low_length]),
+            Bytes::copied(&high[..written.high_length]),
         ))
     } else {
         let (mut low, mut high) = (vec![0; bound], vec![0; bound]);
         let written = range_into(list, &mut low, &mut high)?;
         Some(written.range(
-            Bytes::from_vec(low, written.low_length),
-            Bytes::from_vec(high, written.high_length),
+            Bytes::taken_from(low, written.low_length),
+            Bytes::taken_from(high, written.high_length),
         ))
     }
 }

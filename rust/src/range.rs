@@ -74,10 +74,10 @@ impl KeyRange {
     /// below the low bound, and below the high bound. Allocates nothing.
     #[inline]
     pub fn contains(&self, version: &Versioning<'_>) -> bool {
-        let key = version.sort_key();
+        let key = version.key().bytes();
         self.kinds.has(version.kind())
-            && self.low() <= key
-            && self.high().map_or(true, |high| key < high)
+            && self.low <= *key
+            && self.high.as_ref().map_or(true, |high| key < high)
     }
 }
 

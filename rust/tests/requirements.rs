@@ -218,7 +218,11 @@ fn what_a_requirement_matches_is_in_its_range() {
         }
     }
     // In the range, but not matched: `~1.2` asks for as many parts, `=1.0` for the same version.
-    for (text, other) in [("~1.2", "1.2.x"), ("=1.0", "0:1.0"), ("^1.2", "1.10.x")] {
+    for (text, other) in [
+        ("~1.2", "1.2.x"),
+        ("=1.0", "0:1.0"),
+        ("^1.2.3.4", "1.3.0.0"),
+    ] {
         let requirement = requirement(text);
         assert!(
             requirement.range().contains(&version(other)),
