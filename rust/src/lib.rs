@@ -40,6 +40,15 @@
 //! older one, a call may end the program by the signal `SIGILL`. A program that may run there asks
 //! [`processor_suffices`] before it makes any other call.
 //!
+//! # Names
+//!
+//! The names are those of the crate `versions`, whose `Version` is its type of general versions
+//! alone. Here no type has that name, so that a changed import is an error:
+//!
+//! ```compile_fail,E0432
+//! use proved_versions::Version;
+//! ```
+//!
 //! # Features
 //!
 //! `serde`: [`Versioning`] and [`Requirement`] are serialized as their texts, and deserialized from
@@ -47,6 +56,11 @@
 #![deny(missing_docs, unsafe_code, unsafe_op_in_unsafe_fn)]
 
 use std::cmp::Ordering;
+
+/// The examples of README.md are tests.
+#[cfg(doctest)]
+#[doc = include_str!("../README.md")]
+struct Readme;
 
 mod bytes;
 mod error;
