@@ -30,6 +30,9 @@ fn answer(call: &str, words: &[&str]) -> String {
             let text = vec!["1"; n.parse().unwrap()].join("_");
             Versioning::new(text).map_or("Err", |_| "Ok").to_string()
         }
+        ("epoch", [v]) => format!("{:?}", version(*v).epoch()),
+        ("error", [v]) => Versioning::new(*v).unwrap_err().to_string(),
+        ("wrong", [r]) => Requirement::new(*r).unwrap_err().to_string(),
         ("requirement", [r]) => Requirement::new(*r).map_or("Err", |_| "Ok").to_string(),
         ("matches", [r, v]) => requirement(*r).matches(&version(*v)).to_string(),
         ("same", [r, s]) => (requirement(*r) == requirement(*s)).to_string(),
@@ -62,7 +65,7 @@ fn answers_that_change() {
         assert_ne!(there, here, "{row}");
         checked += 1;
     }
-    assert!(checked >= 31, "only {checked} rows were found");
+    assert!(checked >= 35, "only {checked} rows were found");
 }
 
 #[test]
@@ -78,13 +81,24 @@ fn calls() -> Result<(), Box<dyn Error>> {
     assert_eq!(kind("1.2.3"), Some(Kind::Ideal));
     assert_eq!(kind("1.2"), Some(Kind::General));
     assert_eq!(kind("1_2"), Some(Kind::Complex));
+    let numbers = (version.major(), version.minor(), version.patch());
+    assert_eq!(numbers, (Some(1), Some(2), Some(3)));
+    let strict = Versioning::new("1.2.3-rc.1+x")?;
+    assert_eq!(
+        (strict.pre_release(), strict.metadata()),
+        (Some("rc.1"), Some("x"))
+    );
+    assert_eq!(Versioning::new("1:2-3")?.release(), Some("3"));
+    assert_eq!(Versioning::new("1:2-3")?.epoch(), Some(1));
+    assert!(strict < version);
     assert!(Versioning::new("1.0")?
         .precedence(&Versioning::new("0:1.0")?)
         .is_eq());
 
     let mut versions = [Versioning::new("1.10")?, Versioning::new("1.9")?];
-    sort(&mut versions);
+    versions.sort();
     assert_eq!(versions.map(String::from), ["1.9", "1.10"]);
+    assert!(Versioning::new("0.0.0").is_ok() && Requirement::new("*").is_ok());
     assert_eq!(format!("{version}, {version:>7.3}"), "1.2.3,     1.2");
     assert_eq!(format!("{version:?}"), r#"Versioning("1.2.3")"#);
 

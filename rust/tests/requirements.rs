@@ -305,7 +305,6 @@ fn what_is_not_a_requirement_is_an_error_with_the_text() {
         let errors = [
             Requirement::new(text).unwrap_err(),
             Requirement::new(text.to_string()).unwrap_err(),
-            Requirement::new(&text).unwrap_err(),
             text.parse::<Requirement>().unwrap_err(),
             Requirement::try_from(text).unwrap_err(),
             Requirement::try_from(text.to_string()).unwrap_err(),

@@ -417,6 +417,7 @@ fn versions_are_keys_of_maps() {
 
 #[test]
 fn a_long_key_is_compared_whole() {
+    use Ordering::{Greater, Less};
     // Keys of every length from 28 to 128, which differ in one letter.
     for length in 1..100 {
         for place in 0..length {
@@ -425,8 +426,8 @@ fn a_long_key_is_compared_whole() {
             letters.replace_range(place..=place, "c");
             let other = format!("1.0.0-{letters}");
             let (a, b) = (version(&text), version(&other));
-            assert!(a < b && b > a && a != b, "{a} {b}");
-            assert_eq!(a.precedence(&b), Ordering::Less);
+            assert_eq!((a.cmp(&b), b.cmp(&a), a == b), (Less, Greater, false));
+            assert_eq!(a.precedence(&b), Less);
             assert_ne!(hash(&a), hash(&b));
         }
     }
@@ -571,11 +572,12 @@ fn what_new_takes() {
     let cows = texts.map(Cow::Borrowed);
     let boxes = texts.map(Box::<str>::from);
     for n in 0..3 {
+        let (lent, twice): (&&str, &&String) = (&texts[n], &&owned[n]);
         let versions = [
-            Versioning::new(texts[n]),
-            Versioning::new(&texts[n]),
-            Versioning::new(&owned[n]),
-            Versioning::new(&&owned[n]),
+            Versioning::new(*lent),
+            Versioning::new(lent),
+            Versioning::new(*twice),
+            Versioning::new(twice),
             Versioning::new(owned[n].clone()),
             Versioning::new(&boxes[n]),
             Versioning::new(boxes[n].clone()),
@@ -585,7 +587,7 @@ fn what_new_takes() {
         for version in versions {
             assert_eq!(version.unwrap().as_str(), texts[n]);
         }
-        assert!(Requirement::new(&texts[n]).is_err() && Requirement::new(&owned[n]).is_err());
+        assert!(Requirement::new(lent).is_err() && Requirement::new(twice).is_err());
     }
     let lent: Vec<Versioning> = texts.iter().flat_map(Versioning::new).collect();
     assert!(lent.iter().map(Versioning::as_str).eq(texts));
