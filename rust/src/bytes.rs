@@ -8,6 +8,9 @@ use std::hash::{Hash, Hasher};
 /// of nine in ten versions of Debian's packages are this short.
 pub const WITHIN: usize = 38;
 
+/// How many bytes a room has to have of which bytes are copied.
+pub const LEAST_ROOM: usize = 2 * WITHIN;
+
 /// Bytes of any length. They compare and hash as slices do, wherever they lie.
 #[derive(Clone)]
 pub enum Bytes {
@@ -18,28 +21,30 @@ pub enum Bytes {
 }
 
 impl Bytes {
-    /// Copies the bytes.
+    /// Copies the first `length` bytes of a room that has at least `LEAST_ROOM` bytes. Writes to the
+    /// bytes after them.
     #[inline]
-    pub fn copied(bytes: &[u8]) -> Bytes {
-        if bytes.len() > WITHIN {
-            return Bytes::Allocated(bytes.into());
+    pub fn copied(from: &mut [u8], length: usize) -> Bytes {
+        if length > WITHIN {
+            return Bytes::Allocated(from[..length].into());
         }
+        // As many zeros and as many bytes each time, since that takes no call.
+        from[length..][..WITHIN].fill(0);
         let mut room = [0; WITHIN];
-        room[..bytes.len()].copy_from_slice(bytes);
+        room.copy_from_slice(&from[..WITHIN]);
         Bytes::Within {
-            length: bytes.len() as u8,
+            length: length as u8,
             room,
         }
     }
 
-    /// Takes over the first `length` bytes of a room, and gives the rest of its allocation back.
-    pub fn taken_from(mut room: Vec<u8>, length: usize) -> Bytes {
-        room.truncate(length);
+    /// The same, where the room can be handed over. Gives the rest of its allocation back.
+    pub fn taken(mut from: Vec<u8>, length: usize) -> Bytes {
         if length <= WITHIN {
-            Bytes::copied(&room)
-        } else {
-            Bytes::Allocated(room.into_boxed_slice())
+            return Bytes::copied(&mut from, length);
         }
+        from.truncate(length);
+        Bytes::Allocated(from.into_boxed_slice())
     }
 
     #[inline]
@@ -56,14 +61,15 @@ const WORDS: [usize; 5] = [0, 8, 16, 24, WITHIN - 8];
 
 /// The word of a room that begins there. Words compare as their bytes do.
 #[inline]
-fn word(room: &[u8; WITHIN], start: usize) -> u64 {
+fn word(room: &[u8], start: usize) -> u64 {
     let mut bytes = [0; 8];
     bytes.copy_from_slice(&room[start..start + 8]);
     u64::from_be_bytes(bytes)
 }
 
-/// As slices. Zeros after the end of the shorter one leave it the lesser, unless the longer one has
-/// nothing but zeros there; then the lengths decide.
+/// As slices. Where both lie within their values, they are compared by words, without a call. Zeros
+/// after the end of the shorter one leave it the lesser, unless the longer one has nothing but
+/// zeros there; then the lengths decide.
 impl Ord for Bytes {
     #[inline]
     fn cmp(&self, other: &Self) -> Ordering {

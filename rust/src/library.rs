@@ -6,7 +6,7 @@ use std::cmp::Ordering;
 use std::fmt::Display;
 use std::os::raw::{c_char, c_int};
 
-use crate::bytes::Bytes;
+use crate::bytes::{Bytes, LEAST_ROOM};
 use crate::range::{KeyRange, Kinds};
 use crate::Kind;
 
@@ -35,6 +35,7 @@ const RANGE_EXACT: u32 = 16;
 
 /// How many bytes of room for a key are made on the stack, which is enough for those of most texts.
 const ON_STACK: usize = 128;
+const _: () = assert!(LEAST_ROOM <= ON_STACK);
 
 extern "C" {
     fn versions_kind(text: *const c_char, text_len: usize) -> c_int;
@@ -246,26 +247,29 @@ pub fn compare_total<'t>(a: &'t str, b: &'t str) -> Result<Ordering, &'t str> {
 }
 
 /// The kind and the sort key of a text, by one scan; `None` where it is not a version.
+#[inline]
 pub fn parse(text: &str) -> Option<(Kind, Bytes)> {
     let bound = key_bound(text);
     if bound <= ON_STACK {
         let mut room = [0; ON_STACK];
         let (kind, length) = parse_into(text, &mut room)?;
-        Some((kind, Bytes::copied(&room[..length])))
+        Some((kind, Bytes::copied(&mut room, length)))
     } else {
         let mut room = vec![0; bound];
         let (kind, length) = parse_into(text, &mut room)?;
-        Some((kind, Bytes::taken_from(room, length)))
+        Some((kind, Bytes::taken(room, length)))
     }
 }
 
 /// How many bytes are enough for the sort key of a text, and for each bound of a list.
+#[inline]
 fn key_bound(text: &str) -> usize {
     text.len().saturating_mul(3).saturating_add(5)
 }
 
 /// The kind of a text, and the length of its sort key, which is written to the beginning of `room`.
 /// That has to have `key_bound` bytes.
+#[inline]
 fn parse_into(text: &str, room: &mut [u8]) -> Option<(Kind, usize)> {
     let (mut kind, mut length) = (0, 0);
     // SAFETY: the pointer and the length are those of `text`, which is only read. `kind`, `room`
@@ -295,15 +299,15 @@ pub fn range(list: &str) -> Option<KeyRange> {
         let (mut low, mut high) = ([0; ON_STACK], [0; ON_STACK]);
         let written = range_into(list, &mut low, &mut high)?;
         Some(written.range(
-            Bytes::copied(&low[..written.low_length]),
-            Bytes::copied(&high[..written.high_length]),
+            Bytes::copied(&mut low, written.low_length),
+            Bytes::copied(&mut high, written.high_length),
         ))
     } else {
         let (mut low, mut high) = (vec![0; bound], vec![0; bound]);
         let written = range_into(list, &mut low, &mut high)?;
         Some(written.range(
-            Bytes::taken_from(low, written.low_length),
-            Bytes::taken_from(high, written.high_length),
+            Bytes::taken(low, written.low_length),
+            Bytes::taken(high, written.high_length),
         ))
     }
 }
@@ -609,6 +613,7 @@ fn kind_of(number: c_int) -> Option<Kind> {
     }
 }
 
+#[inline]
 fn kind_of_number(number: c_int) -> Option<Kind> {
     match number {
         IDEAL => Some(Kind::Ideal),
@@ -644,6 +649,7 @@ fn flags(range: &KeyRange) -> u32 {
 }
 
 /// The length of what a call wrote to a room of so many bytes.
+#[inline]
 fn fitting(call: &str, length: usize, room: usize) -> usize {
     if length > room {
         unexpected(call, "length", length);

@@ -59,8 +59,12 @@ impl<'a> Versioning<'a> {
     /// assert_eq!(versions?.len(), 2);
     /// # Ok::<(), proved_versions::InvalidVersion>(())
     /// ```
+    #[inline]
     pub fn new(text: impl Text<'a>) -> Result<Self, InvalidVersion> {
-        let text = into_cow(text);
+        Versioning::parsed(into_cow(text))
+    }
+
+    fn parsed(text: Cow<'a, str>) -> Result<Self, InvalidVersion> {
         match library::parse(&text) {
             Some((kind, key)) => Ok(Versioning {
                 text,
