@@ -1,13 +1,12 @@
 //! Does one piece of work on the lines of standard input, by the crate `proved_versions`, by the Rust crate `versions`
 //! or by `semver`, for bench/rust to time it or to count its instructions:
-//!   rust CRATE WORK ROUNDS
+//!   rust CRATE WORK REQUIREMENT ROUNDS
 //! It prints the best processor time of the rounds, in nanoseconds a line. With no rounds it makes ready for the work,
-//! and prints nothing. A comparison takes a line and the next, and after the last the first.
+//! and prints nothing. A comparison takes a line and the next, and after the last the first. The Rust crate takes no
+//! lists, so that each member of one is asked there in turn.
 use std::hint::black_box;
 use std::io::Read;
 use std::os::raw::c_long;
-
-const REQUIREMENT: &str = ">=1.2.3";
 
 extern "C" {
     // The processor time of this process, in microseconds, from the C library.
@@ -76,14 +75,18 @@ fn run<'a, V: Ord>(
         "parse and match" => {
             time_each(lines, rounds, || texts.iter(), |text| matches(&parse(text)))
         }
+        "match" => {
+            let versions = parse_all();
+            time_each(lines, rounds, || versions.iter(), &matches);
+        }
         _ => panic!("no such work: {work}"),
     }
 }
 
 /// The work that `proved_versions` does on texts, and otherwise what each crate does.
-fn run_proved(work: &str, texts: &[&str], rounds: usize) {
-    use proved_versions::{compare, match_all, sort, Requirement, Version};
-    let requirement = Requirement::new(REQUIREMENT).unwrap();
+fn run_proved(work: &str, requirement: &str, texts: &[&str], rounds: usize) {
+    use proved_versions::{compare, match_all, sort, Requirement, Versioning};
+    let requirement = Requirement::new(requirement).unwrap();
     let lines = texts.len();
     match work {
         "sort texts" => time(lines, rounds, || {
@@ -105,7 +108,7 @@ fn run_proved(work: &str, texts: &[&str], rounds: usize) {
         ),
         "match_all" => time(lines, rounds, || match_all(&requirement, texts)),
         _ => {
-            let parse = |text| Version::new(text).unwrap();
+            let parse = |text| Versioning::new(text).unwrap();
             run(work, texts, rounds, parse, |v| requirement.matches(v));
         }
     }
@@ -116,19 +119,21 @@ fn main() {
     let mut input = String::new();
     std::io::stdin().read_to_string(&mut input).unwrap();
     let texts: Vec<&str> = input.lines().collect();
-    let (work, rounds) = (words[1].as_str(), words[2].parse().unwrap());
+    let (work, wanted) = (words[1].as_str(), words[2].as_str());
+    let rounds = words[3].parse().unwrap();
     match words[0].as_str() {
-        "proved-versions" => run_proved(work, &texts, rounds),
+        "proved-versions" => run_proved(work, wanted, &texts, rounds),
         #[cfg(feature = "versions")]
         "versions" => {
             use versions::{Requirement, Versioning};
-            let requirement = Requirement::new(REQUIREMENT).unwrap();
+            let members: Option<Vec<_>> = wanted.split(',').map(Requirement::new).collect();
+            let members = members.unwrap();
             let parse = |text| Versioning::new(text).unwrap();
-            run(work, &texts, rounds, parse, |v| requirement.matches(v));
+            run(work, &texts, rounds, parse, |v| members.iter().all(|wanted| wanted.matches(v)));
         }
         "semver" => {
             use semver::{Version, VersionReq};
-            let requirement = VersionReq::parse(REQUIREMENT).unwrap();
+            let requirement = VersionReq::parse(wanted).unwrap();
             let parse = |text| Version::parse(text).unwrap();
             run(work, &texts, rounds, parse, |v| requirement.matches(v));
         }

@@ -4,7 +4,7 @@ use std::fmt;
 /// The error for a text that is not a version. It holds the whole text.
 ///
 /// ```
-/// let error = proved_versions::Version::new("1..2").unwrap_err();
+/// let error = proved_versions::Versioning::new("1..2").unwrap_err();
 /// assert_eq!(error.to_string(), r#"not a version: "1..2""#);
 /// assert_eq!(error.text(), "1..2");
 /// ```

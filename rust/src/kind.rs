@@ -2,7 +2,7 @@ use std::fmt;
 
 /// Which of the three grammars a version has: the first that the whole text fits.
 ///
-/// The order of kinds is the one by which `Ord` of [`Version`](crate::Version) orders versions of
+/// The order of kinds is the one by which `Ord` of [`Versioning`](crate::Versioning) orders versions of
 /// different kinds whose precedence ties.
 ///
 /// ```

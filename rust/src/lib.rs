@@ -1,15 +1,15 @@
-//! Version numbers of any shape: which texts are versions, how versions compare, and which versions
+//! Versioning numbers of any shape: which texts are versions, how versions compare, and which versions
 //! a requirement matches.
 //!
 //! ```
-//! use proved_versions::{sort, Requirement, Version};
+//! use proved_versions::{sort, Requirement, Versioning};
 //!
 //! let mut texts = ["1.10", "1.9", "1.10rc1"];
 //! sort(&mut texts);
 //! assert_eq!(texts, ["1.9", "1.10rc1", "1.10"]);
 //!
-//! let version: Version = "1.2.0-rc.1".parse()?;
-//! assert!(version.is_ideal() && version < Version::new("1.2.0")?);
+//! let version: Versioning = "1.2.0-rc.1".parse()?;
+//! assert!(version.is_ideal() && version < Versioning::new("1.2.0")?);
 //! assert!(Requirement::new(">=1.1,<1.2.0")?.matches(&version));
 //! # Ok::<(), Box<dyn std::error::Error>>(())
 //! ```
@@ -40,31 +40,50 @@
 //! older one, a call may end the program by the signal `SIGILL`. A program that may run there asks
 //! [`processor_suffices`] before it makes any other call.
 //!
+//! # Names
+//!
+//! The names are those of the crate `versions`, whose `Version` is its type of general versions
+//! alone. Here no type has that name, so that a changed import is an error:
+//!
+//! ```compile_fail,E0432
+//! use proved_versions::Version;
+//! ```
+//!
 //! # Features
 //!
-//! `serde`: [`Version`] and [`Requirement`] are serialized as their texts, and deserialized from
+//! `serde`: [`Versioning`] and [`Requirement`] are serialized as their texts, and deserialized from
 //! texts.
-#![deny(unsafe_code, unsafe_op_in_unsafe_fn)]
-#![warn(missing_docs)]
+#![deny(missing_docs, unsafe_code, unsafe_op_in_unsafe_fn)]
 
 use std::cmp::Ordering;
 
+/// The examples of README.md are tests.
+#[cfg(doctest)]
+#[doc = include_str!("../README.md")]
+struct Readme;
+
+mod bytes;
 mod error;
 mod key;
 mod kind;
 #[allow(unsafe_code)]
 mod library;
 mod many;
+mod range;
 mod requirement;
 #[cfg(feature = "serde")]
 mod serde;
-mod version;
+mod text;
+mod versioning;
 
 pub use error::{InvalidRequirement, InvalidVersion};
+pub use key::Key;
 pub use kind::Kind;
 pub use many::{kinds, match_all, order, sort, sort_keys, SortKeys};
+pub use range::KeyRange;
 pub use requirement::{Filter, Requirement};
-pub use version::Version;
+pub use text::Text;
+pub use versioning::Versioning;
 
 /// Returns the kind of a text, or `None` if it is not a version. Allocates nothing.
 ///
@@ -78,7 +97,7 @@ pub fn kind(text: &str) -> Option<Kind> {
     library::kind(text)
 }
 
-/// Compares two texts by precedence, the one order of all kinds, as [`Version::precedence`] does.
+/// Compares two texts by precedence, the one order of all kinds, as [`Versioning::precedence`] does.
 ///
 /// # Errors
 ///
@@ -97,7 +116,7 @@ pub fn compare(a: &str, b: &str) -> Result<Ordering, InvalidVersion> {
     library::compare(a, b).map_err(InvalidVersion::new)
 }
 
-/// Compares two texts in the total order, as `Ord` of [`Version`] does: by precedence, with ties
+/// Compares two texts in the total order, as `Ord` of [`Versioning`] does: by precedence, with ties
 /// broken by kind and then field by field.
 ///
 /// The answer is `Equal` only if both are the same version, apart from the metadata of strict ones.
@@ -117,7 +136,8 @@ pub fn compare_total(a: &str, b: &str) -> Result<Ordering, InvalidVersion> {
     library::compare_total(a, b).map_err(InvalidVersion::new)
 }
 
-/// Returns the sort key of a text, as [`Version::sort_key`] does.
+/// Returns the sort key of a text, as [`Versioning::key`] does. Allocates what [`Versioning::new`]
+/// does.
 ///
 /// # Errors
 ///
@@ -128,8 +148,11 @@ pub fn compare_total(a: &str, b: &str) -> Result<Ordering, InvalidVersion> {
 /// texts.sort_by_cached_key(|text| proved_versions::sort_key(text).unwrap());
 /// assert_eq!(texts, ["1.9", "1.10rc1", "1.10"]);
 /// ```
-pub fn sort_key(text: &str) -> Result<Vec<u8>, InvalidVersion> {
-    key::with(text, <[u8]>::to_vec).ok_or_else(|| InvalidVersion::new(text))
+pub fn sort_key(text: &str) -> Result<Key, InvalidVersion> {
+    match library::parse(text) {
+        Some((_, key)) => Ok(Key::new(key)),
+        None => Err(InvalidVersion::new(text)),
+    }
 }
 
 /// Returns whether the library runs on this processor, which must be of the level x86-64-v2. On any

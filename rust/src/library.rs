@@ -3,8 +3,11 @@
 //! All unsafe code of the crate is here. The numbers of `versions.h` are known here alone.
 
 use std::cmp::Ordering;
+use std::fmt::Display;
 use std::os::raw::{c_char, c_int};
 
+use crate::bytes::{Bytes, LEAST_ROOM};
+use crate::range::{KeyRange, Kinds};
 use crate::Kind;
 
 const OK: c_int = 0;
@@ -14,7 +17,25 @@ const NO_VERSION_B: c_int = 3;
 const NO_VERSION_AB: c_int = 4;
 const NO_REQUIREMENTS: c_int = 5;
 const NO_NUMBER: c_int = 6;
-const NO_ROOM: c_int = 7;
+const NO_FIELD: c_int = 11;
+
+const IDEAL: c_int = 1;
+const GENERAL: c_int = 2;
+const COMPLEX: c_int = 3;
+
+const FIELD_PRE_RELEASE: u32 = 2;
+const FIELD_RELEASE: u32 = 3;
+const FIELD_METADATA: u32 = 4;
+
+const RANGE_IDEAL: u32 = 1;
+const RANGE_GENERAL: u32 = 2;
+const RANGE_COMPLEX: u32 = 4;
+const RANGE_HIGH: u32 = 8;
+const RANGE_EXACT: u32 = 16;
+
+/// How many bytes of room for a key are made on the stack, which is enough for those of most texts.
+const ON_STACK: usize = 128;
+const _: () = assert!(LEAST_ROOM <= ON_STACK);
 
 extern "C" {
     fn versions_kind(text: *const c_char, text_len: usize) -> c_int;
@@ -35,9 +56,10 @@ extern "C" {
         order: *mut i32,
     ) -> c_int;
 
-    fn versions_sort_key(
+    fn versions_parse(
         text: *const c_char,
         text_len: usize,
+        kind: *mut u8,
         key: *mut u8,
         room: usize,
         key_len: *mut usize,
@@ -52,9 +74,41 @@ extern "C" {
         matches: *mut u8,
     ) -> c_int;
 
+    fn versions_range(
+        list: *const c_char,
+        list_len: usize,
+        low: *mut u8,
+        low_room: usize,
+        low_len: *mut usize,
+        high: *mut u8,
+        high_room: usize,
+        high_len: *mut usize,
+        flags: *mut u32,
+    ) -> c_int;
+
+    // `is_in` is a `bool *` of C too.
+    fn versions_in_range(
+        text: *const c_char,
+        text_len: usize,
+        low: *const u8,
+        low_len: usize,
+        high: *const u8,
+        high_len: usize,
+        flags: u32,
+        is_in: *mut u8,
+    ) -> c_int;
+
     fn versions_nth(text: *const c_char, text_len: usize, n: usize, number: *mut u32) -> c_int;
 
-    fn versions_epoch(text: *const c_char, text_len: usize, epoch: *mut u32) -> c_int;
+    fn versions_epoch(text: *const c_char, text_len: usize, epoch: *mut u64) -> c_int;
+
+    fn versions_field(
+        text: *const c_char,
+        text_len: usize,
+        field: u32,
+        start: *mut usize,
+        end: *mut usize,
+    ) -> c_int;
 
     // `is_prerelease` is a `bool *` of C too.
     fn versions_is_prerelease(
@@ -107,15 +161,30 @@ extern "C" {
         matches_len: usize,
     ) -> c_int;
 
+    fn versions_in_range_all(
+        texts: *const c_char,
+        texts_len: usize,
+        offsets: *const i64,
+        offsets_len: usize,
+        low: *const u8,
+        low_len: usize,
+        high: *const u8,
+        high_len: usize,
+        flags: u32,
+        answers: *mut u8,
+        answers_len: usize,
+    ) -> c_int;
+
     fn versions_processor_suffices() -> bool;
 }
 
-/// Why there is no sort key.
-pub enum NoKey {
-    /// The text is not a version.
-    NotAVersion,
-    /// The key has this many bytes, and the room has fewer.
-    NoRoom(usize),
+/// The fields that are pieces of the text.
+#[derive(Clone, Copy)]
+#[repr(u32)]
+pub enum Field {
+    PreRelease = FIELD_PRE_RELEASE,
+    Release = FIELD_RELEASE,
+    Metadata = FIELD_METADATA,
 }
 
 /// Many texts as the library takes them: one after another in `bytes`, the text of place i from
@@ -177,42 +246,152 @@ pub fn compare_total<'t>(a: &'t str, b: &'t str) -> Result<Ordering, &'t str> {
     ordering("versions_compare_total", status, order, a, b)
 }
 
-/// Writes the sort key of a version to the beginning of `room`, and returns that part of it.
-pub fn sort_key<'r>(text: &str, room: &'r mut [u8]) -> Result<&'r [u8], NoKey> {
-    let mut length = 0;
-    // SAFETY: the pointer and the length are those of `text`, which is only read. `room` and
-    // `length` are written, and overlap with nothing, as they are borrowed mutably.
+/// The kind and the sort key of a text, by one scan; `None` where it is not a version.
+#[inline]
+pub fn parse(text: &str) -> Option<(Kind, Bytes)> {
+    let bound = key_bound(text);
+    if bound <= ON_STACK {
+        let mut room = [0; ON_STACK];
+        let (kind, length) = parse_into(text, &mut room)?;
+        Some((kind, Bytes::copied(&mut room, length)))
+    } else {
+        let mut room = vec![0; bound];
+        let (kind, length) = parse_into(text, &mut room)?;
+        Some((kind, Bytes::taken(room, length)))
+    }
+}
+
+/// How many bytes are enough for the sort key of a text, and for each bound of a list.
+#[inline]
+fn key_bound(text: &str) -> usize {
+    text.len().saturating_mul(3).saturating_add(5)
+}
+
+/// The kind of a text, and the length of its sort key, which is written to the beginning of `room`.
+/// That has to have `key_bound` bytes.
+#[inline]
+fn parse_into(text: &str, room: &mut [u8]) -> Option<(Kind, usize)> {
+    let (mut kind, mut length) = (0, 0);
+    // SAFETY: the pointer and the length are those of `text`, which is only read. `kind`, `room`
+    // and `length` are written, and overlap with nothing, as they are borrowed mutably.
     let status = unsafe {
-        versions_sort_key(
+        versions_parse(
             start(text),
             text.len(),
+            &mut kind,
             room.as_mut_ptr(),
             room.len(),
             &mut length,
         )
     };
-    match status {
-        OK => Ok(&room[..length]),
-        NO_VERSION => Err(NoKey::NotAVersion),
-        NO_ROOM => Err(NoKey::NoRoom(length)),
-        _ => unexpected("versions_sort_key", "status", status),
+    match (status, kind_of_number(kind.into())) {
+        (OK, Some(kind)) => Some((kind, fitting("versions_parse", length, room.len()))),
+        (OK, None) => unexpected("versions_parse", "kind", kind),
+        (NO_VERSION, _) => None,
+        _ => unexpected("versions_parse", "status", status),
     }
 }
 
-/// Whether a text is a list of requirements.
-pub fn is_list(list: &str) -> bool {
-    try_matches(list, "").is_some()
+/// The range of sort keys that a list of requirements asks for; `None` where the text is not one.
+pub fn range(list: &str) -> Option<KeyRange> {
+    let bound = key_bound(list);
+    if bound <= ON_STACK {
+        let (mut low, mut high) = ([0; ON_STACK], [0; ON_STACK]);
+        let written = range_into(list, &mut low, &mut high)?;
+        Some(written.range(
+            Bytes::copied(&mut low, written.low_length),
+            Bytes::copied(&mut high, written.high_length),
+        ))
+    } else {
+        let (mut low, mut high) = (vec![0; bound], vec![0; bound]);
+        let written = range_into(list, &mut low, &mut high)?;
+        Some(written.range(
+            Bytes::taken(low, written.low_length),
+            Bytes::taken(high, written.high_length),
+        ))
+    }
+}
+
+/// What `versions_range` writes beside the bounds.
+struct Written {
+    low_length: usize,
+    high_length: usize,
+    flags: u32,
+}
+
+impl Written {
+    fn range(&self, low: Bytes, high: Bytes) -> KeyRange {
+        KeyRange {
+            low,
+            high: (self.flags & RANGE_HIGH != 0).then_some(high),
+            kinds: KINDS
+                .into_iter()
+                .filter(|kind| self.flags & flag(*kind) != 0)
+                .fold(Kinds::NONE, Kinds::with),
+            is_exact: self.flags & RANGE_EXACT != 0,
+        }
+    }
+}
+
+/// Writes the bounds of a list to the beginnings of `low` and `high`. Each has to have `key_bound`
+/// bytes.
+fn range_into(list: &str, low: &mut [u8], high: &mut [u8]) -> Option<Written> {
+    let (mut low_length, mut high_length, mut flags) = (0, 0, 0);
+    // SAFETY: the pointer and the length are those of `list`, which is only read. The others are
+    // written, and overlap with nothing, as they are borrowed mutably.
+    let status = unsafe {
+        versions_range(
+            start(list),
+            list.len(),
+            low.as_mut_ptr(),
+            low.len(),
+            &mut low_length,
+            high.as_mut_ptr(),
+            high.len(),
+            &mut high_length,
+            &mut flags,
+        )
+    };
+    match status {
+        OK if flags <= all_flags() => Some(Written {
+            low_length: fitting("versions_range", low_length, low.len()),
+            high_length: fitting("versions_range", high_length, high.len()),
+            flags,
+        }),
+        OK => unexpected("versions_range", "sum of flags", flags),
+        NO_REQUIREMENTS => None,
+        _ => unexpected("versions_range", "status", status),
+    }
+}
+
+/// Whether a version is in a range; `None` where the text is not a version.
+pub fn in_range(range: &KeyRange, text: &str) -> Option<bool> {
+    let (low, high) = (range.low(), range.high().unwrap_or_default());
+    let mut answer = 0;
+    // SAFETY: each pointer has the length of its text or bytes, which are only read; `answer` is
+    // written.
+    let status = unsafe {
+        versions_in_range(
+            start(text),
+            text.len(),
+            low.as_ptr(),
+            low.len(),
+            high.as_ptr(),
+            high.len(),
+            flags(range),
+            &mut answer,
+        )
+    };
+    match status {
+        OK => Some(bool_of("versions_in_range", answer)),
+        NO_VERSION => None,
+        _ => unexpected("versions_in_range", "status", status),
+    }
 }
 
 /// Whether a list of requirements matches a version; `None` where the text is not a version.
 /// Panics where `list` is not a list of requirements.
 pub fn matches(list: &str, text: &str) -> Option<bool> {
-    try_matches(list, text)
-        .unwrap_or_else(|| unexpected("versions_matches", "status", NO_REQUIREMENTS))
-}
-
-/// The same; the outer `None` says that `list` is not a list of requirements.
-fn try_matches(list: &str, text: &str) -> Option<Option<bool>> {
     let mut answer = 0;
     // SAFETY: each pointer has the length of its text, which is only read; `answer` is written.
     let status = unsafe {
@@ -225,9 +404,8 @@ fn try_matches(list: &str, text: &str) -> Option<Option<bool>> {
         )
     };
     match status {
-        OK => Some(Some(bool_of("versions_matches", answer))),
-        NO_VERSION => Some(None),
-        NO_REQUIREMENTS => None,
+        OK => Some(bool_of("versions_matches", answer)),
+        NO_VERSION => None,
         _ => unexpected("versions_matches", "status", status),
     }
 }
@@ -245,8 +423,8 @@ pub fn nth(text: &str, n: usize) -> Option<u32> {
     }
 }
 
-/// The epoch of a general version. Panics where the text is not a version.
-pub fn epoch(text: &str) -> Option<u32> {
+/// The epoch of a version. Panics where the text is not a version.
+pub fn epoch(text: &str) -> Option<u64> {
     let mut epoch = 0;
     // SAFETY: the pointer and the length are those of `text`, which is only read; `epoch` is
     // written.
@@ -255,6 +433,23 @@ pub fn epoch(text: &str) -> Option<u32> {
         OK => Some(epoch),
         NO_NUMBER => None,
         _ => unexpected("versions_epoch", "status", status),
+    }
+}
+
+/// A field of a version, a piece of its text. Panics where the text is not a version.
+pub fn field(text: &str, field: Field) -> Option<&str> {
+    let (mut from, mut to) = (0, 0);
+    // SAFETY: the pointer and the length are those of `text`, which is only read; `from` and `to`
+    // are written.
+    let status =
+        unsafe { versions_field(start(text), text.len(), field as u32, &mut from, &mut to) };
+    match status {
+        OK => match text.get(from..to) {
+            Some(piece) if !piece.is_empty() => Some(piece),
+            _ => unexpected("versions_field", "place", format_args!("{from}..{to}")),
+        },
+        NO_FIELD => None,
+        _ => unexpected("versions_field", "status", status),
     }
 }
 
@@ -374,14 +569,33 @@ pub fn match_all(list: &str, texts: &Texts) -> Vec<Option<bool>> {
             matches.len(),
         )
     };
-    let match_of = |number| match number {
-        2 => None,
-        _ => Some(bool_of("versions_match_all", number)),
+    answers("versions_match_all", status, matches)
+}
+
+/// Whether each version is in a range; `None` for a text that is not a version.
+pub fn in_range_all(range: &KeyRange, texts: &Texts) -> Vec<Option<bool>> {
+    let Texts { bytes, offsets } = texts;
+    let (low, high) = (range.low(), range.high().unwrap_or_default());
+    let mut are_in = vec![0; texts.count()];
+    // SAFETY: each pointer has the length of its array. Texts, offsets and bounds are only read,
+    // and the library refuses offsets that leave the texts. `are_in` is written, and overlaps with
+    // nothing.
+    let status = unsafe {
+        versions_in_range_all(
+            start(bytes),
+            bytes.len(),
+            offsets.as_ptr(),
+            offsets.len(),
+            low.as_ptr(),
+            low.len(),
+            high.as_ptr(),
+            high.len(),
+            flags(range),
+            are_in.as_mut_ptr(),
+            are_in.len(),
+        )
     };
-    match status {
-        OK => matches.into_iter().map(match_of).collect(),
-        _ => unexpected("versions_match_all", "status", status),
-    }
+    answers("versions_in_range_all", status, are_in)
 }
 
 /// Where the bytes of a text begin.
@@ -389,21 +603,77 @@ fn start(text: &str) -> *const c_char {
     text.as_ptr().cast()
 }
 
+const KINDS: [Kind; 3] = [Kind::Ideal, Kind::General, Kind::Complex];
+
+/// The kind of a number of `versions_kind`.
 fn kind_of(number: c_int) -> Option<Kind> {
-    match number {
-        0 => None,
-        1 => Some(Kind::Ideal),
-        2 => Some(Kind::General),
-        3 => Some(Kind::Complex),
-        _ => unexpected("versions_kind", "kind", number),
+    match kind_of_number(number) {
+        None if number != 0 => unexpected("versions_kind", "kind", number),
+        kind => kind,
     }
+}
+
+#[inline]
+fn kind_of_number(number: c_int) -> Option<Kind> {
+    match number {
+        IDEAL => Some(Kind::Ideal),
+        GENERAL => Some(Kind::General),
+        COMPLEX => Some(Kind::Complex),
+        _ => None,
+    }
+}
+
+/// The flag of a kind in a range.
+fn flag(kind: Kind) -> u32 {
+    match kind {
+        Kind::Ideal => RANGE_IDEAL,
+        Kind::General => RANGE_GENERAL,
+        Kind::Complex => RANGE_COMPLEX,
+    }
+}
+
+/// All flags of a range, added.
+fn all_flags() -> u32 {
+    KINDS.map(flag).iter().sum::<u32>() + RANGE_HIGH + RANGE_EXACT
+}
+
+/// The flags of a range, added.
+fn flags(range: &KeyRange) -> u32 {
+    let kinds = KINDS.into_iter().filter(|kind| range.has_kind(*kind));
+    let bounds = if range.high().is_some() {
+        RANGE_HIGH
+    } else {
+        0
+    };
+    kinds.map(flag).sum::<u32>() + bounds
+}
+
+/// The length of what a call wrote to a room of so many bytes.
+#[inline]
+fn fitting(call: &str, length: usize, room: usize) -> usize {
+    if length > room {
+        unexpected(call, "length", length);
+    }
+    length
 }
 
 fn bool_of(call: &str, number: u8) -> bool {
     match number {
         0 => false,
         1 => true,
-        _ => unexpected(call, "match", number.into()),
+        _ => unexpected(call, "match", number),
+    }
+}
+
+/// The answers of a call to many texts, of which 2 says that a text is not a version.
+fn answers(call: &str, status: c_int, numbers: Vec<u8>) -> Vec<Option<bool>> {
+    let answer_of = |number| match number {
+        2 => None,
+        _ => Some(bool_of(call, number)),
+    };
+    match status {
+        OK => numbers.into_iter().map(answer_of).collect(),
+        _ => unexpected(call, "status", status),
     }
 }
 
@@ -426,6 +696,7 @@ fn ordering<'t>(
 }
 
 /// Panics: the library that was linked doesn't do what its header says.
-fn unexpected(call: &str, what: &str, number: c_int) -> ! {
-    panic!("{call} gave the {what} {number}, which versions.h does not allow here")
+#[cold]
+fn unexpected(call: &str, what: &str, value: impl Display) -> ! {
+    panic!("{call} gave the {what} {value}, which versions.h does not allow here")
 }

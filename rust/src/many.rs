@@ -46,12 +46,17 @@ pub fn sort_keys<T: AsRef<str>>(texts: &[T]) -> SortKeys {
 /// assert_eq!(answers, [Some(true), None, Some(false)]);
 /// ```
 pub fn match_all<T: AsRef<str>>(requirement: &Requirement<'_>, texts: &[T]) -> Vec<Option<bool>> {
-    library::match_all(requirement.as_str(), &Texts::new(texts))
+    let texts = Texts::new(texts);
+    if requirement.range().is_exact() {
+        library::in_range_all(requirement.range(), &texts)
+    } else {
+        library::match_all(requirement.as_str(), &texts)
+    }
 }
 
 /// Returns the places of the texts in the order of their versions, the least version first.
 ///
-/// The order is that of `Ord` of [`Version`](crate::Version). Texts that compare equal keep their
+/// The order is that of `Ord` of [`Versioning`](crate::Versioning). Texts that compare equal keep their
 /// order, as in a stable sort. Texts that are not versions come last, in their order too.
 ///
 /// Allocates, beside the answer, 4 bytes for each byte of the texts, and at most 29 for each text.

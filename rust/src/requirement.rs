@@ -1,42 +1,49 @@
 use std::borrow::{Borrow, Cow};
 use std::fmt;
+use std::hash::{Hash, Hasher};
 use std::iter::FusedIterator;
 use std::str::FromStr;
 
-use crate::{library, InvalidRequirement, InvalidVersion, Version};
+use crate::text::into_cow;
+use crate::{library, InvalidRequirement, InvalidVersion, KeyRange, Text, Versioning};
 
 /// A requirement, as `^1.2.3`, or a list of them with commas between, as `>=1.1.1,<2.0.0`.
 ///
 /// The operators are `=`, `>=`, `>`, `<=`, `<`, `~` and `^`, each before a version, and `*` alone.
 /// There are no spaces. A list matches the versions that each member matches.
 ///
-/// `==` and `Hash` go by the text.
+/// A requirement holds its text, borrowed or owned, and its [range](Requirement::range) of sort
+/// keys. `==` and `Hash` go by the text.
 ///
 /// ```
-/// use proved_versions::{Requirement, Version};
+/// use proved_versions::{Requirement, Versioning};
 ///
 /// let requirement = Requirement::new(">=1.1.1,<2.0.0").unwrap();
-/// assert!(requirement.matches(&Version::new("1.5").unwrap()));
-/// assert!(!requirement.matches(&Version::new("2.0.0").unwrap()));
+/// assert!(requirement.matches(&Versioning::new("1.5").unwrap()));
+/// assert!(!requirement.matches(&Versioning::new("2.0.0").unwrap()));
 /// ```
-#[derive(Clone, PartialEq, Eq, Hash)]
+#[derive(Clone)]
 pub struct Requirement<'a> {
     text: Cow<'a, str>,
+    range: KeyRange,
 }
 
 impl<'a> Requirement<'a> {
     /// Parses a requirement or a list of them. Borrows a `&str`, and takes a `String` as it is.
     ///
+    /// Allocates nothing where the text has at most 41 bytes and each bound of its range at most
+    /// 38. Otherwise 3 bytes for each byte of the text, and 5 more, are allocated for each bound; a
+    /// bound of more than 38 bytes keeps its part of them.
+    ///
     /// # Errors
     ///
     /// [`InvalidRequirement`], where the text is neither. The error holds the text, for which a
-    /// borrowed one is copied; otherwise nothing is allocated.
-    pub fn new(text: impl Into<Cow<'a, str>>) -> Result<Self, InvalidRequirement> {
-        let text = text.into();
-        if library::is_list(&text) {
-            Ok(Requirement { text })
-        } else {
-            Err(InvalidRequirement::new(text))
+    /// borrowed one is copied.
+    pub fn new(text: impl Text<'a>) -> Result<Self, InvalidRequirement> {
+        let text = into_cow(text);
+        match library::range(&text) {
+            Some(range) => Ok(Requirement { text, range }),
+            None => Err(InvalidRequirement::new(text)),
         }
     }
 
@@ -45,13 +52,41 @@ impl<'a> Requirement<'a> {
         &self.text
     }
 
-    /// Returns whether the requirement matches a version. Allocates nothing.
-    pub fn matches(&self, version: &Version<'_>) -> bool {
-        library::matches(&self.text, version.as_str())
-            .expect("the library no longer takes the text of a Version for a version")
+    /// Returns the range of sort keys that the requirement asks for. Each version that it matches is
+    /// in the range.
+    ///
+    /// ```
+    /// use proved_versions::{Requirement, Versioning};
+    ///
+    /// let mut versions = ["2.0.0", "1.2.9", "1.10.0", "1.2.3"].map(|v| Versioning::new(v).unwrap());
+    /// versions.sort();
+    /// // In a sorted slice, what a requirement can match lies together.
+    /// let requirement = Requirement::new(">=1.2.4,<2.0.0").unwrap();
+    /// let range = requirement.range();
+    /// let first = versions.partition_point(|version| version.sort_key() < range.low());
+    /// let found = requirement.filter(&versions[first..]);
+    /// assert!(found.map(Versioning::as_str).eq(["1.2.9", "1.10.0"]));
+    /// ```
+    pub fn range(&self) -> &KeyRange {
+        &self.range
     }
 
-    /// Returns whether the requirement matches a text, in one call of the library.
+    /// Returns whether the requirement matches a version. Allocates nothing.
+    ///
+    /// Compares the version's key with the range. The library reads the texts only if the version
+    /// is in the range, and the range is not exact.
+    #[inline]
+    pub fn matches(&self, version: &Versioning<'_>) -> bool {
+        self.range.contains(version) && (self.range.is_exact() || self.matches_by_text(version))
+    }
+
+    fn matches_by_text(&self, version: &Versioning<'_>) -> bool {
+        library::matches(&self.text, version.as_str())
+            .expect("the library no longer takes the text of a Versioning for a version")
+    }
+
+    /// Returns whether the requirement matches a text, in one scan of the text where the range is
+    /// exact.
     ///
     /// # Errors
     ///
@@ -67,25 +102,29 @@ impl<'a> Requirement<'a> {
     /// assert!(requirement.matches_text("1..2").is_err());
     /// ```
     pub fn matches_text(&self, text: &str) -> Result<bool, InvalidVersion> {
-        library::matches(&self.text, text).ok_or_else(|| InvalidVersion::new(text))
+        let answer = match library::in_range(&self.range, text) {
+            Some(true) if !self.range.is_exact() => library::matches(&self.text, text),
+            answer => answer,
+        };
+        answer.ok_or_else(|| InvalidVersion::new(text))
     }
 
-    /// Returns the versions that the requirement matches, in their order. The items may be [`Version`]s or
+    /// Returns the versions that the requirement matches, in their order. The items may be [`Versioning`]s or
     /// references to them. The iterator is lazy: it matches a version when it comes to it.
     ///
     /// ```
-    /// use proved_versions::{Requirement, Version};
+    /// use proved_versions::{Requirement, Versioning};
     ///
-    /// let versions = ["1.0", "1.5", "2.0"].map(|text| Version::new(text).unwrap());
+    /// let versions = ["1.0", "1.5", "2.0"].map(|text| Versioning::new(text).unwrap());
     /// let requirement = Requirement::new(">=1.1,<2").unwrap();
-    /// let matching: Vec<&Version> = requirement.filter(&versions).collect();
+    /// let matching: Vec<&Versioning> = requirement.filter(&versions).collect();
     /// assert_eq!(matching, [&versions[1]]);
     /// assert_eq!(requirement.filter(versions).max().unwrap().as_str(), "1.5");
     /// ```
     pub fn filter<'v, I>(&self, versions: I) -> Filter<'_, I::IntoIter>
     where
         I: IntoIterator,
-        I::Item: Borrow<Version<'v>>,
+        I::Item: Borrow<Versioning<'v>>,
     {
         Filter {
             requirement: self,
@@ -97,7 +136,22 @@ impl<'a> Requirement<'a> {
     pub fn into_owned(self) -> Requirement<'static> {
         Requirement {
             text: Cow::Owned(self.text.into_owned()),
+            range: self.range,
         }
+    }
+}
+
+impl Eq for Requirement<'_> {}
+
+impl<'b> PartialEq<Requirement<'b>> for Requirement<'_> {
+    fn eq(&self, other: &Requirement<'b>) -> bool {
+        self.text == other.text
+    }
+}
+
+impl Hash for Requirement<'_> {
+    fn hash<H: Hasher>(&self, state: &mut H) {
+        self.text.hash(state);
     }
 }
 
@@ -112,7 +166,7 @@ pub struct Filter<'r, I> {
 impl<'v, I> Iterator for Filter<'_, I>
 where
     I: Iterator,
-    I::Item: Borrow<Version<'v>>,
+    I::Item: Borrow<Versioning<'v>>,
 {
     type Item = I::Item;
 
@@ -130,7 +184,7 @@ where
 impl<'v, I> DoubleEndedIterator for Filter<'_, I>
 where
     I: DoubleEndedIterator,
-    I::Item: Borrow<Version<'v>>,
+    I::Item: Borrow<Versioning<'v>>,
 {
     fn next_back(&mut self) -> Option<I::Item> {
         let requirement = self.requirement;
@@ -142,7 +196,7 @@ where
 impl<'v, I> FusedIterator for Filter<'_, I>
 where
     I: FusedIterator,
-    I::Item: Borrow<Version<'v>>,
+    I::Item: Borrow<Versioning<'v>>,
 {
 }
 

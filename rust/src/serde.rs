@@ -6,7 +6,7 @@ use std::fmt;
 use serde::de::{Deserialize, Deserializer, Error, Visitor};
 use serde::ser::{Serialize, Serializer};
 
-use crate::{Requirement, Version};
+use crate::{Requirement, Versioning};
 
 /// Takes a text, borrowed where the format lends it; the word says what it should be.
 struct Text(&'static str);
@@ -31,17 +31,17 @@ impl<'de> Visitor<'de> for Text {
     }
 }
 
-impl<'de> Version<'de> {
+impl<'de> Versioning<'de> {
     /// Deserializes a version that borrows its text where the format lends it, for
-    /// `#[serde(borrow, deserialize_with = "Version::deserialize_borrowed")]`. `Deserialize` copies
-    /// the text, as that of `Cow<str>` does, so that `Version<'static>` is `DeserializeOwned`.
+    /// `#[serde(borrow, deserialize_with = "Versioning::deserialize_borrowed")]`. `Deserialize` copies
+    /// the text, as that of `Cow<str>` does, so that `Versioning<'static>` is `DeserializeOwned`.
     ///
     /// # Errors
     ///
     /// An error of the format, with the text of [`InvalidVersion`](crate::InvalidVersion) where a
     /// text is not a version.
     pub fn deserialize_borrowed<D: Deserializer<'de>>(deserializer: D) -> Result<Self, D::Error> {
-        Version::new(deserializer.deserialize_str(Text("a version"))?).map_err(D::Error::custom)
+        Versioning::new(deserializer.deserialize_str(Text("a version"))?).map_err(D::Error::custom)
     }
 }
 
@@ -62,10 +62,10 @@ impl<'de> Requirement<'de> {
 }
 
 /// The text has a copy of its own, whatever the format lends;
-/// [`deserialize_borrowed`](Version::deserialize_borrowed) borrows.
-impl<'de> Deserialize<'de> for Version<'_> {
+/// [`deserialize_borrowed`](Versioning::deserialize_borrowed) borrows.
+impl<'de> Deserialize<'de> for Versioning<'_> {
     fn deserialize<D: Deserializer<'de>>(deserializer: D) -> Result<Self, D::Error> {
-        Version::deserialize_borrowed(deserializer).map(Version::into_owned)
+        Versioning::deserialize_borrowed(deserializer).map(Versioning::into_owned)
     }
 }
 
@@ -78,7 +78,7 @@ impl<'de> Deserialize<'de> for Requirement<'_> {
 }
 
 /// As the text.
-impl Serialize for Version<'_> {
+impl Serialize for Versioning<'_> {
     fn serialize<S: Serializer>(&self, serializer: S) -> Result<S::Ok, S::Error> {
         serializer.serialize_str(self.as_str())
     }

@@ -5,13 +5,15 @@
 #![deny(unsafe_op_in_unsafe_fn)]
 
 use std::alloc::{GlobalAlloc, Layout, System};
+use std::borrow::Cow;
 use std::cell::Cell;
 use std::collections::hash_map::DefaultHasher;
 use std::hash::{Hash, Hasher};
+use std::mem::size_of;
 
 use proved_versions::{
-    compare, compare_total, kind, kinds, match_all, order, sort, sort_key, sort_keys, Requirement,
-    Version,
+    compare, compare_total, kind, kinds, match_all, order, sort, sort_key, sort_keys, Key,
+    Requirement, Versioning,
 };
 
 thread_local! {
@@ -50,7 +52,7 @@ fn of<R>(call: impl FnOnce() -> R) -> (usize, usize) {
     made
 }
 
-fn hash(version: &Version) -> u64 {
+fn hash(version: &Versioning) -> u64 {
     let mut hasher = DefaultHasher::new();
     version.hash(&mut hasher);
     hasher.finish()
@@ -68,55 +70,101 @@ fn calls_that_allocate_nothing() {
     for (a, b) in [
         ("1.2.3-rc.1", "1.2.3"),
         ("1.0", "1:20.0026.1_0-2"),
+        ("1.2.3-1", "1.2.3_0"),
         (&*long, &*other),
     ] {
+        let is_short = a.len() < 40;
         assert_eq!(of(|| kind(a)), (0, 0));
-        assert_eq!(of(|| Version::new(a)), (0, 0));
-        let (x, y) = (Version::new(a).unwrap(), Version::new(b).unwrap());
+        assert_eq!(of(|| Versioning::new(a)) == (0, 0), is_short);
+        let (x, y) = (Versioning::new(a).unwrap(), Versioning::new(b).unwrap());
         assert_eq!(of(|| compare(a, b)), (0, 0));
         assert_eq!(of(|| compare_total(a, b)), (0, 0));
         assert_eq!(of(|| (x.precedence(&y), x.cmp(&y), x == y)), (0, 0));
-        assert_eq!(of(|| (x.kind(), x.nth(0), x.nth(99))), (0, 0));
+        assert_eq!(of(|| (x.kind(), x.nth(0), x.nth(99), x.major())), (0, 0));
         assert_eq!(of(|| (x.epoch(), x.is_prerelease())), (0, 0));
-        assert_eq!(of(|| (x.borrowed(), x.clone())), (0, 0));
-        let text = format!(">={a},<{b}");
-        assert_eq!(of(|| Requirement::new(&text)), (0, 0));
+        assert_eq!(of(|| x.pre_release()), (0, 0));
+        assert_eq!(of(|| (x.release(), x.metadata())), (0, 0));
+        assert_eq!(of(|| hash(&x)), (0, 0));
+        assert_eq!(of(|| x.sort_key()), (0, 0));
+        assert_eq!(of(|| (x.borrowed(), x.clone())) == (0, 0), is_short);
+        let text = format!(">={a},<{b},*");
+        assert_eq!(of(|| Requirement::new(&text)) == (0, 0), is_short);
         let requirement = Requirement::new(&text).unwrap();
         assert_eq!(of(|| requirement.matches(&x)), (0, 0));
         assert_eq!(of(|| requirement.matches_text(b)), (0, 0));
         assert_eq!(of(|| requirement.filter([&x, &y]).count()), (0, 0));
     }
-    let version = Version::new("1:20.0026.1_0-2+0.93-rc.1").unwrap();
-    assert_eq!(of(|| hash(&version)), (0, 0));
     let owned = String::from("1.2.3");
     assert_eq!(
-        of(|| String::from(Version::new(owned).unwrap().into_owned())),
+        of(|| String::from(Versioning::new(owned).unwrap().into_owned())),
         (0, 0)
     );
 }
 
+/// A value is a text, a key of 40 bytes and a kind.
+#[test]
+fn sizes() {
+    assert_eq!(size_of::<Key>(), 40);
+    // A `Cow` has 24 bytes since Rust 1.64, and 32 before.
+    assert_eq!(size_of::<Versioning>(), size_of::<Cow<str>>() + 40 + 8);
+    assert_eq!(size_of::<Option<Versioning>>(), size_of::<Versioning>());
+}
+
 #[test]
 fn keys() {
-    // A part of n letters has a key of n + 6 bytes.
-    for (letters, allocations) in [(1, 1), (250, 1), (251, 2), (100_000, 2)] {
+    // A part of n letters has a key of n + 6 bytes, and at most 38 bytes lie within the value.
+    for letters in [1, 31, 32] {
         let text = "a".repeat(letters);
-        let version = Version::new(&text).unwrap();
-        let bytes = (letters + 6) * allocations;
-        assert_eq!(of(|| version.sort_key()), (allocations, bytes));
-        assert_eq!(of(|| sort_key(&text)), (allocations, bytes));
-        assert_eq!(of(|| hash(&version)).0, allocations - 1);
-        let mut key = Vec::with_capacity(letters + 6);
-        assert_eq!(of(|| version.write_sort_key(&mut key)).0, allocations - 1);
+        assert_eq!(of(|| Versioning::new(&*text)), (0, 0), "{letters}");
+        assert_eq!(of(|| sort_key(&text)), (0, 0), "{letters}");
     }
+    // There is room for the key of a text of 41 bytes on the stack.
+    for letters in [33, 34, 40, 41] {
+        let text = "a".repeat(letters);
+        assert_eq!(of(|| Versioning::new(&*text)), (1, letters + 6));
+        assert_eq!(of(|| sort_key(&text)), (1, letters + 6));
+        let version = Versioning::new(&*text).unwrap();
+        assert_eq!(of(|| version.clone()), (1, letters + 6));
+        assert_eq!(of(|| version.borrowed()), (1, letters + 6));
+        assert_eq!(of(|| Key::from(version)), (0, 0));
+    }
+    for letters in [42, 43, 1000, 100_000] {
+        let text = "a".repeat(letters);
+        // The room, and then its part for the key, which this allocator moves.
+        let bytes = 3 * letters + 5 + letters + 6;
+        assert_eq!(of(|| Versioning::new(&*text)), (2, bytes));
+        assert_eq!(of(|| sort_key(&text)), (2, bytes));
+    }
+    // A short key of a long text.
+    let text = format!("1.0.0+{}", "a".repeat(1000));
+    assert_eq!(of(|| Versioning::new(&*text)), (1, 3 * 1006 + 5));
+    assert_eq!(of(|| sort_key("1.2").unwrap().after()).0, 1);
+}
+
+#[test]
+fn bounds() {
+    // The key of a part of n letters has n + 6 bytes, and what comes just after it one more.
+    for (letters, allocations) in [(1, 0), (31, 0), (32, 1), (39, 1)] {
+        let text = format!("<={}", "a".repeat(letters));
+        let made = of(|| Requirement::new(&*text));
+        assert_eq!(
+            made,
+            (allocations, allocations * (letters + 7)),
+            "{letters}"
+        );
+    }
+    let text = format!("<={}", "a".repeat(40));
+    assert_eq!(of(|| Requirement::new(&*text)), (3, 2 * (3 * 42 + 5) + 47));
+    assert_eq!(of(|| Requirement::new("^1.2.3,<1.9.0")), (0, 0));
 }
 
 #[test]
 fn errors_hold_one_copy() {
     let (bad, text) = ("1..2", String::from("1..2"));
-    assert_eq!(of(|| Version::new(bad)), (1, 4));
-    assert_eq!(of(|| Version::new(text)), (0, 0));
-    assert_eq!(of(|| bad.parse::<Version>()), (1, 4));
-    assert_eq!(of(|| "1.2".parse::<Version>()), (1, 3));
+    assert_eq!(of(|| Versioning::new(bad)), (1, 4));
+    assert_eq!(of(|| Versioning::new(text)), (0, 0));
+    assert_eq!(of(|| bad.parse::<Versioning>()), (1, 4));
+    assert_eq!(of(|| "1.2".parse::<Versioning>()), (1, 3));
     assert_eq!(of(|| sort_key(bad)), (1, 4));
     assert_eq!(of(|| compare("1", bad)), (1, 4));
     assert_eq!(of(|| Requirement::new(bad)), (1, 4));
@@ -131,8 +179,10 @@ fn many_texts() {
     // The answers may lie where the library wrote its bytes, or beside them.
     let copied_and_answers = copied + 1000..=copied + 2000;
     assert!(copied_and_answers.contains(&of(|| kinds(&texts)).1));
-    let requirement = Requirement::new("*").unwrap();
-    assert!(copied_and_answers.contains(&of(|| match_all(&requirement, &texts)).1));
+    for text in ["*", "=1.0"] {
+        let requirement = Requirement::new(text).unwrap();
+        assert!(copied_and_answers.contains(&of(|| match_all(&requirement, &texts)).1));
+    }
     // The keys of 15 bytes are moved at last, into an allocation of their own length.
     assert_eq!(
         of(|| sort_keys(&texts)),

@@ -2,17 +2,22 @@
 //!
 //! `VERS` names the program, and `BESIDE` a folder with the files `lines`, `requirements` (texts
 //! that are requirements) and `texts` (texts that may be requirements), a text on each line.
-//! `tests/rust` of the repository draws them and runs these tests.
+//! `tests/rust` of the repository draws them and runs these tests. `PAIRS` and `LISTS` say how many
+//! pairs of versions and lists of requirements are drawn of them, and `SEED` draws others.
 
 use std::cmp::Ordering;
+use std::collections::hash_map::DefaultHasher;
+use std::collections::BTreeMap;
 use std::env;
 use std::fs;
+use std::hash::{Hash, Hasher};
 use std::path::Path;
 use std::process::{Command, Output, Stdio};
+use std::sync::atomic::{AtomicUsize, Ordering::Relaxed};
 
 use proved_versions::{
-    compare, compare_total, kind, kinds, match_all, order, sort, sort_key, sort_keys, Requirement,
-    Version,
+    compare, compare_total, kind, kinds, match_all, order, sort, sort_key, sort_keys, Key, Kind,
+    Requirement, Versioning,
 };
 
 /// How many versions `vers key` and `vers cmp` are asked about, a process each.
@@ -33,7 +38,9 @@ fn lines(name: &str) -> Vec<String> {
 
 /// What `vers` does with these words and lines.
 fn run(words: &[&str], lines: &[String]) -> Output {
-    let path = env::temp_dir().join(format!("vers-{}-{:p}", std::process::id(), words));
+    static RUNS: AtomicUsize = AtomicUsize::new(0);
+    let run = RUNS.fetch_add(1, Relaxed);
+    let path = env::temp_dir().join(format!("vers-{}-{run}", std::process::id()));
     fs::write(
         &path,
         lines
@@ -84,7 +91,7 @@ fn kinds_are_those_of_vers() {
         );
         assert_eq!(kind(line), all[n], "{line:?}");
         assert_eq!(
-            Version::new(line).ok().map(|version| version.kind()),
+            Versioning::new(line).ok().map(|version| version.kind()),
             all[n],
             "{line:?}"
         );
@@ -102,12 +109,12 @@ fn the_order_is_that_of_vers() {
     sort(&mut by_call);
     assert!(by_call == sorted);
     assert!(order(&lines).iter().map(|place| &lines[*place]).eq(&sorted));
-    let mut by_ord: Vec<Version> = lines
+    let mut by_ord: Vec<Versioning> = lines
         .iter()
-        .map(|line| Version::new(line).unwrap())
+        .map(|line| Versioning::new(line).unwrap())
         .collect();
     by_ord.sort();
-    assert!(by_ord.iter().map(Version::as_str).eq(&sorted));
+    assert!(by_ord.iter().map(Versioning::as_str).eq(&sorted));
     let mut by_key = lines.clone();
     by_key.sort_by_cached_key(|line| sort_key(line).unwrap());
     let keys = sort_keys(&sorted);
@@ -116,7 +123,7 @@ fn the_order_is_that_of_vers() {
         let (a, b) = (&pair[0], &pair[1]);
         let wanted = keys.get(n).cmp(&keys.get(n + 1));
         assert!(wanted.is_le(), "{a} {b}");
-        assert_eq!(keys.get(n), Some(&*a.sort_key()), "{a}");
+        assert_eq!(keys.get(n), Some(a.sort_key()), "{a}");
         assert_eq!(a.precedence(b), wanted, "{a} {b}");
         assert_eq!(b.precedence(a), wanted.reverse(), "{a} {b}");
         assert_eq!(compare(a.as_str(), b.as_str()), Ok(wanted), "{a} {b}");
@@ -178,9 +185,207 @@ fn matches_are_those_of_vers() {
     for (line, answer) in lines.iter().zip(&answers) {
         assert_eq!(requirement.matches_text(line).ok(), *answer, "{line:?}");
     }
-    let versions: Vec<Version> = lines.iter().flat_map(Version::new).collect();
-    let found = requirement.filter(&versions).map(Version::as_str);
+    let versions: Vec<Versioning> = lines.iter().flat_map(Versioning::new).collect();
+    let found = requirement.filter(&versions).map(Versioning::as_str);
     assert!(found.eq(&vers(&["match", "^1.1.1"], &lines)));
+}
+
+/// Draws numbers by a seed.
+struct Draw(u64);
+
+impl Draw {
+    fn new() -> Draw {
+        Draw(hash(&env::var("SEED").unwrap_or_default()) | 1)
+    }
+
+    fn below(&mut self, n: usize) -> usize {
+        self.0 ^= self.0 << 13;
+        self.0 ^= self.0 >> 7;
+        self.0 ^= self.0 << 17;
+        (self.0 >> 11) as usize % n
+    }
+
+    fn of<'a, T>(&mut self, items: &'a [T]) -> &'a T {
+        &items[self.below(items.len())]
+    }
+}
+
+fn count(name: &str, usual: usize) -> usize {
+    env::var(name).map_or(usual, |number| number.parse().unwrap())
+}
+
+fn hash<T: Hash + ?Sized>(value: &T) -> u64 {
+    let mut hasher = DefaultHasher::new();
+    value.hash(&mut hasher);
+    hasher.finish()
+}
+
+/// The good lines and relatives of them, many of which tie with them, in the order of `vers`.
+fn sorted_relatives() -> Vec<String> {
+    let relatives = good_lines().into_iter().flat_map(|line| {
+        let more = [format!("{line}+x"), format!("0:{line}"), format!("0{line}")];
+        [line].into_iter().chain(more)
+    });
+    let good: Vec<String> = relatives.filter(|line| kind(line).is_some()).collect();
+    vers(&["sort"], &good)
+}
+
+/// Whether two versions are the same, but for the metadata of strict ones.
+fn are_the_same(a: &Versioning, b: &Versioning) -> bool {
+    let front = |version| {
+        Versioning::as_str(version)
+            .split('+')
+            .next()
+            .map(String::from)
+    };
+    a.as_str() == b.as_str() || (a.is_ideal() && b.is_ideal() && front(a) == front(b))
+}
+
+#[test]
+#[ignore = "run by tests/rust of the repository"]
+fn pairs_are_in_the_order_of_vers() {
+    let sorted = sorted_relatives();
+    let versions: Vec<Versioning> = sorted.iter().flat_map(Versioning::new).collect();
+    let (mut draw, mut equal, mut tied) = (Draw::new(), 0, 0);
+    for n in 0..count("PAIRS", 20_000) {
+        let i = draw.below(versions.len());
+        // Half of the pairs are close to each other, since few others tie.
+        let j = match n % 2 {
+            0 => draw.below(versions.len()),
+            _ => (i + draw.below(4)).min(versions.len() - 1),
+        };
+        let (a, b) = (&versions[i], &versions[j]);
+        let is_same = are_the_same(a, b);
+        let wanted = if is_same { Ordering::Equal } else { i.cmp(&j) };
+        assert_eq!(a.cmp(b), wanted, "{a} {b}");
+        assert_eq!(b.cmp(a), wanted.reverse(), "{a} {b}");
+        assert_eq!((a == b, b == a), (is_same, is_same), "{a} {b}");
+        let by_key = a.sort_key().cmp(b.sort_key());
+        assert!(by_key == wanted || by_key.is_eq(), "{a} {b}");
+        assert_eq!(a.precedence(b), by_key, "{a} {b}");
+        assert_eq!(compare(a.as_str(), b.as_str()), Ok(by_key), "{a} {b}");
+        assert_eq!(a.key().cmp(b.key()), by_key, "{a} {b}");
+        assert_eq!(hash(a) == hash(b), by_key.is_eq(), "{a} {b}");
+        assert_eq!(hash(a.key()), hash(a.sort_key()), "{a}");
+        equal += usize::from(is_same);
+        tied += usize::from(by_key.is_eq() && !is_same);
+    }
+    assert!(equal > 100 && tied > 100, "{equal} {tied}");
+}
+
+/// A list of one to three requirements, and versions that are close to theirs or anywhere.
+fn draw_list(draw: &mut Draw, sorted: &[String]) -> (String, Vec<String>) {
+    let (mut members, mut near) = (Vec::new(), Vec::new());
+    let mut place = draw.below(sorted.len());
+    for _ in 0..1 + draw.below(3) {
+        let operator = draw.of(&["=", ">", ">=", "<", "<=", "~", "^"]);
+        members.push(format!("{operator}{}", sorted[place]));
+        near.extend(place.saturating_sub(8)..(place + 8).min(sorted.len()));
+        place = match draw.below(3) {
+            0 => draw.below(sorted.len()),
+            _ => (place + draw.below(30)).min(sorted.len() - 1),
+        };
+    }
+    near.extend((0..16).map(|_| draw.below(sorted.len())));
+    let near = near.into_iter().map(|place| sorted[place].clone());
+    (members.join(","), near.collect())
+}
+
+#[test]
+#[ignore = "run by tests/rust of the repository"]
+fn lists_match_what_vers_matches() {
+    let mut sorted = sorted_relatives();
+    sorted.retain(|line| line.len() < 300);
+    let (mut draw, mut matching, mut exact, mut left) = (Draw::new(), 0, 0, 0);
+    let lists = count("LISTS", 500);
+    for _ in 0..lists {
+        let (text, near) = draw_list(&mut draw, &sorted);
+        let said = vers(&["match", &text], &near);
+        let requirement = Requirement::new(&text).unwrap();
+        let range = requirement.range();
+        let versions: Vec<Versioning> = near.iter().flat_map(Versioning::new).collect();
+        let found = requirement.filter(&versions).map(Versioning::as_str);
+        assert!(found.eq(said.iter()), "{text}");
+        let answers = match_all(&requirement, &near);
+        let mut map: BTreeMap<Key, Vec<&Versioning>> = BTreeMap::new();
+        for (version, answer) in versions.iter().zip(answers) {
+            let matches = requirement.matches(version);
+            assert_eq!(answer, Some(matches), "{text} {version}");
+            assert_eq!(
+                requirement.matches_text(version.as_str()),
+                Ok(matches),
+                "{text} {version}"
+            );
+            let is_in = range.contains(version);
+            assert!(is_in || !matches, "{text} {version}");
+            assert!(!range.is_exact() || is_in == matches, "{text} {version}");
+            left += usize::from(is_in && !matches);
+            map.entry(version.into()).or_default().push(version);
+        }
+        let of_map = map
+            .range::<[u8], _>(range)
+            .flat_map(|(_, versions)| versions);
+        let of_map = of_map.filter(|version| range.has_kind(version.kind()));
+        let in_range = versions.iter().filter(|version| range.contains(version));
+        assert_eq!(of_map.count(), in_range.count(), "{text}");
+        matching += said.len();
+        exact += usize::from(range.is_exact());
+    }
+    assert!(matching > lists && exact > lists / 10, "{matching} {exact}");
+    assert!(
+        exact < lists - lists / 10 && left > lists / 100,
+        "{exact} {left}"
+    );
+}
+
+#[test]
+#[ignore = "run by tests/rust of the repository"]
+fn fields_are_pieces_of_the_text() {
+    let mut seen = [0; 4];
+    for line in sorted_relatives() {
+        let version = Versioning::new(&line).unwrap();
+        // By docs/GRAMMAR.md: the first plus begins the metadata, the first hyphen before it what
+        // follows the parts, and digits before a colon are an epoch.
+        let (front, metadata) = match line.split_once('+') {
+            Some((front, metadata)) => (front, Some(metadata)),
+            None => (&*line, None),
+        };
+        let tail = front.split_once('-').map(|(_, tail)| tail);
+        let epoch = line
+            .split_once(':')
+            .filter(|(digits, _)| digits.bytes().all(|byte| byte.is_ascii_digit()))
+            .map(|(digits, _)| digits.parse().map_or(i64::MAX as u64, |n: i64| n as u64));
+        let wanted = match version.kind() {
+            Kind::Ideal => (tail, None, metadata),
+            Kind::General => (None, tail, metadata),
+            Kind::Complex => (None, None, None),
+        };
+        let found = (version.pre_release(), version.release(), version.metadata());
+        assert_eq!(found, wanted, "{line}");
+        assert_eq!(version.epoch(), epoch, "{line}");
+        assert_eq!(version.is_prerelease(), version.pre_release().is_some());
+        let numbers = [version.major(), version.minor(), version.patch()];
+        assert_eq!(
+            numbers.map(|n| n.is_some()),
+            [version.is_ideal(); 3],
+            "{line}"
+        );
+        if let [Some(major), Some(minor), Some(patch)] = numbers {
+            let part = |sign, part: Option<&str>| {
+                part.map_or(String::new(), |part| format!("{sign}{part}"))
+            };
+            let tails = part('-', found.0) + &part('+', found.2);
+            assert_eq!(format!("{major}.{minor}.{patch}{tails}"), line);
+        }
+        let fields = [found.0, found.1, found.2].map(|field| field.is_some());
+        for (seen, is_there) in
+            seen.iter_mut()
+                .zip([fields[0], fields[1], fields[2], epoch.is_some()])
+        {
+            *seen += usize::from(is_there);
+        }
+    }
+    assert!(seen.iter().all(|seen| *seen > 100), "{seen:?}");
 }
 
 #[test]

@@ -5,7 +5,7 @@ use std::thread;
 
 use proved_versions::{
     compare_total, kind, kinds, match_all, order, sort, sort_key, sort_keys, Kind, Requirement,
-    Version,
+    Versioning,
 };
 
 const USUAL: [&str; 9] = [
@@ -70,7 +70,10 @@ fn usual_texts() {
             let texts = &USUAL[from..to];
             assert_eq!(kinds(texts), KINDS[from..to]);
             assert_eq!(match_all(&requirement(), texts), MATCHES[from..to]);
-            let single: Vec<_> = texts.iter().map(|text| sort_key(text).ok()).collect();
+            let single: Vec<_> = texts
+                .iter()
+                .map(|text| sort_key(text).ok().map(Vec::from))
+                .collect();
             assert_eq!(keys(texts), single);
             let wanted = ORDER.iter().filter(|place| (from..to).contains(place));
             assert_eq!(
@@ -83,7 +86,7 @@ fn usual_texts() {
     assert_eq!(kinds(&owned), KINDS);
     assert_eq!(sort_keys(&owned), sort_keys(&USUAL));
     assert_eq!(order(&owned), ORDER);
-    let versions = ["1.0", "0:1.0"].map(|text| Version::new(text).unwrap());
+    let versions = ["1.0", "0:1.0"].map(|text| Versioning::new(text).unwrap());
     assert_eq!(order(&versions), [0, 1]);
 }
 
@@ -186,23 +189,23 @@ fn sorts_as_ord_does() {
             _ => format!("{}.{}.0-rc.{}", n % 7, n % 3, n % 4),
         })
         .collect();
-    let mut by_ord: Vec<Version> = texts
+    let mut by_ord: Vec<Versioning> = texts
         .iter()
-        .map(|text| Version::new(text).unwrap())
+        .map(|text| Versioning::new(text).unwrap())
         .collect();
     by_ord.sort();
     let mut by_call = texts.clone();
     sort(&mut by_call);
-    assert!(by_ord.iter().map(Version::as_str).eq(&by_call));
+    assert!(by_ord.iter().map(Versioning::as_str).eq(&by_call));
     assert!(by_call
         .windows(2)
         .all(|pair| compare_total(&pair[0], &pair[1]).unwrap().is_le()));
-    let mut versions: Vec<Version> = texts
+    let mut versions: Vec<Versioning> = texts
         .iter()
-        .map(|text| Version::new(text).unwrap())
+        .map(|text| Versioning::new(text).unwrap())
         .collect();
     sort(&mut versions);
-    assert!(versions.iter().map(Version::as_str).eq(&by_call));
+    assert!(versions.iter().map(Versioning::as_str).eq(&by_call));
 }
 
 #[test]
@@ -281,7 +284,10 @@ fn eight_threads_get_the_same_answers() {
         .collect();
     let wanted = Requirement::new("^1:1").unwrap();
     let answers = || {
-        let single: Vec<_> = texts.iter().map(|text| sort_key(text).ok()).collect();
+        let single: Vec<_> = texts
+            .iter()
+            .map(|text| sort_key(text).ok().map(Vec::from))
+            .collect();
         let matches: Vec<_> = texts
             .iter()
             .map(|text| wanted.matches_text(text).ok())

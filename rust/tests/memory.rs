@@ -6,7 +6,7 @@ use std::hash::Hash;
 
 use proved_versions::{
     compare, compare_total, kind, kinds, match_all, order, sort, sort_key, sort_keys, Requirement,
-    Version,
+    Versioning,
 };
 
 const TEXTS: [&str; 15] = [
@@ -48,16 +48,17 @@ fn one_text_and_two() {
             );
             assert_eq!(compare_total(a, b).is_ok(), compare(a, b).is_ok());
         }
-        if let Ok(version) = Version::new(&**a) {
-            let mut key = exact(a).into_string().into_bytes();
-            version.write_sort_key(&mut key);
-            assert_eq!(key, [a.as_bytes(), &version.sort_key()].concat());
+        if let Ok(version) = Versioning::new(&**a) {
+            assert_eq!(sort_key(a).as_ref(), Ok(version.key()));
             version.hash(&mut DefaultHasher::new());
             for n in [0, 1, 2, 3, usize::MAX] {
                 assert!(version.nth(n) <= Some(u32::MAX));
             }
-            assert!(version.epoch() <= Some(u32::MAX));
-            assert!(!version.is_prerelease() || version.is_ideal());
+            assert_eq!(version.major().is_some(), version.is_ideal());
+            assert!(version.epoch() <= Some(i64::MAX as u64));
+            assert_eq!(version.is_prerelease(), version.pre_release().is_some());
+            assert!(version.release().is_none() || version.is_general());
+            assert!(version.metadata().is_none() || !version.is_complex());
             assert_eq!(version, version.clone().into_owned());
         }
     }
@@ -69,6 +70,11 @@ fn requirements() {
         let answer = Requirement::new(&*wanted);
         assert_eq!(answer.is_err(), wanted.is_empty() || wanted.ends_with(','));
         if let Ok(requirement) = answer {
+            for text in &texts() {
+                let version = Versioning::new(text).ok();
+                let answer = version.map(|version| requirement.matches(&version));
+                assert_eq!(requirement.matches_text(text).ok(), answer);
+            }
             let single: Vec<Option<bool>> = texts()
                 .iter()
                 .map(|text| requirement.matches_text(text).ok())

@@ -7,29 +7,32 @@ use std::convert::TryFrom;
 use std::error::Error;
 use std::{env, fs};
 
-use proved_versions::{kind, match_all, sort, Kind, Requirement, Version};
+use proved_versions::{kind, match_all, sort, Kind, Requirement, Versioning};
 
 /// What this crate answers to a call of the page.
 fn answer(call: &str, words: &[&str]) -> String {
-    let version = |text| Version::new(text).unwrap();
+    let version = |text| Versioning::new(text).unwrap();
     let requirement = |text| Requirement::new(text).unwrap();
     match (call, words) {
         ("cmp", [a, b]) => format!("{:?}", version(*a).cmp(&version(*b))),
         ("sort", texts) => {
-            let mut versions: Vec<Version> = texts.iter().map(|text| version(*text)).collect();
+            let mut versions: Vec<Versioning> = texts.iter().map(|text| version(*text)).collect();
             versions.sort();
             let mut texts = texts.to_vec();
             sort(&mut texts);
             assert!(versions
                 .iter()
-                .map(Version::as_str)
+                .map(Versioning::as_str)
                 .eq(texts.iter().copied()));
             texts.join(", ")
         }
         ("sections", [n]) => {
             let text = vec!["1"; n.parse().unwrap()].join("_");
-            Version::new(text).map_or("Err", |_| "Ok").to_string()
+            Versioning::new(text).map_or("Err", |_| "Ok").to_string()
         }
+        ("epoch", [v]) => format!("{:?}", version(*v).epoch()),
+        ("error", [v]) => Versioning::new(*v).unwrap_err().to_string(),
+        ("wrong", [r]) => Requirement::new(*r).unwrap_err().to_string(),
         ("requirement", [r]) => Requirement::new(*r).map_or("Err", |_| "Ok").to_string(),
         ("matches", [r, v]) => requirement(*r).matches(&version(*v)).to_string(),
         ("same", [r, s]) => (requirement(*r) == requirement(*s)).to_string(),
@@ -62,31 +65,42 @@ fn answers_that_change() {
         assert_ne!(there, here, "{row}");
         checked += 1;
     }
-    assert!(checked >= 31, "only {checked} rows were found");
+    assert!(checked >= 35, "only {checked} rows were found");
 }
 
 #[test]
 fn calls() -> Result<(), Box<dyn Error>> {
-    let version = Version::new("1.2.3")?;
-    assert_eq!(version, Version::new(String::from("1.2.3"))?);
+    let version = Versioning::new("1.2.3")?;
+    assert_eq!(version, Versioning::new(String::from("1.2.3"))?);
     assert_eq!(version, "1.2.3".parse()?);
-    assert_eq!(version, Version::try_from("1.2.3")?);
-    assert_eq!(version, Version::try_from(String::from("1.2.3"))?);
+    assert_eq!(version, Versioning::try_from("1.2.3")?);
+    assert_eq!(version, Versioning::try_from(String::from("1.2.3"))?);
     assert!(version.is_ideal() && !version.is_general() && !version.is_complex());
     assert_eq!([0, 2, 3].map(|n| version.nth(n)), [Some(1), Some(3), None]);
     assert!(matches!(version.kind(), Kind::Ideal));
     assert_eq!(kind("1.2.3"), Some(Kind::Ideal));
     assert_eq!(kind("1.2"), Some(Kind::General));
     assert_eq!(kind("1_2"), Some(Kind::Complex));
-    assert!(Version::new("1.0")?
-        .precedence(&Version::new("0:1.0")?)
+    let numbers = (version.major(), version.minor(), version.patch());
+    assert_eq!(numbers, (Some(1), Some(2), Some(3)));
+    let strict = Versioning::new("1.2.3-rc.1+x")?;
+    assert_eq!(
+        (strict.pre_release(), strict.metadata()),
+        (Some("rc.1"), Some("x"))
+    );
+    assert_eq!(Versioning::new("1:2-3")?.release(), Some("3"));
+    assert_eq!(Versioning::new("1:2-3")?.epoch(), Some(1));
+    assert!(strict < version);
+    assert!(Versioning::new("1.0")?
+        .precedence(&Versioning::new("0:1.0")?)
         .is_eq());
 
-    let mut versions = [Version::new("1.10")?, Version::new("1.9")?];
-    sort(&mut versions);
+    let mut versions = [Versioning::new("1.10")?, Versioning::new("1.9")?];
+    versions.sort();
     assert_eq!(versions.map(String::from), ["1.9", "1.10"]);
+    assert!(Versioning::new("0.0.0").is_ok() && Requirement::new("*").is_ok());
     assert_eq!(format!("{version}, {version:>7.3}"), "1.2.3,     1.2");
-    assert_eq!(format!("{version:?}"), r#"Version("1.2.3")"#);
+    assert_eq!(format!("{version:?}"), r#"Versioning("1.2.3")"#);
 
     let list = Requirement::new(">=1.1.1,<2.0.0")?;
     assert_eq!(list, ">=1.1.1,<2.0.0".parse()?);
@@ -97,8 +111,8 @@ fn calls() -> Result<(), Box<dyn Error>> {
         match_all(&list, &["1.2.3", "2.0.0", "1..2"]),
         [Some(true), Some(false), None]
     );
-    assert!(Requirement::new("*")?.matches(&Version::new("0.0.0")?));
-    assert_eq!(Version::new("1..2").unwrap_err().text(), "1..2");
+    assert!(Requirement::new("*")?.matches(&Versioning::new("0.0.0")?));
+    assert_eq!(Versioning::new("1..2").unwrap_err().text(), "1..2");
     assert_eq!(Requirement::new("1.2").unwrap_err().text(), "1.2");
     Ok(())
 }

@@ -4,7 +4,7 @@
 use std::borrow::Cow;
 use std::fmt;
 
-use proved_versions::{Requirement, Version};
+use proved_versions::{Requirement, Versioning};
 use serde::de::value::{
     BorrowedBytesDeserializer, BorrowedStrDeserializer, CowStrDeserializer, Error, StrDeserializer,
     StringDeserializer, U32Deserializer, UnitDeserializer,
@@ -40,7 +40,7 @@ fn of_cow(text: &str) -> CowStrDeserializer<'_, Error> {
 #[test]
 fn are_written_as_their_texts() {
     for text in ["1.2.3-rc.1+x", "0:1.0", "20.0026.1_0-2"] {
-        assert_eq!(Written(Version::new(text).unwrap()).to_string(), text);
+        assert_eq!(Written(Versioning::new(text).unwrap()).to_string(), text);
     }
     for text in ["*", ">=1.1.1,<2.0.0"] {
         assert_eq!(Written(Requirement::new(text).unwrap()).to_string(), text);
@@ -51,14 +51,14 @@ fn are_written_as_their_texts() {
 fn are_read_from_every_kind_of_text() {
     let text = "1.2.3+x";
     let versions = [
-        Version::deserialize(lent(text)),
-        Version::deserialize(borrowed(text)),
-        Version::deserialize(handed_over(text)),
-        Version::deserialize(of_cow(text)),
-        Version::deserialize_borrowed(lent(text)),
-        Version::deserialize_borrowed(borrowed(text)),
-        Version::deserialize_borrowed(handed_over(text)),
-        Version::deserialize_borrowed(of_cow(text)),
+        Versioning::deserialize(lent(text)),
+        Versioning::deserialize(borrowed(text)),
+        Versioning::deserialize(handed_over(text)),
+        Versioning::deserialize(of_cow(text)),
+        Versioning::deserialize_borrowed(lent(text)),
+        Versioning::deserialize_borrowed(borrowed(text)),
+        Versioning::deserialize_borrowed(handed_over(text)),
+        Versioning::deserialize_borrowed(of_cow(text)),
     ];
     for version in versions {
         let version = version.unwrap();
@@ -81,9 +81,9 @@ fn are_read_from_every_kind_of_text() {
 #[test]
 fn borrow_where_they_are_told_to() {
     let text = String::from("1.2.3");
-    let version = Version::deserialize_borrowed(borrowed(&text)).unwrap();
+    let version = Versioning::deserialize_borrowed(borrowed(&text)).unwrap();
     assert_eq!(version.as_str().as_ptr(), text.as_ptr());
-    let version = Version::deserialize(borrowed(&text)).unwrap();
+    let version = Versioning::deserialize(borrowed(&text)).unwrap();
     assert_ne!(version.as_str().as_ptr(), text.as_ptr());
     let text = String::from("^1.2.3");
     let requirement = Requirement::deserialize_borrowed(borrowed(&text)).unwrap();
@@ -98,7 +98,7 @@ fn outlive_what_they_are_read_from() {
         let format = String::from(text);
         T::deserialize(lent(&format)).unwrap()
     }
-    assert_eq!(read::<Version<'static>>("1.2.3").as_str(), "1.2.3");
+    assert_eq!(read::<Versioning<'static>>("1.2.3").as_str(), "1.2.3");
     assert_eq!(read::<Requirement<'static>>("*").as_str(), "*");
 }
 
@@ -107,17 +107,17 @@ fn another_text_is_an_error_with_it() {
     for text in ["", "1..2", "1.2.3\0", "é\""] {
         let wanted = format!("not a version: {text:?}");
         assert_eq!(
-            Version::deserialize(lent(text)).unwrap_err().to_string(),
+            Versioning::deserialize(lent(text)).unwrap_err().to_string(),
             wanted
         );
         assert_eq!(
-            Version::deserialize(handed_over(text))
+            Versioning::deserialize(handed_over(text))
                 .unwrap_err()
                 .to_string(),
             wanted
         );
         assert_eq!(
-            Version::deserialize_borrowed(borrowed(text))
+            Versioning::deserialize_borrowed(borrowed(text))
                 .unwrap_err()
                 .to_string(),
             wanted
@@ -137,7 +137,7 @@ fn another_text_is_an_error_with_it() {
 #[test]
 fn what_is_not_a_text_is_an_error() {
     let number = || U32Deserializer::<Error>::new(1);
-    let error = Version::deserialize(number()).unwrap_err();
+    let error = Versioning::deserialize(number()).unwrap_err();
     assert_eq!(
         error.to_string(),
         "invalid type: integer `1`, expected a version"
@@ -147,6 +147,6 @@ fn what_is_not_a_text_is_an_error() {
         error.to_string(),
         "invalid type: integer `1`, expected a requirement"
     );
-    assert!(Version::deserialize(UnitDeserializer::<Error>::new()).is_err());
-    assert!(Version::deserialize(BorrowedBytesDeserializer::<Error>::new(b"1.2.3")).is_err());
+    assert!(Versioning::deserialize(UnitDeserializer::<Error>::new()).is_err());
+    assert!(Versioning::deserialize(BorrowedBytesDeserializer::<Error>::new(b"1.2.3")).is_err());
 }

@@ -1,15 +1,15 @@
 //! Versions, one or two at a time: what the library's pages say, through every way to ask.
 
-use std::borrow::Cow;
+use std::borrow::{Borrow, Cow};
 use std::cmp::Ordering;
 use std::collections::hash_map::DefaultHasher;
-use std::collections::{BTreeSet, HashSet};
+use std::collections::{BTreeMap, BTreeSet, HashSet};
 use std::error::Error;
 use std::hash::{Hash, Hasher};
 
 use proved_versions::{
-    compare, compare_total, kind, sort_key, InvalidRequirement, InvalidVersion, Kind, Requirement,
-    SortKeys, Version,
+    compare, compare_total, kind, sort_key, InvalidRequirement, InvalidVersion, Key, KeyRange,
+    Kind, Requirement, SortKeys, Versioning,
 };
 
 // By docs/GRAMMAR.md.
@@ -63,11 +63,11 @@ const TIES: [&str; 2] = [
     "1.2.3 1.2.3+a 0:1.2.3 01.2.3 1.02.3",
 ];
 
-fn version(text: &str) -> Version<'_> {
-    Version::new(text).unwrap()
+fn version(text: &str) -> Versioning<'_> {
+    Versioning::new(text).unwrap()
 }
 
-fn hash(value: impl Hash) -> u64 {
+fn hash<T: Hash + ?Sized>(value: &T) -> u64 {
     let mut hasher = DefaultHasher::new();
     value.hash(&mut hasher);
     hasher.finish()
@@ -119,12 +119,12 @@ fn kinds_are_printed_and_ordered() {
 fn what_is_not_a_version_is_an_error_with_the_text() {
     for text in NOT_VERSIONS {
         let errors = [
-            Version::new(text).unwrap_err(),
-            Version::new(text.to_string()).unwrap_err(),
-            Version::new(Cow::Borrowed(text)).unwrap_err(),
-            text.parse::<Version>().unwrap_err(),
-            Version::try_from(text).unwrap_err(),
-            Version::try_from(text.to_string()).unwrap_err(),
+            Versioning::new(text).unwrap_err(),
+            Versioning::new(text.to_string()).unwrap_err(),
+            Versioning::new(Cow::Borrowed(text)).unwrap_err(),
+            text.parse::<Versioning>().unwrap_err(),
+            Versioning::try_from(text).unwrap_err(),
+            Versioning::try_from(text.to_string()).unwrap_err(),
             sort_key(text).unwrap_err(),
             compare(text, "1").unwrap_err(),
             compare("1", text).unwrap_err(),
@@ -145,7 +145,7 @@ fn what_is_not_a_version_is_an_error_with_the_text() {
             assert_eq!(error.into_text(), text);
         }
     }
-    assert_ne!(Version::new("1..2"), Version::new("1..3"));
+    assert_ne!(Versioning::new("1..2"), Versioning::new("1..3"));
     assert_eq!(
         compare("\"\n", "1").unwrap_err().to_string(),
         r#"not a version: "\"\n""#
@@ -157,8 +157,8 @@ fn the_text_is_kept() {
     for (text, _) in kinds_of_the_page() {
         let versions = [
             version(text),
-            Version::new(text.to_string()).unwrap(),
-            Version::new(Cow::Borrowed(text)).unwrap().into_owned(),
+            Versioning::new(text.to_string()).unwrap(),
+            Versioning::new(Cow::Borrowed(text)).unwrap().into_owned(),
             text.parse().unwrap(),
             text.try_into().unwrap(),
             text.to_string().try_into().unwrap(),
@@ -171,7 +171,7 @@ fn the_text_is_kept() {
             assert_eq!(version.borrowed().as_str(), text);
             assert_eq!(version.borrowed().kind(), kind(text).unwrap());
             assert_eq!(version.to_string(), text);
-            assert_eq!(format!("{version:?}"), format!("Version({text:?})"));
+            assert_eq!(format!("{version:?}"), format!("Versioning({text:?})"));
             assert_eq!(format!("{version:>30}"), format!("{text:>30}"));
             assert_eq!(format!("{version:*^30.3}"), format!("{text:*^30.3}"));
             assert_eq!(String::from(version), text);
@@ -182,21 +182,23 @@ fn the_text_is_kept() {
 #[test]
 fn texts_are_borrowed_and_owned_as_told() {
     let text = String::from("1.2.3-rc.1");
-    let borrowing = Version::new(&text).unwrap();
+    let borrowing = Versioning::new(&text).unwrap();
     assert_eq!(borrowing.as_str().as_ptr(), text.as_ptr());
     assert_eq!(borrowing.borrowed().as_str().as_ptr(), text.as_ptr());
     assert_ne!(borrowing.into_owned().as_str().as_ptr(), text.as_ptr());
     assert_ne!(
-        text.parse::<Version>().unwrap().as_str().as_ptr(),
+        text.parse::<Versioning>().unwrap().as_str().as_ptr(),
         text.as_ptr()
     );
     let start = text.as_ptr();
-    let owned = Version::new(text).unwrap().into_owned();
+    let owned = Versioning::new(text).unwrap().into_owned();
     assert_eq!(owned.borrowed().as_str().as_ptr(), start);
     let text = String::from(owned);
     assert_eq!(text.as_ptr(), start);
     assert_eq!(
-        Version::new(String::from("1..2")).unwrap_err().into_text(),
+        Versioning::new(String::from("1..2"))
+            .unwrap_err()
+            .into_text(),
         "1..2"
     );
 }
@@ -213,14 +215,14 @@ fn all_pairs_of_increasing_versions() {
             assert_eq!(x == y, i == j, "{a} {b}");
             assert_eq!(compare(a, b), Ok(wanted), "{a} {b}");
             assert_eq!(compare_total(a, b), Ok(wanted), "{a} {b}");
-            assert_eq!(x.sort_key().cmp(&y.sort_key()), wanted, "{a} {b}");
+            assert_eq!(x.sort_key().cmp(y.sort_key()), wanted, "{a} {b}");
             assert_eq!(hash(&x) == hash(&y), i == j, "{a} {b}");
         }
     }
-    let mut versions: Vec<Version> = texts.iter().rev().map(|text| version(text)).collect();
+    let mut versions: Vec<Versioning> = texts.iter().rev().map(|text| version(text)).collect();
     versions.sort();
     assert_eq!(
-        versions.iter().map(Version::as_str).collect::<Vec<_>>(),
+        versions.iter().map(Versioning::as_str).collect::<Vec<_>>(),
         texts
     );
     assert_eq!(versions.iter().max().unwrap().as_str(), "10:0");
@@ -260,11 +262,11 @@ fn equal_versions_hash_alike() {
     for version in &alike {
         assert_eq!(version, &alike[0]);
         assert_eq!(hash(version), hash(&alike[0]));
-        assert_eq!(hash(version.borrowed().into_owned()), hash(&alike[0]));
+        assert_eq!(hash(&version.borrowed().into_owned()), hash(&alike[0]));
     }
     assert_eq!(alike.iter().collect::<HashSet<_>>().len(), 1);
     // Precedence ties these, but none is another.
-    let apart: HashSet<Version> = TIES[0].split_whitespace().map(version).collect();
+    let apart: HashSet<Versioning> = TIES[0].split_whitespace().map(version).collect();
     assert_eq!(apart.len(), 5);
     assert!(apart.contains(&version("0:1.2")) && !apart.contains(&version("0:1.02")));
     // Keys of less than 256 bytes, of as many, and of more, which differ in their last byte alone.
@@ -281,14 +283,14 @@ fn equal_versions_hash_alike() {
 
 #[test]
 fn comparisons_across_lifetimes() {
-    fn alike<'a, 'b>(a: &mut Version<'a>, b: &mut Version<'b>) -> bool {
+    fn alike<'a, 'b>(a: &mut Versioning<'a>, b: &mut Versioning<'b>) -> bool {
         *a == *b && *b <= *a && Some(&*a) == Some(&*b)
     }
-    let mut of_the_program = Version::new("1.2").unwrap();
+    let mut of_the_program = Versioning::new("1.2").unwrap();
     let text = String::from("1.2");
     assert!(alike(&mut of_the_program, &mut version(&text)));
     assert!(of_the_program == "1.2".parse().unwrap());
-    let set: HashSet<Version<'static>> = HashSet::from([of_the_program]);
+    let set: HashSet<Versioning<'static>> = HashSet::from([of_the_program]);
     assert!(set.contains(&version(&text)));
 }
 
@@ -331,14 +333,20 @@ fn sort_keys_of_the_page() {
             .split(' ')
             .map(|byte| u8::from_str_radix(byte, 16).unwrap());
         let bytes: Vec<u8> = bytes.collect();
+        let key = sort_key(text).unwrap();
+        assert_eq!(key.as_bytes(), bytes, "{text}");
         assert_eq!(version(text).sort_key(), bytes, "{text}");
-        assert_eq!(sort_key(text).as_ref(), Ok(&bytes), "{text}");
-        let mut key = b"before".to_vec();
-        version(text).write_sort_key(&mut key);
-        assert_eq!(key, [b"before", &bytes[..]].concat(), "{text}");
-        version(text).write_sort_key(&mut key);
-        assert_eq!(key, [b"before", &bytes[..], &bytes[..]].concat(), "{text}");
+        assert_eq!(version(text).key(), &key, "{text}");
+        assert_eq!(Key::from(&version(text)), key, "{text}");
+        assert_eq!(Key::from(version(text)), key, "{text}");
+        assert_eq!(key.as_ref(), bytes, "{text}");
+        assert_eq!(key.after(), [&bytes[..], &[0]].concat(), "{text}");
+        assert_eq!(Vec::from(key), bytes, "{text}");
     }
+    assert_eq!(
+        format!("{:?}", version("1_2").key()),
+        "Key(0003013102020402030132020201)"
+    );
 }
 
 #[test]
@@ -348,10 +356,80 @@ fn sort_keys_of_every_length() {
         let text = "b".repeat(length);
         let wanted = [&[0, 1], text.as_bytes(), &[0, 0, 2, 2]].concat();
         assert_eq!(version(&text).sort_key(), wanted);
-        assert_eq!(sort_key(&text), Ok(wanted.clone()));
-        let mut key = Vec::new();
-        version(&text).write_sort_key(&mut key);
-        assert_eq!(key, wanted);
+        let key = sort_key(&text).unwrap();
+        assert_eq!(
+            (key.as_bytes(), key.clone().as_bytes()),
+            (&*wanted, &*wanted)
+        );
+        assert_eq!(version(&text).into_owned().borrowed().clone().key(), &key);
+        assert_eq!(key.after(), [&wanted[..], &[0]].concat());
+        assert_eq!(Vec::from(key), wanted);
+    }
+}
+
+#[test]
+fn keys_compare_hash_and_are_looked_up_as_their_bytes() {
+    // Around the length from which a key has an allocation, and with one byte that differs.
+    let texts = (1..80).flat_map(|length| {
+        let letters = "b".repeat(length);
+        ["", "a", "c"].map(|end| format!("{letters}{end}"))
+    });
+    let mut texts: Vec<String> = texts.collect();
+    texts.extend(INCREASING.split_whitespace().map(String::from));
+    let keys: Vec<Key> = texts.iter().map(|text| sort_key(text).unwrap()).collect();
+    for a in &keys {
+        let bytes: &[u8] = a.borrow();
+        assert_eq!(hash(a), hash(bytes));
+        for b in &keys {
+            assert_eq!(a.cmp(b), bytes.cmp(b.borrow()), "{a:?} {b:?}");
+            assert_eq!(a.partial_cmp(b), Some(a.cmp(b)));
+            assert_eq!(a == b, a.cmp(b).is_eq(), "{a:?} {b:?}");
+        }
+    }
+    let ordered: BTreeSet<Key> = keys.iter().cloned().collect();
+    let hashed: HashSet<Key> = keys.iter().cloned().collect();
+    assert_eq!((ordered.len(), hashed.len()), (texts.len(), texts.len()));
+    for key in &keys {
+        assert_eq!(ordered.get(key.as_bytes()), Some(key));
+        assert_eq!(hashed.get(key.as_bytes()), Some(key));
+        assert!(!ordered.contains(&*key.after()) && !hashed.contains(&*key.after()));
+    }
+}
+
+#[test]
+fn versions_are_keys_of_maps() {
+    let mut map: BTreeMap<Versioning, usize> = BTreeMap::new();
+    for texts in TIES {
+        for (place, text) in texts.split_whitespace().enumerate() {
+            map.insert(version(text), place);
+        }
+    }
+    // `1.2.3` and `1.2.3+a` are equal.
+    assert_eq!(map.len(), 9);
+    assert_eq!(map.get(&version("0:1.2")), Some(&2));
+    assert_eq!(map.get(&version("1.2.3+b")), Some(&1));
+    assert_eq!(map.get(&version("1.2.0")), None);
+    let from = map
+        .range(version("1.2.3")..)
+        .map(|(version, _)| version.as_str());
+    assert!(from.eq(["1.2.3", "0:1.2.3", "01.2.3", "1.02.3"]));
+}
+
+#[test]
+fn a_long_key_is_compared_whole() {
+    use Ordering::{Greater, Less};
+    // Keys of every length from 28 to 128, which differ in one letter.
+    for length in 1..100 {
+        for place in 0..length {
+            let mut letters = "b".repeat(length);
+            let text = format!("1.0.0-{letters}");
+            letters.replace_range(place..=place, "c");
+            let other = format!("1.0.0-{letters}");
+            let (a, b) = (version(&text), version(&other));
+            assert_eq!((a.cmp(&b), b.cmp(&a), a == b), (Less, Greater, false));
+            assert_eq!(a.precedence(&b), Less);
+            assert_ne!(hash(&a), hash(&b));
+        }
     }
 }
 
@@ -396,8 +474,17 @@ fn epochs_and_pre_releases() {
         ("1:2.0rc1-3", Some(1), false),
         ("0:7", Some(0), false),
         ("4294967295:1", Some(4294967295), false),
-        ("4294967296:1", None, false),
-        ("1:2:3", None, false),
+        ("4294967296:1", Some(4294967296), false),
+        ("9223372036854775807:1", Some(9223372036854775807), false),
+        ("9223372036854775808:1", Some(9223372036854775807), false),
+        ("99999999999999999999:1", Some(9223372036854775807), false),
+        ("1:2:3", Some(1), false),
+        ("8:2007f~dfsg-7", Some(8), false),
+        ("20081126:1.03-4", Some(20081126), false),
+        ("007:1_2", Some(7), false),
+        ("1_2:3", None, false),
+        ("r1:2", None, false),
+        ("1.2:3", None, false),
         ("1.2", None, false),
         ("1.2-1", None, false),
         ("1.2rc1", None, false),
@@ -418,6 +505,99 @@ fn epochs_and_pre_releases() {
 }
 
 #[test]
+fn fields() {
+    // Of a text, the pre-release, the release, the metadata, and what is strict, by docs/GRAMMAR.md.
+    type Row = (&'static str, [Option<&'static str>; 3], Option<[u32; 3]>);
+    let rows: [Row; 18] = [
+        ("1.2.3", [None; 3], Some([1, 2, 3])),
+        (
+            "1.2.3-rc.1+x86",
+            [Some("rc.1"), None, Some("x86")],
+            Some([1, 2, 3]),
+        ),
+        ("1.2.3-rc.1", [Some("rc.1"), None, None], Some([1, 2, 3])),
+        ("1.2.3+a-b", [None, None, Some("a-b")], Some([1, 2, 3])),
+        ("1.2.3+..", [None, None, Some("..")], Some([1, 2, 3])),
+        (
+            "1.0.0-x-y-z.-",
+            [Some("x-y-z.-"), None, None],
+            Some([1, 0, 0]),
+        ),
+        (
+            "4294967295.0.4294967295",
+            [None; 3],
+            Some([4294967295, 0, 4294967295]),
+        ),
+        ("1", [None; 3], None),
+        ("1.2-3+x", [None, Some("3"), Some("x")], None),
+        ("1:2.0rc1-3", [None, Some("3"), None], None),
+        ("1.2.3.4-5", [None, Some("5"), None], None),
+        ("1.2rc1", [None; 3], None),
+        ("1--2", [None, Some("-2"), None], None),
+        ("1.2+x", [None, None, Some("x")], None),
+        ("2:10.2+0.0093r3+1-1", [None; 3], None),
+        ("1.2.3-06", [None; 3], None),
+        ("8:2007f~dfsg-7", [None; 3], None),
+        ("4294967296.0.0", [None; 3], None),
+    ];
+    for (text, fields, numbers) in rows {
+        let version = version(text);
+        let found = [version.pre_release(), version.release(), version.metadata()];
+        assert_eq!(found, fields, "{text}");
+        let found = [version.major(), version.minor(), version.patch()];
+        let wanted = numbers.map_or([None; 3], |numbers| numbers.map(Some));
+        assert_eq!(found, wanted, "{text}");
+        // They are pieces of the text.
+        for piece in found_in(&version) {
+            let start = piece.as_ptr() as usize - version.as_str().as_ptr() as usize;
+            assert_eq!(&version.as_str()[start..start + piece.len()], piece);
+        }
+    }
+    let long = "x".repeat(1_000_000);
+    let text = format!("1.0.0-{long}+{long}");
+    assert_eq!(version(&text).pre_release(), Some(&*long));
+    assert_eq!(version(&text).metadata(), Some(&*long));
+}
+
+fn found_in<'a>(version: &'a Versioning) -> impl Iterator<Item = &'a str> {
+    [version.pre_release(), version.release(), version.metadata()]
+        .into_iter()
+        .flatten()
+}
+
+#[test]
+fn what_new_takes() {
+    let texts = ["1.2", "1.2.3", "1_2"];
+    let owned = texts.map(String::from);
+    let cows = texts.map(Cow::Borrowed);
+    let boxes = texts.map(Box::<str>::from);
+    for n in 0..3 {
+        let (lent, twice): (&&str, &&String) = (&texts[n], &&owned[n]);
+        let versions = [
+            Versioning::new(*lent),
+            Versioning::new(lent),
+            Versioning::new(*twice),
+            Versioning::new(twice),
+            Versioning::new(owned[n].clone()),
+            Versioning::new(&boxes[n]),
+            Versioning::new(boxes[n].clone()),
+            Versioning::new(&cows[n]),
+            Versioning::new(cows[n].clone()),
+        ];
+        for version in versions {
+            assert_eq!(version.unwrap().as_str(), texts[n]);
+        }
+        assert!(Requirement::new(lent).is_err() && Requirement::new(twice).is_err());
+    }
+    let lent: Vec<Versioning> = texts.iter().flat_map(Versioning::new).collect();
+    assert!(lent.iter().map(Versioning::as_str).eq(texts));
+    let lent: Vec<Versioning> = owned.iter().flat_map(Versioning::new).collect();
+    assert!(lent.iter().map(Versioning::as_str).eq(texts));
+    let handed_over: Vec<Versioning> = owned.into_iter().flat_map(Versioning::new).collect();
+    assert!(handed_over.iter().map(Versioning::as_str).eq(texts));
+}
+
+#[test]
 fn great_lengths() {
     let ten = 10_000_000;
     let texts = [
@@ -435,16 +615,14 @@ fn great_lengths() {
         assert_eq!(read.to_string(), *text);
         assert_eq!(read, read.clone());
         assert!(read < version("1:0"));
-        assert_eq!(
-            read.sort_key().cmp(&version("1:0").sort_key()),
-            Ordering::Less
-        );
-        assert_eq!(hash(&read), hash(read.clone()));
+        assert!(read.sort_key() < version("1:0").sort_key());
+        assert_eq!(read.key(), &sort_key(text).unwrap());
+        assert_eq!(hash(&read), hash(&read.clone()));
         assert_eq!(read.nth(usize::MAX), None);
         assert!(Requirement::new("<1:0").unwrap().matches(&read));
         assert!(Requirement::new(format!("={text}")).unwrap().matches(&read));
         let spoiled = format!("{text} ");
-        assert_eq!(Version::new(&spoiled).unwrap_err().text(), spoiled);
+        assert_eq!(Versioning::new(&spoiled).unwrap_err().text(), spoiled);
     }
     assert_eq!(version(&texts[5].0).nth(1_000_000), Some(1));
     assert_eq!(version(&texts[5].0).nth(1_000_001), None);
@@ -455,13 +633,15 @@ fn great_lengths() {
 #[test]
 fn every_type_is_send_and_sync() {
     fn holds<T: Send + Sync + Unpin + std::panic::UnwindSafe>() {}
-    holds::<Version>();
+    holds::<Versioning>();
     holds::<Requirement>();
+    holds::<Key>();
+    holds::<KeyRange>();
     holds::<Kind>();
     holds::<InvalidVersion>();
     holds::<InvalidRequirement>();
     holds::<SortKeys>();
-    holds::<proved_versions::Filter<'_, std::vec::IntoIter<Version>>>();
+    holds::<proved_versions::Filter<'_, std::vec::IntoIter<Versioning>>>();
 }
 
 #[test]

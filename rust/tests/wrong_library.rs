@@ -2,14 +2,17 @@
 //! says what it was given.
 //!
 //! This is linked with a library of that name which is not the library: `tests/support/wrong.c` of
-//! the repository, which answers by the number in a text. `tests/rust` builds that, and runs this.
+//! the repository, which answers by the letter and the number that a text begins with. `tests/rust`
+//! builds that, and runs this.
 
 use std::panic::{catch_unwind, AssertUnwindSafe};
 
 use proved_versions::{
     compare, compare_total, kind, kinds, match_all, order, processor_suffices, sort, sort_key,
-    sort_keys, Requirement, Version,
+    sort_keys, Requirement, Versioning,
 };
+
+const FORGOTTEN: &str = "the library no longer takes the text of a Versioning for a version";
 
 /// With what a call panics.
 fn panic<R>(call: impl FnOnce() -> R) -> String {
@@ -26,32 +29,52 @@ fn unexpected(call: &str, what: &str) -> String {
     format!("{call} gave the {what}, which versions.h does not allow here")
 }
 
+fn version(text: &str) -> Versioning<'_> {
+    Versioning::new(text).unwrap()
+}
+
+fn requirement(text: &str) -> Requirement<'_> {
+    Requirement::new(text).unwrap()
+}
+
 #[test]
 #[ignore = "run by tests/rust of the repository, with a wrong library"]
 fn statuses() {
-    let (version, wanted) = (
-        Version::new("v99").unwrap(),
-        Requirement::new("v99").unwrap(),
-    );
+    let (strict, general) = (version("i99"), version("v99"));
+    let (exact, wanted) = (requirement("e99"), requirement("v99"));
     let said = [
         ("versions_compare", panic(|| compare("v99", "v99"))),
         (
             "versions_compare_total",
             panic(|| compare_total("v99", "v99")),
         ),
-        ("versions_compare", panic(|| version.precedence(&version))),
-        ("versions_compare_total", panic(|| version.cmp(&version))),
+        ("versions_compare_total", panic(|| general.cmp(&strict))),
+        ("versions_compare_total", panic(|| general == version("v9"))),
+        ("versions_parse", panic(|| sort_key("x99"))),
         (
-            "versions_compare_total",
-            panic(|| version == Version::new("v98").unwrap()),
+            "versions_parse",
+            panic(|| Versioning::new("x99").map(String::from)),
         ),
-        ("versions_sort_key", panic(|| sort_key("v99"))),
-        ("versions_sort_key", panic(|| version.sort_key())),
-        ("versions_nth", panic(|| version.nth(0))),
-        ("versions_epoch", panic(|| version.epoch())),
-        ("versions_is_prerelease", panic(|| version.is_prerelease())),
-        ("versions_matches", panic(|| wanted.matches(&version))),
+        (
+            "versions_range",
+            panic(|| requirement("x99").matches(&general)),
+        ),
+        ("versions_nth", panic(|| general.nth(0))),
+        ("versions_nth", panic(|| strict.major())),
+        ("versions_epoch", panic(|| general.epoch())),
+        ("versions_field", panic(|| strict.pre_release().is_some())),
+        ("versions_field", panic(|| general.release().is_some())),
+        ("versions_field", panic(|| general.metadata().is_some())),
+        ("versions_is_prerelease", panic(|| general.is_prerelease())),
+        ("versions_matches", panic(|| wanted.matches(&general))),
+        ("versions_matches", panic(|| wanted.matches_text("t0"))),
+        ("versions_in_range", panic(|| wanted.matches_text("v99"))),
+        ("versions_in_range", panic(|| exact.matches_text("v99"))),
         ("versions_match_all", panic(|| match_all(&wanted, &["v99"]))),
+        (
+            "versions_in_range_all",
+            panic(|| match_all(&exact, &["v99"])),
+        ),
         ("versions_kinds", panic(|| kinds(&["v99"]))),
         ("versions_sort_keys", panic(|| sort_keys(&["v99"]))),
         ("versions_sort", panic(|| sort(&mut ["v99"]))),
@@ -59,46 +82,64 @@ fn statuses() {
     for (call, text) in said {
         assert_eq!(text, unexpected(call, "status 99"));
     }
-    assert_eq!(panic(|| kind("99")), unexpected("versions_kind", "kind 99"));
-    assert_eq!(
-        panic(|| kind("-10")),
-        unexpected("versions_kind", "kind -10")
-    );
-    let listed = panic(|| Requirement::new("98"));
-    assert_eq!(listed, unexpected("versions_matches", "status 98"));
+    for (text, what) in [("99", "kind 99"), ("-10", "kind -10")] {
+        assert_eq!(panic(|| kind(text)), unexpected("versions_kind", what));
+    }
 }
 
 #[test]
 #[ignore = "run by tests/rust of the repository, with a wrong library"]
 fn statuses_of_other_calls() {
     // Each is a status of versions.h, and says what a text that was taken before is not.
-    let version = |text| Version::new(text).unwrap();
-    let forgotten = "the library no longer takes the text of a Version for a version";
     for text in ["v2", "v3", "v4"] {
-        assert!(panic(|| version(text).precedence(&version(text))).contains(forgotten));
-        assert!(panic(|| version(text).cmp(&version(text))).contains(forgotten));
+        assert!(panic(|| version(text).cmp(&version("v0"))).contains(FORGOTTEN));
+        assert!(panic(|| version(text) == version("v0")).contains(FORGOTTEN));
     }
-    assert!(panic(|| version("v1").sort_key()).contains(forgotten));
-    assert_eq!(
-        panic(|| version("v1").nth(0)),
-        unexpected("versions_nth", "status 1")
-    );
-    assert_eq!(
-        panic(|| version("v1").epoch()),
-        unexpected("versions_epoch", "status 1")
-    );
-    for text in ["v1", "v6"] {
+    for (text, status) in [("x5", "status 5"), ("x7", "status 7"), ("x10", "status 10")] {
+        let said = panic(|| Versioning::new(text).is_ok());
+        assert_eq!(said, unexpected("versions_parse", status));
+    }
+    for (text, status) in [("x1", "status 1"), ("x7", "status 7"), ("x10", "status 10")] {
+        let said = panic(|| Requirement::new(text).is_ok());
+        assert_eq!(said, unexpected("versions_range", status));
+    }
+    for (text, status) in [("v1", "status 1"), ("v7", "status 7"), ("v11", "status 11")] {
         assert_eq!(
-            panic(|| version(text).is_prerelease()),
-            unexpected("versions_is_prerelease", &format!("status {}", &text[1..]))
+            panic(|| version(text).nth(0)),
+            unexpected("versions_nth", status)
+        );
+        assert_eq!(
+            panic(|| version(text).epoch()),
+            unexpected("versions_epoch", status)
         );
     }
-    let wanted = Requirement::new("v5").unwrap();
+    for (text, status) in [("v1", "status 1"), ("v6", "status 6"), ("v10", "status 10")] {
+        assert_eq!(
+            panic(|| version(text).metadata().is_some()),
+            unexpected("versions_field", status)
+        );
+        assert_eq!(
+            panic(|| version(text).is_prerelease()),
+            unexpected("versions_is_prerelease", status)
+        );
+    }
+    let (exact, wanted) = (requirement("e5"), requirement("v5"));
     let status = unexpected("versions_matches", "status 5");
-    assert_eq!(panic(|| wanted.matches(&version("v5"))), status);
-    assert!(panic(|| Requirement::new("v1").unwrap().matches(&version("v1"))).contains(forgotten));
+    assert_eq!(panic(|| wanted.matches(&version("v0"))), status);
+    assert_eq!(panic(|| wanted.matches_text("t0")), status);
+    assert!(panic(|| requirement("v1").matches(&version("v1"))).contains(FORGOTTEN));
     let status = unexpected("versions_match_all", "status 5");
     assert_eq!(panic(|| match_all(&wanted, &["v5"])), status);
+    for (text, status) in [("v5", "status 5"), ("v7", "status 7"), ("v10", "status 10")] {
+        assert_eq!(
+            panic(|| exact.matches_text(text)),
+            unexpected("versions_in_range", status)
+        );
+        assert_eq!(
+            panic(|| match_all(&exact, &[text])),
+            unexpected("versions_in_range_all", status)
+        );
+    }
     for (text, status) in [("v7", "status 7"), ("v8", "status 8"), ("v10", "status 10")] {
         assert_eq!(
             panic(|| kinds(&[text])),
@@ -119,36 +160,81 @@ fn statuses_of_other_calls() {
 #[ignore = "run by tests/rust of the repository, with a wrong library"]
 fn answers() {
     // With the status VERSIONS_OK, and answers that it never has.
-    let version = Version::new("v0").unwrap();
     assert_eq!(
         panic(|| compare("v0", "v0")),
         unexpected("versions_compare", "order 7")
     );
+    let general = version("v0");
     assert_eq!(
-        panic(|| version.cmp(&version)),
+        panic(|| general.cmp(&version("i0"))),
         unexpected("versions_compare_total", "order 7")
     );
-    let wanted = Requirement::new("v0").unwrap();
-    assert_eq!(
-        panic(|| wanted.matches(&version)),
-        unexpected("versions_matches", "match 9")
-    );
-    assert_eq!(
-        panic(|| match_all(&wanted, &["v0"])),
-        unexpected("versions_match_all", "match 9")
-    );
+    let (exact, wanted) = (requirement("e0"), requirement("v0"));
+    let said = [
+        ("versions_matches", panic(|| wanted.matches(&general))),
+        ("versions_matches", panic(|| wanted.matches_text("t0"))),
+        ("versions_in_range", panic(|| wanted.matches_text("v0"))),
+        ("versions_in_range", panic(|| exact.matches_text("v0"))),
+        ("versions_match_all", panic(|| match_all(&wanted, &["v0"]))),
+        (
+            "versions_in_range_all",
+            panic(|| match_all(&exact, &["v0"])),
+        ),
+        ("versions_is_prerelease", panic(|| general.is_prerelease())),
+    ];
+    for (call, text) in said {
+        assert_eq!(text, unexpected(call, "match 9"));
+    }
     assert_eq!(
         panic(|| kinds(&["v0"])),
         unexpected("versions_kind", "kind 9")
     );
-    assert_eq!(
-        panic(|| version.is_prerelease()),
-        unexpected("versions_is_prerelease", "match 9")
-    );
-    // A key of more bytes than there is room for, and offsets and places of no text.
-    panic(|| sort_key("v0"));
+    // Offsets and places of no text.
     panic(|| sort_keys(&["v0"]).get(0).is_some());
     panic(|| sort(&mut ["v0", "v0"]));
+}
+
+#[test]
+#[ignore = "run by tests/rust of the repository, with a wrong library"]
+fn kinds_and_lengths() {
+    for (text, what) in [("k0", "kind 9"), ("n0", "kind 0")] {
+        let said = panic(|| Versioning::new(text).is_ok());
+        assert_eq!(said, unexpected("versions_parse", what));
+        let said = panic(|| sort_key(text));
+        assert_eq!(said, unexpected("versions_parse", what));
+    }
+    // With room on the stack, and with room in an allocation.
+    let long = |letter: &str| letter.to_string() + &"0".repeat(1000);
+    for (text, room) in [("l0".to_string(), 128), (long("l"), 3 * 1001 + 5)] {
+        let what = format!("length {}", room + 1);
+        let said = panic(|| Versioning::new(&text).is_ok());
+        assert_eq!(said, unexpected("versions_parse", &what));
+        let said = panic(|| Requirement::new(&text).is_ok());
+        assert_eq!(said, unexpected("versions_range", &what));
+    }
+    for (text, room) in [("h0".to_string(), 128), (long("h"), 3 * 1001 + 5)] {
+        let said = panic(|| Requirement::new(&text).is_ok());
+        let what = format!("length {}", room + 1);
+        assert_eq!(said, unexpected("versions_range", &what));
+    }
+    let said = panic(|| Requirement::new("f0").is_ok());
+    assert_eq!(said, unexpected("versions_range", "sum of flags 35"));
+}
+
+#[test]
+#[ignore = "run by tests/rust of the repository, with a wrong library"]
+fn places_of_fields() {
+    let texts = ["v0a", "v0b", "v0c", "v0dé", "v0e"];
+    let places = ["0..4", "2..1", "1..1", "3..4", "0..18446744073709551615"];
+    for (text, place) in texts.into_iter().zip(places) {
+        let (version, wanted) = (
+            version(text),
+            unexpected("versions_field", &format!("place {place}")),
+        );
+        assert_eq!(panic(|| version.pre_release().is_some()), wanted);
+        assert_eq!(panic(|| version.release().is_some()), wanted);
+        assert_eq!(panic(|| version.metadata().is_some()), wanted);
+    }
 }
 
 #[test]

@@ -2,14 +2,22 @@
  * Not the library: the calls of versions.h that the crate for Rust makes, with answers that the header does not allow.
  * A call returns the number in its text, as 99 of `v99`; where that is VERSIONS_OK, it writes what is never written.
  * tests/rust links it, to see that the crate panics.
+ *
+ * A text that begins with `i` or `v` is taken for a version at first, a strict or a general one, and all of these have
+ * one key. A text that begins with `e` or `v` is taken for a list at first, with an exact range or with another one.
  */
+#include <string.h>
 #include "versions.h"
 
-/* The number in a text, after a letter v, if any; 0 of an empty text. */
+/* The letter that a text begins with, or 0. */
+static char letter(const char *text, size_t text_len) {
+  return text_len > 0 && text[0] >= 'a' && text[0] <= 'z' ? text[0] : 0;
+}
+
+/* The number in a text, after its letter, if any; 0 of an empty text. */
 static int number(const char *text, size_t text_len) {
-  size_t at = 0;
+  size_t at = letter(text, text_len) != 0;
   int value = 0, sign = 1;
-  if (at < text_len && text[at] == 'v') at++;
   if (at < text_len && text[at] == '-') {
     sign = -1;
     at++;
@@ -29,11 +37,16 @@ static int number_by_keys(const char *texts, size_t texts_len, const int64_t *of
   return room == 3 * texts_len + 5 * (offsets_len - 1) ? number_of_all(texts, texts_len, offsets, offsets_len) : 76;
 }
 
-/* A text that begins with the letter v is taken for a version at first. */
-static bool is_taken(const char *text, size_t text_len) { return text_len > 0 && text[0] == 'v'; }
+int versions_kind(const char *text, size_t text_len) { return number(text, text_len); }
 
-int versions_kind(const char *text, size_t text_len) {
-  return is_taken(text, text_len) ? VERSIONS_IDEAL : number(text, text_len);
+/* `k0` has no kind of versions.h, `n0` is said to be no version, and `l0` has a key longer than the room. */
+int versions_parse(const char *text, size_t text_len, uint8_t *kind, uint8_t *key, size_t room, size_t *key_len) {
+  char first = letter(text, text_len);
+  if (room < 3 * text_len + 5) return 76;
+  *kind = first == 'k' ? 9 : first == 'n' ? VERSIONS_NONE : first == 'v' ? VERSIONS_GENERAL : VERSIONS_IDEAL;
+  *key_len = first == 'l' ? room + 1 : 1;
+  key[0] = 'v';
+  return first == 'v' || first == 'i' ? VERSIONS_OK : number(text, text_len);
 }
 
 int versions_compare(const char *a, size_t a_len, const char *b, size_t b_len, int32_t *order) {
@@ -46,18 +59,32 @@ int versions_compare_total(const char *a, size_t a_len, const char *b, size_t b_
   return versions_compare(a, a_len, b, b_len, order);
 }
 
-int versions_sort_key(const char *text, size_t text_len, uint8_t *key, size_t room, size_t *key_len) {
-  (void)key;
-  *key_len = room + 1;
-  return number(text, text_len);
+int versions_matches(const char *list, size_t list_len, const char *text, size_t text_len, bool *matches) {
+  (void)text, (void)text_len;
+  *(unsigned char *)matches = 9;
+  return number(list, list_len);
 }
 
-/* A list that begins with the letter v is taken for one beside an empty text. */
-int versions_matches(const char *list, size_t list_len, const char *text, size_t text_len, bool *matches) {
-  (void)text;
-  *(unsigned char *)matches = 9;
-  if (text_len == 0 && is_taken(list, list_len)) return VERSIONS_NO_VERSION;
-  return number(list, list_len);
+/* `l0` has a low bound longer than the room, `h0` a high one, and `f0` a flag that versions.h does not have. */
+int versions_range(const char *list, size_t list_len, uint8_t *low, size_t low_room, size_t *low_len, uint8_t *high,
+                   size_t high_room, size_t *high_len, uint32_t *flags) {
+  char first = letter(list, list_len);
+  (void)low, (void)high;
+  if (low_room < 3 * list_len + 5 || high_room < 3 * list_len + 5) return 76;
+  *low_len = first == 'l' ? low_room + 1 : 0;
+  *high_len = first == 'h' ? high_room + 1 : 0;
+  *flags = VERSIONS_RANGE_IDEAL | VERSIONS_RANGE_GENERAL;
+  if (first == 'e') *flags |= VERSIONS_RANGE_EXACT;
+  if (first == 'f') *flags |= 32;
+  return first == 'v' || first == 'e' ? VERSIONS_OK : number(list, list_len);
+}
+
+/* A text that begins with `t` is in every range. */
+int versions_in_range(const char *text, size_t text_len, const uint8_t *low, size_t low_len, const uint8_t *high,
+                      size_t high_len, uint32_t flags, bool *is_in) {
+  (void)low, (void)low_len, (void)high, (void)high_len, (void)flags;
+  *(unsigned char *)is_in = letter(text, text_len) == 't' ? 1 : 9;
+  return number(text, text_len);
 }
 
 int versions_nth(const char *text, size_t text_len, size_t n, uint32_t *answer) {
@@ -65,8 +92,20 @@ int versions_nth(const char *text, size_t text_len, size_t n, uint32_t *answer) 
   return number(text, text_len);
 }
 
-int versions_epoch(const char *text, size_t text_len, uint32_t *epoch) {
+int versions_epoch(const char *text, size_t text_len, uint64_t *epoch) {
   (void)epoch;
+  return number(text, text_len);
+}
+
+/*
+ * By the letter after the number: `a` past the text, `b` an end before the start, `c` nothing, `d` the places from 3 to
+ * 4, and otherwise far past the text.
+ */
+int versions_field(const char *text, size_t text_len, uint32_t field, size_t *start, size_t *end) {
+  char which = text_len > 2 ? text[2] : 0;
+  (void)field;
+  *start = which == 'b' ? 2 : which == 'c' ? 1 : which == 'd' ? 3 : 0;
+  *end = which == 'a' ? text_len + 1 : which == 'b' || which == 'c' ? 1 : which == 'd' ? 4 : SIZE_MAX;
   return number(text, text_len);
 }
 
@@ -77,7 +116,7 @@ int versions_is_prerelease(const char *text, size_t text_len, bool *is_prereleas
 
 int versions_kinds(const char *texts, size_t texts_len, const int64_t *offsets, size_t offsets_len, uint8_t *kinds,
                    size_t kinds_len) {
-  for (size_t i = 0; i < kinds_len; i++) kinds[i] = 9;
+  memset(kinds, 9, kinds_len);
   return number_of_all(texts, texts_len, offsets, offsets_len);
 }
 
@@ -97,8 +136,16 @@ int versions_sort(const char *texts, size_t texts_len, const int64_t *offsets, s
 
 int versions_match_all(const char *list, size_t list_len, const char *texts, size_t texts_len, const int64_t *offsets,
                        size_t offsets_len, uint8_t *matches, size_t matches_len) {
-  for (size_t i = 0; i < matches_len; i++) matches[i] = 9;
+  memset(matches, 9, matches_len);
   return number_of_all(texts, texts_len, offsets, offsets_len) == 77 ? 77 : number(list, list_len);
+}
+
+int versions_in_range_all(const char *texts, size_t texts_len, const int64_t *offsets, size_t offsets_len,
+                          const uint8_t *low, size_t low_len, const uint8_t *high, size_t high_len, uint32_t flags,
+                          uint8_t *answers, size_t answers_len) {
+  (void)low, (void)low_len, (void)high, (void)high_len, (void)flags;
+  memset(answers, 9, answers_len);
+  return number_of_all(texts, texts_len, offsets, offsets_len);
 }
 
 bool versions_processor_suffices(void) { return false; }

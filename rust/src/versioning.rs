@@ -1,0 +1,380 @@
+use std::borrow::Cow;
+use std::cmp::Ordering;
+use std::fmt;
+use std::hash::{Hash, Hasher};
+use std::str::FromStr;
+
+use crate::library::{self, Field};
+use crate::text::into_cow;
+use crate::{InvalidVersion, Key, Kind, Text};
+
+/// A version: its text, borrowed or owned, its [`Kind`] and its sort key.
+///
+/// # Order and equality
+///
+/// `Ord` is the total order: [precedence](Versioning::precedence), and where that ties, by kind and
+/// then field by field. `==` holds exactly where `Ord` is `Equal`: of two versions that are the
+/// same but for the metadata of strict ones. `Hash` agrees with `==`.
+///
+/// ```
+/// use std::cmp::Ordering;
+/// use proved_versions::Versioning;
+///
+/// let [a, b] = ["1.0", "0:1.0"].map(|text| Versioning::new(text).unwrap());
+/// assert_eq!(a.precedence(&b), Ordering::Equal);
+/// assert!(a < b && a != b);
+/// assert_eq!(Versioning::new("1.0.0+a"), Versioning::new("1.0.0+b"));
+/// ```
+///
+/// The sort key is made once, by [`new`](Versioning::new), and comparisons go by keys. They ask the
+/// library about the texts only where two keys are equal, and not both versions are strict.
+///
+/// `Versioning` is not `Borrow<str>`, since equal versions may have different texts, nor
+/// `Borrow<[u8]>`, since different versions may have equal keys. [`Key`] is `Borrow<[u8]>`.
+#[derive(Clone)]
+pub struct Versioning<'a> {
+    text: Cow<'a, str>,
+    key: Key,
+    kind: Kind,
+}
+
+impl<'a> Versioning<'a> {
+    /// Parses a text, in one scan. Borrows a `&str`, and takes a `String` as it is.
+    ///
+    /// Allocates nothing where the text has at most 41 bytes and its key at most 38. Otherwise 3
+    /// bytes for each byte of the text, and 5 more, are allocated for the key; a key of more than
+    /// 38 bytes keeps its part of them.
+    ///
+    /// # Errors
+    ///
+    /// [`InvalidVersion`], where the text is not a version. The error holds the text, for which a
+    /// borrowed one is copied.
+    ///
+    /// ```
+    /// use proved_versions::Versioning;
+    ///
+    /// assert!(Versioning::new("1.2.3-rc.1").is_ok());
+    /// assert!(Versioning::new(String::from("1.2.3 ")).is_err());
+    /// let versions: Result<Vec<_>, _> = ["1.2", "1.10"].iter().map(Versioning::new).collect();
+    /// assert_eq!(versions?.len(), 2);
+    /// # Ok::<(), proved_versions::InvalidVersion>(())
+    /// ```
+    #[inline]
+    pub fn new(text: impl Text<'a>) -> Result<Self, InvalidVersion> {
+        Versioning::parsed(into_cow(text))
+    }
+
+    fn parsed(text: Cow<'a, str>) -> Result<Self, InvalidVersion> {
+        match library::parse(&text) {
+            Some((kind, key)) => Ok(Versioning {
+                text,
+                key: Key::new(key),
+                kind,
+            }),
+            None => Err(InvalidVersion::new(text)),
+        }
+    }
+
+    /// Returns the text, as it was given.
+    pub fn as_str(&self) -> &str {
+        &self.text
+    }
+
+    /// Returns the kind, without a call of the library.
+    pub fn kind(&self) -> Kind {
+        self.kind
+    }
+
+    /// Returns whether the version is strict, as `1.2.3-rc.1`.
+    pub fn is_ideal(&self) -> bool {
+        self.kind == Kind::Ideal
+    }
+
+    /// Returns whether the version is general, as `1:2.0rc1-3`.
+    pub fn is_general(&self) -> bool {
+        self.kind == Kind::General
+    }
+
+    /// Returns whether the version is of neither of these kinds, as `20.0026.1_0-2+0.93`.
+    pub fn is_complex(&self) -> bool {
+        self.kind == Kind::Complex
+    }
+
+    /// Returns the number at a place, counted from 0, or `None` if that place has no number. Allocates
+    /// nothing.
+    ///
+    /// A strict version has three places: major, minor and patch. A general version has a place for
+    /// each part between its epoch and its release. A part that is a number gives that number. The
+    /// last part also gives the number that it begins with, where letters follow that number, and
+    /// after them nothing or one more number. A complex version has a place for each part of the
+    /// first section that no colon follows, and a part that is digits alone gives their number.
+    ///
+    /// ```
+    /// use proved_versions::Versioning;
+    ///
+    /// let version = Versioning::new("1:1.a.7d-15").unwrap();
+    /// assert_eq!([0, 1, 2, 3].map(|n| version.nth(n)), [Some(1), None, Some(7), None]);
+    /// ```
+    pub fn nth(&self, n: usize) -> Option<u32> {
+        library::nth(&self.text, n)
+    }
+
+    /// Returns the first number of a strict version, or `None` for every other version.
+    ///
+    /// ```
+    /// use proved_versions::Versioning;
+    ///
+    /// let version = Versioning::new("1.2.3-rc.1").unwrap();
+    /// let numbers = (version.major(), version.minor(), version.patch());
+    /// assert_eq!(numbers, (Some(1), Some(2), Some(3)));
+    /// assert_eq!(Versioning::new("1.2").unwrap().major(), None);
+    /// ```
+    pub fn major(&self) -> Option<u32> {
+        self.strict_number(0)
+    }
+
+    /// Returns the second number of a strict version, or `None` for every other version.
+    pub fn minor(&self) -> Option<u32> {
+        self.strict_number(1)
+    }
+
+    /// Returns the third number of a strict version, or `None` for every other version.
+    pub fn patch(&self) -> Option<u32> {
+        self.strict_number(2)
+    }
+
+    fn strict_number(&self, place: usize) -> Option<u32> {
+        self.is_ideal().then(|| self.nth(place)).flatten()
+    }
+
+    /// Returns the epoch: the number before the colon, which counts in the order. `None` for a
+    /// version without one, as every strict version. Allocates nothing.
+    ///
+    /// A general version has an epoch if it begins with a number and a colon, a complex version if
+    /// it begins with digits and a colon. An epoch above `i64::MAX` gives `i64::MAX`.
+    ///
+    /// ```
+    /// use proved_versions::Versioning;
+    ///
+    /// let versions = ["1:2.0-3", "8:2007f~dfsg-7", "2.0-3"].map(Versioning::new);
+    /// let epochs = versions.map(|version| version.unwrap().epoch());
+    /// assert_eq!(epochs, [Some(1), Some(8), None]);
+    /// ```
+    pub fn epoch(&self) -> Option<u64> {
+        library::epoch(&self.text)
+    }
+
+    /// Returns the pre-release of a strict version: what follows its hyphen. `None` for a version
+    /// without one, and for every version of another kind. Allocates nothing.
+    ///
+    /// ```
+    /// use proved_versions::Versioning;
+    ///
+    /// let versions = ["1.2.3-rc.1+x86", "1.2.3", "1.2-1"].map(|text| Versioning::new(text).unwrap());
+    /// let pre_releases = [0, 1, 2].map(|n: usize| versions[n].pre_release());
+    /// assert_eq!(pre_releases, [Some("rc.1"), None, None]);
+    /// ```
+    pub fn pre_release(&self) -> Option<&str> {
+        library::field(&self.text, Field::PreRelease)
+    }
+
+    /// Returns the release of a general version: what follows its hyphen. `None` for a version
+    /// without one, and for every version of another kind. Allocates nothing.
+    ///
+    /// ```
+    /// use proved_versions::Versioning;
+    ///
+    /// assert_eq!(Versioning::new("1:2.0rc1-3").unwrap().release(), Some("3"));
+    /// assert_eq!(Versioning::new("1.2.3-3").unwrap().release(), None);
+    /// ```
+    pub fn release(&self) -> Option<&str> {
+        library::field(&self.text, Field::Release)
+    }
+
+    /// Returns the metadata of a strict or general version: what follows its plus. `None` for a
+    /// version without any, and for every complex version. Allocates nothing.
+    ///
+    /// ```
+    /// use proved_versions::Versioning;
+    ///
+    /// assert_eq!(Versioning::new("1.2.3-rc.1+x86").unwrap().metadata(), Some("x86"));
+    /// ```
+    pub fn metadata(&self) -> Option<&str> {
+        library::field(&self.text, Field::Metadata)
+    }
+
+    /// Returns whether this is a strict version with a pre-release (SemVer 2.0, section 9), as
+    /// `1.2.0-rc.1`. False for every general or complex version: its text does not say whether it
+    /// is a pre-release. Allocates nothing.
+    ///
+    /// ```
+    /// use proved_versions::Versioning;
+    ///
+    /// let versions = ["1.2.0-rc.1", "1.2.0", "1.2-1"].map(|text| Versioning::new(text).unwrap());
+    /// assert_eq!(versions.map(|version| version.is_prerelease()), [true, false, false]);
+    /// ```
+    pub fn is_prerelease(&self) -> bool {
+        library::is_prerelease(&self.text)
+    }
+
+    /// Compares by precedence, the one order of all kinds. Allocates nothing.
+    ///
+    /// Different versions may tie, as `1.0` and `0:1.0`; [`Ord`] breaks these ties. The operators
+    /// `>`, `>=`, `<` and `<=` of a [`Requirement`](crate::Requirement) go by precedence.
+    ///
+    /// ```
+    /// use std::cmp::Ordering;
+    /// use proved_versions::Versioning;
+    ///
+    /// let [a, b] = ["1.2.0-rc.1", "1.2.0"].map(|text| Versioning::new(text).unwrap());
+    /// assert_eq!(a.precedence(&b), Ordering::Less);
+    /// ```
+    #[inline]
+    pub fn precedence(&self, other: &Versioning<'_>) -> Ordering {
+        self.key.cmp(&other.key)
+    }
+
+    /// Returns the sort key: bytes that compare as versions do by precedence.
+    ///
+    /// Equal keys are keys of versions that precedence ties. No key is empty, and none begins
+    /// another. A key has at most 3 bytes for each byte of the text, and 5 more.
+    ///
+    /// ```
+    /// use proved_versions::Versioning;
+    ///
+    /// let versions = ["1.9", "1.10rc1", "1.10"].map(|text| Versioning::new(text).unwrap());
+    /// assert!(versions[0].sort_key() < versions[1].sort_key());
+    /// assert!(versions[1].sort_key() < versions[2].sort_key());
+    /// // The key of an index: a package's name, and then its version.
+    /// let _key = [b"rust\0", versions[0].sort_key()].concat();
+    /// ```
+    #[inline]
+    pub fn sort_key(&self) -> &[u8] {
+        self.key.as_bytes()
+    }
+
+    /// Returns the sort key as a [`Key`], which can be the key of a map.
+    pub fn key(&self) -> &Key {
+        &self.key
+    }
+
+    pub(crate) fn into_key(self) -> Key {
+        self.key
+    }
+
+    /// Returns the same version, with a text that borrows from this one. Copies the key, and
+    /// allocates nothing where that has at most 38 bytes.
+    pub fn borrowed(&self) -> Versioning<'_> {
+        Versioning {
+            text: Cow::Borrowed(&self.text),
+            key: self.key.clone(),
+            kind: self.kind,
+        }
+    }
+
+    /// Returns the same version, with a text of its own. Copies a borrowed text.
+    pub fn into_owned(self) -> Versioning<'static> {
+        Versioning {
+            text: Cow::Owned(self.text.into_owned()),
+            key: self.key,
+            kind: self.kind,
+        }
+    }
+
+    /// How this version compares to another one of the same key.
+    fn tie(&self, other: &Versioning<'_>) -> Ordering {
+        if (self.is_ideal() && other.is_ideal()) || self.text == other.text {
+            return Ordering::Equal;
+        }
+        valid(library::compare_total(&self.text, &other.text).ok())
+    }
+}
+
+/// What the library answers of a text that it has taken for a version before.
+fn valid<R>(answer: Option<R>) -> R {
+    answer.expect("the library no longer takes the text of a Versioning for a version")
+}
+
+impl Ord for Versioning<'_> {
+    #[inline]
+    fn cmp(&self, other: &Self) -> Ordering {
+        match self.precedence(other) {
+            Ordering::Equal => self.tie(other),
+            order => order,
+        }
+    }
+}
+
+impl<'b> PartialOrd<Versioning<'b>> for Versioning<'_> {
+    fn partial_cmp(&self, other: &Versioning<'b>) -> Option<Ordering> {
+        Some(self.cmp(other))
+    }
+}
+
+impl Eq for Versioning<'_> {}
+
+impl<'b> PartialEq<Versioning<'b>> for Versioning<'_> {
+    #[inline]
+    fn eq(&self, other: &Versioning<'b>) -> bool {
+        self.key == other.key && self.tie(other).is_eq()
+    }
+}
+
+/// Hashes the sort key, since equal versions have equal keys.
+impl Hash for Versioning<'_> {
+    fn hash<H: Hasher>(&self, state: &mut H) {
+        self.key.hash(state);
+    }
+}
+
+/// The text, as it was given; width and precision apply as to a `str`.
+impl fmt::Display for Versioning<'_> {
+    fn fmt(&self, f: &mut fmt::Formatter<'_>) -> fmt::Result {
+        f.pad(&self.text)
+    }
+}
+
+/// As `Versioning("1.2.3")`.
+impl fmt::Debug for Versioning<'_> {
+    fn fmt(&self, f: &mut fmt::Formatter<'_>) -> fmt::Result {
+        f.debug_tuple("Versioning").field(&self.text).finish()
+    }
+}
+
+impl AsRef<str> for Versioning<'_> {
+    fn as_ref(&self) -> &str {
+        &self.text
+    }
+}
+
+/// The text. Copies a borrowed one.
+impl From<Versioning<'_>> for String {
+    fn from(version: Versioning<'_>) -> String {
+        version.text.into_owned()
+    }
+}
+
+/// Copies the text. [`Versioning::new`] borrows it.
+impl FromStr for Versioning<'static> {
+    type Err = InvalidVersion;
+
+    fn from_str(text: &str) -> Result<Self, InvalidVersion> {
+        Versioning::new(text).map(Versioning::into_owned)
+    }
+}
+
+impl<'a> TryFrom<&'a str> for Versioning<'a> {
+    type Error = InvalidVersion;
+
+    fn try_from(text: &'a str) -> Result<Self, InvalidVersion> {
+        Versioning::new(text)
+    }
+}
+
+impl TryFrom<String> for Versioning<'_> {
+    type Error = InvalidVersion;
+
+    fn try_from(text: String) -> Result<Self, InvalidVersion> {
+        Versioning::new(text)
+    }
+}
