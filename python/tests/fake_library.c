@@ -6,7 +6,8 @@
 int fake_status = VERSIONS_OK;
 int fake_number = 0; /* what each answer about many texts is */
 bool fake_suffices = true;
-size_t fake_bound_len = 4;
+const char *fake_asked;         /* by what it was asked last whether a version matches: "list" or "range" */
+size_t fake_bound_len = 4;      /* of both bounds: zeros, and bytes 255 */
 uint32_t fake_flags = VERSIONS_RANGE_GENERAL | VERSIONS_RANGE_HIGH;
 const char *fake_texts; /* what the last call on many texts was passed */
 size_t fake_texts_len;
@@ -42,10 +43,11 @@ int versions_compare_total(const char *a, size_t a_len, const char *b, size_t b_
 }
 
 int versions_matches(const char *list, size_t list_len, const char *text, size_t text_len, bool *matches) {
-  return (void)list, (void)list_len, (void)text, (void)text_len, (void)matches, fake_status;
+  (void)list, (void)list_len, (void)text, (void)text_len, (void)matches;
+  fake_asked = "list";
+  return fake_status;
 }
 
-/* Bounds that need more room than is on the stack of a call, and the flags that are set. */
 int versions_range(const char *list, size_t list_len, uint8_t *low, size_t low_room, size_t *low_len, uint8_t *high,
                    size_t high_room, size_t *high_len, uint32_t *flags) {
   (void)list, (void)list_len;
@@ -60,6 +62,7 @@ int versions_range(const char *list, size_t list_len, uint8_t *low, size_t low_r
 int versions_in_range(const char *text, size_t text_len, const uint8_t *low, size_t low_len, const uint8_t *high,
                       size_t high_len, uint32_t flags, bool *is_in) {
   (void)text, (void)text_len, (void)low, (void)low_len, (void)high, (void)high_len, (void)flags, (void)is_in;
+  fake_asked = "range";
   return fake_status;
 }
 
@@ -93,13 +96,16 @@ int versions_kinds(const char *texts, size_t texts_len, const int64_t *offsets, 
 
 int versions_match_all(const char *list, size_t list_len, const char *texts, size_t texts_len, const int64_t *offsets,
                        size_t offsets_len, uint8_t *matches, size_t matches_len) {
-  return (void)list, (void)list_len, (void)offsets, (void)offsets_len, answer(texts, texts_len, matches, matches_len);
+  (void)list, (void)list_len, (void)offsets, (void)offsets_len;
+  fake_asked = "list";
+  return answer(texts, texts_len, matches, matches_len);
 }
 
 int versions_in_range_all(const char *texts, size_t texts_len, const int64_t *offsets, size_t offsets_len,
                           const uint8_t *low, size_t low_len, const uint8_t *high, size_t high_len, uint32_t flags,
                           uint8_t *answers, size_t answers_len) {
   (void)offsets, (void)offsets_len, (void)low, (void)low_len, (void)high, (void)high_len, (void)flags;
+  fake_asked = "range";
   return answer(texts, texts_len, answers, answers_len);
 }
 

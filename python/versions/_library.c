@@ -546,9 +546,8 @@ PyDoc_STRVAR(match_all_doc,
              "match_all(requirement, texts)\n--\n\n"
              "Whether a requirement matches each of many texts, and None for a text that is not a version.\n"
              "\n"
-             "`requirement` is a `Requirement` or a text, `texts` is what `kinds` takes. `InvalidRequirement` where the "
-             "text is\n"
-             "not a requirement.\n"
+             "`requirement` is a `Requirement` or a text, `texts` is what `kinds` takes.\n"
+             "`InvalidRequirement` where the text is not a requirement.\n"
              "\n"
              ">>> match_all(\">=1.1.1,<2.0.0\", [\"1.5\", \"2.0.0\", \"1..2\", None])\n"
              "[True, False, None, None]\n");
