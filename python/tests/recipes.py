@@ -6,6 +6,7 @@ Its Python has pandas and the package. Where that has no pyarrow, which Debian l
 place. The last line is 'N passed, M failed'.
 """
 
+import itertools
 import os
 import re
 import sys
@@ -40,7 +41,7 @@ class Table:
 
     def filter(self, mask):
         assert all(type(each) is bool for each in mask)
-        return Table({name: [v for v, is_kept in zip(values, mask) if is_kept] for name, values in self.columns.items()})
+        return Table({name: list(itertools.compress(values, mask)) for name, values in self.columns.items()})
 
     def to_pydict(self):
         return self.columns

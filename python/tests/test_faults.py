@@ -102,29 +102,21 @@ class FakeLibrary(WithFolder):
 
     def test_what_is_asked_of_an_exact_range_and_of_any_other(self):
         module = self.load()
-        for flags, asked in ((3, b"list"), (3 | 16, b"range"), (3 | 8, b"list"), (3 | 8 | 16, b"range")):
+        self.set(type=ctypes.c_size_t, bound_len=2)
+        # The flags, and what is asked about one text and about many: 16 is an exact range, 8 a high bound.
+        for flags, one, many in ((7, "list", "list"), (3 | 16, "range", "list"), (7 | 16 | 8, "range", "range")):
             self.set(type=ctypes.c_uint32, flags=flags)
-            self.set(type=ctypes.c_size_t, bound_len=2)
             version, wanted = module.Keyed("1.2"), module.Ranged("*")
             self.assertEqual((wanted.low, wanted.high), (b"\0\0", b"\xff\xff" if flags & 8 else None))
             # The fake version is general, and its key is in the range: only a range that is not exact asks about it.
-            for call in (lambda v: wanted.matches(v), lambda v: v in wanted, lambda v: wanted.filter([v])):
-                for given, told in ((version, b"list" if asked == b"list" else None), ("1.2", asked)):
+            for call, told in ((wanted.matches, one), (wanted.__contains__, one), (lambda v: wanted.filter([v]), many)):
+                for given, asked in ((version, None if flags & 16 else told), ("1.2", told)):
                     self.set(type=ctypes.c_char_p, asked=None)
                     call(given)
-                    self.assertEqual(ctypes.c_char_p.in_dll(self.shared, "fake_asked").value, told, (flags, given))
-            if asked == b"range":
+                    found = ctypes.c_char_p.in_dll(self.shared, "fake_asked").value
+                    self.assertEqual(found, asked and asked.encode(), (flags, given))
+            if flags & 16:
                 self.assertTrue(wanted.matches(version) and version in wanted and wanted.filter([version]))
-
-    def test_the_bytes_of_an_array_are_read_in_place(self):
-        module, array = self.load(), arrow.Array([b"1.2", None, b"x y"], pad=3)
-        structures = []
-        array.c_array = lambda: structures.append(arrow.Array.c_array(array)) or structures[-1]
-        module.kinds(array)
-        (structure,) = structures
-        content = ctypes.c_void_p.from_address(structure.buffers + 16).value
-        self.assertEqual(ctypes.c_void_p.in_dll(self.shared, "fake_texts").value, content)
-        self.assertEqual(ctypes.c_size_t.in_dll(self.shared, "fake_texts_len").value, 9)
 
 
 class Slotted(versions.Version):

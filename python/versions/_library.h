@@ -110,8 +110,8 @@ int refuse_one(PyObject *texts);
 
 /* Bytes that compare by memcmp, a prefix first: a key or a bound. */
 struct ordered {
-  PyObject *bytes; /* owned */
-  uint64_t front;  /* their first eight as a number, and zeros for those that are missing */
+  PyObject *bytes;        /* owned */
+  uint64_t first, second; /* their first sixteen as two numbers, with zeros for those that are missing */
 };
 
 /* A list of requirements, with the range of keys that it asks for. */

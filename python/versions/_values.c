@@ -10,33 +10,37 @@
  * Bytes in order
  */
 
-/* The first eight bytes as a number, the first of them the highest. */
-static uint64_t front_of(PyObject *bytes) {
-  const uint8_t *at = (const uint8_t *)PyBytes_AsString(bytes);
-  Py_ssize_t size = PyBytes_Size(bytes), place;
-  uint64_t front = 0;
-
-  for (place = 0; place < 8; place++) front = front << 8 | (place < size ? at[place] : 0);
-  return front;
+/* Eight bytes as a number, the first of them the highest. */
+static uint64_t number_of(const uint8_t *at) {
+  return (uint64_t)at[0] << 56 | (uint64_t)at[1] << 48 | (uint64_t)at[2] << 40 | (uint64_t)at[3] << 32 |
+         (uint64_t)at[4] << 24 | (uint64_t)at[5] << 16 | (uint64_t)at[6] << 8 | (uint64_t)at[7];
 }
 
 static struct ordered ordered_of(PyObject *bytes) {
-  struct ordered ordered = {bytes, bytes == NULL ? 0 : front_of(bytes)};
+  struct ordered ordered = {bytes, 0, 0};
+  uint8_t front[16] = {0};
+  size_t size;
 
+  if (bytes == NULL) return ordered;
+  size = (size_t)PyBytes_Size(bytes);
+  memcpy(front, PyBytes_AsString(bytes), size < sizeof front ? size : sizeof front);
+  ordered.first = number_of(front);
+  ordered.second = number_of(front + 8);
   return ordered;
 }
 
-/* -1, 0 or 1, by memcmp, a prefix first. Fronts that differ decide: behind a prefix they have zeros. */
-static int order_of(const struct ordered *a, const struct ordered *b) {
-  Py_ssize_t a_size, b_size;
-  int order;
+static int order_of_bytes(PyObject *a, PyObject *b) {
+  Py_ssize_t a_size = PyBytes_Size(a), b_size = PyBytes_Size(b);
+  int order = memcmp(PyBytes_AsString(a), PyBytes_AsString(b), (size_t)(a_size < b_size ? a_size : b_size));
 
-  if (a->front != b->front) return a->front < b->front ? -1 : 1;
-  a_size = PyBytes_Size(a->bytes);
-  b_size = PyBytes_Size(b->bytes);
-  order = memcmp(PyBytes_AsString(a->bytes), PyBytes_AsString(b->bytes), (size_t)(a_size < b_size ? a_size : b_size));
-  if (order != 0) return order < 0 ? -1 : 1;
-  return (a_size > b_size) - (a_size < b_size);
+  return order != 0 ? order : (a_size > b_size) - (a_size < b_size);
+}
+
+/* Below, equal to or above 0, by memcmp, a prefix first. Numbers that differ decide: after a prefix they have zeros. */
+static int order_of(const struct ordered *a, const struct ordered *b) {
+  if (a->first != b->first) return a->first < b->first ? -1 : 1;
+  if (a->second != b->second) return a->second < b->second ? -1 : 1;
+  return order_of_bytes(a->bytes, b->bytes);
 }
 
 /*
@@ -295,6 +299,13 @@ static bool has(const struct range *range, const struct keyed *keyed) {
 
 static bool is_exact(const struct range *range) { return range->flags & VERSIONS_RANGE_EXACT; }
 
+/* The library compares many texts with an exact range faster than with the list, unless the list wants some kinds. */
+static bool is_faster(const struct range *range) {
+  const uint32_t all = VERSIONS_RANGE_IDEAL | VERSIONS_RANGE_GENERAL | VERSIONS_RANGE_COMPLEX;
+
+  return is_exact(range) && (range->flags & all) == all;
+}
+
 /* Whether a text matches: by its key where the range is exact, and else by the list. Returns a status. */
 static int match_text(const struct range *range, const struct text *text, bool *answer) {
   struct text low = bytes_of(&range->low), high = bytes_of(&range->high);
@@ -315,7 +326,7 @@ int match_texts(const struct range *range, const struct texts *texts, uint8_t *a
   PyThreadState *thread = let_go_of(texts);
   int status;
 
-  if (is_exact(range))
+  if (is_faster(range))
     status = versions_in_range_all(texts->bytes, texts->size, texts->offsets, texts->count + 1,
                                    (const uint8_t *)low.bytes, low.size, (const uint8_t *)high.bytes, high.size,
                                    range->flags, answers, texts->count);
