@@ -106,7 +106,8 @@ setup(
     ext_modules=[
         Extension(
             "versions._library",
-            ["versions/_library.c"],
+            [f"versions/_{name}.c" for name in ("library", "texts", "values", "arrow")],
+            depends=["versions/_library.h"],
             define_macros=[("Py_LIMITED_API", "0x03090000")],
             py_limited_api=True,
             extra_compile_args=["-fvisibility=hidden"],

@@ -11,8 +11,10 @@ import os
 import sys
 import unittest
 
+import versions
+
 HERE = os.path.dirname(os.path.abspath(__file__))
-MODULES = ("versions", "versions._requirement")
+MODULES = ("versions", "versions._library")
 TOP = os.path.join(HERE, "..", "..")
 PAGES = (os.path.join(TOP, "README.md"), os.path.join(TOP, "docs", "PYTHON.md"))
 
@@ -20,7 +22,8 @@ names = {name[: -len(".py")] for name in os.listdir(HERE) if name.startswith("te
 tests = unittest.defaultTestLoader.loadTestsFromNames(sorted(names - set(sys.argv[1:])))
 for module in MODULES:
     # The examples mean Python's own `sorted`, which `versions.sorted` hides inside the package.
-    tests.addTest(doctest.DocTestSuite(importlib.import_module(module), extraglobs={"sorted": sorted}))
+    names = {**vars(versions), "sorted": sorted}
+    tests.addTest(doctest.DocTestSuite(importlib.import_module(module), extraglobs=names))
 tests.addTest(doctest.DocFileSuite(*PAGES, module_relative=False, encoding="utf-8"))
 result = unittest.TextTestRunner(sys.stdout).run(tests)
 failed = len({test.id().split(" ")[0] for test, _ in result.failures + result.errors} | set(result.unexpectedSuccesses))

@@ -94,7 +94,8 @@ class One(unittest.TestCase):
             self.assertRaises(TypeError, versions.kind, **wrong)
         for wrong in ((), ("1",), ("1", "2", "3")):
             self.assertRaises(TypeError, versions.compare, *wrong)
-        for function, names in (("kind", "(text)"), ("compare", "(a, b)"), ("kinds", "(texts)")):
+        texts = ("kinds", "(texts)"), ("match_all", "(requirement, texts)")
+        for function, names in (("kind", "(text)"), ("compare", "(a, b)"), *texts):
             self.assertEqual(str(inspect.signature(getattr(versions, function))), names)
 
     def test_a_subclass_of_str_is_its_text(self):
@@ -208,7 +209,9 @@ class Items(LongLists):
             self.assertRaises(TypeError, versions.kind, marker)
             for refused in (marker, nan, None):
                 self.assertRaises(TypeError, versions.sorted, [refused])
-                self.assertRaises(TypeError, versions.Requirement("*").filter, ["1.2", refused])
+                self.assertRaises(TypeError, versions.sorted, ["1.2", refused], invalid="last")
+                self.assertEqual(versions.Requirement("*").filter(["1.2", refused]), ["1.2"])
+            self.assertRaises(TypeError, versions.Requirement("*").filter, ["1.2", type(marker)()])
             sys.modules["pandas"] = Raising()
             self.assertRaisesRegex(OSError, "mine", versions.kinds, [marker])
 
@@ -277,6 +280,44 @@ class Sorted(unittest.TestCase):
             self.assertEqual(raised.exception.text, "1..2")
         for text in ("", "\ud800", "\udcff"):
             self.assertRaises(versions.InvalidVersion, versions.sorted, ["1", text])
+
+    def test_reverse_keeps_the_order_of_what_ties(self):
+        # As Python's own `sorted` does; the two ties are by docs/ORDER.md.
+        texts = ["1.0.0+b", "2", "1.0.0+a", "0.9.0", "1.0.0+c", "2"]
+        wanted = ["2", "2", "1.0.0+b", "1.0.0+a", "1.0.0+c", "0.9.0"]
+        for given in (texts, tuple(texts), iter(texts)):
+            self.assertEqual(versions.sorted(given, reverse=True), wanted)
+        self.assertEqual([id(texts[n]) for n in (1, 5)], list(map(id, versions.sorted(texts, reverse=True)[:2])))
+        self.assertEqual(texts, ["1.0.0+b", "2", "1.0.0+a", "0.9.0", "1.0.0+c", "2"])
+        self.assertEqual(versions.sorted(["1.2", "0:1.2", "1.3"], reverse=True), ["1.3", "0:1.2", "1.2"])
+        self.assertEqual(versions.sorted(["2", "1"], reverse=False), ["1", "2"])
+        self.assertEqual(versions.sorted([], reverse=True), [])
+        items = [versions.Version("1"), "1", versions.Version("1")]
+        self.assertEqual(list(map(id, versions.sorted(items, reverse=True))), list(map(id, items)))
+
+    def test_what_is_not_a_version_comes_last_in_its_order(self):
+        texts = ["x y", "2", "", "1", "\ud800", "x y", "3"]
+        last = ["x y", "", "\ud800", "x y"]
+        self.assertEqual(versions.sorted(texts, invalid="last"), ["1", "2", "3", *last])
+        self.assertEqual(versions.sorted(texts, reverse=True, invalid="last"), ["3", "2", "1", *last])
+        for reverse in (False, True):
+            self.assertEqual(versions.sorted(last, reverse=reverse, invalid="last"), last)
+            self.assertEqual(versions.sorted([], reverse=reverse, invalid="last"), [])
+            self.assertEqual(versions.sorted(["2", "2"], reverse=reverse, invalid="last"), ["2", "2"])
+
+    def test_in_reverse_the_first_text_that_is_not_a_version_is_named(self):
+        for invalid in ({}, {"invalid": "raise"}):
+            with self.assertRaises(versions.InvalidVersion) as raised:
+                versions.sorted(["1", "1..2", "2", "x y", ""], reverse=True, **invalid)
+            self.assertEqual(raised.exception.text, "1..2")
+
+    def test_arguments(self):
+        for wrong in ("first", "", "Last", "last\0", "\ud800"):
+            self.assertRaises(ValueError, versions.sorted, ["1"], invalid=wrong)
+        for wrong in (None, True, b"last"):
+            self.assertRaises(TypeError, versions.sorted, ["1"], invalid=wrong)
+        self.assertRaises(TypeError, versions.sorted, ["1"], True)
+        self.assertEqual(str(inspect.signature(versions.sorted)), "(texts, *, reverse=False, invalid='raise')")
 
     def test_is_not_among_the_names_of_a_star(self):
         names = {}
@@ -357,7 +398,7 @@ class Threads(unittest.TestCase):
 
     def test_others_go_on_while_the_library_works(self):
         long, many = "1." * 3_000_000 + "1", ["1.2.3-rc.1"] * 400_000
-        wanted = versions.Requirement("=1.2")
+        wanted, strict = versions.Requirement("=1.2"), versions.Requirement("=1.2.3")
         version = versions.Version(long)
         calls = {
             "kind": lambda: versions.kind(long),
@@ -366,7 +407,12 @@ class Threads(unittest.TestCase):
             "compare_total": lambda: versions.compare_total(long, long),
             "nth": lambda: version.nth(2_000_000),
             "epoch": lambda: version.epoch,
+            "metadata": lambda: version.metadata,
             "matches": lambda: wanted.matches(long),
+            "matches by an exact range": lambda: strict.matches(long),
+            "Requirement": lambda: versions.Requirement(">" + long),
+            "filter": lambda: wanted.filter(many),
+            "filter by an exact range": lambda: strict.filter(many),
             "kinds": lambda: versions.kinds(many),
             "sort_keys": lambda: versions.sort_keys(many),
             "match_all": lambda: versions.match_all(wanted, many),
@@ -397,9 +443,9 @@ class Package(unittest.TestCase):
                 pickled = pickle.dumps(function, protocol)
                 self.assertIs(pickle.loads(pickled), function)
                 self.assertNotIn(b"_library", pickled)
-        for name in ("kind", "sort_key", "compare", "compare_total"):
+        for name in ("kind", "sort_key", "compare", "compare_total", "match_all"):
             self.assertIsInstance(getattr(versions, name), types.BuiltinFunctionType)
-        for name in ("Version", "Requirement", "InvalidVersion", "InvalidRequirement"):
+        for name in ("Version", "Requirement", "Range", "InvalidVersion", "InvalidRequirement"):
             self.assertEqual(getattr(versions, name).__module__, "versions")
 
     def test_version_is_that_of_the_header_and_of_the_distribution(self):

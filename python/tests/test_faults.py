@@ -20,20 +20,22 @@ import versions
 from compiled import WithFolder, compiled
 
 HERE = os.path.dirname(os.path.abspath(__file__))
-SOURCE = os.path.join(HERE, "..", "versions", "_library.c")
+PACKAGE = os.path.join(HERE, "..", "versions")
+SOURCES = [os.path.join(PACKAGE, name) for name in sorted(os.listdir(PACKAGE)) if name.endswith(".c")]
 
 
 class FakeLibrary(WithFolder):
     @classmethod
     def setUpClass(cls):
         super().setUpClass()
-        sources = SOURCE, os.path.join(HERE, "fake_library.c")
+        sources = *SOURCES, os.path.join(HERE, "fake_library.c")
         cls.path = compiled(cls.folder, "_library.so", "-DPy_LIMITED_API=0x03090000", *sources)
         cls.shared = ctypes.CDLL(cls.path)
 
     def setUp(self):
         self.set(status=0, number=0)
         self.set(type=ctypes.c_bool, suffices=True)
+        self.set(type=ctypes.c_size_t, bound_len=4)
 
     def set(self, type=ctypes.c_int, **values):
         for name, value in values.items():
@@ -55,7 +57,7 @@ class FakeLibrary(WithFolder):
 
     def test_statuses_that_no_call_should_return(self):
         module = self.load()
-        version = module.Keyed("1.2")
+        version, wanted = module.Keyed("1.2"), module.Ranged("*")
         self.set(status=99)
         calls = {
             "kind": lambda: module.kind("1"),
@@ -66,10 +68,16 @@ class FakeLibrary(WithFolder):
             "nth": lambda: module.nth("1", 0),
             "epoch": lambda: module.epoch("1"),
             "is_prerelease": lambda: module.is_prerelease("1"),
-            "matches": lambda: module.matches("*", version),
+            "field": lambda: module.field("1", 4),
+            "Ranged": lambda: module.Ranged("*"),
+            "matches": lambda: wanted.matches(version),
+            "matches a text": lambda: wanted.matches("1.2"),
+            "in": lambda: "1.2" in wanted,
+            "filter": lambda: wanted.filter(["1.2"]),
             "kinds": lambda: module.kinds(["1"]),
             "sort_keys": lambda: module.sort_keys(["1"]),
-            "match_all": lambda: module.match_all("*", ["1"], False),
+            "match_all": lambda: module.match_all(wanted, ["1"]),
+            "match_all of a text": lambda: module.match_all("*", ["1"]),
             "sorted": lambda: module.sorted(["1"]),
         }
         for status in (99, -10, 10):
@@ -79,19 +87,44 @@ class FakeLibrary(WithFolder):
                     self.assertRaisesRegex(RuntimeError, f"returned status {status}$", call)
         self.set(status=7)
         self.assertRaisesRegex(RuntimeError, "returned status 7$", module.sort_key, "1")
+        self.set(type=ctypes.c_size_t, bound_len=600)
+        self.assertRaisesRegex(RuntimeError, "returned status 7$", module.Ranged, "*")
         self.set(status=0, number=9)
         for call in (calls["kinds"], calls["match_all"]):
             self.assertRaisesRegex(RuntimeError, "returned status 9$", call)
 
-    def test_the_bytes_of_an_array_are_read_in_place(self):
-        module, array = self.load(), arrow.Array([b"1.2", None, b"x y"], pad=3)
-        structures = []
-        array.c_array = lambda: structures.append(arrow.Array.c_array(array)) or structures[-1]
-        module.kinds(array)
-        (structure,) = structures
-        content = ctypes.c_void_p.from_address(structure.buffers + 16).value
-        self.assertEqual(ctypes.c_void_p.in_dll(self.shared, "fake_texts").value, content)
-        self.assertEqual(ctypes.c_size_t.in_dll(self.shared, "fake_texts_len").value, 9)
+    def test_bounds_that_need_more_room(self):
+        module = self.load()
+        for size in (0, 1, 512, 513, 1_000_000):
+            self.set(type=ctypes.c_size_t, bound_len=size)
+            wanted = module.Ranged("*")
+            self.assertEqual((wanted.low, wanted.high), (b"\0" * size, b"\xff" * size))
+
+    def test_what_is_asked_of_an_exact_range_and_of_any_other(self):
+        module = self.load()
+        self.set(type=ctypes.c_size_t, bound_len=2)
+        # The flags, and what is asked about one text and about many: 16 is an exact range, 8 a high bound.
+        for flags, one, many in ((7, "list", "list"), (3 | 16, "range", "list"), (7 | 16 | 8, "range", "range")):
+            self.set(type=ctypes.c_uint32, flags=flags)
+            version, wanted = module.Keyed("1.2"), module.Ranged("*")
+            self.assertEqual((wanted.low, wanted.high), (b"\0\0", b"\xff\xff" if flags & 8 else None))
+            # The fake version is general, and its key is in the range: only a range that is not exact asks about it.
+            for call, told in ((wanted.matches, one), (wanted.__contains__, one), (lambda v: wanted.filter([v]), many)):
+                for given, asked in ((version, None if flags & 16 else told), ("1.2", told)):
+                    self.set(type=ctypes.c_char_p, asked=None)
+                    call(given)
+                    found = ctypes.c_char_p.in_dll(self.shared, "fake_asked").value
+                    self.assertEqual(found, asked and asked.encode(), (flags, given))
+            if flags & 16:
+                self.assertTrue(wanted.matches(version) and version in wanted and wanted.filter([version]))
+
+
+class Slotted(versions.Version):
+    __slots__ = ("place",)
+
+
+SLOTTED = Slotted("1.2")
+SLOTTED.place = [1]
 
 
 class Odd:
@@ -101,7 +134,7 @@ class Odd:
 
 LONG = "1_" * 2000 + "1"
 MINE = type("Mine", (versions.Version,), {})
-WANTED = versions.Requirement("^1.2")
+WANTED, STRICT = versions.Requirement("^1.2"), versions.Requirement("^1.2.3")
 
 
 PLAIN = versions.Version("1.2")
@@ -135,19 +168,38 @@ CALLS = {
     "epoch": partial(library.epoch, "70000:1"),
     "is_prerelease": partial(library.is_prerelease, "1.2.3-1"),
     "is_prerelease of no version": partial(library.is_prerelease, "1..3"),
-    "matches": partial(library.matches, "^1.2", "1.3"),
-    "matches a Version": partial(library.matches, "^1.2", PLAIN),
-    "matches no version": partial(library.matches, "^1.2", "1..3"),
-    "matches no text": partial(library.matches, "^1.2", 3),
-    "matches of no requirement": partial(library.matches, "1.2", "1.2"),
+    "field": partial(library.field, "1.2.3-rc.1", library.PRE_RELEASE),
+    "field that is not there": partial(library.field, "1.2.3-rc.1", library.METADATA),
+    "field of no version": partial(library.field, "1..3", library.METADATA),
+    "kind of a Version": partial(operator.attrgetter("kind"), PLAIN),
+    "Requirement": partial(versions.Requirement, "^1.2"),
+    "Requirement without a high bound": partial(versions.Requirement, ">1.2"),
+    "Requirement of a subclass of str": partial(versions.Requirement, type("Text", (str,), {})("^1.2")),
+    "Requirement, long": partial(versions.Requirement, f">={LONG},<{LONG}"),
+    "Requirement of no requirement": partial(versions.Requirement, "1.2"),
+    "Requirement of no text": partial(versions.Requirement, 3),
+    "matches": partial(WANTED.matches, "1.3"),
+    "matches by names": partial(WANTED.matches, version="1.3"),
+    "matches a Version": partial(WANTED.matches, PLAIN),
+    "matches by an exact range": partial(STRICT.matches, "1.3"),
+    "matches no version": partial(WANTED.matches, "1..3"),
+    "matches no text": partial(WANTED.matches, 3),
+    "in": partial(operator.contains, WANTED, "1..3"),
+    "filter": partial(WANTED.filter, ["1.2", PLAIN, None, "1..2", LONG]),
+    "filter by an exact range": partial(STRICT.filter, ["1.2.3", PLAIN, None, "1..2", LONG]),
+    "filter of many": partial(WANTED.filter, ["1.2.3" * 10] * 200),
+    "filter of no text": partial(WANTED.filter, ["1.2", Odd()]),
+    "filter of one": partial(WANTED.filter, "1.2"),
     "kinds": partial(versions.kinds, ["1.2", None, PLAIN, "\ud800", float("nan")]),
     "kinds of many": partial(versions.kinds, ["1.2.3" * 10] * 200),
     "kinds of no text": partial(versions.kinds, ["1.2", Odd()]),
     "sort_keys": partial(versions.sort_keys, ["1.2", None, "1..2", LONG]),
-    "match_all": partial(library.match_all, "^1.2", ["1.2", None, "1..2"], False),
-    "match_all of texts alone": partial(library.match_all, "^1.2", ["1.2", None], True),
-    "match_all of no requirement": partial(library.match_all, "1.2", ["1.2"], False),
+    "match_all": partial(versions.match_all, "^1.2", ["1.2", None, "1..2"]),
+    "match_all by an exact range": partial(versions.match_all, STRICT, ["1.2", None, "1..2"]),
+    "match_all of no requirement": partial(versions.match_all, "1.2", ["1.2"]),
     "sorted": partial(versions.sorted, ["1.3", "1.2", LONG]),
+    "sorted in reverse": partial(versions.sorted, ["1.3", "1..2", LONG], reverse=True, invalid="last"),
+    "sorted of a wrong name": partial(versions.sorted, ["1.3"], invalid="first"),
     "sorted of no version": partial(versions.sorted, ["1.2", PLAIN, "1..2"]),
     "sorted of no text": partial(versions.sorted, ["1.2", None]),
     "sorted of one": partial(versions.sorted, "1.2"),
@@ -164,13 +216,10 @@ def failing_midway():
 
 # Through functions of Python.
 PYTHON_CALLS = {
-    "parts": lambda: (EPOCH.epoch, EPOCH.major, EPOCH.is_prerelease, EPOCH.kind, repr(EPOCH)),
+    "parts": lambda: (EPOCH.epoch, EPOCH.major, EPOCH.is_prerelease, EPOCH.kind, EPOCH.release, repr(EPOCH)),
     "pickle": lambda: pickle.loads(pickle.dumps(MINE("1.2").__reduce__()[:2][1])),
-    "Requirement": lambda: versions.Requirement("^1.2"),
-    "Requirement of none": lambda: versions.Requirement("1.2"),
-    "matches": lambda: (WANTED.matches("1.3"), WANTED.matches(PLAIN), "1..2" in WANTED),
-    "matches no version": lambda: WANTED.matches("1..3"),
-    "filter": lambda: WANTED.filter(["1.1", PLAIN, "1..3"]),
+    "pickle of slots": lambda: pickle.loads(pickle.dumps(SLOTTED)).place,
+    "range": lambda: (WANTED.range, pickle.loads(pickle.dumps(WANTED)).low, WANTED == STRICT, hash(WANTED)),
     "kinds of what fails": failing_midway,
     "kinds of what can't be iterated": lambda: versions.kinds(5),
 }
@@ -271,8 +320,12 @@ class Allocations(WithFolder):
                 lambda: versions.match_all("*", [*inputs, None]),
                 lambda: versions.sorted([text, mine, plain, other]),
                 lambda: versions.sorted(inputs),
-                lambda: WANTED.filter(inputs),
-                lambda: WANTED.matches(mine),
+                lambda: versions.sorted(inputs, reverse=True, invalid="last"),
+                lambda: WANTED.filter([*inputs, None]),
+                lambda: STRICT.filter([*inputs, None]),
+                lambda: (WANTED.matches(mine), STRICT.matches(mine), mine in STRICT, wrong in STRICT),
+                lambda: versions.match_all(STRICT, inputs),
+                lambda: versions.Requirement(f">={text}"),
                 lambda: WANTED.matches(wrong),
             ):
                 outcome(call)
@@ -300,6 +353,7 @@ class Allocations(WithFolder):
             lambda: versions.kinds([text]),
             lambda: versions.sorted([text, "1.2"]),
             lambda: versions.sorted([text, "1..2"]),
+            lambda: versions.Requirement(f">={text}").filter([text, "1..2", None]),
         )
         for call in calls:
             outcome(call)
@@ -310,21 +364,82 @@ class Allocations(WithFolder):
         self.assertLess(peak() - before, 20_000)
 
 
+# Creates an interpreter: the first that shares the lock of the others, the second that has its own.
+SHARED = """
+try:
+    import _interpreters as _x
+    new = _x.create("legacy")
+except ImportError:
+    import _xxsubinterpreters as _x
+    new = _x.create(isolated=False) if sys.version_info >= (3, 10) else _x.create()
+"""
+OWN = """
+try:
+    import _interpreters as _x
+    new = _x.create("isolated")
+except ImportError:
+    import _xxsubinterpreters as _x
+    new = _x.create()
+"""
+# What both do.
+WORK = """
+import versions
+assert versions.kinds(["1.2", versions.Version("1.2.3")]) == ["general", "ideal"]
+assert versions.Version("1") < versions.Version("2")
+assert versions.Version("1.2.3") in versions.Requirement("^1.2.3")
+try:
+    versions.Version("1..2")
+except versions.InvalidVersion:
+    pass
+"""
+
+
 class Interpreters(unittest.TestCase):
-    def test_in_a_second_interpreter(self):
-        program = (
-            "import sys\n"
-            "try:\n    import _interpreters as _x\n    new = _x.create('legacy')\n"
-            "except ImportError:\n    import _xxsubinterpreters as _x\n"
-            "    new = _x.create(isolated=False) if sys.version_info >= (3, 10) else _x.create()\n"
-            "import versions\n"
-            "error = _x.run_string(new, '''import versions\n"
-            "assert versions.kinds([\"1.2\", versions.Version(\"1.2.3\")]) == [\"general\", \"ideal\"]\n"
-            "assert versions.Version(\"1\") < versions.Version(\"2\")\n"
-            "try:\\n    versions.Version(\"1..2\")\\nexcept versions.InvalidVersion:\\n    pass\n''')\n"
-            "assert error is None, error\n"
-            "_x.destroy(new)\n"
-            "print(versions.kinds(['1.2', versions.Version('1.2.3')]))\n"
-        )
+    def run_in(self, create, work, times=1):
+        program = f"""
+import sys
+{WORK}
+for _ in range({times}):
+    {create.replace(chr(10), chr(10) + "    ")}
+    error = _x.run_string(new, {work!r})
+    assert error is None, error
+    _x.destroy(new)
+{WORK}
+print("ended")
+"""
         done = subprocess.run([sys.executable, "-c", program], stdout=subprocess.PIPE, stderr=subprocess.STDOUT)
-        self.assertEqual((done.returncode, done.stdout), (0, b"['general', 'ideal']\n"))
+        self.assertEqual((done.returncode, done.stdout), (0, b"ended\n"), done.stdout.decode())
+
+    def test_in_a_second_interpreter(self):
+        self.run_in(SHARED, WORK)
+
+    @unittest.skipIf(sys.version_info < (3, 12), "no interpreter has a lock of its own before Python 3.12")
+    def test_in_interpreters_with_a_lock_of_their_own(self):
+        self.run_in(OWN, WORK, times=5)
+
+    @unittest.skipIf(sys.version_info < (3, 12), "no interpreter has a lock of its own before Python 3.12")
+    def test_interpreters_at_the_same_time(self):
+        busy = WORK + """
+texts = [f"{n % 7}.{n % 1000}.{n}" for n in range(20_000)]
+for _ in range(5):
+    assert len(versions.sorted(map(versions.Version, texts), reverse=True)) == 20_000
+    assert len(versions.Requirement(">=3.0.0").filter(map(versions.Version, texts))) == 11_428
+"""
+        program = f"""
+import sys, threading
+{WORK}
+def work():
+    {OWN.replace(chr(10), chr(10) + "    ")}
+    said.append(_x.run_string(new, {busy!r}))
+    _x.destroy(new)
+said = []
+threads = [threading.Thread(target=work) for _ in range(4)]
+for thread in threads:
+    thread.start()
+for thread in threads:
+    thread.join()
+assert said == [None] * 4, said
+print("ended")
+"""
+        done = subprocess.run([sys.executable, "-c", program], stdout=subprocess.PIPE, stderr=subprocess.STDOUT)
+        self.assertEqual((done.returncode, done.stdout), (0, b"ended\n"), done.stdout.decode())

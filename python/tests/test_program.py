@@ -58,11 +58,20 @@ class Program(unittest.TestCase):
         self.assertEqual(run("match", "*"), (0, b"", b""))
 
     def test_words_are_judged_first(self):
-        for word in ("1.2.3", "", ">=1.0,", "*1", "*é", b"^1\xff"):
+        for word in ("1.2.3", "", ">=1.0,", "*1", "*é"):
             told = b"not a requirement: " + os.fsencode(word) + b"\n"
             self.assertEqual(run("match", word, stdin=subprocess.DEVNULL), (1, b"", told))
         for words in ("", "Show", "show x", "sort 1", "match", "match * *", "--help", "cmp 1 2"):
             self.assertEqual(run(*words.split(), given=b"1\n"), (2, b"", USAGE), words)
+
+    def test_a_word_that_is_not_utf_8(self):
+        for words in ((b"\xff",), (b"show\xff",), ("match", b"^1\xff"), ("match", b"\xed\xa0\x80"), ("match", b"\xe9")):
+            for locale in ("C", "C.UTF-8", "en_US.ISO-8859-1"):
+                environment = {**os.environ, "LC_ALL": locale}
+                self.assertEqual(run(*words, given=b"1\n", env=environment), (2, b"", USAGE), words)
+        for locale in ("C", "C.UTF-8"):
+            told = "not a requirement: *é\n".encode()
+            self.assertEqual(run("match", "*é".encode(), env={**os.environ, "LC_ALL": locale}), (1, b"", told))
 
     def test_streams_that_fail(self):
         for words in (("show",), ("sort",), ("match", "*")):

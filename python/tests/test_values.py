@@ -28,6 +28,35 @@ class MyRequirement(Requirement):
     pass
 
 
+class Slotted(Version):
+    __slots__ = ("place", "unset")
+
+
+class SlottedRequirement(Requirement):
+    __slots__ = ("place", "unset")
+
+
+class Deep(Slotted):
+    # Beside these it has a dictionary.
+    __slots__ = ("more", "__dict__")
+
+
+class Told(Version):
+    """With arguments of its own, and a state that it makes itself."""
+
+    def __new__(cls, text, name=None):
+        return super().__new__(cls, text)
+
+    def __init__(self, text, name=None):
+        self.name = name
+
+    def __getstate__(self):
+        return {"named": self.name}
+
+    def __setstate__(self, state):
+        self.name, self.told = state["named"], True
+
+
 class Item(str, enum.Enum):
     FIRST = "1.2.3"
 
@@ -135,17 +164,52 @@ class Versions(unittest.TestCase):
             "1.2.3-rc.1+x": ("ideal", None, 1, 2, 3, True),
             "1.2.3+rc-1": ("ideal", None, 1, 2, 3, False),
             "4294967295.0.0": ("ideal", None, 4294967295, 0, 0, False),
-            "1:2.0rc1-3": ("general", 1, 2, 0, None, None),
-            "0:1": ("general", 0, 1, None, None, None),
-            "4294967295:a.2": ("general", 4294967295, None, 2, None, None),
-            "2.0-3": ("general", None, 2, 0, None, None),
-            "1:20.0026.1_0-2": ("complex", None, 20, 26, 1, None),
+            "1:2.0rc1-3": ("general", 1, 2, 0, None, False),
+            "0:1": ("general", 0, 1, None, None, False),
+            "4294967295:a.2": ("general", 4294967295, None, 2, None, False),
+            "2.0-3": ("general", None, 2, 0, None, False),
+            "1:20.0026.1_0-2": ("complex", 1, 20, 26, 1, False),
+            "8:2007f~dfsg-7": ("complex", 8, None, None, None, False),
+            "007:1_2": ("complex", 7, 1, None, None, False),
+            "4294967296:1": ("complex", 4294967296, 1, None, None, False),
+            "1.2:3": ("complex", None, 3, None, None, False),
+            "r1:2": ("complex", None, 2, None, None, False),
         }
         for text, parts in wanted.items():
             version = Version(text)
             with self.subTest(text=text):
                 found = (version.kind, version.epoch, version.major, version.minor, version.patch)
                 self.assertEqual((*found, version.is_prerelease), parts)
+                self.assertIsInstance(version.is_prerelease, bool)
+
+    def test_an_epoch_counts_in_the_order(self):
+        # None where there is none: by docs/ORDER.md the epoch of `1_2:3` doesn't count.
+        for epoch in ("8", "08", "9223372036854775807", "9223372036854775808", "9" * 30, "9" * 5000):
+            version = Version(epoch + ":2007f~dfsg-7")
+            self.assertEqual(version.epoch, min(int(epoch[:30]), 2**63 - 1), epoch)
+            self.assertGreater(version, Version("7:9"))
+        self.assertIsNone(Version("1_2:3").epoch)
+
+    def test_texts_of_fields(self):
+        # The pre-release, the release and the metadata, by docs/GRAMMAR.md.
+        wanted = {
+            "1.2.3": (None, None, None),
+            "1.2.3-rc.1+x86": ("rc.1", None, "x86"),
+            "1.2.3-rc-1.-": ("rc-1.-", None, None),
+            "1.2.3+-.-": (None, None, "-.-"),
+            "1.2.3-" + "a" * 5000 + "+" + "b" * 5000: ("a" * 5000, None, "b" * 5000),
+            "1:2.0rc1-3.4": (None, "3.4", None),
+            "1.2-1+git-2": (None, "1", "git-2"),
+            "1.2+x": (None, None, "x"),
+            "v1.2.3-4": (None, "4", None),
+            "1.2.3-01": (None, None, None),
+            "20.0026.1_0-2+0.93": (None, None, None),
+            "1:2_3-4+5": (None, None, None),
+        }
+        for text, fields in wanted.items():
+            version = Version(text)
+            with self.subTest(text=text):
+                self.assertEqual((version.pre_release, version.release, version.metadata), fields)
 
     def test_pickles_and_copies(self):
         class_of = {Version: MyVersion, Requirement: MyRequirement}
@@ -158,6 +222,27 @@ class Versions(unittest.TestCase):
                     for back in (*backs, copy.copy(value), copy.deepcopy([value])[0]):
                         self.assertEqual((back, str(back), type(back)), (value, str(value), type(value)))
                         self.assertEqual(getattr(back, "note", None), getattr(value, "note", None))
+
+    def test_slots_of_subclasses_are_kept(self):
+        for value in (Slotted("0:1.2"), SlottedRequirement(">=1.2,<2"), Deep("1.2.3")):
+            value.place, value.unset = ["here"], 1
+            del value.unset
+            if isinstance(value, Deep):
+                value.note, value.more = "noted", 7
+            backs = [pickle.loads(pickle.dumps(value, n)) for n in range(pickle.HIGHEST_PROTOCOL + 1)]
+            for back in (*backs, copy.copy(value), copy.deepcopy(value)):
+                with self.subTest(value=value):
+                    self.assertEqual((back, str(back), type(back)), (value, str(value), type(value)))
+                    self.assertEqual((back.place, hasattr(back, "unset")), (["here"], False))
+                    self.assertEqual(getattr(back, "note", None), getattr(value, "note", None))
+                    self.assertEqual(getattr(back, "more", None), getattr(value, "more", None))
+            self.assertIs(copy.copy(value).place, value.place)
+            self.assertIsNot(copy.deepcopy(value).place, value.place)
+
+    def test_a_subclass_may_say_what_is_pickled(self):
+        for n in range(pickle.HIGHEST_PROTOCOL + 1):
+            back = pickle.loads(pickle.dumps(Told("1.2", "mine"), n))
+            self.assertEqual((str(back), back.name, back.told), ("1.2", "mine", True))
 
     def test_weak_references(self):
         for make in (Version, MyVersion, Requirement, MyRequirement):
@@ -252,7 +337,8 @@ class Requirements(unittest.TestCase):
         for other in (None, 1.2, b"1.2", anything):
             self.assertRaises(TypeError, anything.matches, other)
             self.assertRaises(TypeError, anything.__contains__, other)
-            self.assertRaises(TypeError, anything.filter, ["1.2", other])
+            if other is not None:
+                self.assertRaises(TypeError, anything.filter, ["1.2", other])
 
     def test_filter(self):
         wanted = Requirement(">=1.1.1,<2.0.0")
@@ -260,6 +346,17 @@ class Requirements(unittest.TestCase):
         self.assertEqual(wanted.filter(versions), ["1.5", Version("1.1.1"), "2.0.0-rc.1"])
         self.assertEqual(wanted.filter(iter(["1.5", "1.0"])), ["1.5"])
         self.assertEqual(wanted.filter([]), [])
+        self.assertEqual(wanted.filter(versions=["1.5"]), ["1.5"])
+
+    def test_filter_returns_the_items_that_it_was_given(self):
+        # Of an exact range and of one that is not, by docs/REQUIREMENTS.md.
+        texts = "1.2", "1.2.3", "5.0", "1.5", "1.2.4"
+        items = [make(text) for text in texts for make in (Version, str)]
+        items[3:3] = [None, "1..2", float("nan")]
+        for requirement, matched in (("^1.2.3", ("1.2.3", "1.2.4")), ("~1.2", ("1.2", "1.5")), ("*", texts)):
+            right = [item for item in items if isinstance(item, (str, Version)) and str(item) in matched]
+            kept = Requirement(requirement).filter(iter(items))
+            self.assertEqual(list(map(id, kept)), list(map(id, right)), requirement)
 
     def test_is_a_value(self):
         wanted = Requirement("^1.2")

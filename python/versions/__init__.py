@@ -13,9 +13,9 @@ threads of Python go on.
 """
 
 from ._errors import InvalidRequirement, InvalidVersion
-from ._library import __version__, compare, compare_total, kind, kinds, sort_key, sort_keys
+from ._library import __version__, compare, compare_total, kind, kinds, match_all, sort_key, sort_keys
 from ._library import sorted as sorted
-from ._requirement import Requirement, match_all
+from ._requirement import Range, Requirement
 from ._version import Kind, Version
 
 # Without `sorted`, which would hide Python's own from `from versions import *`.
@@ -23,6 +23,7 @@ __all__ = [
     "InvalidRequirement",
     "InvalidVersion",
     "Kind",
+    "Range",
     "Requirement",
     "Version",
     "__version__",

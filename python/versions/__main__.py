@@ -73,8 +73,15 @@ def write_lines(lines: Iterable[bytes]) -> None:
         raise Fault("write failed", 3) from None
 
 
+def texts_of(words: list[str]) -> list[str]:
+    try:
+        return [os.fsencode(word).decode("utf-8") for word in words]
+    except UnicodeDecodeError:
+        raise Fault(USAGE, 2) from None
+
+
 def run(words: list[str]) -> None:
-    command = command_of(words)
+    command = command_of(texts_of(words))
     lines = read_lines()
     # A line that isn't UTF-8 becomes a text with lone surrogates, which is not a version.
     write_lines(command(lines, [line.decode("utf-8", "surrogateescape") for line in lines]))
@@ -89,7 +96,7 @@ def main(words: list[str]) -> int:
     except Fault as fault:
         text, status = fault.text, fault.status
     try:
-        os.write(2, os.fsencode(text) + b"\n")
+        os.write(2, text.encode("utf-8") + b"\n")
     except OSError:
         pass
     return status

@@ -2,14 +2,15 @@
 
 from __future__ import annotations
 
-from typing import Any, Literal, Optional
+from typing import Literal, Optional
 
 from . import _library
+from ._value import Value
 
 Kind = Literal["ideal", "general", "complex"]
 
 
-class Version(_library.Keyed):
+class Version(Value, _library.Keyed):
     """A version of any kind, which can't be changed. `InvalidVersion` where the text is not a version.
 
     Comparisons, `==` and hashes go by precedence, the one order of all versions, and so by `key`. The text stays as it
@@ -20,6 +21,8 @@ class Version(_library.Keyed):
     True
     >>> Version("1.0") == Version("0:1.0"), str(Version("0:1.0"))
     (True, '0:1.0')
+    >>> Version("1.2.3").kind, Version("1.2").kind, Version("1.2_3").kind
+    ('ideal', 'general', 'complex')
     >>> max(map(Version, ["1.9", "1.10", "1.10rc1"]))
     Version('1.10')
     >>> Version("1..2")
@@ -28,17 +31,6 @@ class Version(_library.Keyed):
     """
 
     __slots__ = ("__weakref__",)
-
-    @property
-    def kind(self) -> Kind:
-        """`'ideal'`, `'general'` or `'complex'`: the first kind that fits.
-
-        >>> Version("1.2.3").kind, Version("1.2").kind, Version("1.2_3").kind
-        ('ideal', 'general', 'complex')
-        """
-        found = _library.kind(self._text)
-        assert found is not None
-        return found
 
     @property
     def is_ideal(self) -> bool:
@@ -56,20 +48,49 @@ class Version(_library.Keyed):
         return self.kind == "complex"
 
     @property
-    def is_prerelease(self) -> Optional[bool]:
-        """Whether an ideal version is a pre-release, or None for a version of another kind.
+    def is_prerelease(self) -> bool:
+        """Whether it is ideal and has a pre-release. The text of another version doesn't say whether it is one.
 
         >>> Version("1.2.0-rc.1").is_prerelease, Version("1.2.0").is_prerelease, Version("1.2rc1").is_prerelease
-        (True, False, None)
+        (True, False, False)
         """
-        return _library.is_prerelease(self._text) if self.is_ideal else None
+        return _library.is_prerelease(self._text)
+
+    @property
+    def pre_release(self) -> Optional[str]:
+        """What follows the hyphen of an ideal version, or None.
+
+        >>> Version("1.2.0-rc.1+x86").pre_release, Version("1.2-1").pre_release
+        ('rc.1', None)
+        """
+        return _library.field(self._text, _library.PRE_RELEASE)
+
+    @property
+    def release(self) -> Optional[str]:
+        """What follows the hyphen of a general version, or None.
+
+        >>> Version("1.2-3.1").release, Version("1.2.0-rc.1").release
+        ('3.1', None)
+        """
+        return _library.field(self._text, _library.RELEASE)
+
+    @property
+    def metadata(self) -> Optional[str]:
+        """What follows the plus of an ideal or general version, or None.
+
+        >>> Version("1.2.0-rc.1+x86").metadata, Version("20.0026.1_0-2+0.93").metadata
+        ('x86', None)
+        """
+        return _library.field(self._text, _library.METADATA)
 
     @property
     def epoch(self) -> Optional[int]:
-        """The epoch of a general version, or None for a version without one.
+        """The number before the colon, which counts in the order, or None for a version without one.
 
-        >>> Version("1:2.0-3").epoch, Version("2.0-3").epoch
-        (1, None)
+        An ideal version has none. An epoch above 9223372036854775807 gives that number.
+
+        >>> Version("1:2.0-3").epoch, Version("8:2007f~dfsg-7").epoch, Version("2.0-3").epoch
+        (1, 8, None)
         """
         return _library.epoch(self._text)
 
@@ -111,12 +132,3 @@ class Version(_library.Keyed):
         (7, 2, 26)
         """
         return _library.nth(self._text, n)
-
-    def __repr__(self) -> str:
-        return f"{type(self).__name__}({self._text!r})"
-
-    def __format__(self, spec: str) -> str:
-        return format(self._text, spec)
-
-    def __reduce__(self) -> tuple[Any, ...]:
-        return type(self), (self._text,), getattr(self, "__dict__", None)

@@ -25,6 +25,7 @@ LIBRARY = Path(os.environ["C_LIBRARY"]).resolve()
 VERSION = re.search('^#define VERSIONS_VERSION "(.*)"$', (TOP / "c/versions.h").read_text(), re.M)[1]
 WHEEL = f"proved_versions-{VERSION}-cp39-abi3-manylinux2014_x86_64.whl"
 INFO = f"proved_versions-{VERSION}.dist-info"
+C_SOURCES = {file.name for file in (TOP / "python/versions").iterdir() if file.suffix in (".c", ".h")}
 SOURCES = {file.name for file in (TOP / "python/versions").iterdir() if file.suffix in (".py", ".pyi", ".typed")}
 # With no C_LIBRARY, and no folder in which pkg-config finds anything.
 NO_LIBRARY = {"PKG_CONFIG_LIBDIR": "/nowhere", "PKG_CONFIG_PATH": ""}
@@ -148,8 +149,9 @@ class SourceDistribution(Case):
         self.assertEqual([member.name for member in members if not (member.isfile() or member.isdir())], [])
         names = {member.name.partition("/")[2] for member in members if member.isfile()}
         top = {"LICENSE", "MANIFEST.in", "PKG-INFO", "README.md", "pyproject.toml", "setup.cfg", "setup.py"}
-        package = {f"versions/{name}" for name in SOURCES | {"_library.c"}}
+        package = {f"versions/{name}" for name in SOURCES | C_SOURCES}
         self.assertEqual({name for name in names if ".egg-info/" not in name}, top | package)
+        self.assertLessEqual({"_library.c", "_library.h", "_arrow.c"}, C_SOURCES)
 
 
 class Installing(Case):
@@ -260,7 +262,8 @@ class Installing(Case):
     def test_the_compiler_has_no_warning(self):
         flags = "-Wall", "-Wextra", "-Werror", "-fsyntax-only", "-DPy_LIMITED_API=0x03090000"
         include = f"-isystem{sysconfig.get_path('include')}"
-        self.succeeds("cc", *flags, include, f"-I{LIBRARY}", str(TOP / "python/versions/_library.c"))
+        sources = [str(TOP / "python/versions" / name) for name in sorted(C_SOURCES) if name.endswith(".c")]
+        self.succeeds("cc", *flags, include, f"-I{LIBRARY}", *sources)
 
 
 class Page(Case):

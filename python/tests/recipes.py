@@ -1,0 +1,113 @@
+"""The recipes of docs/PYTHON.md for pandas and for tables of pyarrow, run as they stand; and columns of pandas.
+
+    recipes.py
+
+Its Python has pandas and the package. Where that has no pyarrow, which Debian lacks, a stand-in of this file has its
+place. The last line is 'N passed, M failed'.
+"""
+
+import itertools
+import os
+import re
+import sys
+import unittest
+
+import pandas
+
+import arrow
+import versions
+
+try:
+    import pyarrow
+except ImportError:
+    pyarrow = None
+
+PAGE = os.path.join(os.path.dirname(os.path.abspath(__file__)), "..", "..", "docs", "PYTHON.md")
+TEXTS = ["1.10", None, "1.9", "x y", "1.2.3"]
+
+
+class Table:
+    """The calls of pyarrow.Table that the recipe makes, over columns that are Arrow streams."""
+
+    def __init__(self, columns):
+        self.columns = columns
+
+    def __getitem__(self, name):
+        texts = [text if text is None else text.encode() for text in self.columns[name]]
+        return arrow.Stream(arrow.Array(texts[:2]), arrow.Array(texts[2:]))
+
+    def append_column(self, name, chunks):
+        return Table({**self.columns, name: [value for chunk in chunks for value in chunk]})
+
+    def filter(self, mask):
+        assert all(type(each) is bool for each in mask)
+        return Table({name: list(itertools.compress(values, mask)) for name, values in self.columns.items()})
+
+    def to_pydict(self):
+        return self.columns
+
+
+def recipe(word):
+    """The one block of the page that has the word."""
+    with open(PAGE, encoding="utf-8") as page:
+        (block,) = (b for b in re.findall(r"^```python\n(.*?)^```$", page.read(), re.M | re.S) if word in b)
+    return block
+
+
+class Recipes(unittest.TestCase):
+    def test_pandas(self):
+        names = {}
+        exec(recipe("import pandas"), names)
+        self.assertEqual(list(names["table"]["version"]), TEXTS)
+        # What has no key comes last, in no order that pandas promises.
+        self.assertEqual(list(names["in_order"]["version"])[:3], ["1.2.3", "1.9", "1.10"])
+        self.assertEqual(set(names["in_order"]["version"][3:]), {None, "x y"})
+        self.assertEqual(dict(names["matched"]["version"]), {0: "1.10", 2: "1.9"})
+
+    def test_pyarrow(self):
+        table = pyarrow.table({"version": TEXTS}) if pyarrow else Table({"version": TEXTS})
+        names = {"table": table, "versions": versions}
+        exec(recipe("append_column"), names)
+        keys = [versions.sort_key(text) if text and text != "x y" else None for text in TEXTS]
+        self.assertEqual(names["with_keys"].to_pydict(), {"version": TEXTS, "key": keys})
+        self.assertEqual(names["matched"].to_pydict(), {"version": ["1.10", "1.9"]})
+
+
+class Columns(unittest.TestCase):
+    def test_missing_values_of_each_type(self):
+        kinds = ["general", None, "general", None, "ideal"]
+        for column in (
+            pandas.Series(TEXTS),
+            pandas.Series(TEXTS, dtype="string"),
+            pandas.Series(TEXTS, dtype="category"),
+            pandas.Series([float("nan") if text is None else text for text in TEXTS]),
+            pandas.Series([pandas.NA if text is None else text for text in TEXTS], index=list("edcba")),
+            pandas.Index(TEXTS),
+        ):
+            with self.subTest(column=column):
+                self.assertEqual(versions.kinds(column), kinds)
+                self.assertEqual([key is None for key in versions.sort_keys(column)], [k is None for k in kinds])
+                self.assertEqual(versions.match_all("<1.9", column), [False, None, False, None, True])
+                self.assertEqual(versions.Requirement(">=1.9").filter(column), ["1.10", "1.9"])
+
+    def test_columns_of_versions(self):
+        column = pandas.Series([versions.Version("1.10"), versions.Version("1.9"), None])
+        self.assertEqual(list(map(str, versions.Requirement("<1.10").filter(column))), ["1.9"])
+        self.assertEqual([str(version) for version in column.dropna().sort_values()], ["1.9", "1.10"])
+        self.assertEqual(versions.kinds(column), ["general", "general", None])
+
+    def test_no_rows(self):
+        for column in (pandas.Series([], dtype="string"), pandas.Series([], dtype=object)):
+            self.assertEqual(versions.sort_keys(column), [])
+            self.assertEqual(versions.Requirement("*").filter(column), [])
+
+    def test_numbers_are_no_texts(self):
+        self.assertRaises(TypeError, versions.kinds, pandas.Series([1.2, None]))
+        self.assertRaises(TypeError, versions.Requirement("*").filter, pandas.Series([1.2, None]))
+
+
+tests = unittest.defaultTestLoader.loadTestsFromModule(sys.modules["__main__"])
+result = unittest.TextTestRunner(sys.stdout).run(tests)
+failed = len({test.id().split(" ")[0] for test, _ in result.failures + result.errors})
+print(f"{result.testsRun - failed} passed, {failed} failed")
+sys.exit(failed > 0)

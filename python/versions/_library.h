@@ -1,0 +1,159 @@
+/*
+ * _library.h: what the C files of the extension share.
+ *
+ * _texts.c reads texts and raises errors, _values.c has the types of which Version and Requirement are made, _arrow.c
+ * reads Arrow arrays, and _library.c has the calls and the module. All of them ask versions.h what a version is, how
+ * versions compare and what matches.
+ *
+ * A function that fails raises an error of Python, and returns -1 or NULL. A pointer to a PyObject is borrowed, and one
+ * that a function returns is new, if its comment says nothing else.
+ */
+#ifndef VERSIONS_PYTHON_LIBRARY_H
+#define VERSIONS_PYTHON_LIBRARY_H
+
+#include <Python.h>
+
+#include "versions.h"
+
+/* Bytes that are not UTF-8, and so not a version. They stand for what is not a text of Unicode. */
+#define NOT_UTF8 "\xff"
+
+/* A function or method that takes names. */
+#define NAMED(function) ((PyCFunction)(void (*)(void))(function))
+
+/*
+ * Errors (_texts.c)
+ */
+
+/* Raises an error with words. What fails while they are made is raised instead; PyErr_Format loses it before 3.12. */
+void *fail(PyObject *type, const char *format, ...);
+
+/* Raises an error of the package that holds the text, InvalidVersion or InvalidRequirement. */
+void *raise_invalid(const char *name, PyObject *text);
+
+/* Raises what a status says that is not about a text. */
+void *raise_status(int status);
+
+/*
+ * One text (_texts.c)
+ */
+
+/* The bytes of a str in UTF-8, which the str owns. */
+struct text {
+  const char *bytes;
+  size_t size;
+};
+
+/* Reads a str. A text with a lone surrogate becomes NOT_UTF8. TypeError for what is not a str. */
+int read_text(PyObject *object, struct text *text);
+
+/*
+ * Lets the lock of Python (GIL) go if the library has more than 64 KiB to work on. Below that, letting it go and taking
+ * it again costs more than the work. take_again takes it again.
+ */
+PyThreadState *let_go(size_t size);
+void take_again(PyThreadState *thread);
+
+/*
+ * Reads the one argument of a call, or its two where b is not null. Python's own call for this, which also takes them
+ * by their names, takes longer than the comparison of two short texts.
+ */
+int read_arguments(PyObject *args, PyObject *named, const char *format, char **names, PyObject **a, PyObject **b);
+
+/*
+ * Many texts (_texts.c)
+ */
+
+/* Texts in one buffer, as versions.h describes them. Of Arrow, `validity` may have a bit for each, from `first` on. */
+struct texts {
+  const char *bytes;
+  size_t size;
+  const int64_t *offsets;
+  size_t count;
+  const uint8_t *validity;
+  size_t first;
+};
+
+/* Texts that grow, with the memory of the two arrays. It begins as zeros. */
+struct gathered {
+  char *bytes;
+  size_t size, room;
+  int64_t *offsets;
+  size_t count, places;
+};
+
+/* An array of `count` elements of `size` bytes and one more, so that it is never empty. PyMem_Free frees it. */
+void *allocated(size_t count, size_t size);
+
+PyThreadState *let_go_of(const struct texts *texts);
+
+/* Reads the text of a str or of a Version. */
+int read_item(PyObject *item, struct text *text);
+
+/* The same. Returns 1, or 0 for a missing value: None, NaN or the NA of pandas. */
+int read_item_or_none(PyObject *item, struct text *text);
+
+/* Adds a copy of a text to those that are gathered. */
+int add_text(struct gathered *gathered, const struct text *text);
+
+/* What the library is passed of the gathered texts, which it borrows. */
+struct texts texts_of(const struct gathered *gathered);
+
+void free_gathered(struct gathered *gathered);
+
+/* TypeError for one text where many are wanted. */
+int refuse_one(PyObject *texts);
+
+/*
+ * Values (_values.c)
+ */
+
+/* Bytes that compare by memcmp, a prefix first: a key or a bound. */
+struct ordered {
+  PyObject *bytes;        /* owned */
+  uint64_t first, second; /* their first sixteen as two numbers, with zeros for those that are missing */
+};
+
+/* A list of requirements, with the range of keys that it asks for. */
+struct range {
+  PyObject *text; /* owned */
+  struct text list;
+  struct ordered low, high; /* high.bytes is null if there is no high bound */
+  uint32_t flags;           /* of versions_range */
+};
+
+/* The names of the kinds, by their numbers. */
+extern const char *const kind_names[];
+
+/* The key of a version, and its kind. InvalidVersion for any other text. */
+PyObject *key_of(PyObject *object, uint8_t *kind);
+
+/* Reads a str as a list of requirements, or copies what a Requirement keeps. InvalidRequirement for any other text. */
+int read_range(PyObject *object, struct range *range);
+void clear_range(struct range *range);
+
+/* Writes for each of many texts whether it matches: 0, 1, or 2 if it is not a version. */
+int match_texts(const struct range *range, const struct texts *texts, uint8_t *answers);
+
+/* Whether an object is a Version, and the text of one, which is borrowed. */
+bool is_keyed(PyObject *object);
+PyObject *keyed_text(PyObject *keyed);
+
+/* The types Keyed and Ranged. */
+extern PyType_Spec keyed_spec, ranged_spec;
+
+/*
+ * Calls on many texts (_library.c, _arrow.c)
+ */
+
+/* A call on many texts: `ask` appends its answers about `texts` to `answers`. */
+struct call {
+  int (*ask)(const struct call *call, const struct texts *texts, PyObject *answers);
+  PyObject *const *kinds;     /* the answers of kinds, by the number of a kind */
+  const struct range *wanted; /* the requirement of match_all */
+};
+
+/* Makes a call on texts of Arrow. Returns 1, or 0 if the object has none. */
+int ask_arrow(const struct call *call, PyObject *object, PyObject *answers);
+
+#endif

@@ -1,0 +1,200 @@
+/* _texts.c: the texts of Python, one and many, as versions.h takes them; and errors. */
+#include "_library.h"
+
+#define LONG 65536
+
+/*
+ * CPython has it from 3.3 on, and in its stable ABI from 3.10 on. It calls no method of a subclass of str, and copies
+ * nothing of an ASCII text. Any other text keeps its bytes in UTF-8 from then on.
+ */
+PyAPI_FUNC(const char *) PyUnicode_AsUTF8AndSize(PyObject *text, Py_ssize_t *size);
+
+void *fail(PyObject *type, const char *format, ...) {
+  va_list arguments;
+  PyObject *words;
+
+  va_start(arguments, format);
+  words = PyUnicode_FromFormatV(format, arguments);
+  va_end(arguments);
+  if (words != NULL) PyErr_SetObject(type, words);
+  Py_XDECREF(words);
+  return NULL;
+}
+
+void *raise_invalid(const char *name, PyObject *text) {
+  PyObject *errors = PyImport_ImportModule("versions._errors");
+  PyObject *type = errors == NULL ? NULL : PyObject_GetAttrString(errors, name);
+  PyObject *exact = type == NULL ? NULL : PyUnicode_FromObject(text);
+
+  if (exact != NULL) PyErr_SetObject(type, exact);
+  Py_XDECREF(exact);
+  Py_XDECREF(type);
+  Py_XDECREF(errors);
+  return NULL;
+}
+
+static void raise_not_a_text(PyObject *object) {
+  PyObject *name = PyObject_GetAttrString((PyObject *)Py_TYPE(object), "__name__");
+
+  if (name != NULL) fail(PyExc_TypeError, "a text is a str, and this is of type %S: %R", name, object);
+  Py_XDECREF(name);
+}
+
+void *raise_status(int status) {
+  if (status == VERSIONS_BAD_OFFSETS)
+    return fail(PyExc_ValueError, "offsets of texts descend, are negative or leave their buffer");
+  return fail(PyExc_RuntimeError, "versions: the library returned status %d", status);
+}
+
+/*
+ * One text
+ */
+
+int read_text(PyObject *object, struct text *text) {
+  Py_ssize_t size;
+
+  if (!PyUnicode_Check(object)) {
+    raise_not_a_text(object);
+    return -1;
+  }
+  text->bytes = PyUnicode_AsUTF8AndSize(object, &size);
+  if (text->bytes != NULL) {
+    text->size = (size_t)size;
+    return 0;
+  }
+  /* A lone surrogate has no bytes in UTF-8. */
+  if (!PyErr_ExceptionMatches(PyExc_UnicodeEncodeError)) return -1;
+  PyErr_Clear();
+  text->bytes = NOT_UTF8;
+  text->size = sizeof NOT_UTF8 - 1;
+  return 0;
+}
+
+PyThreadState *let_go(size_t size) { return size > LONG ? PyEval_SaveThread() : NULL; }
+
+void take_again(PyThreadState *thread) {
+  if (thread != NULL) PyEval_RestoreThread(thread);
+}
+
+int read_arguments(PyObject *args, PyObject *named, const char *format, char **names, PyObject **a, PyObject **b) {
+  if (named != NULL || PyTuple_Size(args) != (b == NULL ? 1 : 2))
+    return PyArg_ParseTupleAndKeywords(args, named, format, names, a, b) ? 0 : -1;
+  *a = PyTuple_GetItem(args, 0);
+  if (b != NULL) *b = PyTuple_GetItem(args, 1);
+  return 0;
+}
+
+/*
+ * Many texts
+ */
+
+void *allocated(size_t count, size_t size) {
+  void *array = count < PY_SSIZE_T_MAX / size ? PyMem_Malloc((count + 1) * size) : NULL;
+
+  return array != NULL ? array : (void *)PyErr_NoMemory();
+}
+
+PyThreadState *let_go_of(const struct texts *texts) {
+  return let_go(texts->count > LONG ? texts->count : texts->size);
+}
+
+/* Whether an item is a missing value: None, a float that is not a number, or the NA of pandas where that is loaded. */
+static int is_missing(PyObject *item) {
+  PyObject *name, *pandas, *missing;
+  int answer;
+
+  if (item == Py_None) return 1;
+  if (PyFloat_Check(item)) {
+    double number = PyFloat_AsDouble(item);
+
+    return number != number;
+  }
+  name = PyUnicode_FromString("pandas");
+  if (name == NULL) return -1;
+  pandas = PyImport_GetModule(name);
+  Py_DECREF(name);
+  if (pandas == NULL) return PyErr_Occurred() ? -1 : 0;
+  missing = PyObject_GetAttrString(pandas, "NA");
+  Py_DECREF(pandas);
+  if (missing == NULL) {
+    if (!PyErr_ExceptionMatches(PyExc_AttributeError)) return -1;
+    PyErr_Clear();
+  }
+  answer = item == missing;
+  Py_XDECREF(missing);
+  return answer;
+}
+
+int read_item(PyObject *item, struct text *text) {
+  return read_text(!PyUnicode_Check(item) && is_keyed(item) ? keyed_text(item) : item, text);
+}
+
+int read_item_or_none(PyObject *item, struct text *text) {
+  if (!PyUnicode_Check(item) && !is_keyed(item)) {
+    int missing = is_missing(item);
+
+    if (missing != 0) return missing < 0 ? -1 : 0;
+  }
+  return read_item(item, text) < 0 ? -1 : 1;
+}
+
+/* Makes an array twice as long until it has `wanted` elements of `size` bytes. */
+static int grow(void **array, size_t *room, size_t wanted, size_t size) {
+  size_t more = *room < 64 ? 64 : *room;
+  void *grown;
+
+  while (more < wanted && more < PY_SSIZE_T_MAX / 2) more *= 2;
+  grown = more < wanted || more > PY_SSIZE_T_MAX / size ? NULL : PyMem_Realloc(*array, more * size);
+  if (grown == NULL) {
+    PyErr_NoMemory();
+    return -1;
+  }
+  *array = grown;
+  *room = more;
+  return 0;
+}
+
+/* Room for one more text of that size, and for the offset of the next. */
+static int make_room(struct gathered *gathered, size_t size) {
+  void *memory = gathered->bytes, *offsets = gathered->offsets;
+
+  if (gathered->size + size + 1 > gathered->room) {
+    if (grow(&memory, &gathered->room, gathered->size + size + 1, 1) < 0) return -1;
+    gathered->bytes = memory;
+  }
+  if (gathered->count + 2 > gathered->places) {
+    if (grow(&offsets, &gathered->places, gathered->count + 2, sizeof *gathered->offsets) < 0) return -1;
+    gathered->offsets = offsets;
+  }
+  return 0;
+}
+
+int add_text(struct gathered *gathered, const struct text *text) {
+  if (make_room(gathered, text->size) < 0) return -1;
+  gathered->offsets[gathered->count++] = (int64_t)gathered->size;
+  memcpy(gathered->bytes + gathered->size, text->bytes, text->size);
+  gathered->size += text->size;
+  return 0;
+}
+
+struct texts texts_of(const struct gathered *gathered) {
+  static const int64_t no_offsets[] = {0};
+  struct texts texts = {gathered->bytes, gathered->size, no_offsets, gathered->count, NULL, 0};
+
+  if (gathered->count > 0) {
+    gathered->offsets[gathered->count] = (int64_t)gathered->size;
+    texts.offsets = gathered->offsets;
+  }
+  return texts;
+}
+
+void free_gathered(struct gathered *gathered) {
+  PyMem_Free(gathered->bytes);
+  PyMem_Free(gathered->offsets);
+}
+
+int refuse_one(PyObject *texts) {
+  if (!PyUnicode_Check(texts) && !PyBytes_Check(texts)) return 0;
+  fail(PyExc_TypeError, "many texts are wanted, and this is one: %R", texts);
+  return -1;
+}
