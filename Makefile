@@ -17,12 +17,18 @@ sources = $(shell find $(addprefix crates/,$(1)) -name out -prune -o -type f -pr
 
 ifndef C_LIBRARY
 C_LIBRARY := c/out
-$(C_LIBRARY)/versions.pc: crates.txt c/build c/versions.c c/versions.h $(call sources,version_parts versions version_texts versions_c)
-	c/build $(C_LIBRARY)
+header := c/versions.h
+built := c/out/versions.pc
+c/out/versions.pc: crates.txt c/build c/pkg-config-file c/versions.c c/versions.h \
+  $(call sources,version_parts versions version_texts versions_c)
+	c/build c/out
+else
+header := $$C_LIBRARY/versions.h
 endif
 
 ifndef VERS
 VERS := crates/vers/out/vers
+built += $(VERS)
 $(VERS): crates.txt $(call sources,version_parts versions version_texts version_lines vers)
 	cd crates/vers && rt run </dev/null
 	touch $(VERS)
@@ -31,36 +37,39 @@ endif
 # Two proofs cannot run in one crate at once.
 .NOTPARALLEL:
 .DEFAULT_GOAL := all
-.PHONY: all install uninstall
-all: $(C_LIBRARY)/versions.pc $(VERS) $(EXTENSION)
+.PHONY: all extension folders install uninstall
+all: extension
 
-$(EXTENSION): sqlite/build sqlite/versions.c $(C_LIBRARY)/versions.pc
-	C_LIBRARY='$(C_LIBRARY)' sqlite/build $(@D)
+# It takes a second and contains the library, which may be another one each time: so it is built each time.
+extension: $(built)
+	C_LIBRARY="$$C_LIBRARY" sqlite/build "$$(dirname "$$EXTENSION")"
 
-# The folders. versions.pc names them by paths relative to its own, so that the installed tree can be moved.
-bin = $(DESTDIR)$(BINDIR)
-lib = $(DESTDIR)$(LIBDIR)
-include = $(DESTDIR)$(INCLUDEDIR)
-man = $(DESTDIR)$(MANDIR)
-version = $(shell sed -n 's/^Version: //p' $(C_LIBRARY)/versions.pc)
-from_pc = $${pcfiledir}/$(shell realpath -ms --relative-to='$(LIBDIR)/pkgconfig' '$(1)')
+# Folders reach the shell as variables, so that it takes each as it is.
+export PREFIX BINDIR LIBDIR INCLUDEDIR MANDIR DESTDIR C_LIBRARY VERS EXTENSION
+bin := "$$DESTDIR$$BINDIR"
+lib := "$$DESTDIR$$LIBDIR"
+include := "$$DESTDIR$$INCLUDEDIR"
+man := "$$DESTDIR$$MANDIR"
+pc := c/pkg-config-file "$(header)" "$$LIBDIR/pkgconfig" "$$PREFIX" "$$LIBDIR" "$$INCLUDEDIR"
+library := "libversions.so.$$(sed -n 's/^\#define VERSIONS_VERSION "\(.*\)"$$/\1/p' "$(header)")"
 
-install: all
-	install -d '$(bin)' '$(lib)/pkgconfig' '$(lib)/sqlite3' '$(include)' '$(man)/man1' '$(man)/man3'
-	install -m 755 $(VERS) '$(bin)/vers'
-	install -m 644 $(C_LIBRARY)/versions.h '$(include)/versions.h'
-	install -m 644 $(C_LIBRARY)/libversions.a '$(lib)/libversions.a'
-	install -m 644 $(C_LIBRARY)/libversions.so.0 '$(lib)/libversions.so.$(version)'
-	ln -sf libversions.so.$(version) '$(lib)/libversions.so.0'
-	ln -sf libversions.so.0 '$(lib)/libversions.so'
-	sed -e 's|^prefix=.*|prefix=$(call from_pc,$(PREFIX))|' -e 's|^libdir=.*|libdir=$(call from_pc,$(LIBDIR))|' \
-	  -e 's|^includedir=.*|includedir=$(call from_pc,$(INCLUDEDIR))|' $(C_LIBRARY)/versions.pc | \
-	  install -m 644 /dev/stdin '$(lib)/pkgconfig/versions.pc'
-	install -m 644 $(EXTENSION) '$(lib)/sqlite3/versions.so'
-	install -m 644 docs/man/vers.1 '$(man)/man1/vers.1'
-	install -m 644 docs/man/versions.3 '$(man)/man3/versions.3'
+# What can't be installed is refused before anything is.
+folders:
+	@$(pc) >/dev/null
+
+install: folders all
+	install -d $(bin) $(lib)/pkgconfig $(lib)/sqlite3 $(include) $(man)/man1 $(man)/man3
+	install -m 755 "$$VERS" $(bin)/vers
+	install -m 644 "$$C_LIBRARY/versions.h" $(include)/versions.h
+	install -m 644 "$$C_LIBRARY/libversions.a" $(lib)/libversions.a
+	install -m 644 "$$C_LIBRARY/libversions.so.0" $(lib)/$(library)
+	ln -sf $(library) $(lib)/libversions.so.0
+	ln -sf libversions.so.0 $(lib)/libversions.so
+	$(pc) | install -m 644 /dev/stdin $(lib)/pkgconfig/versions.pc
+	install -m 644 "$$EXTENSION" $(lib)/sqlite3/versions.so
+	install -m 644 docs/man/vers.1 $(man)/man1/vers.1
+	install -m 644 docs/man/versions.3 $(man)/man3/versions.3
 
 uninstall:
-	rm -f '$(bin)/vers' '$(include)/versions.h' '$(lib)/libversions.a' '$(lib)/libversions.so' \
-	  '$(lib)/libversions.so.0' '$(lib)'/libversions.so.0.* '$(lib)/pkgconfig/versions.pc' \
-	  '$(lib)/sqlite3/versions.so' '$(man)/man1/vers.1' '$(man)/man3/versions.3'
+	rm -f $(bin)/vers $(include)/versions.h $(lib)/libversions.a $(lib)/libversions.so $(lib)/libversions.so.0 \
+	  $(lib)/$(library) $(lib)/pkgconfig/versions.pc $(lib)/sqlite3/versions.so $(man)/man1/vers.1 $(man)/man3/versions.3

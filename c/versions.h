@@ -6,7 +6,7 @@
  *
  * Texts. A text is a pointer and a length in bytes. It may contain any bytes, byte 0 included, and needs no byte 0
  * after it. Every text of every length gets an answer; a text that is not UTF-8 is not a version. A version has the
- * first of three kinds whose grammar it matches: ideal (strict, as in SemVer 2.0), general, complex (messy).
+ * first of three kinds whose grammar it matches: strict (called ideal), general, messy (called complex).
  *
  * Many texts. The texts lie in one buffer, as in a large binary array of Apache Arrow: with n + 1 offsets, the text at
  * place i is the bytes from offsets[i] up to, but without, offsets[i + 1]. Offsets are not negative, do not descend and
@@ -74,9 +74,9 @@ extern "C" {
 #define VERSIONS_FIELD_METADATA 4    /* what follows the plus of a strict or general version: x86 of 1.2.3-rc.1+x86 */
 
 /* The flags of a range. */
-#define VERSIONS_RANGE_IDEAL 1   /* ideal versions are in the range */
+#define VERSIONS_RANGE_IDEAL 1   /* strict versions are in the range */
 #define VERSIONS_RANGE_GENERAL 2 /* general versions are in the range */
-#define VERSIONS_RANGE_COMPLEX 4 /* complex versions are in the range */
+#define VERSIONS_RANGE_COMPLEX 4 /* messy versions are in the range */
 #define VERSIONS_RANGE_HIGH 8    /* the range has a high bound */
 #define VERSIONS_RANGE_EXACT 16  /* the list matches every version in the range */
 

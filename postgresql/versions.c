@@ -100,6 +100,20 @@ static void report_damage(Span span) {
 
 /* Keys. */
 
+/*
+ * The longest text that a key is made of, or a range of keys, in bytes. A statement can't be cancelled while the library
+ * reads a text: this one takes it a few seconds. A key has at most three bytes for each of the text.
+ */
+enum { LONGEST_WITH_KEY = 16 * 1024 * 1024 };
+
+static void fail_if_too_long(Span span) {
+  if (span.len > LONGEST_WITH_KEY) {
+    ereport(ERROR, (errcode(ERRCODE_PROGRAM_LIMIT_EXCEEDED),
+                    errmsg("a text of %zu bytes is too long for a sort key", span.len),
+                    errdetail("Sort keys are made of texts of at most %d bytes.", LONGEST_WITH_KEY)));
+  }
+}
+
 /* Room for nearly every key. */
 typedef union {
   bytea key;
@@ -110,7 +124,9 @@ typedef union {
 static bytea *key_of(Span span, KeyRoom *room) {
   bytea *key = &room->key;
   size_t len;
-  int status =
+  int status;
+  fail_if_too_long(span);
+  status =
       versions_sort_key(span.bytes, span.len, (uint8_t *)VARDATA(key), sizeof room->bytes - VARHDRSZ, &len);
   if (status == VERSIONS_NO_ROOM) {
     key = palloc(VARHDRSZ + len);
@@ -500,7 +516,9 @@ static bytea *requirement_from(Span list) {
   RequirementHead head;
   bytea *value;
   char *end;
-  int status = versions_range(list.bytes, list.len, low, sizeof low_room, &low_len, high, sizeof high_room, &high_len,
+  int status;
+  fail_if_too_long(list);
+  status = versions_range(list.bytes, list.len, low, sizeof low_room, &low_len, high, sizeof high_room, &high_len,
                               &flags);
   if (status == VERSIONS_NO_ROOM) {
     low = palloc(low_len);

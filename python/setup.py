@@ -45,8 +45,10 @@ def library():
     elif HERE.name == "python" and in_tree.is_dir():
         include = folder = in_tree
     else:
+        # pkg-config writes a backslash before each space.
         include, folder = (
-            Path(said_by("pkg-config", f"--variable={name}", "versions")) for name in ("includedir", "libdir")
+            Path(said_by("pkg-config", f"--variable={name}", "versions").replace("\\ ", " "))
+            for name in ("includedir", "libdir")
         )
         if folder == Path():
             stop("the library for C was not found: set C_LIBRARY to the folder that c/build has built it in")

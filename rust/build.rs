@@ -75,6 +75,7 @@ fn by_pkg_config() -> Option<String> {
         .output()
         .ok()?;
     let folder = String::from_utf8(said.stdout).ok()?;
-    let folder = folder.trim_end_matches('\n');
-    (said.status.success() && !folder.is_empty()).then(|| folder.to_string())
+    // pkg-config writes a backslash before each space.
+    let folder = folder.trim_end_matches('\n').replace("\\ ", " ");
+    (said.status.success() && !folder.is_empty()).then_some(folder)
 }

@@ -23,15 +23,7 @@
 #include <sys/mman.h>
 #include <unistd.h>
 
-static int failures;
-
-#define CHECK(holds) \
-  do { \
-    if (!(holds)) { \
-      failures++; \
-      fprintf(stderr, "FAILED: line %d: %s\n", __LINE__, #holds); \
-    } \
-  } while (0)
+#include "support/check.h"
 
 // Memory that ends at a page that may be neither read nor written. So an access one byte too far ends the program, even
 // in the library, which the sanitizers do not see into. The address and the length of the mapping are stored before it.
@@ -816,14 +808,13 @@ static void worked_epochs(void) {
   }
 }
 
-static void edges(void) {
-  // Null pointers to empty texts, and bytes that are not UTF-8.
+// Null pointers to empty texts, and bytes that are not UTF-8.
+static void no_versions(void) {
   int32_t order = 77;
   bool matches = true;
   uint32_t number = 77;
   size_t length = 77;
-  uint8_t answers[4] = {77, 77, 77, 77}, kind = 77;
-  int64_t key_offsets[5] = {77, 77, 77, 77, 77};
+  uint8_t bytes[4] = {77, 77, 77, 77}, kind = 77;
   CHECK(versions_kind(NULL, 0) == VERSIONS_NONE);
   CHECK(versions_kind("", 0) == VERSIONS_NONE);
   CHECK(versions_kind("1.2.3", 5) == VERSIONS_IDEAL);
@@ -840,10 +831,10 @@ static void edges(void) {
   CHECK(versions_compare_total("\xff", 1, NULL, 0, &order) == VERSIONS_NO_VERSION_AB);
   CHECK(order == 77);
   CHECK(versions_sort_key(NULL, 0, NULL, 0, &length) == VERSIONS_NO_VERSION);
-  CHECK(versions_sort_key("\xff", 1, answers, 4, &length) == VERSIONS_NO_VERSION);
+  CHECK(versions_sort_key("\xff", 1, bytes, 4, &length) == VERSIONS_NO_VERSION);
   CHECK(versions_parse(NULL, 0, &kind, NULL, 0, &length) == VERSIONS_NO_VERSION);
-  CHECK(versions_parse("\xff", 1, &kind, answers, 4, &length) == VERSIONS_NO_VERSION);
-  CHECK(length == 77 && kind == 77 && answers[0] == 77);
+  CHECK(versions_parse("\xff", 1, &kind, bytes, 4, &length) == VERSIONS_NO_VERSION);
+  CHECK(length == 77 && kind == 77 && bytes[0] == 77);
   CHECK(versions_matches(NULL, 0, "1", 1, &matches) == VERSIONS_NO_REQUIREMENTS);
   CHECK(versions_matches("\xff", 1, "1", 1, &matches) == VERSIONS_NO_REQUIREMENTS);
   CHECK(versions_matches("*", 1, NULL, 0, &matches) == VERSIONS_NO_VERSION);
@@ -852,13 +843,30 @@ static void edges(void) {
   CHECK(versions_nth(NULL, 0, 0, &number) == VERSIONS_NO_VERSION);
   CHECK(versions_nth("1.2.3", 5, SIZE_MAX, &number) == VERSIONS_NO_NUMBER);
   CHECK(number == 77);
+}
 
-  // A tie of precedence, broken by kind or field by field; metadata of strict versions breaks no tie.
-  CHECK(versions_compare("1.0", 3, "0:1.0", 5, &order) == VERSIONS_OK && order == 0);
-  CHECK(versions_compare_total("1.0", 3, "0:1.0", 5, &order) == VERSIONS_OK && order == -1);
-  CHECK(versions_compare_total("1.0.0+a", 7, "1.0.0+b", 7, &order) == VERSIONS_OK && order == 0);
+// Two versions of one key, and the total order of them: by the rows of docs/ORDER.md, "Ties".
+static void ties(void) {
+  static const struct {
+    const char *first, *second;
+    int32_t total;
+  } worked[] = {
+      {"1.0", "0:1.0", -1},      {"1.0", "1.0+x", -1},      {"1.2", "1.002", -1},       {"1.0+a", "1.0+b", -1},
+      {"1.0.0", "0:1.0.0", -1},  {"1.0.0", "1.0.0+a", 0},   {"1.0.0+a", "1.0.0+b", 0},  {"1.2.3-a", "1.2.3-a+b", 0},
+      {"1.2.3-1", "1.2.3-1", 0},
+  };
+  for (size_t i = 0; i < sizeof worked / sizeof *worked; i++) {
+    const char *a = worked[i].first, *b = worked[i].second;
+    int32_t order = 77;
+    CHECK(versions_compare(a, strlen(a), b, strlen(b), &order) == VERSIONS_OK && order == 0);
+    CHECK(versions_compare_total(a, strlen(a), b, strlen(b), &order) == VERSIONS_OK && order == worked[i].total);
+    CHECK(versions_compare_total(b, strlen(b), a, strlen(a), &order) == VERSIONS_OK && order == -worked[i].total);
+  }
+}
 
-  // Numbers, from the rows of docs/GRAMMAR.md.
+// By the rows of docs/GRAMMAR.md.
+static void worked_numbers(void) {
+  uint32_t number = 77;
   CHECK(versions_nth("1:2.a.4.5.6.7-r1", 16, 1, &number) == VERSIONS_NO_NUMBER && number == 77);
   CHECK(versions_nth("1:2.a.4.5.6.7-r1", 16, 0, &number) == VERSIONS_OK && number == 2);
   CHECK(versions_nth("1:2.a.4.5.6.7-r1", 16, 2, &number) == VERSIONS_OK && number == 4);
@@ -869,9 +877,11 @@ static void edges(void) {
   CHECK(versions_nth("1.7d-15", 7, 1, &number) == VERSIONS_OK && number == 7);
   CHECK(versions_nth("2rc1", 4, 0, &number) == VERSIONS_OK && number == 2);
   CHECK(versions_nth("1.7d.3", 6, 1, &number) == VERSIONS_NO_NUMBER && number == 2);
+}
 
-  // Pre-releases, which strict versions alone are. Metadata is none.
-  matches = true;
+// Strict versions alone are pre-releases. Metadata is none.
+static void worked_prereleases(void) {
+  bool matches = true;
   CHECK(versions_is_prerelease("", 0, &matches) == VERSIONS_NO_VERSION && matches);
   CHECK(versions_is_prerelease("1.2.3-", 6, &matches) == VERSIONS_NO_VERSION && matches);
   CHECK(versions_is_prerelease("1.2.3", 5, &matches) == VERSIONS_OK && !matches);
@@ -880,17 +890,25 @@ static void edges(void) {
   CHECK(versions_is_prerelease("1.2.3-0+a", 9, &matches) == VERSIONS_OK && matches);
   CHECK(versions_is_prerelease("1.2-1", 5, &matches) == VERSIONS_OK && !matches);
   CHECK(versions_is_prerelease("1.2.3-06", 8, &matches) == VERSIONS_OK && !matches);
+}
 
-  // Buffer sizes. Of the texts of three bytes, 1_1 has the longest key.
+// Of the texts of three bytes, 1_1 has the longest key.
+static void buffer_sizes(void) {
+  size_t length = 77;
   CHECK(versions_sort_key_bound(0) == 5);
   CHECK(versions_sort_key_bound(3) == 14);
   CHECK(versions_sort_key("1_1", 3, NULL, 0, &length) == VERSIONS_NO_ROOM && length == 14);
   CHECK(versions_sort_key_bound((SIZE_MAX - 5) / 3) == (SIZE_MAX - 5) / 3 * 3 + 5);
   CHECK(versions_sort_key_bound(SIZE_MAX / 3 + 1) == SIZE_MAX);
   CHECK(versions_sort_key_bound(SIZE_MAX) == SIZE_MAX);
+}
 
-  // No texts, and texts that do not start at the beginning of the buffer.
-  const int64_t one_offset[] = {0}, apart[] = {3, 8, 8, 11}, last[] = {8};
+static const int64_t one_offset[] = {0}, apart[] = {3, 8, 8, 11}, last[] = {8};
+
+// No texts, and texts that do not start at the beginning of the buffer.
+static void few_texts(void) {
+  uint8_t answers[4] = {77, 77, 77, 77};
+  int64_t key_offsets[1] = {77};
   CHECK(versions_kinds(NULL, 0, one_offset, 1, NULL, 0) == VERSIONS_OK);
   CHECK(versions_match_all("*", 1, NULL, 0, one_offset, 1, NULL, 0) == VERSIONS_OK);
   CHECK(versions_sort_keys(NULL, 0, one_offset, 1, NULL, 0, key_offsets, 1) == VERSIONS_OK && key_offsets[0] == 0);
@@ -908,9 +926,12 @@ static void edges(void) {
   CHECK(answers[0] == 1 && answers[1] == 2 && answers[2] == 0 && answers[3] == 77);
   CHECK(versions_match_all("<1.2.3", 6, "???1.2.31.2???", 14, apart, 4, answers, 3) == VERSIONS_OK);
   CHECK(answers[0] == 0 && answers[1] == 2 && answers[2] == 1 && answers[3] == 77);
+}
 
-  // Sorted places of no text, of one text, and of texts that are not versions, which need no key buffer.
+// Sorted places of no text, of one text, and of texts that are not versions, which need no key buffer.
+static void sorted_places(void) {
   const int64_t nowhere[] = {0, 0, 0, 0};
+  int64_t key_offsets[5] = {77, 77, 77, 77, 77};
   uint64_t places[4] = {77, 77, 77, 77};
   CHECK(versions_sort(NULL, 0, one_offset, 1, NULL, 0, key_offsets, 1, NULL, 0) == VERSIONS_OK);
   CHECK(versions_sort("1.2.31.2", 8, last, 1, NULL, 0, key_offsets, 1, NULL, 0) == VERSIONS_OK);
@@ -927,12 +948,15 @@ static void edges(void) {
   const uint64_t ties_broken[] = {2, 4, 0, 3, 5, 1, 6}, twice_in_turn[] = {1, 4, 0, 2, 3};
   sorted("0:1.0?1.01.0.1+b1.01.0.1+a", ties, 7, ties_broken);
   sorted("2.0.01.02.0.0?1.0", twice, 5, twice_in_turn);
+}
 
-  // Any other number of key offsets or of places is an error.
+// Any other number of key offsets or of places is an error.
+static void refused_lengths(void) {
   const int64_t two[] = {0, 5, 8};
+  int64_t key_offsets[5] = {77, 77, 77, 77, 77};
+  uint64_t places[4] = {77, 77, 77, 77};
   uint8_t room[64];
   memset(room, 77, sizeof room);
-  for (int i = 0; i < 5; i++) key_offsets[i] = 77;
   for (size_t more = 0; more < 5; more++) {
     for (size_t many = 0; many < 5; many++) {
       if (more == 3 && many == 2) continue;
@@ -940,11 +964,13 @@ static void edges(void) {
             VERSIONS_BAD_OFFSETS);
     }
   }
-  CHECK(places[0] == 0 && places[1] == 1 && places[2] == 2 && places[3] == 77);
+  for (int i = 0; i < 4; i++) CHECK(places[i] == 77);
   for (size_t i = 0; i < sizeof room; i++) CHECK(room[i] == 77);
   for (int i = 0; i < 5; i++) CHECK(key_offsets[i] == 77);
+}
 
-  // Offsets that are bad in each way, and arrays whose lengths do not match.
+// Offsets that are bad in each way, and arrays whose lengths do not match.
+static void bad_offsets(void) {
   const int64_t negative[] = {-1, 5, 8}, lowest[] = {INT64_MIN, 5, 8}, descending[] = {5, 0, 8}, past[] = {0, 5, 9},
                 largest[] = {0, 5, INT64_MAX}, negative_last[] = {0, 5, -1}, good[] = {0, 5, 8}, nothing[] = {-1};
   refused_offsets(negative, 3, 2);
@@ -958,14 +984,18 @@ static void edges(void) {
   refused_offsets(good, 3, 1);
   refused_offsets(good, 3, 0);
   refused_offsets(good, 0, 0);
+}
 
-  // Every status has its own text.
+// Every status has its own text.
+static void statuses(void) {
   for (int a = VERSIONS_OK; a <= VERSIONS_NO_FIELD + 1; a++) {
     CHECK(strlen(versions_status_text(a)) > 5);
     for (int b = VERSIONS_OK; b < a; b++) CHECK(strcmp(versions_status_text(a), versions_status_text(b)) != 0);
   }
+}
 
-  // The version, and the processor, on which all other calls run.
+// The version, and the processor, on which all other calls run.
+static void library(void) {
   char version[40];
   snprintf(version, sizeof version, "%d.%d.%d", VERSIONS_VERSION_MAJOR, VERSIONS_VERSION_MINOR, VERSIONS_VERSION_PATCH);
   CHECK(strcmp(version, VERSIONS_VERSION) == 0);
@@ -1340,10 +1370,20 @@ static void without_memory(const struct lines *lines) {
 int main(int count, char **words) {
   const char *word = count > 1 ? words[1] : "";
   if (strcmp(word, "edges") == 0) {
-    edges();
+    no_versions();
+    ties();
+    worked_numbers();
+    worked_prereleases();
     worked_fields();
     worked_epochs();
+    buffer_sizes();
+    few_texts();
+    sorted_places();
+    refused_lengths();
+    bad_offsets();
     refused_null_pointers();
+    statuses();
+    library();
   } else if (strcmp(word, "long") == 0) {
     long_texts();
   } else if (strcmp(word, "many") == 0) {

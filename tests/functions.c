@@ -1,7 +1,8 @@
 // Tests c/versions.c alone: what its functions pass to the proved functions, which are replaced here, and the result of
 // versions_processor_suffices on processors that lack an instruction. tests/c compiles and runs it.
 #include <cpuid.h>
-#include <stdio.h>
+
+#include "support/check.h"
 
 // The simulated processor: the register ecx for the CPUID leaves 1 and 0x80000001, and whether it has these leaves.
 static unsigned features, more_features;
@@ -16,20 +17,12 @@ static int answered(unsigned leaf, unsigned *eax, unsigned *ebx, unsigned *ecx, 
 #define __get_cpuid answered
 #include "../c/versions.c"
 
-static int failures;
-
-static void check(const char *name, bool holds) {
-  if (holds) return;
-  failures++;
-  fprintf(stderr, "FAILED: %s\n", name);
-}
-
 // Replacements of the proved functions. No pointer may be null or misaligned.
 enum { PASSED = 55 };
 
 static void check_pointer(const void *pointer) {
-  check("a pointer is not null", pointer != NULL);
-  check("a pointer is aligned", (uintptr_t)pointer % sizeof(uint64_t) == 0);
+  CHECK(pointer != NULL);
+  CHECK((uintptr_t)pointer % sizeof(uint64_t) == 0);
 }
 
 int proved_versions_kind(const char *text, size_t text_len) {
@@ -148,24 +141,24 @@ static void null_pointers(void) {
   uint8_t kind;
   uint32_t number, flags;
   uint64_t epoch;
-  check("kind", versions_kind(NULL, 0) == PASSED);
-  check("compare", versions_compare(NULL, 0, NULL, 0, &order) == PASSED);
-  check("compare_total", versions_compare_total(NULL, 0, NULL, 0, &order) == PASSED);
-  check("sort_key", versions_sort_key(NULL, 0, NULL, 0, &length) == PASSED);
-  check("parse", versions_parse(NULL, 0, &kind, NULL, 0, &length) == PASSED);
-  check("sort_key_bound", versions_sort_key_bound(77) == 77);
-  check("matches", versions_matches(NULL, 0, NULL, 0, &matches) == PASSED);
-  check("range", versions_range(NULL, 0, NULL, 0, &length, NULL, 0, &length, &flags) == PASSED);
-  check("in_range", versions_in_range(NULL, 0, NULL, 0, NULL, 0, 9, &matches) == PASSED);
-  check("nth", versions_nth(NULL, 0, 7, &number) == PASSED);
-  check("epoch", versions_epoch(NULL, 0, &epoch) == PASSED);
-  check("field", versions_field(NULL, 0, 8, &length, &end) == PASSED);
-  check("is_prerelease", versions_is_prerelease(NULL, 0, &matches) == PASSED);
-  check("kinds", versions_kinds(NULL, 0, NULL, 0, NULL, 0) == PASSED);
-  check("sort_keys", versions_sort_keys(NULL, 0, NULL, 0, NULL, 0, NULL, 0) == PASSED);
-  check("sort", versions_sort(NULL, 0, NULL, 0, NULL, 0, NULL, 0, NULL, 0) == PASSED);
-  check("match_all", versions_match_all(NULL, 0, NULL, 0, NULL, 0, NULL, 0) == PASSED);
-  check("in_range_all", versions_in_range_all(NULL, 0, NULL, 0, NULL, 0, NULL, 0, 9, NULL, 0) == PASSED);
+  CHECK(versions_kind(NULL, 0) == PASSED);
+  CHECK(versions_compare(NULL, 0, NULL, 0, &order) == PASSED);
+  CHECK(versions_compare_total(NULL, 0, NULL, 0, &order) == PASSED);
+  CHECK(versions_sort_key(NULL, 0, NULL, 0, &length) == PASSED);
+  CHECK(versions_parse(NULL, 0, &kind, NULL, 0, &length) == PASSED);
+  CHECK(versions_sort_key_bound(77) == 77);
+  CHECK(versions_matches(NULL, 0, NULL, 0, &matches) == PASSED);
+  CHECK(versions_range(NULL, 0, NULL, 0, &length, NULL, 0, &length, &flags) == PASSED);
+  CHECK(versions_in_range(NULL, 0, NULL, 0, NULL, 0, 9, &matches) == PASSED);
+  CHECK(versions_nth(NULL, 0, 7, &number) == PASSED);
+  CHECK(versions_epoch(NULL, 0, &epoch) == PASSED);
+  CHECK(versions_field(NULL, 0, 8, &length, &end) == PASSED);
+  CHECK(versions_is_prerelease(NULL, 0, &matches) == PASSED);
+  CHECK(versions_kinds(NULL, 0, NULL, 0, NULL, 0) == PASSED);
+  CHECK(versions_sort_keys(NULL, 0, NULL, 0, NULL, 0, NULL, 0) == PASSED);
+  CHECK(versions_sort(NULL, 0, NULL, 0, NULL, 0, NULL, 0, NULL, 0) == PASSED);
+  CHECK(versions_match_all(NULL, 0, NULL, 0, NULL, 0, NULL, 0) == PASSED);
+  CHECK(versions_in_range_all(NULL, 0, NULL, 0, NULL, 0, NULL, 0, 9, NULL, 0) == PASSED);
 }
 
 // The level x86-64-v2 of the System V ABI for AMD64, by the bits in Intel's and AMD's manuals.
@@ -178,22 +171,22 @@ static void processors(void) {
   features = 0;
   more_features = 1;
   for (size_t i = 0; i < sizeof level / sizeof *level; i++) features |= 1u << level[i].bit;
-  check("the level and nothing more", versions_processor_suffices());
+  CHECK(versions_processor_suffices());
   more_features = ~0u;
   for (size_t i = 0; i < sizeof level / sizeof *level; i++) {
     features = ~(1u << level[i].bit);
-    check(level[i].name, !versions_processor_suffices());
+    CHECK(!versions_processor_suffices());
   }
   features = ~0u;
-  check("every feature", versions_processor_suffices());
+  CHECK(versions_processor_suffices());
   more_features = ~1u;
-  check("LAHF", !versions_processor_suffices());
+  CHECK(!versions_processor_suffices());
   more_features = ~0u;
   has_more_features = 0;
-  check("no leaf 0x80000001", !versions_processor_suffices());
+  CHECK(!versions_processor_suffices());
   has_more_features = 1;
   has_features = 0;
-  check("no leaf 1", !versions_processor_suffices());
+  CHECK(!versions_processor_suffices());
 }
 
 int main(void) {

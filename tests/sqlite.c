@@ -9,20 +9,12 @@
 
 #include <dlfcn.h>
 #include <stdbool.h>
-#include <stdio.h>
 #include <stdlib.h>
 #include <string.h>
 
-static int failures;
-static const char *extension;
+#include "support/check.h"
 
-#define CHECK(holds) \
-  do { \
-    if (!(holds)) { \
-      failures++; \
-      fprintf(stderr, "FAILED: line %d: %s\n", __LINE__, #holds); \
-    } \
-  } while (0)
+static const char *extension;
 
 // The memory of SQLite. Allocation number `refused`, counted from 1, fails; with 0 none fails.
 static sqlite3_mem_methods ample;

@@ -126,11 +126,18 @@ def client_of(scheduler: Optional[str], workers: int) -> Client:
     return Client(n_workers=workers, threads_per_worker=1, memory_limit=MEMORY_PER_WORKER, dashboard_address=None)
 
 
+def count(word: str) -> int:
+    """A number of workers or of ranges."""
+    if not word.isdecimal() or int(word) == 0:
+        raise argparse.ArgumentTypeError(f"{word} is not a number from 1 on")
+    return int(word)
+
+
 def main() -> None:
     words = argparse.ArgumentParser(description=__doc__, formatter_class=argparse.RawDescriptionHelpFormatter)
     words.add_argument("--scheduler")
-    words.add_argument("--workers", type=int, default=4)
-    words.add_argument("--ranges", type=int, default=16)
+    words.add_argument("--workers", type=count, default=4)
+    words.add_argument("--ranges", type=count, default=16)
     words.add_argument("--vers", default=os.environ.get("VERS", "vers"))
     words.add_argument("folder", type=Path)
     words.add_argument("files", type=Path, nargs="+")

@@ -34,22 +34,22 @@ class Version(Value, _library.Keyed):
 
     @property
     def is_ideal(self) -> bool:
-        """Whether it is ideal: strict, as SemVer 2.0 describes it."""
+        """Whether it is strict, as SemVer 2.0 describes it: of the kind "ideal"."""
         return self.kind == "ideal"
 
     @property
     def is_general(self) -> bool:
-        """Whether it is general, and not ideal."""
+        """Whether it is general: of the kind "general"."""
         return self.kind == "general"
 
     @property
     def is_complex(self) -> bool:
-        """Whether it is neither ideal nor general."""
+        """Whether it is messy: of the kind "complex"."""
         return self.kind == "complex"
 
     @property
     def is_prerelease(self) -> bool:
-        """Whether it is ideal and has a pre-release. The text of another version doesn't say whether it is one.
+        """Whether it is strict and has a pre-release. The text of another version doesn't say whether it is one.
 
         >>> Version("1.2.0-rc.1").is_prerelease, Version("1.2.0").is_prerelease, Version("1.2rc1").is_prerelease
         (True, False, False)
@@ -58,7 +58,7 @@ class Version(Value, _library.Keyed):
 
     @property
     def pre_release(self) -> Optional[str]:
-        """What follows the hyphen of an ideal version, or None.
+        """What follows the hyphen of a strict version, or None.
 
         >>> Version("1.2.0-rc.1+x86").pre_release, Version("1.2-1").pre_release
         ('rc.1', None)
@@ -76,7 +76,7 @@ class Version(Value, _library.Keyed):
 
     @property
     def metadata(self) -> Optional[str]:
-        """What follows the plus of an ideal or general version, or None.
+        """What follows the plus of a strict or general version, or None.
 
         >>> Version("1.2.0-rc.1+x86").metadata, Version("20.0026.1_0-2+0.93").metadata
         ('x86', None)
@@ -87,7 +87,7 @@ class Version(Value, _library.Keyed):
     def epoch(self) -> Optional[int]:
         """The number before the colon, which counts in the order, or None for a version without one.
 
-        An ideal version has none. An epoch above 9223372036854775807 gives that number.
+        A strict version has none. An epoch above 9223372036854775807 gives that number.
 
         >>> Version("1:2.0-3").epoch, Version("8:2007f~dfsg-7").epoch, Version("2.0-3").epoch
         (1, 8, None)
@@ -120,9 +120,9 @@ class Version(Value, _library.Keyed):
     def nth(self, n: int) -> Optional[int]:
         """The number at a place counted from 0, or None where the version has no number there.
 
-        An ideal version has three: major, minor and patch. A general version has a place for each part between its
+        A strict version has three: major, minor and patch. A general version has a place for each part between its
         epoch and its release. A part that is a number gives that number. The last part also gives the number that it
-        begins with, where letters follow that number, and after them nothing or one more number. A complex version has
+        begins with, where letters follow that number, and after them nothing or one more number. A messy version has
         a place for each part of the first section that no colon follows, and a part that is digits alone gives their
         number. `ValueError` where n is negative.
 

@@ -106,7 +106,7 @@ impl<'a> Versioning<'a> {
     /// A strict version has three places: major, minor and patch. A general version has a place for
     /// each part between its epoch and its release. A part that is a number gives that number. The
     /// last part also gives the number that it begins with, where letters follow that number, and
-    /// after them nothing or one more number. A complex version has a place for each part of the
+    /// after them nothing or one more number. A messy version has a place for each part of the
     /// first section that no colon follows, and a part that is digits alone gives their number.
     ///
     /// ```
@@ -150,7 +150,7 @@ impl<'a> Versioning<'a> {
     /// Returns the epoch: the number before the colon, which counts in the order. `None` for a
     /// version without one, as every strict version. Allocates nothing.
     ///
-    /// A general version has an epoch if it begins with a number and a colon, a complex version if
+    /// A general version has an epoch if it begins with a number and a colon, a messy version if
     /// it begins with digits and a colon. An epoch above `i64::MAX` gives `i64::MAX`.
     ///
     /// ```
@@ -192,7 +192,7 @@ impl<'a> Versioning<'a> {
     }
 
     /// Returns the metadata of a strict or general version: what follows its plus. `None` for a
-    /// version without any, and for every complex version. Allocates nothing.
+    /// version without any, and for every messy version. Allocates nothing.
     ///
     /// ```
     /// use proved_versions::Versioning;
@@ -204,7 +204,7 @@ impl<'a> Versioning<'a> {
     }
 
     /// Returns whether this is a strict version with a pre-release (SemVer 2.0, section 9), as
-    /// `1.2.0-rc.1`. False for every general or complex version: its text does not say whether it
+    /// `1.2.0-rc.1`. False for every general or messy version: its text does not say whether it
     /// is a pre-release. Allocates nothing.
     ///
     /// ```

@@ -215,7 +215,9 @@ class Installing(Case):
         self.installs("./python", **NO_LIBRARY)
 
     def test_folder_with_pkg_config(self):
-        self.installs("./python", PKG_CONFIG_PATH=str(LIBRARY))
+        folder = self.work / "a library"
+        shutil.copytree(LIBRARY, folder)
+        self.installs("./python", PKG_CONFIG_PATH=str(folder))
 
     def test_no_library_is_the_last_that_pip_shows_of_the_build(self):
         status, said = self.pip("install", "--no-build-isolation", "./python", **NO_LIBRARY)
