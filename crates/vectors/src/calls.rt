@@ -6,7 +6,7 @@ use vectors_support::{answered, columns, holds, shown};
 use versions::parsers::{alphanums, hyphenated_alphanums, meta, unsigned};
 use versions::{Chunk, Last, MChunk, Mess, Release, SemVer, Version, Versioning};
 
-/// Fails if the call's answer differs from its row: values are written by `Debug`, errors by `Display` and `Debug`.
+// Fails if the call's answer differs from its row: values are written by `Debug`, errors by `Display` and `Debug`.
 pub(crate) fn answer(rt: &impl AllocGlobal, rows: &str) -> Result<(), Fail> {
     for row in rows.lines() {
         let (call, text, wanted) = columns(row)?;

@@ -1,4 +1,4 @@
-//! General versions and their parts: which texts parse, and which don't.
+//! General versions and their parts: which texts parse, and which do not.
 
 use crate::calls::answer;
 use std::test::Fail;

@@ -128,7 +128,7 @@ fn debug_passes_its_options_on(rt: HostRuntime) -> Result<(), Fail> {
     has(format!(in rt.alloc(); "{mess:+#?}"), "  +7,\n")
 }
 
-// Fails if a text doesn't contain a piece.
+// Fails if a text does not contain a piece.
 fn has(shown: Result<String, AllocError>, piece: &str) -> Result<(), Fail> {
     let shown = shown?;
     holds(

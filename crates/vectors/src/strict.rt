@@ -1,4 +1,4 @@
-//! Strict versions and their parts: which texts parse, and which don't.
+//! Strict versions and their parts: which texts parse, and which do not.
 
 use crate::calls::answer;
 use std::test::Fail;

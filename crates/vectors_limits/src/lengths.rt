@@ -1,6 +1,6 @@
 //! Versions of great length: long runs of digits, a million sections, ten megabytes. Each call goes along them by a
 //! loop, so a program's default stack is enough. `rt try --test` takes more than a hundred times as long as `rt test`,
-//! so it doesn't finish the longest.
+//! so it does not finish the longest.
 
 use std::alloc::AllocError;
 use std::cmp::Ordering;

@@ -1,4 +1,4 @@
-//! A writer that doesn't allocate.
+//! A writer that does not allocate.
 
 use std::io::{self, ErrorKind, Write};
 

@@ -124,11 +124,13 @@ fn conversions_never_lower_precedence(rt: HostRuntime) -> Result<(), Fail> {
     Ok(())
 }
 
-// Fails if a version of a row compares in another way with the next version, by precedence, `Ord` or `==`.
+// Fails if a version of a row compares in another way with the next version, by precedence, `Ord` or `==`, or if a row
+// has no two versions.
 fn compare(rt: &impl AllocGlobal, rows: &str, wanted: (Ordering, Ordering)) -> Result<(), Fail> {
     for row in rows.lines() {
         let (of, texts) = row.split_once(' ').ok_or("no text")?;
-        for (one, other) in texts.split(' ').zip(texts.split(' ').skip(1)) {
+        let (_, behind) = texts.split_once(' ').ok_or("no second text")?;
+        for (one, other) in texts.split(' ').zip(behind.split(' ')) {
             let (precedence, order, equal) = compared(rt, of, one, other)?;
             holds(
                 (precedence, order) == wanted && equal == order.is_eq(),

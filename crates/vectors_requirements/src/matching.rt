@@ -5,7 +5,7 @@ use vectors_support::{any, holds, prints};
 use version_texts::{RequirementRef, RequirementsRef, VersioningRef};
 use versions::{Op, Requirement, Requirements};
 
-// A requirement or a list in each row, and then versions: it doesn't match those after a `!`.
+// A requirement or a list in each row, and then versions: it does not match those after a `!`.
 const TILDES_AND_CARETS: &str = "\
 ~1.1.1 1.1.1 1.1.2 1.1.3 !1.2.0 !2.0.0 !2.2.2 !0.9.9 !0.1.1 !1.0.0
 ^1.1.1 1.1.1 1.1.2 1.1.3 1.2.0 !2.0.0 !2.2.2 !0.9.9 !0.1.1 !1.0.0
@@ -118,7 +118,7 @@ const KEPT: [(&[u8], bool, bool); 6] = [
     (b"1.3.0-\xff", false, false),
 ];
 
-// Fails if a version of a row matches although the row says no, or doesn't although the row says yes.
+// Fails if a version of a row matches although the row says no, or does not although the row says yes.
 fn match_those(rt: &impl AllocGlobal, rows: &str) -> Result<(), Fail> {
     for row in rows.lines() {
         let (text, words) = row.split_once(' ').ok_or("no version")?;

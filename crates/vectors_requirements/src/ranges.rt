@@ -81,7 +81,7 @@ fn kinds_of(range: &Range) -> &'static str {
     }
 }
 
-// A list, a version that is in its range or, after a `!`, isn't.
+// A list, a version that is in its range or, after a `!`, is not.
 const INSIDE: &str = "\
 >=1.2.3,<2.0.0 1.2.3 1.5 2.0.0-rc.1 1.2.3+a !2.0.0 !1.2.2
 =1.0 1.0 0:1.0 1.0+x !1.0.0 !1.0-1

@@ -114,15 +114,6 @@ pub fn prints(rt: &impl AllocGlobal, value: &impl Display, wanted: &str) -> Resu
     )
 }
 
-/// Fails if the `Debug` text of a value differs.
-pub fn shows(rt: &impl AllocGlobal, value: &impl Debug, wanted: &str) -> Result<(), Fail> {
-    let text = shown(rt, value)?;
-    holds(
-        text.as_str() == wanted,
-        format_args!("`{text}` is shown for `{wanted}`"),
-    )
-}
-
 pub fn hash_of<T: Hash>(value: &T) -> u64 {
     let mut state = DefaultHasher::new();
     value.hash(&mut state);
@@ -146,7 +137,7 @@ pub fn key(rt: &impl AllocGlobal, version: &Versioning, wanted: &[u8]) -> Result
     )
 }
 
-/// Fails if the first version isn't below the second in precedence, `Ord` and keys, or if they hash alike.
+/// Fails if the first version is not below the second in precedence, `Ord` and keys, or if they hash alike.
 pub fn are_ordered(
     rt: &impl AllocGlobal,
     lower: &Versioning,
@@ -176,7 +167,7 @@ pub fn are_apart(hashes: &[u64]) -> Result<(), Fail> {
     Ok(())
 }
 
-/// Fails with a name if a fact doesn't hold.
+/// Fails with a name if a fact does not hold.
 pub fn holds(fact: bool, of: impl Display + Drop) -> Result<(), Fail> {
     match fact {
         true => Ok(()),

@@ -24,12 +24,12 @@ fn main(rt: HostRuntime) -> ExitCode {
     ending(&rt, outcome)
 }
 
-// Returns the words after the program's name, or None if the system doesn't provide them.
+// Returns the words after the program's name, or None if the system does not provide them.
 fn words<R: Env + AllocGlobal>(rt: &R) -> Option<Vec<String>> {
     env::args(rt).ok()?.skip(1).collect(rt.alloc()).ok()
 }
 
-// Returns the exit code: a fault is printed, and sets its status, even if it can't be printed.
+// Returns the exit code: a fault is printed, and sets its status, even if it cannot be printed.
 fn ending(rt: &impl Eprint, outcome: Result<(), Fault>) -> ExitCode
     ensures { MatchResult outcome
         (λ _. exit_status result ≡ 0) (λ fault. exit_status result ≡ status_of fault) }

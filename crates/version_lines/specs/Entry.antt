@@ -5,7 +5,7 @@ use Rattle.std.specs.Ordering.{nat_cmp, on, then_cmp}
 use Rattle.std.specs.declared.cmp.Ordering.{Ordering}
 use Rattle.version_lines.specs.Head.{behind_heads_cmp, head_number}
 use Rattle.version_lines.specs.Sort.{is_bad}
-use Rattle.version_lines.specs.Spelled.{line_key, line_tie_cmp}
+use Rattle.version_lines.specs.LineKey.{line_key, line_tie_cmp}
 use Rattle.version_lines.specs.declared.sort.entry.Entry.{Entry}
 use Rattle.versions.specs.SemVer.{semver_of}
 
@@ -17,7 +17,8 @@ entry_line entry = entry.line.now
 abbrev pub entry_key : List ℕ → Entry → List ℕ
 entry_key keys entry = take entry.length (drop entry.start keys)
 
--- the line is a version, its key lies at its place, and its two numbers are those of the key's first bytes
+-- the line is a version, its key lies at its place, and its two numbers are those of the key's
+-- first bytes
 pub record IsRead (keys : List ℕ) (entry : Entry) : Type 0 where
   pub good : is_bad (entry_line entry) ≡ false
   pub within : entry.start + entry.length ≤ length keys
@@ -28,7 +29,8 @@ pub record IsRead (keys : List ℕ) (entry : Entry) : Type 0 where
 
 -- by the second number, then by the bytes after those of the two numbers
 abbrev pub behind_cmp : List ℕ → Entry → Entry → Ordering
-behind_cmp keys = then_cmp (on (λ (entry : Entry). entry.second) nat_cmp) (on (entry_key keys) behind_heads_cmp)
+behind_cmp keys =
+    then_cmp (on (λ (entry : Entry). entry.second) nat_cmp) (on (entry_key keys) behind_heads_cmp)
 
 -- by the first number, then by the second, then by the bytes after them
 abbrev pub entry_cmp : List ℕ → Entry → Entry → Ordering

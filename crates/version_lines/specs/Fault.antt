@@ -1,7 +1,9 @@
 -- What a fault prints, and the status that it ends the program with.
-use Rattle.std.specs.Prelude.{◌≡◌, ◌⊎◌, ⊤, ℕ, List, ◌++◌, Option, Some, codes, decimal, string_bytes}
+use Rattle.std.specs.Prelude.{◌≡◌, ◌⊎◌, ⊤, ℕ, List, ◌++◌, Option, Some, codes, decimal}
+use Rattle.std.specs.Prelude.{string_bytes}
 use Rattle.version_lines.specs.declared.faults.Fault.{Fault}
-use Rattle.version_lines.specs.declared.faults.Fault.TheVariants.{Usage, NotVersion, NotRequirement, BadLine, Memory, Read, Write}
+use Rattle.version_lines.specs.declared.faults.Fault.TheVariants.{Usage, NotVersion, NotRequirement}
+use Rattle.version_lines.specs.declared.faults.Fault.TheVariants.{BadLine, Memory, Read, Write}
 
 -- the text of a fault
 abbrev pub fault_text : Fault → List ℕ
@@ -31,6 +33,10 @@ ComesOfReading fault = (fault ≡ Memory) ⊎ (fault ≡ Read)
 abbrev pub ComesOfWriting : Fault → Type 0
 ComesOfWriting fault = (fault ≡ Memory) ⊎ (fault ≡ Write)
 
+-- the faults that reading an input and writing an output for it can end in
+abbrev pub ComesOfAnswering : Fault → Type 0
+ComesOfAnswering fault = (fault ≡ Memory) ⊎ (fault ≡ Read) ⊎ (fault ≡ Write)
+
 -- the faults that checking words can end in, if this is the first bad word
 abbrev pub ComesOfWords : Option (List ℕ) → Fault → Type 0
 ComesOfWords bad_word Memory = ⊤
@@ -40,7 +46,8 @@ ComesOfWords bad_word fault = ⊥
 -- the faults that checking the word of `match` can end in, if this is that word and it is bad
 abbrev pub ComesOfRequirements : Option (List ℕ) → Fault → Type 0
 ComesOfRequirements bad_requirements Memory = ⊤
-ComesOfRequirements bad_requirements (NotRequirement text) = bad_requirements ≡ Some (string_bytes text)
+ComesOfRequirements bad_requirements (NotRequirement text) =
+    bad_requirements ≡ Some (string_bytes text)
 ComesOfRequirements bad_requirements fault = ⊥
 
 -- the faults that checking lines can end in, if this is the number of the first bad line

@@ -14,7 +14,7 @@ number_from value (suc n) (byte ∷ bytes) = number_from (value * 256 + byte) n 
 unfoldable pub head_number : List ℕ → ℕ
 head_number bytes = number_from 0 8 bytes
 
--- two lists with the same first sixteen bytes, where missing bytes count as 0: by the bytes after them, and then by
--- their lengths
+-- two lists with the same first sixteen bytes, where missing bytes count as 0: by the bytes after
+-- them, and then by their lengths
 abbrev pub behind_heads_cmp : List ℕ → List ℕ → Ordering
 behind_heads_cmp = then_cmp (on (drop 16) (slice_cmp nat_cmp)) (on length nat_cmp)

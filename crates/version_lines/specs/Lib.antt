@@ -4,6 +4,7 @@ pub mod Comparison
 pub mod Entry
 pub mod Fault
 pub mod Head
+pub mod LineKey
 pub mod Lines
 pub mod Matching
 pub mod Output
@@ -11,4 +12,3 @@ pub mod Program
 pub mod Run
 pub mod Sort
 pub mod Sorting
-pub mod Spelled

@@ -11,10 +11,12 @@ abbrev pub before_lines : ℕ → List (List ℕ) → List (List ℕ)
 before_lines byte [] = (byte ∷ []) ∷ []
 before_lines byte (line ∷ lines) = (byte ∷ line) ∷ lines
 
--- the lines of some bytes: a line feed ends a line and is no part of it, and bytes after the last one are a line too
+-- the lines of some bytes: a line feed ends a line and is no part of it, and bytes after the last
+-- one are a line too
 abbrev pub lines_of : List ℕ → List (List ℕ)
 lines_of [] = []
-lines_of (byte ∷ bytes) = if byte == line_feed then [] ∷ lines_of bytes else before_lines byte (lines_of bytes)
+lines_of (byte ∷ bytes) =
+    if byte == line_feed then [] ∷ lines_of bytes else before_lines byte (lines_of bytes)
 
 -- a line with the line feed that ends it
 abbrev pub whole_line : List ℕ → List ℕ
@@ -27,3 +29,7 @@ labelled_line label line = label ++ whole_line line
 -- what a command writes for some lines, by what it writes for one
 abbrev pub lines_output : (List ℕ → List ℕ) → List (List ℕ) → List ℕ
 lines_output line_output lines = flat_map line_output lines
+
+-- the same for the lines of some bytes
+abbrev pub output_by : (List ℕ → List ℕ) → List ℕ → List ℕ
+output_by line_output input = lines_output line_output (lines_of input)

@@ -8,10 +8,7 @@ pub record AppendsUpTo (old new : Option (List ℕ)) (left output : List ℕ) : 
   pub whole : output ≡ written ++ left
   pub appended : Appends old new written
 
--- known bytes grow by a prefix of the output, which may be all of it
-abbrev pub AppendsBeginning : Option (List ℕ) → Option (List ℕ) → List ℕ → Type 0
-AppendsBeginning old new output = (left : List ℕ) × AppendsUpTo old new left output
-
 -- known bytes grow by a proper prefix of the output
 abbrev pub AppendsProperBeginning : Option (List ℕ) → Option (List ℕ) → List ℕ → Type 0
-AppendsProperBeginning old new output = (left : List ℕ) × (0 < length left) × AppendsUpTo old new left output
+AppendsProperBeginning old new output =
+    (left : List ℕ) × (0 < length left) × AppendsUpTo old new left output

@@ -5,7 +5,7 @@ use Rattle.std.specs.Ordering.{is_lt}
 use Rattle.std.specs.declared.cmp.Ordering.{Ordering}
 use Rattle.std.specs.declared.cmp.Ordering.TheVariants.{Equal}
 
--- an element put before the first element that isn't below it
+-- an element put before the first element that is not below it
 abbrev pub put_in_order : {X : Type 0} → (X → X → Ordering) → X → List X → List X
 put_in_order cmp x [] = x ∷ []
 put_in_order cmp x (y ∷ ys) = if is_lt (cmp y x) then y ∷ put_in_order cmp x ys else x ∷ y ∷ ys
@@ -15,7 +15,7 @@ abbrev pub in_order : {X : Type 0} → (X → X → Ordering) → List X → Lis
 in_order cmp [] = []
 in_order cmp (x ∷ xs) = put_in_order cmp x (in_order cmp xs)
 
--- how many elements from the first on it isn't below: in a list in order, how many tie with it
+-- how many elements from the first on it is not below: in a list in order, how many tie with it
 abbrev pub run_length : {X : Type 0} → (X → X → Ordering) → List X → ℕ
 run_length cmp [] = 0
 run_length cmp (x ∷ xs) = 1 + prefix_len (λ y. not (is_lt (cmp x y))) xs
@@ -23,4 +23,5 @@ run_length cmp (x ∷ xs) = 1 + prefix_len (λ y. not (is_lt (cmp x y))) xs
 -- of elements that tie, the earlier has the lower place
 abbrev pub TiesRise : {X : Type 0} → (X → X → Ordering) → (X → ℕ) → List X → Type 0
 TiesRise cmp place [] = ⊤
-TiesRise cmp place (x ∷ xs) = All (λ y. cmp x y ≡ Equal → place x < place y) xs × TiesRise cmp place xs
+TiesRise cmp place (x ∷ xs) =
+    All (λ y. cmp x y ≡ Equal → place x < place y) xs × TiesRise cmp place xs

@@ -22,7 +22,7 @@ pub fn comparison(alloc: Global, first: &str, second: &str) -> Result<&'static [
     Ok(line_for(first.precedence(&second)))
 }
 
-/// Returns the sign of an ordering, and a line feed.
+// Returns the sign of an ordering, and a line feed.
 fn line_for(order: Ordering) -> &'static [u8]
     ensures { result.now ≡ sign_text order ++ line_feed ∷ [] }
 {

@@ -12,11 +12,11 @@ use std::fmt;
 pub enum Fault {
     /// The words are not a command of the program.
     Usage,
-    /// The first word that should be a version but isn't.
+    /// The first word that should be a version but is not.
     NotVersion(String),
-    /// The word that should be a list of requirements but isn't.
+    /// The word that should be a list of requirements but is not.
     NotRequirement(String),
-    /// The number of the first line that should be a version but isn't, counted from 1.
+    /// The number of the first line that should be a version but is not, counted from 1.
     BadLine(usize),
     /// An allocation failed.
     Memory,
@@ -29,7 +29,7 @@ pub enum Fault {
 impl Fault {
     ghost use Rattle.version_lines.specs.Fault.{status_of};
 
-    /// Returns the exit status: 1 for an input that isn't a version or a requirement, 2 for wrong words, 3 for a
+    /// Returns the exit status: 1 for an input that is not a version or a requirement, 2 for wrong words, 3 for a
     /// failure of the system.
     pub fn status(&self) -> u8
         ensures { result ≡ status_of self.now }

@@ -2,7 +2,7 @@
 ghost use Rattle.std.specs.Prelude.{◌≡◌, is_some};
 ghost use Rattle.versions.specs.SemVer.{semver_of};
 
-use crate::answer::{Answer, Label};
+use crate::answer::Answer;
 use crate::lines::LineCommand;
 use version_texts::VersioningRef;
 use versions::Kind;
@@ -18,14 +18,14 @@ impl LineCommand for Ideal {
 
     fn answer(&self, line: &[u8]) -> Answer {
         if is_strict(line) {
-            Answer::Labelled(Label::Ideal)
+            Answer::OfKind(Kind::Ideal)
         } else {
             Answer::NoVersion
         }
     }
 }
 
-/// Returns whether a line is a strict version. Doesn't allocate.
+/// Returns whether a line is a strict version. Does not allocate.
 pub fn is_strict(line: &[u8]) -> bool
     ensures { result ≡ is_some (semver_of line.now) }
 {

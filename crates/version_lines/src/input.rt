@@ -7,10 +7,10 @@ use crate::faults::Fault;
 use std::alloc::{AllocError, Global};
 use std::io::Read;
 
-/// How many bytes one call of `read` may return.
+// How many bytes one call of `read` may return.
 const PIECE: usize = 64 * 1024;
 
-/// Returns `count` zero bytes.
+// Returns `count` zero bytes.
 fn zeros(alloc: Global, count: usize) -> Result<Vec<u8>, AllocError>
     ensures { IfOk result (λ zeros. vec_len zeros ≡ count) }
 {

@@ -10,13 +10,13 @@ mod ideal;
 mod input;
 mod key;
 mod laws;
+mod line_key;
 mod lines;
 mod matching;
 mod output;
 mod program;
 mod show;
 mod sort;
-mod spelled;
 mod words;
 
 pub use faults::Fault;

@@ -1,12 +1,12 @@
 //! Commands whose output for a line depends on that line alone.
 ghost use Rattle.std.specs.Prelude.{◌≡◌, ℕ, ◌<◌, List, ◌∷◌, ◌++◌, length, OnOk, OnErr, IfErr, IsErrOf};
-ghost use Rattle.std.specs.Io.KnownBytes.{Appends};
+ghost use Rattle.std.specs.Io.KnownBytes.{Appends, Keeps};
 ghost use Rattle.version_lines.specs.Answer.{answer_text};
 ghost use Rattle.version_lines.specs.Fault.{ComesOfWriting};
 ghost use Rattle.version_lines.specs.Lines.{lines_of, lines_output};
-ghost use Rattle.version_lines.specs.Output.{AppendsBeginning, AppendsProperBeginning, AppendsUpTo};
+ghost use Rattle.version_lines.specs.Output.{AppendsProperBeginning, AppendsUpTo};
 
-use crate::answer::Answer;
+use crate::answer::{Answer, label};
 use crate::faults::Fault;
 use crate::output::{make_buffer, put, put_line, write_whole};
 use memchr::memchr;
@@ -33,8 +33,7 @@ pub fn write_lines<C: LineCommand, W: Write>(
     ensures ok { OnOk result (Appends (W.contents writer.old) (W.contents writer.new)
         (lines_output (C.line_output command.now) (lines_of input.now))) }
     ensures memory { IsErrOf result Fault.Memory →
-        AppendsBeginning (W.contents writer.old) (W.contents writer.new)
-        (lines_output (C.line_output command.now) (lines_of input.now)) }
+        Keeps (W.contents writer.old) (W.contents writer.new) }
     ensures write { IsErrOf result Fault.Write →
         AppendsProperBeginning (W.contents writer.old) (W.contents writer.new)
         (lines_output (C.line_output command.now) (lines_of input.now)) }
@@ -63,7 +62,7 @@ pub fn split_line(text: &[u8]) -> (&[u8], &[u8])
     }
 }
 
-/// Adds the answer for a line to the buffer.
+// Adds the answer for a line to the buffer.
 fn put_answer<W: Write>(
     answer: Answer,
     line: &[u8],
@@ -77,7 +76,7 @@ fn put_answer<W: Write>(
     ensures fault { IfErr result (λ fault. fault ≡ Fault.Write) }
 {
     match answer {
-        Answer::Labelled(label) => put_line(writer, buffer, label.text(), line),
+        Answer::OfKind(kind) => put_line(writer, buffer, label(kind), line),
         Answer::NoVersion => put(writer, buffer, b"none\n"),
         Answer::Whole => put_line(writer, buffer, b"", line),
         Answer::Nothing => Ok(()),

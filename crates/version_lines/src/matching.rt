@@ -23,8 +23,8 @@ impl LineCommand for Matching<'_> {
     }
 }
 
-/// Returns the answer for a line.
-#[tactic(auto, using(crate::proofs::MatchingLemmas::answered))]
+// Returns the answer for a line.
+#[tactic(auto, using(crate::proofs::lemmas::Matching::answered))]
 fn answer_for(wanted: &RequirementsRef<'_>, line: &[u8]) -> Answer
     ensures { result ≡ match_answer wanted.now (versioning_of line.now) }
 {

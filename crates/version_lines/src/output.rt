@@ -1,5 +1,5 @@
 //! Writing through a buffer.
-ghost use Rattle.std.specs.Prelude.{◌≡◌, ◌+◌, ◌<◌, [], ◌++◌, length, vec_capacity, vec_len, IfOk, OnOk, OnErr, IfErr};
+ghost use Rattle.std.specs.Prelude.{[], ◌≡◌, ◌+◌, ◌<◌, ◌++◌, length, vec_capacity, vec_len, IfOk, OnOk, OnErr, IfErr};
 ghost use Rattle.std.specs.Io.KnownBytes.{Appends};
 ghost use Rattle.version_lines.specs.Lines.{labelled_line};
 ghost use Rattle.version_lines.specs.Output.{AppendsProperBeginning, AppendsUpTo};
@@ -8,7 +8,7 @@ use crate::faults::Fault;
 use std::alloc::{AllocError, Global};
 use std::io::Write;
 
-/// The capacity of the buffer in bytes.
+// The capacity of the buffer in bytes.
 const CAPACITY: usize = 64 * 1024;
 
 /// Returns an empty buffer.
@@ -38,8 +38,8 @@ pub fn write_whole<W: Write>(writer: &mut W, bytes: &[u8]) -> Result<(), Fault>
     Ok(())
 }
 
-/// Adds the bytes to the buffer. If they don't fit, the buffer is written first; bytes that exceed its capacity are
-/// then written at once. Doesn't allocate.
+/// Adds the bytes to the buffer. If they do not fit, the buffer is written first; bytes that exceed its capacity are
+/// then written at once. Does not allocate.
 pub fn put<W: Write>(writer: &mut W, buffer: &mut Vec<u8>, bytes: &[u8]) -> Result<(), Fault>
     ensures ok { OnOk result (AppendsUpTo (W.contents writer.old) (W.contents writer.new)
         buffer.new.items (buffer.old.items ++ bytes.now)) }
@@ -81,7 +81,7 @@ pub fn put_line<W: Write>(
     put(writer, buffer, b"\n")
 }
 
-/// Adds a label, a line and a line feed, which have to fit.
+// Adds a label, a line and a line feed, which have to fit.
 #[inline(always)]
 fn add_line(buffer: &mut Vec<u8>, label: &[u8], line: &[u8])
     requires { vec_len buffer.old + length label.now + length line.now < vec_capacity buffer.old }

@@ -1,17 +1,20 @@
 //! A run of the program over any reader and any writer.
 ghost use Rattle.std.specs.Prelude.{◌≡◌, ◌↔◌, ◌⊎◌, Some, false, map, string_bytes, IsErr, IsNone, IsTrue, OnOk, IfErr, IfSome, IsErrOf};
+ghost use Rattle.std.specs.Option.{option_map};
 ghost use Rattle.std.specs.Io.KnownBytes.{Appends, IsAtEnd, Keeps};
-ghost use Rattle.version_lines.specs.Command.{command_of, plain_command, reads_input, OfInput};
-ghost use Rattle.version_lines.specs.Program.{command_output, input_output, output_of};
+ghost use Rattle.version_lines.specs.Command.{command_of, plain_command, reads_input};
+ghost use Rattle.version_lines.specs.Fault.{ComesOfAnswering};
+ghost use Rattle.version_lines.specs.Lines.{output_by};
+ghost use Rattle.version_lines.specs.Program.{command_output, output_of};
 ghost use Rattle.version_lines.specs.Run.{ask_for_input, ComesOf, ComesOfCommand, GrowsAt, IsServable, IsServed};
 
-use crate::command::{Command, InputCommand};
+use crate::command::Command;
 use crate::comparison::comparison;
 use crate::faults::Fault;
 use crate::ideal::Ideal;
 use crate::input::read_all;
 use crate::key::key_line;
-use crate::lines::write_lines;
+use crate::lines::{LineCommand, write_lines};
 use crate::matching::Matching;
 use crate::output::write_whole;
 use crate::show::Show;
@@ -25,13 +28,13 @@ use std::io::{Read, Write};
 /// read nothing. `match R` writes the lines that are versions which R matches, unchanged.
 ///
 /// It fails before it reads anything with [`Fault::Usage`] if the words are not a command, with [`Fault::NotVersion`]
-/// and the first word that should be a version but isn't, and with [`Fault::NotRequirement`] and R if that is not a
+/// and the first word that should be a version but is not, and with [`Fault::NotRequirement`] and R if that is not a
 /// list of requirements. The whole input is read before anything is written. `sort` fails with [`Fault::BadLine`] and
-/// the number of the first line that isn't a version, counted from 1, before it writes anything. So nothing was written
-/// after these faults and after [`Fault::Read`]. After [`Fault::Memory`] a prefix of the output was written, and after
-/// [`Fault::Write`] a proper prefix.
+/// the number of the first line that is not a version, counted from 1, before it writes anything. All memory is
+/// allocated before anything is written. So after [`Fault::Write`] a proper prefix of the output was written, and after
+/// every other fault nothing was.
 ///
-/// A call of `read` or `write` that fails isn't retried, even if it was interrupted; a `write` that writes nothing has
+/// A call of `read` or `write` that fails is not retried, even if it was interrupted; a `write` that writes nothing has
 /// failed. `read` may return bytes 18446744073709551615 times; a longer input is [`Fault::Read`]. Nothing is flushed.
 ///
 /// It allocates the whole input and two buffers of 64 KiB. `sort` also allocates the sort keys of all lines, in one
@@ -71,7 +74,7 @@ pub fn run<R: Read, W: Write>(
     }
 }
 
-/// Runs a command.
+// Runs a command.
 fn serve<R: Read, W: Write>(
     alloc: Global,
     command: Command<'_>,
@@ -95,38 +98,37 @@ fn serve<R: Read, W: Write>(
         (ComesOfCommand (R.remaining reader.old) (plain_command command.entry)) }
 {
     match command {
-        Command::Cmp(first, second) => write_whole(writer, comparison(alloc, first, second)?),
-        Command::Key(version) => write_whole(writer, key_line(alloc, version)?.as_bytes()),
+        Command::Ideal => answer_lines(alloc, &Ideal, reader, writer),
+        Command::Show => answer_lines(alloc, &Show, reader, writer),
+        Command::Sort => {
+            let input = read_all(alloc, reader)?;
+            write_sorted(alloc, input.as_slice(), writer)
+        }
         Command::Match(word) => {
             let wanted = requirements_of(alloc, word)?;
-            let lines = read_all(alloc, reader)?;
-            write_lines(alloc, &Matching { wanted }, lines.as_slice(), writer)
+            answer_lines(alloc, &Matching { wanted }, reader, writer)
         }
-        Command::OfInput(command) => {
-            let input = read_all(alloc, reader)?;
-            answer_input(alloc, command, input.as_slice(), writer)
-        }
+        Command::Cmp(first, second) => write_whole(writer, comparison(alloc, first, second)?),
+        Command::Key(version) => write_whole(writer, key_line(alloc, version)?.as_bytes()),
     }
 }
 
-/// Writes a command's output for the lines of an input.
-fn answer_input<W: Write>(
+// Reads the whole input, and writes the answer for each of its lines.
+fn answer_lines<C: LineCommand, R: Read, W: Write>(
     alloc: Global,
-    command: InputCommand,
-    input: &[u8],
+    command: &C,
+    reader: &mut R,
     writer: &mut W,
 ) -> Result<(), Fault>
-    ensures written { OnOk result
-        (Appends (W.contents writer.old) (W.contents writer.new) (input_output command input.now)) }
-    ensures judges_first { IsServable (Some input.now) (OfInput command)
-        ⊎ (IsErr result × Keeps (W.contents writer.old) (W.contents writer.new)) }
+    ensures read { OnOk result (IsAtEnd (R.remaining reader.new)) }
+    ensures written { OnOk result (IfSome
+        (option_map (output_by (C.line_output command.now)) (R.remaining reader.old))
+        (Appends (W.contents writer.old) (W.contents writer.new))) }
+    ensures reads_first { Keeps (W.contents writer.old) (W.contents writer.new) ⊎ IsAtEnd (R.remaining reader.new) }
     ensures at_fault { IfErr result (GrowsAt (W.contents writer.old) (W.contents writer.new)
-        (Some (input_output command input.now))) }
-    ensures faults { IfErr result (ComesOfCommand (Some input.now) (OfInput command)) }
+        (option_map (output_by (C.line_output command.now)) (R.remaining reader.old))) }
+    ensures faults { IfErr result ComesOfAnswering }
 {
-    match command {
-        InputCommand::Ideal => write_lines(alloc, &Ideal, input, writer),
-        InputCommand::Show => write_lines(alloc, &Show, input, writer),
-        InputCommand::Sort => write_sorted(alloc, input, writer),
-    }
+    let input = read_all(alloc, reader)?;
+    write_lines(alloc, command, input.as_slice(), writer)
 }

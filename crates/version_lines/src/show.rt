@@ -3,10 +3,9 @@ ghost use Rattle.std.specs.Prelude.{◌≡◌};
 ghost use Rattle.version_lines.specs.Program.{show_answer};
 ghost use Rattle.versions.specs.Versioning.{versioning_of};
 
-use crate::answer::{Answer, Label};
+use crate::answer::Answer;
 use crate::lines::LineCommand;
 use version_texts::VersioningRef;
-use versions::Kind;
 
 /// Labels each line by its kind of version.
 #[derive(Clone, Copy)]
@@ -22,16 +21,12 @@ impl LineCommand for Show {
     }
 }
 
-/// Returns the label of a line, by the kind of its version. Doesn't allocate.
+// Returns the answer for a line, by the kind of its version. Does not allocate.
 fn answer_for(line: &[u8]) -> Answer
     ensures { result ≡ show_answer (versioning_of line.now) }
 {
-    let Some(version) = VersioningRef::from_bytes(line) else {
-        return Answer::NoVersion;
-    };
-    match version.kind() {
-        Kind::Ideal => Answer::Labelled(Label::Ideal),
-        Kind::General => Answer::Labelled(Label::General),
-        Kind::Complex => Answer::Labelled(Label::Complex),
+    match VersioningRef::from_bytes(line) {
+        Some(version) => Answer::OfKind(version.kind()),
+        None => Answer::NoVersion,
     }
 }

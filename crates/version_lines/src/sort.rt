@@ -1,11 +1,11 @@
 //! The command `sort`: the lines in the order of their versions.
-ghost use Rattle.std.specs.Prelude.{◌≡◌, ◌⊎◌, [], ◌∷◌, ◌++◌, Some, None, IfErr, IfOk, OnOk, IsErr, IsTrue, map};
+ghost use Rattle.std.specs.Prelude.{[], ◌≡◌, ◌⊎◌, ◌∷◌, ◌++◌, Some, None, IfErr, IfOk, OnOk, IsErr, IsTrue, map};
 ghost use Rattle.std.specs.Io.KnownBytes.{Appends, Keeps};
 ghost use Rattle.std.specs.List.{All};
 ghost use Rattle.std.specs.Ordering.{then_cmp};
 ghost use Rattle.version_lines.specs.Fault.{ComesOfLines, ComesOfWriting};
 ghost use Rattle.version_lines.specs.Lines.{lines_of, lines_output, whole_line};
-ghost use Rattle.version_lines.specs.Command.{OfInput};
+ghost use Rattle.version_lines.specs.Command.{Sort};
 ghost use Rattle.version_lines.specs.Run.{ComesOfCommand, GrowsAt};
 ghost use Rattle.version_lines.specs.Sort.{bad_line, sort_output};
 ghost use Rattle.version_lines.specs.Sorting.{in_order};
@@ -15,7 +15,6 @@ mod entry;
 mod head;
 mod ties;
 
-use crate::command::InputCommand;
 use crate::faults::Fault;
 use crate::lines::split_line;
 use crate::output::{make_buffer, put_line, write_whole};
@@ -33,7 +32,7 @@ pub fn write_sorted<W: Write>(alloc: Global, input: &[u8], writer: &mut W) -> Re
         ⊎ (IsErr result × Keeps (W.contents writer.old) (W.contents writer.new)) }
     ensures at_fault { IfErr result
         (GrowsAt (W.contents writer.old) (W.contents writer.new) (Some (sort_output input.now))) }
-    ensures faults { IfErr result (ComesOfCommand (Some input.now) (OfInput InputCommand.Sort)) }
+    ensures faults { IfErr result (ComesOfCommand (Some input.now) Sort) }
 {
     let mut keys = Vec::with_capacity(alloc, room_for_keys(input))?;
     let (mut entries, are_strict) = read_entries(alloc, &mut keys, input)?;
@@ -41,19 +40,19 @@ pub fn write_sorted<W: Write>(alloc: Global, input: &[u8], writer: &mut W) -> Re
     write_entries(alloc, entries.as_slice(), writer)
 }
 
-/// The bytes reserved for the keys of all lines at first: a key is most often about twice as long as its line. The
-/// list grows if that is too little.
+// The bytes reserved for the keys of all lines at first: a key is most often about twice as long as its line. The
+// list grows if that is too little.
 fn room_for_keys(input: &[u8]) -> usize {
     input.len().saturating_mul(2)
 }
 
-/// The lines reserved at first: a version is most often twelve bytes or longer. The list grows if that is too little.
+// The lines reserved at first: a version is most often twelve bytes or longer. The list grows if that is too little.
 fn room_for_lines(input: &[u8]) -> usize {
     input.len() / 12
 }
 
-/// Returns the lines, whose keys are added to a list, and whether all are strict versions. It fails with the number of
-/// the first line that isn't a version.
+// Returns the lines, whose keys are added to a list, and whether all are strict versions. It fails with the number of
+// the first line that is not a version.
 fn read_entries<'a>(
     alloc: Global,
     keys: &mut Vec<u8>,
@@ -80,7 +79,7 @@ fn read_entries<'a>(
     Ok((entries, are_strict))
 }
 
-/// Returns whether the kind is the strict one.
+// Returns whether the kind is the strict one.
 fn is_ideal(kind: Kind) -> bool
     ensures { IsTrue result → kind ≡ Kind.Ideal }
 {
@@ -90,7 +89,7 @@ fn is_ideal(kind: Kind) -> bool
     }
 }
 
-/// Adds a line after the others.
+// Adds a line after the others.
 fn add<'a>(entries: &mut Vec<Entry<'a>>, entry: Entry<'a>) -> Result<(), AllocError>
     ensures { OnOk result (entries.new.items ≡ entries.old.items ++ entry.entry ∷ []) }
 {
@@ -98,8 +97,8 @@ fn add<'a>(entries: &mut Vec<Entry<'a>>, entry: Entry<'a>) -> Result<(), AllocEr
     Ok(())
 }
 
-/// Puts lines that stand as in the input in the order of their versions. If all of them are strict, their keys alone
-/// decide. Doesn't allocate.
+// Puts lines that stand as in the input in the order of their versions. If all of them are strict, their keys alone
+// decide. Does not allocate.
 fn put_in_order(keys: &[u8], entries: &mut Vec<Entry<'_>>, are_strict: bool)
     requires in_turn { AreInTurn entries.old.items }
     requires strict { IsTrue are_strict → All IsStrict entries.old.items }
@@ -112,7 +111,7 @@ fn put_in_order(keys: &[u8], entries: &mut Vec<Entry<'_>>, are_strict: bool)
     }
 }
 
-/// Puts lines that stand as in the input in the order of their keys. Doesn't allocate.
+// Puts lines that stand as in the input in the order of their keys. Does not allocate.
 fn sort_by_keys(keys: &[u8], entries: &mut Vec<Entry<'_>>)
     requires { AreInTurn entries.old.items }
     ensures { entries.new.items ≡ in_order (entry_cmp keys.now) entries.old.items }
@@ -120,7 +119,7 @@ fn sort_by_keys(keys: &[u8], entries: &mut Vec<Entry<'_>>)
     entries.sort_unstable_by(|a, b| a.compare_in_turn(b, keys));
 }
 
-/// Writes the lines in their present order.
+// Writes the lines in their present order.
 fn write_entries<W: Write>(
     alloc: Global,
     entries: &[Entry<'_>],

@@ -1,5 +1,6 @@
 -- Bodies of general versions: one part or more, joined by dots. The last part is decomposed.
-use Rattle.std.specs.Prelude.{◌≡◌, ◌<◌, ◌-◌, ◌++◌, ◌∷◌, ◌⊎◌, ℕ, List, [], length, map, take, Option, Some}
+use Rattle.std.specs.Prelude.{◌≡◌, ◌<◌, ◌-◌, ◌++◌, ◌∷◌, ◌⊎◌, ℕ, List, [], length, map, take, Option}
+use Rattle.std.specs.Prelude.{Some}
 use Rattle.std.specs.Option.{option_map, option_map_or}
 use Rattle.version_parts.specs.declared.chunks.Chunks.{Chunks}
 use Rattle.version_parts.specs.declared.scan.Dotted.{Dotted}
@@ -59,7 +60,8 @@ last_at text = option_map_or (λ p. last_of p.0) (part_front text) (Numeric 0)
 
 -- the body of a scanned list of parts: its parts but for the last, and the last part
 abbrev pub scanned_body : Dotted → PlainBody
-scanned_body list = (take (list.count - 1) (elements_at part_front list.text.now), last_at list.last.now)
+scanned_body list =
+    (take (list.count - 1) (elements_at part_front list.text.now), last_at list.last.now)
 
 -- the list counts its parts and has one or more, and the body is what they make
 abbrev pub IsScannedBody : Dotted → Type 0

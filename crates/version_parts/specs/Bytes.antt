@@ -1,4 +1,5 @@
--- The bytes that versions are made of, all of them ASCII. A letter is an ASCII letter, a digit an ASCII digit.
+-- The bytes that versions are made of, all of them ASCII. A letter is an ASCII letter, a digit an
+-- ASCII digit.
 use Rattle.std.specs.Prelude.{ℕ, Bool, ◌||◌, ◌==◌}
 use Rattle.std.specs.Char.{is_ascii_alphanumeric}
 

@@ -1,6 +1,8 @@
--- Chunks: a numeral, or a nonempty run of letters and digits that isn't all digits. In a release the run may have
--- hyphens too (SemVer 2.0, section 9); in a general version, where chunks are also called parts, it has none.
-use Rattle.std.specs.Prelude.{◌≡◌, ⊤, ◌++◌, ℕ, Bool, List, [], ◌∷◌, Option, Some, None, true, false, drop, if◌then◌else◌}
+-- Chunks: a numeral, or a nonempty run of letters and digits that is not all digits. In a release
+-- the run may have hyphens too (SemVer 2.0, section 9); in a general version, where chunks are also
+-- called parts, it has none.
+use Rattle.std.specs.Prelude.{◌≡◌, ⊤, ◌++◌, ℕ, Bool, List, [], ◌∷◌, Option, Some, None, true, false}
+use Rattle.std.specs.Prelude.{drop, if◌then◌else◌}
 use Rattle.std.specs.Char.{is_ascii_alphabetic, is_ascii_alphanumeric, is_ascii_digit}
 use Rattle.std.specs.Fmt.{decimal}
 use Rattle.std.specs.Hash as fed
@@ -46,7 +48,8 @@ IsChunkText (spelled.Alphanum text) = ⊤
 -- the text spells the chunk; an `Alphanum` has bytes that pass the test
 abbrev pub SpellsChunkOf : (ℕ → Bool) → List ℕ → PlainChunk → Type 0
 SpellsChunkOf test text (Numeric n) = SpellsNumeral text n
-SpellsChunkOf test text (Alphanum run) = (text ≡ run) × (list_all test run ≡ true) × (list_all is_ascii_digit run ≡ false)
+SpellsChunkOf test text (Alphanum run) =
+    (text ≡ run) × (list_all test run ≡ true) × (list_all is_ascii_digit run ≡ false)
 
 -- the text spells a chunk of a release
 abbrev pub SpellsChunk : List ℕ → PlainChunk → Type 0
@@ -56,7 +59,8 @@ SpellsChunk = SpellsChunkOf is_identifier_byte
 abbrev pub SpellsPart : List ℕ → PlainChunk → Type 0
 SpellsPart = SpellsChunkOf is_ascii_alphanumeric
 
--- the longest run of bytes that pass the test; if it is all digits, the number that `unsigned_front` reads
+-- the longest run of bytes that pass the test; if it is all digits, the number that
+-- `unsigned_front` reads
 unfoldable pub chunk_front_of : (ℕ → Bool) → Front PlainChunk
 chunk_front_of test text = if list_all is_ascii_digit (take_while test text)
     then map_value Numeric (unsigned_front text)

@@ -3,7 +3,8 @@ use Rattle.std.specs.Prelude.{◌≡◌, ℕ, Bool, true}
 use Rattle.std.specs.Char.{is_ascii_alphabetic, is_ascii_alphanumeric, is_ascii_digit}
 use Rattle.version_parts.specs.Bytes.{is_identifier_byte, is_metadata_byte}
 use Rattle.version_parts.specs.declared.scan.Class.{Class}
-use Rattle.version_parts.specs.declared.scan.Class.TheVariants.{Digit, Letter, Alphanumeric, Identifier, Metadata}
+use Rattle.version_parts.specs.declared.scan.Class.TheVariants.{Digit, Letter, Alphanumeric}
+use Rattle.version_parts.specs.declared.scan.Class.TheVariants.{Identifier, Metadata}
 
 -- whether a byte is of the class
 abbrev pub contains : Class → ℕ → Bool

@@ -5,10 +5,11 @@ use Rattle.std.specs.Ordering.{ordering_then}
 use Rattle.std.specs.declared.cmp.Ordering.{Ordering}
 use Rattle.version_parts.specs.Lists.{bytes_cmp, with_end}
 
--- a code writes an order if, whatever bytes follow, the bytes compare as the values do; those of equal values compare
--- as what follows
+-- a code writes an order if, whatever bytes follow, the bytes compare as the values do; those of
+-- equal values compare as what follows
 pub record Writes {A : Type 0} (R : A → A → Ordering) (code : A → List ℕ) : Type 0 where
-  pub compares : (a b : A) (x y : List ℕ) → bytes_cmp (code a ++ x) (code b ++ y) ≡ ordering_then (R a b) (bytes_cmp x y)
+  pub compares : (a b : A) (x y : List ℕ)
+      → bytes_cmp (code a ++ x) (code b ++ y) ≡ ordering_then (R a b) (bytes_cmp x y)
 
 -- the bytes of a list: those of each item, then those of the end
 abbrev pub list_bytes : {A : Type 0} → (Option A → List ℕ) → List A → List ℕ

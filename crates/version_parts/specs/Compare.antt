@@ -1,4 +1,5 @@
--- How two streams of bytes compare: the bytes taken from them, and what these say of all their bytes.
+-- How two streams of bytes compare: the bytes taken from them, and what these say of all their
+-- bytes.
 use Rattle.std.specs.Prelude.{◌≡◌, ℕ, List, ◌∷◌, ◌++◌, Option, Some, None}
 use Rattle.std.specs.Iterator.{YieldsThen}
 use Rattle.std.specs.declared.cmp.Ordering.{Ordering}
@@ -10,9 +11,11 @@ abbrev pub GoesOn : List ℕ → Option ℕ → List ℕ → Type 0
 GoesOn taken None xs = xs ≡ taken
 GoesOn taken (Some x) xs = (rest : List ℕ) × (xs ≡ taken ++ x ∷ rest)
 
--- Both streams gave the same bytes, and then one more each, or None at their end. Any two lists that begin so compare
--- as the answer says, and the answer is Equal only if both streams ended.
-pub record ComparesBytes {A B : Type 0} (a_gives : A → Option ℕ → A → Type 0) (b_gives : B → Option ℕ → B → Type 0) (a : A) (b : B) (answer : Ordering) (a' : A) (b' : B) : Type 0 where
+-- Both streams gave the same bytes, and then one more each, or None at their end. Any two lists
+-- that begin so compare as the answer says, and the answer is Equal only if both streams ended.
+pub record ComparesBytes {A B : Type 0} (a_gives : A → Option ℕ → A → Type 0)
+    (b_gives : B → Option ℕ → B → Type 0) (a : A) (b : B) (answer : Ordering) (a' : A)
+    (b' : B) : Type 0 where
   pub same : List ℕ
   pub x : Option ℕ
   pub y : Option ℕ

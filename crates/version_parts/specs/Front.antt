@@ -1,5 +1,6 @@
 -- Fronts: a front reads a value from a prefix of a text, and gives it with the rest, or None.
-use Rattle.std.specs.Prelude.{◌≡◌, Bool, false, ℕ, zero, suc, List, [], ◌∷◌, length, drop, Option, Some, None, Result, Ok, Err, IsSomeAnd, ◌==◌, ◌≤◌, if◌then◌else◌}
+use Rattle.std.specs.Prelude.{◌≡◌, Bool, false, ℕ, zero, suc, List, [], ◌∷◌, length, drop, Option}
+use Rattle.std.specs.Prelude.{Some, None, Result, Ok, Err, IsSomeAnd, ◌==◌, ◌≤◌, if◌then◌else◌}
 use Rattle.std.specs.List.{prefix_len, take_while}
 use Rattle.std.specs.Option.{option_map, option_and_then, option_map_or}
 use Rattle.std.specs.declared.alloc.AllocError.{AllocError}
@@ -51,7 +52,9 @@ optional front text = option_map_or (λ p. (Some p.0, p.1)) (front text) (None, 
 -- items one after another, as long as they parse, and n at most
 unfoldable pub repeated : {X : Type 0} → Front X → ℕ → List ℕ → List X × List ℕ
 repeated front zero text = ([], text)
-repeated front (suc n) text = option_map_or (λ p. (p.0 ∷ (repeated front n p.1).0, (repeated front n p.1).1)) (front text) ([], text)
+repeated front (suc n) text =
+    option_map_or (λ p. (p.0 ∷ (repeated front n p.1).0, (repeated front n p.1).1)) (front text)
+    ([], text)
 
 -- further elements, each after a dot, as long as they parse, and n at most
 abbrev pub further : {X : Type 0} → Front X → ℕ → List ℕ → List X × List ℕ
@@ -70,10 +73,13 @@ elements_at front text = option_map_or (λ p. p.0) (dotted_front front text) []
 
 -- the rest that a front leaves is no longer than the text
 abbrev pub Consumes : {X : Type 0} → Front X → Type 0
-Consumes {X} front = (text : List ℕ) (x : X) (rest : List ℕ) → front text ≡ Some (x, rest) → length rest ≤ length text
+Consumes {X} front =
+    (text : List ℕ) (x : X) (rest : List ℕ) → front text ≡ Some (x, rest)
+    → length rest ≤ length text
 
--- The answer of a reader, seen by view, is what the front gives. The reader fails only if the front gives a value that
--- owns memory.
-abbrev pub Reads : {V X : Type 0} → (V → X) → (X → Type 0) → Result (Option (V × Bor (List ℕ))) AllocError → Option (X × List ℕ) → Type 0
+-- The answer of a reader, seen by view, is what the front gives. The reader fails only if the front
+-- gives a value that owns memory.
+abbrev pub Reads : {V X : Type 0} → (V → X) → (X → Type 0)
+    → Result (Option (V × Bor (List ℕ))) AllocError → Option (X × List ℕ) → Type 0
 Reads view Owns (Ok answer) front = option_map (λ r. (view r.0, r.1.now)) answer ≡ front
 Reads view Owns (Err e) front = IsSomeAnd front (λ r. Owns r.0)

@@ -1,6 +1,7 @@
--- The last part of a general version: a number, a release candidate such as `3rc1`, a post-release such as `3p`, or any
--- other text.
-use Rattle.std.specs.Prelude.{◌≡◌, ◌<◌, ◌==◌, ℕ, List, length, ◌++◌, Option, Some, None, true, if◌then◌else◌, unwrap_or}
+-- The last part of a general version: a number, a release candidate such as `3rc1`, a post-release
+-- such as `3p`, or any other text.
+use Rattle.std.specs.Prelude.{◌≡◌, ◌<◌, ◌==◌, ℕ, List, length, ◌++◌, Option, Some, None, true}
+use Rattle.std.specs.Prelude.{if◌then◌else◌, unwrap_or}
 use Rattle.std.specs.Char.{is_ascii_alphabetic}
 use Rattle.std.specs.Fmt.{decimal}
 use Rattle.std.specs.Hash as fed
@@ -44,19 +45,22 @@ IsLetters text = (list_all is_ascii_alphabetic text ≡ true) × (0 < length tex
 
 -- the text is a numeral, letters and a numeral
 abbrev pub SpellsRc : List ℕ → ℕ → List ℕ → ℕ → Type 0
-SpellsRc text a letters b = (first last : List ℕ) × (text ≡ first ++ (letters ++ last)) × SpellsNumeral first a × IsLetters letters × SpellsNumeral last b
+SpellsRc text a letters b =
+    (first last : List ℕ) × (text ≡ first ++ (letters ++ last)) × SpellsNumeral first a
+    × IsLetters letters × SpellsNumeral last b
 
 -- the text is a numeral and letters
 abbrev pub SpellsPost : List ℕ → ℕ → List ℕ → Type 0
-SpellsPost text a letters = (first : List ℕ) × (text ≡ first ++ letters) × SpellsNumeral first a × IsLetters letters
+SpellsPost text a letters =
+    (first : List ℕ) × (text ≡ first ++ letters) × SpellsNumeral first a × IsLetters letters
 
 -- the text is neither
 pub record IsOther (text : List ℕ) : Type 0 where
   pub not_rc : (a : ℕ) (letters : List ℕ) (b : ℕ) → ¬ (SpellsRc text a letters b)
   pub not_post : (a : ℕ) (letters : List ℕ) → ¬ (SpellsPost text a letters)
 
--- a part that stands last is this last part: a number is itself, and a text is decomposed if it is a numeral and
--- letters, with or without a numeral after them
+-- a part that stands last is this last part: a number is itself, and a text is decomposed if it is
+-- a numeral and letters, with or without a numeral after them
 abbrev pub IsLastOf : PlainChunk → PlainLast → Type 0
 IsLastOf (chunk.Numeric n) (Numeric m) = n ≡ m
 IsLastOf (chunk.Alphanum text) (Rc a letters b) = SpellsRc text a letters b
@@ -70,7 +74,8 @@ unfoldable pub numbered_last : List ℕ → Option PlainLast
 numbered_last text = do
   number ← unsigned_front text
   letters ← run_front is_ascii_alphabetic number.1
-  if length letters.1 == 0 then Some (Post number.0 letters.0) else option_map (Rc number.0 letters.0) (whole (unsigned_front letters.1))
+  if length letters.1 == 0 then Some (Post number.0 letters.0)
+      else option_map (Rc number.0 letters.0) (whole (unsigned_front letters.1))
 
 -- the last part of a part that stands last
 abbrev pub last_of : PlainChunk → PlainLast

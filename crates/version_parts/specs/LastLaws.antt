@@ -29,7 +29,9 @@ second (Post a t) = 0
 second (Alphanum t) = 0
 
 in_turn : (a b : PlainLast)
-    → then_cmp (on last_rank nat_cmp) (then_cmp (on first nat_cmp) (then_cmp (on text bytes_cmp) (on second nat_cmp))) a b ≡ last_plain_cmp a b
+    → then_cmp (on last_rank nat_cmp)
+    (then_cmp (on first nat_cmp) (then_cmp (on text bytes_cmp) (on second nat_cmp))) a b
+    ≡ last_plain_cmp a b
 unfolding first text second
 in_turn (Numeric m) (Numeric n) = then_equal (nat_cmp m n)
 in_turn (Rc a s b) (Rc c t d) = refl

@@ -14,7 +14,8 @@ bytes_cmp = slice_cmp nat_cmp
 abbrev pub with_end : {A : Type 0} → List A → List (Option A)
 with_end xs = map Some xs ++ None ∷ []
 
--- two lists, under an order that ranks the end among the items: the first place where they differ decides
+-- two lists, under an order that ranks the end among the items: the first place where they differ
+-- decides
 abbrev pub ended_cmp : {A : Type 0} → (Option A → Option A → Ordering) → List A → List A → Ordering
 ended_cmp R = on with_end (slice_cmp R)
 

@@ -1,5 +1,7 @@
--- Chunks of a messy version: digits, a revision such as `r23`, or any other text of letters and digits.
-use Rattle.std.specs.Prelude.{◌≡◌, ◌≢◌, ◌<◌, ◌^◌, ◌==◌, ◌||◌, ◌&&◌, ℕ, Bool, true, List, [], ◌∷◌, ◌++◌, Option, Some, None, nat_lt, if◌then◌else◌}
+-- Chunks of a messy version: digits, a revision such as `r23`, or any other text of letters and
+-- digits.
+use Rattle.std.specs.Prelude.{◌≡◌, ◌≢◌, ◌<◌, ◌^◌, ◌==◌, ◌||◌, ◌&&◌, ℕ, Bool, true, List, [], ◌∷◌}
+use Rattle.std.specs.Prelude.{◌++◌, Option, Some, None, nat_lt, if◌then◌else◌}
 use Rattle.std.specs.Char.{is_ascii_alphanumeric}
 use Rattle.std.specs.Hash as fed
 use Rattle.std.specs.Hash.{HashWrites}
@@ -19,8 +21,8 @@ use Rattle.version_parts.specs.Front.{◌>>=◌, Front, after_mark, run_front}
 use Rattle.version_parts.specs.Lists.{bytes_cmp}
 use Rattle.version_parts.specs.Sep.{is_sep}
 
--- the value of a messy chunk, whether its text is owned or borrowed; digits and a revision keep their value beside
--- their text
+-- the value of a messy chunk, whether its text is owned or borrowed; digits and a revision keep
+-- their value beside their text
 pub data PlainMChunk : Type 0 where
   Digits : ℕ → List ℕ → PlainMChunk
   Rev : ℕ → List ℕ → PlainMChunk
@@ -69,7 +71,9 @@ SpellsMChunk text (Plain kept) = (text ≡ kept) × SpellsPlain text
 
 -- the value of a text of digits, if it is below 2 ^ 32
 abbrev pub value_of_digits : List ℕ → Option ℕ
-value_of_digits text = if is_digits text && nat_lt (digits_value 10 text) (2 ^ 32) then Some (digits_value 10 text) else None
+value_of_digits text =
+    if is_digits text && nat_lt (digits_value 10 text) (2 ^ 32) then Some (digits_value 10 text)
+    else None
 
 -- the value of the digits after an r
 abbrev pub value_of_revision : List ℕ → Option ℕ
@@ -95,7 +99,8 @@ chunk_before run = if ends_chunk run.1 then variant_of run.0 else Plain run.0
 
 -- the longest run of letters and digits, or None if it is empty
 unfoldable pub mchunk_front : Front PlainMChunk
-mchunk_front text = option_map (λ run. (chunk_before run, run.1)) (run_front is_ascii_alphanumeric text)
+mchunk_front text =
+    option_map (λ run. (chunk_before run, run.1)) (run_front is_ascii_alphanumeric text)
 
 -- the number of a `Digits`
 abbrev pub digits_number : PlainMChunk → Option ℕ
@@ -115,10 +120,14 @@ mchunk_value (Digits value text) = value
 mchunk_value (Rev value text) = value
 mchunk_value (Plain text) = 0
 
--- two chunks, field by field: variants in the order of declaration, then the values, then the texts by bytes
+-- two chunks, field by field: variants in the order of declaration, then the values, then the texts
+-- by bytes
 abbrev pub mchunk_plain_cmp : PlainMChunk → PlainMChunk → Ordering
-mchunk_plain_cmp = then_cmp (on mchunk_rank nat_cmp) (then_cmp (on mchunk_value nat_cmp) (on mchunk_text bytes_cmp))
+mchunk_plain_cmp =
+    then_cmp (on mchunk_rank nat_cmp)
+    (then_cmp (on mchunk_value nat_cmp) (on mchunk_text bytes_cmp))
 
 -- what a hash is fed: the place of the variant, the value or 0, and the text
 abbrev pub mchunk_fed : PlainMChunk → HashWrites
-mchunk_fed chunk = fed.u8 (mchunk_rank chunk) ++ (fed.u32 (mchunk_value chunk) ++ fed.str (mchunk_text chunk))
+mchunk_fed chunk =
+    fed.u8 (mchunk_rank chunk) ++ (fed.u32 (mchunk_value chunk) ++ fed.str (mchunk_text chunk))

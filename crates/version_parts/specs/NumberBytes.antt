@@ -7,7 +7,7 @@ use Rattle.std.specs.Int.Digits.{digits_of}
 abbrev pub length_bytes : ℕ → List ℕ
 length_bytes n = replicate (n / 255) 255 ++ (n % 255) ∷ []
 
--- the bytes of a number: the length of its decimal digits, without leading zeros, then the digits in ASCII; zero has no
--- digits
+-- the bytes of a number: the length of its decimal digits, without leading zeros, then the digits
+-- in ASCII; zero has no digits
 abbrev pub number_bytes : ℕ → List ℕ
 number_bytes n = length_bytes (length (digits_of 10 n)) ++ map digit_char (digits_of 10 n)

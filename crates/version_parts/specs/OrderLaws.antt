@@ -28,13 +28,15 @@ then_second Greater b e = cc e
 
 -- ---- orders that are Equal only for the same value
 
-pub options_same : {A : Type 0} {R : A → A → Ordering} → IsAntisymmetric R → IsAntisymmetric (option_cmp R)
+pub options_same : {A : Type 0} {R : A → A → Ordering} → IsAntisymmetric R
+    → IsAntisymmetric (option_cmp R)
 options_same same None None e = refl
 options_same same None (Some b) e = cc e
 options_same same (Some a) None e = cc e
 options_same same (Some a) (Some b) e = ap Some (same a b e)
 
-pub none_last_same : {A : Type 0} {R : A → A → Ordering} → IsAntisymmetric R → IsAntisymmetric (none_last_cmp R)
+pub none_last_same : {A : Type 0} {R : A → A → Ordering} → IsAntisymmetric R
+    → IsAntisymmetric (none_last_cmp R)
 none_last_same same None None e = refl
 none_last_same same None (Some b) e = cc e
 none_last_same same (Some a) None e = cc e
@@ -46,13 +48,16 @@ bytes_same = slice_cmp-IsAntisymmetric nat_cmp-IsAntisymmetric
 -- ---- what a tie says
 
 -- values that compare equal are the same, if the order is Equal only for the same value
-pub same_where_tied : {A : Type 0} {R : A → A → Ordering} → IsAntisymmetric R → {a b : A} → eq_by_cmp R a b ≡ true → a ≡ b
+pub same_where_tied : {A : Type 0} {R : A → A → Ordering} → IsAntisymmetric R → {a b : A}
+    → eq_by_cmp R a b ≡ true → a ≡ b
 same_where_tied {R = R} same {a} {b} tied = same a b ((Equal-is (R a b)).0 tied)
 
 -- ---- an order, and another that breaks its ties
 
--- two orders in turn tie the same values as the second alone, if the first ties all values that the second ties
-pub ties_behind : {A : Type 0} {R S : A → A → Ordering} → ((a b : A) → S a b ≡ Equal → R a b ≡ Equal)
+-- two orders in turn tie the same values as the second alone, if the first ties all values that the
+-- second ties
+pub ties_behind : {A : Type 0} {R S : A → A → Ordering}
+    → ((a b : A) → S a b ≡ Equal → R a b ≡ Equal)
     → (a b : A) → eq_by_cmp S a b ≡ eq_by_cmp (then_cmp R S) a b
 ties_behind {R = R} {S} tied a b = level (R a b) (S a b) (tied a b)
   where
@@ -72,11 +77,15 @@ ties_same {R = R} total same = ties_behind (λ a b tied. rw (same a b tied) (tie
 
 -- ---- None after every value
 
-none_last-turned : {A : Type 0} (R : A → A → Ordering) (a b : Option A) → flip_args (option_cmp (flip_args R)) a b ≡ none_last_cmp R a b
+none_last-turned : {A : Type 0} (R : A → A → Ordering) (a b : Option A)
+    → flip_args (option_cmp (flip_args R)) a b ≡ none_last_cmp R a b
 none_last-turned R None None = refl
 none_last-turned R None (Some b) = refl
 none_last-turned R (Some a) None = refl
 none_last-turned R (Some a) (Some b) = refl
 
-pub none_last_total : {A : Type 0} {R : A → A → Ordering} → IsTotalOrder R → IsTotalOrder (none_last_cmp R)
-none_last_total {R = R} total = subst IsTotalOrder (λ i a b. none_last-turned R a b i) (back_total (options_total (back_total total)))
+pub none_last_total : {A : Type 0} {R : A → A → Ordering} → IsTotalOrder R
+    → IsTotalOrder (none_last_cmp R)
+none_last_total {R = R} total =
+    subst IsTotalOrder (λ i a b. none_last-turned R a b i)
+    (back_total (options_total (back_total total)))

@@ -6,15 +6,20 @@ use Rattle.std.specs.FinMap.{IsAntisymmetric, nat_cmp-IsAntisymmetric}
 use Rattle.std.specs.Option.{option_cmp}
 use Rattle.std.specs.Ordering.{nat_cmp, on, then_cmp}
 use Rattle.version_parts.specs.Lists.{none_last_cmp, with_end}
-use Rattle.version_parts.specs.OrderLaws.{bytes_same, none_last_same, none_last_total, options_same, then_equal, then_first, then_second}
+use Rattle.version_parts.specs.OrderLaws.{bytes_same, none_last_same, none_last_total, options_same}
+use Rattle.version_parts.specs.OrderLaws.{then_equal, then_first, then_second}
 use Rattle.version_parts.specs.PartKey.{PartKey, Word, Number, list_cmp, part_cmp}
 use Rattle.version_parts.specs.Split.{Split, numbered_cmp, split_cmp}
 
 numbered_total : IsTotalOrder numbered_cmp
-numbered_total = then_total (on_total (λ (n : ℕ × List ℕ). n.0) nat_cmp_total) (on_total (λ (n : ℕ × List ℕ). n.1) nat_list_cmp_total)
+numbered_total =
+    then_total (on_total (λ (n : ℕ × List ℕ). n.0) nat_cmp_total)
+    (on_total (λ (n : ℕ × List ℕ). n.1) nat_list_cmp_total)
 
 pub split_total : IsTotalOrder split_cmp
-split_total = then_total (on_total (λ (s : Split). s.before) nat_list_cmp_total) (on_total (λ (s : Split). s.number) (options_total numbered_total))
+split_total =
+    then_total (on_total (λ (s : Split). s.before) nat_list_cmp_total)
+    (on_total (λ (s : Split). s.number) (options_total numbered_total))
 
 -- a part, or the end of a list, as its rank, its word, its number and its suffix
 rank : Option PartKey → ℕ
@@ -38,7 +43,9 @@ suffix None = None
 suffix (Some (Number n s)) = s
 
 in_turn : (a b : Option PartKey)
-    → then_cmp (on rank nat_cmp) (then_cmp (on word (option_cmp split_cmp)) (then_cmp (on number nat_cmp) (on suffix (none_last_cmp split_cmp)))) a b ≡ part_cmp a b
+    → then_cmp (on rank nat_cmp)
+    (then_cmp (on word (option_cmp split_cmp))
+    (then_cmp (on number nat_cmp) (on suffix (none_last_cmp split_cmp)))) a b ≡ part_cmp a b
 unfolding rank word number suffix
 in_turn (Some (Word v)) (Some (Word w)) = then_equal (split_cmp v w)
 in_turn (Some (Number m s)) (Some (Number n t)) = refl
@@ -52,7 +59,8 @@ in_turn (Some (Number m s)) None = refl
 
 pub part_total : IsTotalOrder part_cmp
 part_total = subst IsTotalOrder (λ i a b. in_turn a b i)
-    (then_total (on_total rank nat_cmp_total) (then_total (on_total word (options_total split_total))
+    (then_total (on_total rank nat_cmp_total)
+    (then_total (on_total word (options_total split_total))
     (then_total (on_total number nat_cmp_total) (on_total suffix (none_last_total split_total)))))
 
 pub list_total : IsTotalOrder list_cmp

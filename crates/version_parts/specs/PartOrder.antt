@@ -1,4 +1,5 @@
--- The orders of chunks, last parts and messy chunks: as the parts that they print, and ties field by field.
+-- The orders of chunks, last parts and messy chunks: as the parts that they print, and ties field
+-- by field.
 use Rattle.std.specs.Prelude.{ℕ, List, Some}
 use Rattle.std.specs.Ordering.{on, then_cmp}
 use Rattle.std.specs.declared.cmp.Ordering.{Ordering}

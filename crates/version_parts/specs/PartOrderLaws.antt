@@ -33,5 +33,6 @@ last_cmp_ties = ties_same (on_total last_text as_part_total) lasts_same
 pub mchunk_cmp_total : IsTotalOrder mchunk_cmp
 mchunk_cmp_total = then_total (on_total mchunk_text as_part_total) mchunk_total
 
-pub mchunk_cmp_ties : (a b : PlainMChunk) → eq_by_cmp mchunk_plain_cmp a b ≡ eq_by_cmp mchunk_cmp a b
+pub mchunk_cmp_ties : (a b : PlainMChunk)
+    → eq_by_cmp mchunk_plain_cmp a b ≡ eq_by_cmp mchunk_cmp a b
 mchunk_cmp_ties = ties_same (on_total mchunk_text as_part_total) mchunks_same

@@ -6,7 +6,8 @@ use Rattle.std.specs.Option.{option_to_list}
 use Rattle.version_parts.specs.declared.key.place.AfterNumber.{AfterNumber}
 use Rattle.version_parts.specs.declared.key.place.AfterNumber.TheVariants.{Suffix, Text, Nothing}
 use Rattle.version_parts.specs.declared.key.place.Place.{Place}
-use Rattle.version_parts.specs.declared.key.place.Place.TheVariants.{Part, Split, Numbered, Number, Length, Digit, Rest}
+use Rattle.version_parts.specs.declared.key.place.Place.TheVariants.{Part, Split, Numbered, Number}
+use Rattle.version_parts.specs.declared.key.place.Place.TheVariants.{Length, Digit, Rest}
 use Rattle.version_parts.specs.declared.key.place.Step.{Step}
 use Rattle.version_parts.specs.DigitRun.{number_front, run_value}
 use Rattle.version_parts.specs.NumberBytes.{length_bytes, number_bytes}
@@ -22,11 +23,15 @@ after_number_bytes Nothing text = []
 
 -- the run of digits that a text begins with, and what follows it
 abbrev pub run_bytes : AfterNumber → List ℕ → List ℕ
-run_bytes after text = take_while is_ascii_digit text ++ after_number_bytes after (drop (prefix_len is_ascii_digit text) text)
+run_bytes after text =
+    take_while is_ascii_digit text ++ after_number_bytes after
+    (drop (prefix_len is_ascii_digit text) text)
 
 -- the number of that run, and what follows it
 abbrev pub counted_bytes : AfterNumber → List ℕ → List ℕ
-counted_bytes after text = number_bytes (run_value text) ++ after_number_bytes after (drop (prefix_len is_ascii_digit text) text)
+counted_bytes after text =
+    number_bytes (run_value text) ++ after_number_bytes after
+    (drop (prefix_len is_ascii_digit text) text)
 
 -- the remaining bytes at a place
 unfoldable pub place_bytes : Place → List ℕ → List ℕ
@@ -43,8 +48,8 @@ place_bytes (Rest after) text = after_number_bytes after text
 abbrev pub step_bytes : Step → List ℕ → List ℕ
 step_bytes step text = step.byte ∷ (option_to_list step.then ++ place_bytes step.place text)
 
--- whether there was a next piece: then it is a nonempty prefix of the bytes that were left; else nothing was left, and
--- the piece is unchanged
+-- whether there was a next piece: then it is a nonempty prefix of the bytes that were left; else
+-- nothing was left, and the piece is unchanged
 abbrev pub IsNext : Bool → List ℕ → List ℕ → List ℕ → List ℕ → Type 0
 IsNext true old new before piece = (old ≡ piece ++ new) × ¬ (piece ≡ [])
 IsNext false old new before piece = (old ≡ []) × (new ≡ []) × (piece ≡ before)

@@ -5,7 +5,8 @@ use Rattle.std.specs.Hash.{HashWrites}
 use Rattle.std.specs.List.{join_with_byte}
 use Rattle.version_parts.specs.declared.release.Release.{Release}
 use Rattle.version_parts.specs.Bytes.{dot, hyphen}
-use Rattle.version_parts.specs.Chunk.{PlainChunk, SpellsChunk, chunk_fed, chunk_front, chunk_text, plain_chunk}
+use Rattle.version_parts.specs.Chunk.{PlainChunk, SpellsChunk, chunk_fed, chunk_front, chunk_text}
+use Rattle.version_parts.specs.Chunk.{plain_chunk}
 use Rattle.version_parts.specs.Front.{Front, behind, dotted_front}
 use Rattle.version_parts.specs.Grammar.{SpellsDotted}
 

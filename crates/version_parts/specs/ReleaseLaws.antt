@@ -22,7 +22,9 @@ text : PlainChunk → List ℕ
 text (Numeric n) = []
 text (Alphanum t) = t
 
-in_turn : (a b : PlainChunk) → then_cmp (on class nat_cmp) (then_cmp (on number nat_cmp) (on text bytes_cmp)) a b ≡ chunk_cmp a b
+in_turn : (a b : PlainChunk)
+    → then_cmp (on class nat_cmp) (then_cmp (on number nat_cmp) (on text bytes_cmp)) a b
+    ≡ chunk_cmp a b
 unfolding class number text
 in_turn (Numeric m) (Numeric n) = then_equal (nat_cmp m n)
 in_turn (Numeric m) (Alphanum t) = refl
@@ -31,7 +33,8 @@ in_turn (Alphanum s) (Alphanum t) = refl
 
 pub chunk_total : IsTotalOrder chunk_cmp
 chunk_total = subst IsTotalOrder (λ i a b. in_turn a b i)
-    (then_total (on_total class nat_cmp_total) (then_total (on_total number nat_cmp_total) (on_total text nat_list_cmp_total)))
+    (then_total (on_total class nat_cmp_total)
+    (then_total (on_total number nat_cmp_total) (on_total text nat_list_cmp_total)))
 
 pub chunks_same : IsAntisymmetric chunk_cmp
 chunks_same (Numeric m) (Numeric n) e = ap Numeric (nat_cmp-IsAntisymmetric m n e)

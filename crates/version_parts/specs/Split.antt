@@ -10,7 +10,8 @@ use Rattle.version_parts.specs.Lists.{bytes_cmp}
 use Rattle.version_parts.specs.NumberBytes.{number_bytes}
 use Rattle.version_parts.specs.TextBytes.{text_bytes}
 
--- the text before the first digit, and, if there is a digit, the number there with the text after it
+-- the text before the first digit, and, if there is a digit, the number there with the text after
+-- it
 pub record Split : Type 0 where
   pub before : List ℕ
   pub number : Option (ℕ × List ℕ)
@@ -24,11 +25,13 @@ split_of text = record {
 
 -- two numbers with the texts after them: by value, then by bytes
 abbrev pub numbered_cmp : ℕ × List ℕ → ℕ × List ℕ → Ordering
-numbered_cmp = then_cmp (on (λ (n : ℕ × List ℕ). n.0) nat_cmp) (on (λ (n : ℕ × List ℕ). n.1) bytes_cmp)
+numbered_cmp =
+    then_cmp (on (λ (n : ℕ × List ℕ). n.0) nat_cmp) (on (λ (n : ℕ × List ℕ). n.1) bytes_cmp)
 
 -- two splits: the first texts by bytes, then no number below any number
 abbrev pub split_cmp : Split → Split → Ordering
-split_cmp = then_cmp (on (λ (s : Split). s.before) bytes_cmp) (on (λ (s : Split). s.number) (option_cmp numbered_cmp))
+split_cmp = then_cmp (on (λ (s : Split). s.before) bytes_cmp)
+    (on (λ (s : Split). s.number) (option_cmp numbered_cmp))
 
 -- the bytes of the number and the text after it: 0 if there is no number, else 1 and the two
 abbrev pub numbered_bytes : Option (ℕ × List ℕ) → List ℕ

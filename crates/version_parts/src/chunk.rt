@@ -41,7 +41,7 @@ impl Chunk {
     /// digits and hyphens is an `Alphanum`. If it is all digits, the chunk is a `Numeric` of the number that
     /// [`unsigned`](crate::parsers::unsigned) parses there. Returns None if the run is empty or `unsigned` returns
     /// None. Only the text of an `Alphanum` is allocated. Fails on allocation failure.
-    #[tactic(auto, using(crate::proofs::ShortRuns::classes_with_digits))]
+    #[tactic(auto, using(crate::proofs::lemmas::Chunk::ShortRuns::classes_with_digits))]
     pub fn parse(alloc: Global, i: &str) -> Result<Option<(Chunk, &str)>, AllocError>
         ensures { Reads plain_chunk ChunkOwns result (chunk_front i.now) }
     {
@@ -50,7 +50,7 @@ impl Chunk {
 
     /// Parses the part of a general version at the start of a text, and returns it with the rest. It parses as
     /// [`Chunk::parse`] does, but the run has no hyphens.
-    #[tactic(auto, using(crate::proofs::ShortRuns::classes_with_digits))]
+    #[tactic(auto, using(crate::proofs::lemmas::Chunk::ShortRuns::classes_with_digits))]
     pub fn parse_without_hyphens(
         alloc: Global,
         i: &str,
@@ -338,7 +338,7 @@ impl Element for ReleaseChunk {
 
     ghost consumes = { chunk_consumes is_identifier_byte };
 
-    #[tactic(auto, using(crate::proofs::ShortRuns::classes_with_digits))]
+    #[tactic(auto, using(crate::proofs::lemmas::Chunk::ShortRuns::classes_with_digits))]
     fn skip(i: &str) -> Option<&str> {
         skip_chunk(i, Class::Identifier)
     }
@@ -364,7 +364,7 @@ impl Element for Part {
 
     ghost consumes = { chunk_consumes is_ascii_alphanumeric };
 
-    #[tactic(auto, using(crate::proofs::ShortRuns::classes_with_digits))]
+    #[tactic(auto, using(crate::proofs::lemmas::Chunk::ShortRuns::classes_with_digits))]
     fn skip(i: &str) -> Option<&str> {
         skip_chunk(i, Class::Alphanumeric)
     }

@@ -78,7 +78,7 @@ impl Last {
     }
 
     /// Sets a piece to the bytes of the last part, as a part. Does not allocate.
-    #[tactic(auto, using(crate::proofs::ListBytes::plain_number))]
+    #[tactic(auto, using(crate::proofs::lemmas::PartKey::Lists::plain_number))]
     pub fn set_piece<'a>(&'a self, piece: &mut PieceBytes<'a>)
         ensures { piece.new ≡ part_bytes (Some (part_key (last_text (plain_last self.now)))) }
     {
@@ -214,7 +214,7 @@ impl ListItem for Last {
         self.clone(alloc)
     }
 
-    /// Compares variants, then fields, in the order of their declaration.
+    // Compares variants, then fields, in the order of their declaration.
     fn compare(&self, other: &Last) -> Ordering {
         self.lent().compare(other.lent())
     }
@@ -231,7 +231,7 @@ pub enum LastRef<'a> {
 
 impl<'a> LastRef<'a> {
     /// Scans the part at the start of a text, and returns it as a last part with the rest. Does not allocate.
-    #[tactic(auto, using(crate::proofs::ShortRuns::classes_with_digits))]
+    #[tactic(auto, using(crate::proofs::lemmas::Chunk::ShortRuns::classes_with_digits))]
     pub fn scan(i: &'a str) -> Option<(LastRef<'a>, &'a str)>
         ensures { option_map (λ r. (plain_last_ref r.0, r.1.now)) result
             ≡ map_value last_of (part_front i.now) }

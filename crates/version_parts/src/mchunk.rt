@@ -433,7 +433,7 @@ impl<'a> SectionRef<'a> {
     }
 
     // The chunks.
-    #[tactic(auto, using(crate::proofs::ElementsLeft::all_elements))]
+    #[tactic(auto, using(crate::proofs::lemmas::ElementsLeft::all_elements))]
     fn elements(&self) -> ElementsLeft<'a>
         ensures { elements_left mchunk_front result ≡ self.now }
     {

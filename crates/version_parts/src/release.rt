@@ -43,7 +43,7 @@ impl Release {
     }
 
     /// Returns the chunks as items of a key, and the end of their list. Does not allocate.
-    #[tactic(auto, using(crate::proofs::ListBytes::ended))]
+    #[tactic(auto, using(crate::proofs::lemmas::PartKey::Lists::ended))]
     pub fn left(&self) -> ListLeft<'_, ReleaseChunk>
         ensures { result ≡ release_bytes (plain_release self.now) }
     {
@@ -157,7 +157,7 @@ impl<'a> ReleaseRef<'a> {
     }
 
     // The chunks.
-    #[tactic(auto, using(crate::proofs::ElementsLeft::all_elements))]
+    #[tactic(auto, using(crate::proofs::lemmas::ElementsLeft::all_elements))]
     fn elements(&self) -> ElementsLeft<'a>
         ensures { elements_left chunk_front result ≡ self.now }
     {

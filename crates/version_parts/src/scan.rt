@@ -16,7 +16,7 @@ ghost use Rattle.version_parts.specs.Sep.{plain_sep, sep_front};
 use crate::sep::Sep;
 use std::alloc::{AllocError, Global};
 
-/// A class of bytes that a run is made of.
+// A class of bytes that a run is made of.
 #[derive(Clone, Copy)]
 pub(crate) enum Class {
     Digit,
@@ -121,7 +121,7 @@ pub fn numeral(i: &str) -> Option<(&str, &str)>
 }
 
 // The same, given the longest run of digits at the start of the text, and what follows it.
-#[tactic(auto, using(crate::proofs::NumeralReading::numerals_read))]
+#[tactic(auto, using(crate::proofs::lemmas::Numeral::numerals_read))]
 #[inline(always)]
 pub(crate) fn numeral_of_run<'a>(
     i: &'a str,
@@ -148,7 +148,7 @@ pub(crate) fn numeral_of_run<'a>(
 }
 
 // Whether the value of a run of digits is below 2 ^ 32. That of nine digits is.
-#[tactic(auto, using(crate::proofs::NumeralReading::nine_digits))]
+#[tactic(auto, using(crate::proofs::lemmas::Numeral::nine_digits))]
 #[inline(always)]
 fn is_below_limit(digits: &str) -> bool
     requires some { 0 < length digits.now }
@@ -190,7 +190,7 @@ pub fn hyphenated_alphanums(i: &str) -> Option<(&str, &str)>
     nonempty_run(i, Class::Identifier)
 }
 
-// The value of a run of digits, if it is below 2 ^ 32. Few runs have the ten digits that need this call, so it isn't
+// The value of a run of digits, if it is below 2 ^ 32. Few runs have the ten digits that need this call, so it is not
 // inlined into each scan.
 #[inline(never)]
 pub(crate) fn value_of(digits: &str) -> Option<u32>

@@ -1,16 +1,19 @@
 -- The classes of bytes whose runs are scanned.
 use Rattle.std.specs.Prelude.{◌==◌, ◌||◌, ℕ, Bool, List, [], ◌∷◌, not, if◌then◌else◌}
 use Rattle.std.specs.Char.{is_ascii_alphabetic, is_ascii_alphanumeric, is_ascii_digit}
-use Rattle.version_parts.specs.Bytes.{colon, dot, hyphen, is_identifier_byte, is_metadata_byte, plus}
+use Rattle.version_parts.specs.Bytes.{colon, dot, hyphen, is_identifier_byte, is_metadata_byte}
+use Rattle.version_parts.specs.Bytes.{plus}
 use Rattle.version_parts.specs.Sep.{is_sep}
 use Rattle.version_texts.specs.declared.class.Class.{Class}
-use Rattle.version_texts.specs.declared.class.Class.TheVariants.{Zero, Digit, Letter, Alphanumeric, Identifier, Metadata, Mark, NotDot}
+use Rattle.version_texts.specs.declared.class.Class.TheVariants.{Zero, Digit, Letter, Alphanumeric}
+use Rattle.version_texts.specs.declared.class.Class.TheVariants.{Identifier, Metadata, Mark, NotDot}
 
 -- a dot or a sign
 abbrev pub is_mark : ℕ → Bool
 is_mark b = b == dot || is_sep b
 
--- the rank of a byte: of a digit, a letter, a hyphen, a dot, a plus, a colon, another sign, and any other byte
+-- the rank of a byte: of a digit, a letter, a hyphen, a dot, a plus, a colon, another sign, and any
+-- other byte
 abbrev pub byte_rank : ℕ → ℕ
 byte_rank b =
     if is_ascii_digit b then 0 else

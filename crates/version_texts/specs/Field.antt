@@ -10,7 +10,8 @@ use Rattle.versions.specs.SemVer.{PlainSemVer, semver_text}
 use Rattle.versions.specs.Version.{PlainVersion, version_text}
 use Rattle.versions.specs.Versioning.{PlainVersioning, Ideal, General, Complex}
 use Rattle.version_texts.specs.declared.field.Field.{Field}
-use Rattle.version_texts.specs.declared.field.Field.TheVariants.{Epoch, PreRelease, Release, Metadata}
+use Rattle.version_texts.specs.declared.field.Field.TheVariants.{Epoch, PreRelease, Release}
+use Rattle.version_texts.specs.declared.field.Field.TheVariants.{Metadata}
 
 -- the text of a field, if the version has it
 abbrev pub field_text : Field → PlainVersioning → Option (List ℕ)
@@ -24,17 +25,21 @@ field_text _ _ = None
 
 -- the same version without metadata
 abbrev pub bare_semver : PlainSemVer → PlainSemVer
-bare_semver v = record { major = v.major; minor = v.minor; patch = v.patch; pre_rel = v.pre_rel; meta = None }
+bare_semver v =
+    record { major = v.major; minor = v.minor; patch = v.patch; pre_rel = v.pre_rel; meta = None }
 
 abbrev pub bare_version : PlainVersion → PlainVersion
-bare_version v = record { epoch = v.epoch; chunks = v.chunks; last = v.last; release = v.release; meta = None }
+bare_version v =
+    record { epoch = v.epoch; chunks = v.chunks; last = v.last; release = v.release; meta = None }
 
 -- the same version without metadata, and without its pre-release or release
 abbrev pub numbers_alone : PlainSemVer → PlainSemVer
-numbers_alone v = record { major = v.major; minor = v.minor; patch = v.patch; pre_rel = None; meta = None }
+numbers_alone v =
+    record { major = v.major; minor = v.minor; patch = v.patch; pre_rel = None; meta = None }
 
 abbrev pub body_alone : PlainVersion → PlainVersion
-body_alone v = record { epoch = v.epoch; chunks = v.chunks; last = v.last; release = None; meta = None }
+body_alone v =
+    record { epoch = v.epoch; chunks = v.chunks; last = v.last; release = None; meta = None }
 
 -- the printed text before a field: what is printed without it and what follows it, and its mark
 abbrev pub text_before : Field → PlainVersioning → List ℕ

@@ -1,5 +1,5 @@
--- The list of requirements that a scanned value holds: its first two members, and the others, by their text after the
--- second comma.
+-- The list of requirements that a scanned value holds: its first two members, and the others, by
+-- their text after the second comma.
 use Rattle.std.specs.Prelude.{◌≡◌, ℕ, List, [], ◌∷◌, ◌++◌, Option, Some, None}
 use Rattle.std.specs.Borrow.{Bor}
 use Rattle.std.specs.Option.{unwrap_or}
@@ -16,7 +16,8 @@ from_second None others = []
 from_second (Some second) others = plain_requirement_ref second ∷ unwrap_or (members_of others) []
 
 -- the list that a scanned value holds
-abbrev pub scanned_requirements : RequirementRef → Option RequirementRef → Option (Bor (List ℕ)) → List PlainRequirement
+abbrev pub scanned_requirements : RequirementRef → Option RequirementRef → Option (Bor (List ℕ))
+    → List PlainRequirement
 scanned_requirements first second others = plain_requirement_ref first ∷ from_second second others
 
 -- each text of a version that the requirement matches begins with these bytes

@@ -1,5 +1,6 @@
 -- Where the pieces of a version lie in its text.
-use Rattle.std.specs.Prelude.{◌≡◌, ◌==◌, ◌&&◌, ◌||◌, ◌+◌, ◌-◌, ◌<◌, ◌≤◌, ℕ, Bool, true, List, drop, length, not, slice_range, take, Option, if◌then◌else◌}
+use Rattle.std.specs.Prelude.{◌≡◌, ◌==◌, ◌&&◌, ◌||◌, ◌+◌, ◌-◌, ◌<◌, ◌≤◌, ℕ, Bool, true, List, drop}
+use Rattle.std.specs.Prelude.{length, not, slice_range, take, Option, if◌then◌else◌}
 use Rattle.std.specs.Char.{is_ascii_alphanumeric, is_ascii_digit}
 use Rattle.std.specs.List.{list_all, prefix_len}
 use Rattle.std.specs.Option.{option_map}
@@ -13,7 +14,8 @@ use Rattle.versions.specs.Kind.{versioning_kind}
 use Rattle.versions.specs.Versioning.{versioning_of}
 use Rattle.version_texts.specs.declared.shape.Shape.{Shape}
 use Rattle.version_texts.specs.declared.shape.TailKind.{TailKind}
-use Rattle.version_texts.specs.declared.shape.TailKind.TheVariants.{PreRelease, Nothing, Release, Sections}
+use Rattle.version_texts.specs.declared.shape.TailKind.TheVariants.{PreRelease, Nothing, Release}
+use Rattle.version_texts.specs.declared.shape.TailKind.TheVariants.{Sections}
 
 -- a letter, a digit or a dot: the bytes of a body, and of a section
 abbrev pub is_section_byte : ℕ → Bool
@@ -48,21 +50,34 @@ abbrev pub tail_end : Kind → List ℕ → ℕ
 tail_end kind.Complex text = length text
 tail_end _ text = body_end text + prefix_len (λ b. not (b == plus)) (behind_body text)
 
--- what the tail is: what follows the hyphen of a strict or general version, and whatever follows in a messy one
+-- what the tail is: what follows the hyphen of a strict or general version, and whatever follows in
+-- a messy one
 abbrev pub tail_kind : Kind → List ℕ → TailKind
-tail_kind kind.Ideal text = if begins (λ b. b == hyphen) (behind_body text) then PreRelease else Nothing
-tail_kind kind.General text = if begins (λ b. b == hyphen) (behind_body text) then Release else Nothing
+tail_kind kind.Ideal text =
+    if begins (λ b. b == hyphen) (behind_body text) then PreRelease else Nothing
+tail_kind kind.General text =
+    if begins (λ b. b == hyphen) (behind_body text) then Release else Nothing
 tail_kind kind.Complex text = if length (behind_body text) == 0 then Nothing else Sections
 
 -- the shape of a text of that kind
 abbrev pub shape_at : Kind → List ℕ → Shape
-shape_at k text = record { kind = k; tail = tail_kind k text; body = body_start text; end = body_end text; tail_end = tail_end k text }
+shape_at k text =
+    record {
+      kind =
+          k;
+      tail = tail_kind k text;
+      body =
+          body_start text;
+      end = body_end text;
+      tail_end = tail_end k text;
+    }
 
 -- the shape of a text, or None if it is not a version
 abbrev pub shape_of : List ℕ → Option Shape
 shape_of text = option_map (λ v. shape_at (versioning_kind v) text) (versioning_of text)
 
--- the bytes of the epoch, without its colon; of the body; and of the tail, without the byte before it
+-- the bytes of the epoch, without its colon; of the body; and of the tail, without the byte before
+-- it
 abbrev pub epoch_in : List ℕ → Shape → List ℕ
 epoch_in text s = take (s.body - 1) text
 

@@ -1,5 +1,6 @@
 -- What sinks become as bytes are written.
-use Rattle.std.specs.Prelude.{◌≡◌, ℕ, Bool, true, false, zero, suc, ◌+◌, ◌-◌, ◌^◌, min, List, [], ◌∷◌, ◌++◌, length, refl}
+use Rattle.std.specs.Prelude.{◌≡◌, ℕ, Bool, true, false, zero, suc, ◌+◌, ◌-◌, ◌^◌, min, List, []}
+use Rattle.std.specs.Prelude.{◌∷◌, ◌++◌, length, refl}
 use Rattle.std.specs.Ordering.{ordering_then}
 use Rattle.std.specs.declared.cmp.Ordering.{Ordering}
 use Rattle.std.specs.declared.cmp.Ordering.TheVariants.{Less}
@@ -11,7 +12,8 @@ use Rattle.version_texts.specs.declared.sinks.Growing.{Growing}
 use Rattle.version_texts.specs.declared.sinks.Count.{Count}
 use Rattle.version_texts.specs.declared.sinks.Room.{Room}
 
--- whatever is written to the last sink leads to what is written to the first one with the bytes before it
+-- whatever is written to the last sink leads to what is written to the first one with the bytes
+-- before it
 abbrev pub Leads : {A B : Type 0} → (A → List ℕ → B) → A → List ℕ → A → Type 0
 Leads outcome first bytes last = (more : List ℕ) → outcome last more ≡ outcome first (bytes ++ more)
 
@@ -19,8 +21,10 @@ pub leads_none : {A B : Type 0} (outcome : A → List ℕ → B) (sink : A) → 
 leads_none outcome sink more = refl
 
 pub leads_both : {A B : Type 0} (outcome : A → List ℕ → B) (first middle last : A) (xs ys : List ℕ)
-    → Leads outcome first xs middle → Leads outcome middle ys last → Leads outcome first (xs ++ ys) last
-leads_both outcome first middle last xs ys h k more = k more ∙ h (ys ++ more) ∙ ap (outcome first) (sym (append_assoc xs ys more))
+    → Leads outcome first xs middle → Leads outcome middle ys last
+    → Leads outcome first (xs ++ ys) last
+leads_both outcome first middle last xs ys h k more =
+    k more ∙ h (ys ++ more) ∙ ap (outcome first) (sym (append_assoc xs ys more))
 
 -- a number, or the largest number of 64 bits if it is larger
 abbrev pub saturated : ℕ → ℕ
@@ -43,19 +47,23 @@ room_with room more = (put_at room.room.now room.end more, saturated (room.end +
 
 -- the same buffer, after the bytes
 abbrev pub LeadsRoom : Room → List ℕ → Room → Type 0
-LeadsRoom first bytes last = (last.room.ghost_name ≡ first.room.ghost_name) × Leads room_with first bytes last
+LeadsRoom first bytes last =
+    (last.room.ghost_name ≡ first.room.ghost_name) × Leads room_with first bytes last
 
 pub room_none : (room : Room) → LeadsRoom room [] room
 room_none room = (refl, leads_none room_with room)
 
-pub room_both : (first middle last : Room) (xs ys : List ℕ) → LeadsRoom first xs middle → LeadsRoom middle ys last → LeadsRoom first (xs ++ ys) last
-room_both first middle last xs ys h k = (k.0 ∙ h.0, leads_both room_with first middle last xs ys h.1 k.1)
+pub room_both : (first middle last : Room) (xs ys : List ℕ) → LeadsRoom first xs middle
+    → LeadsRoom middle ys last → LeadsRoom first (xs ++ ys) last
+room_both first middle last xs ys h k =
+    (k.0 ∙ h.0, leads_both room_with first middle last xs ys h.1 k.1)
 
 -- how the bytes written and more compare with the given bytes
 abbrev pub order_with : Beside → List ℕ → Ordering
 order_with beside more = ordering_then beside.order (bytes_cmp more beside.left.now)
 
--- whether bytes that compare so with a low and a high bound are at least the low and below the high one
+-- whether bytes that compare so with a low and a high bound are at least the low and below the high
+-- one
 abbrev pub is_between : Ordering → Ordering → Bool
 is_between Less high = false
 is_between low Less = true
@@ -65,8 +73,9 @@ is_between low high = false
 abbrev pub between_with : Between → List ℕ → Bool
 between_with bounds more = is_between (order_with bounds.low more) (order_with bounds.high more)
 
--- a list before and after bytes, with whether a request was refused then: a list after a refused request stays, one
--- that grows has the bytes, and one whose request is refused on the way has some of them
+-- a list before and after bytes, with whether a request was refused then: a list after a refused
+-- request stays, one that grows has the bytes, and one whose request is refused on the way has some
+-- of them
 abbrev pub ListTakes : Bool → Bool → List ℕ → List ℕ → List ℕ → Type 0
 ListTakes true true before bytes after = after ≡ before
 ListTakes true false before bytes after = ⊥
@@ -76,20 +85,29 @@ ListTakes false false before bytes after = after ≡ before ++ bytes
 -- the same list, after the bytes
 abbrev pub LeadsList : Growing → List ℕ → Growing → Type 0
 LeadsList first bytes last =
-    (last.list.ghost_name ≡ first.list.ghost_name) × ListTakes first.refused last.refused first.list.now.items bytes last.list.now.items
+    (last.list.ghost_name ≡ first.list.ghost_name)
+    × ListTakes first.refused last.refused first.list.now.items bytes last.list.now.items
 
 takes_nothing : (refused : Bool) (items : List ℕ) → ListTakes refused refused items [] items
 takes_nothing true items = refl
 takes_nothing false items = sym (append-nil items)
 
-takes_in_turn : (first middle last : Bool) (before between after xs ys : List ℕ) → ListTakes first middle before xs between
+takes_in_turn : (first middle last : Bool) (before between after xs ys : List ℕ)
+    → ListTakes first middle before xs between
     → ListTakes middle last between ys after → ListTakes first last before (xs ++ ys) after
 takes_in_turn true true true before between after xs ys h k = k ∙ h
 takes_in_turn true true false before between after xs ys h k = k
 takes_in_turn true false last before between after xs ys h k = absurd h
 takes_in_turn false true true before between after xs ys (left, g) k = (
   left ++ ys,
-  record { taken = g.taken; bytes_are = ap (λ (l : List ℕ). l ++ ys) g.bytes_are ∙ append_assoc g.taken left ys; new_is = k ∙ g.new_is },
+  record {
+    taken =
+        g.taken;
+    bytes_are =
+        ap (λ (l : List ℕ). l ++ ys) g.bytes_are ∙ append_assoc g.taken left ys;
+    new_is =
+        k ∙ g.new_is;
+  },
 )
 takes_in_turn false true false before between after xs ys h k = absurd k
 takes_in_turn false false true before between after xs ys h (left, g) = (
@@ -100,11 +118,16 @@ takes_in_turn false false true before between after xs ys h (left, g) = (
     new_is = g.new_is ∙ ap (λ (l : List ℕ). l ++ g.taken) h ∙ append_assoc before xs g.taken;
   },
 )
-takes_in_turn false false false before between after xs ys h k = k ∙ ap (λ (l : List ℕ). l ++ ys) h ∙ append_assoc before xs ys
+takes_in_turn false false false before between after xs ys h k =
+    k ∙ ap (λ (l : List ℕ). l ++ ys) h ∙ append_assoc before xs ys
 
 pub list_none : (list : Growing) → LeadsList list [] list
 list_none list = (refl, takes_nothing list.refused list.list.now.items)
 
-pub list_both : (first middle last : Growing) (xs ys : List ℕ) → LeadsList first xs middle → LeadsList middle ys last → LeadsList first (xs ++ ys) last
-list_both first middle last xs ys h k =
-    (k.0 ∙ h.0, takes_in_turn first.refused middle.refused last.refused first.list.now.items middle.list.now.items last.list.now.items xs ys h.1 k.1)
+pub list_both : (first middle last : Growing) (xs ys : List ℕ) → LeadsList first xs middle
+    → LeadsList middle ys last → LeadsList first (xs ++ ys) last
+list_both first middle last xs ys h k = (
+  k.0 ∙ h.0,
+  takes_in_turn first.refused middle.refused last.refused first.list.now.items
+      middle.list.now.items last.list.now.items xs ys h.1 k.1,
+)

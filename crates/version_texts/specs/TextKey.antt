@@ -13,7 +13,8 @@ use Rattle.versions.specs.Tail as tail
 use Rattle.versions.specs.Tail.{Tail}
 use Rattle.version_texts.specs.declared.shape.Shape.{Shape}
 use Rattle.version_texts.specs.declared.shape.TailKind.{TailKind}
-use Rattle.version_texts.specs.declared.shape.TailKind.TheVariants.{PreRelease, Nothing, Release, Sections}
+use Rattle.version_texts.specs.declared.shape.TailKind.TheVariants.{PreRelease, Nothing, Release}
+use Rattle.version_texts.specs.declared.shape.TailKind.TheVariants.{Sections}
 use Rattle.version_texts.specs.Shape.{body_in, epoch_in, tail_in}
 
 -- the pieces of a text between its dots
@@ -26,7 +27,8 @@ parts_of text = map part_key (pieces text)
 
 -- the chunk of a piece of a release: digits are a number
 abbrev pub chunk_of : List ℕ → PlainChunk
-chunk_of text = if list_all is_ascii_digit text then Numeric (digits_value 10 text) else Alphanum text
+chunk_of text =
+    if list_all is_ascii_digit text then Numeric (digits_value 10 text) else Alphanum text
 
 -- the chunks of a release
 abbrev pub chunks_of : List ℕ → List PlainChunk
@@ -55,9 +57,17 @@ tail_of Nothing text = tail.Bare
 tail_of Release text = tail.Released (chunks_of text)
 tail_of Sections text = tail_of_sections (sections_of text)
 
--- the key of the version that a text holds: the value of its epoch, the parts of its body, and its tail
+-- the key of the version that a text holds: the value of its epoch, the parts of its body, and its
+-- tail
 abbrev pub text_key : List ℕ → Shape → Key
-text_key text s = record { epoch = digits_value 10 (epoch_in text s); body = parts_of (body_in text s); tail = tail_of s.tail (tail_in text s) }
+text_key text s =
+    record {
+      epoch =
+          digits_value 10 (epoch_in text s);
+      body =
+          parts_of (body_in text s);
+      tail = tail_of s.tail (tail_in text s);
+    }
 
 -- the bytes of a key before its tail
 abbrev pub front_bytes : Key → List ℕ

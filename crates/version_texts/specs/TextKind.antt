@@ -1,5 +1,6 @@
 -- Which kind a text is, by its pieces.
-use Rattle.std.specs.Prelude.{◌==◌, ◌&&◌, ◌||◌, ◌+◌, ◌^◌, ℕ, Bool, true, List, [], ◌∷◌, drop, length, nat_lt, not, Option, Some, None, if◌then◌else◌}
+use Rattle.std.specs.Prelude.{◌==◌, ◌&&◌, ◌||◌, ◌+◌, ◌^◌, ℕ, Bool, true, List, [], ◌∷◌, drop}
+use Rattle.std.specs.Prelude.{length, nat_lt, not, Option, Some, None, if◌then◌else◌}
 use Rattle.std.specs.Char.{is_ascii_alphanumeric, is_ascii_digit}
 use Rattle.std.specs.List.{list_all, prefix_len, slice_split, take_while}
 use Rattle.std.specs.Str.Parse.{digits_value}
@@ -18,9 +19,11 @@ is_run test text = not (length text == 0) && list_all test text
 
 -- digits without a leading zero, of value below 2 ^ 32
 unfoldable pub is_numeral : List ℕ → Bool
-is_numeral text = is_digits text && (length text == 1 || not (begins (λ b. b == 48) text)) && nat_lt (digits_value 10 text) (2 ^ 32)
+is_numeral text =
+    is_digits text && (length text == 1 || not (begins (λ b. b == 48) text)) && nat_lt
+    (digits_value 10 text) (2 ^ 32)
 
--- a numeral, or a run that isn't all digits
+-- a numeral, or a run that is not all digits
 abbrev pub is_chunk : (ℕ → Bool) → List ℕ → Bool
 is_chunk test text = is_run test text && (is_numeral text || not (list_all is_ascii_digit text))
 
@@ -35,10 +38,13 @@ is_metadata_tail (b ∷ text) = b == plus && is_run is_metadata_byte text
 
 -- a release, then perhaps a plus and metadata
 abbrev pub is_released : List ℕ → Bool
-is_released text = list_all (is_chunk is_identifier_byte) (pieces (take_while is_not_plus text)) && is_metadata_tail (drop (prefix_len is_not_plus text) text)
+is_released text =
+    list_all (is_chunk is_identifier_byte)
+    (pieces (take_while is_not_plus text)) && is_metadata_tail
+    (drop (prefix_len is_not_plus text) text)
 
--- what may follow the body of a strict or general version: perhaps a hyphen and a release, then perhaps a plus and
--- metadata
+-- what may follow the body of a strict or general version: perhaps a hyphen and a release, then
+-- perhaps a plus and metadata
 abbrev pub is_tail : List ℕ → Bool
 is_tail [] = true
 is_tail (b ∷ text) = if b == hyphen then is_released text else is_metadata_tail (b ∷ text)
@@ -60,13 +66,18 @@ epoch_is_numeral text = body_start text == 0 || is_numeral (take_while is_ascii_
 
 -- whether the text spells a general version, a strict one among them
 abbrev pub is_general : List ℕ → Bool
-is_general text = epoch_is_numeral text && list_all (is_chunk is_ascii_alphanumeric) (pieces (body_of text)) && is_tail (behind_body text)
+is_general text =
+    epoch_is_numeral text && list_all (is_chunk is_ascii_alphanumeric)
+    (pieces (body_of text)) && is_tail (behind_body text)
 
 -- whether the body is three runs of digits, and no epoch stands before it
 abbrev pub has_three_numbers : List ℕ → Bool
-has_three_numbers text = body_start text == 0 && length (pieces (body_of text)) == 3 && list_all is_digits (pieces (body_of text))
+has_three_numbers text =
+    body_start text == 0 && length (pieces (body_of text)) == 3 && list_all is_digits
+    (pieces (body_of text))
 
--- whether the text spells a messy version: runs of letters and digits with single dots and signs between
+-- whether the text spells a messy version: runs of letters and digits with single dots and signs
+-- between
 abbrev pub is_messy : List ℕ → Bool
 is_messy text = list_all (is_run is_ascii_alphanumeric) (slice_split is_mark text)
 

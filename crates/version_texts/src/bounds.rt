@@ -32,7 +32,7 @@ pub struct Held {
 }
 
 /// Returns how large the two buffers must be for `write_range`: the greatest length of a member's low bound, and that
-/// of a member's high bound. None if the bytes do not parse as a list. Doesn't allocate.
+/// of a member's high bound. None if the bytes do not parse as a list. Does not allocate.
 pub fn rooms_for(list: &[u8]) -> Option<(usize, usize)>
     ensures { result ≡ option_map rooms_of (requirements_of list.now) }
 {
@@ -78,7 +78,7 @@ fn high_length(member: &RequirementRef<'_>) -> usize
 
 /// Writes the range that a list asks for into two buffers: in turn the later low bound and the earlier high bound of
 /// its members. Returns None if the bytes do not parse as a list. `rooms_for` says how large the buffers must be; in
-/// smaller ones the bounds are cut short. What follows a bound in its buffer may have changed. Doesn't allocate.
+/// smaller ones the bounds are cut short. What follows a bound in its buffer may have changed. Does not allocate.
 pub fn write_range(list: &[u8], low: &mut [u8], high: &mut [u8]) -> Option<Held>
     ensures parses { is_some result ≡ is_some (requirements_of list.now) }
     ensures range { IfSome (requirements_of list.now) (HaveRoom (length low.old) (length high.old))

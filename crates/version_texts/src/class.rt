@@ -75,7 +75,7 @@ impl Class {
         }
     }
 
-    /// Returns whether bytes of a rank are of the class, which is of whole ranks and has the digits. `END` isn't.
+    /// Returns whether bytes of a rank are of the class, which is of whole ranks and has the digits. `END` is not.
     #[inline(always)]
     pub fn has_rank(self, rank: u8) -> bool
         requires { HasDigits (contains self) }

@@ -286,7 +286,7 @@ pub(crate) fn tail_at(text: &[u8], shape: Shape) -> &[u8]
 }
 
 /// Writes what the keys of an epoch begin with, by its digits, if their bodies begin with the parts of a text. Returns
-/// early once the sink is decided. Doesn't allocate.
+/// early once the sink is decided. Does not allocate.
 #[inline(always)]
 pub fn put_begun<S: Sink>(sink: &mut S, digits: &[u8], parts: Option<&[u8]>)
     requires digits { list_all is_ascii_digit digits.now ≡ true }
@@ -300,7 +300,7 @@ pub fn put_begun<S: Sink>(sink: &mut S, digits: &[u8], parts: Option<&[u8]>)
     }
 }
 
-/// Writes the key of a version, by its text and its shape. Returns early once the sink is decided. Doesn't allocate.
+/// Writes the key of a version, by its text and its shape. Returns early once the sink is decided. Does not allocate.
 #[inline(always)]
 pub fn put_key<S: Sink>(sink: &mut S, text: &[u8], shape: Shape)
     requires { Fits text.now shape }
@@ -311,7 +311,7 @@ pub fn put_key<S: Sink>(sink: &mut S, text: &[u8], shape: Shape)
     }
 }
 
-/// Writes the epoch and the body of a key. Returns whether the tail has to follow: not if the sink is decided.
+// Writes the epoch and the body of a key. Returns whether the tail has to follow: not if the sink is decided.
 #[inline(always)]
 pub(crate) fn put_front<S: Sink>(sink: &mut S, text: &[u8], shape: Shape) -> bool
     requires { Fits text.now shape }

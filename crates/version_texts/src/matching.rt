@@ -18,7 +18,7 @@ use versions::Kind;
 
 /// Returns whether `~wanted` matches a version: by the rule of strict versions if both are strict, by that of general
 /// ones if both are general, else never.
-#[tactic(auto, using(crate::proofs::ShapesMatch::kinds))]
+#[tactic(auto, using(crate::proofs::lemmas::Matching::kinds))]
 pub fn matches_tilde(wanted: &[u8], wanted_shape: Shape, text: &[u8], shape: Shape) -> bool
     requires wanted_is { shape_of wanted.now ≡ Some wanted_shape }
     requires text_is { shape_of text.now ≡ Some shape }
@@ -36,7 +36,7 @@ pub fn matches_tilde(wanted: &[u8], wanted_shape: Shape, text: &[u8], shape: Sha
 
 /// Returns whether `^wanted` matches a version: by the rule of strict versions if both are strict, by that of general
 /// ones if both are general, else never.
-#[tactic(auto, using(crate::proofs::ShapesMatch::kinds))]
+#[tactic(auto, using(crate::proofs::lemmas::Matching::kinds))]
 pub fn matches_caret(wanted: &[u8], wanted_shape: Shape, text: &[u8], shape: Shape) -> bool
     requires wanted_is { shape_of wanted.now ≡ Some wanted_shape }
     requires text_is { shape_of text.now ≡ Some shape }
@@ -53,7 +53,7 @@ pub fn matches_caret(wanted: &[u8], wanted_shape: Shape, text: &[u8], shape: Sha
 }
 
 /// Returns whether two versions are the same, except for metadata of strict ones.
-#[tactic(auto, using(crate::proofs::ShapesMatch::kinds))]
+#[tactic(auto, using(crate::proofs::lemmas::Matching::kinds))]
 pub fn is_same(wanted: &[u8], wanted_shape: Shape, text: &[u8], shape: Shape) -> bool
     requires wanted_is { shape_of wanted.now ≡ Some wanted_shape }
     requires text_is { shape_of text.now ≡ Some shape }

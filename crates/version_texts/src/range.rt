@@ -29,7 +29,7 @@ fn before_last_dot(text: &[u8]) -> Option<&[u8]>
     None
 }
 
-// The text through its first part that isn't a plain zero, or all of it if each part is one.
+// The text through its first part that is not a plain zero, or all of it if each part is one.
 fn through_other(text: &[u8]) -> &[u8]
     ensures parts { parts_of result.now ≡ through_other (parts_of text.now) }
     ensures front { (rest : List ℕ) × (text.now ≡ result.now ++ rest) }
@@ -70,7 +70,7 @@ fn put_kept<S: Sink>(sink: &mut S, text: &[u8], shape: Shape, kept: Kept)
     put_begun(sink, epoch_at(text, shape), parts);
 }
 
-/// Writes an end of a range, by the text and the shape of its version. Doesn't allocate.
+/// Writes an end of a range, by the text and the shape of its version. Does not allocate.
 #[inline(always)]
 pub fn put_end<S: Sink>(sink: &mut S, text: &[u8], shape: Shape, end: End)
     requires { Fits text.now shape }

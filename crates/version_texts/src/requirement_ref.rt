@@ -27,14 +27,14 @@ pub struct RequirementRef<'a> {
 
 impl<'a> RequirementRef<'a> {
     /// Parses the whole text as a requirement; returns None if it does not parse. A requirement is an operator and a
-    /// text that `VersioningRef::new` parses, or `*` alone. Doesn't allocate.
+    /// text that `VersioningRef::new` parses, or `*` alone. Does not allocate.
     pub fn new(s: &'a str) -> Option<RequirementRef<'a>>
         ensures { option_map plain_requirement_ref result ≡ requirement_of s.now }
     {
         RequirementRef::from_bytes(s.as_bytes())
     }
 
-    /// Parses bytes as `new` parses their text; returns None if they do not parse. Doesn't allocate.
+    /// Parses bytes as `new` parses their text; returns None if they do not parse. Does not allocate.
     pub fn from_bytes(bytes: &'a [u8]) -> Option<RequirementRef<'a>>
         ensures { option_map plain_requirement_ref result ≡ requirement_of bytes.now }
     {
@@ -50,7 +50,7 @@ impl<'a> RequirementRef<'a> {
     /// Returns whether the version matches. `=` compares by `==`, and `>`, `>=`, `<` and `<=` by precedence. `~` and
     /// `^` match by the rule of strict versions if both are strict, by that of general ones if both are general, else
     /// never. `*` matches every version, with or without a version of its own. Any other operator without a version
-    /// matches nothing. Doesn't allocate.
+    /// matches nothing. Does not allocate.
     pub fn matches(&self, version: &VersioningRef<'_>) -> bool
         ensures { IsTrue result
             ↔ Matches (plain_requirement_ref self.now) (plain_versioning_ref version.now) }
@@ -62,7 +62,7 @@ impl<'a> RequirementRef<'a> {
     }
 
     /// Returns the range of keys that it asks for. `Err` means allocation failure.
-    #[tactic(auto, using(versions::proofs::RangeLaws::requirement_in, versions::proofs::RangeLaws::requirement_exact))]
+    #[tactic(auto, using(versions::proofs::lemmas::Range::requirement_in, versions::proofs::lemmas::Range::requirement_exact))]
     pub fn range(&self, alloc: Global) -> Result<Range, AllocError>
         ensures range { IfOk result
             (λ range. plain_range range ≡ requirement_range (plain_requirement_ref self.now)) }

@@ -44,7 +44,7 @@ impl<'a> Model for RequirementsRef<'a> {
 
 impl<'a> RequirementsRef<'a> {
     /// Parses the whole text as a list; returns None if it does not parse. A list is one requirement or more with
-    /// single commas between. So neither the empty text nor an empty member parses. Doesn't allocate.
+    /// single commas between. So neither the empty text nor an empty member parses. Does not allocate.
     pub fn new(s: &'a str) -> Option<RequirementsRef<'a>>
         ensures { result ≡ requirements_of s.now }
     {
@@ -52,7 +52,7 @@ impl<'a> RequirementsRef<'a> {
     }
 
     /// Parses bytes as `new` parses their text; returns None if they do not parse. Bytes that are not UTF-8 are not a
-    /// list. Doesn't allocate.
+    /// list. Does not allocate.
     pub fn from_bytes(bytes: &'a [u8]) -> Option<RequirementsRef<'a>>
         ensures { result ≡ requirements_of bytes.now }
     {
@@ -77,8 +77,8 @@ impl<'a> RequirementsRef<'a> {
         })
     }
 
-    /// Returns whether each member matches the version. The members are tried in turn, up to the first that doesn't
-    /// match. Doesn't allocate.
+    /// Returns whether each member matches the version. The members are tried in turn, up to the first that does not
+    /// match. Does not allocate.
     pub fn matches(&self, version: &VersioningRef<'_>) -> bool
         ensures { IsTrue result ↔ MatchesAll self.now (plain_versioning_ref version.now) }
     {
@@ -86,11 +86,12 @@ impl<'a> RequirementsRef<'a> {
     }
 
     /// Returns the range of keys that it asks for: what is in the range of each member. `Err` means allocation failure.
-    #[tactic(auto, using(versions::proofs::RangeLaws::list_in, versions::proofs::RangeLaws::list_exact))]
+    #[tactic(auto, using(versions::proofs::lemmas::Range::list_in, versions::proofs::lemmas::Range::list_exact))]
     pub fn range(&self, alloc: Global) -> Result<Range, AllocError>
         ensures range { IfOk result (λ range. plain_range range ≡ range_of self.now) }
 
-        // Each version that the list matches is in the range. If the range is exact, the list matches each version in it.
+        // Each version that the list matches is in the range. If the range is exact, the list matches each version in
+        // it.
         ensures within { IfOk result (λ range. (v : PlainVersioning)
             → MatchesAll self.now v → IsIn (plain_range range) v) }
         ensures exact { IfOk result (λ range. (v : PlainVersioning) → IsTrue range.is_exact
@@ -110,7 +111,7 @@ impl<'a> RequirementsRef<'a> {
         }
     }
 
-    /// Returns whether the bytes parse as a version that each member matches. Doesn't allocate.
+    /// Returns whether the bytes parse as a version that each member matches. Does not allocate.
     pub fn keeps(&self, text: &[u8]) -> bool
         ensures { IsTrue result ↔ Keeps self.now (versioning_of text.now) }
     {
@@ -126,7 +127,7 @@ impl<'a> RequirementsRef<'a> {
 }
 
 /// Returns whether bytes are a list whose members each match the version, or None if they do not parse as a list. It
-/// stores no member, so it is faster than `from_bytes` and `matches` for one version. Doesn't allocate.
+/// stores no member, so it is faster than `from_bytes` and `matches` for one version. Does not allocate.
 pub fn list_matches(list: &[u8], version: &VersioningRef<'_>) -> Option<bool>
     ensures parses { is_some result ≡ is_some (requirements_of list.now) }
     ensures matches { IfSome result (λ all. IsTrue all ↔ IsSomeAnd (requirements_of list.now)

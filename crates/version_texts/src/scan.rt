@@ -17,7 +17,7 @@ use crate::shape::{Shape, TailKind};
 use versions::Kind;
 
 /// Scans a text once, and returns its shape, or None if it is not a version of any kind. Takes time linear in the text.
-/// Doesn't allocate.
+/// Does not allocate.
 #[inline(always)]
 pub fn scan(text: &[u8]) -> Option<Shape>
     ensures { result ≡ shape_of text.now }
@@ -270,7 +270,7 @@ fn is_below_limit(digits: &[u8]) -> bool
     digits.len() < 10 || value_fits(digits)
 }
 
-// The same for digits of any length. Few have the ten digits that need this call, so it isn't inlined.
+// The same for digits of any length. Few have the ten digits that need this call, so it is not inlined.
 #[inline(never)]
 fn value_fits(digits: &[u8]) -> bool
     requires { is_digits digits.now ≡ true }

@@ -17,7 +17,7 @@ use std::alloc::AllocError;
 use std::cmp::Ordering;
 use versions::End;
 
-/// A count of bytes. Past the largest number it stays there.
+// A count of bytes. Past the largest number it stays there.
 #[derive(Drop)]
 pub(crate) struct Count {
     length: usize,
@@ -51,7 +51,7 @@ impl Count {
     }
 }
 
-/// A buffer and the place after the bytes written. Bytes that don't fit are only counted.
+// A buffer and the place after the bytes written. Bytes that do not fit are only counted.
 #[derive(Drop)]
 pub(crate) struct Room<'a> {
     room: &'a mut [u8],
@@ -91,7 +91,7 @@ impl<'a> Room<'a> {
     }
 }
 
-/// A comparison of the bytes written with given ones, of which these are left, as far as no byte differed.
+// A comparison of the bytes written with given ones, of which these are left, as far as no byte differed.
 #[derive(Drop)]
 pub(crate) struct Beside<'a> {
     left: &'a [u8],
@@ -146,7 +146,7 @@ impl<'a> Beside<'a> {
     }
 }
 
-/// A list that grows. After a refused request it takes no more bytes.
+// A list that grows. After a refused request it takes no more bytes.
 #[derive(Drop)]
 pub(crate) struct Growing<'a> {
     list: &'a mut Vec<u8>,
@@ -176,7 +176,7 @@ impl<'a> Sink for Growing<'a> {
     ghost takes_both = { list_both };
 }
 
-/// Two comparisons of the bytes written, with a low and a high bound.
+// Two comparisons of the bytes written, with a low and a high bound.
 #[derive(Drop)]
 pub(crate) struct Between<'a> {
     low: Beside<'a>,
@@ -215,7 +215,7 @@ impl<'a> Between<'a> {
     }
 }
 
-/// Returns how many bytes the key of a version has. Doesn't allocate.
+/// Returns how many bytes the key of a version has. Does not allocate.
 pub fn key_length(text: &[u8], shape: Shape) -> usize
     requires { Fits text.now shape }
     ensures { result ≡ saturated (length (key_bytes (text_key text.now shape))) }
@@ -226,7 +226,7 @@ pub fn key_length(text: &[u8], shape: Shape) -> usize
 }
 
 /// Writes the key of a version into a buffer from a place on, as far as it fits, and returns the place after it.
-/// Doesn't allocate.
+/// Does not allocate.
 // Not inlined: so the writer has one caller with a room, and the compiler keeps the room in registers.
 #[inline(never)]
 pub fn write_key(text: &[u8], shape: Shape, room: &mut [u8], start: usize) -> usize
@@ -257,7 +257,7 @@ fn write_tail(text: &[u8], shape: Shape, room: &mut [u8], start: usize) -> usize
     sink.end()
 }
 
-/// Compares the key of a version with given bytes, as far as they are the same and one byte further. Doesn't allocate.
+/// Compares the key of a version with given bytes, as far as they are the same and one byte further. Does not allocate.
 #[inline(always)]
 pub fn compare_key(text: &[u8], shape: Shape, bytes: &[u8]) -> Ordering
     requires { Fits text.now shape }
@@ -271,7 +271,7 @@ pub fn compare_key(text: &[u8], shape: Shape, bytes: &[u8]) -> Ordering
     sink.order()
 }
 
-/// Returns whether the key of a version is at least the low bound and below the high one. Doesn't allocate.
+/// Returns whether the key of a version is at least the low bound and below the high one. Does not allocate.
 #[inline(always)]
 pub fn key_between(text: &[u8], shape: Shape, low: &[u8], high: &[u8]) -> bool
     requires { Fits text.now shape }
@@ -311,7 +311,7 @@ pub fn append_key(text: &[u8], shape: Shape, list: &mut Vec<u8>) -> Result<(), A
     Ok(())
 }
 
-/// Returns how many bytes an end of a range has. Doesn't allocate.
+/// Returns how many bytes an end of a range has. Does not allocate.
 pub fn end_length(text: &[u8], shape: Shape, end: End) -> usize
     requires { Fits text.now shape }
     ensures { result ≡ saturated (length (end_bytes end (text_key text.now shape))) }
@@ -321,7 +321,7 @@ pub fn end_length(text: &[u8], shape: Shape, end: End) -> usize
     sink.length()
 }
 
-/// Writes an end of a range into a buffer from a place on, as far as it fits, and returns the place after it. Doesn't
+/// Writes an end of a range into a buffer from a place on, as far as it fits, and returns the place after it. Does not
 /// allocate.
 #[inline(never)]
 pub fn write_end(text: &[u8], shape: Shape, end: End, room: &mut [u8], start: usize) -> usize
@@ -334,7 +334,7 @@ pub fn write_end(text: &[u8], shape: Shape, end: End, room: &mut [u8], start: us
     sink.end()
 }
 
-/// Compares an end of a range with given bytes, as far as they are the same and one byte further. Doesn't allocate.
+/// Compares an end of a range with given bytes, as far as they are the same and one byte further. Does not allocate.
 pub fn compare_end(text: &[u8], shape: Shape, end: End, bytes: &[u8]) -> Ordering
     requires { Fits text.now shape }
     ensures { result ≡ bytes_cmp (end_bytes end (text_key text.now shape)) bytes.now }

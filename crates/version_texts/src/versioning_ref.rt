@@ -46,7 +46,7 @@ impl<'a> VersioningRef<'a> {
     ghost use Rattle.version_texts.specs.VersioningRef.{major_text, plain_versioning_ref};
 
     /// Parses the whole text as a strict version, else as a general, else as a messy one; returns None if it does not
-    /// parse. Doesn't allocate.
+    /// parse. Does not allocate.
     #[inline(always)]
     pub fn new(s: &'a str) -> Option<VersioningRef<'a>>
         ensures { option_map plain_versioning_ref result ≡ versioning_of s.now }
@@ -55,7 +55,7 @@ impl<'a> VersioningRef<'a> {
     }
 
     /// Parses bytes as `new` parses their text; returns None if they do not parse. Bytes that are not UTF-8 are not a
-    /// version. Doesn't allocate.
+    /// version. Does not allocate.
     #[inline(always)]
     pub fn from_bytes(bytes: &'a [u8]) -> Option<VersioningRef<'a>>
         ensures { option_map plain_versioning_ref result ≡ versioning_of bytes.now }
@@ -64,7 +64,7 @@ impl<'a> VersioningRef<'a> {
         Some(VersioningRef { text: bytes, shape })
     }
 
-    /// Returns its kind. Doesn't allocate.
+    /// Returns its kind. Does not allocate.
     #[inline(always)]
     pub fn kind(&self) -> Kind
         ensures { result ≡ versioning_kind (plain_versioning_ref self.now) }
@@ -73,7 +73,7 @@ impl<'a> VersioningRef<'a> {
     }
 
     /// Returns whether it is a strict version with a pre-release, such as `1.2.0-rc.1` (SemVer 2.0, section 9). False
-    /// for every general or messy version: their texts don't say which of them are pre-releases. Doesn't allocate.
+    /// for every general or messy version: their texts do not say which of them are pre-releases. Does not allocate.
     #[inline(always)]
     pub fn is_prerelease(&self) -> bool
         ensures { result ≡ is_prerelease (plain_versioning_ref self.now) }
@@ -107,7 +107,7 @@ impl<'a> VersioningRef<'a> {
 
     /// Returns the number at a place, counted from 0, or None if no number is there. Of a strict version the places are
     /// major, minor and patch; of a general one the chunks, and after them the first number of the last part; of a
-    /// messy one the chunks of the first section that no colon follows. Doesn't allocate.
+    /// messy one the chunks of the first section that no colon follows. Does not allocate.
     pub fn nth(&self, n: usize) -> Option<u32>
         ensures { result ≡ versioning_nth (plain_versioning_ref self.now) n }
     {
@@ -115,7 +115,7 @@ impl<'a> VersioningRef<'a> {
     }
 
     /// Returns its epoch: the number before its colon, which counts in the order. None without an epoch, which a strict
-    /// version never has. A number past `u64::MAX` gives `u64::MAX`. Doesn't allocate.
+    /// version never has. A number past `u64::MAX` gives `u64::MAX`. Does not allocate.
     pub fn epoch(&self) -> Option<u64>
         ensures { result ≡ option_map saturated (versioning_epoch (plain_versioning_ref self.now)) }
     {
@@ -126,7 +126,7 @@ impl<'a> VersioningRef<'a> {
     }
 
     /// Returns where a field lies in the text: where it begins and where it ends. None if the version does not have the
-    /// field. No field is empty. Doesn't allocate.
+    /// field. No field is empty. Does not allocate.
     pub fn place(&self, field: Field) -> Option<(usize, usize)>
         ensures { result ≡ field_place field (plain_versioning_ref self.now) }
     {
@@ -147,7 +147,7 @@ impl<'a> VersioningRef<'a> {
     }
 
     /// Compares two versions of any kind by their keys: the order of all versions (docs/ORDER.md). `Ord` breaks its
-    /// ties. Doesn't allocate.
+    /// ties. Does not allocate.
     pub fn precedence(&self, other: &VersioningRef<'_>) -> Ordering
         ensures { result ≡ precedence (key_of (plain_versioning_ref self.now))
             (key_of (plain_versioning_ref other.now)) }
@@ -166,7 +166,7 @@ impl<'a> VersioningRef<'a> {
         sinks::append_key(self.text, self.shape, list)
     }
 
-    /// Writes the bytes of its key into a sink. Returns early once the sink is decided. Doesn't allocate.
+    /// Writes the bytes of its key into a sink. Returns early once the sink is decided. Does not allocate.
     #[inline(always)]
     pub fn put_key<S: Sink>(&self, sink: &mut S)
         ensures { S.takes sink.old (key_bytes (key_of (plain_versioning_ref self.now))) sink.new }
@@ -175,7 +175,7 @@ impl<'a> VersioningRef<'a> {
     }
 
     /// Writes the bytes of its key into a buffer from a place on, as far as they fit, and returns the place after them.
-    /// Doesn't allocate.
+    /// Does not allocate.
     #[inline(always)]
     pub fn write_key(&self, room: &mut [u8], start: usize) -> usize
         ensures bytes { room.new ≡ put_at room.old start
@@ -186,14 +186,14 @@ impl<'a> VersioningRef<'a> {
         sinks::write_key(self.text, self.shape, room, start)
     }
 
-    /// Returns how many bytes its key has. Doesn't allocate.
+    /// Returns how many bytes its key has. Does not allocate.
     pub fn key_length(&self) -> usize
         ensures { result ≡ saturated (length (key_bytes (key_of (plain_versioning_ref self.now)))) }
     {
         sinks::key_length(self.text, self.shape)
     }
 
-    /// Compares the bytes of its key with given bytes, up to the first difference. Doesn't allocate.
+    /// Compares the bytes of its key with given bytes, up to the first difference. Does not allocate.
     #[inline(always)]
     pub fn compare_key(&self, bytes: &[u8]) -> Ordering
         ensures { result ≡ bytes_cmp (key_bytes (key_of (plain_versioning_ref self.now)))
@@ -202,7 +202,7 @@ impl<'a> VersioningRef<'a> {
         sinks::compare_key(self.text, self.shape, bytes)
     }
 
-    /// Returns whether the bytes of its key are at least the low bound and below the high one. Doesn't allocate.
+    /// Returns whether the bytes of its key are at least the low bound and below the high one. Does not allocate.
     #[inline(always)]
     pub fn has_key_between(&self, low: &[u8], high: &[u8]) -> bool
         ensures { result
@@ -212,8 +212,8 @@ impl<'a> VersioningRef<'a> {
         sinks::key_between(self.text, self.shape, low, high)
     }
 
-    /// Returns whether its key is at least the low bound, and below the high one, if there is one, and its kind is one of
-    /// the kinds: whether the version is in a range. Any bytes may be bounds. Doesn't allocate.
+    /// Returns whether its key is at least the low bound, and below the high one, if there is one, and its kind is one
+    /// of the kinds: whether the version is in a range. Any bytes may be bounds. Does not allocate.
     #[inline(always)]
     pub fn is_in(&self, low: &[u8], high: Option<&[u8]>, kinds: Kinds) -> bool
         ensures { IsTrue result ↔ (AreBetween low.now (option_map (λ bound. bound.now) high.entry)
@@ -240,7 +240,7 @@ impl<'a> VersioningRef<'a> {
         sinks::append_end(self.text, self.shape, end, list)
     }
 
-    /// Writes the bytes of an end of a range into a sink. Doesn't allocate.
+    /// Writes the bytes of an end of a range into a sink. Does not allocate.
     #[inline(always)]
     pub fn put_end<S: Sink>(&self, end: End, sink: &mut S)
         ensures { S.takes sink.old (end_bytes end (key_of (plain_versioning_ref self.now)))
@@ -250,7 +250,7 @@ impl<'a> VersioningRef<'a> {
     }
 
     /// Writes the bytes of an end of a range into a buffer from a place on, as far as they fit, and returns the place
-    /// after them. Doesn't allocate.
+    /// after them. Does not allocate.
     #[inline(always)]
     pub fn write_end(&self, end: End, room: &mut [u8], start: usize) -> usize
         ensures bytes { room.new ≡ put_at room.old start
@@ -261,7 +261,7 @@ impl<'a> VersioningRef<'a> {
         sinks::write_end(self.text, self.shape, end, room, start)
     }
 
-    /// Returns how many bytes an end of a range has. Doesn't allocate.
+    /// Returns how many bytes an end of a range has. Does not allocate.
     pub fn end_length(&self, end: End) -> usize
         ensures { result
             ≡ saturated (length (end_bytes end (key_of (plain_versioning_ref self.now)))) }
@@ -269,7 +269,7 @@ impl<'a> VersioningRef<'a> {
         sinks::end_length(self.text, self.shape, end)
     }
 
-    /// Compares the bytes of an end of a range with given bytes, up to the first difference. Doesn't allocate.
+    /// Compares the bytes of an end of a range with given bytes, up to the first difference. Does not allocate.
     pub fn compare_end(&self, end: End, bytes: &[u8]) -> Ordering
         ensures { result ≡ bytes_cmp (end_bytes end (key_of (plain_versioning_ref self.now)))
             bytes.now }
@@ -305,7 +305,7 @@ impl<'a> VersioningRef<'a> {
         Ok(bytes)
     }
 
-    /// Compares two versions by kind, then field by field. `Ord` breaks ties of precedence by this. Doesn't allocate.
+    /// Compares two versions by kind, then field by field. `Ord` breaks ties of precedence by this. Does not allocate.
     pub fn compare_plain(&self, other: &VersioningRef<'_>) -> Ordering
         ensures { result ≡ versioning_plain_cmp (plain_versioning_ref self.now)
             (plain_versioning_ref other.now) }
@@ -392,7 +392,7 @@ impl<'a> fmt::Display for VersioningRef<'a> {
     }
 }
 
-/// Compares the kinds and every field, except metadata of strict versions. Doesn't allocate.
+/// Compares the kinds and every field, except metadata of strict versions. Does not allocate.
 impl<'a> PartialEq for VersioningRef<'a> {
     ghost use Rattle.std.specs.Cmp.{eq_by_cmp_equiv, on_per, partial_equiv_from_equiv};
     ghost use Rattle.std.specs.Ordering.{eq_by_cmp, on};
@@ -427,7 +427,7 @@ impl<'a> Eq for VersioningRef<'a> {
 }
 
 /// Compares by precedence. Breaks a tie by kind, strict before general before messy, then field by field, except
-/// metadata of strict versions. Doesn't allocate.
+/// metadata of strict versions. Does not allocate.
 impl<'a> Ord for VersioningRef<'a> {
     ghost use Rattle.std.specs.Prelude.{refl};
     ghost use Rattle.std.specs.Cmp.{on_total};

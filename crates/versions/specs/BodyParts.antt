@@ -13,7 +13,8 @@ abbrev pub key_of_part : BodyPart → PartKey
 key_of_part (part.Chunk chunk) = part_key (chunk_text (plain_chunk_ref chunk))
 key_of_part (part.Last last) = part_key (last_text (plain_last last.now))
 
--- the keys of the remaining parts: those of the chunks, and that of the last part if it isn't taken
+-- the keys of the remaining parts: those of the chunks, and that of the last part if it is not
+-- taken
 abbrev pub parts_left : BodyParts → List PartKey
 parts_left parts =
     chunk_parts (map plain_chunk parts.chunks.now)

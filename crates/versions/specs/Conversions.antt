@@ -1,5 +1,6 @@
 -- Conversions of versions to a more lenient kind.
-use Rattle.std.specs.Prelude.{ℕ, List, [], ◌∷◌, ◌++◌, ◌||◌, if◌then◌else◌, is_some, map, Option, Some, None}
+use Rattle.std.specs.Prelude.{ℕ, List, [], ◌∷◌, ◌++◌, ◌||◌, if◌then◌else◌, is_some, map, Option}
+use Rattle.std.specs.Prelude.{Some, None}
 use Rattle.std.specs.declared.cmp.Ordering.{Ordering}
 use Rattle.std.specs.declared.cmp.Ordering.TheVariants.{Less, Equal}
 use Rattle.std.specs.Fmt.{decimal}
@@ -23,7 +24,8 @@ version_of_semver v = record {
   meta = v.meta;
 }
 
--- how a version compares with a messy one that prints the same: less if it has a release or metadata, else equal
+-- how a version compares with a messy one that prints the same: less if it has a release or
+-- metadata, else equal
 abbrev pub below_sections : Option (List PlainChunk) → Option (List ℕ) → Ordering
 below_sections release meta = if is_some release || is_some meta then Less else Equal
 
@@ -58,11 +60,14 @@ meta_section (Some text) = (Plus, Plain text ∷ []) ∷ []
 -- a body after an epoch, if there is one: a section of the digits of the epoch, then a colon
 abbrev pub behind_epoch : Option ℕ → Section → List Further → PlainMess
 behind_epoch None body more = record { first = body; more = more }
-behind_epoch (Some n) body more = record { first = digits_of_number n ∷ []; more = (Colon, body) ∷ more }
+behind_epoch (Some n) body more =
+    record { first = digits_of_number n ∷ []; more = (Colon, body) ∷ more }
 
 -- a general version as a messy one
 abbrev pub mess_of_version : PlainVersion → PlainMess
-mess_of_version v = behind_epoch v.epoch (body_section v.chunks v.last) (release_section v.release ++ meta_section v.meta)
+mess_of_version v =
+    behind_epoch v.epoch (body_section v.chunks v.last)
+    (release_section v.release ++ meta_section v.meta)
 
 -- a strict version as a messy one, by way of the general one
 abbrev pub mess_of_semver : PlainSemVer → PlainMess

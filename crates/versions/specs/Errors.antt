@@ -50,9 +50,10 @@ abbrev pub IsIllegal : PlainError → ReadError → Type 0
 IsIllegal wrong (Illegal e) = plain_error e ≡ wrong
 IsIllegal wrong (Memory e) = Unit {0}
 
--- What `from_str` returns, by its view: the value that the text parses as, else the error. An allocation fails only if
--- the value owns memory, or for the text in the error.
-abbrev pub ReadsOr : {V X : Type 0} → (V → X) → (X → Type 0) → PlainError → Result V ReadError → Option X → Type 0
+-- What `from_str` returns, by its view: the value that the text parses as, else the error. An
+-- allocation fails only if the value owns memory, or for the text in the error.
+abbrev pub ReadsOr : {V X : Type 0} → (V → X) → (X → Type 0) → PlainError → Result V ReadError
+    → Option X → Type 0
 ReadsOr view Owns wrong (Ok v) value = value ≡ Some (view v)
 ReadsOr view Owns wrong (Err (Illegal e)) value = (value ≡ None) × (plain_error e ≡ wrong)
 ReadsOr view Owns wrong (Err (Memory e)) value = ForSome value Owns

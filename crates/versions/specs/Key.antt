@@ -7,7 +7,8 @@ use Rattle.std.specs.declared.cmp.Ordering.{Ordering}
 use Rattle.version_parts.specs.DigitRun.{is_digits}
 use Rattle.version_parts.specs.Last.{last_text}
 use Rattle.version_parts.specs.MChunk.{PlainMChunk, mchunk_text}
-use Rattle.version_parts.specs.PartKey.{PartKey, Number, chunk_parts, list_cmp, part_key, section_parts}
+use Rattle.version_parts.specs.PartKey.{PartKey, Number, chunk_parts, list_cmp, part_key}
+use Rattle.version_parts.specs.PartKey.{section_parts}
 use Rattle.versions.specs.Mess.{PlainMess, PlainSep, Colon}
 use Rattle.versions.specs.SemVer.{PlainSemVer}
 use Rattle.versions.specs.Tail.{Tail, PreReleased, Bare, Released, Sections, tail_cmp}
@@ -43,7 +44,8 @@ key_of_semver v = record {
   tail = option_map_or PreReleased v.pre_rel Bare;
 }
 
--- the key of a general version: its epoch, or 0 without one, its chunks and its last part, then its release
+-- the key of a general version: its epoch, or 0 without one, its chunks and its last part, then its
+-- release
 abbrev pub key_of_version : PlainVersion → Key
 key_of_version v = record {
   epoch = unwrap_or v.epoch 0;
@@ -54,22 +56,26 @@ key_of_version v = record {
 -- the tail of the sections after the body
 abbrev pub sections_tail : List (PlainSep × List PlainMChunk) → Tail
 sections_tail [] = Bare
-sections_tail (section ∷ more) = Sections (section_parts section.1) (map (λ further. section_parts further.1) more)
+sections_tail (section ∷ more) =
+    Sections (section_parts section.1) (map (λ further. section_parts further.1) more)
 
 -- the epoch of a first section that a colon follows: one chunk of digits
 abbrev pub section_epoch : List PlainMChunk → Option ℕ
-section_epoch (chunk ∷ []) = if is_digits (mchunk_text chunk) then Some (digits_value 10 (mchunk_text chunk)) else None
+section_epoch (chunk ∷ []) =
+    if is_digits (mchunk_text chunk) then Some (digits_value 10 (mchunk_text chunk)) else None
 section_epoch chunks = None
 
 -- the key of sections whose first is the body
 abbrev pub key_of_sections : ℕ → List PlainMChunk → List (PlainSep × List PlainMChunk) → Key
-key_of_sections epoch body more = record { epoch = epoch; body = section_parts body; tail = sections_tail more }
+key_of_sections epoch body more =
+    record { epoch = epoch; body = section_parts body; tail = sections_tail more }
 
 -- the key of sections as a messy version, after an epoch
 abbrev pub key_with_epoch : ℕ → PlainMess → Key
 key_with_epoch epoch m = key_of_sections epoch m.first m.more
 
--- a first section that may be the epoch is the epoch if a colon follows; otherwise it is the body, and the epoch is 0
+-- a first section that may be the epoch is the epoch if a colon follows; otherwise it is the body,
+-- and the epoch is 0
 abbrev pub key_behind_epoch : Option ℕ → List PlainMChunk → List (PlainSep × List PlainMChunk) → Key
 key_behind_epoch (Some epoch) first ((Colon, body) ∷ more) = key_of_sections epoch body more
 key_behind_epoch may_be_epoch first more = key_of_sections 0 first more
@@ -78,7 +84,8 @@ key_behind_epoch may_be_epoch first more = key_of_sections 0 first more
 abbrev pub key_from_first : List PlainMChunk → List (PlainSep × List PlainMChunk) → Key
 key_from_first first more = key_behind_epoch (section_epoch first) first more
 
--- the key of a messy version: its epoch, the section after it, then the further sections; other signs don't count
+-- the key of a messy version: its epoch, the section after it, then the further sections; other
+-- signs do not count
 abbrev pub key_of_mess : PlainMess → Key
 key_of_mess m = key_from_first m.first m.more
 

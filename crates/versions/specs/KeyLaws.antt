@@ -11,7 +11,8 @@ use Rattle.version_parts.specs.PartLaws.{list_total}
 use Rattle.version_parts.specs.ReleaseLaws.{release_total}
 use Rattle.version_parts.specs.ReleaseOrder.{release_cmp}
 use Rattle.versions.specs.Key.{Key, precedence}
-use Rattle.versions.specs.Tail.{Tail, PreReleased, Bare, Released, Sections, sections_cmp, tail_cmp, tail_rank}
+use Rattle.versions.specs.Tail.{Tail, PreReleased, Bare, Released, Sections, sections_cmp, tail_cmp}
+use Rattle.versions.specs.Tail.{tail_rank}
 
 pub sections_total : IsTotalOrder sections_cmp
 sections_total = lists_total list_total
@@ -36,7 +37,10 @@ sections (Released chunks) = None
 sections (Sections first more) = Some (first ∷ more)
 
 in_turn : (a b : Tail)
-    → then_cmp (on tail_rank nat_cmp) (then_cmp (on pre_release (option_cmp release_cmp)) (then_cmp (on release (option_cmp release_cmp)) (on sections (option_cmp sections_cmp)))) a b ≡ tail_cmp a b
+    → then_cmp (on tail_rank nat_cmp)
+    (then_cmp (on pre_release (option_cmp release_cmp))
+    (then_cmp (on release (option_cmp release_cmp)) (on sections (option_cmp sections_cmp)))) a
+    b ≡ tail_cmp a b
 unfolding pre_release release sections
 in_turn (PreReleased a) (PreReleased b) = then_equal (release_cmp a b)
 in_turn (Released a) (Released b) = then_equal (release_cmp a b)
@@ -57,10 +61,13 @@ in_turn (Sections first more) (Sections second further) = refl
 
 pub tail_total : IsTotalOrder tail_cmp
 tail_total = subst IsTotalOrder (λ i a b. in_turn a b i)
-    (then_total (on_total tail_rank nat_cmp_total) (then_total (on_total pre_release (options_total release_total))
-    (then_total (on_total release (options_total release_total)) (on_total sections (options_total sections_total)))))
+    (then_total (on_total tail_rank nat_cmp_total)
+    (then_total (on_total pre_release (options_total release_total))
+    (then_total (on_total release (options_total release_total))
+    (on_total sections (options_total sections_total)))))
 
 pub precedence_total : IsTotalOrder precedence
 precedence_total =
     then_total (on_total (λ (k : Key). k.epoch) nat_cmp_total)
-    (then_total (on_total (λ (k : Key). k.body) list_total) (on_total (λ (k : Key). k.tail) tail_total))
+    (then_total (on_total (λ (k : Key). k.body) list_total)
+    (on_total (λ (k : Key). k.tail) tail_total))

@@ -1,5 +1,7 @@
 -- A requirement, or a list of them, matches a version or does not: matching is decidable.
-use Rattle.std.proofs.Common.{◌≡◌, ◌∙◌, ◌<◌, ◌≤◌, ◌+◌, ◌⊎◌, ℕ, Bool, true, false, List, [], ◌∷◌, ◌++◌, length, Option, Some, None, IsTrue, refl, sym, ap, arith, inl, inr}
+use Rattle.std.proofs.Common.{◌≡◌, ◌∙◌, ◌<◌, ◌≤◌, ◌+◌, ◌⊎◌, ℕ, Bool, true, false, List, [], ◌∷◌}
+use Rattle.std.proofs.Common.{◌++◌, length, Option, Some, None, IsTrue, refl, sym, ap, arith, inl}
+use Rattle.std.proofs.Common.{inr}
 use Rattle.std.proofs.lemmas.Bool.Decides.{Decides-eqb, Decides-ltb, leb_tells}
 use Rattle.std.proofs.lemmas.List.{length-append}
 use Rattle.std.proofs.lemmas.List.Elements.{All-cons, All-nil, All-rest}
@@ -18,8 +20,10 @@ use Rattle.versions.specs.Requirement.{PlainRequirement}
 use Rattle.versions.specs.SemVerMatch as strict
 use Rattle.versions.specs.SemVerMatch.{Numbers, both_zero, numbers}
 use Rattle.versions.specs.VersionMatch as general
-use Rattle.versions.specs.VersionMatch.{EpochAndParts, IsNotBelow, PartsMatchCaret, PartsMatchTilde, PartsNotBelow, epoch_and_parts, is_plain_zero}
-use Rattle.versions.specs.Versioning.{PlainVersioning, Ideal, General, Complex, versioning_plain_cmp}
+use Rattle.versions.specs.VersionMatch.{EpochAndParts, IsNotBelow, PartsMatchCaret, PartsMatchTilde}
+use Rattle.versions.specs.VersionMatch.{PartsNotBelow, epoch_and_parts, is_plain_zero}
+use Rattle.versions.specs.Versioning.{PlainVersioning, Ideal, General, Complex}
+use Rattle.versions.specs.Versioning.{versioning_plain_cmp}
 
 -- ---- decidable facts, combined
 
@@ -70,7 +74,12 @@ below_or_not : (m n : ℕ) → OrNot (m < n)
 below_or_not m n = by_test _ (Decides-ltb m n)
 
 up_to_or_not : (m n : ℕ) → OrNot (m ≤ n)
-up_to_or_not m n = elim (leb_tells m n) [ inl fits ↦ inl fits.1 | inr above ↦ inr (λ fits. omega (arith, above.1)) ]
+up_to_or_not m n =
+    elim (leb_tells m n) [
+      | inl fits ↦ inl fits.1
+      | inr above ↦ inr
+          (λ fits. omega (arith, above.1))
+    ]
 
 -- ---- tilde and caret of strict versions
 
@@ -85,7 +94,8 @@ strict_tilde_or_not w v = elim (both_or_not (same_or_not w.0 v.0) (minor_or_not 
 
 strict_caret_or_not : (w v : Numbers) → OrNot (strict.MatchesCaret w v)
 strict_caret_or_not w v =
-    match_or_not (both_zero w.0 v.0) (match_or_not (both_zero w.1 v.1) (same_or_not w.2 v.2) (minor_or_not w v))
+    match_or_not (both_zero w.0 v.0)
+    (match_or_not (both_zero w.1 v.1) (same_or_not w.2 v.2) (minor_or_not w v))
     (both_or_not (same_or_not w.0 v.0) (either_or_not (below_or_not w.1 v.1) (minor_or_not w v)))
 
 -- ---- tilde and caret of general versions
@@ -102,26 +112,44 @@ not_below_or_not w p = not_or_not (order_or_not (part_cmp (Some p) (Some w)) Les
 parts_not_below_or_not : (wanted parts : List PartKey) → OrNot (PartsNotBelow wanted parts)
 parts_not_below_or_not [] parts = inl tt
 parts_not_below_or_not (w ∷ wanted) [] = inr (λ x. x)
-parts_not_below_or_not (w ∷ wanted) (p ∷ parts) = both_or_not (not_below_or_not w p) (parts_not_below_or_not wanted parts)
+parts_not_below_or_not (w ∷ wanted) (p ∷ parts) =
+    both_or_not (not_below_or_not w p) (parts_not_below_or_not wanted parts)
 
 parts_caret_or_not : (wanted parts : List PartKey) → OrNot (PartsMatchCaret wanted parts)
 parts_caret_or_not [] parts = inl tt
 parts_caret_or_not (w ∷ wanted) [] = inr (λ x. x)
 parts_caret_or_not (w ∷ wanted) (p ∷ parts) =
-    both_or_not (part_or_not w p) (match_or_not (is_plain_zero w) (parts_caret_or_not wanted parts) (parts_not_below_or_not wanted parts))
+    both_or_not (part_or_not w p)
+    (match_or_not (is_plain_zero w) (parts_caret_or_not wanted parts)
+    (parts_not_below_or_not wanted parts))
 
 -- equally many, and at least one
-counted : (wanted parts : List PartKey) → PartsMatchTilde wanted parts → (length wanted ≡ length parts) × (0 < length wanted)
+counted : (wanted parts : List PartKey) → PartsMatchTilde wanted parts
+    → (length wanted ≡ length parts) × (0 < length wanted)
 counted wanted parts m =
-    let a : length wanted ≡ length m.before + 1 = ap (λ (l : List PartKey). length l) m.wanted_whole ∙ length-append m.before (m.wanted_final ∷ []) in
-    let b : length parts ≡ length m.before + 1 = ap (λ (l : List PartKey). length l) m.whole ∙ length-append m.before (m.final ∷ []) in
+    let a : length wanted ≡ length m.before + 1 =
+    ap (λ (l : List PartKey). length l) m.wanted_whole
+    ∙ length-append m.before (m.wanted_final ∷ []) in
+    let b : length parts ≡ length m.before + 1 =
+    ap (λ (l : List PartKey). length l) m.whole ∙ length-append m.before (m.final ∷ []) in
     (a ∙ sym b, omega (arith, a))
 
 alone : (w p : PartKey) → OrNot (IsNotBelow w p) → OrNot (PartsMatchTilde (w ∷ []) (p ∷ []))
-alone w p (inl above) = inl (record { before = []; wanted_final = w; final = p; wanted_whole = refl; whole = refl; not_below = above })
-alone w p (inr n) = inr (λ m. n (last_of m.before m.wanted_final m.final m.wanted_whole m.whole m.not_below))
+alone w p (inl above) = inl
+    (record {
+      before =
+          [];
+      wanted_final = w;
+      final = p;
+      wanted_whole = refl;
+      whole = refl;
+      not_below = above;
+    })
+alone w p (inr n) = inr
+    (λ m. n (last_of m.before m.wanted_final m.final m.wanted_whole m.whole m.not_below))
   where
-    last_of : (before : List PartKey) (f g : PartKey) → w ∷ [] ≡ before ++ f ∷ [] → p ∷ [] ≡ before ++ g ∷ [] → IsNotBelow f g → IsNotBelow w p
+    last_of : (before : List PartKey) (f g : PartKey) → w ∷ [] ≡ before ++ f ∷ []
+        → p ∷ [] ≡ before ++ g ∷ [] → IsNotBelow f g → IsNotBelow w p
     last_of [] f g e h above =
         let wanted : w ≡ f = cc e in
         let given : p ≡ g = cc h in
@@ -129,7 +157,8 @@ alone w p (inr n) = inr (λ m. n (last_of m.before m.wanted_final m.final m.want
     last_of (x ∷ []) f g e h above = cc e
     last_of (x ∷ y ∷ before) f g e h above = cc e
 
-behind_first : (w v : PartKey) (wanted : List PartKey) (p q : PartKey) (parts : List PartKey) → OrNot (w ≡ p) → OrNot (PartsMatchTilde (v ∷ wanted) (q ∷ parts))
+behind_first : (w v : PartKey) (wanted : List PartKey) (p q : PartKey) (parts : List PartKey)
+    → OrNot (w ≡ p) → OrNot (PartsMatchTilde (v ∷ wanted) (q ∷ parts))
     → OrNot (PartsMatchTilde (w ∷ v ∷ wanted) (p ∷ q ∷ parts))
 behind_first w v wanted p q parts first others = elim (both_or_not first others) [
   | inl m ↦ inl (record {
@@ -137,29 +166,44 @@ behind_first w v wanted p q parts first others = elim (both_or_not first others)
     wanted_final = m.1.wanted_final;
     final = m.1.final;
     wanted_whole = ap (λ (l : List PartKey). w ∷ l) m.1.wanted_whole;
-    whole = ap (λ (l : List PartKey). p ∷ l) m.1.whole ∙ ap (λ (x : PartKey). x ∷ (m.1.before ++ m.1.final ∷ [])) (sym m.0);
+    whole = ap (λ (l : List PartKey). p ∷ l) m.1.whole
+        ∙ ap (λ (x : PartKey). x ∷ (m.1.before ++ m.1.final ∷ [])) (sym m.0);
     not_below = m.1.not_below;
   })
   | inr n ↦ inr (λ m. n (step m.before m.wanted_final m.final m.wanted_whole m.whole m.not_below))
 ]
   where
-    step : (before : List PartKey) (f g : PartKey) → w ∷ v ∷ wanted ≡ before ++ f ∷ [] → p ∷ q ∷ parts ≡ before ++ g ∷ [] → IsNotBelow f g
+    step : (before : List PartKey) (f g : PartKey) → w ∷ v ∷ wanted ≡ before ++ f ∷ []
+        → p ∷ q ∷ parts ≡ before ++ g ∷ [] → IsNotBelow f g
         → (w ≡ p) × PartsMatchTilde (v ∷ wanted) (q ∷ parts)
     step [] f g e h above = cc e
     step (x ∷ before) f g e h above =
         let wanted_first : w ≡ x = cc e in
         let given_first : p ≡ x = cc h in (
           wanted_first ∙ sym given_first,
-          record { before = before; wanted_final = f; final = g; wanted_whole = cc e; whole = cc h; not_below = above },
+          record {
+            before =
+                before;
+            wanted_final =
+                f;
+            final = g;
+            wanted_whole = cc e;
+            whole = cc h;
+            not_below = above;
+          },
         )
 
 parts_tilde_or_not : (wanted parts : List PartKey) → OrNot (PartsMatchTilde wanted parts)
 parts_tilde_or_not [] parts = inr (λ m. omega (arith, (counted [] parts m).1))
 parts_tilde_or_not (w ∷ wanted) [] = inr (λ m. omega (arith, (counted (w ∷ wanted) [] m).0))
 parts_tilde_or_not (w ∷ []) (p ∷ []) = alone w p (not_below_or_not w p)
-parts_tilde_or_not (w ∷ []) (p ∷ q ∷ parts) = inr (λ m. omega (arith, (counted (w ∷ []) (p ∷ q ∷ parts) m).0))
-parts_tilde_or_not (w ∷ v ∷ wanted) (p ∷ []) = inr (λ m. omega (arith, (counted (w ∷ v ∷ wanted) (p ∷ []) m).0))
-parts_tilde_or_not (w ∷ v ∷ wanted) (p ∷ q ∷ parts) = behind_first w v wanted p q parts (part_or_not w p) (parts_tilde_or_not (v ∷ wanted) (q ∷ parts))
+parts_tilde_or_not (w ∷ []) (p ∷ q ∷ parts) = inr
+    (λ m. omega (arith, (counted (w ∷ []) (p ∷ q ∷ parts) m).0))
+parts_tilde_or_not (w ∷ v ∷ wanted) (p ∷ []) = inr
+    (λ m. omega (arith, (counted (w ∷ v ∷ wanted) (p ∷ []) m).0))
+parts_tilde_or_not (w ∷ v ∷ wanted) (p ∷ q ∷ parts) =
+    behind_first w v wanted p q parts (part_or_not w p)
+    (parts_tilde_or_not (v ∷ wanted) (q ∷ parts))
 
 general_tilde_or_not : (w v : EpochAndParts) → OrNot (general.MatchesTilde w v)
 general_tilde_or_not w v = both_or_not (same_or_not w.0 v.0) (parts_tilde_or_not w.1 v.1)
@@ -190,9 +234,11 @@ caret_or_not (Complex w) v = inr (λ x. x)
 op_or_not : (o : Op) (wanted v : PlainVersioning) → OrNot (MatchesOp o wanted v)
 op_or_not op.Exact wanted v = true_or_not (eq_by_cmp versioning_plain_cmp v wanted)
 op_or_not op.Greater wanted v = order_or_not (precedence (key_of v) (key_of wanted)) Greater
-op_or_not op.GreaterEq wanted v = not_or_not (order_or_not (precedence (key_of v) (key_of wanted)) Less)
+op_or_not op.GreaterEq wanted v =
+    not_or_not (order_or_not (precedence (key_of v) (key_of wanted)) Less)
 op_or_not op.Less wanted v = order_or_not (precedence (key_of v) (key_of wanted)) Less
-op_or_not op.LessEq wanted v = not_or_not (order_or_not (precedence (key_of v) (key_of wanted)) Greater)
+op_or_not op.LessEq wanted v =
+    not_or_not (order_or_not (precedence (key_of v) (key_of wanted)) Greater)
 op_or_not op.Tilde wanted v = tilde_or_not wanted v
 op_or_not op.Caret wanted v = caret_or_not wanted v
 op_or_not op.Wildcard wanted v = inl tt
@@ -207,16 +253,20 @@ wildcard_or_not op.Tilde = inr (λ e. cc e)
 wildcard_or_not op.Caret = inr (λ e. cc e)
 wildcard_or_not op.Wildcard = inl refl
 
-with_version_or_not : (o : Op) (version : Option PlainVersioning) (v : PlainVersioning) → OrNot (Matches (record { op = o; version = version }) v)
+with_version_or_not : (o : Op) (version : Option PlainVersioning) (v : PlainVersioning)
+    → OrNot (Matches (record { op = o; version = version }) v)
 with_version_or_not o None v = wildcard_or_not o
 with_version_or_not o (Some wanted) v = op_or_not o wanted v
 
 matches_or_not : (r : PlainRequirement) (v : PlainVersioning) → OrNot (Matches r v)
 matches_or_not r v = with_version_or_not r.op r.version v
 
-pub matches_all_or_not : (list : List PlainRequirement) (v : PlainVersioning) → MatchesAll list v ⊎ (¬ (MatchesAll list v))
+pub matches_all_or_not : (list : List PlainRequirement) (v : PlainVersioning)
+    → MatchesAll list v ⊎ (¬ (MatchesAll list v))
 matches_all_or_not [] v = inl (All-nil (λ r. Matches r v))
-matches_all_or_not (r ∷ list) v = elim (both_or_not (matches_or_not r v) (matches_all_or_not list v)) [
-  | inl all ↦ inl (All-cons (λ q. Matches q v) r list all.0 all.1)
-  | inr n ↦ inr (λ all. n (all 0 r (omega arith), All-rest (λ q. Matches q v) r list (r ∷ list) refl all))
-]
+matches_all_or_not (r ∷ list) v =
+    elim (both_or_not (matches_or_not r v) (matches_all_or_not list v)) [
+      | inl all ↦ inl (All-cons (λ q. Matches q v) r list all.0 all.1)
+      | inr n ↦ inr
+          (λ all. n (all 0 r (omega arith), All-rest (λ q. Matches q v) r list (r ∷ list) refl all))
+    ]

@@ -1,5 +1,6 @@
 -- Messy versions, such as `1.0_2:r3`: sections of chunks with signs between them.
-use Rattle.std.specs.Prelude.{◌≡◌, ◌++◌, ℕ, List, [], ◌∷◌, Option, Some, Vec, map, length, slice_get}
+use Rattle.std.specs.Prelude.{◌≡◌, ◌++◌, ℕ, List, [], ◌∷◌, Option, Some, Vec, map, length}
+use Rattle.std.specs.Prelude.{slice_get}
 use Rattle.std.specs.Cmp.Lexicographic.{slice_cmp}
 use Rattle.std.specs.Hash as fed
 use Rattle.std.specs.Hash.{HashWrites}
@@ -13,7 +14,8 @@ use Rattle.version_parts.specs.declared.sep.Sep.{Sep}
 use Rattle.version_parts.specs.Bytes.{dot}
 use Rattle.version_parts.specs.Front.{◌>>=◌, Front, dotted_front, repeated, whole}
 use Rattle.version_parts.specs.Grammar.{SpellsBehind, SpellsDotted, SpellsEach}
-use Rattle.version_parts.specs.MChunk.{PlainMChunk, SpellsMChunk, digits_number, mchunk_fed, mchunk_front, mchunk_plain_cmp, mchunk_text, plain_mchunk}
+use Rattle.version_parts.specs.MChunk.{PlainMChunk, SpellsMChunk, digits_number, mchunk_fed}
+use Rattle.version_parts.specs.MChunk.{mchunk_front, mchunk_plain_cmp, mchunk_text, plain_mchunk}
 pub use Rattle.version_parts.specs.Sep.{PlainSep, Colon, Hyphen, Plus, Underscore, Tilde}
 use Rattle.version_parts.specs.Sep.{plain_sep, sep_byte, sep_fed, sep_front, sep_plain_cmp}
 use Rattle.versions.specs.declared.mess.Mess.{Mess}
@@ -48,7 +50,13 @@ behind_sign sign m = (plain_sep sign, m.first) ∷ m.more
 
 -- a flat version, from its chunks and from what follows them, flat too
 abbrev pub flat_layer : Mess-F PlainMess → PlainMess
-flat_layer m = record { first = plain_section m.chunks; more = option_map_or (λ next. behind_sign next.0 next.1.value) m.next [] }
+flat_layer m =
+    record {
+      first =
+          plain_section m.chunks;
+      more =
+          option_map_or (λ next. behind_sign next.0 next.1.value) m.next [];
+    }
 
 -- the version that a value holds
 abbrev pub plain_mess : Mess → PlainMess
@@ -89,14 +97,16 @@ further_front text = do
 abbrev pub further_in : List ℕ → List Further
 further_in text = (repeated further_front (length text) text).0
 
--- a section, then further ones as long as they parse; it stops before a sign that no section follows
+-- a section, then further ones as long as they parse; it stops before a sign that no section
+-- follows
 unfoldable pub mess_front : Front PlainMess
 mess_front text = do
   first ← section_front text
   let more = repeated further_front (length first.1) first.1
   Some (record { first = first.0; more = more.0 }, more.1)
 
--- the version that a scanned value holds: its first section, and the further ones that its other text begins with
+-- the version that a scanned value holds: its first section, and the further ones that its other
+-- text begins with
 abbrev pub plain_mess_ref : MessRef → PlainMess
 plain_mess_ref p = record { first = p.first; more = further_in p.rest.now }
 
@@ -137,11 +147,14 @@ section_plain_cmp = slice_cmp mchunk_plain_cmp
 
 -- two further sections: by their signs, then by the sections after them
 abbrev pub further_plain_cmp : Further → Further → Ordering
-further_plain_cmp = then_cmp (on (λ (f : Further). f.0) sep_plain_cmp) (on (λ (f : Further). f.1) section_plain_cmp)
+further_plain_cmp =
+    then_cmp (on (λ (f : Further). f.0) sep_plain_cmp) (on (λ (f : Further). f.1) section_plain_cmp)
 
 -- two versions, field by field: the first sections, then the further ones, a prefix first
 abbrev pub mess_plain_cmp : PlainMess → PlainMess → Ordering
-mess_plain_cmp = then_cmp (on (λ (m : PlainMess). m.first) section_plain_cmp) (on (λ (m : PlainMess). m.more) (slice_cmp further_plain_cmp))
+mess_plain_cmp =
+    then_cmp (on (λ (m : PlainMess). m.first) section_plain_cmp)
+    (on (λ (m : PlainMess). m.more) (slice_cmp further_plain_cmp))
 
 -- what a hash is fed with for a section: the number of chunks, and each chunk
 abbrev pub section_fed : Section → HashWrites

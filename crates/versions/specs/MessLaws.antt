@@ -4,16 +4,20 @@ use Rattle.std.specs.Cmp.Lexicographic.{lists_total}
 use Rattle.std.specs.FinMap.{IsAntisymmetric, slice_cmp-IsAntisymmetric}
 use Rattle.version_parts.specs.MChunkLaws.{mchunk_total, mchunks_same, sep_total, seps_same}
 use Rattle.version_parts.specs.OrderLaws.{then_first, then_second}
-use Rattle.versions.specs.Mess.{Further, PlainMess, further_plain_cmp, mess_plain_cmp, section_plain_cmp}
+use Rattle.versions.specs.Mess.{Further, PlainMess, further_plain_cmp, mess_plain_cmp}
+use Rattle.versions.specs.Mess.{section_plain_cmp}
 
 section_total : IsTotalOrder section_plain_cmp
 section_total = lists_total mchunk_total
 
 further_total : IsTotalOrder further_plain_cmp
-further_total = then_total (on_total (λ (f : Further). f.0) sep_total) (on_total (λ (f : Further). f.1) section_total)
+further_total =
+    then_total (on_total (λ (f : Further). f.0) sep_total)
+    (on_total (λ (f : Further). f.1) section_total)
 
 pub mess_total : IsTotalOrder mess_plain_cmp
-mess_total = then_total (on_total (λ (m : PlainMess). m.first) section_total) (on_total (λ (m : PlainMess). m.more) (lists_total further_total))
+mess_total = then_total (on_total (λ (m : PlainMess). m.first) section_total)
+    (on_total (λ (m : PlainMess). m.more) (lists_total further_total))
 
 sections_same : IsAntisymmetric section_plain_cmp
 sections_same = slice_cmp-IsAntisymmetric mchunks_same

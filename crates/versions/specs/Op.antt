@@ -3,7 +3,8 @@ use Rattle.std.specs.Prelude.{ℕ, List, [], ◌∷◌, Option, Some, None, code
 use Rattle.std.specs.Option.{option_map, option_or}
 use Rattle.version_parts.specs.Front.{◌>>=◌, Front, after_mark}
 use Rattle.versions.specs.declared.op.Op.{Op}
-use Rattle.versions.specs.declared.op.Op.TheVariants.{Exact, Greater, GreaterEq, Less, LessEq, Tilde, Caret, Wildcard}
+use Rattle.versions.specs.declared.op.Op.TheVariants.{Exact, Greater, GreaterEq, Less, LessEq}
+use Rattle.versions.specs.declared.op.Op.TheVariants.{Tilde, Caret, Wildcard}
 
 -- the printed text of an operator
 abbrev pub op_text : Op → List ℕ
@@ -28,7 +29,8 @@ after_word (b ∷ word) text = after_mark b text >>= after_word word
 -- the first of some operators that the text begins with
 abbrev pub first_op : List Op → Front Op
 first_op [] text = None
-first_op (op ∷ ops) text = option_or (option_map (λ rest. (op, rest)) (after_word (op_text op) text)) (first_op ops text)
+first_op (op ∷ ops) text =
+    option_or (option_map (λ rest. (op, rest)) (after_word (op_text op) text)) (first_op ops text)
 
 -- the operator that a text begins with, and the rest
 unfoldable pub op_front : Front Op

@@ -15,6 +15,7 @@ version_cmp = then_cmp (on key_of_version precedence) version_plain_cmp
 abbrev pub mess_cmp : PlainMess → PlainMess → Ordering
 mess_cmp = then_cmp (on key_of_mess precedence) mess_plain_cmp
 
--- two versions of any kind: by key; ties by kind, strict before general before messy, then field by field
+-- two versions of any kind: by key; ties by kind, strict before general before messy, then field by
+-- field
 abbrev pub versioning_cmp : PlainVersioning → PlainVersioning → Ordering
 versioning_cmp = then_cmp (on key_of precedence) versioning_plain_cmp

@@ -13,13 +13,15 @@ use Rattle.versions.specs.SemVerLaws.{tied_same}
 use Rattle.versions.specs.Version.{PlainVersion}
 use Rattle.versions.specs.VersionLaws.{version_plain_total, versions_same}
 use Rattle.versions.specs.VersionOrder.{version_plain_cmp}
-use Rattle.versions.specs.Versioning.{PlainVersioning, Ideal, General, Complex, versioning_plain_cmp}
+use Rattle.versions.specs.Versioning.{PlainVersioning, Ideal, General, Complex}
+use Rattle.versions.specs.Versioning.{versioning_plain_cmp}
 use Rattle.versions.specs.VersioningLaws.{versioning_plain_total}
 
 pub version_cmp_total : IsTotalOrder version_cmp
 version_cmp_total = then_total (on_total key_of_version precedence_total) version_plain_total
 
-pub version_cmp_ties : (a b : PlainVersion) → eq_by_cmp version_plain_cmp a b ≡ eq_by_cmp version_cmp a b
+pub version_cmp_ties : (a b : PlainVersion)
+    → eq_by_cmp version_plain_cmp a b ≡ eq_by_cmp version_cmp a b
 version_cmp_ties = ties_same (on_total key_of_version precedence_total) versions_same
 
 pub mess_cmp_total : IsTotalOrder mess_cmp
@@ -32,13 +34,18 @@ pub versioning_cmp_total : IsTotalOrder versioning_cmp
 versioning_cmp_total = then_total (on_total key_of precedence_total) versioning_plain_total
 
 -- versions whose fields tie have one key, since metadata is not in it
-pub keys_tied : (a b : PlainVersioning) → versioning_plain_cmp a b ≡ Equal → precedence (key_of a) (key_of b) ≡ Equal
+pub keys_tied : (a b : PlainVersioning) → versioning_plain_cmp a b ≡ Equal
+    → precedence (key_of a) (key_of b) ≡ Equal
 keys_tied (Ideal a) (Ideal b) tied =
     let same = tied_same a b tied in
-    rw (same.major, same.minor, same.patch, same.pre_rel) (tied_itself precedence_total (key_of (Ideal b)))
-keys_tied (General a) (General b) tied = rw (versions_same a b tied) (tied_itself precedence_total (key_of (General b)))
-keys_tied (Complex a) (Complex b) tied = rw (messes_same a b tied) (tied_itself precedence_total (key_of (Complex b)))
+    rw (same.major, same.minor, same.patch, same.pre_rel)
+    (tied_itself precedence_total (key_of (Ideal b)))
+keys_tied (General a) (General b) tied =
+    rw (versions_same a b tied) (tied_itself precedence_total (key_of (General b)))
+keys_tied (Complex a) (Complex b) tied =
+    rw (messes_same a b tied) (tied_itself precedence_total (key_of (Complex b)))
 keys_tied _ _ tied = cc tied
 
-pub versioning_cmp_ties : (a b : PlainVersioning) → eq_by_cmp versioning_plain_cmp a b ≡ eq_by_cmp versioning_cmp a b
+pub versioning_cmp_ties : (a b : PlainVersioning)
+    → eq_by_cmp versioning_plain_cmp a b ≡ eq_by_cmp versioning_cmp a b
 versioning_cmp_ties = ties_behind keys_tied

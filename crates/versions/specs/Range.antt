@@ -1,5 +1,6 @@
 -- The range of keys that a requirement, or a list of them, asks for.
-use Rattle.std.specs.Prelude.{◌≡◌, ℕ, Bool, true, false, ◌&&◌, IsTrue, IfSome, List, [], ◌∷◌, ◌++◌, fold, if◌then◌else◌, Option, Some, None}
+use Rattle.std.specs.Prelude.{◌≡◌, ℕ, Bool, true, false, ◌&&◌, IsTrue, IfSome, List, [], ◌∷◌, ◌++◌}
+use Rattle.std.specs.Prelude.{fold, if◌then◌else◌, Option, Some, None}
 use Rattle.std.specs.Option.{option_map, option_map_or}
 use Rattle.std.specs.Ordering.{is_lt}
 use Rattle.std.specs.declared.cmp.Ordering.TheVariants.{Less}
@@ -10,7 +11,8 @@ use Rattle.version_parts.specs.PartKey.{PartKey, part_bytes}
 use Rattle.versions.specs.declared.kind.Kind.{Kind}
 use Rattle.versions.specs.declared.kind.Kind.TheVariants as kind
 use Rattle.versions.specs.declared.op.Op.{Op}
-use Rattle.versions.specs.declared.op.Op.TheVariants.{Exact, Greater, GreaterEq, Less as LessThan, LessEq, Tilde, Caret, Wildcard}
+use Rattle.versions.specs.declared.op.Op.TheVariants.{Exact, Greater, GreaterEq, Less as LessThan}
+use Rattle.versions.specs.declared.op.Op.TheVariants.{LessEq, Tilde, Caret, Wildcard}
 use Rattle.versions.specs.declared.range.Kinds.{Kinds}
 use Rattle.versions.specs.declared.range.Range.{Range}
 use Rattle.versions.specs.Key.{key_of}
@@ -20,8 +22,8 @@ use Rattle.versions.specs.Requirement.{PlainRequirement}
 use Rattle.versions.specs.VersionMatch.{is_plain_zero}
 use Rattle.versions.specs.Versioning.{PlainVersioning, Complex}
 
--- keys from a low bound up to a high one, which may be missing, of versions of some kinds; if it is exact, all these
--- versions match
+-- keys from a low bound up to a high one, which may be missing, of versions of some kinds; if it is
+-- exact, all these versions match
 pub record PlainRange : Type 0 where
   pub low : List ℕ
   pub high : Option (List ℕ)
@@ -30,7 +32,15 @@ pub record PlainRange : Type 0 where
 
 -- the range that a value holds
 abbrev pub plain_range : Range → PlainRange
-plain_range range = record { low = range.low.items; high = option_map (λ high. high.items) range.high; kinds = range.kinds; is_exact = range.is_exact }
+plain_range range =
+    record {
+      low =
+          range.low.items;
+      high =
+          option_map (λ high. high.items) range.high;
+      kinds = range.kinds;
+      is_exact = range.is_exact;
+    }
 
 abbrev pub all_kinds : Kinds
 all_kinds = record { ideal = true; general = true; complex = true }
@@ -52,7 +62,13 @@ has_kind kinds kind.Complex = kinds.complex
 
 -- the kinds that are in both
 abbrev pub common_kinds : Kinds → Kinds → Kinds
-common_kinds a b = record { ideal = a.ideal && b.ideal; general = a.general && b.general; complex = a.complex && b.complex }
+common_kinds a b =
+    record {
+      ideal =
+          a.ideal && b.ideal;
+      general = a.general && b.general;
+      complex = a.complex && b.complex;
+    }
 
 -- bytes that are not below the low bound, and below the high one, if there is one
 pub record AreBetween (low : List ℕ) (high : Option (List ℕ)) (bytes : List ℕ) : Type 0 where
@@ -76,7 +92,8 @@ nothing = record { low = 0 ∷ []; high = Some (0 ∷ []); kinds = no_kinds; is_
 abbrev pub bytes_of : PlainVersioning → List ℕ
 bytes_of v = key_bytes (key_of v)
 
--- the next bytes after those of a key: no key is a prefix of another, so every later key is above them
+-- the next bytes after those of a key: no key is a prefix of another, so every later key is above
+-- them
 abbrev pub after : List ℕ → List ℕ
 after key = key ++ 0 ∷ []
 
@@ -92,7 +109,7 @@ above_begun epoch parts = begun epoch parts ++ 4 ∷ []
 abbrev pub but_last : List PartKey → List PartKey
 but_last parts = option_map_or (λ split. split.0) (split_last parts) []
 
--- the parts through the first one that isn't a plain zero, or all if each is one
+-- the parts through the first one that is not a plain zero, or all if each is one
 abbrev pub through_other : List PartKey → List PartKey
 through_other [] = []
 through_other (part ∷ parts) = part ∷ (if is_plain_zero part then through_other parts else [])
@@ -103,7 +120,8 @@ is_strict kind.Ideal = true
 is_strict kind.General = false
 is_strict kind.Complex = false
 
--- versions of a version's own kind whose epoch and kept parts are the same, and whose parts are not below its own
+-- versions of a version's own kind whose epoch and kept parts are the same, and whose parts are not
+-- below its own
 abbrev pub alike_from : (List PartKey → List PartKey) → PlainVersioning → PlainRange
 alike_from kept v = record {
   low = begun (key_of v).epoch (key_of v).body;
@@ -119,11 +137,23 @@ series_range kept v = alike_from kept v
 
 -- the range that an operator with a version asks for
 abbrev pub op_range : Op → PlainVersioning → PlainRange
-op_range Exact v = record { low = bytes_of v; high = Some (after (bytes_of v)); kinds = kind_alone (versioning_kind v); is_exact = is_strict (versioning_kind v) }
-op_range Greater v = record { low = after (bytes_of v); high = None; kinds = all_kinds; is_exact = true }
+op_range Exact v =
+    record {
+      low =
+          bytes_of v;
+      high =
+          Some (after (bytes_of v));
+      kinds =
+          kind_alone (versioning_kind v);
+      is_exact = is_strict (versioning_kind v);
+    }
+op_range Greater v =
+    record { low = after (bytes_of v); high = None; kinds = all_kinds; is_exact = true }
 op_range GreaterEq v = record { low = bytes_of v; high = None; kinds = all_kinds; is_exact = true }
-op_range LessThan v = record { low = []; high = Some (bytes_of v); kinds = all_kinds; is_exact = true }
-op_range LessEq v = record { low = []; high = Some (after (bytes_of v)); kinds = all_kinds; is_exact = true }
+op_range LessThan v =
+    record { low = []; high = Some (bytes_of v); kinds = all_kinds; is_exact = true }
+op_range LessEq v =
+    record { low = []; high = Some (after (bytes_of v)); kinds = all_kinds; is_exact = true }
 op_range Tilde v = series_range but_last v
 op_range Caret v = series_range through_other v
 op_range Wildcard v = everything
@@ -150,9 +180,18 @@ earlier_high None b = b
 earlier_high (Some a) None = Some a
 earlier_high (Some a) (Some b) = Some (earlier a b)
 
--- what is in two ranges: from the later low, up to the earlier high, of the kinds in both; exact if both are
+-- what is in two ranges: from the later low, up to the earlier high, of the kinds in both; exact if
+-- both are
 abbrev pub common : PlainRange → PlainRange → PlainRange
-common a b = record { low = later a.low b.low; high = earlier_high a.high b.high; kinds = common_kinds a.kinds b.kinds; is_exact = a.is_exact && b.is_exact }
+common a b = record {
+  low =
+      later a.low b.low;
+  high =
+      earlier_high a.high b.high;
+  kinds =
+      common_kinds a.kinds b.kinds;
+  is_exact = a.is_exact && b.is_exact;
+}
 
 -- the range that a list asks for: what is in the range of each member
 abbrev pub range_of : List PlainRequirement → PlainRange

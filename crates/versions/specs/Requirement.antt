@@ -6,7 +6,9 @@ use Rattle.versions.specs.declared.op.Op.{Op}
 use Rattle.versions.specs.declared.op.Op.TheVariants.{Wildcard}
 use Rattle.versions.specs.declared.requirement.Requirement.{Requirement}
 use Rattle.versions.specs.Op.{op_front, op_text}
-use Rattle.versions.specs.Versioning.{PlainVersioning, SpellsVersioning, VersioningOwns, plain_versioning, versioning_front, versioning_of, versioning_text}
+use Rattle.versions.specs.Versioning.{PlainVersioning, SpellsVersioning, VersioningOwns}
+use Rattle.versions.specs.Versioning.{plain_versioning, versioning_front, versioning_of}
+use Rattle.versions.specs.Versioning.{versioning_text}
 
 pub record PlainRequirement : Type 0 where
   pub op : Op

@@ -4,7 +4,8 @@ use Rattle.std.specs.List.{AllZip, join_with_byte, slice_split}
 use Rattle.std.specs.Option.{option_map}
 use Rattle.version_parts.specs.Front.{◌>>=◌}
 use Rattle.versions.specs.declared.requirements.Requirements.{Requirements}
-use Rattle.versions.specs.Requirement.{PlainRequirement, SpellsRequirement, plain_requirement, requirement_of, requirement_text}
+use Rattle.versions.specs.Requirement.{PlainRequirement, SpellsRequirement, plain_requirement}
+use Rattle.versions.specs.Requirement.{requirement_of, requirement_text}
 
 -- the byte between the members of a list
 abbrev pub comma : ℕ
@@ -14,7 +15,8 @@ comma = 44
 abbrev pub plain_requirements : Requirements → List PlainRequirement
 plain_requirements list = map plain_requirement list.0.items
 
--- The text spells the list: one text or more with single commas between, each of which spells its member.
+-- The text spells the list: one text or more with single commas between, each of which spells its
+-- member.
 pub record SpellsRequirements (text : List ℕ) (list : List PlainRequirement) : Type 0 where
   pub members : List (List ℕ)
   pub whole : text ≡ join_with_byte comma members
@@ -30,6 +32,7 @@ abbrev pub every : {X : Type 0} → List (Option X) → Option (List X)
 every [] = Some []
 every (reading ∷ readings) = reading >>= λ x. option_map (λ xs. x ∷ xs) (every readings)
 
--- the list that the whole text parses as, or None: it is cut at its commas, and each piece parses as a member
+-- the list that the whole text parses as, or None: it is cut at its commas, and each piece parses
+-- as a member
 abbrev pub requirements_of : List ℕ → Option (List PlainRequirement)
 requirements_of text = every (map requirement_of (slice_split (λ b. eqb b comma) text))

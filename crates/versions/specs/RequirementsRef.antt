@@ -1,4 +1,5 @@
--- The members that a text of requirements parses as, one after another, and whether they keep a version.
+-- The members that a text of requirements parses as, one after another, and whether they keep a
+-- version.
 use Rattle.std.specs.Prelude.{ℕ, List, [], ◌∷◌, Option, Some, None, IsSome}
 use Rattle.std.specs.Borrow.{Bor}
 use Rattle.std.specs.Option.{IsSomeAnd, option_map}
@@ -14,7 +15,8 @@ members_of None = Some []
 members_of (Some text) = requirements_of text.now
 
 -- a member before others, or None if either is None
-abbrev pub before_others : Option PlainRequirement → Option (List PlainRequirement) → Option (List PlainRequirement)
+abbrev pub before_others : Option PlainRequirement → Option (List PlainRequirement)
+    → Option (List PlainRequirement)
 before_others member others = member >>= λ r. option_map (λ list. r ∷ list) others
 
 -- the text of the others parses as members; true without a text

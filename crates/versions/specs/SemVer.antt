@@ -12,7 +12,8 @@ use Rattle.version_parts.specs.Front.{◌>>=◌, Front, behind, optional, whole}
 use Rattle.version_parts.specs.Grammar.{SpellsOptional}
 use Rattle.version_parts.specs.Metadata.{SpellsMetadata, meta_front}
 use Rattle.version_parts.specs.Numeral.{SpellsNumeral, unsigned_front}
-use Rattle.version_parts.specs.Release.{SpellsRelease, plain_release, release_fed, release_front, release_text}
+use Rattle.version_parts.specs.Release.{SpellsRelease, plain_release, release_fed, release_front}
+use Rattle.version_parts.specs.Release.{release_text}
 use Rattle.versions.specs.declared.semver.SemVerRef.{SemVerRef}
 use Rattle.versions.specs.declared.semver.SemVer.{SemVer}
 use Rattle.versions.specs.declared.semver.SemVerText.{SemVerText}
@@ -56,11 +57,13 @@ semver_of_text p = record {
 }
 
 abbrev pub IsSemVerText : SemVerText → Type 0
-IsSemVerText p = SpellsNumeral p.major.now (digits_value 10 p.major.now) × SpellsNumeral p.minor.now (digits_value 10 p.minor.now)
+IsSemVerText p =
+    SpellsNumeral p.major.now (digits_value 10 p.major.now)
+    × SpellsNumeral p.minor.now (digits_value 10 p.minor.now)
     × SpellsNumeral p.patch.now (digits_value 10 p.patch.now)
 
--- The text spells the version: three numerals with dots between, then perhaps a hyphen and a release, then perhaps a
--- plus and metadata.
+-- The text spells the version: three numerals with dots between, then perhaps a hyphen and a
+-- release, then perhaps a plus and metadata.
 pub record SpellsSemVer (text : List ℕ) (v : PlainSemVer) : Type 0 where
   pub major : List ℕ
   pub minor : List ℕ
@@ -82,7 +85,17 @@ semver_front text = do
   patch ← behind dot unsigned_front minor.1
   let pre_rel = optional release_front patch.1
   let meta = optional meta_front pre_rel.1
-  Some (record { major = major.0; minor = minor.0; patch = patch.0; pre_rel = pre_rel.0; meta = meta.0 }, meta.1)
+  Some (
+    record {
+      major =
+          major.0;
+      minor = minor.0;
+      patch = patch.0;
+      pre_rel = pre_rel.0;
+      meta = meta.0;
+    },
+    meta.1,
+  )
 
 -- the strict version that the whole text parses as, or None
 unfoldable pub semver_of : List ℕ → Option PlainSemVer
@@ -93,8 +106,8 @@ abbrev pub optional_text : {X : Type 0} → ℕ → (X → List ℕ) → Option 
 optional_text mark text_of None = []
 optional_text mark text_of (Some x) = mark ∷ text_of x
 
--- the printed text: major.minor.patch, a hyphen and the release if there is one, a plus and the metadata if there is
--- any
+-- the printed text: major.minor.patch, a hyphen and the release if there is one, a plus and the
+-- metadata if there is any
 abbrev pub semver_text : PlainSemVer → List ℕ
 semver_text v = decimal v.major ++ dot ∷ (decimal v.minor ++ dot ∷ (decimal v.patch
     ++ (optional_text hyphen release_text v.pre_rel ++ optional_text plus (λ text. text) v.meta)))
@@ -105,4 +118,5 @@ SemVerOwns v = IsSome v.pre_rel ⊎ IsSome v.meta
 
 -- what a hash is fed with: the three numbers and the release, without the metadata
 abbrev pub semver_fed : PlainSemVer → HashWrites
-semver_fed v = fed.u32 v.major ++ (fed.u32 v.minor ++ (fed.u32 v.patch ++ fed.option release_fed v.pre_rel))
+semver_fed v =
+    fed.u32 v.major ++ (fed.u32 v.minor ++ (fed.u32 v.patch ++ fed.option release_fed v.pre_rel))

@@ -6,8 +6,8 @@ use Rattle.version_parts.specs.Lists.{none_last_cmp}
 use Rattle.version_parts.specs.ReleaseOrder.{release_cmp}
 use Rattle.versions.specs.SemVer.{PlainSemVer}
 
--- two strict versions: major, minor and patch by value, then the pre-releases, no pre-release last; metadata does not
--- count
+-- two strict versions: major, minor and patch by value, then the pre-releases, no pre-release last;
+-- metadata does not count
 abbrev pub semver_cmp : PlainSemVer → PlainSemVer → Ordering
 semver_cmp =
     then_cmp (on (λ (v : PlainSemVer). v.major) nat_cmp)

@@ -31,7 +31,8 @@ sections_cmp = slice_cmp list_cmp
 abbrev pub same_rank_cmp : Tail → Tail → Ordering
 same_rank_cmp (PreReleased a) (PreReleased b) = release_cmp a b
 same_rank_cmp (Released a) (Released b) = release_cmp a b
-same_rank_cmp (Sections a further_a) (Sections b further_b) = sections_cmp (a ∷ further_a) (b ∷ further_b)
+same_rank_cmp (Sections a further_a) (Sections b further_b) =
+    sections_cmp (a ∷ further_a) (b ∷ further_b)
 same_rank_cmp _ _ = Equal
 
 -- two tails: by kind, and then by what they hold

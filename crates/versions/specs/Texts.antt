@@ -1,5 +1,5 @@
--- The texts that keys hold and that versions print, one after another. Metadata and signs are left out, as no key holds
--- them.
+-- The texts that keys hold and that versions print, one after another. Metadata and signs are left
+-- out, as no key holds them.
 use Rattle.std.specs.Prelude.{ℕ, List, [], ◌∷◌, ◌++◌}
 use Rattle.std.specs.List.{flat_map}
 use Rattle.std.specs.Option.{option_map_or}
@@ -26,8 +26,10 @@ key_text k = parts_text k.body ++ tail_text k.tail
 abbrev pub section_text : List PlainMChunk → List ℕ
 section_text = flat_map mchunk_text
 
--- the texts of a version: those of its parts as they are printed, and of its pre-release, release or further sections
+-- the texts of a version: those of its parts as they are printed, and of its pre-release, release
+-- or further sections
 abbrev pub texts_of : PlainVersioning → List ℕ
 texts_of (Ideal v) = option_map_or held_texts v.pre_rel []
-texts_of (General v) = (flat_map chunk_text v.chunks ++ last_text v.last) ++ option_map_or held_texts v.release []
+texts_of (General v) =
+    (flat_map chunk_text v.chunks ++ last_text v.last) ++ option_map_or held_texts v.release []
 texts_of (Complex m) = section_text m.first ++ flat_map (λ section. section_text section.1) m.more

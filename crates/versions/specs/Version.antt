@@ -1,5 +1,6 @@
 -- General versions, such as `1:2.0rc1-3`.
-use Rattle.std.specs.Prelude.{◌≡◌, ◌==◌, ℕ, List, [], ◌∷◌, ◌++◌, ◌⊎◌, IsSome, length, Option, Some, None, if◌then◌else◌}
+use Rattle.std.specs.Prelude.{◌≡◌, ◌==◌, ℕ, List, [], ◌∷◌, ◌++◌, ◌⊎◌, IsSome, length, Option, Some}
+use Rattle.std.specs.Prelude.{None, if◌then◌else◌}
 use Rattle.std.specs.Fmt.{decimal}
 use Rattle.std.specs.Hash as fed
 use Rattle.std.specs.Hash.{HashWrites}
@@ -14,7 +15,8 @@ use Rattle.version_parts.specs.Grammar.{SpellsOptional}
 use Rattle.version_parts.specs.Last.{PlainLast, first_number, last_fed, plain_last}
 use Rattle.version_parts.specs.Metadata.{SpellsMetadata, meta_front}
 use Rattle.version_parts.specs.Numeral.{SpellsNumeral, unsigned_front}
-use Rattle.version_parts.specs.Release.{SpellsRelease, plain_release, release_fed, release_front, release_text}
+use Rattle.version_parts.specs.Release.{SpellsRelease, plain_release, release_fed, release_front}
+use Rattle.version_parts.specs.Release.{release_text}
 use Rattle.versions.specs.SemVer.{optional_text}
 use Rattle.versions.specs.declared.version.VersionRef.{VersionRef}
 use Rattle.versions.specs.declared.version.Version.{Version}
@@ -50,10 +52,11 @@ plain_version_ref p = record {
 -- a numeral and a colon after it, or nothing at all
 unfoldable pub SpellsEpoch : List ℕ → Option ℕ → Type 0
 SpellsEpoch text None = text ≡ []
-SpellsEpoch text (Some n) = (numeral : List ℕ) × (text ≡ numeral ++ colon ∷ []) × SpellsNumeral numeral n
+SpellsEpoch text (Some n) =
+    (numeral : List ℕ) × (text ≡ numeral ++ colon ∷ []) × SpellsNumeral numeral n
 
--- The text spells the version: perhaps an epoch, then a body, then perhaps a hyphen and a release, then perhaps a plus
--- and metadata.
+-- The text spells the version: perhaps an epoch, then a body, then perhaps a hyphen and a release,
+-- then perhaps a plus and metadata.
 pub record SpellsVersion (text : List ℕ) (v : PlainVersion) : Type 0 where
   pub epoch : List ℕ
   pub body : List ℕ
@@ -79,7 +82,17 @@ version_front text = do
   body ← body_front epoch.1
   let release = optional release_front body.1
   let meta = optional meta_front release.1
-  Some (record { epoch = epoch.0; chunks = body.0.0; last = body.0.1; release = release.0; meta = meta.0 }, meta.1)
+  Some (
+    record {
+      epoch =
+          epoch.0;
+      chunks = body.0.0;
+      last = body.0.1;
+      release = release.0;
+      meta = meta.0;
+    },
+    meta.1,
+  )
 
 -- the general version that the whole text parses as, or None
 unfoldable pub version_of : List ℕ → Option PlainVersion
@@ -90,10 +103,13 @@ abbrev pub epoch_text : Option ℕ → List ℕ
 epoch_text None = []
 epoch_text (Some n) = decimal n ++ colon ∷ []
 
--- the printed text: the epoch and a colon if there is one, the body, a hyphen and the release if there is one, a plus
--- and the metadata if there is any
+-- the printed text: the epoch and a colon if there is one, the body, a hyphen and the release if
+-- there is one, a plus and the metadata if there is any
 abbrev pub version_text : PlainVersion → List ℕ
-version_text v = epoch_text v.epoch ++ (body_text (v.chunks, v.last) ++ (optional_text hyphen release_text v.release ++ optional_text plus (λ text. text) v.meta))
+version_text v =
+    epoch_text v.epoch
+    ++ (body_text (v.chunks, v.last)
+    ++ (optional_text hyphen release_text v.release ++ optional_text plus (λ text. text) v.meta))
 
 -- a version owns memory unless it is one number, with or without an epoch
 abbrev pub VersionOwns : PlainVersion → Type 0
@@ -101,8 +117,13 @@ VersionOwns v = BodyOwns (v.chunks, v.last) ⊎ (IsSome v.release ⊎ IsSome v.m
 
 -- the number at a place of the body: a chunk that is a number, or the first number of the last part
 abbrev pub version_nth : PlainVersion → ℕ → Option ℕ
-version_nth v n = if n == length v.chunks then first_number v.last else option_and_then number_of (slice_get v.chunks n)
+version_nth v n =
+    if n == length v.chunks then first_number v.last
+    else option_and_then number_of (slice_get v.chunks n)
 
 -- what a hash is fed with: every field in turn
 abbrev pub version_fed : PlainVersion → HashWrites
-version_fed v = fed.option fed.u32 v.epoch ++ (release_fed v.chunks ++ (last_fed v.last ++ (fed.option release_fed v.release ++ fed.option fed.str v.meta)))
+version_fed v =
+    fed.option fed.u32 v.epoch
+    ++ (release_fed v.chunks
+    ++ (last_fed v.last ++ (fed.option release_fed v.release ++ fed.option fed.str v.meta)))

@@ -26,4 +26,11 @@ versions_same a b tied =
     let lasts = lasts_same a.last b.last (then_first _ _ last) in
     let releases = options_same releases_same a.release b.release (then_first _ _ release) in
     let metas = options_same bytes_same a.meta b.meta (then_second _ _ release) in
-    λ i. record { epoch = epochs i; chunks = bodies i; last = lasts i; release = releases i; meta = metas i }
+    λ i. record {
+      epoch =
+          epochs i;
+      chunks = bodies i;
+      last = lasts i;
+      release = releases i;
+      meta = metas i;
+    }

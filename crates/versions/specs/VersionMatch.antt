@@ -1,4 +1,5 @@
--- Which general versions `~` or `^` matches, by epochs and lists of parts. Releases and metadata do not count.
+-- Which general versions `~` or `^` matches, by epochs and lists of parts. Releases and metadata do
+-- not count.
 use Rattle.std.specs.Prelude.{◌≡◌, ⊤, ℕ, Bool, true, false, zero, List, [], ◌∷◌, ◌++◌, Some, None}
 use Rattle.std.specs.Bool.{MatchBool}
 use Rattle.std.specs.declared.cmp.Ordering.TheVariants.{Less}
@@ -13,11 +14,11 @@ EpochAndParts = ℕ × List PartKey
 abbrev pub epoch_and_parts : PlainVersion → EpochAndParts
 epoch_and_parts v = ((key_of_version v).epoch, (key_of_version v).body)
 
--- a part isn't before the wanted one
+-- a part is not before the wanted one
 abbrev pub IsNotBelow : PartKey → PartKey → Type 0
 IsNotBelow wanted part = ¬ (part_cmp (Some part) (Some wanted) ≡ Less)
 
--- Equally many parts: all but the last are the same, and the last isn't before the wanted one.
+-- Equally many parts: all but the last are the same, and the last is not before the wanted one.
 pub record PartsMatchTilde (wanted parts : List PartKey) : Type 0 where
   pub before : List PartKey
   pub wanted_final : PartKey
@@ -26,7 +27,7 @@ pub record PartsMatchTilde (wanted parts : List PartKey) : Type 0 where
   pub whole : parts ≡ before ++ final ∷ []
   pub not_below : IsNotBelow wanted_final final
 
--- each wanted part has a part at its place that isn't before it; more parts may follow
+-- each wanted part has a part at its place that is not before it; more parts may follow
 abbrev pub PartsNotBelow : List PartKey → List PartKey → Type 0
 PartsNotBelow [] parts = ⊤
 PartsNotBelow (w ∷ wanted) [] = ⊥
@@ -37,12 +38,14 @@ abbrev pub is_plain_zero : PartKey → Bool
 is_plain_zero (Number zero None) = true
 is_plain_zero part = false
 
--- Each wanted part has a part at its place: the same for the leading plain zeros and for the first other part, then
--- parts that aren't before the wanted ones. More parts may follow.
+-- Each wanted part has a part at its place: the same for the leading plain zeros and for the first
+-- other part, then parts that are not before the wanted ones. More parts may follow.
 abbrev pub PartsMatchCaret : List PartKey → List PartKey → Type 0
 PartsMatchCaret [] parts = ⊤
 PartsMatchCaret (w ∷ wanted) [] = ⊥
-PartsMatchCaret (w ∷ wanted) (p ∷ parts) = (w ≡ p) × MatchBool (is_plain_zero w) (PartsMatchCaret wanted parts) (PartsNotBelow wanted parts)
+PartsMatchCaret (w ∷ wanted) (p ∷ parts) =
+    (w ≡ p) × MatchBool (is_plain_zero w) (PartsMatchCaret wanted parts)
+    (PartsNotBelow wanted parts)
 
 -- the same epoch, and parts that match
 abbrev pub MatchesTilde : EpochAndParts → EpochAndParts → Type 0

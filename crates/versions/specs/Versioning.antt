@@ -1,5 +1,6 @@
 -- A version of any of the three kinds.
-use Rattle.std.specs.Prelude.{◌≡◌, ℕ, Bool, true, false, List, ◌++◌, ◌==◌, if◌then◌else◌, Option, Some, None}
+use Rattle.std.specs.Prelude.{◌≡◌, ℕ, Bool, true, false, List, ◌++◌, ◌==◌, if◌then◌else◌, Option}
+use Rattle.std.specs.Prelude.{Some, None}
 use Rattle.std.specs.Hash as fed
 use Rattle.std.specs.Hash.{HashWrites}
 use Rattle.std.specs.Option.{is_some, option_map, option_or}
@@ -8,10 +9,14 @@ use Rattle.std.specs.declared.cmp.Ordering.{Ordering}
 use Rattle.version_parts.specs.Front.{Front, map_value}
 use Rattle.versions.specs.declared.versioning.Versioning.{Versioning}
 use Rattle.versions.specs.declared.versioning.Versioning.TheVariants as owned
-use Rattle.versions.specs.Mess.{PlainMess, SpellsMess, mess_fed, mess_front, mess_of, mess_plain_cmp, mess_text, nth_number, plain_mess}
-use Rattle.versions.specs.SemVer.{PlainSemVer, SemVerOwns, SpellsSemVer, plain_semver, semver_fed, semver_front, semver_of, semver_text}
+use Rattle.versions.specs.Mess.{PlainMess, SpellsMess, mess_fed, mess_front, mess_of}
+use Rattle.versions.specs.Mess.{mess_plain_cmp, mess_text, nth_number, plain_mess}
+use Rattle.versions.specs.SemVer.{PlainSemVer, SemVerOwns, SpellsSemVer, plain_semver, semver_fed}
+use Rattle.versions.specs.SemVer.{semver_front, semver_of, semver_text}
 use Rattle.versions.specs.SemVerOrder.{SameButMetadata, semver_cmp}
-use Rattle.versions.specs.Version.{PlainVersion, SpellsVersion, VersionOwns, plain_version, version_fed, version_front, version_nth, version_of, version_text}
+use Rattle.versions.specs.Version.{PlainVersion, SpellsVersion, VersionOwns, plain_version}
+use Rattle.versions.specs.Version.{version_fed, version_front, version_nth, version_of}
+use Rattle.versions.specs.Version.{version_text}
 use Rattle.versions.specs.VersionOrder.{version_plain_cmp}
 
 pub data PlainVersioning : Type 0 where
@@ -25,19 +30,27 @@ plain_versioning (owned.Ideal v) = Ideal (plain_semver v)
 plain_versioning (owned.General v) = General (plain_version v)
 plain_versioning (owned.Complex m) = Complex (plain_mess m)
 
--- The text spells the version: by the first of the strict, general and messy grammars that matches it.
+-- The text spells the version: by the first of the strict, general and messy grammars that matches
+-- it.
 abbrev pub SpellsVersioning : List ℕ → PlainVersioning → Type 0
 SpellsVersioning text (Ideal v) = SpellsSemVer text v
-SpellsVersioning text (General v) = SpellsVersion text v × ((w : PlainSemVer) → ¬ (SpellsSemVer text w))
-SpellsVersioning text (Complex m) = SpellsMess text m × ((v : PlainVersion) → ¬ (SpellsVersion text v)) × ((w : PlainSemVer) → ¬ (SpellsSemVer text w))
+SpellsVersioning text (General v) =
+    SpellsVersion text v × ((w : PlainSemVer) → ¬ (SpellsSemVer text w))
+SpellsVersioning text (Complex m) =
+    SpellsMess text m × ((v : PlainVersion) → ¬ (SpellsVersion text v))
+    × ((w : PlainSemVer) → ¬ (SpellsSemVer text w))
 
 -- the prefix as a strict version, else as a general, else as a messy one
 abbrev pub versioning_front : Front PlainVersioning
-versioning_front text = option_or (map_value Ideal (semver_front text)) (option_or (map_value General (version_front text)) (map_value Complex (mess_front text)))
+versioning_front text =
+    option_or (map_value Ideal (semver_front text))
+    (option_or (map_value General (version_front text)) (map_value Complex (mess_front text)))
 
 -- the version that the whole text parses as, of the first kind that fits, or None
 abbrev pub versioning_of : List ℕ → Option PlainVersioning
-versioning_of text = option_or (option_map Ideal (semver_of text)) (option_or (option_map General (version_of text)) (option_map Complex (mess_of text)))
+versioning_of text =
+    option_or (option_map Ideal (semver_of text))
+    (option_or (option_map General (version_of text)) (option_map Complex (mess_of text)))
 
 -- the printed text: that of its kind
 abbrev pub versioning_text : PlainVersioning → List ℕ
@@ -66,7 +79,9 @@ is_complex _ = false
 
 -- major, minor and patch at 0, 1 and 2
 abbrev pub semver_nth : PlainSemVer → ℕ → Option ℕ
-semver_nth v n = if n == 0 then Some v.major else (if n == 1 then Some v.minor else (if n == 2 then Some v.patch else None))
+semver_nth v n =
+    if n == 0 then Some v.major
+    else (if n == 1 then Some v.minor else (if n == 2 then Some v.patch else None))
 
 -- the number at a place, by the rule of its kind
 abbrev pub versioning_nth : PlainVersioning → ℕ → Option ℕ

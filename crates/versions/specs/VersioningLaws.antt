@@ -15,7 +15,8 @@ use Rattle.versions.specs.SemVerOrder.{semver_cmp}
 use Rattle.versions.specs.Version.{PlainVersion, version_fed}
 use Rattle.versions.specs.VersionLaws.{version_plain_total, versions_same}
 use Rattle.versions.specs.VersionOrder.{version_plain_cmp}
-use Rattle.versions.specs.Versioning.{PlainVersioning, Ideal, General, Complex, kind_rank, versioning_fed, versioning_plain_cmp}
+use Rattle.versions.specs.Versioning.{PlainVersioning, Ideal, General, Complex, kind_rank}
+use Rattle.versions.specs.Versioning.{versioning_fed, versioning_plain_cmp}
 
 -- the version of a kind, if it is of that kind
 ideal_part : PlainVersioning → Option PlainSemVer
@@ -34,7 +35,10 @@ complex_part (General v) = None
 complex_part (Complex m) = Some m
 
 in_turn : (a b : PlainVersioning)
-    → then_cmp (on kind_rank nat_cmp) (then_cmp (on ideal_part (option_cmp semver_cmp)) (then_cmp (on general_part (option_cmp version_plain_cmp)) (on complex_part (option_cmp mess_plain_cmp)))) a b
+    → then_cmp (on kind_rank nat_cmp)
+    (then_cmp (on ideal_part (option_cmp semver_cmp))
+    (then_cmp (on general_part (option_cmp version_plain_cmp))
+    (on complex_part (option_cmp mess_plain_cmp)))) a b
     ≡ versioning_plain_cmp a b
 unfolding ideal_part general_part complex_part
 in_turn (Ideal a) (Ideal b) = then_equal (semver_cmp a b)
@@ -49,14 +53,22 @@ in_turn (Complex a) (General b) = refl
 
 pub versioning_plain_total : IsTotalOrder versioning_plain_cmp
 versioning_plain_total = subst IsTotalOrder (λ i a b. in_turn a b i)
-    (then_total (on_total kind_rank nat_cmp_total) (then_total (on_total ideal_part (options_total semver_total))
-    (then_total (on_total general_part (options_total version_plain_total)) (on_total complex_part (options_total mess_total)))))
+    (then_total (on_total kind_rank nat_cmp_total)
+    (then_total (on_total ideal_part (options_total semver_total))
+    (then_total (on_total general_part (options_total version_plain_total))
+    (on_total complex_part (options_total mess_total)))))
 
 -- equal versions are fed alike
-pub versions_fed_alike : (a b : PlainVersioning) → eq_by_cmp versioning_plain_cmp a b ≡ true → versioning_fed a ≡ versioning_fed b
-versions_fed_alike (Ideal a) (Ideal b) tied = ap (λ (w : HashWrites). fed.u8 0 ++ w) (fed_alike a b tied)
-versions_fed_alike (General a) (General b) tied = ap (λ (v : PlainVersion). fed.u8 1 ++ version_fed v) (versions_same a b ((Equal-is (version_plain_cmp a b)).0 tied))
-versions_fed_alike (Complex a) (Complex b) tied = ap (λ (m : PlainMess). fed.u8 2 ++ mess_fed m) (messes_same a b ((Equal-is (mess_plain_cmp a b)).0 tied))
+pub versions_fed_alike : (a b : PlainVersioning) → eq_by_cmp versioning_plain_cmp a b ≡ true
+    → versioning_fed a ≡ versioning_fed b
+versions_fed_alike (Ideal a) (Ideal b) tied =
+    ap (λ (w : HashWrites). fed.u8 0 ++ w) (fed_alike a b tied)
+versions_fed_alike (General a) (General b) tied =
+    ap (λ (v : PlainVersion). fed.u8 1 ++ version_fed v)
+    (versions_same a b ((Equal-is (version_plain_cmp a b)).0 tied))
+versions_fed_alike (Complex a) (Complex b) tied =
+    ap (λ (m : PlainMess). fed.u8 2 ++ mess_fed m)
+    (messes_same a b ((Equal-is (mess_plain_cmp a b)).0 tied))
 versions_fed_alike (Ideal a) (General b) tied = cc tied
 versions_fed_alike (Ideal a) (Complex b) tied = cc tied
 versions_fed_alike (General a) (Ideal b) tied = cc tied

@@ -5,7 +5,8 @@ use Rattle.versions.specs.Version as version
 use Rattle.versions.specs.Versioning as plain
 use Rattle.versions.specs.Versioning.{PlainVersioning}
 use Rattle.versions.specs.declared.versioning_ref.VersioningRef.{VersioningRef}
-use Rattle.versions.specs.declared.versioning_ref.VersioningRef.TheVariants.{Ideal, General, Complex}
+use Rattle.versions.specs.declared.versioning_ref.VersioningRef.TheVariants.{Ideal, General}
+use Rattle.versions.specs.declared.versioning_ref.VersioningRef.TheVariants.{Complex}
 
 abbrev pub plain_versioning_ref : VersioningRef → PlainVersioning
 plain_versioning_ref (Ideal ref) = plain.Ideal (semver.plain_semver_ref ref)

@@ -19,7 +19,8 @@ pub enum Kind {
 }
 
 impl Kind {
-    /// Returns the kind of the version that the whole text parses as, or None if it is not a version. Doesn't allocate.
+    /// Returns the kind of the version that the whole text parses as, or None if it is not a version. Does not
+    /// allocate.
     pub fn of(text: &str) -> Option<Kind>
         ensures { result ≡ option_map versioning_kind (versioning_of text.now) }
     {

@@ -5,8 +5,8 @@
 //! epoch, a release and metadata, as in `1:2.0rc1-3`. A messy version (`Mess`) is runs of letters and digits with dots
 //! and single signs between, as in `10.2+0.93+1-1`. A `Versioning` is the first of these that fits. A `Requirement`,
 //! such as `^1.2.3`, matches versions. A list of them, a `Requirements`, matches the versions that each member matches.
-//! A `VersioningRef` has the fields of a version, read from its text: what orders, prints and matches texts is the crate
-//! `version_texts`.
+//! A `VersioningRef` has the fields of a version, read from its text: what orders, prints and matches texts is the
+//! crate `version_texts`.
 //!
 //! In a JSON document a `Versioning` is a string, by `serialize_pretty` and `deserialize_pretty`; so are a
 //! `Requirement` and a `Requirements`, by `serialize` and `deserialize`. `SemVer`, `Version` and the parts of versions
@@ -24,6 +24,7 @@ mod mess;
 mod numbers;
 mod op;
 mod optional;
+mod order;
 mod parts;
 mod pretty;
 mod range;

@@ -1,23 +1,19 @@
 //! Messy versions. Every call goes along the sections by a loop, without recursion.
 
-ghost use Rattle.std.specs.Prelude.{◌≡◌, ◌<◌, ◌∷◌, refl, [], Some, IfNone, IfOk, IfSome, IsSome, OnErr, length, map};
+ghost use Rattle.std.specs.Prelude.{◌≡◌, ◌<◌, ◌∷◌, [], Some, IfNone, IfOk, IfSome, IsSome, OnErr, length, map};
 ghost use Rattle.std.specs.Option.{is_some, option_map};
 ghost use Rattle.std.proofs.Common.{ap};
-ghost use Rattle.std.specs.Cmp.{eq_by_cmp_equiv, on_equiv, on_per, on_total, partial_equiv_from_equiv, po};
+ghost use Rattle.std.specs.Cmp.{eq_by_cmp_equiv, on_equiv, on_per, partial_equiv_from_equiv};
 ghost use Rattle.std.specs.Cmp.Lexicographic.{slice_cmp};
-ghost use Rattle.std.specs.Ordering.{as_partial_cmp, eq_by_cmp, on};
+ghost use Rattle.std.specs.Ordering.{eq_by_cmp, on};
 ghost use Rattle.version_parts.specs.Front.{repeated, Reads};
 ghost use Rattle.version_parts.specs.OrderLaws.{same_where_tied};
 ghost use Rattle.version_parts.specs.Sep.{plain_sep};
 ghost use Rattle.versions.specs.Errors.{IllegalMess, ReadsOr};
 ghost use Rattle.versions.specs.Mess.{behind_colons, further_front, further_in, further_plain_cmp, mess_fed, mess_front, mess_of, mess_plain_cmp, mess_text, nth_number, plain_further, plain_mess, plain_mess_ref, plain_section, section_front, PlainMess, SpellsMess};
 ghost use Rattle.versions.specs.MessLaws.{mess_total, messes_same};
-ghost use Rattle.versions.specs.Orders.{mess_cmp};
-ghost use Rattle.versions.specs.OrdersLaws.{mess_cmp_ties, mess_cmp_total};
 
 use crate::errors::{Error, ReadError};
-use crate::key::{KeyBytes, compare_keys};
-use crate::pretty::write_pretty;
 use crate::reading::or_illegal;
 use std::alloc::{AllocError, Global};
 use std::cmp::Ordering;
@@ -56,7 +52,7 @@ impl Mess {
         read_whole(alloc, s)
     }
 
-    /// Returns whether the whole text parses as a messy version, so that `new` returns one. Doesn't allocate.
+    /// Returns whether the whole text parses as a messy version, so that `new` returns one. Does not allocate.
     pub fn is_spelled_by(s: &str) -> bool
         ensures { result ≡ is_some (mess_of s.now) }
     {
@@ -85,7 +81,7 @@ impl Mess {
     }
 
     /// Returns the number of the chunk at `x`, counted from 0, in the first section that no colon follows, or None if
-    /// the chunk is not `Digits`. So an epoch is skipped. Doesn't allocate.
+    /// the chunk is not `Digits`. So an epoch is skipped. Does not allocate.
     pub fn nth(&self, x: usize) -> Option<u32>
         ensures { result ≡ nth_number (plain_mess self.now) x }
     {
@@ -107,7 +103,7 @@ impl Mess {
         link(alloc, first, more)
     }
 
-    /// Returns the version without chunks and further sections. Doesn't allocate.
+    /// Returns the version without chunks and further sections. Does not allocate.
     pub fn default_in(alloc: Global) -> Mess
         ensures { plain_mess result ≡ record { first = []; more = [] } }
     {
@@ -157,29 +153,6 @@ impl Drop for Mess {
     }
 }
 
-/// Writes what a derive would, but without recursion.
-impl fmt::Debug for Mess {
-    fn fmt<W: fmt::Write>(&self, f: &mut fmt::Formatter<W>) -> fmt::Result {
-        if f.alternate() {
-            return write_pretty(self, f);
-        }
-        show_front(self, f)?;
-        let mut current = self;
-        while let Some((sign, section)) = &current.next {
-            write!(f, "Some(({sign:?}, ")?;
-            show_front(section, f)?;
-            current = section;
-        }
-        f.write_str("None }")?;
-        let mut current = self;
-        while let Some((_, section)) = &current.next {
-            f.write_str(")) }")?;
-            current = section;
-        }
-        Ok(())
-    }
-}
-
 impl fmt::Display for Mess {
     ghost output = { λ m. Some (mess_text (plain_mess m)) };
 
@@ -210,35 +183,6 @@ impl Eq for Mess {
     ghost laws = { on_equiv plain_mess (eq_by_cmp_equiv mess_total) };
 }
 
-/// Compares the keys; breaks a tie field by field, section by section. Doesn't allocate.
-impl Ord for Mess {
-    ghost cmp = { on plain_mess mess_cmp };
-
-    ghost total = { on_total plain_mess mess_cmp_total };
-
-    ghost matches_partial_cmp = { λ a b. refl };
-
-    ghost matches_eq = { λ a b. mess_cmp_ties (plain_mess a) (plain_mess b) };
-
-    #[tactic(auto, using(crate::proofs::Orders::key_bytes_alone))]
-    fn cmp(&self, other: &Mess) -> Ordering {
-        compare_keys(KeyBytes::of_mess(self), KeyBytes::of_mess(other)).then_with(
-            || self.compare_plain(other),
-        )
-    }
-}
-
-impl PartialOrd for Mess {
-    ghost partial_cmp = { as_partial_cmp (on plain_mess mess_cmp) };
-
-    ghost laws = { po (on_total plain_mess mess_cmp_total)
-        (λ a b. mess_cmp_ties (plain_mess a) (plain_mess b)) };
-
-    fn partial_cmp(&self, other: &Mess) -> Option<Ordering> {
-        Some(self.cmp(other))
-    }
-}
-
 /// Hashes the chunks, then whether more follows, then the sign and what follows it.
 impl Hash for Mess {
     ghost hash_input = { λ m. mess_fed (plain_mess m) };
@@ -256,13 +200,6 @@ impl Hash for Mess {
         }
         state.write_u8(0);
     }
-}
-
-// Writes a section as `Debug` does, up to the section after it.
-fn show_front<W: fmt::Write>(section: &Mess, f: &mut fmt::Formatter<W>) -> fmt::Result {
-    f.write_str("Mess { chunks: ")?;
-    fmt::Debug::fmt(&section.chunks, f)?;
-    f.write_str(", next: ")
 }
 
 // Returns the version from the first section that no colon follows.
@@ -316,7 +253,7 @@ pub struct MessRef<'a> {
 
 impl<'a> MessRef<'a> {
     // Parses the whole text as a messy version.
-    #[tactic(auto, using(crate::proofs::MessScan::whole_mess))]
+    #[tactic(auto, using(crate::proofs::lemmas::Mess::Scan::whole_mess))]
     #[inline(always)]
     pub(crate) fn new(s: &'a str) -> Option<MessRef<'a>>
         ensures { option_map plain_mess_ref result ≡ mess_of s.now }
@@ -465,7 +402,7 @@ fn compare_sections(
 }
 
 // Parses a prefix as a sign and a section; returns them and the rest.
-#[tactic(auto, using(crate::proofs::MessScan::first_further))]
+#[tactic(auto, using(crate::proofs::lemmas::Mess::Scan::first_further))]
 #[inline(always)]
 pub(crate) fn scan_further(i: &str) -> Option<(Sep, SectionRef<'_>, &str)>
     ensures some { IfSome result (λ r. further_in i.now

@@ -5,11 +5,8 @@ ghost use Rattle.version_parts.specs.Chunk.{plain_chunk};
 ghost use Rattle.version_parts.specs.Last.{last_text, plain_last};
 ghost use Rattle.version_parts.specs.PartKey.{chunk_parts, part_cmp, part_key};
 ghost use Rattle.versions.specs.BodyParts.{key_of_part, parts_left};
-ghost use Rattle.versions.specs.Key.{key_of_version};
-ghost use Rattle.versions.specs.Version.{plain_version};
 ghost use Rattle.versions.specs.VersionMatch.{is_plain_zero, PartsMatchCaret, PartsMatchTilde, PartsNotBelow};
 
-use crate::version::Version;
 use std::cmp::Ordering;
 use version_parts::key::{PartText, compare_parts};
 use version_parts::{Chunk, ChunkRef, Last};
@@ -41,7 +38,7 @@ impl<'a> BodyPart<'a> {
     }
 
     // Returns whether the part is the number 0 without a suffix.
-    #[tactic(auto, using(crate::proofs::VersionMatch::zero_tied))]
+    #[tactic(auto, using(crate::proofs::lemmas::VersionMatch::zero_tied))]
     pub(crate) fn is_plain_zero(self) -> bool
         ensures { result ≡ is_plain_zero (key_of_part self.entry) }
     {
@@ -49,7 +46,7 @@ impl<'a> BodyPart<'a> {
     }
 }
 
-// The remaining parts of a version: its chunks, then its last part if that isn't taken yet.
+// The remaining parts of a version: its chunks, then its last part if that is not taken yet.
 #[derive(Drop)]
 pub(crate) struct BodyParts<'a> {
     chunks: &'a [Chunk],
@@ -57,13 +54,6 @@ pub(crate) struct BodyParts<'a> {
 }
 
 impl<'a> BodyParts<'a> {
-    // Returns all parts of a version.
-    pub(crate) fn of(version: &'a Version) -> BodyParts<'a>
-        ensures { parts_left result ≡ (key_of_version (plain_version version.now)).body }
-    {
-        BodyParts::with_last(version.chunks.0.as_slice(), &version.last)
-    }
-
     // Returns chunks as parts, and a last part after them.
     pub(crate) fn with_last(chunks: &'a [Chunk], last: &'a Last) -> BodyParts<'a>
         ensures { parts_left result ≡ chunk_parts (map plain_chunk chunks.now)
@@ -90,8 +80,8 @@ impl<'a> BodyParts<'a> {
 }
 
 // Returns whether there are equally many parts, all but the last the same, and the last not before the wanted one.
-// Doesn't allocate.
-#[tactic(auto, using(crate::proofs::VersionMatch::tildes))]
+// Does not allocate.
+#[tactic(auto, using(crate::proofs::lemmas::VersionMatch::tildes))]
 pub(crate) fn parts_match_tilde(mut wanted: BodyParts<'_>, mut parts: BodyParts<'_>) -> bool
     ensures { IsTrue result ↔ PartsMatchTilde (parts_left wanted.entry) (parts_left parts.entry) }
 {
@@ -115,8 +105,8 @@ pub(crate) fn parts_match_tilde(mut wanted: BodyParts<'_>, mut parts: BodyParts<
 }
 
 // Returns whether there is a part for each wanted one: the same for leading plain zeros and for the first other part,
-// then parts that are not before the wanted ones. Doesn't allocate.
-#[tactic(auto, using(crate::proofs::VersionMatch::carets))]
+// then parts that are not before the wanted ones. Does not allocate.
+#[tactic(auto, using(crate::proofs::lemmas::VersionMatch::carets))]
 pub(crate) fn parts_match_caret(mut wanted: BodyParts<'_>, mut parts: BodyParts<'_>) -> bool
     ensures { IsTrue result ↔ PartsMatchCaret (parts_left wanted.entry) (parts_left parts.entry) }
 {

@@ -1,11 +1,40 @@
-//! What `{:#?}` writes of a messy version: the text that a derive would write, but without recursion.
+//! What `{:?}` and `{:#?}` write of a messy version: the text that a derive would write, but without recursion.
 
 use crate::mess::Mess;
 use std::fmt::{self, Alignment, Debug, Formatter, ToDebug, Write};
 
-/// Writes a version over several lines, each indented by four blanks more than what encloses it. Each section is
-/// enclosed by the one before it, so the output grows with the square of the number of sections.
-pub(crate) fn write_pretty<W: Write>(mess: &Mess, f: &mut Formatter<W>) -> fmt::Result {
+impl fmt::Debug for Mess {
+    fn fmt<W: fmt::Write>(&self, f: &mut fmt::Formatter<W>) -> fmt::Result {
+        if f.alternate() {
+            return write_pretty(self, f);
+        }
+        show_front(self, f)?;
+        let mut current = self;
+        while let Some((sign, section)) = &current.next {
+            write!(f, "Some(({sign:?}, ")?;
+            show_front(section, f)?;
+            current = section;
+        }
+        f.write_str("None }")?;
+        let mut current = self;
+        while let Some((_, section)) = &current.next {
+            f.write_str(")) }")?;
+            current = section;
+        }
+        Ok(())
+    }
+}
+
+// Writes a section as `Debug` does, up to the section after it.
+fn show_front<W: fmt::Write>(section: &Mess, f: &mut fmt::Formatter<W>) -> fmt::Result {
+    f.write_str("Mess { chunks: ")?;
+    fmt::Debug::fmt(&section.chunks, f)?;
+    f.write_str(", next: ")
+}
+
+// Writes a version over several lines, each indented by four blanks more than what encloses it. Each section is
+// enclosed by the one before it, so the output grows with the square of the number of sections.
+fn write_pretty<W: Write>(mess: &Mess, f: &mut Formatter<W>) -> fmt::Result {
     let mut lines = Lines {
         f,
         depth: 0,

@@ -85,8 +85,8 @@ impl Kinds {
     }
 }
 
-/// Keys from a low bound up to a high one, of versions of some kinds: what a list of requirements asks for. Each version
-/// that the list matches is in its range. docs/REQUIREMENTS.md has the rules.
+/// Keys from a low bound up to a high one, of versions of some kinds: what a list of requirements asks for. Each
+/// version that the list matches is in its range. docs/REQUIREMENTS.md has the rules.
 #[derive(Debug, PartialEq, Eq, Drop)]
 pub struct Range {
     /// The key of each version is at least these bytes.
@@ -100,7 +100,7 @@ pub struct Range {
 }
 
 impl Range {
-    /// Returns the range of every version. Doesn't allocate.
+    /// Returns the range of every version. Does not allocate.
     pub fn everything(alloc: Global) -> Range
         ensures { plain_range result ≡ everything }
     {
@@ -129,7 +129,7 @@ impl Range {
     }
 
     /// Returns whether a version is in the range: its key lies between the bounds, and its kind is one of the kinds.
-    /// Doesn't allocate.
+    /// Does not allocate.
     pub fn contains(&self, version: &Versioning) -> bool
         ensures { IsTrue result ↔ IsIn (plain_range self.now) (plain_versioning version.now) }
     {
@@ -139,7 +139,7 @@ impl Range {
     }
 
     /// Returns what is in both ranges: from the later low bound up to the earlier high one, of the kinds in both. It is
-    /// exact if both are. Doesn't allocate.
+    /// exact if both are. Does not allocate.
     pub fn common(self, other: Range) -> Range
         ensures { plain_range result ≡ common (plain_range self) (plain_range other) }
     {

@@ -56,7 +56,7 @@ impl Requirement {
         read_whole(alloc, s)
     }
 
-    /// Returns whether the whole text parses as a requirement, so that `new` returns one. Doesn't allocate.
+    /// Returns whether the whole text parses as a requirement, so that `new` returns one. Does not allocate.
     pub fn is_spelled_by(s: &str) -> bool
         ensures { result ≡ is_some (requirement_of s.now) }
     {
@@ -111,8 +111,8 @@ impl Requirement {
     /// Returns whether the version matches. `=` compares by `==`, and `>`, `>=`, `<` and `<=` by precedence. `~` and
     /// `^` match by the rule of strict versions if both are strict, by that of general ones if both are general, else
     /// never. `*` matches every version, with or without a version of its own. Any other operator without a version
-    /// matches nothing. Doesn't allocate.
-    #[tactic(auto, using(crate::proofs::Convex::requirement_convex))]
+    /// matches nothing. Does not allocate.
+    #[tactic(auto, using(crate::proofs::lemmas::Matching::Convex::requirement_convex))]
     pub fn matches(&self, version: &Versioning) -> bool
         ensures set { IsTrue result
             ↔ Matches (plain_requirement self.now) (plain_versioning version.now) }
@@ -127,7 +127,7 @@ impl Requirement {
     }
 
     /// Returns the range of keys that it asks for. `Err` means allocation failure.
-    #[tactic(auto, using(crate::proofs::RangeLaws::requirement_in, crate::proofs::RangeLaws::requirement_exact))]
+    #[tactic(auto, using(crate::proofs::lemmas::Range::requirement_in, crate::proofs::lemmas::Range::requirement_exact))]
     pub fn range(&self, alloc: Global) -> Result<Range, AllocError>
         ensures range { IfOk result
             (λ range. plain_range range ≡ requirement_range (plain_requirement self.now)) }

@@ -46,7 +46,7 @@ impl Requirements {
         read_whole(alloc, s)
     }
 
-    /// Returns whether the whole text parses as a list, so that `new` returns one. Doesn't allocate.
+    /// Returns whether the whole text parses as a list, so that `new` returns one. Does not allocate.
     pub fn is_spelled_by(s: &str) -> bool
         ensures { result ≡ is_some (requirements_of s.now) }
     {
@@ -73,8 +73,8 @@ impl Requirements {
         Ok(Requirements(copy))
     }
 
-    /// Returns whether each member matches the version; an empty list matches every version. Doesn't allocate.
-    #[tactic(auto, using(crate::proofs::Convex::requirements_convex))]
+    /// Returns whether each member matches the version; an empty list matches every version. Does not allocate.
+    #[tactic(auto, using(crate::proofs::lemmas::Matching::Convex::requirements_convex))]
     pub fn matches(&self, version: &Versioning) -> bool
         ensures set { IsTrue result
             ↔ MatchesAll (plain_requirements self.now) (plain_versioning version.now) }
@@ -91,12 +91,13 @@ impl Requirements {
     }
 
     /// Returns the range of keys that it asks for: what is in the range of each member. `Err` means allocation failure.
-    #[tactic(auto, using(crate::proofs::RangeLaws::list_in, crate::proofs::RangeLaws::list_exact))]
+    #[tactic(auto, using(crate::proofs::lemmas::Range::list_in, crate::proofs::lemmas::Range::list_exact))]
     pub fn range(&self, alloc: Global) -> Result<Range, AllocError>
         ensures range { IfOk result
             (λ range. plain_range range ≡ range_of (plain_requirements self.now)) }
 
-        // Each version that the list matches is in the range. If the range is exact, the list matches each version in it.
+        // Each version that the list matches is in the range. If the range is exact, the list matches each version in
+        // it.
         ensures within { IfOk result (λ range. (v : PlainVersioning)
             → MatchesAll (plain_requirements self.now) v → IsIn (plain_range range) v) }
         ensures exact { IfOk result (λ range. (v : PlainVersioning) → IsTrue range.is_exact

@@ -63,7 +63,7 @@ impl SemVer {
         read_whole(alloc, s)
     }
 
-    /// Returns whether the whole text parses as a strict version, so that `new` returns one. Doesn't allocate.
+    /// Returns whether the whole text parses as a strict version, so that `new` returns one. Does not allocate.
     pub fn is_spelled_by(s: &str) -> bool
         ensures { result ≡ is_some (semver_of s.now) }
     {
@@ -118,7 +118,7 @@ impl fmt::Display for SemVer {
 
 impl SemVer {
     /// Returns whether `~self` matches `other`: major and minor are equal, and the patch is not less. Pre-releases and
-    /// metadata do not count. Doesn't allocate.
+    /// metadata do not count. Does not allocate.
     pub fn matches_tilde(&self, other: &SemVer) -> bool
         ensures { IsTrue result
             ↔ MatchesTilde (numbers (plain_semver self.now)) (numbers (plain_semver other.now)) }
@@ -127,7 +127,7 @@ impl SemVer {
     }
 
     /// Returns whether `^self` matches `other`. Leading numbers that are 0 in both are skipped; the next must be equal,
-    /// and those after it not less, compared in turn. Pre-releases and metadata do not count. Doesn't allocate.
+    /// and those after it not less, compared in turn. Pre-releases and metadata do not count. Does not allocate.
     pub fn matches_caret(&self, other: &SemVer) -> bool
         ensures { IsTrue result
             ↔ MatchesCaret (numbers (plain_semver self.now)) (numbers (plain_semver other.now)) }
@@ -189,7 +189,7 @@ impl Hash for SemVer {
 }
 
 /// Compares major, minor and patch by value, then the pre-releases chunk by chunk (SemVer 2.0, section 11). No
-/// pre-release comes last. Metadata does not count. Doesn't allocate.
+/// pre-release comes last. Metadata does not count. Does not allocate.
 impl Ord for SemVer {
     ghost cmp = { on plain_semver semver_cmp };
 

@@ -1,27 +1,25 @@
 //! General versions.
 
-ghost use Rattle.std.specs.Prelude.{◌≡◌, ◌↔◌, refl, IfOk, IfSome, IsSomeAnd, IsTrue, None, OnErr, Some, []};
+ghost use Rattle.std.specs.Prelude.{[], ◌≡◌, ◌↔◌, IfOk, IfSome, IsSomeAnd, IsTrue, None, OnErr, Some};
 ghost use Rattle.std.proofs.Common.{ap};
-ghost use Rattle.std.specs.Cmp.{eq_by_cmp_equiv, on_equiv, on_per, on_total, partial_equiv_from_equiv, po};
+ghost use Rattle.std.specs.Cmp.{eq_by_cmp_equiv, on_equiv, on_per, partial_equiv_from_equiv};
 ghost use Rattle.std.specs.Option.{is_some, option_cmp, option_map};
-ghost use Rattle.std.specs.Ordering.{as_partial_cmp, eq_by_cmp, on};
-ghost use Rattle.version_parts.specs.Body.{body_front, plain_chunks};
+ghost use Rattle.std.specs.Ordering.{eq_by_cmp, on};
+ghost use Rattle.version_parts.specs.Body.{body_front};
 ghost use Rattle.version_parts.specs.Front.{optional, Reads};
 ghost use Rattle.version_parts.specs.Last as plain;
 ghost use Rattle.version_parts.specs.Lists.{bytes_cmp};
 ghost use Rattle.version_parts.specs.OrderLaws.{same_where_tied};
 ghost use Rattle.version_parts.specs.ReleaseOrder.{release_cmp};
 ghost use Rattle.versions.specs.Errors.{IllegalVersion, ReadsOr};
-ghost use Rattle.versions.specs.Key.{key_of_version, precedence};
-ghost use Rattle.versions.specs.Orders.{version_cmp};
-ghost use Rattle.versions.specs.OrdersLaws.{version_cmp_ties, version_cmp_total};
+ghost use Rattle.versions.specs.BodyParts.{parts_left};
+ghost use Rattle.versions.specs.Key.{key_of_version};
 ghost use Rattle.versions.specs.Version.{epoch_front, plain_version_ref, plain_version, version_fed, version_front, version_nth, version_of, version_text, PlainVersion, SpellsVersion, VersionOwns};
 ghost use Rattle.versions.specs.VersionLaws.{version_plain_total, versions_same};
 ghost use Rattle.versions.specs.VersionMatch.{epoch_and_parts, MatchesCaret, MatchesTilde};
 ghost use Rattle.versions.specs.VersionOrder.{version_plain_cmp};
 
 use crate::errors::{Error, ReadError};
-use crate::key::{KeyBytes, compare_keys};
 use crate::optional::{
     build_release, copy_meta, copy_release, copy_text, optional_meta, optional_release, write_tail,
 };
@@ -73,7 +71,7 @@ impl Version {
         read_whole(alloc, s)
     }
 
-    /// Returns whether the whole text parses as a general version, so that `new` returns one. Doesn't allocate.
+    /// Returns whether the whole text parses as a general version, so that `new` returns one. Does not allocate.
     pub fn is_spelled_by(s: &str) -> bool
         ensures { result ≡ is_some (version_of s.now) }
     {
@@ -102,7 +100,7 @@ impl Version {
         Ok(Some((version.build(alloc)?, rest)))
     }
 
-    /// Returns a version without epoch, chunks, release and metadata, whose last part is `0`. Doesn't allocate.
+    /// Returns a version without epoch, chunks, release and metadata, whose last part is `0`. Does not allocate.
     pub fn default_in(alloc: Global) -> Version
         ensures { plain_version result
             ≡ record { epoch = None; chunks = []; last = plain.Numeric 0; release = None; meta = None } }
@@ -130,7 +128,7 @@ impl Version {
     }
 
     /// Returns the number at a place, counted from 0: of a chunk, or after the chunks the first number of the last
-    /// part. None for `Alphanum`, and after the end. Doesn't allocate.
+    /// part. None for `Alphanum`, and after the end. Does not allocate.
     pub fn nth(&self, n: usize) -> Option<u32>
         ensures { result ≡ version_nth (plain_version self.now) n }
     {
@@ -138,15 +136,6 @@ impl Version {
             return self.last.first_number();
         }
         self.chunks.0.get(n)?.single_digit()
-    }
-
-    // Compares the keys of two versions.
-    #[tactic(auto, using(crate::proofs::Orders::key_bytes_alone))]
-    fn compare_keys(&self, other: &Version) -> Ordering
-        ensures { result ≡ precedence (key_of_version (plain_version self.now))
-            (key_of_version (plain_version other.now)) }
-    {
-        compare_keys(KeyBytes::of_version(self), KeyBytes::of_version(other))
     }
 
     // Compares two versions field by field, None before Some.
@@ -181,26 +170,33 @@ impl fmt::Display for Version {
 
 impl Version {
     /// Returns whether `~self` matches `other`: the epochs are equal (no epoch is 0), and there are equally many parts,
-    /// all but the last the same and the last not before. Releases and metadata do not count. Doesn't allocate.
+    /// all but the last the same and the last not before. Releases and metadata do not count. Does not allocate.
     pub fn matches_tilde(&self, other: &Version) -> bool
         ensures { IsTrue result
             ↔ MatchesTilde (epoch_and_parts (plain_version self.now))
             (epoch_and_parts (plain_version other.now)) }
     {
         self.epoch_number() == other.epoch_number()
-            && parts_match_tilde(BodyParts::of(self), BodyParts::of(other))
+            && parts_match_tilde(self.parts(), other.parts())
     }
 
     /// Returns whether `^self` matches `other`: the epochs are equal (no epoch is 0), and `other` has a part for each
     /// part of `self`. These are the same for the leading plain zeros of `self` and for its first other part; then they
-    /// are not before those of `self`. More parts may follow. Releases and metadata do not count. Doesn't allocate.
+    /// are not before those of `self`. More parts may follow. Releases and metadata do not count. Does not allocate.
     pub fn matches_caret(&self, other: &Version) -> bool
         ensures { IsTrue result
             ↔ MatchesCaret (epoch_and_parts (plain_version self.now))
             (epoch_and_parts (plain_version other.now)) }
     {
         self.epoch_number() == other.epoch_number()
-            && parts_match_caret(BodyParts::of(self), BodyParts::of(other))
+            && parts_match_caret(self.parts(), other.parts())
+    }
+
+    // Returns all parts of its body.
+    pub(crate) fn parts(&self) -> BodyParts<'_>
+        ensures { parts_left result ≡ (key_of_version (plain_version self.now)).body }
+    {
+        BodyParts::with_last(self.chunks.0.as_slice(), &self.last)
     }
 
     // Returns the epoch, or 0 without one.
@@ -225,33 +221,6 @@ impl PartialEq for Version {
 
 impl Eq for Version {
     ghost laws = { on_equiv plain_version (eq_by_cmp_equiv version_plain_total) };
-}
-
-/// Compares the keys; breaks a tie field by field, None before Some. Doesn't allocate.
-impl Ord for Version {
-    ghost cmp = { on plain_version version_cmp };
-
-    ghost total = { on_total plain_version version_cmp_total };
-
-    ghost matches_partial_cmp = { λ a b. refl };
-
-    ghost matches_eq = { λ a b. version_cmp_ties (plain_version a) (plain_version b) };
-
-    fn cmp(&self, other: &Version) -> Ordering {
-        self.compare_keys(other)
-            .then_with(|| self.compare_plain(other))
-    }
-}
-
-impl PartialOrd for Version {
-    ghost partial_cmp = { as_partial_cmp (on plain_version version_cmp) };
-
-    ghost laws = { po (on_total plain_version version_cmp_total)
-        (λ a b. version_cmp_ties (plain_version a) (plain_version b)) };
-
-    fn partial_cmp(&self, other: &Version) -> Option<Ordering> {
-        Some(self.cmp(other))
-    }
 }
 
 /// Hashes every field.

@@ -1,26 +1,19 @@
 //! Versions of any kind.
 
-ghost use Rattle.std.specs.Prelude.{◌≡◌, ◌++◌, List, ℕ, refl, IfOk, IfSome, IsSomeAnd, None, OnErr, Some};
-ghost use Rattle.std.specs.Cmp.{eq_by_cmp_equiv, on_equiv, on_per, on_total, partial_equiv_from_equiv, po, IsTotalOrder};
+ghost use Rattle.std.specs.Prelude.{◌≡◌, IfOk, IfSome, IsSomeAnd, None, OnErr, Some};
+ghost use Rattle.std.specs.Cmp.{eq_by_cmp_equiv, on_equiv, on_per, partial_equiv_from_equiv};
 ghost use Rattle.std.specs.Option.{is_some, option_map};
-ghost use Rattle.std.specs.Ordering.{as_partial_cmp, eq_by_cmp, on};
-ghost use Rattle.std.specs.declared.cmp.Ordering.TheVariants.{Equal};
+ghost use Rattle.std.specs.Ordering.{eq_by_cmp, on};
 ghost use Rattle.version_parts.specs.Front.{Reads};
-ghost use Rattle.version_parts.specs.Lists.{bytes_cmp};
 ghost use Rattle.versions.specs.Errors.{IllegalVersioning, ReadsOr};
-ghost use Rattle.versions.specs.Key.{key_of, precedence, Key};
-ghost use Rattle.versions.specs.KeyBytes.{key_bytes};
 ghost use Rattle.versions.specs.Kind.{versioning_kind};
-ghost use Rattle.versions.specs.Orders.{versioning_cmp};
-ghost use Rattle.versions.specs.OrdersLaws.{versioning_cmp_ties, versioning_cmp_total};
-ghost use Rattle.versions.specs.SemVer.{plain_semver, PlainSemVer};
-ghost use Rattle.versions.specs.SemVerOrder.{semver_cmp};
+ghost use Rattle.versions.specs.SemVer.{plain_semver};
 ghost use Rattle.versions.specs.Versioning.{is_complex, is_general, is_ideal, kind_rank, plain_versioning, semver_nth, versioning_fed, versioning_front, versioning_nth, versioning_of, versioning_plain_cmp, versioning_text, PlainVersioning, SpellsVersioning, VersioningOwns};
 ghost use Rattle.versions.specs.Versioning as plain;
 ghost use Rattle.versions.specs.VersioningLaws.{versioning_plain_total, versions_fed_alike};
+ghost use Rattle.versions.specs.VersioningRef.{plain_versioning_ref};
 
 use crate::errors::{Error, ReadError};
-use crate::key::{KeyBytes, compare_keys, key_list};
 use crate::kind::Kind;
 use crate::mess::Mess;
 use crate::reading::or_illegal;
@@ -68,7 +61,7 @@ impl Versioning {
         read_whole(alloc, s)
     }
 
-    /// Returns whether the whole text parses as a version of any kind, so that `new` returns one. Doesn't allocate.
+    /// Returns whether the whole text parses as a version of any kind, so that `new` returns one. Does not allocate.
     pub fn is_spelled_by(s: &str) -> bool
         ensures { result ≡ is_some (versioning_of s.now) }
     {
@@ -114,28 +107,28 @@ impl Versioning {
         }
     }
 
-    /// Returns whether it is a strict version. Doesn't allocate.
+    /// Returns whether it is a strict version. Does not allocate.
     pub fn is_ideal(&self) -> bool
         ensures { result ≡ is_ideal (plain_versioning self.now) }
     {
         matches!(self, Versioning::Ideal(_))
     }
 
-    /// Returns whether it is a general version. Doesn't allocate.
+    /// Returns whether it is a general version. Does not allocate.
     pub fn is_general(&self) -> bool
         ensures { result ≡ is_general (plain_versioning self.now) }
     {
         matches!(self, Versioning::General(_))
     }
 
-    /// Returns whether it is a messy version. Doesn't allocate.
+    /// Returns whether it is a messy version. Does not allocate.
     pub fn is_complex(&self) -> bool
         ensures { result ≡ is_complex (plain_versioning self.now) }
     {
         matches!(self, Versioning::Complex(_))
     }
 
-    /// Returns its kind. Doesn't allocate.
+    /// Returns its kind. Does not allocate.
     pub fn kind(&self) -> Kind
         ensures { result ≡ versioning_kind (plain_versioning self.now) }
     {
@@ -147,7 +140,7 @@ impl Versioning {
     }
 
     /// Returns the number at a place, counted from 0: major, minor or patch of a strict version, or what `nth` of the
-    /// other kinds returns. Doesn't allocate.
+    /// other kinds returns. Does not allocate.
     pub fn nth(&self, n: usize) -> Option<u32>
         ensures { result ≡ versioning_nth (plain_versioning self.now) n }
     {
@@ -158,51 +151,7 @@ impl Versioning {
         }
     }
 
-    /// Compares two versions of any kind by their keys: the order of all versions (docs/ORDER.md). `Ord` breaks its
-    /// ties. Doesn't allocate.
-    #[tactic(auto, using(crate::proofs::Orders::laws))]
-    pub fn precedence(&self, other: &Versioning) -> Ordering
-        ensures keys { result ≡ precedence (key_of (plain_versioning self.now))
-            (key_of (plain_versioning other.now)) }
-
-        // Over all keys the order is total and transitive, and swapping reverses it. On strict versions it is `Ord` of
-        // `SemVer`.
-        ensures total { IsTotalOrder precedence }
-        ensures strict { (a b : PlainSemVer)
-            → precedence (key_of (plain.Ideal a)) (key_of (plain.Ideal b)) ≡ semver_cmp a b }
-    {
-        compare_keys(self.key_bytes(), other.key_bytes())
-    }
-
-    /// Returns the bytes of its key, one after another. They compare as precedence does. Doesn't allocate.
-    #[inline(always)]
-    pub fn key_bytes(&self) -> KeyBytes<'_>
-        ensures { result ≡ key_bytes (key_of (plain_versioning self.now)) }
-    {
-        KeyBytes::of(self)
-    }
-
-    /// Returns the bytes of its key as a list, for a database or a sort that knows nothing of versions. Two lists
-    /// compare byte by byte, a prefix first, as the versions do in precedence. `Err` means allocation failure.
-    #[tactic(auto, using(crate::proofs::Orders::laws))]
-    pub fn sort_key(&self, alloc: Global) -> Result<Vec<u8>, AllocError>
-        ensures bytes { IfOk result (λ key. key.items
-            ≡ key_bytes (key_of (plain_versioning self.now))) }
-
-        // They compare with the bytes of any key as precedence does. If that is not Equal, it stays so whatever bytes
-        // follow the two.
-        ensures ordered { IfOk result (λ key. (k : Key)
-            → bytes_cmp key.items (key_bytes k)
-            ≡ precedence (key_of (plain_versioning self.now)) k) }
-        ensures followed { IfOk result (λ key. (k : Key) (x y : List ℕ)
-            → ¬ (precedence (key_of (plain_versioning self.now)) k ≡ Equal)
-            → bytes_cmp (key.items ++ x) (key_bytes k ++ y)
-            ≡ precedence (key_of (plain_versioning self.now)) k) }
-    {
-        key_list(alloc, self)
-    }
-
-    /// Compares two versions by kind, then field by field. `Ord` breaks ties of precedence by this. Doesn't allocate.
+    /// Compares two versions by kind, then field by field. `Ord` breaks ties of precedence by this. Does not allocate.
     pub fn compare_plain(&self, other: &Versioning) -> Ordering
         ensures { result ≡ versioning_plain_cmp (plain_versioning self.now)
             (plain_versioning other.now) }
@@ -236,6 +185,21 @@ fn nth_of_three(ideal: &SemVer, n: usize) -> Option<u32>
         1 => Some(ideal.minor),
         2 => Some(ideal.patch),
         _ => None,
+    }
+}
+
+impl<'a> VersioningRef<'a> {
+    /// Copies the version into a `Versioning` that outlives the text. Allocates nothing for three plain numbers, or for
+    /// one number with or without epoch. `Err` means allocation failure.
+    pub fn to_owned(&self, alloc: Global) -> Result<Versioning, AllocError>
+        ensures ok { IfOk result (λ v. plain_versioning v ≡ plain_versioning_ref self.now) }
+        ensures err { OnErr result (VersioningOwns (plain_versioning_ref self.now)) }
+    {
+        match self {
+            VersioningRef::Ideal(ideal) => Ok(Versioning::Ideal(ideal.build(alloc)?)),
+            VersioningRef::General(general) => Ok(Versioning::General(general.build(alloc)?)),
+            VersioningRef::Complex(complex) => Ok(Versioning::Complex(complex.build(alloc)?)),
+        }
     }
 }
 
@@ -291,34 +255,6 @@ impl PartialEq for Versioning {
 
 impl Eq for Versioning {
     ghost laws = { on_equiv plain_versioning (eq_by_cmp_equiv versioning_plain_total) };
-}
-
-/// Compares by precedence. Breaks a tie by kind, strict before general before messy, then field by field, except
-/// metadata of strict versions. Doesn't allocate.
-impl Ord for Versioning {
-    ghost cmp = { on plain_versioning versioning_cmp };
-
-    ghost total = { on_total plain_versioning versioning_cmp_total };
-
-    ghost matches_partial_cmp = { λ a b. refl };
-
-    ghost matches_eq = { λ a b. versioning_cmp_ties (plain_versioning a) (plain_versioning b) };
-
-    fn cmp(&self, other: &Versioning) -> Ordering {
-        self.precedence(other)
-            .then_with(|| self.compare_plain(other))
-    }
-}
-
-impl PartialOrd for Versioning {
-    ghost partial_cmp = { as_partial_cmp (on plain_versioning versioning_cmp) };
-
-    ghost laws = { po (on_total plain_versioning versioning_cmp_total)
-        (λ a b. versioning_cmp_ties (plain_versioning a) (plain_versioning b)) };
-
-    fn partial_cmp(&self, other: &Versioning) -> Option<Ordering> {
-        Some(self.cmp(other))
-    }
 }
 
 /// Hashes the kind, then the version of that kind.

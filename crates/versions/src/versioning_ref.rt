@@ -1,16 +1,14 @@
 //! The fields of versions of any kind, read from their texts.
 
-ghost use Rattle.std.specs.Prelude.{◌≡◌, IfOk, OnErr};
+ghost use Rattle.std.specs.Prelude.{◌≡◌};
 ghost use Rattle.std.specs.Option.{option_map};
 ghost use Rattle.versions.specs.VersioningRef.{plain_versioning_ref};
-ghost use Rattle.versions.specs.Versioning.{kind_rank, plain_versioning, versioning_nth, versioning_of, versioning_plain_cmp, VersioningOwns};
+ghost use Rattle.versions.specs.Versioning.{kind_rank, versioning_nth, versioning_of, versioning_plain_cmp};
 
 use crate::mess::MessRef;
 use crate::reading::ascii_text;
 use crate::semver::SemVerRef;
 use crate::version::VersionRef;
-use crate::versioning::Versioning;
-use std::alloc::{AllocError, Global};
 use std::cmp::Ordering;
 
 /// The fields of a version of the first kind that fits its text, read from that text. What orders, prints and matches
@@ -27,7 +25,7 @@ pub enum VersioningRef<'a> {
 
 impl<'a> VersioningRef<'a> {
     /// Parses the whole text as a strict version, else as a general, else as a messy one; returns None if it does not
-    /// parse. Doesn't allocate.
+    /// parse. Does not allocate.
     #[inline(always)]
     pub fn new(s: &'a str) -> Option<VersioningRef<'a>>
         ensures { option_map plain_versioning_ref result ≡ versioning_of s.now }
@@ -42,7 +40,7 @@ impl<'a> VersioningRef<'a> {
     }
 
     /// Parses bytes as `new` parses their text; returns None if they do not parse. Bytes that are not UTF-8 are not a
-    /// version. Doesn't allocate.
+    /// version. Does not allocate.
     #[inline(always)]
     pub fn from_bytes(bytes: &'a [u8]) -> Option<VersioningRef<'a>>
         ensures { option_map plain_versioning_ref result ≡ versioning_of bytes.now }
@@ -52,7 +50,7 @@ impl<'a> VersioningRef<'a> {
 
     /// Returns the number at a place, counted from 0, or None if no number is there. Of a strict version the places are
     /// major, minor and patch; of a general one the chunks, and after them the first number of the last part; of a
-    /// messy one the chunks of the first section that no colon follows. Doesn't allocate.
+    /// messy one the chunks of the first section that no colon follows. Does not allocate.
     pub fn nth(&self, n: usize) -> Option<u32>
         ensures { result ≡ versioning_nth (plain_versioning_ref self.now) n }
     {
@@ -63,7 +61,7 @@ impl<'a> VersioningRef<'a> {
         }
     }
 
-    /// Compares two versions by kind, then field by field. Doesn't allocate.
+    /// Compares two versions by kind, then field by field. Does not allocate.
     pub fn compare_plain(&self, other: &VersioningRef<'_>) -> Ordering
         ensures { result ≡ versioning_plain_cmp (plain_versioning_ref self.now)
             (plain_versioning_ref other.now) }
@@ -84,19 +82,6 @@ impl<'a> VersioningRef<'a> {
             VersioningRef::Ideal(_) => 0,
             VersioningRef::General(_) => 1,
             VersioningRef::Complex(_) => 2,
-        }
-    }
-
-    /// Copies the version into a `Versioning` that outlives the text. Allocates nothing for three plain numbers, or for
-    /// one number with or without epoch. `Err` means allocation failure.
-    pub fn to_owned(&self, alloc: Global) -> Result<Versioning, AllocError>
-        ensures ok { IfOk result (λ v. plain_versioning v ≡ plain_versioning_ref self.now) }
-        ensures err { OnErr result (VersioningOwns (plain_versioning_ref self.now)) }
-    {
-        match self {
-            VersioningRef::Ideal(ideal) => Ok(Versioning::Ideal(ideal.build(alloc)?)),
-            VersioningRef::General(general) => Ok(Versioning::General(general.build(alloc)?)),
-            VersioningRef::Complex(complex) => Ok(Versioning::Complex(complex.build(alloc)?)),
         }
     }
 }

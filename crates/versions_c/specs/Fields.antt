@@ -2,7 +2,8 @@
 use Rattle.std.specs.Prelude.{ℕ, ℤ, ◌==◌, Option, Some, None, is_some, if◌then◌else◌}
 use Rattle.std.specs.Option.{option_and_then}
 use Rattle.version_texts.specs.declared.field.Field.{Field}
-use Rattle.version_texts.specs.declared.field.Field.TheVariants.{Epoch, PreRelease, Release, Metadata}
+use Rattle.version_texts.specs.declared.field.Field.TheVariants.{Epoch, PreRelease, Release}
+use Rattle.version_texts.specs.declared.field.Field.TheVariants.{Metadata}
 use Rattle.version_texts.specs.Field.{field_place}
 use Rattle.versions.specs.Versioning.{PlainVersioning}
 use Rattle.versions_c.specs.declared.fields.TheConstants.{EPOCH, METADATA, PRE_RELEASE, RELEASE}
@@ -19,4 +20,5 @@ field_of n =
 -- the status for a text, by whether its version has the field
 abbrev pub field_status : Option Field → Option PlainVersioning → ℤ
 field_status f None = NO_VERSION
-field_status f (Some v) = if is_some (option_and_then (λ f. field_place f v) f) then OK else NO_FIELD
+field_status f (Some v) =
+    if is_some (option_and_then (λ f. field_place f v) f) then OK else NO_FIELD

@@ -1,5 +1,6 @@
 -- Sort keys in the caller's buffer.
-use Rattle.std.specs.Prelude.{◌≡◌, ℕ, zero, suc, ◌+◌, ◌*◌, ◌-◌, ◌^◌, min, ℤ, nat_le, List, [], ◌++◌, length, Option, Some, None, if◌then◌else◌}
+use Rattle.std.specs.Prelude.{◌≡◌, ℕ, zero, suc, ◌+◌, ◌*◌, ◌-◌, ◌^◌, min, ℤ, nat_le, List, [], ◌++◌}
+use Rattle.std.specs.Prelude.{length, Option, Some, None, if◌then◌else◌}
 use Rattle.std.specs.Option.{option_map, unwrap_or}
 use Rattle.versions.specs.Key.{key_of}
 use Rattle.versions.specs.KeyBytes.{key_bytes}
@@ -15,7 +16,8 @@ spelled_key text = option_map (λ v. key_bytes (key_of v)) (versioning_of text)
 -- the keys of the first texts, one after another, and nothing for a text that is not a version
 abbrev pub keys_before : List ℕ → List ℕ → ℕ → List ℕ
 keys_before texts offsets zero = []
-keys_before texts offsets (suc i) = keys_before texts offsets i ++ unwrap_or (spelled_key (text_at texts offsets i)) []
+keys_before texts offsets (suc i) =
+    keys_before texts offsets i ++ unwrap_or (spelled_key (text_at texts offsets i)) []
 
 -- the keys of all texts
 abbrev pub all_keys : List ℕ → List ℕ → List ℕ
@@ -43,7 +45,8 @@ abbrev pub key_status : Option (List ℕ) → ℕ → ℤ
 key_status None room = NO_VERSION
 key_status (Some bytes) room = room_status bytes room
 
--- the length of a key that doesn't fit
+-- the length of a key that does not fit
 abbrev pub length_past : Option (List ℕ) → ℕ → Option ℕ
 length_past None room = None
-length_past (Some bytes) room = if nat_le (length bytes) room then None else Some (saturated (length bytes))
+length_past (Some bytes) room =
+    if nat_le (length bytes) room then None else Some (saturated (length bytes))

@@ -10,7 +10,7 @@ abbrev pub bit : {Holds : Type 0} → Holds ⊎ ¬ Holds → ℕ
 bit (inl holds) = 1
 bit (inr fails) = 0
 
--- the answer for a text: 1 if its version matches, 0 if it doesn't, 2 if it is not a version
+-- the answer for a text: 1 if its version matches, 0 if it does not, 2 if it is not a version
 abbrev pub match_code : List PlainRequirement → Option PlainVersioning → ℕ
 match_code wanted None = 2
 match_code wanted (Some v) = bit (matches_all_or_not wanted v)

@@ -2,8 +2,8 @@
 use Rattle.std.specs.Prelude.{◌≡◌, ℕ, ◌+◌, ◌≤◌, List, length, slice_index, slice_range}
 use Rattle.std.specs.List.Sorted.{IsNonDecreasing}
 
--- the offsets of so many texts in a buffer of that length: one offset more than texts, not descending, the last within
--- the buffer
+-- the offsets of so many texts in a buffer of that length: one offset more than texts, not
+-- descending, the last within the buffer
 pub record AreOffsets (offsets : List ℕ) (buffer count : ℕ) : Type 0 where
   pub one_more : length offsets ≡ count + 1
   pub ascending : IsNonDecreasing offsets

@@ -1,5 +1,6 @@
 -- The ranges of lists in the caller's buffers, and which texts have a version in a range.
-use Rattle.std.specs.Prelude.{◌≡◌, ◌⊎◌, ◌&&◌, ℕ, ℤ, Bool, true, false, bit_and, eqb, not, nat_le, IfSome, IsTrue, List, Option, Some, None, if◌then◌else◌}
+use Rattle.std.specs.Prelude.{◌≡◌, ◌⊎◌, ◌&&◌, ℕ, ℤ, Bool, true, false, bit_and, eqb, not, nat_le}
+use Rattle.std.specs.Prelude.{IfSome, IsTrue, List, Option, Some, None, if◌then◌else◌}
 use Rattle.std.proofs.Common.{inl, inr, refl}
 use Rattle.std.specs.declared.cmp.Ordering.{Ordering}
 use Rattle.std.specs.declared.cmp.Ordering.TheVariants.{Less, Equal, Greater}
@@ -28,14 +29,20 @@ abbrev pub range_with : List ℕ → List ℕ → ℕ → PlainRange
 range_with low high flags = record {
   low = low;
   high = if has_flag flags HIGH then Some high else None;
-  kinds = record { ideal = has_flag flags IDEAL; general = has_flag flags GENERAL; complex = has_flag flags COMPLEX };
+  kinds = record {
+    ideal =
+        has_flag flags IDEAL;
+    general = has_flag flags GENERAL;
+    complex = has_flag flags COMPLEX;
+  };
   is_exact = has_flag flags EXACT;
 }
 
 -- the status for a list and the sizes of two buffers
 abbrev pub range_status : Option (List PlainRequirement) → ℕ → ℕ → ℤ
 range_status None low high = NO_REQUIREMENTS
-range_status (Some wanted) low high = if nat_le (low_room wanted) low && nat_le (high_room wanted) high then OK else NO_ROOM
+range_status (Some wanted) low high =
+    if nat_le (low_room wanted) low && nat_le (high_room wanted) high then OK else NO_ROOM
 
 -- the sizes that two buffers must have for the bounds of each member
 pub record AreSizes (low high : ℕ) (wanted : List PlainRequirement) : Type 0 where
@@ -50,7 +57,8 @@ less_or_not Equal = inr (λ e. cc e)
 less_or_not Greater = inr (λ e. cc e)
 
 below_or_not : (high : Option (List ℕ)) (bytes : List ℕ)
-    → IfSome high (λ bound. bytes_cmp bytes bound ≡ Less) ⊎ ¬ (IfSome high (λ bound. bytes_cmp bytes bound ≡ Less))
+    → IfSome high (λ bound. bytes_cmp bytes bound ≡ Less)
+    ⊎ ¬ (IfSome high (λ bound. bytes_cmp bytes bound ≡ Less))
 below_or_not None bytes = inl tt
 below_or_not (Some bound) bytes = less_or_not (bytes_cmp bytes bound)
 
@@ -60,18 +68,22 @@ true_or_not false = inr (λ e. cc e)
 
 pub is_in_or_not : (range : PlainRange) (v : PlainVersioning) → IsIn range v ⊎ ¬ (IsIn range v)
 is_in_or_not range v =
-    by (less_or_not (bytes_cmp (bytes_of v) range.low)) (below_or_not range.high (bytes_of v)) (true_or_not (has_kind range.kinds (versioning_kind v)))
+    by (less_or_not (bytes_cmp (bytes_of v) range.low)) (below_or_not range.high (bytes_of v))
+    (true_or_not (has_kind range.kinds (versioning_kind v)))
   where
     by : (bytes_cmp (bytes_of v) range.low ≡ Less) ⊎ ¬ (bytes_cmp (bytes_of v) range.low ≡ Less)
-        → IfSome range.high (λ bound. bytes_cmp (bytes_of v) bound ≡ Less) ⊎ ¬ (IfSome range.high (λ bound. bytes_cmp (bytes_of v) bound ≡ Less))
-        → IsTrue (has_kind range.kinds (versioning_kind v)) ⊎ ¬ (IsTrue (has_kind range.kinds (versioning_kind v)))
+        → IfSome range.high (λ bound. bytes_cmp (bytes_of v) bound ≡ Less)
+        ⊎ ¬ (IfSome range.high (λ bound. bytes_cmp (bytes_of v) bound ≡ Less))
+        → IsTrue (has_kind range.kinds (versioning_kind v))
+        ⊎ ¬ (IsTrue (has_kind range.kinds (versioning_kind v)))
         → IsIn range v ⊎ ¬ (IsIn range v)
     by (inl low) below kind = inr (λ is_in. is_in.between.from_low low)
     by (inr from) (inr high) kind = inr (λ is_in. high is_in.between.below_high)
     by (inr from) (inl below) (inr other) = inr (λ is_in. other is_in.of_kind)
-    by (inr from) (inl below) (inl kind) = inl (record { between = record { from_low = from; below_high = below }; of_kind = kind })
+    by (inr from) (inl below) (inl kind) = inl
+        (record { between = record { from_low = from; below_high = below }; of_kind = kind })
 
--- the answer for a text: 1 if its version is in the range, 0 if it isn't, 2 if it is not a version
+-- the answer for a text: 1 if its version is in the range, 0 if it is not, 2 if it is not a version
 abbrev pub in_range_code : PlainRange → Option PlainVersioning → ℕ
 in_range_code range None = 2
 in_range_code range (Some v) = bit (is_in_or_not range v)

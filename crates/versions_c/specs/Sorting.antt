@@ -1,5 +1,6 @@
 -- The places of texts, sorted by the texts' versions.
-use Rattle.std.specs.Prelude.{◌≡◌, ◌==◌, ℕ, ◌+◌, ◌-◌, ◌<◌, List, length, slice_index, Option, None, Some, if◌then◌else◌}
+use Rattle.std.specs.Prelude.{◌≡◌, ◌==◌, ℕ, ◌+◌, ◌-◌, ◌<◌, List, length, slice_index, Option, None}
+use Rattle.std.specs.Prelude.{Some, if◌then◌else◌}
 use Rattle.std.specs.Cmp.Lexicographic.{slice_cmp}
 use Rattle.std.specs.List.{range_with_len}
 use Rattle.std.specs.List.Sorted.{IsPermutation}
@@ -9,24 +10,30 @@ use Rattle.std.specs.declared.cmp.Ordering.{Ordering}
 use Rattle.std.specs.declared.cmp.Ordering.TheVariants.{Less}
 use Rattle.version_parts.specs.Lists.{none_last_cmp}
 use Rattle.versions.specs.Orders.{versioning_cmp}
-use Rattle.versions.specs.Versioning.{PlainVersioning, is_ideal, versioning_of, versioning_plain_cmp}
+use Rattle.versions.specs.Versioning.{PlainVersioning, is_ideal, versioning_of}
+use Rattle.versions.specs.Versioning.{versioning_plain_cmp}
 use Rattle.versions_c.specs.Offsets.{AreOffsets, text_at}
 
--- two places: by the versions of their texts, a text that is not a version last, and ties as numbers
+-- two places: by the versions of their texts, a text that is not a version last, and ties as
+-- numbers
 abbrev pub place_cmp : List ℕ → List ℕ → ℕ → ℕ → Ordering
-place_cmp texts offsets = then_cmp (on (λ i. versioning_of (text_at texts offsets i)) (none_last_cmp versioning_cmp)) nat_cmp
+place_cmp texts offsets =
+    then_cmp (on (λ i. versioning_of (text_at texts offsets i)) (none_last_cmp versioning_cmp))
+    nat_cmp
 
 -- the places of all texts, each below the next
 pub record AreInOrder (texts offsets order : List ℕ) : Type 0 where
   pub places : IsPermutation (range_with_len 0 (length offsets - 1)) order
-  pub ascending : (k : ℕ) → k + 1 < length order → place_cmp texts offsets (slice_index order k) (slice_index order (k + 1)) ≡ Less
+  pub ascending : (k : ℕ) → k + 1 < length order
+      → place_cmp texts offsets (slice_index order k) (slice_index order (k + 1)) ≡ Less
 
 -- offsets of texts in a buffer, with a place for each, and as many offsets for their keys
 pub record AreSortOffsets (offsets : List ℕ) (buffer key_offsets places : ℕ) : Type 0 where
   pub of_texts : AreOffsets offsets buffer places
   pub as_many : key_offsets ≡ length offsets
 
--- two keys, which are empty for a text that is not a version: empty keys last, others by their bytes
+-- two keys, which are empty for a text that is not a version: empty keys last, others by their
+-- bytes
 abbrev pub keys_cmp : List ℕ → List ℕ → Ordering
 keys_cmp = then_cmp (on (λ (key : List ℕ). length key == 0) bool_cmp) (slice_cmp nat_cmp)
 
@@ -45,8 +52,10 @@ tie_breaker text key = if length key == 0 then None else text_tie_breaker text
 -- two places whose keys tie: by what breaks the tie, and then as numbers
 abbrev pub tied_cmp : List ℕ → List ℕ → List ℕ → List ℕ → ℕ → ℕ → Ordering
 tied_cmp texts offsets keys key_offsets =
-    then_cmp (on (λ i. tie_breaker (text_at texts offsets i) (text_at keys key_offsets i)) (option_cmp versioning_plain_cmp)) nat_cmp
+    then_cmp (on (λ i. tie_breaker (text_at texts offsets i) (text_at keys key_offsets i))
+    (option_cmp versioning_plain_cmp)) nat_cmp
 
 -- two places by the keys that lie there, and if those tie as places whose keys tie
 abbrev pub keyed_cmp : List ℕ → List ℕ → List ℕ → List ℕ → ℕ → ℕ → Ordering
-keyed_cmp texts offsets keys key_offsets = then_cmp (on (text_at keys key_offsets) keys_cmp) (tied_cmp texts offsets keys key_offsets)
+keyed_cmp texts offsets keys key_offsets =
+    then_cmp (on (text_at keys key_offsets) keys_cmp) (tied_cmp texts offsets keys key_offsets)

@@ -9,8 +9,8 @@ ghost use Rattle.versions_c.specs.Keys.{all_keys, key_status, keys_before, lengt
 ghost use Rattle.versions_c.specs.Kinds.{kind_of};
 ghost use Rattle.versions_c.specs.Offsets.{AreOffsets};
 
+use crate::kinds::kind_number;
 use crate::offsets::{LARGEST, are_offsets, text_at};
-use crate::spelled::kind_number;
 use crate::status::{BAD_OFFSETS, NO_ROOM, NO_VERSION, OK};
 use version_texts::VersioningRef;
 
@@ -34,7 +34,7 @@ pub extern "C" fn versions_sort_key(text: &[u8], key: &mut [u8], key_len: &mut u
         (λ bytes. key.new ≡ bytes ++ drop (length bytes) key.old) }
     ensures kept { result ≢ OK → key.new ≡ key.old }
 
-    // Its length is reported even if it doesn't fit.
+    // Its length is reported even if it does not fit.
     ensures length { IfSome (spelled_key text.now)
         (λ bytes. key_len.new ≡ saturated (length bytes)) }
     ensures no_length { result ≡ NO_VERSION → key_len.new ≡ key_len.old }
@@ -56,7 +56,7 @@ pub extern "C" fn versions_parse(
         (λ bytes. key.new ≡ bytes ++ drop (length bytes) key.old) }
     ensures kept { result ≢ OK → key.new ≡ key.old }
 
-    // Its length is reported even if it doesn't fit.
+    // Its length is reported even if it does not fit.
     ensures length { IfSome (spelled_key text.now)
         (λ bytes. key_len.new ≡ saturated (length bytes)) }
     ensures no_length { result ≡ NO_VERSION → key_len.new ≡ key_len.old }
@@ -89,7 +89,7 @@ pub extern "C" fn versions_sort_keys(
         ≡ all_keys texts.now offsets.now
         ++ drop (length (all_keys texts.now offsets.now)) keys.old }
 
-    // Their offsets are reported even if they don't fit.
+    // Their offsets are reported even if they do not fit.
     ensures offsets { AreKeyOffsets offsets.now (length texts.now) (length key_offsets.old)
         → (i : ℕ) → i < length offsets.now
         → slice_index key_offsets.new i
@@ -165,7 +165,7 @@ fn put_all(
     end
 }
 
-// Returns the length of the key of a version, if it doesn't fit.
+// Returns the length of the key of a version, if it does not fit.
 fn length_past(text: &[u8], room: usize) -> Option<usize>
     requires { room < 2 ^ 63 }
     ensures { result ≡ length_past (spelled_key text.now) room }

@@ -1,14 +1,15 @@
 //! The kinds of texts.
 
-ghost use Rattle.std.specs.Prelude.{◌≡◌, ◌≢◌, ◌<◌, ℕ, if◌then◌else◌, length, pos, slice_index, IfSome};
-ghost use Rattle.versions.specs.Versioning.{is_prerelease, versioning_of};
+ghost use Rattle.std.specs.Prelude.{◌≡◌, ◌≢◌, ◌<◌, ℕ, if◌then◌else◌, length, pos, slice_index, IfSome, Some};
+ghost use Rattle.versions.specs.Kind.{versioning_kind};
+ghost use Rattle.versions.specs.Versioning.{is_prerelease, versioning_of, PlainVersioning};
 ghost use Rattle.versions_c.specs.Kinds.{kind_of, version_status};
 ghost use Rattle.versions_c.specs.Offsets.{text_at, AreOffsets};
 
 use crate::offsets::{are_offsets, text_at};
-use crate::spelled::kind_of;
 use crate::status::{BAD_OFFSETS, NO_VERSION, OK};
 use version_texts::VersioningRef;
+use versions::Kind;
 
 /// The kind of a text.
 #[unsafe(no_mangle)]
@@ -53,4 +54,26 @@ pub extern "C" fn versions_kinds(texts: &[u8], offsets: &[u64], kinds: &mut [u8]
         *kind = kind_of(text_at(texts, offsets, count, place));
     }
     OK
+}
+
+// Returns the number of the kind that bytes parse as, or 0 if they are not a version.
+fn kind_of(text: &[u8]) -> u8
+    ensures { result ≡ kind_of (versioning_of text.now) }
+{
+    let Some(version) = VersioningRef::from_bytes(text) else {
+        return 0;
+    };
+    kind_number(version.kind())
+}
+
+/// Returns the number of a kind.
+#[inline(always)]
+pub fn kind_number(kind: Kind) -> u8
+    ensures { (v : PlainVersioning) → versioning_kind v ≡ kind → result ≡ kind_of (Some v) }
+{
+    match kind {
+        Kind::Ideal => 1,
+        Kind::General => 2,
+        Kind::Complex => 3,
+    }
 }

@@ -12,5 +12,4 @@ mod offsets;
 mod order;
 mod ranges;
 mod sorting;
-mod spelled;
 mod status;

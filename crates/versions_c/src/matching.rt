@@ -29,7 +29,7 @@ pub extern "C" fn versions_matches(list: &[u8], text: &[u8], matches: &mut u8) -
     OK
 }
 
-// Returns the status for a list and a text that isn't a version.
+// Returns the status for a list and a text that is not a version.
 fn status_without_version(list: &[u8]) -> i32
     ensures { result ≡ match_status (requirements_of list.now) None }
 {
@@ -70,10 +70,10 @@ pub extern "C" fn versions_match_all(
     OK
 }
 
-// Returns the answer for a text: 1 if the list matches it, 0 if not, 2 if it isn't a version.
+// Returns the answer for a text: 1 if the list matches it, 0 if not, 2 if it is not a version.
 // Not inlined: else the compiler moves the list by a call of memcpy, which the library may not need.
 #[inline(never)]
-#[tactic(auto, using(crate::proofs::Answers::coded))]
+#[tactic(auto, using(crate::proofs::lemmas::Matching::coded))]
 fn asked_for(wanted: &RequirementsRef<'_>, text: &[u8]) -> u8
     ensures { result ≡ match_code wanted.now (versioning_of text.now) }
 {

@@ -132,7 +132,7 @@ pub extern "C" fn versions_in_range_all(
     OK
 }
 
-// Returns the answer for a text: 1 if its version is in the range, 0 if not, 2 if it isn't a version.
+// Returns the answer for a text: 1 if its version is in the range, 0 if not, 2 if it is not a version.
 // Not inlined: both calls share one copy of the scan and of the writer of keys.
 #[inline(never)]
 fn answer(text: &[u8], low: &[u8], high: &[u8], flags: u32) -> u8

@@ -33,7 +33,7 @@ pub extern "C" fn versions_sort(
     ensures order { result ≡ OK → AreInOrder texts.now offsets.now order.new }
     ensures kept_order { result ≢ OK → order.new ≡ order.old }
 
-    // The keys are those of `versions_sort_keys`. Their offsets are reported even if they don't fit.
+    // The keys are those of `versions_sort_keys`. Their offsets are reported even if they do not fit.
     ensures keys { result ≡ OK → keys.new
         ≡ all_keys texts.now offsets.now
         ++ drop (length (all_keys texts.now offsets.now)) keys.old }
@@ -115,7 +115,7 @@ fn compare_places(texts: &Pieces<'_>, keys: &Pieces<'_>, a: u64, b: u64) -> Orde
     ensures { result ≡ keyed_cmp texts.now.bytes.now texts.now.offsets.now
         keys.now.bytes.now keys.now.offsets.now a b }
 {
-    match compare_keys(keys.at(a), keys.at(b)) {
+    match compare_empty_last(keys.at(a), keys.at(b)) {
         Ordering::Equal => compare_tied_places(texts, keys, a, b),
         order => order,
     }
@@ -139,7 +139,7 @@ fn compare_tied_places(texts: &Pieces<'_>, keys: &Pieces<'_>, a: u64, b: u64) ->
 }
 
 // Compares two keys. Empty keys come last.
-fn compare_keys(a: &[u8], b: &[u8]) -> Ordering
+fn compare_empty_last(a: &[u8], b: &[u8]) -> Ordering
     ensures { result ≡ keys_cmp a.now b.now }
 {
     if a.is_empty() || b.is_empty() {

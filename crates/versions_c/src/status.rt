@@ -14,9 +14,9 @@ pub const NO_VERSION_AB: i32 = 4;
 pub const NO_REQUIREMENTS: i32 = 5;
 /// The version has no number at that place.
 pub const NO_NUMBER: i32 = 6;
-/// The keys don't fit into the buffer.
+/// The keys do not fit into the buffer.
 pub const NO_ROOM: i32 = 7;
-/// An offset is bad, or the lengths of two arrays don't match.
+/// An offset is bad, or the lengths of two arrays do not match.
 pub const BAD_OFFSETS: i32 = 8;
 /// The version has no such field.
 pub const NO_FIELD: i32 = 11;

@@ -3,12 +3,12 @@ ghost use Rattle.std.specs.Prelude.{◌≡◌, ◌++◌, drop, length, IfOk, IfS
 ghost use Rattle.std.specs.Option.{option_map};
 ghost use Rattle.std.specs.Ordering.{then_cmp};
 ghost use Rattle.version_lines.specs.Head.{behind_heads_cmp};
-ghost use Rattle.version_lines.specs.Spelled.{line_key};
+ghost use Rattle.version_lines.specs.LineKey.{line_key};
 ghost use Rattle.versions.specs.Kind.{versioning_kind};
 ghost use Rattle.versions.specs.Versioning.{versioning_of};
 
+use crate::line_key::{add_key, compare_ties};
 use crate::sort::head::head;
-use crate::spelled::{add_key, compare_ties};
 use std::alloc::AllocError;
 use std::cmp::Ordering;
 use versions::Kind;
@@ -28,8 +28,8 @@ impl<'a> Entry<'a> {
     ghost use Rattle.version_lines.specs.Entry.{behind_cmp, entry_cmp, entry_key, entry_line, tie_cmp, turn_cmp, IsRead};
     ghost use Rattle.version_lines.specs.Sort.{is_bad};
 
-    /// Returns an entry for the line and the kind of its version, or None if it isn't a version. Its key is added to
-    /// `keys`. Fails if the key can't be allocated.
+    /// Returns an entry for the line and the kind of its version, or None if it is not a version. Its key is added to
+    /// `keys`. Fails if the key cannot be allocated.
     pub fn read(keys: &mut Vec<u8>, line: &'a [u8]) -> Result<Option<(Entry<'a>, Kind)>, AllocError>
         ensures key { OnOk result (keys.new.items ≡ keys.old.items ++ line_key line.now) }
         ensures read { IfOk result (λ read. MatchOption read (IsTrue (is_bad line.now))
@@ -80,27 +80,27 @@ impl<'a> Entry<'a> {
         compare_ties(self.line, other.line).then(self.start.cmp(&other.start))
     }
 
-    /// Compares by the second eight bytes of the keys, then by the rest.
+    // Compares by the second eight bytes of the keys, then by the rest.
     #[inline(always)]
     fn compare_behind(&self, other: &Entry<'_>, keys: &[u8]) -> Ordering
         ensures { result ≡ behind_cmp keys.now self.now other.now }
     {
         match self.second.cmp(&other.second) {
-            Ordering::Equal => self.compare_keys(other, keys),
+            Ordering::Equal => self.compare_rest(other, keys),
             order => order,
         }
     }
 
-    /// Compares by the rest of the keys, after their first bytes. Never inlined, so that a sort inlines the usual case.
+    // Compares by the rest of the keys, after their first bytes. Never inlined, so that a sort inlines the usual case.
     #[inline(never)]
-    fn compare_keys(&self, other: &Entry<'_>, keys: &[u8]) -> Ordering
+    fn compare_rest(&self, other: &Entry<'_>, keys: &[u8]) -> Ordering
         ensures { result ≡ behind_heads_cmp
             (entry_key keys.now self.now) (entry_key keys.now other.now) }
     {
         compare_behind_heads(self.key(keys), other.key(keys))
     }
 
-    /// Returns its key from the list of all keys.
+    // Returns its key from the list of all keys.
     fn key<'k>(&self, keys: &'k [u8]) -> &'k [u8]
         ensures { result.now ≡ entry_key keys.now self.now }
     {
@@ -116,7 +116,7 @@ impl<'a> Entry<'a> {
     }
 }
 
-/// Compares two keys with the same first sixteen bytes, where missing bytes count as 0: by the rest, then by length.
+// Compares two keys with the same first sixteen bytes, where missing bytes count as 0: by the rest, then by length.
 #[inline(always)]
 fn compare_behind_heads(a: &[u8], b: &[u8]) -> Ordering
     ensures { result ≡ behind_heads_cmp a.now b.now }
@@ -130,7 +130,7 @@ fn compare_behind_heads(a: &[u8], b: &[u8]) -> Ordering
     }
 }
 
-/// Returns a key without its first sixteen bytes.
+// Returns a key without its first sixteen bytes.
 fn behind_heads(key: &[u8]) -> &[u8]
     ensures { result.now ≡ drop 16 key.now }
 {

@@ -14,7 +14,7 @@ pub fn head(bytes: &[u8]) -> u64
     }
 }
 
-/// Returns the same, a byte at a time, for any number of bytes.
+// Returns the same, a byte at a time, for any number of bytes.
 fn head_of_few(bytes: &[u8]) -> u64
     ensures { result ≡ head_number bytes.now }
 {
@@ -30,7 +30,7 @@ fn head_of_few(bytes: &[u8]) -> u64
     ])
 }
 
-/// Returns the byte at a place, or 0 after the end.
+// Returns the byte at a place, or 0 after the end.
 fn byte_at(bytes: &[u8], place: usize) -> u8
     ensures { result ≡ slice_index_or bytes.now place 0 }
 {

@@ -10,8 +10,8 @@ use crate::ideal::is_strict;
 use crate::sort::entry::Entry;
 
 /// Puts lines that are sorted by keys in the order of their versions. Each run of lines with equal keys is sorted by
-/// versions, unless its lines are identical or all strict. Lines with equal keys have to stand as in the input. Doesn't
-/// allocate.
+/// versions, unless its lines are identical or all strict. Lines with equal keys have to stand as in the input. Does
+/// not allocate.
 pub fn break_ties(keys: &[u8], entries: &mut [Entry<'_>])
     requires sorted { IsSorted (entry_cmp keys.now) entries.old }
     requires in_turn { TiesRise (entry_cmp keys.now) (λ entry. entry.start) entries.old }
@@ -25,7 +25,7 @@ pub fn break_ties(keys: &[u8], entries: &mut [Entry<'_>])
     }
 }
 
-/// Returns the end of the run that starts at a place.
+// Returns the end of the run that starts at a place.
 fn run_end(keys: &[u8], entries: &[Entry<'_>], start: usize) -> usize
     requires { start < length entries.now }
     ensures within { (start < result) × (result ≤ length entries.now) }
@@ -34,7 +34,7 @@ fn run_end(keys: &[u8], entries: &[Entry<'_>], start: usize) -> usize
     start + first_run(keys, &entries[start..])
 }
 
-/// Returns how many lines have the key of the first line, if the lines are sorted by keys.
+// Returns how many lines have the key of the first line, if the lines are sorted by keys.
 fn first_run(keys: &[u8], entries: &[Entry<'_>]) -> usize
     ensures { result ≡ run_length (entry_cmp keys.now) entries.now }
 {
@@ -51,7 +51,7 @@ fn first_run(keys: &[u8], entries: &[Entry<'_>]) -> usize
     count
 }
 
-/// Puts lines with equal keys, which stand as in the input, in the order of their versions.
+// Puts lines with equal keys, which stand as in the input, in the order of their versions.
 fn settle(run: &mut [Entry<'_>])
     requires { AreInTurn run.old }
     ensures { run.new ≡ in_order tie_cmp run.old }
@@ -62,7 +62,7 @@ fn settle(run: &mut [Entry<'_>])
     run.sort_unstable_by(|a, b| a.compare_ties_in_turn(b));
 }
 
-/// Returns whether the lines are identical.
+// Returns whether the lines are identical.
 fn are_one_line(run: &[Entry<'_>]) -> bool
     ensures { IsTrue result → (line : List ℕ) × All (λ entry. entry_line entry ≡ line) run.now }
 {
@@ -77,7 +77,7 @@ fn are_one_line(run: &[Entry<'_>]) -> bool
     true
 }
 
-/// Returns whether all lines are strict versions.
+// Returns whether all lines are strict versions.
 fn are_strict(run: &[Entry<'_>]) -> bool
     ensures { IsTrue result → All IsStrict run.now }
 {

@@ -14,7 +14,7 @@ use std::marker::Model;
 // digits.
 const MOST: usize = 14;
 
-/// At most 14 bytes: those that are still to be read.
+// At most 14 bytes: those that are still to be read.
 #[derive(Drop)]
 pub(crate) struct InlineBytes {
     bytes: [u8; MOST],
@@ -30,7 +30,7 @@ impl Model for InlineBytes {
 }
 
 impl InlineBytes {
-    /// Returns no bytes.
+    // Returns no bytes.
     #[inline(always)]
     pub(crate) fn none() -> InlineBytes
         ensures { result ≡ [] }
@@ -41,7 +41,7 @@ impl InlineBytes {
         }
     }
 
-    /// Returns a number in decimal.
+    // Returns a number in decimal.
     pub(crate) fn decimal(number: u32) -> InlineBytes
         ensures { result ≡ decimal number }
     {
@@ -50,7 +50,7 @@ impl InlineBytes {
         inline
     }
 
-    /// Returns the bytes of a number: the count of its digits, then the digits.
+    // Returns the bytes of a number: the count of its digits, then the digits.
     #[inline(always)]
     pub(crate) fn number(number: u32) -> InlineBytes
         ensures { result ≡ number_bytes number }
@@ -60,7 +60,7 @@ impl InlineBytes {
         inline
     }
 
-    /// Removes all bytes.
+    // Removes all bytes.
     #[inline(always)]
     pub(crate) fn clear(&mut self)
         ensures { self.new ≡ [] }
@@ -68,7 +68,7 @@ impl InlineBytes {
         self.start = MOST as u8;
     }
 
-    /// Sets the bytes to one byte.
+    // Sets the bytes to one byte.
     #[inline(always)]
     pub(crate) fn set_byte(&mut self, byte: u8)
         ensures { self.new ≡ byte ∷ [] }
@@ -77,7 +77,7 @@ impl InlineBytes {
         self.put(byte);
     }
 
-    /// Sets the bytes to a plain number as a part.
+    // Sets the bytes to a plain number as a part.
     #[inline(always)]
     pub(crate) fn set_plain_part(&mut self, number: u32)
         ensures { self.new ≡ part_bytes (Some (Number number None)) }
@@ -86,7 +86,7 @@ impl InlineBytes {
         self.put_plain_part(number);
     }
 
-    /// Sets the bytes to a plain number as the last part of a list, and the end of the list.
+    // Sets the bytes to a plain number as the last part of a list, and the end of the list.
     #[inline(always)]
     pub(crate) fn set_last_plain_part(&mut self, number: u32)
         ensures { self.new ≡ part_bytes (Some (Number number None)) ++ part_bytes None }
@@ -95,7 +95,7 @@ impl InlineBytes {
         self.put_plain_part(number);
     }
 
-    /// Sets the bytes to a byte, and the bytes of a number after it.
+    // Sets the bytes to a byte, and the bytes of a number after it.
     #[inline(always)]
     pub(crate) fn set_byte_and_number(&mut self, byte: u8, number: u32)
         ensures { self.new ≡ byte ∷ number_bytes number }
@@ -105,7 +105,7 @@ impl InlineBytes {
         self.put(byte);
     }
 
-    /// Puts a byte before the others.
+    // Puts a byte before the others.
     #[inline(always)]
     pub(crate) fn put(&mut self, byte: u8)
         requires { length self.old < 14 }
@@ -126,7 +126,7 @@ impl InlineBytes {
     }
 
     // Puts the bytes of a number before the others.
-    #[tactic(auto, using(crate::proofs::InlineBytes::number_put))]
+    #[tactic(auto, using(crate::proofs::lemmas::NumberBytes::Inline::number_put))]
     #[inline(always)]
     fn put_number(&mut self, number: u32)
         requires { length self.old ≤ 2 }
@@ -142,7 +142,7 @@ impl InlineBytes {
     }
 
     // Puts a number in decimal before the others, and returns the count of its digits.
-    #[tactic(auto, using(crate::proofs::InlineBytes::ten_digits))]
+    #[tactic(auto, using(crate::proofs::lemmas::NumberBytes::Inline::ten_digits))]
     fn put_decimal(&mut self, number: u32) -> u8
         requires { length self.old ≤ 3 }
         ensures value { self.new ≡ decimal number ++ self.old }
@@ -154,8 +154,8 @@ impl InlineBytes {
         end - self.start
     }
 
-    /// Removes from the start of both as many bytes as both have, if these bytes are the same.
-    #[tactic(auto, using(crate::proofs::Past::past))]
+    // Removes from the start of both as many bytes as both have, if these bytes are the same.
+    #[tactic(auto, using(crate::proofs::lemmas::Compare::Past::past))]
     #[inline(always)]
     pub(crate) fn pass_same(&mut self, other: &mut InlineBytes)
         ensures { GonePast self.old other.old self.new other.new }
@@ -168,7 +168,7 @@ impl InlineBytes {
         }
     }
 
-    /// Returns whether no bytes remain.
+    // Returns whether no bytes remain.
     #[inline(always)]
     pub(crate) fn is_empty(&self) -> bool
         ensures { IsTrue result → self.now ≡ [] }
@@ -176,7 +176,7 @@ impl InlineBytes {
         self.start == MOST as u8
     }
 
-    /// Returns the bytes as a slice.
+    // Returns the bytes as a slice.
     #[inline(always)]
     pub(crate) fn as_slice(&self) -> &[u8]
         ensures value { result.now ≡ self.now }

@@ -114,7 +114,7 @@ impl<'a, C: Code> ListLeft<'a, C> {
 
 impl<'a> ListLeft<'a, MessyChunk> {
     /// Returns the chunks of a messy section as parts, and the end of the list after them.
-    #[tactic(auto, using(crate::proofs::ListBytes::section_written))]
+    #[tactic(auto, using(crate::proofs::lemmas::PartKey::Lists::section_written))]
     pub fn section(chunks: &'a [MChunk]) -> ListLeft<'a, MessyChunk>
         ensures { result ≡ parts_bytes (section_parts (map plain_mchunk chunks.now)) }
     {
@@ -171,7 +171,7 @@ impl<'a, C: Code> Iterator for ListBytes<'a, C> {
 
 impl<'a> ListBytes<'a, Part> {
     /// Returns the bytes of chunks as a list of parts.
-    #[tactic(auto, using(crate::proofs::ListBytes::parts_written))]
+    #[tactic(auto, using(crate::proofs::lemmas::PartKey::Lists::parts_written))]
     pub fn parts(chunks: &'a [Chunk]) -> ListBytes<'a, Part>
         ensures { result ≡ parts_bytes (chunk_parts (map plain_chunk chunks.now)) }
     {

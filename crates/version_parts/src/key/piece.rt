@@ -64,7 +64,7 @@ impl<'a> PieceBytes<'a> {
     }
 
     /// Returns the bytes of the number that the digits at the start of a text write. The number may be of any size.
-    #[tactic(auto, using(crate::proofs::PieceBytes::alone))]
+    #[tactic(auto, using(crate::proofs::lemmas::Pieces::alone))]
     pub fn digits(text: &'a str) -> PieceBytes<'a>
         ensures { result ≡ number_bytes (run_value text.now) }
     {
@@ -155,7 +155,7 @@ impl<'a> PieceBytes<'a> {
     }
 
     // Sets the piece to the bytes of a chunk of a release.
-    #[tactic(auto, using(crate::proofs::PieceBytes::alone))]
+    #[tactic(auto, using(crate::proofs::lemmas::Pieces::alone))]
     #[inline(always)]
     pub(crate) fn set_chunk(&mut self, chunk: ChunkRef<'a>)
         ensures { self.new ≡ chunk_bytes (Some (plain_chunk_ref chunk.entry)) }
@@ -183,7 +183,7 @@ impl<'a> PieceBytes<'a> {
     }
 
     // Sets the piece to the bytes of a chunk as a part.
-    #[tactic(auto, using(crate::proofs::ListBytes::plain_number))]
+    #[tactic(auto, using(crate::proofs::lemmas::PartKey::Lists::plain_number))]
     #[inline(always)]
     pub(crate) fn set_chunk_as_part(&mut self, chunk: ChunkRef<'a>)
         ensures { self.new ≡ part_bytes
@@ -264,7 +264,7 @@ const WINDOW: usize = 64;
 
 // Removes from the start of both runs as many bytes as both have, and at most a window of them, if these bytes are the
 // same.
-#[tactic(auto, using(crate::proofs::Past::past))]
+#[tactic(auto, using(crate::proofs::lemmas::Compare::Past::past))]
 #[inline(always)]
 fn pass_same_run(run: &mut &[u8], other: &mut &[u8])
     ensures { GonePast run.old.now other.old.now run.new.now other.new.now }

@@ -15,7 +15,7 @@ pub(crate) enum AfterNumber {
     Suffix,
     // A text.
     Text,
-    // Nothing: what follows doesn't count.
+    // Nothing: what follows does not count.
     Nothing,
 }
 
@@ -108,7 +108,7 @@ fn starts_with_digit(text: &PartText<'_>) -> bool
     }
 }
 
-#[tactic(auto, using(crate::proofs::PieceBytes::part_steps))]
+#[tactic(auto, using(crate::proofs::lemmas::Pieces::part_steps))]
 fn part_step(text: &PartText<'_>) -> Step
     ensures { place_bytes Place.Part text.now ≡ step_bytes result text.now }
 {
@@ -121,7 +121,7 @@ fn part_step(text: &PartText<'_>) -> Step
 
 // Takes the bytes at the start of a text that stand unchanged in a key, and returns them with the place of the stream
 // after them.
-#[tactic(auto, using(crate::proofs::PieceBytes::runs_taken))]
+#[tactic(auto, using(crate::proofs::lemmas::Pieces::runs_taken))]
 pub(crate) fn run_step<'a>(place: Place, text: &mut PartText<'a>) -> (&'a [u8], Place)
     ensures { place_bytes place text.old ≡ result.0.now ++ place_bytes result.1 text.new }
 {
@@ -139,7 +139,7 @@ pub(crate) fn run_step<'a>(place: Place, text: &mut PartText<'a>) -> (&'a [u8], 
     }
 }
 
-#[tactic(auto, using(crate::proofs::PieceBytes::split_steps))]
+#[tactic(auto, using(crate::proofs::lemmas::Pieces::split_steps))]
 fn split_step(text: &mut PartText<'_>) -> Step
     ensures { place_bytes Place.Split text.old ≡ step_bytes result text.new }
 {
@@ -152,7 +152,7 @@ fn split_step(text: &mut PartText<'_>) -> Step
     }
 }
 
-#[tactic(auto, using(crate::proofs::PieceBytes::numbered_steps))]
+#[tactic(auto, using(crate::proofs::lemmas::Pieces::numbered_steps))]
 fn numbered_step(text: &PartText<'_>) -> Step
     ensures { place_bytes Place.Numbered text.now ≡ step_bytes result text.now }
 {
@@ -164,7 +164,7 @@ fn numbered_step(text: &PartText<'_>) -> Step
 }
 
 // Leading zeros are skipped, and the digits are counted once.
-#[tactic(auto, using(crate::proofs::PieceBytes::number_counted))]
+#[tactic(auto, using(crate::proofs::lemmas::Pieces::number_counted))]
 fn number_step(after: AfterNumber, text: &mut PartText<'_>) -> Step
     ensures { place_bytes (Place.Number after) text.old ≡ step_bytes result text.new }
 {
@@ -172,7 +172,7 @@ fn number_step(after: AfterNumber, text: &mut PartText<'_>) -> Step
     length_step(text.digit_count(), after, text)
 }
 
-#[tactic(auto, using(crate::proofs::PieceBytes::length_steps))]
+#[tactic(auto, using(crate::proofs::lemmas::Pieces::length_steps))]
 fn length_step(left: usize, after: AfterNumber, text: &PartText<'_>) -> Step
     ensures { place_bytes (Place.Length left after) text.now ≡ step_bytes result text.now }
 {
@@ -183,7 +183,7 @@ fn length_step(left: usize, after: AfterNumber, text: &PartText<'_>) -> Step
 }
 
 // The place of a stream within a run of digits: at the next digit, or after the run.
-#[tactic(auto, using(crate::proofs::PieceBytes::run_steps))]
+#[tactic(auto, using(crate::proofs::lemmas::Pieces::run_steps))]
 fn within_run(after: AfterNumber, text: &PartText<'_>) -> Place
     ensures { place_bytes result text.now ≡ run_bytes after text.now }
 {
@@ -208,7 +208,7 @@ fn rest_step(after: AfterNumber, text: &mut PartText<'_>) -> Option<Step>
     }
 }
 
-#[tactic(auto, using(crate::proofs::PieceBytes::suffix_steps))]
+#[tactic(auto, using(crate::proofs::lemmas::Pieces::suffix_steps))]
 fn suffix_step(text: &PartText<'_>) -> Step
     ensures { after_number_bytes AfterNumber.Suffix text.now ≡ step_bytes result text.now }
 {
@@ -218,7 +218,7 @@ fn suffix_step(text: &PartText<'_>) -> Step
     }
 }
 
-#[tactic(auto, using(crate::proofs::PieceBytes::text_steps))]
+#[tactic(auto, using(crate::proofs::lemmas::Pieces::text_steps))]
 fn text_step(text: &mut PartText<'_>) -> Step
     ensures { after_number_bytes AfterNumber.Text text.old ≡ step_bytes result text.new }
 {

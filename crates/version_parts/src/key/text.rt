@@ -94,7 +94,7 @@ impl<'a> PartText<'a> {
     }
 
     // The length of the run of digits that the text begins with.
-    #[tactic(auto, using(crate::proofs::Runs::runs_of_two))]
+    #[tactic(auto, using(crate::proofs::lemmas::General::Runs::runs_of_two))]
     pub(crate) fn digit_count(&self) -> usize
         ensures { result ≡ prefix_len is_ascii_digit self.now }
     {

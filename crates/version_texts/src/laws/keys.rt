@@ -8,8 +8,8 @@ ghost use Rattle.versions.specs.Key.{key_of};
 ghost use Rattle.versions.specs.Kind.{versioning_kind};
 ghost use Rattle.versions.specs.Versioning.{versioning_of, PlainVersioning};
 
-/// The pieces that the shape of a version names lie in its text, and have only bytes of their kinds. The key of the
-/// version is the one that these pieces give.
+// The pieces that the shape of a version names lie in its text, and have only bytes of their kinds. The key of the
+// version is the one that these pieces give.
 fn keys()
     ensures fits { (text : List ℕ) (v : PlainVersioning) → versioning_of text ≡ Some v
         → Fits text (shape_at (versioning_kind v) text) }

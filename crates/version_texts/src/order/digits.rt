@@ -47,7 +47,7 @@ pub(crate) fn split_digits(text: &[u8]) -> (&[u8], &[u8])
 
 // Compares the numbers that two runs of digits write: without leading zeros, by the count of
 // digits, and then by the digits.
-#[tactic(auto, using(version_parts::proofs::PartCompare::digits_compared))]
+#[tactic(auto, using(version_parts::proofs::lemmas::PartOrder::digits_compared))]
 #[inline(always)]
 pub(crate) fn compare_digits(a: &[u8], b: &[u8]) -> Ordering
     requires a { list_all is_ascii_digit a.now ≡ true }

@@ -11,8 +11,8 @@ ghost use Rattle.versions.specs.Requirements.{requirements_of, requirements_text
 ghost use Rattle.versions.specs.SemVer.{semver_front, semver_of, semver_text, PlainSemVer, SpellsSemVer};
 ghost use Rattle.versions.specs.Version.{version_front, version_of, version_text, PlainVersion, SpellsVersion};
 
-/// A text parses as a version without rest exactly if it spells that version. A prefix spells the version that it
-/// parses as, whatever the rest. A text spells at most one version, which prints the text. Only ASCII spells a version.
+// A text parses as a version without rest exactly if it spells that version. A prefix spells the version that it
+// parses as, whatever the rest. A text spells at most one version, which prints the text. Only ASCII spells a version.
 fn strict_versions()
     ensures whole { (text : List ℕ) (v : PlainSemVer)
         → (semver_front text ≡ Some (v, [])) ↔ SpellsSemVer text v }
@@ -25,7 +25,7 @@ fn strict_versions()
         → (semver_of text ≡ Some v) ↔ SpellsSemVer text v }
 {}
 
-/// The same laws for general versions.
+// The same laws for general versions.
 fn general_versions()
     ensures whole { (text : List ℕ) (v : PlainVersion)
         → (version_front text ≡ Some (v, [])) ↔ SpellsVersion text v }
@@ -38,14 +38,14 @@ fn general_versions()
         → (version_of text ≡ Some v) ↔ SpellsVersion text v }
 {}
 
-/// Each text that spells a strict version spells a general one too, with the fields of `to_version`.
+// Each text that spells a strict version spells a general one too, with the fields of `to_version`.
 fn strict_versions_are_general()
     ensures { (text : List ℕ) (v : PlainSemVer) → SpellsSemVer text v
         → SpellsVersion text (version_of_semver v) }
 {}
 
-/// The same laws for messy versions, except that a prefix spells its version if a dot, a sign or the end follows.
-/// Before any other byte a chunk is `Plain`, even of digits. Whatever follows, the version prints the prefix.
+// The same laws for messy versions, except that a prefix spells its version if a dot, a sign or the end follows.
+// Before any other byte a chunk is `Plain`, even of digits. Whatever follows, the version prints the prefix.
 fn messy_versions()
     ensures whole { (text : List ℕ) (m : PlainMess)
         → (mess_front text ≡ Some (m, [])) ↔ SpellsMess text m }
@@ -58,7 +58,7 @@ fn messy_versions()
     ensures answer { (text : List ℕ) (m : PlainMess) → (mess_of text ≡ Some m) ↔ SpellsMess text m }
 {}
 
-/// A text spells at most one requirement, which prints the text.
+// A text spells at most one requirement, which prints the text.
 fn requirements()
     ensures only { (text : List ℕ) (r q : PlainRequirement) → SpellsRequirement text r
         → SpellsRequirement text q → r ≡ q }
@@ -67,7 +67,7 @@ fn requirements()
         → (requirement_of text ≡ Some r) ↔ SpellsRequirement text r }
 {}
 
-/// A text spells at most one list of requirements, which prints the text.
+// A text spells at most one list of requirements, which prints the text.
 fn requirement_lists()
     ensures only { (text : List ℕ) (list others : List PlainRequirement)
         → SpellsRequirements text list → SpellsRequirements text others → list ≡ others }

@@ -7,14 +7,14 @@ ghost use Rattle.versions.specs.Requirement.{PlainRequirement};
 ghost use Rattle.versions.specs.Versioning.{PlainVersioning};
 ghost use Rattle.versions.specs.WorkedRanges.{WorkedRanges};
 
-/// For every list of requirements and every version, the list matches the version or does not.
+// For every list of requirements and every version, the list matches the version or does not.
 fn requirements_told()
     ensures { (list : List PlainRequirement) (v : PlainVersioning)
         → MatchesAll list v ⊎ (¬ (MatchesAll list v)) }
 {}
 
-/// Each version that a list of requirements matches is in the range of the list. If the range is exact, the list
-/// matches each version in it.
+// Each version that a list of requirements matches is in the range of the list. If the range is exact, the list
+// matches each version in it.
 fn ranges()
     ensures within { (list : List PlainRequirement) (v : PlainVersioning)
         → MatchesAll list v → IsIn (range_of list) v }
@@ -22,8 +22,8 @@ fn ranges()
         → IsTrue (range_of list).is_exact → IsIn (range_of list) v → MatchesAll list v }
 {}
 
-/// The ranges of lists with every operator and kind, byte by byte.
-#[tactic(auto, using(crate::proofs::WorkedRanges::worked_ranges))]
+// The ranges of lists with every operator and kind, byte by byte.
+#[tactic(auto, using(crate::proofs::lemmas::WorkedRanges::worked_ranges))]
 fn worked_ranges()
     ensures { WorkedRanges }
 {}

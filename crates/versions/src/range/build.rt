@@ -89,14 +89,14 @@ fn append_begun(version: &Versioning, kept: Kept, list: &mut Vec<u8>) -> Result<
             append_numbers((ideal.major, ideal.minor, ideal.patch), kept, list)
         }
         Versioning::General(general) => {
-            append_parts(general.epoch_number(), BodyParts::of(general), kept, list)
+            append_parts(general.epoch_number(), general.parts(), kept, list)
         }
         Versioning::Complex(_) => unreachable!(),
     }
 }
 
 // Appends the bytes of the epoch 0, and of those of three numbers that are kept as parts, to a list.
-#[tactic(auto, using(crate::proofs::RangeEnds::three_parts))]
+#[tactic(auto, using(crate::proofs::lemmas::Ends::three_parts))]
 fn append_numbers(numbers: Numbers, kept: Kept, list: &mut Vec<u8>) -> Result<(), AllocError>
     ensures { OnOk result (list.new.items ≡ list.old.items
         ++ begun 0 (kept_parts kept (strict_body numbers.0 numbers.1 numbers.2))) }
@@ -121,7 +121,7 @@ fn append_parts(
 }
 
 // Appends the bytes of the parts that are kept to a list.
-#[tactic(auto, using(crate::proofs::RangeEnds::last_kept))]
+#[tactic(auto, using(crate::proofs::lemmas::Ends::last_kept))]
 fn append_kept(mut parts: BodyParts<'_>, kept: Kept, list: &mut Vec<u8>) -> Result<(), AllocError>
     ensures { OnOk result (list.new.items ≡ list.old.items
         ++ items_bytes part_bytes (kept_parts kept (parts_left parts.entry))) }

@@ -20,7 +20,7 @@ pub enum Kept {
     All,
     /// The parts before the last one.
     ButLast,
-    /// The parts through the first one that isn't a plain zero, or all if each is one.
+    /// The parts through the first one that is not a plain zero, or all if each is one.
     ThroughOther,
 }
 
@@ -97,8 +97,8 @@ impl Ends {
 }
 
 /// Returns the ends of the range that an operator with a version of a kind asks for. docs/REQUIREMENTS.md has the
-/// rules. Doesn't allocate.
-#[tactic(auto, using(crate::proofs::RangeEnds::ends_written))]
+/// rules. Does not allocate.
+#[tactic(auto, using(crate::proofs::lemmas::Ends::ends_written))]
 pub fn ends_of(op: Op, kind: Kind) -> Ends
     ensures range { (v : PlainVersioning) → versioning_kind v ≡ kind
         → range_from result (key_of v) ≡ op_range op v }
@@ -118,7 +118,7 @@ pub fn ends_of(op: Op, kind: Kind) -> Ends
     }
 }
 
-/// Returns the ends of the range that an operator without a version asks for; no key counts in them. Doesn't allocate.
+/// Returns the ends of the range that an operator without a version asks for; no key counts in them. Does not allocate.
 pub fn ends_without_version(op: Op) -> Ends
     ensures { (k : Key) → range_from result k ≡ range_without_version op }
 {
@@ -129,7 +129,7 @@ pub fn ends_without_version(op: Op) -> Ends
 }
 
 // Returns the ends for `~` or `^`, by the parts that they keep.
-#[tactic(auto, using(crate::proofs::RangeEnds::ends_written))]
+#[tactic(auto, using(crate::proofs::lemmas::Ends::ends_written))]
 fn series_ends(kind: Kind, kept: Kept) -> Ends
     ensures range { (v : PlainVersioning) → versioning_kind v ≡ kind
         → range_from result (key_of v) ≡ series_range (kept_parts kept) v }

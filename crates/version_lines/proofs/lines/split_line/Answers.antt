@@ -1,4 +1,4 @@
-use Rattle.version_lines.proofs.LinesLemmas.{lines_of-split, lines_of-last}
+use Rattle.version_lines.proofs.lemmas.Lines.{lines_of-split, lines_of-last}
 use Rattle.version_lines.proofs.lines.split_line.Goals as goal
 
 pub returns-in-Some-clause-lines : goal.returns-in-Some-clause-lines

@@ -1,24 +1,31 @@
 use Rattle.std.proofs.Common.{rules, ◌∙◌}
 use Rattle.std.specs.Ordering.{then_cmp}
 use Rattle.version_lines.specs.Entry.{entry_cmp, tie_cmp}
-use Rattle.version_lines.proofs.EntryLemmas.{entries-sorted, entries-ties_rise, in_order-settled}
-use Rattle.version_lines.proofs.TieLemmas.{in_order-written}
-use Rattle.version_lines.proofs.TiedLemmas.{in_order-all_strict}
+use Rattle.version_lines.proofs.lemmas.Entry.{entries-sorted, entries-ties_rise, in_order-settled}
+use Rattle.version_lines.proofs.lemmas.Sorting.Ties.{in_order-written}
+use Rattle.version_lines.proofs.lemmas.Entry.Tied.{in_order-all_strict}
 use Rattle.version_lines.proofs.sort.put_in_order.Goals as goal
 
 pub break_ties-requires-clause-sorted : goal.break_ties-requires-clause-sorted
 break_ties-requires-clause-sorted c =
-    entries-sorted c.args.keys.now c.args.entries.now.items c.as_mut_slice.result.now (c.as_mut_slice.ensures.value ∙ c.sort_by_keys.ensures)
+    entries-sorted c.args.keys.now c.args.entries.now.items c.as_mut_slice.result.now
+    (c.as_mut_slice.ensures.value ∙ c.sort_by_keys.ensures)
 
 pub break_ties-requires-clause-in_turn : goal.break_ties-requires-clause-in_turn
 break_ties-requires-clause-in_turn c =
-    entries-ties_rise c.args.keys.now c.args.entries.now.items c.as_mut_slice.result.now (c.as_mut_slice.ensures.value ∙ c.sort_by_keys.ensures) c.requires.in_turn
+    entries-ties_rise c.args.keys.now c.args.entries.now.items c.as_mut_slice.result.now
+    (c.as_mut_slice.ensures.value ∙ c.sort_by_keys.ensures) c.requires.in_turn
 
 pub returns-then-not-are_strict : goal.returns-then-not-are_strict
 returns-then-not-are_strict c =
-    in_order-settled c.args.keys.now c.args.entries.now.items c.as_mut_slice.result.now _ (c.as_mut_slice.ensures.value ∙ c.sort_by_keys.ensures)
-    (in_order-written (then_cmp (entry_cmp c.args.keys.now) tie_cmp) _ c.as_mut_slice.result.now _ _ c.break_ties.ensures c.as_mut_slice.ensures.len)
+    in_order-settled c.args.keys.now c.args.entries.now.items c.as_mut_slice.result.now _
+    (c.as_mut_slice.ensures.value ∙ c.sort_by_keys.ensures)
+    (in_order-written
+    (then_cmp (entry_cmp c.args.keys.now) tie_cmp) _ c.as_mut_slice.result.now _ _
+    c.break_ties.ensures c.as_mut_slice.ensures.len)
 
 pub returns-else-not-are_strict : goal.returns-else-not-are_strict
 returns-else-not-are_strict c =
-    c.sort_by_keys.ensures ∙ in_order-all_strict c.args.keys.now c.args.entries.now.items (c.requires.strict (search rules))
+    c.sort_by_keys.ensures
+    ∙ in_order-all_strict c.args.keys.now c.args.entries.now.items
+    (c.requires.strict (search rules))

@@ -8,4 +8,5 @@ use Rattle.version_lines.proofs.sort.write_entries.Given as goal
 abbrev pub invariant-loop-entry : goal.invariant-loop-entry
 invariant-loop-entry g l =
     AppendsUpTo (g.W.Write.contents l.initial.writer) (g.W.Write.contents l.writer)
-    (l.buffer.items ++ lines_output whole_line (map entry_line (drop l.entry-index l.entries))) (lines_output whole_line (map entry_line l.entries))
+    (l.buffer.items ++ lines_output whole_line (map entry_line (drop l.entry-index l.entries)))
+    (lines_output whole_line (map entry_line l.entries))

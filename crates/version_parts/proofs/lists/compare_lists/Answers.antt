@@ -1,4 +1,5 @@
-use Rattle.std.proofs.Common.{◌≡◌, ◌∙◌, ◌-◌, ◌≤◌, ℕ, suc, List, [], ◌∷◌, length, drop, map, min, nat_cmp, arith, refl, sym}
+use Rattle.std.proofs.Common.{◌≡◌, ◌∙◌, ◌-◌, ◌≤◌, ℕ, suc, List, [], ◌∷◌, length, drop, map, min}
+use Rattle.std.proofs.Common.{nat_cmp, arith, refl, sym}
 use Rattle.std.specs.Cmp.Lexicographic.{slice_cmp}
 use Rattle.std.specs.declared.cmp.Ordering.{Ordering}
 use Rattle.std.specs.declared.cmp.Ordering.TheVariants.{Less, Greater}
@@ -13,7 +14,8 @@ above : (n : ℕ) → nat_cmp (suc n) 0 ≡ Greater
 above n = grind (arith, nat_tests)
 
 -- the shorter of two lists comes first, if nothing else is left of one of them
-by_length : {T A : Type 0} (view : T → A) (R : A → A → Ordering) (a b : List T) → min (length a) (length b) ≡ 0
+by_length : {T A : Type 0} (view : T → A) (R : A → A → Ordering) (a b : List T)
+    → min (length a) (length b) ≡ 0
     → slice_cmp R (map view a) (map view b) ≡ nat_cmp (length a) (length b)
 by_length view R [] [] none = refl
 by_length view R [] (y ∷ ys) none = sym (below (length ys))
@@ -28,6 +30,10 @@ returns g c =
     let a = c.args.a.now in
     let b = c.args.b.now in
     let at = c.items.at in
-    let left : min (length (drop at a)) (length (drop at b)) ≡ 0 = omega (arith, length-drop at a, length-drop at b) in
-    let lengths = rw (length-drop at a, length-drop at b) at (by_length g.T.ListItem.plain g.T.ListItem.plain_cmp (drop at a) (drop at b) left) in
-    c.cmp.ensures ∙ sym (same_distance (length a) (length b) at (omega arith) (omega arith)) ∙ sym lengths ∙ c.items.invariant
+    let left : min (length (drop at a)) (length (drop at b)) ≡ 0 =
+    omega (arith, length-drop at a, length-drop at b) in
+    let lengths =
+    rw (length-drop at a, length-drop at b) at
+    (by_length g.T.ListItem.plain g.T.ListItem.plain_cmp (drop at a) (drop at b) left) in
+    c.cmp.ensures ∙ sym (same_distance (length a) (length b) at (omega arith) (omega arith))
+    ∙ sym lengths ∙ c.items.invariant

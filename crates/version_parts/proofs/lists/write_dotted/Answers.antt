@@ -2,7 +2,7 @@ use Rattle.std.proofs.Common.{◌≡◌, ◌∷◌, take, refl}
 use Rattle.std.proofs.lemmas.Grind.{put_two}
 use Rattle.std.proofs.lemmas.List.{take_all}
 use Rattle.version_parts.specs.Bytes.{dot}
-use Rattle.version_parts.proofs.Printing.{joined}
+use Rattle.version_parts.proofs.lemmas.Lists.Printing.{joined}
 use Rattle.version_parts.proofs.lists.write_dotted.Goals as goal
 
 pub returns : goal.returns
@@ -12,4 +12,5 @@ returns g c = λ plain ok.
     let all : take c.loop-item.item-index others ≡ others = take_all _ _ c.loop-item-test.false in
     let begun = (rw (g.met.T.ListItem.prints first) at c.in_ok-write.ensures.writes) plain refl in
     let listed : c.args.items.now ≡ first ∷ others = c.in-Some.ensures.cases.0 in
-    put_two _ _ _ _ _ _ _ begun (c.loop-item.invariant begun.plain) (rw (all, listed) (joined dot g.T.ListItem.plain g.T.ListItem.text first others))
+    put_two _ _ _ _ _ _ _ begun (c.loop-item.invariant begun.plain)
+    (rw (all, listed) (joined dot g.T.ListItem.plain g.T.ListItem.text first others))

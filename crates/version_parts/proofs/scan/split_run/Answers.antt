@@ -1,5 +1,7 @@
-use Rattle.version_parts.proofs.Runs.{run_boundary}
+use Rattle.version_parts.proofs.lemmas.General.Runs.{run_boundary}
 use Rattle.version_parts.proofs.scan.split_run.Goals as goal
 
 pub split_at-requires : goal.split_at-requires
-split_at-requires c = rw (c.run_len.ensures, c.as_bytes.ensures.value) (run_boundary c.args.class c.args.i.now c.utf8.i)
+split_at-requires c =
+    rw (c.run_len.ensures, c.as_bytes.ensures.value)
+    (run_boundary c.args.class c.args.i.now c.utf8.i)

@@ -1,5 +1,6 @@
+mod ByteRank
 use Rattle.std.proofs.Common.{arith}
-use Rattle.version_texts.proofs.ByteRank.{rank_at}
+use Rattle.version_texts.proofs.class.rank.Answers.ByteRank.{rank_at}
 use Rattle.version_texts.proofs.class.rank.Goals as goal
 
 pub returns : goal.returns

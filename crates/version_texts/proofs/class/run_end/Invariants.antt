@@ -6,7 +6,8 @@ use Rattle.version_texts.proofs.class.run_end.Given as goal
 -- all bytes so far are of the class
 abbrev pub invariant-loop-end : goal.invariant-loop-end
 invariant-loop-end l = record {
-  same_end : l.end + prefix_len (contains l.class) (drop l.end l.text) ≡ l.start + prefix_len (contains l.class) (drop l.start l.text);
+  same_end : l.end + prefix_len (contains l.class) (drop l.end l.text)
+      ≡ l.start + prefix_len (contains l.class) (drop l.start l.text);
   within : l.end ≤ length l.text;
 }
 

@@ -1,20 +1,22 @@
 use Rattle.std.proofs.Common.{◌++◌, List, ap, append-nil, sym, ℕ}
 use Rattle.std.specs.Str.Parse.{digits_value}
-use Rattle.version_parts.proofs.PieceBytes.{take_while-all}
+use Rattle.version_parts.proofs.lemmas.Pieces.{take_while-all}
 use Rattle.version_parts.specs.Codes.{items_bytes}
 use Rattle.version_parts.specs.NumberBytes.{number_bytes}
 use Rattle.version_parts.specs.PartKey.{part_bytes}
 use Rattle.version_texts.specs.Shape.{is_section_byte}
 use Rattle.version_texts.specs.TextKey.{parts_of}
-use Rattle.version_texts.proofs.Taking.{takes_same}
+use Rattle.version_texts.proofs.lemmas.TextKey.Taking.{takes_same}
 use Rattle.version_texts.proofs.key.put_begun.Goals as goal
 
 pub returns-in-Some : goal.returns-in-Some
 returns-in-Some g c =
     let epoch = number_bytes (digits_value 10 c.args.digits.now) in
-    let whole = take_while-all is_section_byte c.in-Some.text.now (rw c.in-Some.is at c.requires.parts) in
+    let whole = take_while-all is_section_byte c.in-Some.text.now
+    (rw c.in-Some.is at c.requires.parts) in
     rw c.in-Some.is
-    (takes_same g.S.Sink.takes _ _ _ _ (ap (λ (l : List ℕ). epoch ++ items_bytes part_bytes (parts_of l)) (sym whole))
+    (takes_same g.S.Sink.takes _ _ _ _
+    (ap (λ (l : List ℕ). epoch ++ items_bytes part_bytes (parts_of l)) (sym whole))
     (g.met.S.Sink.takes_both _ _ _ _ _ c.put_epoch.ensures c.put_parts.ensures.bytes))
 
 pub returns-in_default : goal.returns-in_default

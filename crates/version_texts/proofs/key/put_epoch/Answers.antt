@@ -2,11 +2,12 @@ use Rattle.std.proofs.Common.{ℕ, List, ap, sym}
 use Rattle.std.specs.Char.{is_ascii_digit}
 use Rattle.std.specs.Str.Parse.{digits_value}
 use Rattle.version_parts.specs.NumberBytes.{number_bytes}
-use Rattle.version_parts.proofs.PieceBytes.{take_while-all}
-use Rattle.version_texts.proofs.Taking.{takes_same}
+use Rattle.version_parts.proofs.lemmas.Pieces.{take_while-all}
+use Rattle.version_texts.proofs.lemmas.TextKey.Taking.{takes_same}
 use Rattle.version_texts.proofs.key.put_epoch.Goals as goal
 
 pub returns-else-is_empty : goal.returns-else-is_empty
 returns-else-is_empty g c =
-    let whole = ap (λ (l : List ℕ). number_bytes (digits_value 10 l)) (sym (take_while-all is_ascii_digit c.args.digits.now c.requires)) in
+    let whole = ap (λ (l : List ℕ). number_bytes (digits_value 10 l))
+    (sym (take_while-all is_ascii_digit c.args.digits.now c.requires)) in
     takes_same g.S.Sink.takes _ _ _ _ whole c.put_number.ensures.bytes

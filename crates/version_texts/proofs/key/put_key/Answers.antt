@@ -1,16 +1,18 @@
 use Rattle.versions.specs.Tail.{tail_bytes}
 use Rattle.version_texts.specs.Shape.{tail_in}
 use Rattle.version_texts.specs.TextKey.{tail_of, text_key}
-use Rattle.version_texts.proofs.Taking.{key_halves, takes_same}
+use Rattle.version_texts.proofs.lemmas.TextKey.Taking.{key_halves, takes_same}
 use Rattle.version_texts.proofs.key.put_key.Goals as goal
 
 pub returns-then-put_front : goal.returns-then-put_front
 returns-then-put_front g c =
     takes_same g.S.Sink.takes _ _ _ _ (key_halves (text_key c.args.text.now c.args.shape))
-    (g.met.S.Sink.takes_both _ _ _ _ _ c.put_front.ensures.bytes (rw c.tail_at.ensures at c.put_tail.ensures))
+    (g.met.S.Sink.takes_both _ _ _ _ _ c.put_front.ensures.bytes
+    (rw c.tail_at.ensures at c.put_tail.ensures))
 
 pub returns-else-put_front : goal.returns-else-put_front
 returns-else-put_front g c =
     let tail = tail_bytes (tail_of c.args.shape.tail (tail_in c.args.text.now c.args.shape)) in
     takes_same g.S.Sink.takes _ _ _ _ (key_halves (text_key c.args.text.now c.args.shape))
-    (g.met.S.Sink.takes_both _ _ _ _ _ c.put_front.ensures.bytes (c.put_front.ensures.decided c.if-put_front.false tail))
+    (g.met.S.Sink.takes_both _ _ _ _ _ c.put_front.ensures.bytes
+    (c.put_front.ensures.decided c.if-put_front.false tail))

@@ -1,7 +1,8 @@
-use Rattle.std.proofs.Common.{◌≡◌, ◌∙◌, ◌+◌, ◌-◌, ◌∷◌, [], ◌++◌, ℕ, List, ap, append_assoc, arith, sym}
+use Rattle.std.proofs.Common.{◌≡◌, ◌∙◌, ◌+◌, ◌-◌, ◌∷◌, [], ◌++◌, ℕ, List, ap, append_assoc, arith}
+use Rattle.std.proofs.Common.{sym}
 use Rattle.version_parts.specs.NumberBytes.{length_bytes}
-use Rattle.version_parts.proofs.NumberBytes.{length_bytes-long, length_bytes-short}
-use Rattle.version_texts.proofs.Taking.{takes_same}
+use Rattle.version_parts.proofs.lemmas.NumberBytes.{length_bytes-long, length_bytes-short}
+use Rattle.version_texts.proofs.lemmas.TextKey.Taking.{takes_same}
 use Rattle.version_texts.proofs.key.put_length.Goals as goal
 
 pub loop-left-preserved : goal.loop-left-preserved
@@ -9,14 +10,17 @@ loop-left-preserved g c =
     let before = c.loop-left.invariant.0 in
     let left = c.loop-left.left in
     let parts : left ≡ 255 + (left - 255) = omega arith in
-    let step : length_bytes left ≡ 255 ∷ length_bytes (left - 255) = ap length_bytes parts ∙ length_bytes-long (left - 255) in (
+    let step : length_bytes left ≡ 255 ∷ length_bytes (left - 255) =
+    ap length_bytes parts ∙ length_bytes-long (left - 255) in (
       before ++ 255 ∷ [],
-      c.loop-left.invariant.1 ∙ ap (λ (l : List ℕ). before ++ l) step ∙ sym (append_assoc before (255 ∷ []) (length_bytes (left - 255))),
+      c.loop-left.invariant.1 ∙ ap (λ (l : List ℕ). before ++ l) step
+          ∙ sym (append_assoc before (255 ∷ []) (length_bytes (left - 255))),
       g.met.S.Sink.takes_both _ _ _ _ _ c.loop-left.invariant.2 c.put.ensures,
     )
 
 pub returns : goal.returns
 returns g c =
     let short = length_bytes-short c.loop-left.left (omega arith) in
-    takes_same g.S.Sink.takes _ _ _ _ (c.loop-left.invariant.1 ∙ ap (λ (l : List ℕ). c.loop-left.invariant.0 ++ l) short)
+    takes_same g.S.Sink.takes _ _ _ _
+    (c.loop-left.invariant.1 ∙ ap (λ (l : List ℕ). c.loop-left.invariant.0 ++ l) short)
     (g.met.S.Sink.takes_both _ _ _ _ _ c.loop-left.invariant.2 c.put-2.ensures)

@@ -1,14 +1,16 @@
 use Rattle.std.proofs.Common.{[], ◌∷◌, sym}
 use Rattle.version_parts.specs.PartKey.{part_bytes}
-use Rattle.version_parts.proofs.ListBytes.{ended}
-use Rattle.version_texts.proofs.Taking.{takes_same}
+use Rattle.version_parts.proofs.lemmas.PartKey.Lists.{ended}
+use Rattle.version_texts.proofs.lemmas.TextKey.Taking.{takes_same}
 use Rattle.version_texts.proofs.key.put_list.Goals as goal
 
 pub returns-in_err-rest-clause-bytes : goal.returns-in_err-rest-clause-bytes
 returns-in_err-rest-clause-bytes g c =
     takes_same g.S.Sink.takes _ _ _ _ (sym (ended part_bytes _))
-    (g.met.S.Sink.takes_both _ _ _ _ _ c.put_parts.ensures.bytes (c.in_err-rest.ensures.decided (2 ∷ [])))
+    (g.met.S.Sink.takes_both _ _ _ _ _ c.put_parts.ensures.bytes
+    (c.in_err-rest.ensures.decided (2 ∷ [])))
 
 pub returns-clause-bytes : goal.returns-clause-bytes
 returns-clause-bytes g c =
-    takes_same g.S.Sink.takes _ _ _ _ (sym (ended part_bytes _)) (g.met.S.Sink.takes_both _ _ _ _ _ c.put_parts.ensures.bytes c.put.ensures)
+    takes_same g.S.Sink.takes _ _ _ _ (sym (ended part_bytes _))
+    (g.met.S.Sink.takes_both _ _ _ _ _ c.put_parts.ensures.bytes c.put.ensures)

@@ -1,9 +1,11 @@
-use Rattle.std.proofs.Common.{ℕ, List, [], ◌++◌, ◌∙◌, ap, append_assoc, arith, length, refl, rules, sym}
+use Rattle.std.proofs.Common.{ℕ, List, [], ◌++◌, ◌∙◌, ap, append_assoc, arith, length, refl, rules}
+use Rattle.std.proofs.Common.{sym}
 use Rattle.std.proofs.lemmas.List.{length-drop}
 use Rattle.std.specs.Char.{is_ascii_alphanumeric}
 use Rattle.std.specs.List.{prefix_len}
-use Rattle.version_texts.proofs.DotPieces.{first_part, last_part, part_and_more, rest_and_more, rest_of_last}
-use Rattle.version_texts.proofs.Taking.{takes_same}
+use Rattle.version_texts.proofs.lemmas.TextKey.DotPieces.{first_part, last_part, part_and_more}
+use Rattle.version_texts.proofs.lemmas.TextKey.DotPieces.{rest_and_more, rest_of_last}
+use Rattle.version_texts.proofs.lemmas.TextKey.Taking.{takes_same}
 use Rattle.version_texts.proofs.key.put_parts.Goals as goal
 
 pub parts-init : goal.parts-init
@@ -26,24 +28,35 @@ pub parts-smaller : goal.parts-smaller
 parts-smaller g c =
     let whole = ap (λ (l : List ℕ). length l) c.in-Some.ensures in
     let short = ap (λ (l : List ℕ). length l) c.put_part-rest.ensures.rest in
-    omega (arith, whole, short, length-drop (prefix_len is_ascii_alphanumeric c.parts.left.now) c.parts.left.now)
+    omega (
+      arith,
+      whole,
+      short,
+      length-drop (prefix_len is_ascii_alphanumeric c.parts.left.now) c.parts.left.now,
+    )
 
 pub returns-then-is_decided-clause-bytes : goal.returns-then-is_decided-clause-bytes
 returns-then-is_decided-clause-bytes g c =
     let so_far = c.parts.invariant in
-    let first = first_part c.parts.left.now c.put_part-rest.result.now c.put_part-rest.ensures.rest in
-    let same = so_far.1 ∙ ap (λ (l : List ℕ). so_far.0 ++ l) first.1 ∙ sym (append_assoc so_far.0 _ first.0) in
+    let first = first_part c.parts.left.now c.put_part-rest.result.now
+    c.put_part-rest.ensures.rest in
+    let same = so_far.1 ∙ ap (λ (l : List ℕ). so_far.0 ++ l) first.1
+    ∙ sym (append_assoc so_far.0 _ first.0) in
     let both = g.met.S.Sink.takes_both in
     takes_same g.S.Sink.takes _ _ _ _ same
-    (both _ _ _ _ _ (both _ _ _ _ _ so_far.2 c.put_part-rest.ensures.bytes) (c.if-is_decided.ensures (search rules) first.0))
+    (both _ _ _ _ _ (both _ _ _ _ _ so_far.2 c.put_part-rest.ensures.bytes)
+    (c.if-is_decided.ensures (search rules) first.0))
 
 pub returns-in-None-clause-bytes : goal.returns-in-None-clause-bytes
 returns-in-None-clause-bytes g c =
     let so_far = c.parts.invariant in
-    let last = last_part c.parts.left.now c.put_part-rest.result.now c.put_part-rest.ensures.rest c.in-None.ensures in
+    let last = last_part c.parts.left.now c.put_part-rest.result.now c.put_part-rest.ensures.rest
+    c.in-None.ensures in
     let same = so_far.1 ∙ ap (λ (l : List ℕ). so_far.0 ++ l) last in
-    takes_same g.S.Sink.takes _ _ _ _ same (g.met.S.Sink.takes_both _ _ _ _ _ so_far.2 c.put_part-rest.ensures.bytes)
+    takes_same g.S.Sink.takes _ _ _ _ same
+    (g.met.S.Sink.takes_both _ _ _ _ _ so_far.2 c.put_part-rest.ensures.bytes)
 
 pub returns-in-None-clause-rest : goal.returns-in-None-clause-rest
 returns-in-None-clause-rest g c =
-    rest_of_last c.parts.left.now c.put_part-rest.result.now c.put_part-rest.ensures.rest c.in-None.ensures ∙ c.parts.invariant.3
+    rest_of_last c.parts.left.now c.put_part-rest.result.now c.put_part-rest.ensures.rest
+    c.in-None.ensures ∙ c.parts.invariant.3

@@ -10,9 +10,11 @@ use Rattle.version_texts.proofs.key.put_parts.Given as goal
 abbrev pub invariant-parts : goal.invariant-parts
 invariant-parts g l =
     (before : List ℕ)
-    × (items_bytes part_bytes (parts_of (take_while is_section_byte l.fn.text)) ≡ before ++ items_bytes part_bytes (parts_of (take_while is_section_byte l.left)))
+    × (items_bytes part_bytes (parts_of (take_while is_section_byte l.fn.text))
+    ≡ before ++ items_bytes part_bytes (parts_of (take_while is_section_byte l.left)))
     × g.S.Sink.takes l.fn.sink before l.sink
-    × (drop (prefix_len is_section_byte l.left) l.left ≡ drop (prefix_len is_section_byte l.fn.text) l.fn.text)
+    × (drop (prefix_len is_section_byte l.left) l.left
+    ≡ drop (prefix_len is_section_byte l.fn.text) l.fn.text)
 
 abbrev pub decreases-parts : goal.decreases-parts
 decreases-parts g l = length l.left

@@ -1,9 +1,11 @@
-use Rattle.std.proofs.Common.{ℕ, List, [], ◌∷◌, ◌++◌, ◌∙◌, ap, append_assoc, arith, length, refl, sym}
+use Rattle.std.proofs.Common.{ℕ, List, [], ◌∷◌, ◌++◌, ◌∙◌, ap, append_assoc, arith, length, refl}
+use Rattle.std.proofs.Common.{sym}
 use Rattle.std.proofs.lemmas.List.{length-drop, nil_from_length}
 use Rattle.std.specs.List.{list_all, prefix_len}
 use Rattle.version_parts.specs.Bytes.{is_identifier_byte}
-use Rattle.version_texts.proofs.DotPieces.{chunk_and_more, chunk_of_metadata, last_chunk, not_dot, rest_of_metadata}
-use Rattle.version_texts.proofs.Taking.{takes_same}
+use Rattle.version_texts.proofs.lemmas.TextKey.DotPieces.{chunk_and_more, chunk_of_metadata}
+use Rattle.version_texts.proofs.lemmas.TextKey.DotPieces.{last_chunk, not_dot, rest_of_metadata}
+use Rattle.version_texts.proofs.lemmas.TextKey.Taking.{takes_same}
 use Rattle.version_texts.proofs.key.put_release.Goals as goal
 
 pub chunks-init : goal.chunks-init
@@ -17,7 +19,8 @@ chunks-preserved g c =
     let rest = c.split_run.result.1.now in
     let behind = c.in-Some.behind.now in
     let cut = c.in-Some.ensures.cases.0 in
-    let more = chunk_and_more left chunk rest behind _ c.split_run.ensures.run c.split_run.ensures.rest cut in (
+    let more = chunk_and_more left chunk rest behind _ c.split_run.ensures.run
+    c.split_run.ensures.rest cut in (
       _,
       so_far.1 ∙ ap (λ (l : List ℕ). so_far.0 ++ l) more ∙ sym (append_assoc so_far.0 _ _),
       g.met.S.Sink.takes_both _ _ _ _ _ so_far.2 c.put_chunk.ensures,
@@ -28,16 +31,26 @@ pub chunks-smaller : goal.chunks-smaller
 chunks-smaller g c =
     let whole = ap (λ (l : List ℕ). length l) c.in-Some.ensures.cases.0 in
     let short = ap (λ (l : List ℕ). length l) c.split_run.ensures.rest in
-    omega (arith, whole, short, length-drop (prefix_len not_dot c.chunks.left.now) c.chunks.left.now)
+    omega (
+      arith,
+      whole,
+      short,
+      length-drop (prefix_len not_dot c.chunks.left.now) c.chunks.left.now,
+    )
 
 pub put_chunk-requires : goal.put_chunk-requires
-put_chunk-requires g c = ap (list_all is_identifier_byte) c.split_run.ensures.run ∙ chunk_of_metadata c.chunks.left.now c.chunks.invariant.3
+put_chunk-requires g c =
+    ap (list_all is_identifier_byte) c.split_run.ensures.run
+    ∙ chunk_of_metadata c.chunks.left.now c.chunks.invariant.3
 
 pub returns-in-None : goal.returns-in-None
 returns-in-None g c =
     let so_far = c.chunks.invariant in
     let none = nil_from_length c.split_run.result.1.now c.in-None.ensures.cases in
-    let last = last_chunk c.chunks.left.now c.split_run.result.0.now c.split_run.result.1.now c.split_run.ensures.run c.split_run.ensures.rest none in
-    let same = so_far.1 ∙ ap (λ (l : List ℕ). so_far.0 ++ l) last ∙ sym (append_assoc so_far.0 _ (1 ∷ [])) in
+    let last = last_chunk c.chunks.left.now c.split_run.result.0.now c.split_run.result.1.now
+    c.split_run.ensures.run c.split_run.ensures.rest none in
+    let same = so_far.1 ∙ ap (λ (l : List ℕ). so_far.0 ++ l) last
+    ∙ sym (append_assoc so_far.0 _ (1 ∷ [])) in
     let both = g.met.S.Sink.takes_both in
-    takes_same g.S.Sink.takes _ _ _ _ same (both _ _ _ _ _ (both _ _ _ _ _ so_far.2 c.put_chunk.ensures) c.put.ensures)
+    takes_same g.S.Sink.takes _ _ _ _ same
+    (both _ _ _ _ _ (both _ _ _ _ _ so_far.2 c.put_chunk.ensures) c.put.ensures)

@@ -1,9 +1,11 @@
-use Rattle.std.proofs.Common.{ℕ, List, [], ◌∷◌, ◌++◌, ◌∙◌, ap, append_assoc, arith, length, refl, sym}
+use Rattle.std.proofs.Common.{ℕ, List, [], ◌∷◌, ◌++◌, ◌∙◌, ap, append_assoc, arith, length, refl}
+use Rattle.std.proofs.Common.{sym}
 use Rattle.std.proofs.lemmas.List.{length-drop, nil_from_length}
 use Rattle.std.specs.List.{prefix_len}
 use Rattle.version_texts.specs.Shape.{is_section_byte}
-use Rattle.version_texts.proofs.SectionPieces.{behind_all, first_section, last_section, section_and_more}
-use Rattle.version_texts.proofs.Taking.{takes_same}
+use Rattle.version_texts.proofs.lemmas.TextKey.SectionPieces.{behind_all, first_section}
+use Rattle.version_texts.proofs.lemmas.TextKey.SectionPieces.{last_section, section_and_more}
+use Rattle.version_texts.proofs.lemmas.TextKey.Taking.{takes_same}
 use Rattle.version_texts.proofs.key.put_sections.Goals as goal
 
 pub sections-init : goal.sections-init
@@ -28,23 +30,34 @@ pub sections-smaller : goal.sections-smaller
 sections-smaller g c =
     let whole = ap (λ (l : List ℕ). length l) c.in-Some-split_first.ensures.cases.0 in
     let short = ap (λ (l : List ℕ). length l) c.in-Some.ensures.rest in
-    omega (arith, whole, short, length-drop (prefix_len is_section_byte c.sections.left.now) c.sections.left.now)
+    omega (
+      arith,
+      whole,
+      short,
+      length-drop (prefix_len is_section_byte c.sections.left.now) c.sections.left.now,
+    )
 
 pub returns-in_default : goal.returns-in_default
 returns-in_default g c =
     let so_far = c.sections.invariant in
     let first = first_section c.sections.left.now so_far.3 in
-    let same = so_far.1 ∙ ap (λ (l : List ℕ). so_far.0 ++ l) first.1 ∙ sym (append_assoc so_far.0 _ first.0) in
+    let same = so_far.1 ∙ ap (λ (l : List ℕ). so_far.0 ++ l) first.1
+    ∙ sym (append_assoc so_far.0 _ first.0) in
     let both = g.met.S.Sink.takes_both in
     takes_same g.S.Sink.takes _ _ _ _ same
-    (both _ _ _ _ _ (both _ _ _ _ _ so_far.2 (both _ _ _ _ _ c.put.ensures c.in_default.ensures.bytes)) (c.in_default.ensures.decided first.0))
+    (both _ _ _ _ _
+    (both _ _ _ _ _ so_far.2 (both _ _ _ _ _ c.put.ensures c.in_default.ensures.bytes))
+    (c.in_default.ensures.decided first.0))
 
 pub returns-in-None : goal.returns-in-None
 returns-in-None g c =
     let so_far = c.sections.invariant in
     let none = nil_from_length c.in-Some.rest.now c.in-None.ensures.cases in
     let last = last_section c.sections.left.now c.in-Some.rest.now c.in-Some.ensures.rest none in
-    let same = so_far.1 ∙ ap (λ (l : List ℕ). so_far.0 ++ l) last ∙ sym (append_assoc so_far.0 _ (1 ∷ [])) in
+    let same = so_far.1 ∙ ap (λ (l : List ℕ). so_far.0 ++ l) last
+    ∙ sym (append_assoc so_far.0 _ (1 ∷ [])) in
     let both = g.met.S.Sink.takes_both in
     takes_same g.S.Sink.takes _ _ _ _ same
-    (both _ _ _ _ _ (both _ _ _ _ _ so_far.2 (both _ _ _ _ _ c.put.ensures c.in-Some.ensures.bytes)) c.put-in-None.ensures)
+    (both _ _ _ _ _
+    (both _ _ _ _ _ so_far.2 (both _ _ _ _ _ c.put.ensures c.in-Some.ensures.bytes))
+    c.put-in-None.ensures)

@@ -11,7 +11,8 @@ use Rattle.version_texts.proofs.key.put_sections.Given as goal
 abbrev pub invariant-sections : goal.invariant-sections
 invariant-sections g l =
     (before : List ℕ)
-    × (list_bytes section_bytes (sections_of l.fn.text) ≡ before ++ list_bytes section_bytes (sections_of l.left))
+    × (list_bytes section_bytes (sections_of l.fn.text)
+    ≡ before ++ list_bytes section_bytes (sections_of l.left))
     × g.S.Sink.takes l.fn.sink before l.sink
     × (list_all (is_tail_byte Sections) l.left ≡ true)
 

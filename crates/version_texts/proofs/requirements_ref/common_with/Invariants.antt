@@ -9,8 +9,10 @@ use Rattle.version_texts.proofs.requirements_ref.common_with.Given as goal
 abbrev pub invariant-loop-members : goal.invariant-loop-members
 invariant-loop-members l = record {
   parse : AreMembers l.members;
-  common : fold (λ range r. common range (requirement_range r)) (plain_range l.range) (unwrap_or (members_of l.members) [])
-      ≡ fold (λ range r. common range (requirement_range r)) (plain_range l.fn.range) (unwrap_or (members_of l.fn.members) []);
+  common : fold (λ range r. common range (requirement_range r)) (plain_range l.range)
+      (unwrap_or (members_of l.members) [])
+      ≡ fold (λ range r. common range (requirement_range r)) (plain_range l.fn.range)
+      (unwrap_or (members_of l.fn.members) []);
 }
 
 abbrev pub decreases-loop-members : goal.decreases-loop-members

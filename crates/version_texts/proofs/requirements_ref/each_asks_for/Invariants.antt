@@ -2,12 +2,14 @@ use Rattle.std.proofs.Common.{◌↔◌, length, suc}
 use Rattle.std.specs.Option.{option_map_or}
 use Rattle.versions.specs.RequirementsRef.{members_of}
 use Rattle.version_texts.specs.VersioningRef.{plain_versioning_ref}
-use Rattle.versions.proofs.ScannedLists.{Asked}
+use Rattle.versions.proofs.lemmas.RequirementsRef.{Asked}
 use Rattle.version_texts.proofs.requirements_ref.each_asks_for.Given as goal
 
 -- the members so far match the version, and what remains decides
 abbrev pub invariant-loop-members : goal.invariant-loop-members
-invariant-loop-members l = Asked (plain_versioning_ref l.version) (members_of l.members) ↔ Asked (plain_versioning_ref l.version) (members_of l.fn.members)
+invariant-loop-members l =
+    Asked (plain_versioning_ref l.version) (members_of l.members)
+    ↔ Asked (plain_versioning_ref l.version) (members_of l.fn.members)
 
 abbrev pub decreases-loop-members : goal.decreases-loop-members
 decreases-loop-members l = option_map_or (λ text. suc (length text.now)) l.members 0

@@ -1,10 +1,10 @@
 use Rattle.std.proofs.Common.{◌∙◌, refl}
-use Rattle.versions.proofs.ScannedLists.{text_first_decides, text_others_decide}
+use Rattle.versions.proofs.lemmas.RequirementsRef.{text_first_decides, text_others_decide}
 use Rattle.versions.specs.Requirement.{requirement_of}
 use Rattle.versions.specs.RequirementsRef.{members_of}
 use Rattle.version_texts.specs.RequirementRef.{plain_requirement_ref}
 use Rattle.version_texts.specs.VersioningRef.{plain_versioning_ref}
-use Rattle.version_texts.proofs.Members.{others_parse}
+use Rattle.version_texts.proofs.lemmas.RequirementsRef.Members.{others_parse}
 use Rattle.version_texts.proofs.requirements_ref.list_matches.Goals as goal
 
 pub returns-then-are_members-clause-matches : goal.returns-then-are_members-clause-matches
@@ -13,7 +13,8 @@ returns-then-are_members-clause-matches c =
     let r = plain_requirement_ref c.in_ok-first.first in
     let others = members_of c.split_first.result.1 in
     let fails = text_first_decides version c.in-Some.left.now c.split_first.result.0.now r others
-    c.split_first.ensures.members c.in_ok-first.ensures (λ asks. cc (c.if-not-matches.ensures.1 asks)) in
+    c.split_first.ensures.members c.in_ok-first.ensures
+    (λ asks. cc (c.if-not-matches.ensures.1 asks)) in
     let left = rw c.in-Some.is at c.loop-members.invariant.asks in
     (λ yes. cc yes, λ asked. absurd (fails (left.1 asked)))
 
@@ -26,7 +27,8 @@ loop-members-preserved c =
     c.split_first.ensures.members c.in_ok-first.ensures (c.if-not-matches.ensures.0 refl) in
     let left = rw c.in-Some.is at c.loop-members.invariant.asks in
     let parsed = rw c.in-Some.is at c.loop-members.invariant.parses in
-    let parses = others_parse c.in-Some.left.now (requirement_of c.split_first.result.0.now) r others
+    let parses = others_parse c.in-Some.left.now
+    (requirement_of c.split_first.result.0.now) r others
     c.split_first.ensures.members c.in_ok-first.ensures in
     record {
       parses = parses ∙ parsed;

@@ -3,15 +3,22 @@ use Rattle.std.proofs.Common.{[]}
 use Rattle.version_texts.specs.RequirementRef.{plain_requirement_ref}
 use Rattle.versions.specs.RequirementsRef.{members_of}
 use Rattle.version_texts.specs.VersioningRef.{plain_versioning_ref}
-use Rattle.versions.proofs.ScannedLists.{all_ask, first_asks_not}
+use Rattle.versions.proofs.lemmas.RequirementsRef.{all_ask, first_asks_not}
 use Rattle.version_texts.proofs.requirements_ref.second_and_others_ask.Goals as goal
 
 pub returns-then-matches : goal.returns-then-matches
 returns-then-matches c =
-    let all = all_ask (plain_versioning_ref c.args.version.now) (plain_requirement_ref c.in-Some.second) (members_of c.args.others) c.requires (c.matches.ensures.0 c.if-matches.true) in
-    rw c.in-Some.is (λ yes. all.0 (c.each_asks_for.ensures.0 yes), λ asked. c.each_asks_for.ensures.1 (all.1 asked))
+    let all = all_ask (plain_versioning_ref c.args.version.now)
+    (plain_requirement_ref c.in-Some.second) (members_of c.args.others) c.requires
+    (c.matches.ensures.0 c.if-matches.true) in
+    rw c.in-Some.is (
+      λ yes. all.0 (c.each_asks_for.ensures.0 yes),
+      λ asked. c.each_asks_for.ensures.1 (all.1 asked),
+    )
 
 pub returns-else-matches : goal.returns-else-matches
 returns-else-matches c =
-    let fails = first_asks_not (plain_versioning_ref c.args.version.now) (plain_requirement_ref c.in-Some.second) (unwrap_or (members_of c.args.others) []) (λ asks. cc (c.matches.ensures.1 asks, c.if-matches.false)) in
+    let fails = first_asks_not (plain_versioning_ref c.args.version.now)
+    (plain_requirement_ref c.in-Some.second) (unwrap_or (members_of c.args.others) [])
+    (λ asks. cc (c.matches.ensures.1 asks, c.if-matches.false)) in
     rw c.in-Some.is (λ yes. cc (yes, c.if-matches.false), λ asked. absurd (fails asked))

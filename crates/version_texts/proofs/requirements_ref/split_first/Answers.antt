@@ -1,6 +1,6 @@
 use Rattle.std.proofs.Common.{◌∙◌, arith, sym}
-use Rattle.versions.proofs.ScannedLists.{one_member}
-use Rattle.version_texts.proofs.Members.{members_cut}
+use Rattle.versions.proofs.lemmas.RequirementsRef.{one_member}
+use Rattle.version_texts.proofs.lemmas.RequirementsRef.Members.{members_cut}
 use Rattle.version_texts.proofs.requirements_ref.split_first.Goals as goal
 
 pub returns-then-end-list-clause-members : goal.returns-then-end-list-clause-members

@@ -1,6 +1,7 @@
 use Rattle.std.proofs.Common.{◌∙◌, sym, ap, not}
 use Rattle.std.proofs.lemmas.Bool.{eq-eqb}
-use Rattle.version_texts.proofs.Numeral.{leading_zero, no_leading_zero, one_digit, some_digits}
+use Rattle.version_texts.proofs.lemmas.TextKind.Numeral.{leading_zero, no_leading_zero, one_digit}
+use Rattle.version_texts.proofs.lemmas.TextKind.Numeral.{some_digits}
 use Rattle.version_texts.proofs.scan.is_numeral.Goals as goal
 
 pub returns-then-digits-eq1 : goal.returns-then-digits-eq1
@@ -9,8 +10,12 @@ returns-then-digits-eq1 c =
 
 pub returns-then-digits-ne48 : goal.returns-then-digits-ne48
 returns-then-digits-ne48 c =
-    c.is_below_limit.ensures ∙ sym (no_leading_zero c.args.digits.now c.requires c.if-digits-eq1.false c.if-digits-ne48.true)
+    c.is_below_limit.ensures
+    ∙ sym (no_leading_zero c.args.digits.now c.requires c.if-digits-eq1.false
+    c.if-digits-ne48.true)
 
 pub returns-else-digits-ne48 : goal.returns-else-digits-ne48
 returns-else-digits-ne48 c =
-    ap not (eq-eqb _ _ c.if-digits-ne48.false) ∙ leading_zero c.args.digits.now c.if-digits-eq1.false (some_digits c.args.digits.now c.requires) c.if-digits-ne48.false
+    ap not (eq-eqb _ _ c.if-digits-ne48.false)
+    ∙ leading_zero c.args.digits.now c.if-digits-eq1.false
+    (some_digits c.args.digits.now c.requires) c.if-digits-ne48.false

@@ -1,12 +1,17 @@
-use Rattle.std.proofs.Common.{◌≡◌, ◌==◌, ◌&&◌, ◌+◌, ◌∙◌, ℕ, true, false, drop, length, refl, sym, ap}
+use Rattle.std.proofs.Common.{◌≡◌, ◌==◌, ◌&&◌, ◌+◌, ◌∙◌, ℕ, true, false, drop, length, refl, sym}
+use Rattle.std.proofs.Common.{ap}
 use Rattle.std.specs.Char.{is_ascii_alphanumeric}
 use Rattle.std.specs.List.{list_all}
 use Rattle.version_parts.specs.Bytes.{colon}
 use Rattle.version_parts.specs.DigitRun.{is_digits}
 use Rattle.version_parts.specs.Front.{begins}
 use Rattle.version_texts.specs.TextKind.{is_chunk, is_run, section_end, section_pieces}
-use Rattle.version_texts.proofs.NextByte.{next_colon}
-use Rattle.version_texts.proofs.ScanText.{bad_first, behind_colon, body_end-section, epoch_chunk, epoch_end, first_chunks, first_end, first_numbers, first_runs, no_epoch, not_three, numeral_epoch, one_by_dots, section_is_epoch, three_by_dots}
+use Rattle.version_texts.proofs.lemmas.Class.{next_colon}
+use Rattle.version_texts.proofs.lemmas.Shape.Scanned.{bad_first, behind_colon, body_end-section}
+use Rattle.version_texts.proofs.lemmas.Shape.Scanned.{epoch_chunk, epoch_end, first_chunks}
+use Rattle.version_texts.proofs.lemmas.Shape.Scanned.{first_end, first_numbers, first_runs}
+use Rattle.version_texts.proofs.lemmas.Shape.Scanned.{no_epoch, not_three, numeral_epoch}
+use Rattle.version_texts.proofs.lemmas.Shape.Scanned.{one_by_dots, section_is_epoch, three_by_dots}
 use Rattle.version_texts.proofs.scan.scan_body.Goals as goal
 
 pub returns-in_err-first-clause-runs : goal.returns-in_err-first-clause-runs
@@ -31,7 +36,9 @@ returns-in_err-section-clause-runs c =
     ap (λ (n : ℕ). n + 1) (c.in_ok-first.ensures.end ∙ epoch_end c.args.text.now epoch)
     ∙ sym (behind_colon c.args.text.now epoch) in
     rw c.from_residual-in_err-section.ensures
-    (c.in_err-section.ensures.runs ∙ ap (λ (place : ℕ). list_all (is_run is_ascii_alphanumeric) (section_pieces c.args.text.now place)) begins_at)
+    (c.in_err-section.ensures.runs
+    ∙ ap (λ (place : ℕ). list_all (is_run is_ascii_alphanumeric)
+    (section_pieces c.args.text.now place)) begins_at)
 
 pub returns-then-epoch-clause-start : goal.returns-then-epoch-clause-start
 returns-then-epoch-clause-start c =
@@ -69,7 +76,8 @@ returns-then-epoch-clause-end c =
     let begins_at =
     ap (λ (n : ℕ). n + 1) (c.in_ok-first.ensures.end ∙ epoch_end c.args.text.now epoch)
     ∙ sym (behind_colon c.args.text.now epoch) in
-    c.in_ok-section.ensures.end ∙ ap (section_end c.args.text.now) begins_at ∙ body_end-section c.args.text.now
+    c.in_ok-section.ensures.end ∙ ap (section_end c.args.text.now) begins_at
+    ∙ body_end-section c.args.text.now
 
 pub returns-then-epoch-clause-chunks : goal.returns-then-epoch-clause-chunks
 returns-then-epoch-clause-chunks c =
@@ -89,10 +97,12 @@ returns-then-epoch-clause-chunks c =
     ap (λ (n : ℕ). n + 1) (c.in_ok-first.ensures.end ∙ epoch_end c.args.text.now epoch)
     ∙ sym (behind_colon c.args.text.now epoch) in
     let numeral =
-    c.in_ok-first.ensures.chunks ∙ epoch_chunk c.args.text.now epoch ∙ numeral_epoch c.args.text.now epoch in
+    c.in_ok-first.ensures.chunks ∙ epoch_chunk c.args.text.now epoch
+    ∙ numeral_epoch c.args.text.now epoch in
     let rest =
     c.in_ok-section.ensures.chunks
-    ∙ ap (λ (place : ℕ). list_all (is_chunk is_ascii_alphanumeric) (section_pieces c.args.text.now place)) begins_at in
+    ∙ ap (λ (place : ℕ). list_all (is_chunk is_ascii_alphanumeric)
+    (section_pieces c.args.text.now place)) begins_at in
     rw (numeral, rest) refl
 
 pub returns-then-epoch-clause-three_numbers : goal.returns-then-epoch-clause-three_numbers
@@ -128,7 +138,9 @@ returns-then-epoch-clause-runs c =
     let begins_at =
     ap (λ (n : ℕ). n + 1) (c.in_ok-first.ensures.end ∙ epoch_end c.args.text.now epoch)
     ∙ sym (behind_colon c.args.text.now epoch) in
-    c.in_ok-section.ensures.runs ∙ ap (λ (place : ℕ). list_all (is_run is_ascii_alphanumeric) (section_pieces c.args.text.now place)) begins_at
+    c.in_ok-section.ensures.runs
+    ∙ ap (λ (place : ℕ). list_all (is_run is_ascii_alphanumeric)
+    (section_pieces c.args.text.now place)) begins_at
 
 pub returns-clause-start : goal.returns-clause-start
 returns-clause-start c =

@@ -1,42 +1,66 @@
 use Rattle.std.proofs.Common.{◌==◌, ◌∙◌, drop, sym, arith}
 use Rattle.version_parts.specs.Bytes.{dot, is_identifier_byte}
-use Rattle.version_texts.proofs.NextByte.{is_dot, no_dot}
-use Rattle.version_texts.proofs.Released.{bad_chunk, from_last, from_next, place_last, place_next}
-use Rattle.version_texts.proofs.Runs.{not_false, not_true}
-use Rattle.version_texts.proofs.Section.{begins_within}
-use Rattle.version_texts.proofs.TakenRun.{chunk_empty}
+use Rattle.version_texts.proofs.lemmas.Class.{is_dot, no_dot}
+use Rattle.version_texts.proofs.lemmas.TextKind.Release.{bad_chunk, from_last, from_next}
+use Rattle.version_texts.proofs.lemmas.TextKind.Release.{place_last, place_next}
+use Rattle.version_texts.proofs.lemmas.General.Runs.{not_false, not_true}
+use Rattle.version_texts.proofs.lemmas.Shape.Section.{begins_within}
+use Rattle.version_texts.proofs.lemmas.TextKind.Runs.{chunk_empty}
 use Rattle.version_texts.proofs.scan.scan_release.Goals as goal
 
 pub returns-in_err-run-clause-whole : goal.returns-in_err-run-clause-whole
 returns-in_err-run-clause-whole c =
-    rw c.from_residual.ensures (sym (c.chunks.invariant.same ∙ bad_chunk (drop c.chunks.place c.args.text.now) (chunk_empty is_identifier_byte (drop c.chunks.place c.args.text.now) c.in_err-run.ensures.none)))
+    rw c.from_residual.ensures
+    (sym (c.chunks.invariant.same
+    ∙ bad_chunk (drop c.chunks.place c.args.text.now)
+    (chunk_empty is_identifier_byte
+    (drop c.chunks.place c.args.text.now) c.in_err-run.ensures.none)))
 
 pub returns-then-not-run-clause-whole : goal.returns-then-not-run-clause-whole
 returns-then-not-run-clause-whole c =
-    sym (c.chunks.invariant.same ∙ bad_chunk (drop c.chunks.place c.args.text.now) (sym c.in_ok-run.ensures.chunk ∙ not_true _ c.if-not-run.true))
+    sym (c.chunks.invariant.same
+    ∙ bad_chunk (drop c.chunks.place c.args.text.now)
+    (sym c.in_ok-run.ensures.chunk ∙ not_true _ c.if-not-run.true))
 
 pub chunks-preserved : goal.chunks-preserved
 chunks-preserved c =
-    let goes_on = is_dot (drop c.in_ok-run.run'.end c.args.text.now) c.in_ok-run.run'.next c.in_ok-run.ensures.next c.if-run-ne-DOT.false in
+    let goes_on =
+    is_dot (drop c.in_ok-run.run'.end c.args.text.now) c.in_ok-run.run'.next
+    c.in_ok-run.ensures.next c.if-run-ne-DOT.false in
     let good = sym c.in_ok-run.ensures.chunk ∙ not_false _ c.if-not-run.false in
     record {
-      end = c.chunks.invariant.end ∙ place_next c.args.text.now c.chunks.place c.in_ok-run.run'.end c.in_ok-run.ensures.end goes_on;
-      same = c.chunks.invariant.same ∙ from_next c.args.text.now c.chunks.place c.in_ok-run.run'.end c.in_ok-run.ensures.end good goes_on;
-      within = omega (arith, begins_within (λ b. b == dot) c.args.text.now c.in_ok-run.run'.end goes_on);
+      end = c.chunks.invariant.end
+          ∙ place_next c.args.text.now c.chunks.place c.in_ok-run.run'.end c.in_ok-run.ensures.end
+          goes_on;
+      same = c.chunks.invariant.same
+          ∙ from_next c.args.text.now c.chunks.place c.in_ok-run.run'.end c.in_ok-run.ensures.end
+          good goes_on;
+      within = omega
+          (arith, begins_within (λ b. b == dot) c.args.text.now c.in_ok-run.run'.end goes_on);
     }
 
 pub returns-then-is_metadata_tail-clause-end : goal.returns-then-is_metadata_tail-clause-end
 returns-then-is_metadata_tail-clause-end c =
-    sym (c.chunks.invariant.end ∙ place_last c.args.text.now c.chunks.place c.in_ok-run.run'.end c.in_ok-run.ensures.end (sym c.is_metadata_tail.ensures ∙ c.if-is_metadata_tail.true))
+    sym (c.chunks.invariant.end
+    ∙ place_last c.args.text.now c.chunks.place c.in_ok-run.run'.end c.in_ok-run.ensures.end
+    (sym c.is_metadata_tail.ensures ∙ c.if-is_metadata_tail.true))
 
 pub returns-then-is_metadata_tail-clause-whole : goal.returns-then-is_metadata_tail-clause-whole
 returns-then-is_metadata_tail-clause-whole c =
     let good = sym c.in_ok-run.ensures.chunk ∙ not_false _ c.if-not-run.false in
-    let ends = no_dot (drop c.in_ok-run.run'.end c.args.text.now) c.in_ok-run.run'.next c.in_ok-run.ensures.next c.if-run-ne-DOT.true in
-    sym (c.chunks.invariant.same ∙ from_last c.args.text.now c.chunks.place c.in_ok-run.run'.end c.in_ok-run.ensures.end good ends ∙ sym c.is_metadata_tail.ensures ∙ c.if-is_metadata_tail.true)
+    let ends = no_dot
+    (drop c.in_ok-run.run'.end c.args.text.now) c.in_ok-run.run'.next c.in_ok-run.ensures.next
+    c.if-run-ne-DOT.true in
+    sym (c.chunks.invariant.same
+    ∙ from_last c.args.text.now c.chunks.place c.in_ok-run.run'.end c.in_ok-run.ensures.end good
+    ends ∙ sym c.is_metadata_tail.ensures ∙ c.if-is_metadata_tail.true)
 
 pub returns-then-run-ne-DOT-clause-whole : goal.returns-then-run-ne-DOT-clause-whole
 returns-then-run-ne-DOT-clause-whole c =
     let good = sym c.in_ok-run.ensures.chunk ∙ not_false _ c.if-not-run.false in
-    let ends = no_dot (drop c.in_ok-run.run'.end c.args.text.now) c.in_ok-run.run'.next c.in_ok-run.ensures.next c.if-run-ne-DOT.true in
-    sym (c.chunks.invariant.same ∙ from_last c.args.text.now c.chunks.place c.in_ok-run.run'.end c.in_ok-run.ensures.end good ends ∙ sym c.is_metadata_tail.ensures ∙ c.if-is_metadata_tail.false)
+    let ends = no_dot
+    (drop c.in_ok-run.run'.end c.args.text.now) c.in_ok-run.run'.next c.in_ok-run.ensures.next
+    c.if-run-ne-DOT.true in
+    sym (c.chunks.invariant.same
+    ∙ from_last c.args.text.now c.chunks.place c.in_ok-run.run'.end c.in_ok-run.ensures.end good
+    ends ∙ sym c.is_metadata_tail.ensures ∙ c.if-is_metadata_tail.false)

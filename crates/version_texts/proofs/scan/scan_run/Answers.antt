@@ -1,11 +1,16 @@
+mod ScanRun
 use Rattle.std.proofs.Common.{◌∙◌, drop, sym, arith}
 use Rattle.version_texts.specs.Class.{contains}
-use Rattle.version_texts.proofs.ScanRun.{between_digits, empty_run, end_of_run, goes_on, number_chunk, run_is_digits, stops, word_chunk, word_digits}
+use Rattle.version_texts.proofs.scan.scan_run.Answers.ScanRun.{between_digits, empty_run}
+use Rattle.version_texts.proofs.scan.scan_run.Answers.ScanRun.{end_of_run, goes_on, number_chunk}
+use Rattle.version_texts.proofs.scan.scan_run.Answers.ScanRun.{run_is_digits, stops, word_chunk}
+use Rattle.version_texts.proofs.scan.scan_run.Answers.ScanRun.{word_digits}
 use Rattle.version_texts.proofs.scan.scan_run.Goals as goal
 
 pub returns-then-has_rank-clause-end : goal.returns-then-has_rank-clause-end
 returns-then-has_rank-clause-end c =
-    end_of_run c.args.class c.requires.class c.args.text.now c.args.start c.run_end-digits_end.result
+    end_of_run c.args.class c.requires.class c.args.text.now c.args.start
+    c.run_end-digits_end.result
     c.run_end-end.result c.run_end-digits_end.ensures.end c.run_end-end.ensures.end
 
 pub returns-then-has_rank-clause-digits : goal.returns-then-has_rank-clause-digits
@@ -15,7 +20,8 @@ returns-then-has_rank-clause-digits c =
     let longer =
     goes_on (contains c.args.class) c.args.text.now c.run_end-digits_end.result c.run_end-end.result
     begun c.run_end-end.ensures.end in
-    word_digits c.args.class c.requires.class c.args.text.now c.args.start c.run_end-digits_end.result
+    word_digits c.args.class c.requires.class c.args.text.now c.args.start
+    c.run_end-digits_end.result
     c.run_end-end.result c.run_end-digits_end.ensures.end c.run_end-end.ensures.end longer
 
 pub returns-then-has_rank-clause-chunk : goal.returns-then-has_rank-clause-chunk
@@ -25,7 +31,8 @@ returns-then-has_rank-clause-chunk c =
     let longer =
     goes_on (contains c.args.class) c.args.text.now c.run_end-digits_end.result c.run_end-end.result
     begun c.run_end-end.ensures.end in
-    word_chunk c.args.class c.requires.class c.args.text.now c.args.start c.run_end-digits_end.result
+    word_chunk c.args.class c.requires.class c.args.text.now c.args.start
+    c.run_end-digits_end.result
     c.run_end-end.result c.run_end-digits_end.ensures.end c.run_end-end.ensures.end longer
 
 pub returns-then-digits_end-start-clause-none : goal.returns-then-digits_end-start-clause-none
@@ -41,7 +48,8 @@ is_numeral-requires c =
     let behind = drop c.run_end-digits_end.result c.args.text.now in
     let ended = c.has_rank.ensures behind (sym c.rank_at-next.ensures) ∙ c.if-has_rank.false in
     let end_is = stops (contains c.args.class) c.args.text.now c.run_end-digits_end.result ended in
-    between_digits c.args.class c.requires.class c.args.text.now c.args.start c.run_end-digits_end.result
+    between_digits c.args.class c.requires.class c.args.text.now c.args.start
+    c.run_end-digits_end.result
     c.run_end-digits_end.result c.run_end-digits_end.ensures.end end_is (omega arith) (omega arith)
 
 pub returns-clause-end : goal.returns-clause-end
@@ -49,7 +57,8 @@ returns-clause-end c =
     let behind = drop c.run_end-digits_end.result c.args.text.now in
     let ended = c.has_rank.ensures behind (sym c.rank_at-next.ensures) ∙ c.if-has_rank.false in
     let end_is = stops (contains c.args.class) c.args.text.now c.run_end-digits_end.result ended in
-    end_of_run c.args.class c.requires.class c.args.text.now c.args.start c.run_end-digits_end.result
+    end_of_run c.args.class c.requires.class c.args.text.now c.args.start
+    c.run_end-digits_end.result
     c.run_end-digits_end.result c.run_end-digits_end.ensures.end end_is
 
 pub returns-clause-digits : goal.returns-clause-digits
@@ -57,7 +66,8 @@ returns-clause-digits c =
     let behind = drop c.run_end-digits_end.result c.args.text.now in
     let ended = c.has_rank.ensures behind (sym c.rank_at-next.ensures) ∙ c.if-has_rank.false in
     let end_is = stops (contains c.args.class) c.args.text.now c.run_end-digits_end.result ended in
-    sym (run_is_digits c.args.class c.requires.class c.args.text.now c.args.start c.run_end-digits_end.result
+    sym (run_is_digits c.args.class c.requires.class c.args.text.now c.args.start
+    c.run_end-digits_end.result
     c.run_end-digits_end.result c.run_end-digits_end.ensures.end end_is (omega arith) (omega arith))
 
 pub returns-clause-chunk : goal.returns-clause-chunk
@@ -65,6 +75,8 @@ returns-clause-chunk c =
     let behind = drop c.run_end-digits_end.result c.args.text.now in
     let ended = c.has_rank.ensures behind (sym c.rank_at-next.ensures) ∙ c.if-has_rank.false in
     let end_is = stops (contains c.args.class) c.args.text.now c.run_end-digits_end.result ended in
-    number_chunk c.args.class c.requires.class c.args.text.now c.args.start c.run_end-digits_end.result
-    c.run_end-digits_end.result c.run_end-digits_end.ensures.end end_is (omega arith) (omega arith) c.is_numeral.result
+    number_chunk c.args.class c.requires.class c.args.text.now c.args.start
+    c.run_end-digits_end.result
+    c.run_end-digits_end.result c.run_end-digits_end.ensures.end end_is (omega arith)
+    (omega arith) c.is_numeral.result
     c.is_numeral.ensures

@@ -7,4 +7,5 @@ use Rattle.version_texts.proofs.sinks.compare_end.Goals as goal
 pub returns : goal.returns
 returns c =
     let bytes = end_bytes c.args.end (text_key c.args.text.now c.args.shape) in
-    c.order.ensures ∙ c.put_end.ensures [] ∙ ap (λ (l : List ℕ). bytes_cmp l c.args.bytes.now) (append-nil bytes)
+    c.order.ensures ∙ c.put_end.ensures []
+    ∙ ap (λ (l : List ℕ). bytes_cmp l c.args.bytes.now) (append-nil bytes)

@@ -7,4 +7,6 @@ use Rattle.version_texts.proofs.sinks.end_length.Goals as goal
 pub returns : goal.returns
 returns c =
     let bytes = end_bytes c.args.end (text_key c.args.text.now c.args.shape) in
-    c.length.ensures ∙ c.put_end.ensures [] ∙ ap (λ (l : List ℕ). saturated (0 + length l)) (append-nil bytes) ∙ ap saturated (zero-add (length bytes))
+    c.length.ensures ∙ c.put_end.ensures []
+    ∙ ap (λ (l : List ℕ). saturated (0 + length l)) (append-nil bytes)
+    ∙ ap saturated (zero-add (length bytes))

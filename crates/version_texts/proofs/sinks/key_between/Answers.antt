@@ -8,4 +8,6 @@ use Rattle.version_texts.proofs.sinks.key_between.Goals as goal
 pub returns : goal.returns
 returns c =
     let key = key_bytes (text_key c.args.text.now c.args.shape) in
-    c.is_between.ensures ∙ c.put_key.ensures [] ∙ ap (λ (l : List ℕ). is_between (bytes_cmp l c.args.low.now) (bytes_cmp l c.args.high.now)) (append-nil key)
+    c.is_between.ensures ∙ c.put_key.ensures []
+    ∙ ap (λ (l : List ℕ). is_between (bytes_cmp l c.args.low.now) (bytes_cmp l c.args.high.now))
+    (append-nil key)

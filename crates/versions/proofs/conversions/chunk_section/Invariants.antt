@@ -6,4 +6,5 @@ use Rattle.versions.proofs.conversions.chunk_section.Given as goal
 
 -- the chunks so far are converted
 abbrev pub invariant-loop-chunk : goal.invariant-loop-chunk
-invariant-loop-chunk l = plain_section l.section ≡ map mchunk_of (map plain_chunk (take l.chunk-index l.chunks))
+invariant-loop-chunk l =
+    plain_section l.section ≡ map mchunk_of (map plain_chunk (take l.chunk-index l.chunks))

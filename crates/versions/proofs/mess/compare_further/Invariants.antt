@@ -9,7 +9,8 @@ use Rattle.versions.proofs.mess.compare_further.Given as goal
 abbrev pub invariant-sections : goal.invariant-sections
 invariant-sections l = record {
   text : shadow (Utf8 l.a) × shadow (Utf8 l.b);
-  left : slice_cmp further_plain_cmp (further_in l.a) (further_in l.b) ≡ slice_cmp further_plain_cmp (further_in l.initial.a) (further_in l.initial.b);
+  left : slice_cmp further_plain_cmp (further_in l.a) (further_in l.b)
+      ≡ slice_cmp further_plain_cmp (further_in l.initial.a) (further_in l.initial.b);
 }
 
 abbrev pub decreases-sections : goal.decreases-sections

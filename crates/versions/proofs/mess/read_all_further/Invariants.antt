@@ -9,7 +9,10 @@ use Rattle.versions.proofs.mess.read_all_further.Given as goal
 abbrev pub invariant-loop-more : goal.invariant-loop-more
 invariant-loop-more l = record {
   text : shadow (Utf8 l.rest);
-  read : (map plain_further l.more.items ++ (repeated further_front (length l.rest) l.rest).0, (repeated further_front (length l.rest) l.rest).1) ≡ repeated further_front (length l.i) l.i;
+  read : (
+    map plain_further l.more.items ++ (repeated further_front (length l.rest) l.rest).0,
+    (repeated further_front (length l.rest) l.rest).1,
+  ) ≡ repeated further_front (length l.i) l.i;
 }
 
 abbrev pub decreases-loop-more : goal.decreases-loop-more

@@ -1,5 +1,5 @@
 use Rattle.std.proofs.Common.{rules, ◌∙◌, sym}
-use Rattle.versions.proofs.MessScan.{left_last, left_next, left_shorter}
+use Rattle.versions.proofs.lemmas.Mess.Scan.{left_last, left_next, left_shorter}
 use Rattle.versions.proofs.mess.skip_all_further.Goals as goal
 
 pub loop-after-smaller : goal.loop-after-smaller
@@ -8,7 +8,8 @@ loop-after-smaller c = left_shorter c.loop-after.rest.now c.in-Some.after.now c.
 pub loop-after-preserved : goal.loop-after-preserved
 loop-after-preserved c = record {
   text = search rules;
-  left = sym (left_next c.loop-after.rest.now c.in-Some.after.now c.in-Some.ensures) ∙ c.loop-after.invariant.left;
+  left = sym (left_next c.loop-after.rest.now c.in-Some.after.now c.in-Some.ensures)
+      ∙ c.loop-after.invariant.left;
 }
 
 pub returns : goal.returns

@@ -9,7 +9,8 @@ use Rattle.versions.proofs.mess.skip_all_further.Given as goal
 abbrev pub invariant-loop-after : goal.invariant-loop-after
 invariant-loop-after l = record {
   text : shadow (Utf8 l.rest);
-  left : (repeated further_front (length l.rest) l.rest).1 ≡ (repeated further_front (length l.i) l.i).1;
+  left : (repeated further_front (length l.rest) l.rest).1
+      ≡ (repeated further_front (length l.i) l.i).1;
 }
 
 abbrev pub decreases-loop-after : goal.decreases-loop-after

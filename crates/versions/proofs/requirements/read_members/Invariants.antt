@@ -5,4 +5,6 @@ use Rattle.versions.proofs.requirements.read_members.Given as goal
 
 -- the members so far are what their texts parse as
 abbrev pub invariant-loop-member : goal.invariant-loop-member
-invariant-loop-member l = every (map requirement_of (map (λ member. member.now) l.yielded)) ≡ Some (map plain_requirement l.list.items)
+invariant-loop-member l =
+    every (map requirement_of (map (λ member. member.now) l.yielded))
+    ≡ Some (map plain_requirement l.list.items)

@@ -6,8 +6,8 @@ use Rattle.versions.specs.KeyBytes.{key_bytes}
 use Rattle.version_texts.specs.VersioningRef.{plain_versioning_ref}
 use Rattle.version_texts.specs.Sinks.{put_at, saturated}
 use Rattle.versions_c.specs.Keys.{keys_before}
-use Rattle.version_texts.proofs.Rooms.{put_nothing}
-use Rattle.versions_c.proofs.Putting.{first_told, next_told, no_more_key, one_more_key}
+use Rattle.version_texts.proofs.lemmas.Sinks.{put_nothing}
+use Rattle.versions_c.proofs.lemmas.Keys.Putting.{first_told, next_told, no_more_key, one_more_key}
 use Rattle.versions_c.proofs.keys.put_all.Goals as goal
 use Rattle.versions_c.proofs.keys.put_all.Goals.{in-Some, in_default}
 
@@ -15,7 +15,8 @@ pub loop-place-init : goal.loop-place-init
 loop-place-init c = record {
   ended = refl;
   written = sym (put_nothing c.args.keys.now 0);
-  told = first_told c.args.texts.now c.args.offsets.now c.args.key_offsets.now (omega (arith, c.requires.room));
+  told = first_told c.args.texts.now c.args.offsets.now c.args.key_offsets.now
+      (omega (arith, c.requires.room));
 }
 
 pub loop-place-preserved : goal.loop-place-preserved
@@ -24,15 +25,27 @@ loop-place-preserved c =
     let offsets = c.args.offsets.now in
     let i = c.loop-place.place in
     let before = c.loop-place.invariant in
-    let both : (c.match-from_bytes.end ≡ saturated (length (keys_before texts offsets (i + 1)))) × (c.match-from_bytes.keys ≡ put_at c.args.keys.now 0 (keys_before texts offsets (i + 1))) =
+    let both : (c.match-from_bytes.end ≡ saturated (length (keys_before texts offsets (i + 1))))
+    × (c.match-from_bytes.keys ≡ put_at c.args.keys.now 0 (keys_before texts offsets (i + 1))) =
     elim c.match-from_bytes.branch [
-      | in-Some w ↦ one_more_key texts offsets c.args.keys.now i c.text_at.result.now (key_bytes (key_of (plain_versioning_ref w.in-Some.version))) c.loop-place.keys c.match-from_bytes.keys c.loop-place.end c.match-from_bytes.end
-          (omega arith) c.text_at.ensures (ap (option_map (λ v. key_bytes (key_of v))) w.in-Some.ensures) before.ended before.written (w.end-is ∙ w.write_key-end.ensures.end) (w.keys-is ∙ w.write_key-end.ensures.bytes)
-      | in_default w ↦ no_more_key texts offsets c.args.keys.now i c.text_at.result.now c.match-from_bytes.keys c.match-from_bytes.end c.text_at.ensures (ap (option_map (λ v. key_bytes (key_of v))) w.in_default.ensures)
+      | in-Some w ↦
+          one_more_key texts offsets c.args.keys.now i c.text_at.result.now
+          (key_bytes (key_of (plain_versioning_ref w.in-Some.version))) c.loop-place.keys
+          c.match-from_bytes.keys c.loop-place.end c.match-from_bytes.end
+          (omega arith) c.text_at.ensures
+          (ap (option_map (λ v. key_bytes (key_of v))) w.in-Some.ensures) before.ended
+          before.written (w.end-is ∙ w.write_key-end.ensures.end)
+          (w.keys-is ∙ w.write_key-end.ensures.bytes)
+      | in_default w ↦
+          no_more_key texts offsets c.args.keys.now i c.text_at.result.now c.match-from_bytes.keys
+          c.match-from_bytes.end c.text_at.ensures
+          (ap (option_map (λ v. key_bytes (key_of v))) w.in_default.ensures)
           (w.end-is ∙ before.ended) (w.keys-is ∙ before.written)
     ] in
     record {
       ended = both.0;
       written = both.1;
-      told = next_told texts offsets c.loop-place.key_offsets i c.min.result (omega (arith, length-set c.args.key_offsets.now 0 0)) before.told (omega (arith, both.0, c.min.ensures));
+      told = next_told texts offsets c.loop-place.key_offsets i c.min.result
+          (omega (arith, length-set c.args.key_offsets.now 0 0)) before.told
+          (omega (arith, both.0, c.min.ensures));
     }

@@ -7,5 +7,6 @@ abbrev pub invariant-loop-place : goal.invariant-loop-place
 invariant-loop-place l = record {
   ended : l.end ≡ saturated (length (keys_before l.texts l.offsets l.place));
   written : l.keys ≡ put_at l.fn.keys 0 (keys_before l.texts l.offsets l.place);
-  told : (i : ℕ) → i ≤ l.place → slice_index l.key_offsets i ≡ saturated_signed (length (keys_before l.texts l.offsets i));
+  told : (i : ℕ) → i ≤ l.place
+      → slice_index l.key_offsets i ≡ saturated_signed (length (keys_before l.texts l.offsets i));
 }

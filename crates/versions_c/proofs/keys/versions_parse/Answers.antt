@@ -4,10 +4,13 @@ use Rattle.versions.specs.Key.{key_of}
 use Rattle.versions.specs.KeyBytes.{key_bytes}
 use Rattle.version_texts.specs.VersioningRef.{plain_versioning_ref}
 use Rattle.versions_c.specs.Keys.{spelled_key}
-use Rattle.versions_c.proofs.Putting.{fitting_key}
+use Rattle.versions_c.proofs.lemmas.Keys.Putting.{fitting_key}
 use Rattle.versions_c.proofs.keys.versions_parse.Goals as goal
 
 pub returns-clause-key : goal.returns-clause-key
 returns-clause-key c =
     let version = plain_versioning_ref c.in-Some-from_bytes.version in
-    λ ok. fitting_key (spelled_key c.args.text.now) (key_bytes (key_of version)) c.args.key.now c.write_key.new.room (ap (option_map (λ v. key_bytes (key_of v))) c.in-Some-from_bytes.ensures) c.in_default.ensures c.write_key.ensures.bytes
+    λ ok. fitting_key (spelled_key c.args.text.now)
+    (key_bytes (key_of version)) c.args.key.now c.write_key.new.room
+    (ap (option_map (λ v. key_bytes (key_of v))) c.in-Some-from_bytes.ensures)
+    c.in_default.ensures c.write_key.ensures.bytes

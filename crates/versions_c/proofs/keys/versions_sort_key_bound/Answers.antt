@@ -1,5 +1,5 @@
 use Rattle.std.proofs.Common.{arith}
-use Rattle.versions_c.proofs.KeyLength.{enough_room}
+use Rattle.versions_c.proofs.lemmas.Keys.{enough_room}
 use Rattle.versions_c.proofs.keys.versions_sort_key_bound.Goals as goal
 
 pub returns-clause-room : goal.returns-clause-room

@@ -5,4 +5,6 @@ use Rattle.versions_c.specs.Offsets.{text_at}
 use Rattle.versions_c.proofs.kinds.versions_kinds.Given as goal
 
 abbrev pub invariant-loop-place : goal.invariant-loop-place
-invariant-loop-place l = (i : ℕ) → i < l.place → slice_index l.kinds i ≡ kind_of (versioning_of (text_at l.texts l.offsets i))
+invariant-loop-place l =
+    (i : ℕ) → i < l.place
+    → slice_index l.kinds i ≡ kind_of (versioning_of (text_at l.texts l.offsets i))

@@ -1,7 +1,8 @@
 use Rattle.std.proofs.Common.{◌∙◌, sym}
 use Rattle.std.specs.Cmp.Lexicographic.{same_text}
-use Rattle.versions_c.proofs.Ordered.{same_text_ties}
+use Rattle.versions_c.proofs.lemmas.Sorting.{same_text_ties}
 use Rattle.versions_c.proofs.sorting.compare_texts.Goals as goal
 
 pub returns-then-eq : goal.returns-then-eq
-returns-then-eq c = same_text_ties c.args.a.now c.args.b.now (same_text _ _ (sym c.if-eq.true ∙ c.eq.ensures))
+returns-then-eq c =
+    same_text_ties c.args.a.now c.args.b.now (same_text _ _ (sym c.if-eq.true ∙ c.eq.ensures))

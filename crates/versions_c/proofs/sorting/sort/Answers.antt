@@ -1,8 +1,11 @@
 use Rattle.std.proofs.Common.{rules}
 use Rattle.std.proofs.lemmas.Fn.{always_returns_same}
-use Rattle.versions_c.proofs.Ordered.{keyed_ranks}
+use Rattle.versions_c.proofs.lemmas.Sorting.{keyed_ranks}
 use Rattle.versions_c.proofs.sorting.sort.Goals as goal
 
 pub returns-clause-sorted : goal.returns-clause-sorted
 returns-clause-sorted c =
-    c.sort_unstable_by.ensures.sorted _ (keyed_ranks c.args.texts.now.bytes.now c.args.texts.now.offsets.now c.args.keys.now.bytes.now c.args.keys.now.offsets.now) (always_returns_same _ _ _ (λ a r f2 called. search rules))
+    c.sort_unstable_by.ensures.sorted _
+    (keyed_ranks c.args.texts.now.bytes.now c.args.texts.now.offsets.now
+    c.args.keys.now.bytes.now c.args.keys.now.offsets.now)
+    (always_returns_same _ _ _ (λ a r f2 called. search rules))

@@ -5,4 +5,5 @@ use Rattle.version_lines.specs.Entry.{entry_line}
 use Rattle.version_lines.proofs.sort.ties.are_one_line.Given as goal
 
 abbrev pub invariant-loop-other : goal.invariant-loop-other
-invariant-loop-other l = All (λ entry. entry_line entry ≡ entry_line l.first) (take l.other-index l.others)
+invariant-loop-other l =
+    All (λ entry. entry_line entry ≡ entry_line l.first) (take l.other-index l.others)

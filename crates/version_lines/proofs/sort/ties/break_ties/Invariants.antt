@@ -1,7 +1,7 @@
 -- The lines before the place are in order, and the lines after it are unchanged.
 use Rattle.std.proofs.Common.{◌-◌, length}
 use Rattle.version_lines.specs.Entry.{entry_cmp, tie_cmp}
-use Rattle.version_lines.proofs.TieLemmas.{IsDoneTo}
+use Rattle.version_lines.proofs.lemmas.Sorting.Ties.{IsDoneTo}
 use Rattle.version_lines.proofs.sort.ties.break_ties.Given as goal
 
 abbrev pub invariant-loop-start : goal.invariant-loop-start

@@ -7,4 +7,8 @@ use Rattle.version_lines.specs.Sorting.{run_length}
 use Rattle.version_lines.proofs.sort.ties.first_run.Given as goal
 
 abbrev pub invariant-loop-other : goal.invariant-loop-other
-invariant-loop-other l = (l.count ≡ l.other-index + 1) × (run_length (entry_cmp l.keys) l.entries ≡ l.count + prefix_len (λ other. not (is_lt (entry_cmp l.keys l.first other))) (drop l.other-index l.others))
+invariant-loop-other l =
+    (l.count ≡ l.other-index + 1)
+    × (run_length (entry_cmp l.keys) l.entries
+    ≡ l.count + prefix_len (λ other. not (is_lt (entry_cmp l.keys l.first other)))
+    (drop l.other-index l.others))

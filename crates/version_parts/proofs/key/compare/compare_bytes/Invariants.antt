@@ -1,4 +1,4 @@
-use Rattle.version_parts.proofs.Compare.{InStep}
+use Rattle.version_parts.proofs.lemmas.Compare.{InStep}
 use Rattle.version_parts.proofs.key.compare.compare_bytes.Given as goal
 
 abbrev pub invariant-loop-x : goal.invariant-loop-x

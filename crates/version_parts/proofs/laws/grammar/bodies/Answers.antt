@@ -1,4 +1,4 @@
-use Rattle.version_parts.proofs.BodyReading.{body_complete, body_printed, body_sound}
+use Rattle.version_parts.proofs.lemmas.Body.{body_complete, body_printed, body_sound}
 use Rattle.version_parts.proofs.laws.grammar.bodies.Goals as goal
 
 pub returns : goal.returns

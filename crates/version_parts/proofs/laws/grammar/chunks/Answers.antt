@@ -1,4 +1,4 @@
-use Rattle.version_parts.proofs.ChunkReading.{chunk_complete, chunk_printed, chunk_sound}
+use Rattle.version_parts.proofs.lemmas.Chunk.{chunk_complete, chunk_printed, chunk_sound}
 use Rattle.version_parts.proofs.laws.grammar.chunks.Goals as goal
 
 pub returns : goal.returns

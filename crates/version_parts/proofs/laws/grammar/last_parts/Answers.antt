@@ -1,5 +1,5 @@
 use Rattle.version_parts.specs.Last.{last_of}
-use Rattle.version_parts.proofs.LastReading.{last_of-is, last_of-only, last_printed}
+use Rattle.version_parts.proofs.lemmas.Last.{last_of-is, last_of-only, last_printed}
 use Rattle.version_parts.proofs.laws.grammar.last_parts.Goals as goal
 
 pub returns : goal.returns

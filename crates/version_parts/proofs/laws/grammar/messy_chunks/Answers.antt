@@ -1,5 +1,12 @@
-use Rattle.version_parts.proofs.MChunkReading.{mchunk_complete, mchunk_kept, mchunk_printed, mchunk_sound}
+use Rattle.version_parts.proofs.lemmas.MChunk.{mchunk_complete, mchunk_kept, mchunk_printed}
+use Rattle.version_parts.proofs.lemmas.MChunk.{mchunk_sound}
 use Rattle.version_parts.proofs.laws.grammar.messy_chunks.Goals as goal
 
 pub returns : goal.returns
-returns c = record { sound = mchunk_sound; complete = mchunk_complete; printed = mchunk_printed; kept = mchunk_kept }
+returns c = record {
+  sound =
+      mchunk_sound;
+  complete = mchunk_complete;
+  printed = mchunk_printed;
+  kept = mchunk_kept;
+}

@@ -1,4 +1,4 @@
-use Rattle.version_parts.proofs.ChunkReading.{metadata_complete, metadata_sound}
+use Rattle.version_parts.proofs.lemmas.Chunk.{metadata_complete, metadata_sound}
 use Rattle.version_parts.proofs.laws.grammar.metadata.Goals as goal
 
 pub returns : goal.returns

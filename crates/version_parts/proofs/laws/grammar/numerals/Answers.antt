@@ -1,5 +1,10 @@
-use Rattle.version_parts.proofs.NumeralReading.{unsigned_complete, numeral_printed, unsigned_sound}
+use Rattle.version_parts.proofs.lemmas.Numeral.{unsigned_complete, numeral_printed, unsigned_sound}
 use Rattle.version_parts.proofs.laws.grammar.numerals.Goals as goal
 
 pub returns : goal.returns
-returns c = record { sound = unsigned_sound; complete = unsigned_complete; printed = numeral_printed }
+returns c = record {
+  sound =
+      unsigned_sound;
+  complete = unsigned_complete;
+  printed = numeral_printed;
+}

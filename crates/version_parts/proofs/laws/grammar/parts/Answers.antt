@@ -1,4 +1,4 @@
-use Rattle.version_parts.proofs.ChunkReading.{part_complete, part_printed, part_sound}
+use Rattle.version_parts.proofs.lemmas.Chunk.{part_complete, part_printed, part_sound}
 use Rattle.version_parts.proofs.laws.grammar.parts.Goals as goal
 
 pub returns : goal.returns

@@ -1,4 +1,4 @@
-use Rattle.version_parts.proofs.ChunkReading.{release_complete, release_printed, release_sound}
+use Rattle.version_parts.proofs.lemmas.Chunk.{release_complete, release_printed, release_sound}
 use Rattle.version_parts.proofs.laws.grammar.releases.Goals as goal
 
 pub returns : goal.returns

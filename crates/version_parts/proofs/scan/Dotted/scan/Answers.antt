@@ -1,8 +1,9 @@
 use Rattle.std.proofs.Common.{rules, arith, sym}
 use Rattle.version_parts.specs.Bytes.{dot}
 use Rattle.version_parts.specs.Front.{behind}
-use Rattle.version_parts.proofs.Dotted.{behind_dot_shrinks, unlisted}
-use Rattle.version_parts.proofs.DottedScan.{nothing_before, read_before, scanned_all, scanned_first, scanned_next}
+use Rattle.version_parts.proofs.lemmas.Front.Dotted.{behind_dot_shrinks, unlisted}
+use Rattle.version_parts.proofs.lemmas.Front.DottedScan.{nothing_before, read_before, scanned_all}
+use Rattle.version_parts.proofs.lemmas.Front.DottedScan.{scanned_first, scanned_next}
 use Rattle.version_parts.proofs.scan.Dotted.scan.Goals as goal
 
 pub returns-in_err-rest-clause-elements : goal.returns-in_err-rest-clause-elements
@@ -12,44 +13,61 @@ returns-in_err-rest-clause-elements g c =
 
 pub loop-next-init : goal.loop-next-init
 loop-next-init g c =
-    let first = read_before (g.E.Element.front c.args.i.now) c.in_ok-rest.rest.now c.in_ok-rest.ensures in
+    let first = read_before
+    (g.E.Element.front c.args.i.now) c.in_ok-rest.rest.now c.in_ok-rest.ensures in
     record {
       text = search rules;
-      scanned = scanned_first g.E.Element.front g.met.E.Element.consumes c.args.i.now first.0 c.in_ok-rest.rest.now first.1;
-      fits = omega (arith, g.met.E.Element.consumes c.args.i.now first.0 c.in_ok-rest.rest.now first.1);
+      scanned = scanned_first g.E.Element.front g.met.E.Element.consumes c.args.i.now first.0
+          c.in_ok-rest.rest.now first.1;
+      fits = omega (
+        arith,
+        g.met.E.Element.consumes c.args.i.now first.0 c.in_ok-rest.rest.now first.1,
+      );
     }
 
 pub loop-next-smaller : goal.loop-next-smaller
 loop-next-smaller g c =
-    let next = read_before (behind dot g.E.Element.front c.loop-next.rest.now) c.in-Some.after.now c.in-Some.ensures.after in
-    behind_dot_shrinks g.E.Element.front g.met.E.Element.consumes c.loop-next.rest.now next.0 c.in-Some.after.now next.1
+    let next = read_before
+    (behind dot g.E.Element.front c.loop-next.rest.now) c.in-Some.after.now
+    c.in-Some.ensures.after in
+    behind_dot_shrinks g.E.Element.front g.met.E.Element.consumes c.loop-next.rest.now next.0
+    c.in-Some.after.now next.1
 
 pub loop-next-preserved : goal.loop-next-preserved
 loop-next-preserved g c =
     let front = g.E.Element.front in
     let consumes = g.met.E.Element.consumes in
-    let next = read_before (behind dot front c.loop-next.rest.now) c.in-Some.after.now c.in-Some.ensures.after in
+    let next = read_before
+    (behind dot front c.loop-next.rest.now) c.in-Some.after.now c.in-Some.ensures.after in
     record {
       text = search rules;
-      scanned = scanned_next front consumes c.args.i.now c.loop-next.count c.loop-next.last.now c.loop-next.rest.now c.in-Some.next.now c.in-Some.after.now next.0
+      scanned = scanned_next front consumes c.args.i.now c.loop-next.count c.loop-next.last.now
+          c.loop-next.rest.now c.in-Some.next.now c.in-Some.after.now next.0
           c.loop-next.invariant.scanned c.in-Some.ensures.next next.1;
-      fits = omega (arith, c.loop-next.invariant.fits, behind_dot_shrinks front consumes c.loop-next.rest.now next.0 c.in-Some.after.now next.1);
+      fits = omega (
+        arith,
+        c.loop-next.invariant.fits,
+        behind_dot_shrinks front consumes c.loop-next.rest.now next.0 c.in-Some.after.now next.1,
+      );
     }
 
 pub returns-clause-elements : goal.returns-clause-elements
 returns-clause-elements g c =
-    let all = scanned_all g.E.Element.front g.met.E.Element.consumes c.args.i.now c.loop-next.count c.loop-next.last.now c.loop-next.rest.now
+    let all = scanned_all g.E.Element.front g.met.E.Element.consumes c.args.i.now c.loop-next.count
+    c.loop-next.last.now c.loop-next.rest.now
     c.loop-next.invariant.scanned (nothing_before _ c.in_default.ensures.after) in
     sym all.read
 
 pub returns-clause-counted : goal.returns-clause-counted
 returns-clause-counted g c =
-    let all = scanned_all g.E.Element.front g.met.E.Element.consumes c.args.i.now c.loop-next.count c.loop-next.last.now c.loop-next.rest.now
+    let all = scanned_all g.E.Element.front g.met.E.Element.consumes c.args.i.now c.loop-next.count
+    c.loop-next.last.now c.loop-next.rest.now
     c.loop-next.invariant.scanned (nothing_before _ c.in_default.ensures.after) in
     all.count_is
 
 pub returns-clause-last : goal.returns-clause-last
 returns-clause-last g c =
-    let all = scanned_all g.E.Element.front g.met.E.Element.consumes c.args.i.now c.loop-next.count c.loop-next.last.now c.loop-next.rest.now
+    let all = scanned_all g.E.Element.front g.met.E.Element.consumes c.args.i.now c.loop-next.count
+    c.loop-next.last.now c.loop-next.rest.now
     c.loop-next.invariant.scanned (nothing_before _ c.in_default.ensures.after) in
     ((all.others, all.element), all.split, all.last_is)

@@ -1,4 +1,4 @@
-use Rattle.version_texts.proofs.PartsMatch.{parts_next}
+use Rattle.version_texts.proofs.lemmas.Parts.{parts_next}
 use Rattle.version_texts.proofs.matching.parts.behind_part.Goals as goal
 
 pub returns-clause-parts : goal.returns-clause-parts

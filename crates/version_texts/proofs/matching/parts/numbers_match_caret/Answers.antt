@@ -1,7 +1,7 @@
 use Rattle.std.proofs.Common.{◌∙◌, ap, sym}
 use Rattle.std.specs.Ordering.{is_eq, is_ge}
-use Rattle.version_texts.proofs.PartsMatch.{chain, parts_begin, refused}
-use Rattle.version_texts.proofs.StrictMatch.{caret_differs, caret_of_major, caret_of_zero}
+use Rattle.version_texts.proofs.lemmas.Parts.{chain, parts_begin, refused}
+use Rattle.version_texts.proofs.lemmas.Parts.Strict.{caret_differs, caret_of_major, caret_of_zero}
 use Rattle.version_texts.proofs.matching.parts.numbers_match_caret.Goals as goal
 
 pub returns-then-begins_with_zero : goal.returns-then-begins_with_zero
@@ -13,7 +13,8 @@ returns-then-begins_with_zero c w v wanted_is numbers_are =
 pub returns-then-is_eq : goal.returns-then-is_eq
 returns-then-is_eq c w v wanted_is numbers_are =
     let other = sym c.begins_with_zero.ensures ∙ c.if-begins_with_zero.false in
-    let same = sym (c.is_eq.ensures ∙ ap is_eq c.compare_first_parts.ensures.order) ∙ c.if-is_eq.true in
+    let same = sym (c.is_eq.ensures ∙ ap is_eq c.compare_first_parts.ensures.order)
+    ∙ c.if-is_eq.true in
     let both = caret_of_major _ _ _ _ _ _ (parts_begin c.args.wanted.now)
     (parts_begin c.args.numbers.now) w v wanted_is numbers_are other same in
     rw (c.is_ge.ensures ∙ ap is_ge c.compare_parts.ensures) both
@@ -21,7 +22,8 @@ returns-then-is_eq c w v wanted_is numbers_are =
 pub returns-else-is_eq : goal.returns-else-is_eq
 returns-else-is_eq c w v wanted_is numbers_are =
     let other = sym c.begins_with_zero.ensures ∙ c.if-begins_with_zero.false in
-    let differ = sym (c.is_eq.ensures ∙ ap is_eq c.compare_first_parts.ensures.order) ∙ c.if-is_eq.false in
+    let differ = sym (c.is_eq.ensures ∙ ap is_eq c.compare_first_parts.ensures.order)
+    ∙ c.if-is_eq.false in
     let none = caret_differs _ _ _ _ _ _ (parts_begin c.args.wanted.now)
     (parts_begin c.args.numbers.now) w v wanted_is numbers_are other differ in
     rw c.if-is_eq.false (refused none)

@@ -1,8 +1,10 @@
+mod CommonParts
 use Rattle.std.proofs.Common.{◌≤◌, arith, length}
 use Rattle.std.proofs.lemmas.List.{take_more_same}
-use Rattle.version_texts.proofs.CommonParts.{dot_passed, same_text}
+use Rattle.version_texts.proofs.order.list.pass_common.Answers.CommonParts.{dot_passed, same_text}
 use Rattle.version_texts.proofs.order.list.pass_common.Goals as goal
-use Rattle.version_texts.proofs.order.list.pass_common.Goals.{then-bytes-test+else-place-y, else-bytes-test}
+use Rattle.version_texts.proofs.order.list.pass_common.Goals.{then-bytes-test+else-place-y}
+use Rattle.version_texts.proofs.order.list.pass_common.Goals.{else-bytes-test}
 
 pub bytes-preserved-then-byte-eq46 : goal.bytes-preserved-then-byte-eq46
 bytes-preserved-then-byte-eq46 c =
@@ -13,8 +15,10 @@ bytes-preserved-then-byte-eq46 c =
       behind = omega arith;
       in_x = omega arith;
       in_y = omega arith;
-      same = take_more_same x y c.bytes.place 0 c.bytes-test.true c.if-place-y.true same c.if-byte-y.false;
-      left = dot_passed x y c.bytes.place c.bytes-test.true c.if-place-y.true same c.if-byte-y.false c.if-byte-eq46.true;
+      same = take_more_same x y c.bytes.place 0 c.bytes-test.true c.if-place-y.true same
+          c.if-byte-y.false;
+      left = dot_passed x y c.bytes.place c.bytes-test.true c.if-place-y.true same c.if-byte-y.false
+          c.if-byte-eq46.true;
     }
 
 pub returns-then-x-y-clause-none : goal.returns-then-x-y-clause-none

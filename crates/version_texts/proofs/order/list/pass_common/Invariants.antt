@@ -10,7 +10,8 @@ invariant-bytes l = record {
   in_x : l.place ≤ length l.x;
   in_y : l.place ≤ length l.y;
   same : take l.place l.x ≡ take l.place l.y;
-  left : list_cmp (parts_of (drop l.start l.x)) (parts_of (drop l.start l.y)) ≡ list_cmp (parts_of l.x) (parts_of l.y);
+  left : list_cmp (parts_of (drop l.start l.x)) (parts_of (drop l.start l.y))
+      ≡ list_cmp (parts_of l.x) (parts_of l.y);
 }
 
 abbrev pub decreases-bytes : goal.decreases-bytes

@@ -5,4 +5,5 @@ use Rattle.version_texts.proofs.order.piece.first_dot.Given as goal
 
 -- no byte so far is a dot
 abbrev pub invariant-loop-place : goal.invariant-loop-place
-invariant-loop-place l = l.place + position_or_len is_dot (drop l.place l.text) ≡ position_or_len is_dot l.text
+invariant-loop-place l =
+    l.place + position_or_len is_dot (drop l.place l.text) ≡ position_or_len is_dot l.text

@@ -5,7 +5,8 @@ use Rattle.version_texts.specs.TextKey.{chunks_of}
 
 -- the chunks so far are equal, and what is left decides
 abbrev pub invariant-chunks : goal.invariant-chunks
-invariant-chunks l = release_cmp (chunks_of l.a) (chunks_of l.b) ≡ release_cmp (chunks_of l.x) (chunks_of l.y)
+invariant-chunks l =
+    release_cmp (chunks_of l.a) (chunks_of l.b) ≡ release_cmp (chunks_of l.x) (chunks_of l.y)
 
 abbrev pub decreases-chunks : goal.decreases-chunks
 decreases-chunks l = length l.a

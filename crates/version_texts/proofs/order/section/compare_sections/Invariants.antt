@@ -5,7 +5,9 @@ use Rattle.version_texts.specs.TextKey.{sections_of}
 
 -- the sections so far are equal, and what is left decides
 abbrev pub invariant-sections : goal.invariant-sections
-invariant-sections l = sections_cmp (sections_of l.a) (sections_of l.b) ≡ sections_cmp (sections_of l.x) (sections_of l.y)
+invariant-sections l =
+    sections_cmp (sections_of l.a) (sections_of l.b)
+    ≡ sections_cmp (sections_of l.x) (sections_of l.y)
 
 abbrev pub decreases-sections : goal.decreases-sections
 decreases-sections l = length l.a

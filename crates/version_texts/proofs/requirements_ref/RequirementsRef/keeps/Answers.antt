@@ -1,5 +1,5 @@
 use Rattle.std.proofs.Common.{◌∙◌, sym}
-use Rattle.version_texts.proofs.MajorText.{not_kept}
+use Rattle.version_texts.proofs.lemmas.RequirementsRef.MajorText.{not_kept}
 use Rattle.version_texts.specs.RequirementRef.{plain_requirement_ref}
 use Rattle.version_texts.specs.RequirementsRef.{from_second}
 use Rattle.version_texts.proofs.requirements_ref.RequirementsRef.keeps.Goals as goal
@@ -7,6 +7,9 @@ use Rattle.version_texts.proofs.requirements_ref.RequirementsRef.keeps.Goals as 
 pub returns-then-not-starts_with : goal.returns-then-not-starts_with
 returns-then-not-starts_with c =
     let list = c.self.inside in
-    let refused = not_kept (plain_requirement_ref list.first) (from_second list.second list.others) c.front_of.result.now
-    c.args.text.now c.front_of.ensures (sym c.starts_with.ensures.value ∙ c.if-not-starts_with.true) in
+    let refused =
+    not_kept (plain_requirement_ref list.first)
+    (from_second list.second list.others) c.front_of.result.now
+    c.args.text.now c.front_of.ensures
+    (sym c.starts_with.ensures.value ∙ c.if-not-starts_with.true) in
     rw (← c.self.view_is) (λ yes. cc yes, λ kept. absurd (refused kept))

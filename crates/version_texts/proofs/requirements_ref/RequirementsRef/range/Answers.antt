@@ -1,4 +1,4 @@
-use Rattle.versions.proofs.RangeLaws.{list_within}
+use Rattle.versions.proofs.lemmas.Range.{list_within}
 use Rattle.version_texts.proofs.requirements_ref.RequirementsRef.range.Goals as goal
 
 pub returns-clause-within : goal.returns-clause-within

@@ -1,4 +1,4 @@
-use Rattle.version_texts.proofs.Borrowed.{key-is, shape_fits}
+use Rattle.version_texts.proofs.lemmas.VersioningRef.{key-is, shape_fits}
 use Rattle.version_texts.proofs.versioning_ref.VersioningRef.append_end.Goals as goal
 
 pub append_end-requires : goal.append_end-requires

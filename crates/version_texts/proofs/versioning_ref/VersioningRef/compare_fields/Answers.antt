@@ -1,6 +1,6 @@
 use Rattle.std.proofs.Common.{sym}
 use Rattle.std.specs.Cmp.Lexicographic.{same_text}
-use Rattle.version_texts.proofs.Borrowed.{same_text-ties}
+use Rattle.version_texts.proofs.lemmas.VersioningRef.{same_text-ties}
 use Rattle.version_texts.proofs.versioning_ref.VersioningRef.compare_fields.Goals as goal
 
 pub returns-then-eq : goal.returns-then-eq

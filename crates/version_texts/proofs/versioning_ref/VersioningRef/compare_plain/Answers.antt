@@ -1,7 +1,7 @@
 use Rattle.std.proofs.Common.{◌≡◌, ◌∙◌, rules, sym}
 use Rattle.std.specs.Ordering.{nat_cmp}
-use Rattle.version_texts.proofs.Borrowed.{kind-is}
-use Rattle.version_texts.proofs.PlainOrder.{kinds_decide, strict_decides}
+use Rattle.version_texts.proofs.lemmas.VersioningRef.{kind-is}
+use Rattle.version_texts.proofs.lemmas.VersioningRef.PlainOrder.{kinds_decide, strict_decides}
 use Rattle.version_texts.proofs.versioning_ref.VersioningRef.compare_plain.Goals as goal
 
 pub returns-then-ne : goal.returns-then-ne
@@ -10,7 +10,8 @@ returns-then-ne c =
     let other = c.args.other.now in
     let a = c.rank.ensures _ (sym (kind-is _ _ self.read)) in
     let b = c.rank-then-ne.ensures _ (sym (kind-is _ _ other.read)) in
-    c.cmp.ensures ∙ (λ i. nat_cmp (a i) (b i)) ∙ kinds_decide _ _ _ _ self.read other.read (search rules)
+    c.cmp.ensures ∙ (λ i. nat_cmp (a i) (b i))
+    ∙ kinds_decide _ _ _ _ self.read other.read (search rules)
 
 pub returns-in-Ideal : goal.returns-in-Ideal
 returns-in-Ideal c =

@@ -1,5 +1,5 @@
 use Rattle.std.proofs.Common.{◌∙◌, sym}
-use Rattle.version_texts.proofs.PlainOrder.{strict_decides}
+use Rattle.version_texts.proofs.lemmas.VersioningRef.PlainOrder.{strict_decides}
 use Rattle.version_texts.proofs.versioning_ref.VersioningRef.compare_tied.Goals as goal
 
 pub returns-in-Ideal-Ideal : goal.returns-in-Ideal-Ideal

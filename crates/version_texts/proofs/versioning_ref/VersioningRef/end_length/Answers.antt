@@ -1,4 +1,4 @@
-use Rattle.version_texts.proofs.Borrowed.{key-is, shape_fits}
+use Rattle.version_texts.proofs.lemmas.VersioningRef.{key-is, shape_fits}
 use Rattle.version_texts.proofs.versioning_ref.VersioningRef.end_length.Goals as goal
 
 pub end_length-requires : goal.end_length-requires

@@ -2,13 +2,14 @@ use Rattle.std.proofs.Common.{ap, sym}
 use Rattle.std.proofs.lemmas.Bool.{ne_eqb}
 use Rattle.std.specs.Option.{option_map}
 use Rattle.version_texts.specs.Sinks.{saturated}
-use Rattle.version_texts.proofs.Borrowed.{shape_fits}
-use Rattle.version_texts.proofs.Fields.{fields_placed}
+use Rattle.version_texts.proofs.lemmas.VersioningRef.{shape_fits}
+use Rattle.version_texts.proofs.lemmas.Field.{fields_placed}
 use Rattle.version_texts.proofs.versioning_ref.VersioningRef.epoch.Goals as goal
 
 pub returns-then-self-eq0 : goal.returns-then-self-eq0
 returns-then-self-eq0 c =
-    sym (ap (option_map saturated) (rw c.if-self-eq0.true at (fields_placed _ _ c.args.self.now.read).value))
+    sym (ap (option_map saturated)
+    (rw c.if-self-eq0.true at (fields_placed _ _ c.args.self.now.read).value))
 
 pub epoch_at-requires : goal.epoch_at-requires
 epoch_at-requires c = shape_fits _ _ c.args.self.now.read
@@ -19,5 +20,6 @@ saturated_value-requires c =
 
 pub returns : goal.returns
 returns c =
-    let value = rw (ne_eqb _ 0 c.if-self-eq0.false) at (fields_placed _ _ c.args.self.now.read).value in
+    let value = rw (ne_eqb _ 0 c.if-self-eq0.false) at
+    (fields_placed _ _ c.args.self.now.read).value in
     rw (c.saturated_value.ensures, c.epoch_at.ensures) (sym (ap (option_map saturated) value))

@@ -1,4 +1,4 @@
-use Rattle.version_texts.proofs.Borrowed.{key-is, shape_fits}
+use Rattle.version_texts.proofs.lemmas.VersioningRef.{key-is, shape_fits}
 use Rattle.version_texts.proofs.versioning_ref.VersioningRef.has_key_between.Goals as goal
 
 pub key_between-requires : goal.key_between-requires

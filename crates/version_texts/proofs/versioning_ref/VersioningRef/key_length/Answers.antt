@@ -1,4 +1,4 @@
-use Rattle.version_texts.proofs.Borrowed.{key-is, shape_fits}
+use Rattle.version_texts.proofs.lemmas.VersioningRef.{key-is, shape_fits}
 use Rattle.version_texts.proofs.versioning_ref.VersioningRef.key_length.Goals as goal
 
 pub key_length-requires : goal.key_length-requires

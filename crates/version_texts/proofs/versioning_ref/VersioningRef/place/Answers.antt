@@ -1,19 +1,23 @@
 use Rattle.std.proofs.Common.{◌≡◌, arith, rules, sym}
 use Rattle.std.proofs.lemmas.Bool.{eq-eqb, le-ltb, lt-ltb, ne_eqb}
 use Rattle.version_texts.specs.declared.shape.TailKind.TheVariants as tail
-use Rattle.version_texts.proofs.Borrowed.{other_tail}
-use Rattle.version_texts.proofs.Fields.{fields_placed, no_release_tail}
+use Rattle.version_texts.proofs.lemmas.VersioningRef.{other_tail}
+use Rattle.version_texts.proofs.lemmas.Field.{fields_placed, no_release_tail}
 use Rattle.version_texts.proofs.versioning_ref.VersioningRef.place.Goals as goal
 
 pub returns-in-Epoch : goal.returns-in-Epoch
 returns-in-Epoch c =
     let placed = (fields_placed _ _ c.args.self.now.read).epoch in
-    rw c.in-Epoch.is (sym (rw (ne_eqb c.args.self.now.shape.body 0 (omega (arith, c.if-body-gt0.true))) at placed))
+    rw c.in-Epoch.is
+    (sym (rw (ne_eqb c.args.self.now.shape.body 0
+    (omega (arith, c.if-body-gt0.true))) at placed))
 
 pub returns-in_default : goal.returns-in_default
 returns-in_default c =
     let placed = (fields_placed _ _ c.args.self.now.read).epoch in
-    rw c.in-Epoch.is (sym (rw (eq-eqb c.args.self.now.shape.body 0 (omega (arith, c.if-body-gt0.false))) at placed))
+    rw c.in-Epoch.is
+    (sym (rw (eq-eqb c.args.self.now.shape.body 0
+    (omega (arith, c.if-body-gt0.false))) at placed))
 
 pub returns-in-PreRelease : goal.returns-in-PreRelease
 returns-in-PreRelease c =

@@ -1,4 +1,4 @@
-use Rattle.version_texts.proofs.Borrowed.{key-is, shape_fits}
+use Rattle.version_texts.proofs.lemmas.VersioningRef.{key-is, shape_fits}
 use Rattle.version_texts.proofs.versioning_ref.VersioningRef.put_key.Goals as goal
 
 pub put_key-requires : goal.put_key-requires

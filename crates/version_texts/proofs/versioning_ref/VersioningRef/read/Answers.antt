@@ -1,5 +1,5 @@
 use Rattle.versions.specs.VersioningRef.{plain_versioning_ref}
-use Rattle.version_texts.proofs.Borrowed.{read-is}
+use Rattle.version_texts.proofs.lemmas.VersioningRef.{read-is}
 use Rattle.version_texts.proofs.versioning_ref.VersioningRef.read.Goals as goal
 
 pub returns : goal.returns

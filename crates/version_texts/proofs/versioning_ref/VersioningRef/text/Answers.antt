@@ -2,13 +2,14 @@ use Rattle.std.proofs.Common.{◌≡◌, ◌∙◌, List, ℕ, Bor, Result, Ok, 
 use Rattle.std.specs.Prelude.{MatchResult}
 use Rattle.std.specs.Result.{IsOk}
 use Rattle.std.specs.Str.{IsUtf8}
-use Rattle.version_texts.proofs.Borrowed.{printed-is, utf8-is}
+use Rattle.version_texts.proofs.lemmas.VersioningRef.{printed-is, utf8-is}
 use Rattle.version_texts.proofs.versioning_ref.VersioningRef.text.Goals as goal
 
 module _ {E : Type 0} (Fault : E → Type 0) (text : List ℕ) where
   -- bytes that are UTF-8 are read
   is_read : (r : Result (Bor (List ℕ)) E) → IsUtf8 text
-      → MatchResult r (λ s. (s.now ≡ text) × IsUtf8 text) (λ e. (¬ (IsUtf8 text)) × Fault e) → IsOk r
+      → MatchResult r (λ s. (s.now ≡ text) × IsUtf8 text) (λ e. (¬ (IsUtf8 text)) × Fault e)
+      → IsOk r
   is_read (Ok s) utf8 read = refl
   is_read (Err e) utf8 read = absurd (read.0 utf8)
 

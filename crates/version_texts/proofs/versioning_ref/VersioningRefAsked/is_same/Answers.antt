@@ -1,4 +1,4 @@
-use Rattle.version_texts.proofs.Borrowed.{spelled}
+use Rattle.version_texts.proofs.lemmas.VersioningRef.{spelled}
 use Rattle.version_texts.proofs.versioning_ref.VersioningRefAsked.is_same.Goals as goal
 
 pub returns : goal.returns

@@ -1,6 +1,7 @@
-use Rattle.version_texts.proofs.Borrowed.{spelled}
+use Rattle.version_texts.proofs.lemmas.VersioningRef.{spelled}
 use Rattle.version_texts.proofs.versioning_ref.VersioningRefAsked.matches_caret.Goals as goal
 
 pub returns : goal.returns
 returns c =
-    c.matches_caret.ensures _ _ (spelled _ _ c.args.self.now.read).0 (spelled _ _ c.args.version.now.read).0
+    c.matches_caret.ensures _ _ (spelled _ _ c.args.self.now.read).0
+    (spelled _ _ c.args.version.now.read).0

@@ -1,4 +1,6 @@
-use Rattle.versions.proofs.VersionReading.{version_ascii, version_complete, version_of-Some, version_of-spells, version_printed, version_sound, version_unique, version_whole}
+use Rattle.versions.proofs.lemmas.Version.{version_ascii, version_complete, version_of-Some}
+use Rattle.versions.proofs.lemmas.Version.{version_of-spells, version_printed, version_sound}
+use Rattle.versions.proofs.lemmas.Version.{version_unique, version_whole}
 use Rattle.versions.proofs.laws.grammar.general_versions.Goals as goal
 
 pub returns : goal.returns

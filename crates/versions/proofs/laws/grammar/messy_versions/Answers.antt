@@ -1,4 +1,6 @@
-use Rattle.versions.proofs.MessReading.{mess_ascii, mess_complete, mess_kept, mess_of-Some, mess_of-spells, mess_printed, mess_sound, mess_unique, mess_whole}
+use Rattle.versions.proofs.lemmas.Mess.{mess_ascii, mess_complete, mess_kept, mess_of-Some}
+use Rattle.versions.proofs.lemmas.Mess.{mess_of-spells, mess_printed, mess_sound, mess_unique}
+use Rattle.versions.proofs.lemmas.Mess.{mess_whole}
 use Rattle.versions.proofs.laws.grammar.messy_versions.Goals as goal
 
 pub returns : goal.returns

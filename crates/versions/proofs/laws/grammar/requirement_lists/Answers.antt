@@ -1,4 +1,5 @@
-use Rattle.versions.proofs.RequirementsReading.{requirements_of-Some, requirements_of-spells, requirements_printed, requirements_unique}
+use Rattle.versions.proofs.lemmas.Requirements.{requirements_of-Some, requirements_of-spells}
+use Rattle.versions.proofs.lemmas.Requirements.{requirements_printed, requirements_unique}
 use Rattle.versions.proofs.laws.grammar.requirement_lists.Goals as goal
 
 pub returns : goal.returns

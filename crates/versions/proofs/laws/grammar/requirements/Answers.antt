@@ -1,4 +1,5 @@
-use Rattle.versions.proofs.RequirementReading.{requirement_of-Some, requirement_of-spells, requirement_printed, requirement_unique}
+use Rattle.versions.proofs.lemmas.Requirement.{requirement_of-Some, requirement_of-spells}
+use Rattle.versions.proofs.lemmas.Requirement.{requirement_printed, requirement_unique}
 use Rattle.versions.proofs.laws.grammar.requirements.Goals as goal
 
 pub returns : goal.returns

@@ -1,4 +1,6 @@
-use Rattle.versions.proofs.SemVerReading.{semver_ascii, semver_complete, semver_of-Some, semver_of-spells, semver_printed, semver_sound, semver_unique, semver_whole}
+use Rattle.versions.proofs.lemmas.SemVer.{semver_ascii, semver_complete, semver_of-Some}
+use Rattle.versions.proofs.lemmas.SemVer.{semver_of-spells, semver_printed, semver_sound}
+use Rattle.versions.proofs.lemmas.SemVer.{semver_unique, semver_whole}
 use Rattle.versions.proofs.laws.grammar.strict_versions.Goals as goal
 
 pub returns : goal.returns

@@ -1,4 +1,4 @@
-use Rattle.versions.proofs.Widening.{strict_is_general}
+use Rattle.versions.proofs.lemmas.Conversions.Widening.{strict_is_general}
 use Rattle.versions.proofs.laws.grammar.strict_versions_are_general.Goals as goal
 
 pub returns : goal.returns

@@ -1,4 +1,4 @@
-use Rattle.versions.proofs.RangeLaws.{list_exact, list_in}
+use Rattle.versions.proofs.lemmas.Range.{list_exact, list_in}
 use Rattle.versions.proofs.laws.matching.ranges.Goals as goal
 
 pub returns-clause-within : goal.returns-clause-within

@@ -4,4 +4,5 @@ use Rattle.versions.proofs.mess.Mess.clone.Given as goal
 
 -- the further sections that are copied, and those that remain, are all of them
 abbrev pub invariant-loop-current : goal.invariant-loop-current
-invariant-loop-current l = map plain_further l.more.items ++ (plain_mess l.current).more ≡ (plain_mess l.self).more
+invariant-loop-current l =
+    map plain_further l.more.items ++ (plain_mess l.current).more ≡ (plain_mess l.self).more

@@ -4,4 +4,6 @@ use Rattle.versions.proofs.mess.Mess.compare_plain.Given as goal
 
 -- the sections so far are equal, and what remains decides
 abbrev pub invariant-sections : goal.invariant-sections
-invariant-sections l = mess_plain_cmp (plain_mess l.a) (plain_mess l.b) ≡ mess_plain_cmp (plain_mess l.self) (plain_mess l.other)
+invariant-sections l =
+    mess_plain_cmp (plain_mess l.a) (plain_mess l.b)
+    ≡ mess_plain_cmp (plain_mess l.self) (plain_mess l.other)

@@ -7,4 +7,7 @@ use Rattle.versions.proofs.mess.MessDisplay.fmt.Given as goal
 -- what is written so far and what remains are the text
 abbrev pub invariant-loop-current : goal.invariant-loop-current
 invariant-loop-current g l = IsPlainFormatter l.fn.f
-    → (written : List ℕ) × (written ++ flat_map further_text (plain_mess l.current).more ≡ mess_text (plain_mess l.fn.self)) × HasWritten g.W.Write.write_str_gives l.fn.f written l.f
+    → (written : List ℕ)
+    × (written ++ flat_map further_text (plain_mess l.current).more
+    ≡ mess_text (plain_mess l.fn.self))
+    × HasWritten g.W.Write.write_str_gives l.fn.f written l.f

@@ -1,14 +1,15 @@
+mod MessFed
 use Rattle.std.proofs.Common.{◌∙◌, ◌≡◌}
 use Rattle.std.specs.Hash as fed
 use Rattle.std.specs.Hash.{fed_along}
 use Rattle.std.specs.List.{fold}
 use Rattle.version_parts.specs.MChunk.{mchunk_fed, plain_mchunk}
 use Rattle.version_parts.specs.Sep.{plain_sep}
-use Rattle.version_parts.proofs.Fed.{fed_plain}
+use Rattle.version_parts.proofs.lemmas.Lists.Fed.{fed_plain}
 use Rattle.versions.specs.declared.mess.Mess.TheViews.{out-Mess}
 use Rattle.versions.specs.Mess.{plain_mess, section_fed}
-use Rattle.versions.proofs.Flat.{ends, first_is, goes_on}
-use Rattle.versions.proofs.MessFed.{fed_behind, fed_further, fed_next}
+use Rattle.versions.proofs.lemmas.Mess.Flat.{ends, first_is, goes_on}
+use Rattle.versions.proofs.mess.MessHash.hash.Answers.MessFed.{fed_behind, fed_further, fed_next}
 use Rattle.versions.proofs.mess.MessHash.hash.Goals as goal
 
 pub loop-current-init : goal.loop-current-init
@@ -16,7 +17,9 @@ loop-current-init g c =
     let write = g.H.Hasher.write in
     let m = c.args.self.now in
     let first : c.hash.new.state ≡ fold write c.args.state.now (section_fed (plain_mess m).first) =
-    rw (first_is m) (fed_along write c.args.state.now c.hash.new.state (fed_plain plain_mchunk mchunk_fed (out-Mess m).chunks.items) c.hash.ensures) in
+    rw (first_is m)
+    (fed_along write c.args.state.now c.hash.new.state
+    (fed_plain plain_mchunk mchunk_fed (out-Mess m).chunks.items) c.hash.ensures) in
     fed_behind write c.args.state.now c.hash.new.state (section_fed (plain_mess m).first) _ first
 
 pub loop-current-preserved : goal.loop-current-preserved
@@ -25,13 +28,22 @@ loop-current-preserved g c =
     let section = c.in-Some.section.value in
     let here : c.deref.result.now ≡ section = c.deref.ensures in
     let next : c.deref-current.result.now ≡ section = c.deref-current.ensures in
-    let chunks : c.hash-in-Some-2.new.state ≡ fold write c.hash-in-Some.new.state (section_fed (plain_mess section).first) =
+    let chunks : c.hash-in-Some-2.new.state
+    ≡ fold write c.hash-in-Some.new.state (section_fed (plain_mess section).first) =
     rw (← here) (rw (first_is c.deref.result.now)
-    (fed_along write c.hash-in-Some.new.state c.hash-in-Some-2.new.state (fed_plain plain_mchunk mchunk_fed (out-Mess c.deref.result.now).chunks.items) c.hash-in-Some-2.ensures)) in
-    let one = fed_further write c.loop-current.state c.write_u8.new.self c.hash-in-Some.new.state c.hash-in-Some-2.new.state (plain_sep c.in-Some.sign) (plain_mess section).first
+    (fed_along write c.hash-in-Some.new.state c.hash-in-Some-2.new.state
+    (fed_plain plain_mchunk mchunk_fed (out-Mess c.deref.result.now).chunks.items)
+    c.hash-in-Some-2.ensures)) in
+    let one = fed_further write c.loop-current.state c.write_u8.new.self c.hash-in-Some.new.state
+    c.hash-in-Some-2.new.state (plain_sep c.in-Some.sign) (plain_mess section).first
     c.write_u8.ensures c.hash-in-Some.ensures chunks in
-    let left = rw (goes_on c.loop-current.current.now c.in-Some.sign c.in-Some.section c.in-Some.is) at c.loop-current.invariant in
-    rw next (fed_next write c.loop-current.state c.hash-in-Some-2.new.state (plain_sep c.in-Some.sign, (plain_mess section).first) (plain_mess section).more (fed.u8 0) one ∙ left)
+    let left = rw (goes_on c.loop-current.current.now c.in-Some.sign c.in-Some.section
+    c.in-Some.is) at c.loop-current.invariant in
+    rw next (fed_next write c.loop-current.state c.hash-in-Some-2.new.state
+    (plain_sep c.in-Some.sign, (plain_mess section).first) (plain_mess section).more
+    (fed.u8 0) one ∙ left)
 
 pub returns : goal.returns
-returns g c = c.write_u8-2.ensures ∙ rw (ends c.loop-current.current.now c.in_default.is) at c.loop-current.invariant
+returns g c =
+    c.write_u8-2.ensures
+    ∙ rw (ends c.loop-current.current.now c.in_default.is) at c.loop-current.invariant

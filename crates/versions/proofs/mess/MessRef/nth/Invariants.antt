@@ -9,7 +9,8 @@ use Rattle.versions.proofs.mess.MessRef.nth.Given as goal
 abbrev pub invariant-sections : goal.invariant-sections
 invariant-sections l = record {
   text : shadow (Utf8 l.rest);
-  left : behind_colons (unwrap_or l.behind l.self.first) (further_in l.rest) ≡ behind_colons l.self.first (further_in l.self.rest.now);
+  left : behind_colons (unwrap_or l.behind l.self.first) (further_in l.rest)
+      ≡ behind_colons l.self.first (further_in l.self.rest.now);
 }
 
 abbrev pub decreases-sections : goal.decreases-sections

@@ -1,8 +1,9 @@
 use Rattle.versions.specs.Requirement.{SpellsRequirement, requirement_of, requirement_text}
-use Rattle.versions.proofs.JsonReading.{written_again}
-use Rattle.versions.proofs.RequirementReading.{requirement_of-spells, requirement_printed}
+use Rattle.versions.proofs.lemmas.Json.{written_again}
+use Rattle.versions.proofs.lemmas.Requirement.{requirement_of-spells, requirement_printed}
 use Rattle.versions.proofs.requirement.Requirement.deserialize.Goals as goal
 
 pub returns-clause-written : goal.returns-clause-written
 returns-clause-written c =
-    written_again SpellsRequirement requirement_of requirement_of-spells requirement_text requirement_printed _ _ _ c.in_ok-text_of.ensures c.in_ok-from_str.ensures
+    written_again SpellsRequirement requirement_of requirement_of-spells requirement_text
+    requirement_printed _ _ _ c.in_ok-text_of.ensures c.in_ok-from_str.ensures

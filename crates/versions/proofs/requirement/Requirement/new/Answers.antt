@@ -1,16 +1,27 @@
-use Rattle.version_parts.proofs.WholeReading.{clause_memory, clause_printed, clause_read, clause_spelled}
-use Rattle.versions.specs.Requirement.{RequirementOwns, SpellsRequirement, plain_requirement, requirement_of, requirement_text}
-use Rattle.versions.proofs.RequirementReading.{requirement_of-Some, requirement_of-spells, requirement_printed}
+use Rattle.version_parts.proofs.lemmas.Reading.{clause_memory, clause_printed, clause_read}
+use Rattle.version_parts.proofs.lemmas.Reading.{clause_spelled}
+use Rattle.versions.specs.Requirement.{RequirementOwns, SpellsRequirement, plain_requirement}
+use Rattle.versions.specs.Requirement.{requirement_of, requirement_text}
+use Rattle.versions.proofs.lemmas.Requirement.{requirement_of-Some, requirement_of-spells}
+use Rattle.versions.proofs.lemmas.Requirement.{requirement_printed}
 use Rattle.versions.proofs.requirement.Requirement.new.Goals as goal
 
 pub returns-clause-spelled : goal.returns-clause-spelled
-returns-clause-spelled c = clause_spelled plain_requirement SpellsRequirement requirement_of requirement_of-spells requirement_of-Some c.args.s.now _ c.read_whole.ensures.ok
+returns-clause-spelled c =
+    clause_spelled plain_requirement SpellsRequirement requirement_of requirement_of-spells
+    requirement_of-Some c.args.s.now _ c.read_whole.ensures.ok
 
 pub returns-clause-printed : goal.returns-clause-printed
-returns-clause-printed c = clause_printed plain_requirement SpellsRequirement requirement_of requirement_of-spells requirement_of-Some requirement_text requirement_printed c.args.s.now _ c.read_whole.ensures.ok
+returns-clause-printed c =
+    clause_printed plain_requirement SpellsRequirement requirement_of requirement_of-spells
+    requirement_of-Some requirement_text requirement_printed c.args.s.now _ c.read_whole.ensures.ok
 
 pub returns-clause-read : goal.returns-clause-read
-returns-clause-read c = clause_read plain_requirement SpellsRequirement requirement_of requirement_of-spells requirement_of-Some c.args.s.now _ c.read_whole.ensures.ok
+returns-clause-read c =
+    clause_read plain_requirement SpellsRequirement requirement_of requirement_of-spells
+    requirement_of-Some c.args.s.now _ c.read_whole.ensures.ok
 
 pub returns-clause-memory : goal.returns-clause-memory
-returns-clause-memory c = clause_memory plain_requirement SpellsRequirement requirement_of requirement_of-spells requirement_of-Some RequirementOwns c.args.s.now _ c.read_whole.ensures.err
+returns-clause-memory c =
+    clause_memory plain_requirement SpellsRequirement requirement_of requirement_of-spells
+    requirement_of-Some RequirementOwns c.args.s.now _ c.read_whole.ensures.err

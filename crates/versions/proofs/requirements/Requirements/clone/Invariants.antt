@@ -4,4 +4,6 @@ use Rattle.versions.proofs.requirements.Requirements.clone.Given as goal
 
 -- the members so far are copied
 abbrev pub invariant-loop-requirement : goal.invariant-loop-requirement
-invariant-loop-requirement l = map plain_requirement l.copy.items ≡ map plain_requirement (take l.requirement-index l.requirement-items)
+invariant-loop-requirement l =
+    map plain_requirement l.copy.items
+    ≡ map plain_requirement (take l.requirement-index l.requirement-items)

@@ -1,20 +1,26 @@
 use Rattle.std.proofs.Common.{Ok, Err}
 use Rattle.std.proofs.lemmas.Result.{err_from_is_err_and}
 use Rattle.versions.specs.Errors.{IllegalOp}
-use Rattle.versions.specs.Requirements.{SpellsRequirements, plain_requirements, requirements_of, requirements_text}
-use Rattle.versions.proofs.JsonReading.{reads_json, written_again}
-use Rattle.versions.proofs.RequirementsReading.{requirements_of-spells, requirements_printed}
+use Rattle.versions.specs.Requirements.{SpellsRequirements, plain_requirements, requirements_of}
+use Rattle.versions.specs.Requirements.{requirements_text}
+use Rattle.versions.proofs.lemmas.Json.{reads_json, written_again}
+use Rattle.versions.proofs.lemmas.Requirements.{requirements_of-spells, requirements_printed}
 use Rattle.versions.proofs.requirements.Requirements.deserialize.Goals as goal
 
 pub returns-in_err-from_str-clause-read : goal.returns-in_err-from_str-clause-read
 returns-in_err-from_str-clause-read c =
-    let p = err_from_is_err_and c.from_residual-in_err-from_str.result c.from_residual-in_err-from_str.ensures.1 in
+    let p = err_from_is_err_and c.from_residual-in_err-from_str.result
+    c.from_residual-in_err-from_str.ensures.1 in
     rw (rw p.2 at p.1)
-    (reads_json plain_requirements (λ _. Unit {0}) (λ text. IllegalOp text) requirements_of _ _ (Err c.in_err-from_str.field-0.0) c.in_ok-text_of.ensures c.in_err-from_str.ensures)
+    (reads_json plain_requirements (λ _. Unit {0}) (λ text. IllegalOp text) requirements_of _ _
+    (Err c.in_err-from_str.field-0.0) c.in_ok-text_of.ensures c.in_err-from_str.ensures)
 
 pub returns-clause-read : goal.returns-clause-read
-returns-clause-read c = reads_json plain_requirements (λ _. Unit {0}) (λ text. IllegalOp text) requirements_of _ _ (Ok c.in_ok-from_str.field-0) c.in_ok-text_of.ensures c.in_ok-from_str.ensures
+returns-clause-read c =
+    reads_json plain_requirements (λ _. Unit {0}) (λ text. IllegalOp text) requirements_of _ _
+    (Ok c.in_ok-from_str.field-0) c.in_ok-text_of.ensures c.in_ok-from_str.ensures
 
 pub returns-clause-written : goal.returns-clause-written
 returns-clause-written c =
-    written_again SpellsRequirements requirements_of requirements_of-spells requirements_text requirements_printed _ _ _ c.in_ok-text_of.ensures c.in_ok-from_str.ensures
+    written_again SpellsRequirements requirements_of requirements_of-spells requirements_text
+    requirements_printed _ _ _ c.in_ok-text_of.ensures c.in_ok-from_str.ensures

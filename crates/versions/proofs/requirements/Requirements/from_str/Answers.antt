@@ -2,7 +2,7 @@ use Rattle.std.proofs.Common.{rules}
 use Rattle.std.proofs.lemmas.Result.{err_from_is_err_and}
 use Rattle.versions.specs.Errors.{IllegalOp}
 use Rattle.versions.specs.Requirements.{plain_requirements}
-use Rattle.versions.proofs.FromText.{reads_or}
+use Rattle.versions.proofs.lemmas.Errors.FromText.{reads_or}
 use Rattle.versions.proofs.requirements.Requirements.from_str.Goals as goal
 
 pub returns-in_err-read_whole : goal.returns-in_err-read_whole
@@ -12,5 +12,6 @@ returns-in_err-read_whole c =
 
 pub returns : goal.returns
 returns c =
-    reads_or plain_requirements (λ list. Unit {0}) (IllegalOp c.args.s.now) _ _ _ c.in_ok-read_whole.ensures.ok c.or_illegal.ensures.some
+    reads_or plain_requirements (λ list. Unit {0})
+    (IllegalOp c.args.s.now) _ _ _ c.in_ok-read_whole.ensures.ok c.or_illegal.ensures.some
     (c.or_illegal.ensures.none (IllegalOp c.args.s.now) (λ text error same made. search rules))

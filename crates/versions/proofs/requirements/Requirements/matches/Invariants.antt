@@ -7,4 +7,6 @@ use Rattle.versions.proofs.requirements.Requirements.matches.Given as goal
 
 -- the members so far match the version
 abbrev pub invariant-loop-requirement : goal.invariant-loop-requirement
-invariant-loop-requirement l = All (λ r. Matches (plain_requirement r) (plain_versioning l.version)) (take l.requirement-index l.requirement-items)
+invariant-loop-requirement l =
+    All (λ r. Matches (plain_requirement r) (plain_versioning l.version))
+    (take l.requirement-index l.requirement-items)

@@ -1,16 +1,20 @@
-use Rattle.versions.proofs.Answered.{along}
-use Rattle.versions.proofs.KeyConversion.{strict_as_messy}
-use Rattle.versions.proofs.MessConversion.{mess_of_semver_printed}
+use Rattle.versions.proofs.lemmas.Errors.Answered.{along}
+use Rattle.versions.proofs.lemmas.Conversions.Key.{strict_as_messy}
+use Rattle.versions.proofs.lemmas.Conversions.Mess.{mess_of_semver_printed}
 use Rattle.versions.proofs.semver.SemVer.to_mess.Goals as goal
 use Rattle.versions.specs.Key.{key_of_mess, key_of_semver, precedence}
 use Rattle.versions.specs.Mess.{mess_text, plain_mess}
 use Rattle.versions.specs.SemVer.{plain_semver}
 
 pub returns-clause-printed : goal.returns-clause-printed
-returns-clause-printed c = along plain_mess mess_text c.convert_strict.result c.convert_strict.ensures (mess_of_semver_printed (plain_semver c.args.self.now))
+returns-clause-printed c =
+    along plain_mess mess_text c.convert_strict.result c.convert_strict.ensures
+    (mess_of_semver_printed (plain_semver c.args.self.now))
 
 pub returns-clause-precedence : goal.returns-clause-precedence
 returns-clause-precedence c =
     let v = plain_semver c.args.self.now in
     let small = c.numbers_fit.ensures in
-    along plain_mess (λ m. precedence (key_of_semver v) (key_of_mess m)) c.convert_strict.result c.convert_strict.ensures (strict_as_messy v small.0 small.1 small.2)
+    along plain_mess
+    (λ m. precedence (key_of_semver v) (key_of_mess m)) c.convert_strict.result
+    c.convert_strict.ensures (strict_as_messy v small.0 small.1 small.2)

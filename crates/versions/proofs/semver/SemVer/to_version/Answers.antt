@@ -1,5 +1,5 @@
-use Rattle.versions.proofs.Answered.{along}
-use Rattle.versions.proofs.KeyConversion.{strict_as_general}
+use Rattle.versions.proofs.lemmas.Errors.Answered.{along}
+use Rattle.versions.proofs.lemmas.Conversions.Key.{strict_as_general}
 use Rattle.versions.proofs.semver.SemVer.to_version.Goals as goal
 use Rattle.versions.specs.Key.{key_of_semver, key_of_version, precedence}
 use Rattle.versions.specs.SemVer.{plain_semver}
@@ -9,4 +9,6 @@ pub returns-clause-precedence : goal.returns-clause-precedence
 returns-clause-precedence c =
     let v = plain_semver c.args.self.now in
     let small = c.numbers_fit.ensures in
-    along plain_version (λ g. precedence (key_of_semver v) (key_of_version g)) c.widen.result c.widen.ensures (strict_as_general v small.0 small.1 small.2)
+    along plain_version
+    (λ g. precedence (key_of_semver v) (key_of_version g)) c.widen.result c.widen.ensures
+    (strict_as_general v small.0 small.1 small.2)

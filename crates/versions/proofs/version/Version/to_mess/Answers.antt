@@ -1,15 +1,19 @@
-use Rattle.versions.proofs.Answered.{along}
-use Rattle.versions.proofs.KeyConversion.{general_as_messy}
-use Rattle.versions.proofs.MessConversion.{mess_of_version_printed}
+use Rattle.versions.proofs.lemmas.Errors.Answered.{along}
+use Rattle.versions.proofs.lemmas.Conversions.Key.{general_as_messy}
+use Rattle.versions.proofs.lemmas.Conversions.Mess.{mess_of_version_printed}
 use Rattle.versions.proofs.version.Version.to_mess.Goals as goal
 use Rattle.versions.specs.Key.{key_of_mess, key_of_version, precedence}
 use Rattle.versions.specs.Mess.{mess_text, plain_mess}
 use Rattle.versions.specs.Version.{plain_version}
 
 pub returns-clause-printed : goal.returns-clause-printed
-returns-clause-printed c = along plain_mess mess_text c.convert_general.result c.convert_general.ensures (mess_of_version_printed (plain_version c.args.self.now))
+returns-clause-printed c =
+    along plain_mess mess_text c.convert_general.result c.convert_general.ensures
+    (mess_of_version_printed (plain_version c.args.self.now))
 
 pub returns-clause-precedence : goal.returns-clause-precedence
 returns-clause-precedence c =
     let v = plain_version c.args.self.now in
-    along plain_mess (λ m. precedence (key_of_version v) (key_of_mess m)) c.convert_general.result c.convert_general.ensures (general_as_messy v c.epoch_fits.ensures)
+    along plain_mess
+    (λ m. precedence (key_of_version v) (key_of_mess m)) c.convert_general.result
+    c.convert_general.ensures (general_as_messy v c.epoch_fits.ensures)

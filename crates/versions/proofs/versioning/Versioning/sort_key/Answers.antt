@@ -1,7 +1,9 @@
-use Rattle.versions.proofs.SortKey.{stays_apart}
+mod SortKey
+use Rattle.versions.proofs.versioning.Versioning.sort_key.Answers.SortKey.{stays_apart}
 use Rattle.versions.proofs.versioning.Versioning.sort_key.Goals as goal
 use Rattle.versions.specs.Key.{key_of}
 use Rattle.versions.specs.Versioning.{plain_versioning}
 
 pub returns-clause-followed : goal.returns-clause-followed
-returns-clause-followed c = stays_apart c.key_list.result (key_of (plain_versioning c.args.self.now)) c.key_list.ensures
+returns-clause-followed c =
+    stays_apart c.key_list.result (key_of (plain_versioning c.args.self.now)) c.key_list.ensures

@@ -1,0 +1,97 @@
+-- Runs of bytes at the start of a text, and where a text may be cut.
+use Rattle.std.proofs.Common.{◌≡◌, ◌==◌, ◌+◌, ◌++◌, ◌∙◌, ℕ, ◌<◌, ◌≤◌, Bool, true, false, List}
+use Rattle.std.proofs.Common.{length, take, refl, sym, ap, Some, arith, inl, inr, lit<}
+use Rattle.std.proofs.lemmas.Bool.{cases_lt, eq-eqb, ne_eqb}
+use Rattle.std.proofs.lemmas.Bool.Decides.{nat_tests}
+use Rattle.std.proofs.lemmas.List.{get_or-take, get_or_past, length-take-le}
+use Rattle.std.proofs.lemmas.List.Folds.{prefix_len-append}
+use Rattle.std.proofs.lemmas.List.Sums.{prefix_len-le-length, prefix_len_passes}
+use Rattle.std.proofs.lemmas.Str.{IsCharBoundary-from_take, IsUtf8-from_ascii}
+use Rattle.std.specs.List.{prefix_len}
+use Rattle.std.specs.Str.{IsAscii, IsCharBoundary, IsUtf8}
+use Rattle.std.specs.Char.{is_ascii_alphabetic, is_ascii_alphanumeric, is_ascii_digit}
+use Rattle.version_parts.specs.Bytes.{is_identifier_byte, is_metadata_byte}
+use Rattle.version_parts.specs.Class.{contains}
+use Rattle.version_parts.specs.Sep.{PlainSep, sep_of}
+use Rattle.version_parts.specs.declared.scan.Class.{Class}
+use Rattle.version_parts.specs.declared.scan.Class.TheVariants.{Digit, Letter, Alphanumeric}
+use Rattle.version_parts.specs.declared.scan.Class.TheVariants.{Identifier, Metadata}
+
+pub digit_ascii : (b : ℕ) → is_ascii_digit b ≡ true → b < 128
+digit_ascii b h = grind (arith, nat_tests)
+
+pub alphanumeric_ascii : (b : ℕ) → is_ascii_alphanumeric b ≡ true → b < 128
+alphanumeric_ascii b h = grind (arith, nat_tests)
+
+pub letter_ascii : (b : ℕ) → is_ascii_alphabetic b ≡ true → b < 128
+letter_ascii b h = grind (arith, nat_tests)
+
+pub identifier_ascii : (b : ℕ) → is_identifier_byte b ≡ true → b < 128
+identifier_ascii b h = grind (arith, nat_tests)
+
+pub metadata_ascii : (b : ℕ) → is_metadata_byte b ≡ true → b < 128
+metadata_ascii b h = grind (arith, nat_tests)
+
+-- a class has bytes of ASCII alone
+pub contains_ascii : (class : Class) (b : ℕ) → contains class b ≡ true → b < 128
+contains_ascii Digit b h = digit_ascii b h
+contains_ascii Letter b h = letter_ascii b h
+contains_ascii Alphanumeric b h = alphanumeric_ascii b h
+contains_ascii Identifier b h = identifier_ascii b h
+contains_ascii Metadata b h = metadata_ascii b h
+
+-- a run of a class is ASCII
+pub run_ascii : (class : Class) (text : List ℕ)
+    → IsAscii (take (prefix_len (contains class) text) text)
+run_ascii class text i =
+    let n = prefix_len (contains class) text in
+    let fits : n ≤ length text = prefix_len-le-length (contains class) text in
+    elim (cases_lt i n) [
+      | inl inside ↦
+          rw get_or-take
+          (contains_ascii class _ (prefix_len_passes (contains class) text i 0 inside))
+      | inr past ↦
+          let long : length (take n text) ≤ i = rw (length-take-le n text fits) past in
+          rw (get_or_past (take n text) i 0 long) (omega arith)
+    ]
+
+-- a text may be cut after a run
+pub run_boundary : (class : Class) (text : List ℕ) → IsUtf8 text
+    → IsCharBoundary text (prefix_len (contains class) text)
+run_boundary class text utf8 =
+    let fits = prefix_len-le-length (contains class) text in
+    IsCharBoundary-from_take text _ utf8 fits (IsUtf8-from_ascii _ (run_ascii class text))
+
+-- a sign is ASCII
+pub sep_ascii : (b : ℕ) (sign : PlainSep) → sep_of b ≡ Some sign → b < 128
+sep_ascii b sign e = elim (cases_lt b 128) [
+  | inl low ↦ low
+  | inr high ↦
+      let apart = λ (mark : ℕ) (fits : mark < 128). ne_eqb b mark (omega arith) in
+      cc (rw (
+        apart 58 (lit< tt),
+        apart 45 (lit< tt),
+        apart 43 (lit< tt),
+        apart 95 (lit< tt),
+        apart 126 (lit< tt),
+      ) at e)
+]
+
+-- ---- the run at the start of two texts in turn
+
+-- a run that ends within the first piece
+pub run_within : (test : ℕ → Bool) (xs ys : List ℕ) → prefix_len test xs < length xs
+    → prefix_len test (xs ++ ys) ≡ prefix_len test xs
+run_within test xs ys ends =
+    let apart : (prefix_len test xs == length xs) ≡ false = ne_eqb _ _ (omega arith) in
+    prefix_len-append test xs ys ∙ rw apart refl
+
+-- a run that goes on after it
+pub run_across : (test : ℕ → Bool) (xs ys : List ℕ) → length xs ≤ prefix_len test xs
+    → prefix_len test (xs ++ ys) ≡ prefix_len test xs + prefix_len test ys
+run_across test xs ys goes_on =
+    let whole : prefix_len test xs ≡ length xs = omega (arith, prefix_len-le-length test xs) in
+    let same : (prefix_len test xs == length xs) ≡ true = eq-eqb _ _ whole in
+    prefix_len-append test xs ys ∙ rw same (ap (λ n. n + prefix_len test ys) (sym whole))
+
+pub ruleset runs_of_two = (prefix_len-le-length, run_within, run_across)

@@ -1,0 +1,13 @@
+pub mod Bounds
+pub mod Class
+pub mod Field
+pub mod General
+pub mod Matching
+pub mod Parts
+pub mod Piece
+pub mod RequirementsRef
+pub mod Shape
+pub mod Sinks
+pub mod TextKey
+pub mod TextKind
+pub mod VersioningRef

@@ -1,0 +1,196 @@
+-- Whether three plain numbers match, as numbers and as lists of parts.
+use Rattle.std.proofs.Common.{◌≡◌, ◌↔◌, ◌⊎◌, ◌∙◌, ◌<◌, ◌≤◌, ◌==◌, ℕ, suc, zero, true, false, List}
+use Rattle.std.proofs.Common.{[], ◌∷◌, Some, IsTrue, ap, arith, inl, inr, refl, sym}
+use Rattle.std.proofs.Math.Dec.{eqb-suc-zero}
+use Rattle.std.specs.Bool.{MatchBool, ⊤}
+use Rattle.std.specs.Cmp.{Equal-is, nat_cmp_is}
+use Rattle.std.specs.Ordering.{is_eq, is_ge, nat_cmp, ordering_then}
+use Rattle.std.specs.declared.cmp.Ordering.{Ordering}
+use Rattle.std.specs.declared.cmp.Ordering.TheVariants.{Less, Equal, Greater}
+use Rattle.version_parts.proofs.lemmas.NumberBytes.{above, below}
+use Rattle.version_parts.specs.OrderLaws.{then_equal}
+use Rattle.version_parts.specs.PartKey.{PartKey, list_cmp, part_cmp}
+use Rattle.versions.proofs.lemmas.VersionMatch.{at_the_end, first_same}
+use Rattle.versions.specs.Key.{plain, strict_body}
+use Rattle.versions.specs.SemVerMatch.{MatchesCaret, MatchesMinor, MatchesTilde, Numbers}
+use Rattle.versions.specs.VersionMatch.{IsNotBelow, PartsMatchCaret, PartsMatchTilde, is_plain_zero}
+
+-- plain numbers compare by value
+plain_cmp : (m n : ℕ) → part_cmp (Some (plain m)) (Some (plain n)) ≡ nat_cmp m n
+plain_cmp m n = then_equal (nat_cmp m n)
+
+plain_same : (m n : ℕ) → plain m ≡ plain n → m ≡ n
+plain_same m n e = cc e
+
+-- how two numbers lie
+three_ways : (m n : ℕ) → (m < n) ⊎ ((m ≡ n) ⊎ (n < m))
+three_ways m n = grind (arith)
+
+-- a number is not before another exactly if it is not less
+not_below : (m n : ℕ) → IsNotBelow (plain m) (plain n) ↔ (m ≤ n)
+not_below m n = elim (three_ways n m) [
+  | inl less ↦ (λ above. absurd (above (plain_cmp n m ∙ below n m less)), λ e. absurd (omega arith))
+  | inr (inl same) ↦ (
+    λ e. omega arith,
+    λ e less. let there =
+        sym (nat_cmp_is n m Equal same) in cc (plain_cmp n m ∙ there, less),
+  )
+  | inr (inr more) ↦
+      (λ e. omega arith, λ e less. let there = above n m more in cc (plain_cmp n m ∙ there, less))
+]
+
+-- ---- a tilde
+
+pub tilde_of_numbers : (a b c x y z : ℕ)
+    → PartsMatchTilde (strict_body a b c) (strict_body x y z) ↔ MatchesTilde (a, b, c) (x, y, z)
+tilde_of_numbers a b c x y z = (
+  λ match.
+      let majors =
+      (first_same (plain a) (plain x) (plain b) (plain y) (plain c ∷ []) (plain z ∷ [])).0 match in
+      let minors = (first_same (plain b) (plain y) (plain c) (plain z) [] []).0 majors.1 in
+      let patch : IsTrue (is_ge (part_cmp (Some (plain z)) (Some (plain c)))) =
+      (at_the_end {all_wanted = []} {all = []} (plain c) (plain z) refl refl).1 minors.1 in
+      (plain_same a x majors.0, plain_same b y minors.0, (not_below c z).0 (ge_not_less _ patch)),
+  λ match.
+      let patch =
+      (at_the_end {all_wanted = []} {all = []} (plain c) (plain z) refl refl).0
+      (not_less_ge _ ((not_below c z).1 match.2)) in
+      let minors =
+      (first_same (plain b) (plain y) (plain c) (plain z) [] []).1 (ap plain match.1, patch) in
+      (first_same (plain a) (plain x) (plain b) (plain y) (plain c ∷ []) (plain z ∷ [])).1
+      (ap plain match.0, minors),
+)
+  where
+    ge_not_less : (o : Ordering) → IsTrue (is_ge o) → ¬ (o ≡ Less)
+    ge_not_less Less e less = cc e
+    ge_not_less Equal e less = cc less
+    ge_not_less Greater e less = cc less
+
+    not_less_ge : (o : Ordering) → ¬ (o ≡ Less) → IsTrue (is_ge o)
+    not_less_ge Less above = absurd (above refl)
+    not_less_ge Equal above = refl
+    not_less_ge Greater above = refl
+
+-- ---- a caret
+
+no_zero : (n : ℕ) → ¬ (plain 0 ≡ plain (suc n))
+no_zero n e = absurd (omega (arith, plain_same 0 (suc n) e))
+
+last_free : (n : ℕ) → MatchBool (is_plain_zero (plain n)) ⊤ ⊤
+last_free zero = tt
+last_free (suc n) = tt
+
+-- behind a major of 0: equal patches if both minors are 0, else equal minors and a patch that is
+-- not less
+minors_caret : (b c y z : ℕ) → PartsMatchCaret (plain b ∷ plain c ∷ []) (plain y ∷ plain z ∷ [])
+    ↔ MatchesCaret (0, b, c) (0, y, z)
+minors_caret zero c zero z =
+    (λ match. plain_same c z match.1.0, λ e. (refl, (ap plain e, last_free c)))
+minors_caret zero c (suc y) z =
+    rw (eqb-suc-zero y)
+    (λ match. absurd (no_zero y match.0), λ match. absurd (omega (arith, match.0)))
+minors_caret (suc b) c y z = rw (eqb-suc-zero b) (
+  λ match. (plain_same (suc b) y match.0, (not_below c z).0 match.1.0),
+  λ match. (ap plain match.0, ((not_below c z).1 match.1, tt)),
+)
+
+majors_caret : (b c x y z : ℕ)
+    → PartsMatchCaret (strict_body 0 b c) (strict_body x y z) ↔ MatchesCaret (0, b, c) (x, y, z)
+majors_caret b c zero y z =
+    let minors = minors_caret b c y z in
+    (λ match. minors.0 match.1, λ match. (refl, minors.1 match))
+majors_caret b c (suc x) y z =
+    rw (eqb-suc-zero x)
+    (λ match. absurd (no_zero x match.0), λ match. absurd (omega (arith, match.0)))
+
+-- a minor and patch are not less
+pairs_not_less : (b c y z : ℕ)
+    → IsTrue (is_ge (ordering_then (nat_cmp y b) (nat_cmp z c)))
+    ↔ ((b < y) ⊎ MatchesMinor (0, b, c) (0, y, z))
+pairs_not_less b c y z = elim (three_ways y b) [
+  | inl less ↦ rw (below y b less) (
+    λ e. cc e,
+    λ more. elim more [
+      | inl above ↦ absurd (omega arith)
+      | inr same ↦ absurd (omega (arith, same.0))
+    ],
+  )
+  | inr (inl same) ↦ rw (sym (nat_cmp_is y b Equal same)) (elim (three_ways z c) [
+    | inl less ↦ rw (below z c less) (
+      λ e. cc e,
+      λ more. elim more [
+        | inl above ↦ absurd (omega arith)
+        | inr minor ↦ absurd (omega (arith, minor.1))
+      ],
+    )
+    | inr (inl tied) ↦
+        rw (sym (nat_cmp_is z c Equal tied)) (λ e. inr (sym same, omega arith), λ more. refl)
+    | inr (inr more) ↦ rw (above z c more) (λ e. inr (sym same, omega arith), λ more. refl)
+  ])
+  | inr (inr more) ↦ rw (above y b more) (λ e. inl more, λ more. refl)
+]
+
+bodies_cmp : (a b c x y z : ℕ) → list_cmp (strict_body x y z) (strict_body a b c)
+    ≡ ordering_then (nat_cmp x a) (ordering_then (nat_cmp y b) (nat_cmp z c))
+bodies_cmp a b c x y z = simp then_equal
+
+is_zero : (n : ℕ) → is_plain_zero (plain n) ≡ true → n ≡ 0
+is_zero zero e = refl
+is_zero (suc n) e = cc e
+
+no_plain_zero : (n : ℕ) → is_plain_zero (plain n) ≡ false → (n == 0) ≡ false
+no_plain_zero zero e = cc e
+no_plain_zero (suc n) e = eqb-suc-zero n
+
+-- two bodies of three plain numbers, by their first parts
+module _ (all_wanted all : List PartKey) (w p : PartKey) (wanted_more more : List PartKey)
+    (wanted_is : all_wanted ≡ w ∷ wanted_more) (all_is : all ≡ p ∷ more)
+    (wanted v : Numbers) (wanted_numbers : all_wanted ≡ strict_body wanted.0 wanted.1 wanted.2)
+    (numbers : all ≡ strict_body v.0 v.1 v.2) where
+  first_wanted : w ≡ plain wanted.0
+  first_wanted = cc (sym wanted_is ∙ wanted_numbers)
+
+  first : p ≡ plain v.0
+  first = cc (sym all_is ∙ numbers)
+
+  -- the wanted major is 0
+  pub caret_of_zero : is_plain_zero w ≡ true
+      → PartsMatchCaret all_wanted all ↔ MatchesCaret wanted v
+  caret_of_zero is_none =
+      let none = is_zero wanted.0 (rw first_wanted at is_none) in
+      let both = majors_caret wanted.1 wanted.2 v.0 v.1 v.2 in
+      rw (wanted_numbers, numbers, none) both
+
+  -- the majors differ
+  pub caret_differs : is_plain_zero w ≡ false → is_eq (part_cmp (Some p) (Some w)) ≡ false
+      → ¬ MatchesCaret wanted v
+  caret_differs other differ =
+      rw (no_plain_zero wanted.0 (rw first_wanted at other)) (λ match.
+      let tied : part_cmp (Some p) (Some w) ≡ Equal =
+      rw (first_wanted, first)
+      (plain_cmp v.0 wanted.0 ∙ sym (nat_cmp_is v.0 wanted.0 Equal (sym match.0))) in
+      cc (rw tied at differ))
+
+  -- they are equal
+  pub caret_of_major : is_plain_zero w ≡ false → is_eq (part_cmp (Some p) (Some w)) ≡ true
+      → IsTrue (is_ge (list_cmp all all_wanted)) ↔ MatchesCaret wanted v
+  caret_of_major other same =
+      let tied : nat_cmp v.0 wanted.0 ≡ Equal =
+      sym (plain_cmp v.0 wanted.0)
+      ∙ (λ i. part_cmp (Some (sym first i)) (Some (sym first_wanted i))) ∙ (Equal-is _).0 same in
+      let order : list_cmp all all_wanted
+      ≡ ordering_then (nat_cmp v.1 wanted.1) (nat_cmp v.2 wanted.2) =
+      (λ i. list_cmp (numbers i) (wanted_numbers i))
+      ∙ bodies_cmp wanted.0 wanted.1 wanted.2 v.0 v.1 v.2
+      ∙ ap (λ o. ordering_then o (ordering_then (nat_cmp v.1 wanted.1) (nat_cmp v.2 wanted.2)))
+      tied in
+      let both = pairs_not_less wanted.1 wanted.2 v.1 v.2 in
+      rw (order, no_plain_zero wanted.0 (rw first_wanted at other))
+      (λ e. (sym (cmp_same v.0 wanted.0 tied), both.0 e), λ match. both.1 match.1)
+    where
+      cmp_same : (m n : ℕ) → nat_cmp m n ≡ Equal → m ≡ n
+      cmp_same m n e = elim (three_ways m n) [
+        | inl less ↦ cc (below m n less, e)
+        | inr (inl same) ↦ same
+        | inr (inr more) ↦ cc (above m n more, e)
+      ]

@@ -1,0 +1,146 @@
+-- The first piece of a text: its digits, and how the other pieces follow.
+pub mod Kept
+pub mod Order
+pub mod Spelled
+use Rattle.std.proofs.Common.{◌≡◌, ◌==◌, ◌∙◌, ℕ, Bool, true, false, List, [], ◌∷◌, length, not}
+use Rattle.std.proofs.Common.{refl, sym, ap, inl, inr, one-add}
+use Rattle.std.proofs.Math.Dec.{eqb-suc-zero}
+use Rattle.std.proofs.lemmas.Bool.{cases_Bool, eqb-true}
+use Rattle.std.specs.Char.{is_ascii_digit}
+use Rattle.std.specs.List.{before_first, list_all, slice_split, take_while}
+use Rattle.std.specs.Str.Parse.{digits_value}
+use Rattle.version_parts.proofs.lemmas.Pieces.{take_while-all}
+use Rattle.version_parts.specs.Bytes.{dot}
+use Rattle.version_parts.specs.Chunk.{Alphanum, Numeric}
+use Rattle.version_parts.specs.DigitRun.{run_value, starts_with_digit}
+use Rattle.version_parts.specs.Split.{split_of}
+use Rattle.version_parts.specs.PartKey.{Word, Number, part_key, suffix_of}
+use Rattle.version_texts.proofs.lemmas.TextKey.DotPieces.{is_run}
+use Rattle.version_texts.proofs.lemmas.Piece.Spelled.{digit_no_dot}
+use Rattle.version_texts.proofs.lemmas.General.Runs.{run_cons}
+use Rattle.version_texts.specs.Piece.{behind_digits, behind_piece, first_piece, from_first}
+use Rattle.version_texts.specs.Piece.{further_pieces, is_dot}
+use Rattle.version_texts.specs.TextKey.{chunk_of}
+
+-- a first byte that divides pieces stands behind an empty piece; another belongs to the first piece
+pub piece_ends : (test : ℕ → Bool) (b : ℕ) (text : List ℕ) → test b ≡ true
+    → (before_first test (b ∷ text) ≡ []) × (from_first test (b ∷ text) ≡ b ∷ text)
+piece_ends test b text e = rw e (refl, refl)
+
+pub piece_grows : (test : ℕ → Bool) (b : ℕ) (text : List ℕ) → test b ≡ false
+    → (before_first test (b ∷ text) ≡ b ∷ before_first test text)
+    × (from_first test (b ∷ text) ≡ from_first test text)
+piece_grows test b text e = rw (e, one-add) (refl, refl)
+
+-- the pieces of a text are the first one and those behind it
+pub pieces_are : (test : ℕ → Bool) (text : List ℕ)
+    → slice_split test text ≡ before_first test text ∷ further_pieces test (from_first test text)
+pieces_are test [] = refl
+pieces_are test (b ∷ text) = elim (cases_Bool (test b)) [
+  | inl ends ↦
+      let here = piece_ends test b text ends in
+      rw (here.0, here.1, ends) refl
+  | inr within ↦
+      let here = piece_grows test b text within in
+      rw (here.0, here.1, within, pieces_are test text) refl
+]
+
+-- where the first piece is empty, all of the text is behind it
+pub piece_empty : (test : ℕ → Bool) (text : List ℕ) → (length (before_first test text) == 0) ≡ true
+    → from_first test text ≡ text
+piece_empty test [] e = refl
+piece_empty test (b ∷ text) e = elim (cases_Bool (test b)) [
+  | inl ends ↦ (piece_ends test b text ends).1
+  | inr within ↦
+      cc (rw (
+        (piece_grows test b text within).0,
+        eqb-suc-zero (length (before_first test text)),
+      ) at e)
+]
+
+-- a text begins with a digit if its run of digits is not empty
+pub starts_are : (text : List ℕ)
+    → starts_with_digit text ≡ not (length (take_while is_ascii_digit text) == 0)
+starts_are [] = refl
+starts_are (b ∷ text) = elim (cases_Bool (is_ascii_digit b)) [
+  | inl digit ↦
+      rw (run_cons is_ascii_digit b text digit).0
+      (rw digit (sym (ap not (eqb-suc-zero (length (take_while is_ascii_digit text))))))
+  | inr other ↦ rw other refl
+]
+
+pub starts_by_run : (text digits : List ℕ) (none : Bool) → digits ≡ take_while is_ascii_digit text
+    → none ≡ (length digits == 0) → starts_with_digit text ≡ not none
+starts_by_run text digits none run e =
+    starts_are text ∙ ap (λ (l : List ℕ). not (length l == 0)) (sym run) ∙ ap not (sym e)
+
+pub starts_same : (text : List ℕ) → starts_with_digit (first_piece text) ≡ starts_with_digit text
+starts_same [] = refl
+starts_same (b ∷ text) = elim (cases_Bool (is_dot b)) [
+  | inl at_dot ↦ let is : b ≡ dot = eqb-true b dot at_dot in rw is refl
+  | inr within ↦ rw (piece_grows is_dot b text within).0 refl
+]
+
+-- the digits of the first piece, and what follows them in it and behind it
+pub digits_same : (text : List ℕ)
+    → (take_while is_ascii_digit (first_piece text) ≡ take_while is_ascii_digit text)
+    × (behind_digits (first_piece text) ≡ first_piece (behind_digits text))
+    × (behind_piece (behind_digits text) ≡ behind_piece text)
+digits_same [] = (refl, refl, refl)
+digits_same (b ∷ text) = elim (cases_Bool (is_ascii_digit b)) [
+  | inl digit ↦
+      let here = piece_grows is_dot b text (digit_no_dot b digit) in
+      let more = digits_same text in
+      let inside = run_cons is_ascii_digit b (first_piece text) digit in
+      let outside = run_cons is_ascii_digit b text digit in (
+        ap (take_while is_ascii_digit) here.0 ∙ inside.0 ∙ ap (λ (l : List ℕ). b ∷ l) more.0
+            ∙ sym outside.0,
+        ap behind_digits here.0 ∙ inside.1 ∙ more.1 ∙ sym (ap first_piece outside.1),
+        ap behind_piece outside.1 ∙ more.2 ∙ sym here.1,
+      )
+  | inr other ↦ elim (cases_Bool (is_dot b)) [
+    | inl at_dot ↦ let is : b ≡ dot = eqb-true b dot at_dot in rw is (refl, refl, refl)
+    | inr within ↦
+        rw (piece_grows is_dot b text within).0
+        (rw other (refl, sym (piece_grows is_dot b text within).0, refl))
+  ]
+]
+
+-- the part of a first piece that begins with a digit, and of another
+pub part_of_number : (text : List ℕ) → starts_with_digit text ≡ true
+    → part_key (first_piece text)
+    ≡ Number (run_value text) (suffix_of (first_piece (behind_digits text)))
+part_of_number text e =
+    let same = digits_same text in
+    rw (starts_same text, e, same.0, same.1) refl
+
+pub part_of_word : (text : List ℕ) → starts_with_digit text ≡ false
+    → part_key (first_piece text) ≡ Word (split_of (first_piece text))
+part_of_word text e = rw (starts_same text, e) refl
+
+-- the chunk of a first piece, by what follows its digits; what follows the digits of a number
+-- follows its piece
+module _ (text rest : List ℕ) (left : rest ≡ behind_digits text) where
+  digits_alone : (all : Bool) → all ≡ (length (first_piece rest) == 0)
+      → list_all is_ascii_digit (first_piece text) ≡ all
+  digits_alone all e =
+      sym (is_run is_ascii_digit (first_piece text))
+      ∙ ap (λ (l : List ℕ). length l == 0) ((digits_same text).1 ∙ ap first_piece (sym left))
+      ∙ sym e
+
+  pub chunk_of_number : (digits : List ℕ) → digits ≡ take_while is_ascii_digit text
+      → true ≡ (length (first_piece rest) == 0)
+      → chunk_of (first_piece text) ≡ Numeric (digits_value 10 digits)
+  chunk_of_number digits run e =
+      let all = digits_alone true e in
+      let same : first_piece text ≡ digits =
+      sym (take_while-all is_ascii_digit (first_piece text) all) ∙ (digits_same text).0 ∙ sym run in
+      rw all (ap (λ (l : List ℕ). Numeric (digits_value 10 l)) same)
+
+  pub chunk_of_text : false ≡ (length (first_piece rest) == 0)
+      → chunk_of (first_piece text) ≡ Alphanum (first_piece text)
+  chunk_of_text e = rw (digits_alone false e) refl
+
+  pub behind_number : true ≡ (length (first_piece rest) == 0) → rest ≡ behind_piece text
+  behind_number e =
+      sym (piece_empty is_dot rest (sym e)) ∙ ap behind_piece left ∙ (digits_same text).2

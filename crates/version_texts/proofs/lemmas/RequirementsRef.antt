@@ -1,0 +1,3 @@
+-- Borrowed lists of requirements.
+pub mod MajorText
+pub mod Members

@@ -1,0 +1,4 @@
+-- Values made of other values.
+pub mod Key
+pub mod Mess
+pub mod Widening

@@ -1,0 +1,3 @@
+-- Errors of texts, and the calls that give them.
+pub mod Answered
+pub mod FromText

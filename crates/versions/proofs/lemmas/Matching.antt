@@ -1,0 +1,2 @@
+-- What a requirement matches.
+pub mod Convex

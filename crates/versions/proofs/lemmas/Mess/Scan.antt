@@ -1,0 +1,163 @@
+-- How a messy version is parsed, section by section.
+use Rattle.std.proofs.Common.{◌≡◌, ◌≢◌, ◌==◌, ◌∙◌, ◌<◌, ℕ, List, [], ◌∷◌, ◌++◌, length, Option}
+use Rattle.std.proofs.Common.{Some, None, Result, Ok, Err, IsSomeAnd, inl, inr, refl, sym, ap}
+use Rattle.std.proofs.Common.{append-nil, append_assoc}
+use Rattle.std.proofs.lemmas.Bool.{cases_Bool, eqb-true}
+use Rattle.std.specs.Borrow.{Bor}
+use Rattle.std.specs.Option.{option_map}
+use Rattle.std.specs.Result.{IsErr}
+use Rattle.std.specs.declared.alloc.AllocError.{AllocError}
+use Rattle.version_parts.specs.Front.{Reads, repeated}
+use Rattle.version_parts.proofs.lemmas.Front.DottedScan.{nothing_before, read_before}
+use Rattle.version_parts.proofs.lemmas.Front.Repeated.{cases_Option, repeated-None, repeated-next}
+use Rattle.version_parts.specs.Sep.{PlainSep, sep_front}
+use Rattle.versions.specs.Mess.{Further, PlainMess, Section, further_front, further_in, mess_front}
+use Rattle.versions.specs.Mess.{mess_of, plain_mess, section_front}
+use Rattle.versions.specs.declared.mess.Mess.{Mess}
+use Rattle.versions.proofs.lemmas.Mess.{further_shrinks, mess_front-None, mess_front-Some}
+
+-- the further sections that a text begins with, and the rest after them
+abbrev pub all_further : List ℕ → List Further × List ℕ
+all_further text = repeated further_front (length text) text
+
+-- the same, after those that are parsed so far
+abbrev pub and_further : List Further → List ℕ → List Further × List ℕ
+and_further sofar text = (sofar ++ (all_further text).0, (all_further text).1)
+
+-- ---- the rest
+
+-- after a further section
+pub left_next : (text after : List ℕ) → Some after ≡ option_map (λ p. p.1) (further_front text)
+    → (all_further text).1 ≡ (all_further after).1
+left_next text after e =
+    let one = read_before (further_front text) after e in
+    rw (repeated-next further_front further_shrinks text one.0 after one.1) refl
+
+pub left_shorter : (text after : List ℕ) → Some after ≡ option_map (λ p. p.1) (further_front text)
+    → length after < length text
+left_shorter text after e =
+    let one = read_before (further_front text) after e in
+    further_shrinks text one.0 after one.1
+
+pub left_last : (text : List ℕ) → None ≡ option_map (λ p. p.1) (further_front text)
+    → (all_further text).1 ≡ text
+left_last text e = rw (repeated-None further_front text (length text) (nothing_before _ e)) refl
+
+-- ---- what is parsed
+
+pub read_next : (sofar : List Further) (text : List ℕ) (one : Further) (after : List ℕ)
+    → further_front text ≡ Some (one, after)
+    → and_further (sofar ++ one ∷ []) after ≡ and_further sofar text
+read_next sofar text one after e =
+    rw (repeated-next further_front further_shrinks text one after e, append_assoc) refl
+
+pub read_last : (sofar : List Further) (text : List ℕ) → further_front text ≡ None
+    → and_further sofar text ≡ (sofar, text)
+read_last sofar text e = rw (repeated-None further_front text (length text) e, append-nil) refl
+
+-- a version whose first section and further ones are parsed
+pub mess_read : (text : List ℕ) (first : Section) (behind : List ℕ)
+    (further : List Further × List ℕ) (m : PlainMess) → Some (first, behind) ≡ section_front text
+    → further ≡ all_further behind → m.first ≡ first → m.more ≡ further.0
+    → Some (m, further.1) ≡ mess_front text
+mess_read text first behind further m read rest first_is more_is =
+    let more : m.more ≡ (all_further behind).0 =
+    more_is ∙ ap (λ (p : List Further × List ℕ). p.0) rest in
+    let left : further.1 ≡ (all_further behind).1 = ap (λ (p : List Further × List ℕ). p.1) rest in
+    let value : m ≡ record { first = first; more = (all_further behind).0 } =
+    λ i. record { first = first_is i; more = more i } in
+    ap (λ (p : PlainMess × List ℕ). Some p) (λ i. (value i, left i))
+    ∙ sym (mess_front-Some text first behind (sym read))
+
+-- the version that the whole text parses as, if no rest is left after its sections
+pub whole_sections : (text : List ℕ) (first : Section) (behind : List ℕ)
+    → Some (first, behind) ≡ section_front text → length (all_further behind).1 ≡ 0
+    → mess_of text ≡ Some (record { first = first; more = (all_further behind).0 })
+unfolding mess_of
+whole_sections text first behind read none =
+    rw (mess_front-Some text first behind (sym read), none) refl
+
+pub sections_and_more : (text : List ℕ) (first : Section) (behind : List ℕ)
+    → Some (first, behind) ≡ section_front text → length (all_further behind).1 ≢ 0
+    → mess_of text ≡ None
+unfolding mess_of
+sections_and_more text first behind read some =
+    elim (cases_Bool (length (all_further behind).1 == 0)) [
+      | inl none ↦ absurd (some (eqb-true _ 0 none))
+      | inr goes_on ↦ rw (mess_front-Some text first behind (sym read), goes_on) refl
+    ]
+
+pub no_section : (text : List ℕ) → None ≡ section_front text → mess_of text ≡ None
+unfolding mess_of
+no_section text e = rw (mess_front-None text (sym e)) refl
+
+pub ruleset whole_mess = (whole_sections, sections_and_more, no_section)
+
+-- an allocation is needed only if a first section parses
+pub wants_memory : (text : List ℕ) → IsSomeAnd (section_front text) (λ r. Unit {0})
+    → IsSomeAnd (mess_front text) (λ r. Unit {0})
+wants_memory text some = elim (cases_Option (section_front text)) [
+  | inl none ↦ absurd (rw none at some)
+  | inr one ↦ rw (mess_front-Some text one.0.0 one.0.1 one.1) tt
+]
+
+pub first_some : {X : Type 0} (o : Option (X × List ℕ)) (p : X × List ℕ) → Some p ≡ o
+    → IsSomeAnd o (λ r. Unit {0})
+first_some o p e = rw (← e) tt
+
+pub reads_err : (r : Result (Option (Mess × Bor (List ℕ))) AllocError)
+    (front : Option (PlainMess × List ℕ)) → IsErr r → IsSomeAnd front (λ r. Unit {0})
+    → Reads plain_mess (λ m. Unit {0}) r front
+reads_err (Ok answer) front err some = cc err
+reads_err (Err e) front err some = some
+
+-- ---- one after another
+
+pub further_none : (text : List ℕ) → further_front text ≡ None → all_further text ≡ ([], text)
+further_none text none = repeated-None further_front text (length text) none
+
+pub unsigned : (text : List ℕ) → None ≡ sep_front text → further_front text ≡ None
+unfolding further_front
+unsigned text e = rw (← e) refl
+
+pub unread : (text behind : List ℕ) (sign : PlainSep) → Some (sign, behind) ≡ sep_front text
+    → None ≡ section_front behind → further_front text ≡ None
+unfolding further_front
+unread text behind sign e f = rw (← e, ← f) refl
+
+one_read : (text behind rest : List ℕ) (sign : PlainSep) (section : Section)
+    → Some (sign, behind) ≡ sep_front text → Some (section, rest) ≡ section_front behind
+    → further_front text ≡ Some ((sign, section), rest)
+unfolding further_front
+one_read text behind rest sign section e f = rw (← e, ← f) refl
+
+pub further_next : (text behind rest : List ℕ) (sign : PlainSep) (section : Section)
+    → Some (sign, behind) ≡ sep_front text → Some (section, rest) ≡ section_front behind
+    → (all_further text).0 ≡ (sign, section) ∷ (all_further rest).0
+further_next text behind rest sign section e f =
+    ap (λ (p : List Further × List ℕ). p.0)
+    (repeated-next further_front further_shrinks text (sign, section) rest
+    (one_read text behind rest sign section e f))
+
+-- the same for the further sections alone
+
+pub in_next : (text behind rest : List ℕ) (sign : PlainSep) (section : Section)
+    → Some (sign, behind) ≡ sep_front text → Some (section, rest) ≡ section_front behind
+    → further_in text ≡ (sign, section) ∷ further_in rest
+in_next = further_next
+
+pub in_shorter : (text behind rest : List ℕ) (sign : PlainSep) (section : Section)
+    → Some (sign, behind) ≡ sep_front text → Some (section, rest) ≡ section_front behind
+    → length rest < length text
+in_shorter text behind rest sign section e f =
+    further_shrinks text (sign, section) rest (one_read text behind rest sign section e f)
+
+pub in_unsigned : (text : List ℕ) → None ≡ sep_front text → further_in text ≡ []
+in_unsigned text e = ap (λ (p : List Further × List ℕ). p.0) (further_none text (unsigned text e))
+
+pub in_unread : (text behind : List ℕ) (sign : PlainSep) → Some (sign, behind) ≡ sep_front text
+    → None ≡ section_front behind → further_in text ≡ []
+in_unread text behind sign e f =
+    ap (λ (p : List Further × List ℕ). p.0) (further_none text (unread text behind sign e f))
+
+pub ruleset first_further = (in_next, in_shorter, in_unsigned, in_unread)

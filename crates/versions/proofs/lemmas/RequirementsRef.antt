@@ -1,0 +1,87 @@
+-- A scanned list of requirements: its members, one after another, and what they match.
+use Rattle.std.proofs.Common.{◌≡◌, ◌↔◌, ◌<◌, ◌∙◌, ℕ, false, eqb, map, IsSome, List, [], ◌∷◌, length}
+use Rattle.std.proofs.Common.{Option, Some, None, sym, ap, arith}
+use Rattle.std.proofs.lemmas.List.Elements.{All-cons, All-from_get_or, All-head, All-tail}
+use Rattle.std.proofs.lemmas.List.Splits.{slice_split_first, slice_split_none}
+use Rattle.std.proofs.lemmas.List.Sums.{fails_before_first}
+use Rattle.std.specs.List.{after_first, before_first, position_or_len}
+use Rattle.std.specs.Option.{IsSomeAnd, unwrap_or}
+use Rattle.versions.specs.Matching.{Matches, MatchesAll}
+use Rattle.versions.specs.Requirement.{PlainRequirement, requirement_of}
+use Rattle.versions.specs.Requirements.{comma, every, requirements_of}
+use Rattle.versions.specs.RequirementsRef.{before_others}
+use Rattle.versions.specs.Versioning.{PlainVersioning}
+
+-- ---- the first member, and the others
+
+-- a text without a comma is one member
+pub one_member : (text : List ℕ) → position_or_len (λ b. eqb b comma) text ≡ length text
+    → requirements_of text ≡ before_others (requirement_of text) (Some [])
+one_member text none =
+    let free = All-from_get_or (λ b. eqb b comma ≡ false) text 0
+    (λ i fits. fails_before_first (λ b. eqb b comma) text i 0 (omega (arith, none))) in
+    ap (λ members. every (map requirement_of members))
+    (slice_split_none (λ b. eqb b comma) text free)
+
+-- a text with a comma is a member and others
+pub more_members : (text : List ℕ) → position_or_len (λ b. eqb b comma) text < length text
+    → requirements_of text
+    ≡ before_others (requirement_of (before_first (λ b. eqb b comma) text))
+    (requirements_of (after_first (λ b. eqb b comma) text))
+more_members text some =
+    ap (λ members. every (map requirement_of members))
+    (slice_split_first (λ b. eqb b comma) text 0 some)
+
+-- ---- what the members match
+
+-- there is a list, and each member of it matches a version
+abbrev pub Asked : PlainVersioning → Option (List PlainRequirement) → Type 0
+Asked v members = IsSomeAnd members (λ list. MatchesAll list v)
+
+-- the first member matches, and the others decide
+pub others_decide : (v : PlainVersioning) (r : PlainRequirement)
+    (others : Option (List PlainRequirement)) → Matches r v
+    → Asked v (before_others (Some r) others) ↔ Asked v others
+others_decide v r None asks = (λ e. e, λ e. e)
+others_decide v r (Some list) asks = (
+  λ all. All-tail (λ q. Matches q v) r list all,
+  λ all. All-cons (λ q. Matches q v) r list asks all,
+)
+
+-- the first member does not match
+pub first_decides : (v : PlainVersioning) (r : PlainRequirement)
+    (others : Option (List PlainRequirement)) → ¬ (Matches r v)
+    → ¬ (Asked v (before_others (Some r) others))
+first_decides v r None other e = absurd e
+first_decides v r (Some list) other all = other (All-head (λ q. Matches q v) r list all)
+
+-- the same for a text whose first member parses
+module _ (v : PlainVersioning) (list member : List ℕ) (r : PlainRequirement)
+    (others : Option (List PlainRequirement))
+    (split : requirements_of list ≡ before_others (requirement_of member) others)
+    (read : Some r ≡ requirement_of member) where
+  split_so : requirements_of list ≡ before_others (Some r) others
+  split_so = split ∙ ap (λ first. before_others first others) (sym read)
+
+  pub text_others_decide : Matches r v → Asked v (requirements_of list) ↔ Asked v others
+  text_others_decide asks = rw split_so (others_decide v r others asks)
+
+  pub text_first_decides : ¬ (Matches r v) → ¬ (Asked v (requirements_of list))
+  text_first_decides other = rw split_so (first_decides v r others other)
+
+-- the same for a list with others
+pub first_asks : (v : PlainVersioning) (r : PlainRequirement) (list : List PlainRequirement)
+    → Matches r v → MatchesAll list v ↔ MatchesAll (r ∷ list) v
+first_asks v r list asks = (
+  λ all. All-cons (λ q. Matches q v) r list asks all,
+  λ all. All-tail (λ q. Matches q v) r list all,
+)
+
+pub all_ask : (v : PlainVersioning) (r : PlainRequirement) (others : Option (List PlainRequirement))
+    → IsSome others → Matches r v → Asked v others ↔ MatchesAll (r ∷ unwrap_or others []) v
+all_ask v r None some asks = cc some
+all_ask v r (Some list) some asks = first_asks v r list asks
+
+pub first_asks_not : (v : PlainVersioning) (r : PlainRequirement) (list : List PlainRequirement)
+    → ¬ (Matches r v) → ¬ (MatchesAll (r ∷ list) v)
+first_asks_not v r list other all = other (All-head (λ q. Matches q v) r list all)

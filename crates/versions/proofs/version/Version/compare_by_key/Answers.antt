@@ -1,0 +1,12 @@
+use Rattle.std.proofs.Common.{◌∙◌}
+use Rattle.version_parts.specs.Lists.{bytes_cmp}
+use Rattle.versions.proofs.lemmas.OrdersLaws.{key_bytes_alone}
+use Rattle.versions.proofs.version.Version.compare_by_key.Goals as goal
+use Rattle.versions.specs.Key.{key_of_version}
+use Rattle.versions.specs.Version.{plain_version}
+
+pub returns : goal.returns
+returns c =
+    c.compare_keys.ensures ∙ (λ i. bytes_cmp (c.of_version.ensures i) (c.of_version-2.ensures i))
+    ∙ key_bytes_alone (key_of_version (plain_version c.args.self.now))
+    (key_of_version (plain_version c.args.other.now))

@@ -1,0 +1,4 @@
+pub mod Keys
+pub mod Matching
+pub mod Ranges
+pub mod Sorting
