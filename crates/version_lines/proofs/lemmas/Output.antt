@@ -1,10 +1,10 @@
 -- How successive writes add up to a prefix of the output.
-use Rattle.std.proofs.Common.{◌≡◌, ℕ, ◌<◌, List, [], ◌++◌, Option, None, Some, IfSome, length, refl}
+use Rattle.std.proofs.Common.{◌≡◌, ℕ, ◌<◌, List, [], ◌++◌, Option, length}
 use Rattle.std.proofs.Common.{sym, ap, ◌∙◌, subst, take, drop, take-append-drop, ◌-◌, arith}
 use Rattle.std.proofs.Common.{append_assoc, append-nil, length-append}
 use Rattle.std.specs.Io.KnownBytes.{Appends}
 use Rattle.std.proofs.lemmas.List.{take_rest}
-use Rattle.std.proofs.KnownBytes.{Appends-nil, Appends-trans}
+use Rattle.std.proofs.KnownBytes.{Appends-trans}
 use Rattle.version_lines.specs.Output.{AppendsUpTo, AppendsProperBeginning}
 
 -- all of an output is written, and nothing is left

@@ -1,6 +1,6 @@
 -- The bounds of a range in two buffers, as they are narrowed member by member.
-use Rattle.std.proofs.Common.{◌≡◌, ◌∙◌, ◌+◌, ◌≤◌, ◌<◌, ◌^◌, ◌++◌, ◌&&◌, if◌then◌else◌, ℕ, Bool}
-use Rattle.std.proofs.Common.{true, false, List, [], ◌∷◌, Option, Some, None, IfSome, length, min}
+use Rattle.std.proofs.Common.{◌≡◌, ◌∙◌, ◌+◌, ◌≤◌, ◌<◌, ◌^◌, ◌++◌, if◌then◌else◌, ℕ}
+use Rattle.std.proofs.Common.{true, List, [], ◌∷◌, Option, Some, None, IfSome, length, min}
 use Rattle.std.proofs.Common.{max, take, drop, fold, refl, sym, ap, arith}
 use Rattle.std.proofs.Math.Seq.{take-append_seam}
 use Rattle.std.proofs.lemmas.Bool.Decides.{nat_tests}
@@ -16,8 +16,8 @@ use Rattle.version_texts.specs.Bounds.{HasRoom, HaveRoom, IsParsed, high_length,
 use Rattle.version_texts.specs.Bounds.{low_room, rooms_of}
 use Rattle.version_texts.specs.Sinks.{put_at, saturated}
 use Rattle.versions.proofs.lemmas.Requirement.{requirement_of-spells}
-use Rattle.versions.specs.Range.{PlainRange, common, earlier_high, everything, later}
-use Rattle.versions.specs.Range.{range_without_version, requirement_range}
+use Rattle.versions.specs.Range.{PlainRange, common, earlier_high, later}
+use Rattle.versions.specs.Range.{requirement_range}
 use Rattle.versions.specs.Requirement.{PlainRequirement, SpellsOperand, requirement_of}
 use Rattle.versions.specs.RequirementsRef.{before_others}
 use Rattle.versions.specs.Versioning.{PlainVersioning}

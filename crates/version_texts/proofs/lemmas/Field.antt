@@ -1,5 +1,5 @@
 -- Where the fields of a version lie in its text, by its shape.
-use Rattle.std.proofs.Common.{◌≡◌, ◌==◌, ◌+◌, ◌-◌, ◌<◌, ◌≤◌, ◌∙◌, if◌then◌else◌, ℕ, Bool, true}
+use Rattle.std.proofs.Common.{◌≡◌, ◌==◌, ◌+◌, ◌-◌, ◌≤◌, ◌∙◌, if◌then◌else◌, ℕ, Bool, true}
 use Rattle.std.proofs.Common.{false, List, [], ◌∷◌, ◌++◌, drop, length, take, Option, Some, None}
 use Rattle.std.proofs.Common.{refl, sym, ap, subst, arith, append-nil, length-append}
 use Rattle.std.proofs.lemmas.Bool.{ne_eqb}
@@ -8,7 +8,7 @@ use Rattle.std.proofs.lemmas.List.{length-drop, length-take-le}
 use Rattle.std.specs.Fmt.{decimal}
 use Rattle.std.specs.List.{list_all, prefix_len}
 use Rattle.std.specs.Option.{option_map}
-use Rattle.std.specs.Prelude.{nat_lt, slice_range}
+use Rattle.std.specs.Prelude.{nat_lt}
 use Rattle.std.specs.Str.Parse.{digits_value}
 use Rattle.version_parts.specs.Bytes.{colon, hyphen, plus}
 use Rattle.version_parts.specs.Chunk.{PlainChunk}
@@ -24,7 +24,7 @@ use Rattle.versions.specs.Conversions.{version_of_semver}
 use Rattle.versions.specs.Key.{versioning_epoch}
 use Rattle.versions.specs.Kind.{versioning_kind}
 use Rattle.versions.specs.Mess.{PlainMess, SpellsMess}
-use Rattle.versions.specs.SemVer.{PlainSemVer, SpellsSemVer, semver_text}
+use Rattle.versions.specs.SemVer.{PlainSemVer, SpellsSemVer}
 use Rattle.versions.specs.Version.{PlainVersion, SpellsEpoch, SpellsVersion, version_text}
 use Rattle.versions.specs.Versioning.{PlainVersioning, Ideal, General, Complex, SpellsVersioning}
 use Rattle.versions.proofs.lemmas.Conversions.Mess.{version_of_semver_printed}

@@ -1,10 +1,10 @@
 -- Strict versions. A prefix spells the version that it parses as, a text that spells a version
 -- parses as that version, and the version prints that text.
 use Rattle.std.proofs.Common.{◌≡◌, ◌==◌, ℕ, Bool, false, List, [], ◌∷◌, ◌++◌, Option, Some, None}
-use Rattle.std.proofs.Common.{refl, sym, ap, subst, ◌∙◌, inl, inr, append-nil, append_assoc, arith}
+use Rattle.std.proofs.Common.{refl, sym, ap, subst, ◌∙◌, inl, inr, append-nil, append_assoc}
 use Rattle.std.proofs.lemmas.Str.{IsAscii-append}
 use Rattle.std.specs.Char.{is_ascii_digit}
-use Rattle.std.specs.Str.{IsAscii, IsNotAscii}
+use Rattle.std.specs.Str.{IsAscii}
 use Rattle.version_parts.specs.Bytes.{dot, hyphen, is_identifier_byte, is_metadata_byte, plus}
 use Rattle.version_parts.specs.Chunk.{chunk_front}
 use Rattle.version_parts.specs.Front.{begins, behind, dotted_front, optional, run_front}

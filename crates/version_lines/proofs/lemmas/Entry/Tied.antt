@@ -2,7 +2,6 @@
 use Rattle.std.proofs.Common.{◌≡◌, ◌≤◌, ◌-◌, ◌&&◌, ℕ, Bool, true, false, IsTrue, List, [], ◌∷◌}
 use Rattle.std.proofs.Common.{◌++◌, length, take, drop, get_or, Option, None, Some, is_some, refl}
 use Rattle.std.proofs.Common.{sym, ap, ◌∙◌, arith}
-use Rattle.std.specs.Cmp.{IsStrictWeakOrder}
 use Rattle.std.specs.List.{All}
 use Rattle.std.specs.Option.{option_and_then, option_cmp, option_map, option_or}
 use Rattle.std.specs.Ordering.{is_lt, ordering_then, then_cmp}
@@ -11,7 +10,6 @@ use Rattle.std.proofs.lemmas.Cmp.{tied_itself}
 use Rattle.std.proofs.lemmas.List.Elements.{All-cons, All-head, All-push, All-same, All-tail}
 use Rattle.std.proofs.lemmas.List.Elements.{All-weaker}
 use Rattle.std.proofs.lemmas.List.{map-id, take_all}
-use Rattle.std.proofs.lemmas.List.Sorted.{ranks_by}
 use Rattle.version_parts.specs.OrderLaws.{then_equal}
 use Rattle.version_lines.specs.Entry.{entry_cmp, entry_line, tie_cmp, IsStrict}
 use Rattle.version_lines.specs.Sorting.{in_order}

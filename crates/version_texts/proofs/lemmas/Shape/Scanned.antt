@@ -1,11 +1,10 @@
 -- What a text is by its first section.
-use Rattle.std.proofs.Common.{◌≡◌, ◌==◌, ◌&&◌, ◌+◌, ◌<◌, ◌∙◌, ℕ, Bool, true, false, List, [], ◌∷◌}
+use Rattle.std.proofs.Common.{◌≡◌, ◌==◌, ◌&&◌, ◌+◌, ◌∙◌, ℕ, Bool, true, false, List, [], ◌∷◌}
 use Rattle.std.proofs.Common.{drop, length, None, zero-add, refl, sym, ap, arith, inl, inr}
 use Rattle.std.proofs.lemmas.Bool.{cases_Bool, eq-eqb, eqb-true, ne_eqb}
 use Rattle.std.proofs.lemmas.Bool.Decides.{nat_tests}
 use Rattle.std.proofs.lemmas.List.{take-append-drop}
 use Rattle.std.proofs.lemmas.List.Splits.{join_with_byte-slice_split, slice_split_none}
-use Rattle.std.proofs.lemmas.List.Folds.{length-prefix_len}
 use Rattle.std.specs.Char.{is_ascii_alphanumeric, is_ascii_digit}
 use Rattle.std.specs.Cmp.{first_so, second_so}
 use Rattle.std.specs.List.{join_with_byte, list_all, prefix_len, take_while}
@@ -26,7 +25,7 @@ use Rattle.version_texts.proofs.lemmas.Shape.Positions.{has_epoch-append}
 use Rattle.version_texts.proofs.lemmas.General.Runs.{and-false, behind_mark, larger_run}
 use Rattle.version_texts.proofs.lemmas.Shape.Messy.{messy_bad, messy_behind_epoch, some_digits}
 use Rattle.version_texts.proofs.lemmas.Shape.Section.{and-true, end_last, pieces_last}
-use Rattle.version_texts.proofs.lemmas.TextKind.Runs.{chunk_digits, digits_some, run_some}
+use Rattle.version_texts.proofs.lemmas.TextKind.Runs.{chunk_digits, run_some}
 
 -- ---- a text with an epoch
 

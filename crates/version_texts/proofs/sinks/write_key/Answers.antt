@@ -2,9 +2,8 @@ use Rattle.std.proofs.Common.{◌≡◌, ◌∙◌, ◌+◌, ◌++◌, [], ℕ, 
 use Rattle.std.proofs.Common.{rules, sym}
 use Rattle.versions.specs.KeyBytes.{key_bytes}
 use Rattle.versions.specs.Tail.{tail_bytes}
-use Rattle.version_texts.specs.Shape.{tail_in}
 use Rattle.version_texts.specs.Sinks.{put_at, saturated}
-use Rattle.version_texts.specs.TextKey.{front_bytes, tail_of, text_key}
+use Rattle.version_texts.specs.TextKey.{front_bytes, text_key}
 use Rattle.version_texts.proofs.lemmas.Sinks.{length-put, put_nothing, put_saturated}
 use Rattle.version_texts.proofs.lemmas.TextKey.Taking.{key_halves}
 use Rattle.version_texts.proofs.sinks.write_key.Goals as goal
