@@ -4,16 +4,25 @@
 #   make uninstall                   removes the files that `make install` with the same settings installs
 # BINDIR, LIBDIR, INCLUDEDIR and MANDIR choose other folders than those below PREFIX. DESTDIR is prepended to each path,
 # and no installed file contains it. C_LIBRARY is a folder of c/build, and VERS the program; if set, they are installed
-# unchanged. EXTENSION is the file that the SQLite extension is built into.
+# unchanged. EXTENSION is the file that the SQLite extension is built into. A release has all of these built, in a
+# folder `built` beside this file, and installs that.
 PREFIX ?= /usr/local
 BINDIR ?= $(PREFIX)/bin
 LIBDIR ?= $(PREFIX)/lib
 INCLUDEDIR ?= $(PREFIX)/include
 MANDIR ?= $(PREFIX)/share/man
-EXTENSION ?= sqlite/out/versions.so
 
 # sources CRATE ..: the files of crates
 sources = $(shell find $(addprefix crates/,$(1)) -name out -prune -o -type f -print)
+
+ifneq ($(wildcard built/vers),)
+C_LIBRARY ?= built
+VERS ?= built/vers
+EXTENSION ?= built/versions.so
+else
+EXTENSION ?= sqlite/out/versions.so
+compiled := extension
+endif
 
 ifndef C_LIBRARY
 C_LIBRARY := c/out
@@ -38,7 +47,7 @@ endif
 .NOTPARALLEL:
 .DEFAULT_GOAL := all
 .PHONY: all extension folders install uninstall
-all: extension
+all: $(compiled)
 
 # It takes a second and contains the library, which may be another one each time: so it is built each time.
 extension: $(built)

@@ -8,9 +8,6 @@ use std::hash::{Hash, Hasher};
 /// of nine in ten versions of Debian's packages are this short.
 pub const WITHIN: usize = 38;
 
-/// How many bytes a room has to have of which bytes are copied.
-pub const LEAST_ROOM: usize = 2 * WITHIN;
-
 /// Bytes of any length. They compare and hash as slices do, wherever they lie.
 #[derive(Clone)]
 pub enum Bytes {
@@ -21,7 +18,7 @@ pub enum Bytes {
 }
 
 impl Bytes {
-    /// Copies the first `length` bytes of a room that has at least `LEAST_ROOM` bytes. Writes to the
+    /// Copies the first `length` bytes of a room that has at least twice `WITHIN` bytes. Writes to the
     /// bytes after them.
     #[inline]
     pub fn copied(from: &mut [u8], length: usize) -> Bytes {

@@ -6,7 +6,7 @@ use std::cmp::Ordering;
 use std::fmt::Display;
 use std::os::raw::{c_char, c_int};
 
-use crate::bytes::{Bytes, LEAST_ROOM};
+use crate::bytes::{Bytes, WITHIN};
 use crate::range::{KeyRange, Kinds};
 use crate::Kind;
 
@@ -35,7 +35,7 @@ const RANGE_EXACT: u32 = 16;
 
 /// How many bytes of room for a key are made on the stack, which is enough for those of most texts.
 const ON_STACK: usize = 128;
-const _: () = assert!(LEAST_ROOM <= ON_STACK);
+const _: () = assert!(2 * WITHIN <= ON_STACK);
 
 extern "C" {
     fn versions_kind(text: *const c_char, text_len: usize) -> c_int;
