@@ -38,56 +38,16 @@ pub flags_told : (flags : ℕ) (ideal general complex high exact : Bool)
       is_exact = exact;
     }
 flags_told flags ideal general complex high exact is low top =
-    let strict = flag_told flags 0 ideal (omega arith)
-    (omega (
-      arith,
-      is,
-      one_at_most ideal,
-      one_at_most general,
-      one_at_most complex,
-      one_at_most high,
-      one_at_most exact,
-    )) in
-    let plain = flag_told flags 1 general (omega arith)
-    (omega (
-      arith,
-      is,
-      one_at_most ideal,
-      one_at_most general,
-      one_at_most complex,
-      one_at_most high,
-      one_at_most exact,
-    )) in
-    let messy = flag_told flags 2 complex (omega arith)
-    (omega (
-      arith,
-      is,
-      one_at_most ideal,
-      one_at_most general,
-      one_at_most complex,
-      one_at_most high,
-      one_at_most exact,
-    )) in
-    let above = flag_told flags 3 high (omega arith)
-    (omega (
-      arith,
-      is,
-      one_at_most ideal,
-      one_at_most general,
-      one_at_most complex,
-      one_at_most high,
-      one_at_most exact,
-    )) in
-    let every = flag_told flags 4 exact (omega arith)
-    (omega (
-      arith,
-      is,
-      one_at_most ideal,
-      one_at_most general,
-      one_at_most complex,
-      one_at_most high,
-      one_at_most exact,
-    )) in
+    let a = one_at_most ideal in
+    let b = one_at_most general in
+    let c = one_at_most complex in
+    let d = one_at_most high in
+    let e = one_at_most exact in
+    let strict = flag_told flags 0 ideal (omega arith) (omega (arith, is, a, b, c, d, e)) in
+    let plain = flag_told flags 1 general (omega arith) (omega (arith, is, a, b, c, d, e)) in
+    let messy = flag_told flags 2 complex (omega arith) (omega (arith, is, a, b, c, d, e)) in
+    let above = flag_told flags 3 high (omega arith) (omega (arith, is, a, b, c, d, e)) in
+    let every = flag_told flags 4 exact (omega arith) (omega (arith, is, a, b, c, d, e)) in
     λ i. record {
       low = low;
       high = if above i then Some top else None;
