@@ -23,6 +23,6 @@ mod versioning_ref;
 pub use bounds::{Held, rooms_for, write_range};
 pub use field::Field;
 pub use requirement_ref::RequirementRef;
-pub use requirements_ref::{RequirementsRef, list_matches};
+pub use requirements_ref::{RequirementsRef, list_matches, wrong_member};
 pub use sink::Sink;
 pub use versioning_ref::VersioningRef;

@@ -1,10 +1,10 @@
 //! Lists of requirements that are borrowed from their texts.
 
-ghost use Rattle.std.specs.Prelude.{◌≡◌, ◌==◌, ◌<◌, ◌≤◌, ◌↔◌, [], IfOk, IfSome, IsTrue, length};
+ghost use Rattle.std.specs.Prelude.{◌≡◌, ◌==◌, ◌<◌, ◌≤◌, ◌+◌, ◌↔◌, [], ◌∷◌, IfOk, IfSome, IsTrue, length};
 ghost use Rattle.std.specs.List.{fold, position_or_len};
-ghost use Rattle.std.specs.Option.{is_some, option_map, unwrap_or, IsSomeAnd};
+ghost use Rattle.std.specs.Option.{is_none, is_some, option_map, unwrap_or, IsSomeAnd};
 ghost use Rattle.version_texts.specs.RequirementRef.{plain_requirement_ref};
-ghost use Rattle.version_texts.specs.RequirementsRef.{from_second, IsFront};
+ghost use Rattle.version_texts.specs.RequirementsRef.{cut_at_commas, from_second, pieces_of, wrong_member, IsFront};
 ghost use Rattle.version_texts.specs.VersioningRef.{plain_versioning_ref};
 ghost use Rattle.versions.specs.Matching.{MatchesAll};
 ghost use Rattle.versions.specs.Range.{common, plain_range, range_of, requirement_range, IsIn};
@@ -149,6 +149,24 @@ pub fn list_matches(list: &[u8], version: &VersioningRef<'_>) -> Option<bool>
     Some(true)
 }
 
+/// Returns where the first member of a list that is not a requirement begins and ends, or None if the text parses as a
+/// list. The members are the pieces between the commas, empty ones too. Does not allocate.
+pub fn wrong_member(list: &[u8]) -> Option<(usize, usize)>
+    ensures place { result ≡ wrong_member list.now }
+    ensures parses { is_none result ≡ is_some (requirements_of list.now) }
+{
+    let mut start = 0;
+    let mut left = list;
+    loop {
+        let (first, others) = split_first(left);
+        if RequirementRef::from_bytes(first).is_none() {
+            return Some((start, start + first.len()));
+        }
+        left = others?;
+        start += first.len() + 1;
+    }
+}
+
 // Returns what each version that a requirement matches begins with: for `~` or `^` with a strict version the major
 // number and a dot, else nothing.
 fn front_of<'a>(member: &RequirementRef<'a>) -> &'a [u8]
@@ -165,9 +183,12 @@ fn front_of<'a>(member: &RequirementRef<'a>) -> &'a [u8]
 
 // Returns the text before the first comma, and the text after it, if there is one.
 pub(crate) fn split_first(list: &[u8]) -> (&[u8], Option<&[u8]>)
+    ensures pieces { cut_at_commas list.now ≡ result.0.now ∷ pieces_of result.1 }
     ensures members { requirements_of list.now
         ≡ before_others (requirement_of result.0.now) (members_of result.1) }
-    ensures shorter { IfSome result.1 (λ others. length others.now < length list.now) }
+    ensures within { length result.0.now ≤ length list.now }
+    ensures shorter { IfSome result.1
+        (λ others. length result.0.now + length others.now < length list.now) }
 {
     let end = first_comma(list);
     if end == list.len() {

@@ -4,6 +4,7 @@ use Rattle.versions.specs.MatchingLaws.{matches_all_or_not}
 use Rattle.versions.specs.Requirement.{PlainRequirement}
 use Rattle.versions.specs.Versioning.{PlainVersioning}
 use Rattle.versions_c.specs.declared.status.TheConstants.{OK, NO_REQUIREMENTS, NO_VERSION}
+use Rattle.versions_c.specs.declared.status.TheConstants.{NO_WRONG_MEMBER}
 
 -- 1 if something holds, otherwise 0
 abbrev pub bit : {Holds : Type 0} → Holds ⊎ ¬ Holds → ℕ
@@ -25,3 +26,8 @@ match_status (Some wanted) (Some v) = OK
 abbrev pub list_status : Option (List PlainRequirement) → ℤ
 list_status None = NO_REQUIREMENTS
 list_status (Some wanted) = OK
+
+-- the status for a text that may be a list, when its wrong member is asked for
+abbrev pub wrong_status : Option (List PlainRequirement) → ℤ
+wrong_status None = OK
+wrong_status (Some wanted) = NO_WRONG_MEMBER

@@ -1,14 +1,15 @@
 //! Which versions a list of requirements matches.
 
-ghost use Rattle.std.specs.Prelude.{◌≡◌, ◌≢◌, ◌<◌, ℕ, length, slice_index, IfSome, None};
+ghost use Rattle.std.specs.Prelude.{◌≡◌, ◌≢◌, ◌<◌, ℕ, length, slice_index, IfSome, None, Some};
+ghost use Rattle.version_texts.specs.RequirementsRef.{wrong_member};
 ghost use Rattle.versions.specs.Requirements.{requirements_of};
 ghost use Rattle.versions.specs.Versioning.{versioning_of};
-ghost use Rattle.versions_c.specs.Matching.{list_status, match_code, match_status};
+ghost use Rattle.versions_c.specs.Matching.{list_status, match_code, match_status, wrong_status};
 ghost use Rattle.versions_c.specs.Offsets.{text_at, AreOffsets};
 
 use crate::offsets::{are_offsets, text_at};
-use crate::status::{BAD_OFFSETS, NO_REQUIREMENTS, NO_VERSION, OK};
-use version_texts::{RequirementsRef, VersioningRef, list_matches};
+use crate::status::{BAD_OFFSETS, NO_REQUIREMENTS, NO_VERSION, NO_WRONG_MEMBER, OK};
+use version_texts::{RequirementsRef, VersioningRef, list_matches, wrong_member};
 
 /// Writes whether a list matches a version.
 #[unsafe(no_mangle)]
@@ -37,6 +38,22 @@ fn status_without_version(list: &[u8]) -> i32
         Some(_) => NO_VERSION,
         None => NO_REQUIREMENTS,
     }
+}
+
+/// Writes where the first member of a list that is not a requirement begins and ends.
+#[unsafe(no_mangle)]
+pub extern "C" fn versions_wrong_member(list: &[u8], start: &mut usize, end: &mut usize) -> i32
+    ensures status { result ≡ wrong_status (requirements_of list.now) }
+    ensures place { result ≡ OK → wrong_member list.now ≡ Some (start.new, end.new) }
+    ensures kept_start { result ≢ OK → start.new ≡ start.old }
+    ensures kept_end { result ≢ OK → end.new ≡ end.old }
+{
+    let Some((first, behind)) = wrong_member(list) else {
+        return NO_WRONG_MEMBER;
+    };
+    *start = first;
+    *end = behind;
+    OK
 }
 
 /// Writes whether a list matches each version.

@@ -20,3 +20,5 @@ pub const NO_ROOM: i32 = 7;
 pub const BAD_OFFSETS: i32 = 8;
 /// The version has no such field.
 pub const NO_FIELD: i32 = 11;
+/// Each member of the list is a requirement.
+pub const NO_WRONG_MEMBER: i32 = 12;

@@ -1,38 +1,12 @@
--- A scanned list of requirements: its members, one after another, and what they match.
-use Rattle.std.proofs.Common.{◌≡◌, ◌↔◌, ◌<◌, ◌∙◌, ℕ, false, eqb, map, IsSome, List, [], ◌∷◌, length}
-use Rattle.std.proofs.Common.{Option, Some, None, sym, ap, arith}
-use Rattle.std.proofs.lemmas.List.Elements.{All-cons, All-from_get_or, All-head, All-tail}
-use Rattle.std.proofs.lemmas.List.Splits.{slice_split_first, slice_split_none}
-use Rattle.std.proofs.lemmas.List.Sums.{fails_before_first}
-use Rattle.std.specs.List.{after_first, before_first, position_or_len}
+-- A scanned list of requirements: what its members match, one after another.
+use Rattle.std.proofs.Common.{◌≡◌, ◌↔◌, ◌∙◌, ℕ, IsSome, List, [], ◌∷◌, Option, Some, None, sym, ap}
+use Rattle.std.proofs.lemmas.List.Elements.{All-cons, All-head, All-tail}
 use Rattle.std.specs.Option.{IsSomeAnd, unwrap_or}
 use Rattle.versions.specs.Matching.{Matches, MatchesAll}
 use Rattle.versions.specs.Requirement.{PlainRequirement, requirement_of}
-use Rattle.versions.specs.Requirements.{comma, every, requirements_of}
+use Rattle.versions.specs.Requirements.{requirements_of}
 use Rattle.versions.specs.RequirementsRef.{before_others}
 use Rattle.versions.specs.Versioning.{PlainVersioning}
-
--- ---- the first member, and the others
-
--- a text without a comma is one member
-pub one_member : (text : List ℕ) → position_or_len (λ b. eqb b comma) text ≡ length text
-    → requirements_of text ≡ before_others (requirement_of text) (Some [])
-one_member text none =
-    let free = All-from_get_or (λ b. eqb b comma ≡ false) text 0
-    (λ i fits. fails_before_first (λ b. eqb b comma) text i 0 (omega (arith, none))) in
-    ap (λ members. every (map requirement_of members))
-    (slice_split_none (λ b. eqb b comma) text free)
-
--- a text with a comma is a member and others
-pub more_members : (text : List ℕ) → position_or_len (λ b. eqb b comma) text < length text
-    → requirements_of text
-    ≡ before_others (requirement_of (before_first (λ b. eqb b comma) text))
-    (requirements_of (after_first (λ b. eqb b comma) text))
-more_members text some =
-    ap (λ members. every (map requirement_of members))
-    (slice_split_first (λ b. eqb b comma) text 0 some)
-
--- ---- what the members match
 
 -- there is a list, and each member of it matches a version
 abbrev pub Asked : PlainVersioning → Option (List PlainRequirement) → Type 0
