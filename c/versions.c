@@ -17,6 +17,7 @@ int proved_versions_sort_key(const char *text, size_t text_len, uint8_t *key, si
 int proved_versions_parse(const char *text, size_t text_len, uint8_t *kind, uint8_t *key, size_t room, size_t *key_len);
 size_t proved_versions_sort_key_bound(size_t text_len);
 int proved_versions_matches(const char *list, size_t list_len, const char *text, size_t text_len, bool *matches);
+int proved_versions_wrong_member(const char *list, size_t list_len, size_t *start, size_t *end);
 int proved_versions_range(const char *list, size_t list_len, uint8_t *low, size_t low_room, size_t *low_len,
                           uint8_t *high, size_t high_room, size_t *high_len, uint32_t *flags);
 int proved_versions_in_range(const char *text, size_t text_len, const uint8_t *low, size_t low_len, const uint8_t *high,
@@ -80,6 +81,11 @@ size_t versions_sort_key_bound(size_t text_len) { return proved_versions_sort_ke
 int versions_matches(const char *list, size_t list_len, const char *text, size_t text_len, bool *matches) {
   if (lacks(list, list_len) || lacks(text, text_len) || matches == NULL) return VERSIONS_NULL;
   return proved_versions_matches(from(list), list_len, from(text), text_len, matches);
+}
+
+int versions_wrong_member(const char *list, size_t list_len, size_t *start, size_t *end) {
+  if (lacks(list, list_len) || start == NULL || end == NULL) return VERSIONS_NULL;
+  return proved_versions_wrong_member(from(list), list_len, start, end);
 }
 
 int versions_range(const char *list, size_t list_len, uint8_t *low, size_t low_room, size_t *low_len, uint8_t *high,
@@ -177,6 +183,7 @@ const char *versions_status_text(int status) {
     case VERSIONS_NO_MEMORY: return "memory allocation failed";
     case VERSIONS_NULL: return "a pointer is null, and what it should point to is not empty";
     case VERSIONS_NO_FIELD: return "the version has no such field";
+    case VERSIONS_NO_WRONG_MEMBER: return "each member of the list is a requirement";
     default: return "not a status of this library";
   }
 }

@@ -49,17 +49,18 @@ extern "C" {
 
 /* The statuses. */
 #define VERSIONS_OK 0
-#define VERSIONS_NO_VERSION 1      /* the text is not a version */
-#define VERSIONS_NO_VERSION_A 2    /* the first of two texts is not a version */
-#define VERSIONS_NO_VERSION_B 3    /* the second of two texts is not a version */
-#define VERSIONS_NO_VERSION_AB 4   /* neither of two texts is a version */
-#define VERSIONS_NO_REQUIREMENTS 5 /* the list does not parse as a list of requirements */
-#define VERSIONS_NO_NUMBER 6       /* the version has no number at that place, or no epoch */
-#define VERSIONS_NO_ROOM 7         /* a buffer for keys or for a bound is too small */
-#define VERSIONS_BAD_OFFSETS 8     /* an offset is bad, or the lengths of two arrays do not match */
-#define VERSIONS_NO_MEMORY 9       /* reserved for an allocation failure; no call allocates, and none returns this */
-#define VERSIONS_NULL 10           /* a pointer is null, and what it should point to is not empty */
-#define VERSIONS_NO_FIELD 11       /* the version has no such field */
+#define VERSIONS_NO_VERSION 1       /* the text is not a version */
+#define VERSIONS_NO_VERSION_A 2     /* the first of two texts is not a version */
+#define VERSIONS_NO_VERSION_B 3     /* the second of two texts is not a version */
+#define VERSIONS_NO_VERSION_AB 4    /* neither of two texts is a version */
+#define VERSIONS_NO_REQUIREMENTS 5  /* the list does not parse as a list of requirements */
+#define VERSIONS_NO_NUMBER 6        /* the version has no number at that place, or no epoch */
+#define VERSIONS_NO_ROOM 7          /* a buffer for keys or for a bound is too small */
+#define VERSIONS_BAD_OFFSETS 8      /* an offset is bad, or the lengths of two arrays do not match */
+#define VERSIONS_NO_MEMORY 9        /* reserved for an allocation failure; no call allocates, and none returns this */
+#define VERSIONS_NULL 10            /* a pointer is null, and what it should point to is not empty */
+#define VERSIONS_NO_FIELD 11        /* the version has no such field */
+#define VERSIONS_NO_WRONG_MEMBER 12 /* each member of the list is a requirement */
 
 /* The kinds. */
 #define VERSIONS_NONE 0    /* not a version */
@@ -146,6 +147,17 @@ size_t versions_sort_key_bound(size_t text_len);
  * Returns VERSIONS_OK, VERSIONS_NO_REQUIREMENTS (whatever the text is) or VERSIONS_NO_VERSION.
  */
 int versions_matches(const char *list, size_t list_len, const char *text, size_t text_len, bool *matches);
+
+/*
+ * Finds the first member of a text that is not a requirement, which tells why the text is not a list of requirements.
+ * The members are the pieces between the commas.
+ *
+ * The member is the bytes of the text from *start up to, but without, *end. It is empty if nothing stands before,
+ * between or after commas, or in the whole text.
+ *
+ * Returns VERSIONS_OK, or VERSIONS_NO_WRONG_MEMBER if the text is a list of requirements.
+ */
+int versions_wrong_member(const char *list, size_t list_len, size_t *start, size_t *end);
 
 /*
  * Writes the range of sort keys that a list of requirements asks for.

@@ -192,11 +192,18 @@ SQL_FUNCTION(version_compare_total) {
   PG_RETURN_INT32(order);
 }
 
-/* What a list of requirements looks like, for the errors about texts that are not one. */
-#define HINT_OF_LISTS                                                                                       \
-  errhint("Each requirement is * or an operator and a version, such as >=1.2; the operators are =, >, >=, " \
-          "<, <=, ~ and ^. Commas separate requirements that all have to match, as in >=1.2,<2. There are " \
-          "no spaces and no ||.")
+/* Why a text is not a list of requirements, and what one looks like, for the errors about such texts. */
+static int explain(Span list) {
+  size_t start = 0, end = list.len;
+  Span member;
+  versions_wrong_member(list.bytes, list.len, &start, &end);
+  member.bytes = list.bytes + start;
+  member.len = end - start;
+  errdetail("The first wrong member is %s, at byte %zu.", quoted(member), start);
+  return errhint("Each requirement is * or an operator and a version, such as >=1.2; the operators are =, >, >=, "
+                 "<, <=, ~ and ^. Commas separate requirements that all have to match, as in >=1.2,<2. There are "
+                 "no spaces and no ||.");
+}
 
 SQL_FUNCTION(version_matches_text) {
   Span list = span_of(PG_GETARG_TEXT_PP(0)), span = span_of(PG_GETARG_TEXT_PP(1));
@@ -205,7 +212,7 @@ SQL_FUNCTION(version_matches_text) {
     case VERSIONS_OK: PG_RETURN_BOOL(matches);
     case VERSIONS_NO_REQUIREMENTS:
       ereport(ERROR,
-              (errcode(ERRCODE_INVALID_PARAMETER_VALUE), errmsg("not a requirement: %s", quoted(list)), HINT_OF_LISTS));
+              (errcode(ERRCODE_INVALID_PARAMETER_VALUE), errmsg("not a requirement: %s", quoted(list)), explain(list)));
   }
   PG_RETURN_NULL();
 }
@@ -550,7 +557,7 @@ SQL_FUNCTION(requirement_in) {
   if (!value) {
     ereturn(fcinfo->context, (Datum)0,
             (errcode(ERRCODE_INVALID_TEXT_REPRESENTATION),
-             errmsg("invalid input syntax for type requirement: %s", quoted(list)), HINT_OF_LISTS));
+             errmsg("invalid input syntax for type requirement: %s", quoted(list)), explain(list)));
   }
   PG_RETURN_BYTEA_P(value);
 }
@@ -564,7 +571,7 @@ SQL_FUNCTION(requirement_recv) {
   if (!value) {
     ereport(ERROR,
             (errcode(ERRCODE_INVALID_BINARY_REPRESENTATION),
-             errmsg("invalid binary representation of type requirement: %s", quoted(list)), HINT_OF_LISTS));
+             errmsg("invalid binary representation of type requirement: %s", quoted(list)), explain(list)));
   }
   PG_RETURN_BYTEA_P(value);
 }

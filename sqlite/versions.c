@@ -148,6 +148,19 @@ static void append_quoted(sqlite3_str *message, struct text text) {
   }
 }
 
+/* Appends why a text is not a list of requirements. */
+static void append_reason(sqlite3_str *message, struct text list) {
+  size_t start = 0, end = list.len;
+  versions_wrong_member(list.bytes, list.len, &start, &end);
+  if (end - start < list.len) {
+    struct text member = {list.bytes + start, end - start};
+    sqlite3_str_appendall(message, "; its member ");
+    append_quoted(message, member);
+    sqlite3_str_appendf(message, " at byte %lld is wrong", (sqlite3_int64)start);
+  }
+  sqlite3_str_appendall(message, "; a list looks like '>=1.2,<2'");
+}
+
 /* Fails with the text that does not parse as a requirement, or with the type of a value that is not a text. */
 static void give_no_requirement(sqlite3_context *context, struct text text, int type) {
   sqlite3_str *message = sqlite3_str_new(NULL);
@@ -157,7 +170,9 @@ static void give_no_requirement(sqlite3_context *context, struct text text, int 
     case SQLITE_INTEGER: sqlite3_str_appendall(message, "a value of type integer"); break;
     case SQLITE_FLOAT: sqlite3_str_appendall(message, "a value of type real"); break;
     case SQLITE_BLOB: sqlite3_str_appendall(message, "a value of type blob"); break;
-    default: append_quoted(message, text);
+    default:
+      append_quoted(message, text);
+      append_reason(message, text);
   }
   said = sqlite3_str_finish(message);
   if (said) {

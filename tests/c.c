@@ -433,6 +433,22 @@ static void check_range(const struct lines *lines, const char *list, size_t leng
   free_range(&range);
 }
 
+// Checks the first member that is not a requirement by what the list and its beginnings match.
+static void check_member(const char *list, size_t length, bool is_list) {
+  size_t start = 77, end = 77;
+  bool matches;
+  CHECK(versions_wrong_member(list, length, &start, &end) == (is_list ? VERSIONS_NO_WRONG_MEMBER : VERSIONS_OK));
+  if (is_list) {
+    CHECK(start == 77 && end == 77);
+    return;
+  }
+  CHECK(start <= end && end <= length);
+  CHECK(start == 0 || (list[start - 1] == ',' &&
+                       versions_matches(list, start - 1, "1", 1, &matches) == VERSIONS_OK));
+  CHECK(versions_matches(list + start, end - start, "1", 1, &matches) == VERSIONS_NO_REQUIREMENTS);
+  CHECK(memchr(list + start, ',', end - start) == NULL && (end == length || list[end] == ','));
+}
+
 static void match(const struct lines *lines, const char *list) {
   size_t count = lines->count, length = strlen(list);
   uint8_t *matches = (uint8_t *)block(count);
@@ -455,6 +471,7 @@ static void match(const struct lines *lines, const char *list) {
     printf("%d\n", matches[line]);
   }
   if (status == VERSIONS_OK) check_range(lines, list, length, matches);
+  check_member(list, length, status == VERSIONS_OK);
   release(matches);
 }
 
@@ -633,6 +650,11 @@ static void refused_null_pointers(void) {
   CHECK(versions_matches("no list", 7, NULL, 1, &matches) == VERSIONS_NULL);
   CHECK(versions_matches("*", 1, "1", 1, NULL) == VERSIONS_NULL);
   CHECK(matches);
+  CHECK(versions_wrong_member(NULL, 1, &length, &end) == VERSIONS_NULL);
+  CHECK(versions_wrong_member("no list", 7, NULL, &end) == VERSIONS_NULL);
+  CHECK(versions_wrong_member("no list", 7, &length, NULL) == VERSIONS_NULL);
+  CHECK(versions_wrong_member("*", 1, NULL, &end) == VERSIONS_NULL);
+  CHECK(length == 77 && end == 77);
   CHECK(versions_range(NULL, 1, answers, 8, &length, answers, 8, &length, &number) == VERSIONS_NULL);
   CHECK(versions_range("*", 1, NULL, 8, &length, answers, 8, &length, &number) == VERSIONS_NULL);
   CHECK(versions_range("*", 1, answers, 8, NULL, answers, 8, &length, &number) == VERSIONS_NULL);
@@ -892,6 +914,29 @@ static void worked_prereleases(void) {
   CHECK(versions_is_prerelease("1.2.3-06", 8, &matches) == VERSIONS_OK && !matches);
 }
 
+// The first member that is not a requirement, by the tables of docs/REQUIREMENTS.md. A place of 77 stands for none.
+static void worked_members(void) {
+  static const struct {
+    const char *list;
+    size_t start, end;
+  } worked[] = {
+      {"*", 77, 77},           {">=1.1.1,<2.0.0", 77, 77}, {"", 0, 0},        {",", 0, 0},
+      {"1.2.3", 0, 5},         {">= 1.2", 0, 6},           {",*", 0, 0},      {"*,,*", 2, 2},
+      {"=1.0 || =2.0", 0, 12}, {">=1.0, <2.0", 6, 11},     {"=1.0.0,", 7, 7}, {"*,*,>", 4, 5},
+      {"*,!=1.0,^1.*", 2, 7},  {"*,^1.*", 2, 6},           {"*1,*", 0, 2},    {"*,=>1.0", 2, 7},
+      {"*,>=1-\xc3\xa9", 2, 8}, {"*,\xff,*", 2, 3},         {"\xff", 0, 1},    {"*,*", 77, 77},
+  };
+  for (size_t i = 0; i < sizeof worked / sizeof *worked; i++) {
+    size_t length = strlen(worked[i].list), start = 77, end = 77;
+    int status = versions_wrong_member(worked[i].list, length, &start, &end);
+    CHECK(status == (worked[i].end == 77 ? VERSIONS_NO_WRONG_MEMBER : VERSIONS_OK));
+    CHECK(start == worked[i].start && end == worked[i].end);
+  }
+  size_t start = 77, end = 77;
+  CHECK(versions_wrong_member(NULL, 0, &start, &end) == VERSIONS_OK && start == 0 && end == 0);
+  CHECK(versions_wrong_member("*,\0", 3, &start, &end) == VERSIONS_OK && start == 2 && end == 3);
+}
+
 // Of the texts of three bytes, 1_1 has the longest key.
 static void buffer_sizes(void) {
   size_t length = 77;
@@ -988,7 +1033,7 @@ static void bad_offsets(void) {
 
 // Every status has its own text.
 static void statuses(void) {
-  for (int a = VERSIONS_OK; a <= VERSIONS_NO_FIELD + 1; a++) {
+  for (int a = VERSIONS_OK; a <= VERSIONS_NO_WRONG_MEMBER + 1; a++) {
     CHECK(strlen(versions_status_text(a)) > 5);
     for (int b = VERSIONS_OK; b < a; b++) CHECK(strcmp(versions_status_text(a), versions_status_text(b)) != 0);
   }
@@ -1022,6 +1067,7 @@ static void long_text(const char *piece, size_t times, int kind, size_t key_leng
   bool matches = false;
   CHECK(versions_matches("*", 1, text, length, &matches) == VERSIONS_OK && matches);
   CHECK(versions_matches(text, length, "1", 1, &matches) == VERSIONS_NO_REQUIREMENTS);
+  check_member(text, length, false);
   struct range all = {NULL, NULL, 0, 0, 1u << (kind - 1)};
   CHECK(versions_in_range(text, length, all.low, 0, all.high, 0, all.flags, &matches) == VERSIONS_OK && matches);
   uint32_t number = 77;
@@ -1343,6 +1389,7 @@ static void without_memory(const struct lines *lines) {
       struct range none_at_all;
       CHECK(!range_of(lists[i], length, &none_at_all));
     }
+    check_member(lists[i], length, wanted == VERSIONS_OK);
     for (size_t line = 0; line < count; line++) {
       int status = versions_matches(lists[i], length, text_of(lines, line), length_of(lines, line), &matches);
       CHECK(wanted != VERSIONS_OK ? status == wanted
@@ -1374,6 +1421,7 @@ int main(int count, char **words) {
     ties();
     worked_numbers();
     worked_prereleases();
+    worked_members();
     worked_fields();
     worked_epochs();
     buffer_sizes();

@@ -59,6 +59,11 @@ int proved_versions_matches(const char *list, size_t list_len, const char *text,
   return list_len == 0 && text_len == 0 && matches != NULL ? PASSED : 0;
 }
 
+int proved_versions_wrong_member(const char *list, size_t list_len, size_t *start, size_t *end) {
+  check_pointer(list);
+  return list_len == 0 && start != NULL && end != NULL ? PASSED : 0;
+}
+
 int proved_versions_range(const char *list, size_t list_len, uint8_t *low, size_t low_room, size_t *low_len,
                           uint8_t *high, size_t high_room, size_t *high_len, uint32_t *flags) {
   check_pointer(list);
@@ -148,6 +153,7 @@ static void null_pointers(void) {
   CHECK(versions_parse(NULL, 0, &kind, NULL, 0, &length) == PASSED);
   CHECK(versions_sort_key_bound(77) == 77);
   CHECK(versions_matches(NULL, 0, NULL, 0, &matches) == PASSED);
+  CHECK(versions_wrong_member(NULL, 0, &length, &end) == PASSED);
   CHECK(versions_range(NULL, 0, NULL, 0, &length, NULL, 0, &length, &flags) == PASSED);
   CHECK(versions_in_range(NULL, 0, NULL, 0, NULL, 0, 9, &matches) == PASSED);
   CHECK(versions_nth(NULL, 0, 7, &number) == PASSED);

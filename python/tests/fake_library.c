@@ -82,6 +82,10 @@ int versions_is_prerelease(const char *text, size_t text_len, bool *is_prereleas
   return (void)text, (void)text_len, (void)is_prerelease, fake_status;
 }
 
+int versions_wrong_member(const char *list, size_t list_len, size_t *start, size_t *end) {
+  return (void)list, (void)list_len, (void)start, (void)end, fake_status;
+}
+
 static int answer(const char *texts, size_t texts_len, uint8_t *numbers, size_t count) {
   fake_texts = texts;
   fake_texts_len = texts_len;

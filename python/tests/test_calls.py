@@ -328,13 +328,18 @@ class Sorted(unittest.TestCase):
 
 class Errors(unittest.TestCase):
     def test_texts_and_pickles(self):
-        for error, words in ((versions.InvalidVersion, "version"), (versions.InvalidRequirement, "requirement")):
+        looks = "; a list looks like '>=1.2,<2'"
+        for error, words, more in (
+            (versions.InvalidVersion, "version", ""),
+            (versions.InvalidRequirement, "requirement", looks),
+        ):
             self.assertTrue(issubclass(error, ValueError))
             self.assertFalse(issubclass(error, UnicodeError))
             for text in ("1..2", "", "\ud800", "a'b"):
                 for protocol in range(pickle.HIGHEST_PROTOCOL + 1):
                     back = pickle.loads(pickle.dumps(error(text), protocol))
-                    self.assertEqual((type(back), back.text, str(back)), (error, text, f"not a {words}: {text!r}"))
+                    said = f"not a {words}: {text!r}{more}"
+                    self.assertEqual((type(back), back.text, str(back)), (error, text, said))
                 self.assertEqual(copy.copy(error(text)).text, text)
 
     def test_each_call(self):

@@ -69,6 +69,7 @@ class FakeLibrary(WithFolder):
             "epoch": lambda: module.epoch("1"),
             "is_prerelease": lambda: module.is_prerelease("1"),
             "field": lambda: module.field("1", 4),
+            "wrong_member": lambda: module.wrong_member("1"),
             "Ranged": lambda: module.Ranged("*"),
             "matches": lambda: wanted.matches(version),
             "matches a text": lambda: wanted.matches("1.2"),

@@ -3,8 +3,10 @@
 import copy
 import enum
 import gc
+import os
 import pickle
 import random
+import re
 import unittest
 import weakref
 
@@ -322,9 +324,35 @@ class Requirements(unittest.TestCase):
             with self.subTest(text=text), self.assertRaises(InvalidRequirement) as raised:
                 Requirement(text)
             self.assertEqual(raised.exception.text, text)
-            self.assertEqual(str(raised.exception), f"not a requirement: {text!r}")
+            self.assertTrue(str(raised.exception).startswith(f"not a requirement: {text!r};"))
         for other in (None, 1, b"*", Version("1.2")):
             self.assertRaises(TypeError, Requirement, other)
+
+    def test_the_recipe_without_prereleases(self):
+        page = os.path.join(os.path.dirname(__file__), "..", "..", "docs", "REQUIREMENTS.md")
+        with open(page, encoding="utf-8") as read:
+            recipe = re.search(r"^\| Python \| `(.*?)`", read.read(), re.M)[1]
+        texts = ["1.2.3", "1.9.0-rc.1", "1.9.0+a-b", "1.9rc1", "2.0.0-rc.1"]
+        names = {"wanted": Requirement(">=1.2.3,<2"), "versions": [Version(text) for text in texts]}
+        self.assertEqual([str(version) for version in eval(recipe, names)], ["1.2.3", "1.9.0+a-b", "1.9rc1"])
+
+    def test_the_member_that_is_wrong(self):
+        members = {
+            "1.2.3": (0, "1.2.3"), "": (0, ""), ",": (0, ""), ",*": (0, ""), "=1.0.0,": (7, ""), "=1.0.0,,*": (7, ""),
+            ">=1.0, <2.0": (6, " <2.0"), "=1.0 || =2.0": (0, "=1.0 || =2.0"), "*,!=1.0,^1.*": (2, "!=1.0"),
+            "*,=\0,*": (2, "=\0"), "*,=é,*": (2, "=é"), "*,\U0001f600\xff": (2, "\U0001f600\xff"),
+            # A text with a lone surrogate has no pieces.
+            "\ud800": (0, "\ud800"), "*,\ud800,é": (0, "*,\ud800,é"),
+        }
+        for text, (start, member) in members.items():
+            with self.subTest(text=text), self.assertRaises(InvalidRequirement) as raised:
+                Requirement(text)
+            error = raised.exception
+            self.assertEqual((error.start, error.member), (start, member))
+            wrong = "" if member == text else f"; its member {member!r} at {start} is wrong"
+            self.assertEqual(str(error), f"not a requirement: {text!r}{wrong}; a list looks like '>=1.2,<2'")
+        # One made by hand of a text that is a requirement
+        self.assertEqual((InvalidRequirement("*,*").start, InvalidRequirement("*,*").member), (0, "*,*"))
 
     def test_no_version(self):
         anything = Requirement("*")

@@ -2,6 +2,8 @@
 
 from __future__ import annotations
 
+from . import _library
+
 
 class _Invalid(ValueError):
     """An error that holds a text. Its one argument is that text, so that it pickles."""
@@ -30,6 +32,36 @@ class InvalidVersion(_Invalid):
 
 
 class InvalidRequirement(_Invalid):
-    """A text that is neither a requirement nor a list of them, which `text` is."""
+    """A text that is neither a requirement nor a list of them, which `text` is.
+
+    Its members are the pieces between the commas. The first that is wrong is `member`, and begins at `start`.
+
+    >>> try:
+    ...     Requirement(">=1.0, <2.0")
+    ... except InvalidRequirement as error:
+    ...     print(error)
+    ...     print(repr(error.member), error.start)
+    not a requirement: '>=1.0, <2.0'; its member ' <2.0' at 6 is wrong; a list looks like '>=1.2,<2'
+    ' <2.0' 6
+    """
 
     _wanted = "requirement"
+
+    @property
+    def start(self) -> int:
+        """The place of the first member that is wrong."""
+        return self._place()[0]
+
+    @property
+    def member(self) -> str:
+        """The first member that is wrong, which may be empty."""
+        start, end = self._place()
+        return self.text[start:end]
+
+    def _place(self) -> tuple[int, int]:
+        return _library.wrong_member(self.text) or (0, len(self.text))
+
+    def __str__(self) -> str:
+        start, member = self.start, self.member
+        wrong = "" if member == self.text else f"; its member {member!r} at {start} is wrong"
+        return f"{super().__str__()}{wrong}; a list looks like '>=1.2,<2'"

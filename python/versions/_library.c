@@ -155,6 +155,30 @@ static PyObject *is_prerelease(PyObject *Py_UNUSED(module), PyObject *object) {
   return status == VERSIONS_OK ? PyBool_FromLong(answer) : none_or_raise(status, object);
 }
 
+/* wrong_member(text): where the first member begins and ends that is not a requirement; None where each is one */
+static PyObject *wrong_member(PyObject *Py_UNUSED(module), PyObject *object) {
+  PyObject *member;
+  PyThreadState *thread;
+  struct text text;
+  size_t start = 0, end = 0;
+  Py_ssize_t length;
+  int status;
+
+  if (read_text(object, &text) < 0) return NULL;
+  if (text.size > 0 && text.bytes[0] == NOT_UTF8[0]) return Py_BuildValue("(in)", 0, PyUnicode_GetLength(object));
+  thread = let_go(text.size);
+  status = versions_wrong_member(text.bytes, text.size, &start, &end);
+  take_again(thread);
+  if (status == VERSIONS_NO_WRONG_MEMBER) Py_RETURN_NONE;
+  if (status != VERSIONS_OK) return raise_status(status);
+  /* What precedes the member are requirements and commas, so each of its bytes is a character. */
+  member = PyUnicode_FromStringAndSize(text.bytes + start, (Py_ssize_t)(end - start));
+  if (member == NULL) return NULL;
+  length = PyUnicode_GetLength(member);
+  Py_DECREF(member);
+  return Py_BuildValue("(nn)", (Py_ssize_t)start, (Py_ssize_t)start + length);
+}
+
 /*
  * Many texts
  */
@@ -580,6 +604,7 @@ static PyMethodDef functions[] = {
     {"epoch", epoch, METH_O, NULL},
     {"field", field, METH_VARARGS, NULL},
     {"is_prerelease", is_prerelease, METH_O, NULL},
+    {"wrong_member", wrong_member, METH_O, NULL},
     {NULL, NULL, 0, NULL},
 };
 

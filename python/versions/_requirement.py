@@ -44,7 +44,7 @@ class Requirement(Value, _library.Ranged):
     (True, True)
     >>> Requirement("1.2.3")
     Traceback (most recent call last):
-    versions.InvalidRequirement: not a requirement: '1.2.3'
+    versions.InvalidRequirement: not a requirement: '1.2.3'; a list looks like '>=1.2,<2'
     """
 
     __slots__ = ("__weakref__",)

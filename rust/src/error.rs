@@ -1,5 +1,8 @@
 use std::error::Error;
 use std::fmt;
+use std::ops::Range;
+
+use crate::library;
 
 /// The error for a text that is not a version. It holds the whole text.
 ///
@@ -13,16 +16,22 @@ pub struct InvalidVersion {
     text: String,
 }
 
-/// The error for a text that is not a requirement, nor a list of them. It holds the whole text.
+/// The error for a text that is not a requirement, nor a list of them. It holds the whole text, and
+/// where the first of its members that is wrong lies: of the pieces between the commas.
 ///
 /// ```
-/// let error = proved_versions::Requirement::new("1.2.3").unwrap_err();
-/// assert_eq!(error.to_string(), r#"not a requirement: "1.2.3""#);
-/// assert_eq!(error.into_text(), "1.2.3");
+/// let error = proved_versions::Requirement::new(">=1.0, <2.0").unwrap_err();
+/// assert_eq!((error.member(), error.place()), (" <2.0", 6..11));
+/// assert_eq!(
+///     error.to_string(),
+///     r#"not a requirement: ">=1.0, <2.0"; its member " <2.0" at byte 6 is wrong; a list looks like ">=1.2,<2""#
+/// );
+/// assert_eq!(error.into_text(), ">=1.0, <2.0");
 /// ```
 #[derive(Clone, Debug, PartialEq, Eq, Hash)]
 pub struct InvalidRequirement {
     text: String,
+    member: Range<usize>,
 }
 
 impl InvalidVersion {
@@ -43,12 +52,24 @@ impl InvalidVersion {
 
 impl InvalidRequirement {
     pub(crate) fn new(text: impl Into<String>) -> Self {
-        InvalidRequirement { text: text.into() }
+        let text = text.into();
+        let member = library::wrong_member(&text);
+        InvalidRequirement { text, member }
     }
 
     /// Returns the text that is not a requirement.
     pub fn text(&self) -> &str {
         &self.text
+    }
+
+    /// Returns the first member that is not a requirement, which may be empty.
+    pub fn member(&self) -> &str {
+        &self.text[self.place()]
+    }
+
+    /// Returns where that member lies in the text, in bytes.
+    pub fn place(&self) -> Range<usize> {
+        self.member.clone()
     }
 
     /// Returns the same, as the `String` that the error held.
@@ -65,7 +86,12 @@ impl fmt::Display for InvalidVersion {
 
 impl fmt::Display for InvalidRequirement {
     fn fmt(&self, f: &mut fmt::Formatter<'_>) -> fmt::Result {
-        write!(f, "not a requirement: {:?}", self.text)
+        write!(f, "not a requirement: {:?}", self.text)?;
+        if self.member() != self.text {
+            let (member, start) = (self.member(), self.member.start);
+            write!(f, "; its member {member:?} at byte {start} is wrong")?;
+        }
+        f.write_str(r#"; a list looks like ">=1.2,<2""#)
     }
 }
 

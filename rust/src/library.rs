@@ -4,6 +4,7 @@
 
 use std::cmp::Ordering;
 use std::fmt::Display;
+use std::ops::Range;
 use std::os::raw::{c_char, c_int};
 
 use crate::bytes::{Bytes, WITHIN};
@@ -72,6 +73,13 @@ extern "C" {
         text: *const c_char,
         text_len: usize,
         matches: *mut u8,
+    ) -> c_int;
+
+    fn versions_wrong_member(
+        list: *const c_char,
+        list_len: usize,
+        start: *mut usize,
+        end: *mut usize,
     ) -> c_int;
 
     fn versions_range(
@@ -407,6 +415,19 @@ pub fn matches(list: &str, text: &str) -> Option<bool> {
         OK => Some(bool_of("versions_matches", answer)),
         NO_VERSION => None,
         _ => unexpected("versions_matches", "status", status),
+    }
+}
+
+/// Where the first member of a text lies that is not a requirement. Panics where each is one.
+pub fn wrong_member(list: &str) -> Range<usize> {
+    let (mut from, mut to) = (0, 0);
+    // SAFETY: the pointer and the length are those of `list`, which is only read; `from` and `to`
+    // are written.
+    let status = unsafe { versions_wrong_member(start(list), list.len(), &mut from, &mut to) };
+    match status {
+        OK if list.get(from..to).is_some() => from..to,
+        OK => unexpected("versions_wrong_member", "place", format!("{from}..{to}")),
+        _ => unexpected("versions_wrong_member", "status", status),
     }
 }
 

@@ -311,11 +311,39 @@ fn what_is_not_a_requirement_is_an_error_with_the_text() {
         ];
         for error in errors {
             assert_eq!(error.text(), text);
-            assert_eq!(error.to_string(), format!("not a requirement: {text:?}"));
+            let begins = format!("not a requirement: {text:?};");
+            assert!(error.to_string().starts_with(&begins));
             assert!(error.source().is_none());
             assert_eq!(error.clone(), error);
             assert_eq!(error.into_text(), text);
         }
+    }
+}
+
+#[test]
+fn the_error_has_the_member_that_is_wrong() {
+    let members = [
+        ("1.2.3", 0..5),
+        ("", 0..0),
+        (",", 0..0),
+        (",*", 0..0),
+        ("=1.0.0,", 7..7),
+        ("=1.0.0,,*", 7..7),
+        (">=1.0, <2.0", 6..11),
+        ("=1.0 || =2.0", 0..12),
+        ("*,!=1.0,^1.*", 2..7),
+        ("*,=\0,*", 2..4),
+        ("*,=é,*", 2..5),
+        ("*,😀,", 2..6),
+    ];
+    for (text, place) in members {
+        let error = Requirement::new(text).unwrap_err();
+        let member = &text[place.clone()];
+        assert_eq!((error.member(), error.place()), (member, place.clone()));
+        let wrong = format!("; its member {member:?} at byte {} is wrong", place.start);
+        let wrong = if member == text { "" } else { &wrong };
+        let said = format!(r#"not a requirement: {text:?}{wrong}; a list looks like ">=1.2,<2""#);
+        assert_eq!(error.to_string(), said);
     }
 }
 

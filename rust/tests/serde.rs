@@ -122,7 +122,7 @@ fn another_text_is_an_error_with_it() {
                 .to_string(),
             wanted
         );
-        let wanted = format!("not a requirement: {text:?}");
+        let wanted = format!(r#"not a requirement: {text:?}; a list looks like ">=1.2,<2""#);
         assert_eq!(
             Requirement::deserialize(lent(text))
                 .unwrap_err()

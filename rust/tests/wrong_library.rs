@@ -103,6 +103,8 @@ fn statuses_of_other_calls() {
         let said = panic(|| Requirement::new(text).is_ok());
         assert_eq!(said, unexpected("versions_range", status));
     }
+    let said = panic(|| Requirement::new("5").is_ok());
+    assert_eq!(said, unexpected("versions_wrong_member", "status 5"));
     for (text, status) in [("v1", "status 1"), ("v7", "status 7"), ("v11", "status 11")] {
         assert_eq!(
             panic(|| version(text).nth(0)),
@@ -234,6 +236,17 @@ fn places_of_fields() {
         assert_eq!(panic(|| version.pre_release().is_some()), wanted);
         assert_eq!(panic(|| version.release().is_some()), wanted);
         assert_eq!(panic(|| version.metadata().is_some()), wanted);
+    }
+}
+
+#[test]
+#[ignore = "run by tests/rust of the repository, with a wrong library"]
+fn places_of_members() {
+    let texts = ["x5a", "x5b", "x5dé", "x5e"];
+    let places = ["0..4", "2..1", "3..4", "0..18446744073709551615"];
+    for (text, place) in texts.into_iter().zip(places) {
+        let wanted = unexpected("versions_wrong_member", &format!("place {place}"));
+        assert_eq!(panic(|| Requirement::new(text).is_ok()), wanted);
     }
 }
 

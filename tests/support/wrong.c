@@ -37,6 +37,16 @@ static int number_by_keys(const char *texts, size_t texts_len, const int64_t *of
   return room == 3 * texts_len + 5 * (offsets_len - 1) ? number_of_all(texts, texts_len, offsets, offsets_len) : 76;
 }
 
+/*
+ * A place by the letter after the number: `a` past the text, `b` an end before the start, `c` nothing, `d` the places
+ * from 3 to 4, and otherwise far past the text.
+ */
+static void place(const char *text, size_t text_len, size_t *start, size_t *end) {
+  char which = text_len > 2 ? text[2] : 0;
+  *start = which == 'b' ? 2 : which == 'c' ? 1 : which == 'd' ? 3 : 0;
+  *end = which == 'a' ? text_len + 1 : which == 'b' || which == 'c' ? 1 : which == 'd' ? 4 : SIZE_MAX;
+}
+
 int versions_kind(const char *text, size_t text_len) { return number(text, text_len); }
 
 /* `k0` has no kind of versions.h, `n0` is said to be no version, and `l0` has a key longer than the room. */
@@ -63,6 +73,12 @@ int versions_matches(const char *list, size_t list_len, const char *text, size_t
   (void)text, (void)text_len;
   *(unsigned char *)matches = 9;
   return number(list, list_len);
+}
+
+/* The place is that of versions_field. A text of a number alone is said to be a list, by the status of that number. */
+int versions_wrong_member(const char *list, size_t list_len, size_t *start, size_t *end) {
+  place(list, list_len, start, end);
+  return letter(list, list_len) ? VERSIONS_OK : number(list, list_len);
 }
 
 /* `l0` has a low bound longer than the room, `h0` a high one, and `f0` a flag that versions.h does not have. */
@@ -97,15 +113,9 @@ int versions_epoch(const char *text, size_t text_len, uint64_t *epoch) {
   return number(text, text_len);
 }
 
-/*
- * By the letter after the number: `a` past the text, `b` an end before the start, `c` nothing, `d` the places from 3 to
- * 4, and otherwise far past the text.
- */
 int versions_field(const char *text, size_t text_len, uint32_t field, size_t *start, size_t *end) {
-  char which = text_len > 2 ? text[2] : 0;
   (void)field;
-  *start = which == 'b' ? 2 : which == 'c' ? 1 : which == 'd' ? 3 : 0;
-  *end = which == 'a' ? text_len + 1 : which == 'b' || which == 'c' ? 1 : which == 'd' ? 4 : SIZE_MAX;
+  place(text, text_len, start, end);
   return number(text, text_len);
 }
 
