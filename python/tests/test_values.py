@@ -333,8 +333,8 @@ class Requirements(unittest.TestCase):
         with open(page, encoding="utf-8") as read:
             recipe = re.search(r"^\| Python \| `(.*?)`", read.read(), re.M)[1]
         texts = ["1.2.3", "1.9.0-rc.1", "1.9.0+a-b", "1.9rc1", "2.0.0-rc.1"]
-        names = {"wanted": Requirement(">=1.2.3,<2"), "versions": [Version(text) for text in texts]}
-        self.assertEqual([str(version) for version in eval(recipe, names)], ["1.2.3", "1.9.0+a-b", "1.9rc1"])
+        names = {"wanted": Requirement(">=1.2.3,<2"), "texts": [*texts, "x y"], "Version": Version}
+        self.assertEqual(eval(recipe, names), ["1.2.3", "1.9.0+a-b", "1.9rc1"])
 
     def test_the_member_that_is_wrong(self):
         members = {
