@@ -1,6 +1,7 @@
 -- The members of a list of requirements, by the place of its first comma.
-use Rattle.std.proofs.Common.{◌≡◌, ◌==◌, ◌<◌, ◌+◌, ◌-◌, ◌∙◌, ℕ, false, List, [], ◌∷◌, map, ap, arith}
-use Rattle.std.proofs.Common.{Option, Some, None, drop, if◌then◌else◌, length, length-drop, refl, sym, take}
+use Rattle.std.proofs.Common.{◌≡◌, ◌==◌, ◌<◌, ◌+◌, ◌-◌, ◌∙◌, ℕ, false, List, [], ◌∷◌, map, ap}
+use Rattle.std.proofs.Common.{Option, Some, None, arith, drop, if◌then◌else◌, length}
+use Rattle.std.proofs.Common.{length-drop, refl, sym, take}
 use Rattle.std.proofs.lemmas.List.{take_all}
 use Rattle.std.proofs.lemmas.List.Elements.{All-from_get_or}
 use Rattle.std.proofs.lemmas.List.Splits.{slice_split_first, slice_split_none}
@@ -36,7 +37,8 @@ pieces_cut text n e some =
     ∙ (λ i. first i ∷ cut_at_commas (others i))
 
 -- what the pieces of a text are read as is what the text is read as
-pub read_pieces : (text piece : List ℕ) (pieces : List (List ℕ)) → cut_at_commas text ≡ piece ∷ pieces
+pub read_pieces : (text piece : List ℕ) (pieces : List (List ℕ))
+    → cut_at_commas text ≡ piece ∷ pieces
     → requirements_of text
     ≡ before_others (requirement_of piece) (every (map requirement_of pieces))
 read_pieces text piece pieces cut = ap (λ pieces. every (map requirement_of pieces)) cut
