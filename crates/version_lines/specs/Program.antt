@@ -17,7 +17,8 @@ use Rattle.versions.specs.Versioning.{PlainVersioning, versioning_of}
 
 -- what `ideal` writes for a line
 abbrev pub ideal_line : List ℕ → List ℕ
-ideal_line line = answer_text (if is_some (semver_of line) then OfKind kind.Ideal else NoVersion) line
+ideal_line line =
+    answer_text (if is_some (semver_of line) then OfKind kind.Ideal else NoVersion) line
 
 -- the answer for a line that parses as this version, or not as a version
 abbrev pub show_answer : Option PlainVersioning → Answer
