@@ -149,7 +149,7 @@ size_t versions_sort_key_bound(size_t text_len);
 int versions_matches(const char *list, size_t list_len, const char *text, size_t text_len, bool *matches);
 
 /*
- * Finds the first member of a text that is not a requirement, which tells why the text is not a list of requirements.
+ * Finds the first member of a text that is not a requirement, and so why the text is not a list of requirements.
  * The members are the pieces between the commas.
  *
  * The member is the bytes of the text from *start up to, but without, *end. It is empty if nothing stands before,
@@ -186,7 +186,7 @@ int versions_wrong_member(const char *list, size_t list_len, size_t *start, size
  *     int status = versions_range(list, list_len, low, sizeof low, &low_len, high, sizeof high, &high_len, &flags);
  *
  * the rows from the first key that is not below `low` up to the first that is not below `high` are those to read, and
- * flags & 1 << (kind - 1) tells whether a row's kind is one of the kinds.
+ * flags & 1 << (kind - 1) is not 0 where a row's kind is one of the kinds.
  *
  * Returns VERSIONS_OK, VERSIONS_NO_REQUIREMENTS or VERSIONS_NO_ROOM.
  */

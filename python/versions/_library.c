@@ -82,7 +82,7 @@ static PyObject *compare_total(PyObject *Py_UNUSED(module), PyObject *args, PyOb
  * What a version has, for the attributes of Version
  */
 
-/* What a status says that is not about a number or a field: None where the version has none. */
+/* Answers a call without a number or a field: None if the version has none, else raises the error of the status. */
 static PyObject *none_or_raise(int status, PyObject *object) {
   switch (status) {
     case VERSIONS_NO_NUMBER:
@@ -675,7 +675,7 @@ static void release(void *module) { clear(module); }
 
 /*
  * Interpreters. All that changes is in the state of a module, so each interpreter may have a lock (GIL) of its own.
- * Python 3.12 and later is told so by a slot whose number its headers name; an earlier Python refuses that number.
+ * A slot reports this to Python 3.12 and later, whose headers have its number; an earlier Python refuses that number.
  */
 
 #define MULTIPLE_INTERPRETERS 3

@@ -25,13 +25,16 @@
  * Errors (_texts.c)
  */
 
-/* Raises an error with words. What fails while they are made is raised instead; PyErr_Format loses it before 3.12. */
+/*
+ * Raises an error of the type, with a message made as PyErr_Format makes it. If making the message fails, that failure is
+ * raised instead; before Python 3.12 PyErr_Format loses it.
+ */
 void *fail(PyObject *type, const char *format, ...);
 
 /* Raises an error of the package that holds the text, InvalidVersion or InvalidRequirement. */
 void *raise_invalid(const char *name, PyObject *text);
 
-/* Raises what a status says that is not about a text. */
+/* Raises the error of a status that does not speak of one text. */
 void *raise_status(int status);
 
 /*

@@ -14,7 +14,7 @@ class Version(Value, _library.Keyed):
     """A version of any kind, which can't be changed. `InvalidVersion` where the text is not a version.
 
     Comparisons, `==` and hashes go by precedence, the one order of all versions, and so by `key`. The text stays as it
-    was written, and `str` returns it. Equal versions may have different texts. The requirement `=` tells them apart:
+    was written, and `str` returns it. Equal versions may have different texts. The requirement `=` distinguishes them:
     `Requirement("=1.0")` doesn't match `0:1.0`.
 
     >>> Version("1.2") < Version("1.2.0-rc.1") < Version("1.2.0")
