@@ -1,0 +1,191 @@
+#!/usr/bin/env python3
+# The tests of tests/quick.
+import os
+import re
+import shlex
+import shutil
+import signal
+import subprocess
+import sys
+import tempfile
+import time
+from pathlib import Path
+
+TOP = Path(__file__).resolve().parent.parent.parent
+JOBS = int(os.environ.get("JOBS", "3"))
+
+# Tests of great lengths, by the prefixes of their names. Each would take `rt try` minutes.
+LARGE = re.compile(r"^#\[test\]\nfn ((?:a_million|ten_megabytes|a_hundred_thousand)\w*)\(.*?^}\n", re.M | re.S)
+SCRIPTS = ("tests/examples", "tests/unused")
+
+# Faults of docs/PROGRAM.md: the words, the input and the status. Nothing is written.
+FAULTS = (
+    (["foo"], "", 2),
+    (["ideal", "ideal"], "", 2),
+    (["cmp", "1.2.3"], "", 2),
+    (["match"], "", 2),
+    (["cmp", "1", "."], "", 1),
+    (["key", "1..2"], "", 1),
+    (["match", ">=1.0,"], "1.0\n", 1),
+    (["sort"], "1\n1 2\n.\n", 1),
+)
+
+TEST = re.compile(r"^test (\S+) \.\.\. (\w+)", re.M)
+CASE = re.compile(r"^case=(\S+) run=(\S+) status=(\d+) .*output=(\S+)", re.M)
+COUNT = re.compile(r"(\d+) passed, (\d+) failed\n\Z")
+
+
+def examples_of_page():
+    """The examples of docs/PROGRAM.md with a prompt: the words, the input and the output."""
+    page = (TOP / "docs/PROGRAM.md").read_text()
+    shown = re.search(r"```text\n(\$ .*?)```", page, re.S)[1]
+    for command, output in re.findall(r"^\$ (.*)\n((?:(?!\$ ).*\n)*)", shown, re.M):
+        words = shlex.split(command)
+        given = ""
+        if words[0] == "printf":
+            given = words[1].replace("\\n", "\n")
+            words = words[3:]
+        yield words[1:], given, output
+
+
+def cases_of_vers():
+    """A name, words, input, output and status for each case."""
+    for at, (words, given, output) in enumerate(examples_of_page(), 1):
+        yield f"page_{at}", words, given, output, 0
+    for at, (words, given, status) in enumerate(FAULTS, 1):
+        yield f"fault_{at}", words, given, "", status
+    own = TOP / "crates/vers"
+    yield "file", [], (own / "stdin").read_text(), (own / "stdout").read_text(), 0
+
+
+def cases_of_memory():
+    yield "calls", [], "", (TOP / "crates/vectors_memory/stdout").read_text(), 0
+
+
+def left_to_the_gate():
+    """What the gate runs and this does not, but for tests of great lengths."""
+    scripts = dict.fromkeys(re.findall(r"\btests/\w+\b(?!/)", (TOP / ".ci/run").read_text()))
+    return ["every proof, and the must-fail edits", *(name for name in scripts if name not in SCRIPTS), "bench_growth"]
+
+
+class Tests:
+    """The tests of a crate."""
+
+    def __init__(self, copy, crate):
+        self.name = f"the tests of {crate}"
+        self.folder = copy / "crates" / crate
+        self.command = ["rt", "try", "--test"]
+
+    def counts(self, said, status):
+        found = TEST.findall(said)
+        passed = sum(word == "ok" for _, word in found)
+        announced = re.search(r"^tests: (\d+)$", said, re.M)
+        lacking = int(announced[1]) - passed if announced else 1
+        return passed, max(lacking, int(status != 0))
+
+
+class Cases:
+    """A program on many inputs."""
+
+    def __init__(self, copy, crate, cases):
+        self.name = crate
+        self.folder = copy / "crates" / crate
+        self.wanted = {}
+        inputs = copy / f"cases_of_{crate}"
+        inputs.mkdir()
+        for name, words, given, output, status in cases:
+            (inputs / name).write_text(given)
+            (inputs / f"{name}.args").write_text("".join(f"{word}\n" for word in words))
+            (inputs / f"{name}.stdout").write_text(output)
+            self.wanted[name] = ["ended", str(status), "expected"]
+        self.command = ["rt", "try", "--cases", str(inputs)]
+
+    def counts(self, said, status):
+        found = {name: rest for name, *rest in CASE.findall(said)}
+        differing = [name for name, wanted in self.wanted.items() if found.get(name) != wanted]
+        for name in differing:
+            print(f"FAILED: {self.name}, {name}: {found.get(name)}, expected {self.wanted[name]}")
+        return len(self.wanted) - len(differing), max(len(differing), int(status != 0))
+
+
+class Script:
+    """A script that ends with its own count."""
+
+    def __init__(self, name):
+        self.name = name
+        self.folder = TOP
+        self.command = [str(TOP / name)]
+
+    def counts(self, said, status):
+        count = COUNT.search(said)
+        passed, failed = map(int, count.groups()) if count else (0, 1)
+        return passed, max(failed, int(status != 0))
+
+
+def start(part):
+    part.began = time.monotonic()
+    part.said = tempfile.TemporaryFile("w+", errors="replace")
+    how = {"stdin": subprocess.DEVNULL, "stdout": part.said, "stderr": subprocess.STDOUT}
+    part.process = subprocess.Popen(part.command, cwd=part.folder, **how)
+
+
+def end(part):
+    part.said.seek(0)
+    said = part.said.read()
+    passed, failed = part.counts(said, part.process.returncode)
+    print(f"{part.name}: {passed} passed, {failed} failed, {time.monotonic() - part.began:.0f} s", flush=True)
+    if failed:
+        print(said, flush=True)
+    return passed, failed
+
+
+def run(parts):
+    """Runs the parts, JOBS at the same time."""
+    passed = failed = 0
+    waiting, running = list(parts), []
+    try:
+        while waiting or running:
+            while waiting and len(running) < JOBS:
+                running.append(waiting.pop(0))
+                start(running[-1])
+            time.sleep(0.1)
+            for part in [it for it in running if it.process.poll() is not None]:
+                running.remove(part)
+                counts = end(part)
+                passed, failed = passed + counts[0], failed + counts[1]
+    finally:
+        for part in running:
+            part.process.terminate()
+            part.process.wait()
+    return passed, failed
+
+
+def main(copy):
+    shutil.copytree(TOP / "crates", copy / "crates", ignore=shutil.ignore_patterns("out"))
+    shutil.copy(TOP / "crates.txt", copy)
+    left, tested = [], set()
+    for file in sorted((copy / "crates").glob("*/src/**/*.rt")):
+        text = file.read_text()
+        crate = file.relative_to(copy).parts[1]
+        if "#[test]" in text:
+            tested.add(crate)
+        left += [f"{crate}: {name}" for name in LARGE.findall(text)]
+        file.write_text(LARGE.sub("", text))
+
+    # The longest of these parts come first, so that the processors end together.
+    examples, unused = map(Script, SCRIPTS)
+    parts = [examples, Cases(copy, "vectors_memory", cases_of_memory())]
+    parts += [Tests(copy, crate) for crate in sorted(tested)]
+    parts += [Cases(copy, "vers", cases_of_vers()), unused]
+    passed, failed = run(parts)
+    print("left to the gate:", *left_to_the_gate(), *left, sep="\n  ")
+    return passed, failed
+
+
+if __name__ == "__main__":
+    print("Nothing is proved by this.", flush=True)
+    signal.signal(signal.SIGTERM, lambda *_: sys.exit(143))
+    with tempfile.TemporaryDirectory() as folder:
+        passed, failed = main(Path(folder))
+    print(f"{passed} passed, {failed} failed")
+    sys.exit(1 if failed else 0)
