@@ -65,7 +65,7 @@ def cases_of_memory():
 def left_to_the_gate():
     """What the gate runs and this does not, but for tests of great lengths."""
     scripts = dict.fromkeys(re.findall(r"\btests/\w+\b(?!/)", (TOP / ".ci/run").read_text()))
-    return ["every proof, and the must-fail edits", *(name for name in scripts if name not in SCRIPTS), "bench_growth"]
+    return ["every proof, and the must-fail edits", *(name for name in scripts if name not in (*SCRIPTS, "tests/quick")), "bench_growth"]
 
 
 class Tests:
@@ -106,6 +106,24 @@ class Cases:
         for name in differing:
             print(f"FAILED: {self.name}, {name}: {found.get(name)}, expected {self.wanted[name]}")
         return len(self.wanted) - len(differing), max(len(differing), int(status != 0))
+
+
+class FirstCommand:
+    """README's first command, as it stands there. The other two are this script and the gate, which runs it."""
+
+    name = "README.md"
+
+    def __init__(self, copy):
+        section = re.search(r"^## Try it\n(.*?)^## ", (TOP / "README.md").read_text(), re.M | re.S)[1]
+        block, *self.others = re.findall(r"^```sh\n(.*?)^```$", section, re.M | re.S)
+        self.wanted = re.findall("`(.*?)`", re.search("It prints (.*):$", section, re.M)[1])
+        self.folder = copy
+        self.command = ["bash", "-c", f"set -o pipefail; {block.strip()} | sed 's/^/printed: /'"]
+
+    def counts(self, said, status):
+        printed = re.findall("^printed: (.*)$", said, re.M)
+        passed = (status == 0 and printed == self.wanted) + (self.others == ["tests/quick\n", ".ci/run\n"])
+        return passed, 2 - passed
 
 
 class Script:
@@ -176,7 +194,7 @@ def main(copy):
     examples, unused = map(Script, SCRIPTS)
     parts = [examples, Cases(copy, "vectors_memory", cases_of_memory())]
     parts += [Tests(copy, crate) for crate in sorted(tested)]
-    parts += [Cases(copy, "vers", cases_of_vers()), unused]
+    parts += [Cases(copy, "vers", cases_of_vers()), FirstCommand(copy), unused]
     passed, failed = run(parts)
     print("left to the gate:", *left_to_the_gate(), *left, sep="\n  ")
     return passed, failed
