@@ -65,7 +65,8 @@ def cases_of_memory():
 def left_to_the_gate():
     """What the gate runs and this does not, but for tests of great lengths."""
     scripts = dict.fromkeys(re.findall(r"\btests/\w+\b(?!/)", (TOP / ".ci/run").read_text()))
-    return ["every proof, and the must-fail edits", *(name for name in scripts if name not in (*SCRIPTS, "tests/quick")), "bench_growth"]
+    others = [name for name in scripts if name not in (*SCRIPTS, "tests/quick")]
+    return ["every proof, and the must-fail edits", *others, "bench_growth"]
 
 
 class Tests:
