@@ -78,7 +78,7 @@ fn compare_same_len(a: &[u8], b: &[u8]) -> Ordering
 
 // The text after its leading zeros.
 #[inline(always)]
-fn without_zeros(text: &[u8]) -> &[u8]
+pub(crate) fn without_zeros(text: &[u8]) -> &[u8]
     ensures { result.now ≡ drop (prefix_len (λ b. b == 48) text.now) text.now }
 {
     let mut left = text;
