@@ -17,7 +17,7 @@ ghost use Rattle.versions.specs.Range.{begun};
 ghost use Rattle.versions.specs.Tail.{section_bytes, tail_bytes};
 ghost use Rattle.version_texts.specs.Parts.{parts_behind};
 ghost use Rattle.version_texts.specs.Shape.{body_in, epoch_in, is_section_byte, is_tail_byte, tail_in, Fits};
-ghost use Rattle.version_texts.specs.TextKey.{chunk_of, chunks_of, front_bytes, parts_of, sections_of, tail_mark, tail_of, text_key};
+ghost use Rattle.version_texts.specs.TextKey.{chunk_of, chunks_of, front_bytes, parts_of, sections_of, tail_of, text_key};
 
 use crate::class::{Class, begins_with, split_run};
 use crate::order::digits::without_zeros;
@@ -201,26 +201,13 @@ fn put_sections<S: Sink>(sink: &mut S, text: &[u8])
     }
 }
 
-// The byte that a kind of tail begins with.
-#[inline(always)]
-fn tail_mark(kind: TailKind) -> u8
-    ensures { result ≡ tail_mark kind }
-{
-    match kind {
-        TailKind::PreRelease => 1,
-        TailKind::Nothing => 2,
-        TailKind::Release => 3,
-        TailKind::Sections => 4,
-    }
-}
-
 // Writes a tail, by its kind and its text.
 #[inline(always)]
 pub(crate) fn put_tail<S: Sink>(sink: &mut S, kind: TailKind, text: &[u8])
     requires { list_all (is_tail_byte kind) text.now ≡ true }
     ensures { S.takes sink.old (tail_bytes (tail_of kind text.now)) sink.new }
 {
-    sink.put(tail_mark(kind));
+    sink.put(kind.rank());
     match kind {
         TailKind::Nothing => {}
         TailKind::Sections => put_sections(sink, text),
