@@ -5,7 +5,7 @@ use Rattle.version_parts.specs.Bytes.{colon, dot, hyphen, is_identifier_byte, is
 use Rattle.version_parts.specs.Bytes.{plus}
 use Rattle.version_parts.specs.Sep.{is_sep}
 use Rattle.version_texts.specs.declared.class.Class.{Class}
-use Rattle.version_texts.specs.declared.class.Class.TheVariants.{Zero, Digit, Letter, Alphanumeric}
+use Rattle.version_texts.specs.declared.class.Class.TheVariants.{Digit, Letter, Alphanumeric}
 use Rattle.version_texts.specs.declared.class.Class.TheVariants.{Identifier, Metadata, Mark, NotDot}
 
 -- a dot or a sign
@@ -31,7 +31,6 @@ first_rank (b ∷ text) = byte_rank b
 
 -- whether a byte is of the class
 abbrev pub contains : Class → ℕ → Bool
-contains Zero b = b == 48
 contains Digit b = is_ascii_digit b
 contains Letter b = is_ascii_alphabetic b
 contains Alphanumeric b = is_ascii_alphanumeric b

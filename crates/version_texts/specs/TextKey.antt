@@ -43,13 +43,6 @@ abbrev pub tail_of_sections : List (List PartKey) → Tail
 tail_of_sections [] = tail.Bare
 tail_of_sections (first ∷ more) = tail.Sections first more
 
--- the byte that a kind of tail begins with
-abbrev pub tail_mark : TailKind → ℕ
-tail_mark PreRelease = 1
-tail_mark Nothing = 2
-tail_mark Release = 3
-tail_mark Sections = 4
-
 -- the tail of a kind, from its text
 abbrev pub tail_of : TailKind → List ℕ → Tail
 tail_of PreRelease text = tail.PreReleased (chunks_of text)

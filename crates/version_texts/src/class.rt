@@ -9,7 +9,6 @@ ghost use Rattle.version_texts.specs.Class.{byte_rank, contains, first_rank};
 /// A class of bytes.
 #[derive(Clone, Copy)]
 pub enum Class {
-    Zero,
     Digit,
     Letter,
     /// Letters and digits.
@@ -64,7 +63,6 @@ impl Class {
         ensures { result ≡ contains self byte }
     {
         match self {
-            Class::Zero => byte == b'0',
             Class::Digit => byte.is_ascii_digit(),
             Class::Letter => byte.is_ascii_alphabetic(),
             Class::Alphanumeric => rank(byte) < 2,
@@ -82,7 +80,6 @@ impl Class {
         ensures { (text : List ℕ) → first_rank text ≡ rank → begins (contains self) text ≡ result }
     {
         match self {
-            Class::Zero => false,
             Class::Digit => rank < LETTER,
             Class::Letter => rank == LETTER,
             Class::Alphanumeric => rank <= LETTER,

@@ -17,9 +17,10 @@ ghost use Rattle.versions.specs.Range.{begun};
 ghost use Rattle.versions.specs.Tail.{section_bytes, tail_bytes};
 ghost use Rattle.version_texts.specs.Parts.{parts_behind};
 ghost use Rattle.version_texts.specs.Shape.{body_in, epoch_in, is_section_byte, is_tail_byte, tail_in, Fits};
-ghost use Rattle.version_texts.specs.TextKey.{chunk_of, chunks_of, front_bytes, parts_of, sections_of, tail_mark, tail_of, text_key};
+ghost use Rattle.version_texts.specs.TextKey.{chunk_of, chunks_of, front_bytes, parts_of, sections_of, tail_of, text_key};
 
 use crate::class::{Class, begins_with, split_run};
+use crate::order::digits::without_zeros;
 use crate::shape::{Shape, TailKind};
 use crate::sink::{Sink, put_all};
 
@@ -36,25 +37,13 @@ fn put_length<S: Sink>(sink: &mut S, length: usize)
     sink.put(left as u8);
 }
 
-// The text behind the zeros that it begins with. Few numbers begin with one.
-#[inline(always)]
-fn behind_zeros(text: &[u8]) -> &[u8]
-    ensures { result.now ≡ drop (prefix_len (λ b. b == 48) text.now) text.now }
-{
-    if !begins_with(text, Class::Zero) {
-        return text;
-    }
-    let (_, rest) = split_run(text, Class::Zero);
-    rest
-}
-
 // Writes the number at the start of a text, and returns the rest.
 #[inline(always)]
 fn put_number<'t, S: Sink>(sink: &mut S, text: &'t [u8]) -> &'t [u8]
     ensures bytes { S.takes sink.old (number_bytes (run_value text.now)) sink.new }
     ensures rest { result.now ≡ drop (prefix_len is_ascii_digit text.now) text.now }
 {
-    let (digits, rest) = split_run(behind_zeros(text), Class::Digit);
+    let (digits, rest) = split_run(without_zeros(text), Class::Digit);
     put_length(sink, digits.len());
     put_all(sink, digits);
     rest
@@ -212,26 +201,13 @@ fn put_sections<S: Sink>(sink: &mut S, text: &[u8])
     }
 }
 
-// The byte that a kind of tail begins with.
-#[inline(always)]
-fn tail_mark(kind: TailKind) -> u8
-    ensures { result ≡ tail_mark kind }
-{
-    match kind {
-        TailKind::PreRelease => 1,
-        TailKind::Nothing => 2,
-        TailKind::Release => 3,
-        TailKind::Sections => 4,
-    }
-}
-
 // Writes a tail, by its kind and its text.
 #[inline(always)]
 pub(crate) fn put_tail<S: Sink>(sink: &mut S, kind: TailKind, text: &[u8])
     requires { list_all (is_tail_byte kind) text.now ≡ true }
     ensures { S.takes sink.old (tail_bytes (tail_of kind text.now)) sink.new }
 {
-    sink.put(tail_mark(kind));
+    sink.put(kind.rank());
     match kind {
         TailKind::Nothing => {}
         TailKind::Sections => put_sections(sink, text),

@@ -1,14 +1,14 @@
 //! The order of versions, read off their texts up to the first difference. Nothing here allocates.
 
-ghost use Rattle.std.specs.Prelude.{◌≡◌, ◌<◌, List, ℕ};
+ghost use Rattle.std.specs.Prelude.{◌≡◌, ◌<◌};
 ghost use Rattle.std.specs.Ordering.{nat_cmp};
 ghost use Rattle.std.specs.Str.Parse.{digits_value};
 ghost use Rattle.versions.specs.Key.{precedence};
-ghost use Rattle.versions.specs.Tail.{tail_cmp, tail_rank};
+ghost use Rattle.versions.specs.Tail.{tail_cmp};
 ghost use Rattle.version_texts.specs.Shape.{Fits, epoch_in, tail_in};
 ghost use Rattle.version_texts.specs.TextKey.{tail_of, text_key};
 
-mod digits;
+pub(crate) mod digits;
 pub(crate) mod list;
 pub(crate) mod part;
 pub(crate) mod piece;
@@ -80,20 +80,7 @@ fn compare_tails(a: &[u8], a_shape: Shape, b: &[u8], b_shape: Shape) -> Ordering
         (TailKind::Sections, TailKind::Sections) => {
             compare_sections(tail(a, a_shape), tail(b, b_shape))
         }
-        (kind, other) => rank(kind).cmp(&rank(other)),
-    }
-}
-
-// The place of a tail in the order of tails.
-#[inline(always)]
-fn rank(kind: TailKind) -> u8
-    ensures { (text : List ℕ) → result ≡ tail_rank (tail_of kind text) }
-{
-    match kind {
-        TailKind::PreRelease => 1,
-        TailKind::Nothing => 2,
-        TailKind::Release => 3,
-        TailKind::Sections => 4,
+        (kind, other) => kind.rank().cmp(&other.rank()),
     }
 }
 

@@ -13,7 +13,7 @@ ghost use Rattle.versions.specs.Versioning.{PlainVersioning};
 
 use crate::versioning_ref::VersioningRef;
 use std::alloc::{AllocError, Global};
-use versions::{Op, Range, Requirement, asks_for, ends_of};
+use versions::{Op, Range, asks_for, ends_of, ends_without_version};
 
 /// A requirement borrowed from its text: a `Requirement` that owns nothing. Only `range` allocates.
 /// docs/REQUIREMENTS.md has the rules.
@@ -83,11 +83,11 @@ impl<'a> RequirementRef<'a> {
     {
         match &self.version {
             Some(version) => version.range(ends_of(self.op, version.kind()), alloc),
-            None => Requirement {
-                op: self.op,
-                version: None,
+            None => {
+                // No end needs the key, so any version will do.
+                let version = VersioningRef::new("0.0.0").unwrap();
+                version.range(ends_without_version(self.op), alloc)
             }
-            .range(alloc),
         }
     }
 }

@@ -1,7 +1,7 @@
 //! Lists of requirements that are borrowed from their texts.
 
-ghost use Rattle.std.specs.Prelude.{◌≡◌, ◌==◌, ◌<◌, ◌≤◌, ◌+◌, ◌↔◌, [], ◌∷◌, IfOk, IfSome, IsTrue, length};
-ghost use Rattle.std.specs.List.{fold, position_or_len};
+ghost use Rattle.std.specs.Prelude.{◌≡◌, ◌<◌, ◌≤◌, ◌+◌, ◌↔◌, [], ◌∷◌, IfOk, IfSome, IsTrue, length};
+ghost use Rattle.std.specs.List.{fold};
 ghost use Rattle.std.specs.Option.{is_none, is_some, option_map, unwrap_or, IsSomeAnd};
 ghost use Rattle.version_texts.specs.RequirementRef.{plain_requirement_ref};
 ghost use Rattle.version_texts.specs.RequirementsRef.{cut_at_commas, from_second, pieces_of, wrong_member, IsFront};
@@ -9,10 +9,11 @@ ghost use Rattle.version_texts.specs.VersioningRef.{plain_versioning_ref};
 ghost use Rattle.versions.specs.Matching.{MatchesAll};
 ghost use Rattle.versions.specs.Range.{common, plain_range, range_of, requirement_range, IsIn};
 ghost use Rattle.versions.specs.Requirement.{requirement_of};
-ghost use Rattle.versions.specs.Requirements.{comma, requirements_of};
+ghost use Rattle.versions.specs.Requirements.{requirements_of};
 ghost use Rattle.versions.specs.RequirementsRef.{before_others, members_of, AreMembers, Keeps};
 ghost use Rattle.versions.specs.Versioning.{versioning_of, PlainVersioning};
 
+use crate::order::piece::place_of;
 use crate::requirement_ref::RequirementRef;
 use crate::versioning_ref::VersioningRef;
 use std::alloc::{AllocError, Global};
@@ -190,24 +191,11 @@ pub(crate) fn split_first(list: &[u8]) -> (&[u8], Option<&[u8]>)
     ensures shorter { IfSome result.1
         (λ others. length result.0.now + length others.now < length list.now) }
 {
-    let end = first_comma(list);
+    let end = place_of(b',', list);
     if end == list.len() {
         return (list, None);
     }
     (&list[..end], Some(&list[end + 1..]))
-}
-
-// The place of the first comma of a text, or the length of a text without commas.
-fn first_comma(text: &[u8]) -> usize
-    ensures place { result ≡ position_or_len (λ b. b == comma) text.now }
-    ensures within { result ≤ length text.now }
-{
-    for (place, byte) in text.iter().enumerate() {
-        if *byte == b',' {
-            return place;
-        }
-    }
-    text.len()
 }
 
 // Returns whether the text parses as members. True without a text.

@@ -5,21 +5,9 @@ ghost use Rattle.std.specs.Char.{is_ascii_digit};
 ghost use Rattle.std.specs.List.{list_all, prefix_len, take_while};
 ghost use Rattle.std.specs.Ordering.{nat_cmp};
 ghost use Rattle.std.specs.Str.Parse.{digits_value};
-ghost use Rattle.version_parts.specs.DigitRun.{starts_with_digit};
 ghost use Rattle.version_parts.specs.Lists.{bytes_cmp};
 
 use std::cmp::Ordering;
-
-// Whether a text begins with a digit.
-#[inline(always)]
-pub(crate) fn begins_with_digit(text: &[u8]) -> bool
-    ensures { result ≡ starts_with_digit text.now }
-{
-    match text {
-        [first, ..] => first.is_ascii_digit(),
-        [] => false,
-    }
-}
 
 // The length of the run of digits at the start of a text.
 #[inline(always)]
@@ -78,7 +66,7 @@ fn compare_same_len(a: &[u8], b: &[u8]) -> Ordering
 
 // The text after its leading zeros.
 #[inline(always)]
-fn without_zeros(text: &[u8]) -> &[u8]
+pub(crate) fn without_zeros(text: &[u8]) -> &[u8]
     ensures { result.now ≡ drop (prefix_len (λ b. b == 48) text.now) text.now }
 {
     let mut left = text;

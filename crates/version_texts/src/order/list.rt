@@ -5,7 +5,7 @@ ghost use Rattle.std.specs.declared.cmp.Ordering.TheVariants.{Equal};
 ghost use Rattle.version_parts.specs.PartKey.{list_cmp};
 ghost use Rattle.version_texts.specs.TextKey.{parts_of};
 
-use crate::order::digits::begins_with_digit;
+use crate::class::{Class, begins_with};
 use crate::order::part::compare_first_parts;
 use crate::order::piece::behind_first;
 use std::cmp::Ordering;
@@ -75,7 +75,7 @@ fn compare_in_turn(x: &[u8], y: &[u8]) -> Ordering
 fn compare_with_end(parts: &[u8]) -> Ordering
     ensures { result ≡ list_cmp (parts_of parts.now) [] }
 {
-    if begins_with_digit(parts) {
+    if begins_with(parts, Class::Digit) {
         Ordering::Greater
     } else {
         Ordering::Less
@@ -87,7 +87,7 @@ fn compare_with_end(parts: &[u8]) -> Ordering
 fn compare_end_with(parts: &[u8]) -> Ordering
     ensures { result ≡ list_cmp [] (parts_of parts.now) }
 {
-    if begins_with_digit(parts) {
+    if begins_with(parts, Class::Digit) {
         Ordering::Less
     } else {
         Ordering::Greater

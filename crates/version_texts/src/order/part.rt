@@ -13,7 +13,8 @@ ghost use Rattle.version_parts.specs.PartKey.{part_cmp, part_key, suffix_of};
 ghost use Rattle.version_parts.specs.Split.{numbered_cmp, split_cmp, split_of};
 ghost use Rattle.version_texts.specs.Piece.{behind_piece, first_piece};
 
-use crate::order::digits::{begins_with_digit, compare_digits, split_digits};
+use crate::class::{Class, begins_with};
+use crate::order::digits::{compare_digits, split_digits};
 use crate::order::piece::{piece_is_empty, split_piece};
 use std::cmp::Ordering;
 
@@ -104,7 +105,7 @@ fn compare_splits(a: &[u8], b: &[u8]) -> Ordering
 fn compare_numbered(a: &[u8], b: &[u8]) -> Ordering
     ensures { result ≡ option_cmp numbered_cmp (number_front a.now) (number_front b.now) }
 {
-    match (begins_with_digit(a), begins_with_digit(b)) {
+    match (begins_with(a, Class::Digit), begins_with(b, Class::Digit)) {
         (true, true) => {
             let ((digits, text), (other_digits, other_text)) = (split_digits(a), split_digits(b));
             let numbers = compare_digits(digits, other_digits);

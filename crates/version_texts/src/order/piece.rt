@@ -21,17 +21,17 @@ pub(crate) fn split_piece(text: &[u8]) -> (&[u8], &[u8])
     ensures piece { result.0.now ≡ first_piece text.now }
     ensures rest { result.1.now ≡ behind_piece text.now }
 {
-    text.split_at(first_dot(text))
+    text.split_at(place_of(b'.', text))
 }
 
-// The place of the first dot of a text, or the length of a text without dots.
+// The place of the first byte of a text that is a mark, or the length of a text without it.
 #[inline(always)]
-fn first_dot(text: &[u8]) -> usize
-    ensures place { result ≡ position_or_len is_dot text.now }
+pub(crate) fn place_of(mark: u8, text: &[u8]) -> usize
+    ensures place { result ≡ position_or_len (λ b. b == mark) text.now }
     ensures within { result ≤ length text.now }
 {
     for (place, byte) in text.iter().enumerate() {
-        if *byte == b'.' {
+        if *byte == mark {
             return place;
         }
     }
@@ -42,7 +42,7 @@ fn first_dot(text: &[u8]) -> usize
 pub(crate) fn through_dot(text: &[u8]) -> &[u8]
     ensures { result.now ≡ take (suc (position_or_len is_dot text.now)) text.now }
 {
-    text.get(..first_dot(text) + 1).unwrap_or(text)
+    text.get(..place_of(b'.', text) + 1).unwrap_or(text)
 }
 
 // What follows the first byte of a text, or None if the text is empty.

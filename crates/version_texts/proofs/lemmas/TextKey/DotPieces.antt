@@ -17,9 +17,8 @@ use Rattle.version_parts.specs.Front.{begins}
 use Rattle.version_parts.specs.Lists.{with_end}
 use Rattle.version_parts.specs.NumberBytes.{number_bytes}
 use Rattle.version_parts.specs.PartKey.{part_bytes, part_key}
-use Rattle.version_parts.specs.Pieces.{after_number_bytes, place_bytes}
 use Rattle.version_parts.specs.ReleaseOrder.{chunk_bytes, release_bytes}
-use Rattle.version_parts.proofs.lemmas.Pieces.{identifiers_taken, take_while-all}
+use Rattle.version_parts.proofs.lemmas.Pieces.{take_while-all}
 use Rattle.version_parts.proofs.lemmas.Front.Runs.{begins-drop}
 use Rattle.version_texts.specs.Shape.{is_section_byte}
 use Rattle.version_texts.specs.TextKey.{chunk_of, chunks_of, parts_of, pieces}
@@ -27,6 +26,7 @@ use Rattle.version_texts.proofs.lemmas.General.Runs.{last_piece, next_piece, not
 use Rattle.version_texts.proofs.lemmas.General.Runs.{run_cons, run_none, split_end, split_mark}
 use Rattle.version_texts.proofs.lemmas.Piece.Spelled.{alphanumeric_no_dot, alphanumeric_section}
 use Rattle.version_texts.proofs.lemmas.General.RunsWithin.{no_run, rest_within}
+use Rattle.version_texts.proofs.lemmas.TextKey.Runs.{text_of_run}
 use Rattle.std.proofs.Math.Dec.{eqb-suc-zero}
 use Rattle.std.proofs.lemmas.List.Folds.{list_all-append}
 
@@ -50,7 +50,7 @@ other_dot b h k = rw (h, k) refl
 
 -- ---- lists of parts
 
--- a part and a dot, and the parts behind them
+-- a part and a dot, and the parts after them
 pub part_and_more : (text rest behind : List ℕ)
     → rest ≡ drop (prefix_len is_ascii_alphanumeric text) text → rest ≡ dot ∷ behind
     → items_bytes part_bytes (parts_of (take_while is_section_byte text))
@@ -124,7 +124,7 @@ first_part text (b ∷ behind) r = elim (cases_Bool (b == dot)) [
 
 -- ---- releases
 
--- a text that is a run has nothing behind the run
+-- a text that is a run has nothing after the run
 pub is_run : (test : ℕ → Bool) (text : List ℕ)
     → (length (drop (prefix_len test text) text) == 0) ≡ list_all test text
 is_run test [] = refl
@@ -145,10 +145,7 @@ number_chunk text all =
 pub text_chunk : (text : List ℕ) → list_all is_ascii_digit text ≡ false
     → list_all is_identifier_byte text ≡ true
     → chunk_bytes (Some (chunk_of text)) ≡ ((3 ∷ []) ++ text) ++ 0 ∷ []
-unfolding place_bytes after_number_bytes
-text_chunk text other all =
-    rw other
-    (ap (λ (l : List ℕ). 3 ∷ l) (identifiers_taken text text [] (sym (append-nil text)) all))
+text_chunk text other all = rw other (ap (λ (l : List ℕ). 3 ∷ l) (text_of_run text all))
 
 abbrev pub not_dot : ℕ → Bool
 not_dot b = not (b == dot)
@@ -172,7 +169,7 @@ chunk_of_metadata (b ∷ text) all = elim (cases_Bool (not_dot b)) [
   | inr fails ↦ ap (list_all is_identifier_byte) (run_none not_dot b text fails).0
 ]
 
--- what stands behind a place of a text has bytes of the same class
+-- what follows a place of a text has bytes of the same class
 pub all_behind : (test : ℕ → Bool) (n : ℕ) (text : List ℕ) → list_all test text ≡ true
     → list_all test (drop n text) ≡ true
 all_behind test n text all =
@@ -188,7 +185,7 @@ rest_of_metadata text rest behind b all r d =
     second_so _ _
     (ap (list_all is_metadata_byte) (sym d ∙ r) ∙ all_behind is_metadata_byte _ text all)
 
--- a chunk and a dot, and the chunks behind them
+-- a chunk and a dot, and the chunks after them
 pub chunk_and_more : (text chunk rest behind : List ℕ) (b : ℕ) → chunk ≡ take_while not_dot text
     → rest ≡ drop (prefix_len not_dot text) text → rest ≡ b ∷ behind
     → release_bytes (chunks_of text)

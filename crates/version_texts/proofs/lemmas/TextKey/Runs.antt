@@ -1,67 +1,134 @@
 -- The bytes of parts whose texts are runs of letters and digits.
-use Rattle.std.proofs.Common.{◌≡◌, ◌∙◌, ℕ, true, false, List, [], ◌∷◌, ◌++◌, length, drop, Some}
-use Rattle.std.proofs.Common.{refl, sym, ap, append_assoc, append-nil}
-use Rattle.std.proofs.lemmas.List.Folds.{length-prefix_len}
+use Rattle.std.proofs.Common.{◌≡◌, ◌==◌, ◌∙◌, ℕ, zero, suc, ◌<◌, true, false, List, [], ◌∷◌, ◌++◌}
+use Rattle.std.proofs.Common.{length, drop, Some, refl, sym, ap, inl, inr, arith, append_assoc}
+use Rattle.std.proofs.Common.{append-nil}
+use Rattle.std.proofs.lemmas.Bool.{and_from, cases_Bool, eqb-true}
+use Rattle.std.proofs.lemmas.Bool.Decides.{nat_tests}
 use Rattle.std.specs.Char.{is_ascii_alphabetic, is_ascii_alphanumeric, is_ascii_digit}
-use Rattle.std.specs.List.{list_all, prefix_len, take_while}
+use Rattle.std.specs.Cmp.{first_so, second_so}
+use Rattle.std.specs.List.{list_all, list_any, prefix_len, take_while}
 use Rattle.std.specs.Str.Parse.{digits_value}
 use Rattle.version_parts.specs.Bytes.{is_identifier_byte}
-use Rattle.version_parts.specs.declared.key.place.AfterNumber.TheVariants.{Nothing, Text}
-use Rattle.version_parts.specs.declared.key.place.Place.TheVariants.{Length, Number, Split}
-use Rattle.version_parts.specs.DigitRun.{run_value}
+use Rattle.version_parts.specs.DigitRun.{is_digits, run_value}
 use Rattle.version_parts.specs.Front.{begins}
 use Rattle.version_parts.specs.NumberBytes.{length_bytes, number_bytes}
-use Rattle.version_parts.specs.PartKey.{part_bytes, part_key, suffix_bytes, suffix_of}
-use Rattle.version_parts.specs.Pieces.{after_number_bytes, place_bytes}
+use Rattle.version_parts.specs.PartKey.{PartKey, part_bytes, part_key, suffix_bytes}
+use Rattle.version_parts.specs.PartKey.{suffix_of}
 use Rattle.version_parts.specs.Split.{split_bytes, split_of}
-use Rattle.version_parts.specs.TextBytes.{text_bytes}
-use Rattle.version_parts.proofs.lemmas.Pieces.{identifiers_taken, is_zero, letters_taken}
-use Rattle.version_parts.proofs.lemmas.Pieces.{number_alone, number_counted, numbered_some}
-use Rattle.version_parts.proofs.lemmas.Pieces.{part_of_number, part_of_word, split_digit}
+use Rattle.version_parts.specs.TextBytes.{text_byte, text_bytes}
+use Rattle.version_parts.proofs.lemmas.DigitRun.{split_of-digits, split_of-no_digit}
 use Rattle.version_parts.proofs.lemmas.Front.Runs.{begins-drop, list_all-take_while}
 use Rattle.version_parts.proofs.lemmas.Grammar.{all_weaker}
+use Rattle.version_parts.proofs.lemmas.NumberBytes.{number_bytes-digits}
+use Rattle.version_parts.proofs.lemmas.PartKey.{part_key-digits, part_key-word}
+use Rattle.version_parts.proofs.lemmas.Pieces.{digits_of_run, is_zero}
 use Rattle.version_texts.proofs.lemmas.Piece.Spelled.{alphanumeric_identifier}
-use Rattle.version_texts.proofs.lemmas.General.Runs.{run_within}
+use Rattle.version_texts.proofs.lemmas.General.Runs.{run_cons}
 use Rattle.version_texts.proofs.lemmas.General.RunsWithin.{begins_inner, begins_neither}
 use Rattle.version_texts.proofs.lemmas.General.RunsWithin.{digit_alphanumeric, letter_alphanumeric}
-use Rattle.version_texts.proofs.lemmas.General.RunsWithin.{no_run, run_and_more}
+use Rattle.version_texts.proofs.lemmas.General.RunsWithin.{no_run, run_and_more, zero_digit}
 
 -- ---- numbers
 
--- the bytes of the number of a run: the count of its digits behind the zeros, then the digits
+-- leading zeros do not change the number of a run
+zeros_skipped : (text : List ℕ) → run_value (drop (prefix_len is_zero text) text) ≡ run_value text
+zeros_skipped [] = refl
+zeros_skipped (b ∷ text) = elim (cases_Bool (b == 48)) [
+  | inl same ↦
+      let is : b ≡ 48 = eqb-true b 48 same in
+      rw is
+      (ap run_value (run_cons is_zero 48 text refl).1 ∙ zeros_skipped text
+      ∙ sym (ap (digits_value 10) (run_cons is_ascii_digit 48 text refl).0))
+  | inr other ↦ rw other refl
+]
+
+-- the bytes of the number of a run: the count of its digits after the zeros, then the digits
 pub number_of_run : (text left digits : List ℕ) → left ≡ drop (prefix_len is_zero text) text
     → digits ≡ take_while is_ascii_digit left
     → number_bytes (run_value text) ≡ length_bytes (length digits) ++ digits
-unfolding place_bytes after_number_bytes
 number_of_run text left digits l d =
-    let counted : prefix_len is_ascii_digit left ≡ length digits =
-    sym (length-prefix_len is_ascii_digit left) ∙ ap (λ (xs : List ℕ). length xs) (sym d) in
-    sym (number_alone text) ∙ number_counted Nothing text
-    ∙ ap (λ (xs : List ℕ). place_bytes (Length (prefix_len is_ascii_digit xs) Nothing) xs) (sym l)
-    ∙ ap (λ n. length_bytes n ++ (take_while is_ascii_digit left ++ [])) counted
-    ∙ ap (λ (xs : List ℕ). length_bytes (length digits) ++ xs)
-    (append-nil (take_while is_ascii_digit left) ∙ sym d)
+    let value : digits_value 10 digits ≡ run_value text =
+    ap (digits_value 10) d ∙ ap run_value l ∙ zeros_skipped text in
+    let canonical : begins is_zero digits ≡ false =
+    ap (begins is_zero) d ∙ begins_inner is_zero is_ascii_digit zero_digit left
+    ∙ ap (begins is_zero) l ∙ begins-drop is_zero text in
+    ap number_bytes (sym value)
+    ∙ number_bytes-digits (digits_value 10 digits) digits
+    (digits_of_run digits (rw d (list_all-take_while is_ascii_digit left)) canonical)
+
+-- no digit follows a run of digits
+no_digit : (text rest : List ℕ) → rest ≡ drop (prefix_len is_ascii_digit text) text
+    → begins is_ascii_digit rest ≡ false
+no_digit text rest r = ap (begins is_ascii_digit) r ∙ begins-drop is_ascii_digit text
+
+-- a text that begins with a digit begins with a run of digits
+run_is_digits : (text : List ℕ) → begins is_ascii_digit text ≡ true
+    → is_digits (take_while is_ascii_digit text) ≡ true
+run_is_digits text digit =
+    and_from _ _ (begins_inner is_ascii_digit is_ascii_digit (λ b h. h) text ∙ digit)
+    (list_all-take_while is_ascii_digit text)
+
+-- ---- texts
+
+-- every byte but 0 and 1 is written as it is
+as_it_is : (b : ℕ) → 1 < b → text_byte (Some b) ≡ b ∷ []
+as_it_is zero above = absurd (omega arith)
+as_it_is (suc zero) above = absurd (omega arith)
+as_it_is (suc (suc n)) above = refl
+
+identifier_above : (b : ℕ) → is_identifier_byte b ≡ true → 1 < b
+identifier_above b identifier = grind (arith, nat_tests)
+
+-- letters, digits and hyphens are written as they are
+pub text_of_run : (run : List ℕ) → list_all is_identifier_byte run ≡ true
+    → text_bytes run ≡ run ++ 0 ∷ []
+text_of_run [] all = refl
+text_of_run (b ∷ run) all =
+    ap (λ (l : List ℕ). l ++ text_bytes run) (as_it_is b (identifier_above b (first_so _ _ all)))
+    ∙ ap (λ (l : List ℕ). b ∷ l) (text_of_run run (second_so _ _ all))
+
+-- the same of letters and digits alone
+plain_text : (run : List ℕ) → list_all is_ascii_alphanumeric run ≡ true
+    → text_bytes run ≡ run ++ 0 ∷ []
+plain_text run all =
+    text_of_run run
+    (all_weaker is_ascii_alphanumeric is_identifier_byte alphanumeric_identifier run all)
 
 -- ---- splits
 
--- the bytes of letters before a run
-letters_before : (text letters rest : List ℕ) → letters ≡ take_while is_ascii_alphabetic text
+letter_other : (b : ℕ) → is_ascii_alphabetic b ≡ true → is_ascii_digit b ≡ false
+letter_other b letter = grind (arith, nat_tests)
+
+-- letters have no digit
+no_digits : (letters : List ℕ) → list_all is_ascii_alphabetic letters ≡ true
+    → list_any is_ascii_digit letters ≡ false
+no_digits [] all = refl
+no_digits (b ∷ letters) all =
+    rw (letter_other b (first_so _ _ all)) (no_digits letters (second_so _ _ all))
+
+-- the letters that a text begins with, and what follows them in its run of letters and digits
+letters_first : (text letters rest : List ℕ) → letters ≡ take_while is_ascii_alphabetic text
     → rest ≡ drop (prefix_len is_ascii_alphabetic text) text
-    → place_bytes Split (take_while is_ascii_alphanumeric text)
-    ≡ letters ++ place_bytes Split (take_while is_ascii_alphanumeric rest)
-letters_before text letters rest l r =
-    let whole : take_while is_ascii_alphanumeric text
-    ≡ letters ++ take_while is_ascii_alphanumeric rest =
+    → take_while is_ascii_alphanumeric text ≡ letters ++ take_while is_ascii_alphanumeric rest
+letters_first text letters rest l r =
     run_and_more is_ascii_alphabetic is_ascii_alphanumeric letter_alphanumeric text
-    ∙ sym (λ i. l i ++ take_while is_ascii_alphanumeric (r i)) in
-    letters_taken (take_while is_ascii_alphanumeric text) letters
-    (take_while is_ascii_alphanumeric rest) whole
-    (rw (← l) at (list_all-take_while is_ascii_alphabetic text))
+    ∙ sym (λ i. l i ++ take_while is_ascii_alphanumeric (r i))
+
+-- they have no digit, and are written as they are
+letters_alone : (text letters : List ℕ) → letters ≡ take_while is_ascii_alphabetic text
+    → (list_any is_ascii_digit letters ≡ false) × (text_bytes letters ≡ letters ++ 0 ∷ [])
+letters_alone text letters l =
+    let all : list_all is_ascii_alphabetic letters ≡ true =
+    rw l (list_all-take_while is_ascii_alphabetic text) in (
+      no_digits letters all,
+      plain_text letters
+          (all_weaker is_ascii_alphabetic is_ascii_alphanumeric letter_alphanumeric letters all),
+    )
 
 -- no letter or digit follows letters that no digit follows
-nothing_behind : (text rest : List ℕ) → rest ≡ drop (prefix_len is_ascii_alphabetic text) text
+nothing_after : (text rest : List ℕ) → rest ≡ drop (prefix_len is_ascii_alphabetic text) text
     → begins is_ascii_digit rest ≡ false → begins is_ascii_alphanumeric rest ≡ false
-nothing_behind text rest r other =
+nothing_after text rest r other =
     begins_neither rest
     (ap (begins is_ascii_alphabetic) r ∙ begins-drop is_ascii_alphabetic text) other
 
@@ -69,27 +136,22 @@ pub split_of_letters : (text letters rest : List ℕ) → letters ≡ take_while
     → rest ≡ drop (prefix_len is_ascii_alphabetic text) text
     → begins is_ascii_digit rest ≡ false
     → split_bytes (split_of (take_while is_ascii_alphanumeric text)) ≡ (letters ++ 0 ∷ []) ++ 0 ∷ []
-unfolding place_bytes
 split_of_letters text letters rest l r other =
-    let none = (no_run is_ascii_alphanumeric rest (nothing_behind text rest r other)).0 in
-    letters_before text letters rest l r
-    ∙ ap (λ (xs : List ℕ). letters ++ place_bytes Split xs) none
-    ∙ sym (append_assoc letters (0 ∷ []) (0 ∷ []))
+    let alone = letters_alone text letters l in
+    let none = (no_run is_ascii_alphanumeric rest (nothing_after text rest r other)).0 in
+    let whole : take_while is_ascii_alphanumeric text ≡ letters =
+    letters_first text letters rest l r ∙ ap (λ (xs : List ℕ). letters ++ xs) none
+    ∙ append-nil letters in
+    ap (λ (xs : List ℕ). split_bytes (split_of xs)) whole
+    ∙ ap split_bytes (split_of-no_digit letters alone.0)
+    ∙ ap (λ (xs : List ℕ). xs ++ 0 ∷ []) alone.1
 
--- the rest behind the run is what follows its letters
+-- the rest after the run is what follows its letters
 pub rest_of_letters : (text rest : List ℕ) → rest ≡ drop (prefix_len is_ascii_alphabetic text) text
     → begins is_ascii_digit rest ≡ false
     → drop (prefix_len is_ascii_alphanumeric rest) rest ≡ rest
 rest_of_letters text rest r other =
-    (no_run is_ascii_alphanumeric rest (nothing_behind text rest r other)).1
-
--- the bytes of a run of letters and digits are as they are
-text_of_run : (run : List ℕ) → list_all is_ascii_alphanumeric run ≡ true
-    → text_bytes run ≡ run ++ 0 ∷ []
-unfolding place_bytes after_number_bytes
-text_of_run run all =
-    identifiers_taken run run [] (sym (append-nil run))
-    (all_weaker is_ascii_alphanumeric is_identifier_byte alphanumeric_identifier run all)
+    (no_run is_ascii_alphanumeric rest (nothing_after text rest r other)).1
 
 pub split_of_number : (text letters rest behind run : List ℕ)
     → letters ≡ take_while is_ascii_alphabetic text
@@ -98,32 +160,28 @@ pub split_of_number : (text letters rest behind run : List ℕ)
     → run ≡ take_while is_ascii_alphanumeric behind
     → split_bytes (split_of (take_while is_ascii_alphanumeric text))
     ≡ ((((letters ++ 0 ∷ []) ++ 1 ∷ []) ++ number_bytes (run_value rest)) ++ run) ++ 0 ∷ []
-unfolding place_bytes after_number_bytes
 split_of_number text letters rest behind run l r digit b n =
-    let part = take_while is_ascii_alphanumeric rest in
-    let starts : begins is_ascii_digit part ≡ true =
-    begins_inner is_ascii_digit is_ascii_alphanumeric digit_alphanumeric rest ∙ digit in
-    let digits : take_while is_ascii_digit part ≡ take_while is_ascii_digit rest =
-    (run_within is_ascii_digit is_ascii_alphanumeric digit_alphanumeric rest).0 in
-    let after : drop (prefix_len is_ascii_digit part) part ≡ run =
-    (run_within is_ascii_digit is_ascii_alphanumeric digit_alphanumeric rest).1
-    ∙ ap (take_while is_ascii_alphanumeric) (sym b) ∙ sym n in
-    let all : list_all is_ascii_alphanumeric run ≡ true =
-    rw n (list_all-take_while is_ascii_alphanumeric behind) in
-    let counted : place_bytes (Number Text) part
-    ≡ number_bytes (run_value rest) ++ (run ++ 0 ∷ []) =
-    (λ i. number_bytes (digits_value 10 (digits i)) ++ text_bytes (after i))
-    ∙ ap (λ (xs : List ℕ). number_bytes (run_value rest) ++ xs) (text_of_run run all) in
-    let steps : place_bytes Split part
-    ≡ 0 ∷ 1 ∷ (number_bytes (run_value rest) ++ (run ++ 0 ∷ [])) =
-    split_digit part starts
-    ∙ ap (λ (xs : List ℕ). 0 ∷ xs)
-    (numbered_some part starts ∙ ap (λ (xs : List ℕ). 1 ∷ xs) counted) in
-    letters_before text letters rest l r ∙ ap (λ (xs : List ℕ). letters ++ xs) steps
+    let digits = take_while is_ascii_digit rest in
+    let alone = letters_alone text letters l in
+    let whole : take_while is_ascii_alphanumeric text ≡ letters ++ (digits ++ run) =
+    letters_first text letters rest l r
+    ∙ ap (λ (xs : List ℕ). letters ++ xs)
+    (run_and_more is_ascii_digit is_ascii_alphanumeric digit_alphanumeric rest
+    ∙ ap (λ (xs : List ℕ). digits ++ xs) (ap (take_while is_ascii_alphanumeric) (sym b) ∙ sym n)) in
+    let ends : begins is_ascii_digit run ≡ false =
+    ap (begins is_ascii_digit) n
+    ∙ begins_inner is_ascii_digit is_ascii_alphanumeric digit_alphanumeric behind
+    ∙ no_digit rest behind b in
+    let written : text_bytes run ≡ run ++ 0 ∷ [] =
+    plain_text run (rw n (list_all-take_while is_ascii_alphanumeric behind)) in
+    ap (λ (xs : List ℕ). split_bytes (split_of xs)) whole
+    ∙ ap split_bytes (split_of-digits letters digits run alone.0 (run_is_digits rest digit) ends)
+    ∙ (λ i. alone.1 i ++ (1 ∷ (number_bytes (run_value rest) ++ written i)))
     ∙ sym (regroup letters (number_bytes (run_value rest)) run)
   where
     regroup : (a b c : List ℕ)
-        → ((((a ++ 0 ∷ []) ++ 1 ∷ []) ++ b) ++ c) ++ 0 ∷ [] ≡ a ++ (0 ∷ 1 ∷ (b ++ (c ++ 0 ∷ [])))
+        → ((((a ++ 0 ∷ []) ++ 1 ∷ []) ++ b) ++ c) ++ 0 ∷ []
+        ≡ (a ++ 0 ∷ []) ++ (1 ∷ (b ++ (c ++ 0 ∷ [])))
     regroup a b c = simp append_assoc
 
 -- ---- parts
@@ -131,10 +189,10 @@ split_of_number text letters rest behind run l r digit b n =
 pub word_of_run : (text : List ℕ) → begins is_ascii_digit text ≡ false
     → part_bytes (Some (part_key (take_while is_ascii_alphanumeric text)))
     ≡ (1 ∷ []) ++ split_bytes (split_of (take_while is_ascii_alphanumeric text))
-unfolding place_bytes
 word_of_run text other =
-    part_of_word (take_while is_ascii_alphanumeric text)
-    (begins_inner is_ascii_digit is_ascii_alphanumeric digit_alphanumeric text ∙ other)
+    ap (λ (k : PartKey). part_bytes (Some k))
+    (part_key-word (take_while is_ascii_alphanumeric text)
+    (begins_inner is_ascii_digit is_ascii_alphanumeric digit_alphanumeric text ∙ other))
 
 -- a number, and the suffix after it
 number_and_suffix : (text rest : List ℕ) → begins is_ascii_digit text ≡ true
@@ -143,22 +201,18 @@ number_and_suffix : (text rest : List ℕ) → begins is_ascii_digit text ≡ tr
     ≡ 3 ∷
     (number_bytes (run_value text) ++ suffix_bytes
     (suffix_of (take_while is_ascii_alphanumeric rest)))
-unfolding place_bytes after_number_bytes
 number_and_suffix text rest digit r =
-    let part = take_while is_ascii_alphanumeric text in
-    let digits : take_while is_ascii_digit part ≡ take_while is_ascii_digit text =
-    (run_within is_ascii_digit is_ascii_alphanumeric digit_alphanumeric text).0 in
-    let after : drop (prefix_len is_ascii_digit part) part ≡ take_while is_ascii_alphanumeric rest =
-    (run_within is_ascii_digit is_ascii_alphanumeric digit_alphanumeric text).1
-    ∙ ap (take_while is_ascii_alphanumeric) (sym r) in
-    part_of_number part
-    (begins_inner is_ascii_digit is_ascii_alphanumeric digit_alphanumeric text ∙ digit)
-    ∙ (λ i. 3 ∷ (number_bytes (digits_value 10 (digits i)) ++ suffix_bytes (suffix_of (after i))))
-
--- no digit follows a run of digits
-no_digit : (text rest : List ℕ) → rest ≡ drop (prefix_len is_ascii_digit text) text
-    → begins is_ascii_digit rest ≡ false
-no_digit text rest r = ap (begins is_ascii_digit) r ∙ begins-drop is_ascii_digit text
+    let digits = take_while is_ascii_digit text in
+    let more = take_while is_ascii_alphanumeric rest in
+    let whole : take_while is_ascii_alphanumeric text ≡ digits ++ more =
+    run_and_more is_ascii_digit is_ascii_alphanumeric digit_alphanumeric text
+    ∙ ap (λ (xs : List ℕ). digits ++ take_while is_ascii_alphanumeric xs) (sym r) in
+    let ends : begins is_ascii_digit more ≡ false =
+    begins_inner is_ascii_digit is_ascii_alphanumeric digit_alphanumeric rest
+    ∙ no_digit text rest r in
+    ap (λ (xs : List ℕ). part_bytes (Some (part_key xs))) whole
+    ∙ ap (λ (k : PartKey). part_bytes (Some k))
+    (part_key-digits digits more (run_is_digits text digit) ends)
 
 pub plain_of_run : (text rest : List ℕ) → begins is_ascii_digit text ≡ true
     → rest ≡ drop (prefix_len is_ascii_digit text) text → begins is_ascii_alphabetic rest ≡ false

@@ -8,7 +8,7 @@ use Rattle.version_parts.specs.PartKey.{PartKey, parts_bytes}
 use Rattle.version_parts.specs.Sep.{is_sep}
 use Rattle.version_parts.proofs.lemmas.Front.Runs.{begins-drop}
 use Rattle.version_parts.specs.Front.{begins}
-use Rattle.versions.specs.Tail.{section_bytes, tail_bytes}
+use Rattle.versions.specs.Tail.{held_bytes, section_bytes}
 use Rattle.version_texts.specs.declared.shape.TailKind.TheVariants.{Sections}
 use Rattle.version_texts.specs.Shape.{is_section_byte, is_tail_byte}
 use Rattle.version_texts.specs.TextKey.{parts_of, sections_of, tail_of, tail_of_sections}
@@ -80,11 +80,11 @@ first_section text all = by (drop (prefix_len is_section_byte text) text) refl
 
 -- ---- tails
 
-pub sections_tail : (text : List ℕ)
-    → tail_bytes (tail_of Sections text) ≡ (4 ∷ []) ++ list_bytes section_bytes (sections_of text)
-sections_tail text =
+pub sections_held : (text : List ℕ)
+    → held_bytes (tail_of Sections text) ≡ list_bytes section_bytes (sections_of text)
+sections_held text =
     let some = split_some is_section_byte is_sep section_no_sep text in
     let all : sections_of text ≡ parts_of some.0 ∷ map parts_of some.1 =
     ap (λ (l : List (List ℕ)). map parts_of l) some.2 in
-    ap (λ (l : List (List PartKey)). tail_bytes (tail_of_sections l)) all
-    ∙ ap (λ (l : List (List PartKey)). 4 ∷ list_bytes section_bytes l) (sym all)
+    ap (λ (l : List (List PartKey)). held_bytes (tail_of_sections l)) all
+    ∙ ap (λ (l : List (List PartKey)). list_bytes section_bytes l) (sym all)

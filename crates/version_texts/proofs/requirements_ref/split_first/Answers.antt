@@ -4,7 +4,7 @@ use Rattle.version_texts.proofs.requirements_ref.split_first.Goals as goal
 
 pub returns-then-end-list-clause-pieces : goal.returns-then-end-list-clause-pieces
 returns-then-end-list-clause-pieces c =
-    one_piece c.args.list.now (sym c.first_comma-end.ensures.place ∙ c.if-end-list.true)
+    one_piece c.args.list.now (sym c.place_of-end.ensures.place ∙ c.if-end-list.true)
 
 pub returns-then-end-list-clause-members : goal.returns-then-end-list-clause-members
 returns-then-end-list-clause-members c =
@@ -12,8 +12,8 @@ returns-then-end-list-clause-members c =
 
 pub returns-clause-pieces : goal.returns-clause-pieces
 returns-clause-pieces c =
-    pieces_cut c.args.list.now c.first_comma-end.result c.first_comma-end.ensures.place
-    (omega (arith, c.first_comma-end.ensures.within))
+    pieces_cut c.args.list.now c.place_of-end.result c.place_of-end.ensures.place
+    (omega (arith, c.place_of-end.ensures.within))
 
 pub returns-clause-members : goal.returns-clause-members
 returns-clause-members c =
