@@ -8,12 +8,12 @@ ghost use Rattle.versions.specs.Tail.{tail_cmp, tail_rank};
 ghost use Rattle.version_texts.specs.Shape.{Fits, epoch_in, tail_in};
 ghost use Rattle.version_texts.specs.TextKey.{tail_of, text_key};
 
-mod digits;
+pub(crate) mod digits;
 pub(crate) mod list;
 pub(crate) mod part;
 pub(crate) mod piece;
 mod release;
-mod section;
+pub(crate) mod section;
 
 use crate::order::digits::compare_digits;
 use crate::order::list::compare_parts;
