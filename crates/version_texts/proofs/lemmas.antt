@@ -3,6 +3,7 @@ pub mod Class
 pub mod Field
 pub mod General
 pub mod Matching
+pub mod Numbers
 pub mod Parts
 pub mod Piece
 pub mod RequirementsRef

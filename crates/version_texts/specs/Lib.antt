@@ -2,6 +2,7 @@ pub mod Bounds
 pub mod Class
 pub mod Field
 pub mod Matching
+pub mod Numbers
 pub mod Parts
 pub mod Piece
 pub mod RequirementRef

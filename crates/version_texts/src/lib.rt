@@ -10,6 +10,8 @@ mod field;
 mod key;
 mod laws;
 mod matching;
+mod numbers;
+mod numeral;
 mod order;
 mod range;
 mod requirement_ref;

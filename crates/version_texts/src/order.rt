@@ -13,7 +13,7 @@ pub(crate) mod list;
 pub(crate) mod part;
 pub(crate) mod piece;
 mod release;
-mod section;
+pub(crate) mod section;
 
 use crate::order::digits::compare_digits;
 use crate::order::list::compare_parts;

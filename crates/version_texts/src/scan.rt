@@ -1,18 +1,18 @@
 //! One scan of a text, for the three kinds.
 
-ghost use Rattle.std.specs.Prelude.{◌≡◌, ◌==◌, ◌+◌, ◌<◌, ◌≤◌, ◌^◌, ◌&&◌, drop, false, if◌then◌else◌, is_some, length, nat_lt, true, IfNone, IfSome};
+ghost use Rattle.std.specs.Prelude.{◌≡◌, ◌==◌, ◌+◌, ◌<◌, ◌≤◌, ◌&&◌, drop, false, if◌then◌else◌, is_some, length, true, IfNone, IfSome};
 ghost use Rattle.std.specs.Char.{is_ascii_alphanumeric};
 ghost use Rattle.std.specs.List.{list_all, prefix_len, take_while};
 ghost use Rattle.std.specs.Option.{option_map};
-ghost use Rattle.std.specs.Str.Parse.{digits_value};
 ghost use Rattle.version_parts.specs.Class.{HasDigits};
 ghost use Rattle.version_parts.specs.DigitRun.{is_digits};
 ghost use Rattle.version_texts.specs.Class.{contains, first_rank};
-ghost use Rattle.version_texts.specs.Shape.{behind_body, body_end, body_start, is_section_byte, shape_at, shape_of};
+ghost use Rattle.version_texts.specs.Shape.{behind_body, body_end, body_start, shape_at, shape_of};
 ghost use Rattle.version_texts.specs.TextKey.{pieces};
 ghost use Rattle.version_texts.specs.TextKind.{are_marked_runs, body_of, epoch_is_numeral, has_three_numbers, is_chunk, is_general, is_metadata_tail, is_not_plus, is_numeral, is_released, is_run, is_tail, kind_in, section_end, section_pieces};
 
 use crate::class::{COLON, Class, DOT, END, HYPHEN, PLUS, rank_at, run_end};
+use crate::numeral::is_numeral;
 use crate::shape::{Shape, TailKind};
 use versions::Kind;
 
@@ -250,40 +250,6 @@ fn scan_run(text: &[u8], start: usize, class: Class) -> Option<Run>
         digits: true,
         chunk: is_numeral(&text[start..digits_end]),
     })
-}
-
-// Returns whether digits are a numeral.
-#[inline(always)]
-fn is_numeral(digits: &[u8]) -> bool
-    requires { is_digits digits.now ≡ true }
-    ensures { result ≡ is_numeral digits.now }
-{
-    digits.len() == 1 || (digits[0] != b'0' && is_below_limit(digits))
-}
-
-// Returns whether the value of digits is below 2 ^ 32. That of nine digits is.
-#[inline(always)]
-fn is_below_limit(digits: &[u8]) -> bool
-    requires { is_digits digits.now ≡ true }
-    ensures { result ≡ nat_lt (digits_value 10 digits.now) (2 ^ 32) }
-{
-    digits.len() < 10 || value_fits(digits)
-}
-
-// The same for digits of any length. Few have the ten digits that need this call, so it is not inlined.
-#[inline(never)]
-fn value_fits(digits: &[u8]) -> bool
-    requires { is_digits digits.now ≡ true }
-    ensures { result ≡ nat_lt (digits_value 10 digits.now) (2 ^ 32) }
-{
-    let mut value: u64 = 0;
-    for digit in digits {
-        value = value * 10 + u64::from(*digit - b'0');
-        if value >= 0x1_0000_0000 {
-            return false;
-        }
-    }
-    true
 }
 
 // Scans what follows the body of a strict or general version: perhaps a hyphen and a release, then perhaps a plus and

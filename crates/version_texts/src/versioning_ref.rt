@@ -14,7 +14,7 @@ use crate::order::piece::through_dot;
 use crate::scan::scan;
 use crate::shape::{Shape, TailKind};
 use crate::sink::Sink;
-use crate::{key, matching, order, range, sinks};
+use crate::{key, matching, numbers, order, range, sinks};
 use std::alloc::{AllocError, Global};
 use std::cmp::Ordering;
 use std::{fmt, str};
@@ -111,7 +111,7 @@ impl<'a> VersioningRef<'a> {
     pub fn nth(&self, n: usize) -> Option<u32>
         ensures { result ≡ versioning_nth (plain_versioning_ref self.now) n }
     {
-        self.read().nth(n)
+        numbers::nth(self.text, self.shape, n)
     }
 
     /// Returns its epoch: the number before its colon, which counts in the order. None without an epoch, which a strict

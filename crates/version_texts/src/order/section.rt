@@ -37,7 +37,7 @@ pub(crate) fn compare_sections(x: &[u8], y: &[u8]) -> Ordering
 
 // The first section of a text, and what follows it.
 #[inline(always)]
-fn split_section(text: &[u8]) -> (&[u8], &[u8])
+pub(crate) fn split_section(text: &[u8]) -> (&[u8], &[u8])
     ensures section { result.0.now ≡ before_first is_sep text.now }
     ensures rest { result.1.now ≡ from_first is_sep text.now }
 {

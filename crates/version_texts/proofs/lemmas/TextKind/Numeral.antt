@@ -55,3 +55,7 @@ no_leading_zero (d ∷ digits) is long other =
     let apart : (length (d ∷ digits) == 1) ≡ false = ne_eqb _ _ long in
     let different : (d == 48) ≡ false = ne_eqb _ _ other in
     rw (is, apart, different) refl
+
+pub no_numeral : (text : List ℕ) → is_digits text ≡ false → is_numeral text ≡ false
+unfolding is_numeral
+no_numeral text none = rw none refl

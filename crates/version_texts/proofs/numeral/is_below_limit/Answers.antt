@@ -2,7 +2,7 @@ use Rattle.std.proofs.Common.{◌∙◌}
 use Rattle.std.proofs.lemmas.Bool.{lt-ltb}
 use Rattle.version_parts.proofs.lemmas.Numeral.{nine_digits}
 use Rattle.version_texts.proofs.lemmas.TextKind.Numeral.{all_digits}
-use Rattle.version_texts.proofs.scan.is_below_limit.Goals as goal
+use Rattle.version_texts.proofs.numeral.is_below_limit.Goals as goal
 
 pub returns-then-digits-lt10 : goal.returns-then-digits-lt10
 returns-then-digits-lt10 c =

@@ -1,6 +1,6 @@
 use Rattle.std.proofs.Common.{◌≡◌, ◌<◌, ◌^◌, take}
 use Rattle.std.specs.Str.Parse.{digits_value}
-use Rattle.version_texts.proofs.scan.value_fits.Given as goal
+use Rattle.version_texts.proofs.numeral.value_below_limit.Given as goal
 
 -- the value of the digits so far, which fits
 abbrev pub invariant-loop-digit : goal.invariant-loop-digit

@@ -1,6 +1,7 @@
+use Rattle.std.proofs.Common.{refl}
 use Rattle.version_parts.proofs.lemmas.Numeral.Digits.{next_value}
 use Rattle.version_texts.proofs.lemmas.TextKind.Numeral.{all_digits, too_large}
-use Rattle.version_texts.proofs.scan.value_fits.Goals as goal
+use Rattle.version_texts.proofs.numeral.value_below_limit.Goals as goal
 
 pub returns-then-value-ge4294967296 : goal.returns-then-value-ge4294967296
 returns-then-value-ge4294967296 c =
@@ -8,7 +9,7 @@ returns-then-value-ge4294967296 c =
     (all_digits c.args.digits.now c.requires) c.loop-digit-test.true
     c.loop-digit.invariant.value_is in
     let large = rw c.from.ensures at c.if-value-ge4294967296.true in
-    too_large c.args.digits.now _ (rw next at large)
+    rw (← too_large c.args.digits.now _ (rw next at large)) refl
 
 pub loop-digit-preserved : goal.loop-digit-preserved
 loop-digit-preserved c =

@@ -1,0 +1,99 @@
+//! The number at a place of a version, read off its text. Nothing here allocates.
+
+ghost use Rattle.std.specs.Prelude.{◌≡◌, ◌==◌, ◌∷◌, Some, drop, false, IfNone, IfSome};
+ghost use Rattle.version_parts.specs.Bytes.{colon};
+ghost use Rattle.version_parts.specs.Front.{begins};
+ghost use Rattle.versions.specs.Versioning.{versioning_nth};
+ghost use Rattle.version_texts.specs.Numbers.{body_number, chunk_number, last_number, pieces_left, section_in};
+ghost use Rattle.version_texts.specs.Shape.{shape_of};
+ghost use Rattle.version_texts.specs.TextKey.{pieces};
+ghost use Rattle.version_texts.specs.VersioningRef.{version_in};
+
+use crate::class::{Class, split_run};
+use crate::key::body_at;
+use crate::numeral::{numeral, small_number};
+use crate::order::piece::{behind_first, split_piece};
+use crate::order::section::split_section;
+use crate::shape::Shape;
+use versions::Kind;
+
+/// Returns the number at a place, counted from 0, or None if no number is there: of the body of a strict or general
+/// version, and of the first section of a messy one that no colon follows.
+pub fn nth(text: &[u8], shape: Shape, n: usize) -> Option<u32>
+    requires { shape_of text.now ≡ Some shape }
+    ensures { result ≡ versioning_nth (version_in text.now) n }
+{
+    match shape.kind {
+        Kind::Complex => chunk_number(section(text), n),
+        _ => body_number(body_at(text, shape), n),
+    }
+}
+
+// The number at a place of a body. Its last part may have letters after its number.
+fn body_number(body: &[u8], n: usize) -> Option<u32>
+    ensures { result ≡ body_number (drop n (pieces body.now)) }
+{
+    let (part, rest) = split_piece(from_piece(body, n)?);
+    if rest.is_empty() {
+        last_number(part)
+    } else {
+        small_number(part)
+    }
+}
+
+// The number at a place of a section.
+fn chunk_number(section: &[u8], n: usize) -> Option<u32>
+    ensures { result ≡ chunk_number (drop n (pieces section.now)) }
+{
+    let (chunk, _) = split_piece(from_piece(section, n)?);
+    small_number(chunk)
+}
+
+// The text from its piece at a place on, or None if it does not have so many pieces.
+fn from_piece(text: &[u8], n: usize) -> Option<&[u8]>
+    ensures { pieces_left result ≡ drop n (pieces text.now) }
+{
+    let mut left = text;
+    for _ in 0..n {
+        let (_, rest) = split_piece(left);
+        left = behind_first(rest)?;
+    }
+    Some(left)
+}
+
+// The first section of a text that no colon follows.
+fn section(text: &[u8]) -> &[u8]
+    ensures { result.now ≡ section_in text.now }
+{
+    let mut left = text;
+    'sections: loop {
+        let (section, rest) = split_section(left);
+        match after_colon(rest) {
+            Some(more) => left = more,
+            None => return section,
+        }
+    }
+}
+
+// What follows the colon that a text begins with, or None if it does not begin with one.
+fn after_colon(text: &[u8]) -> Option<&[u8]>
+    ensures some { IfSome result (λ more. text.now ≡ colon ∷ more.now) }
+    ensures none { IfNone result (begins (λ b. b == colon) text.now ≡ false) }
+{
+    match text {
+        [b':', more @ ..] => Some(more),
+        _ => None,
+    }
+}
+
+// The first number of a last part: a numeral, if nothing follows it, or letters, or letters and a numeral.
+fn last_number(part: &[u8]) -> Option<u32>
+    ensures { result ≡ last_number part.now }
+{
+    let (digits, rest) = split_run(part, Class::Digit);
+    let (_, end) = split_run(rest, Class::Letter);
+    if !end.is_empty() {
+        numeral(end)?;
+    }
+    numeral(digits)
+}
