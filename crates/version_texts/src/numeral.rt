@@ -7,7 +7,8 @@ ghost use Rattle.version_parts.specs.MChunk.{value_of_digits};
 ghost use Rattle.version_texts.specs.Numbers.{numeral_value};
 ghost use Rattle.version_texts.specs.TextKind.{is_numeral};
 
-use crate::order::digits::{begins_with_digit, split_digits};
+use crate::class::{Class, begins_with};
+use crate::order::digits::split_digits;
 
 /// Returns whether digits are a numeral.
 #[inline(always)]
@@ -73,5 +74,5 @@ fn is_digits(text: &[u8]) -> bool
     ensures { result ≡ is_digits text.now }
 {
     let (_, rest) = split_digits(text);
-    begins_with_digit(text) && rest.is_empty()
+    begins_with(text, Class::Digit) && rest.is_empty()
 }

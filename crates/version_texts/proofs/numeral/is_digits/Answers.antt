@@ -3,8 +3,8 @@ use Rattle.std.specs.Char.{is_ascii_digit}
 use Rattle.version_texts.proofs.lemmas.TextKey.DotPieces.{is_run}
 use Rattle.version_texts.proofs.numeral.is_digits.Goals as goal
 
-pub returns-then-begins_with_digit : goal.returns-then-begins_with_digit
-returns-then-begins_with_digit c =
-    rw (← c.if-begins_with_digit.ensures)
+pub returns-then-begins_with : goal.returns-then-begins_with
+returns-then-begins_with c =
+    rw (← c.if-begins_with.ensures)
     (c.is_empty.ensures ∙ ap (λ (l : List ℕ). length l == 0) c.split_digits.ensures.rest
     ∙ is_run is_ascii_digit c.args.text.now)
