@@ -91,7 +91,7 @@ fn put_part<'t, S: Sink>(sink: &mut S, text: &'t [u8]) -> &'t [u8]
     put_split(sink, left)
 }
 
-// The text behind the dot that it begins with, or None if it begins with no dot.
+// The text after the dot that it begins with, or None if it begins with no dot.
 #[inline(always)]
 fn after_dot(text: &[u8]) -> Option<&[u8]>
     ensures { MatchOption result (begins (λ b. b == dot) text.now ≡ false)

@@ -36,7 +36,7 @@ sign_there text rest behind b all r d =
     ap (begins is_section_byte) (sym d ∙ r) ∙ begins-drop is_section_byte text in
     sym (ap (λ (t : Bool). t || is_sep b) ended) ∙ here
 
--- a section and a sign, and the sections behind them
+-- a section and a sign, and the sections after them
 pub section_and_more : (text rest behind : List ℕ) (b : ℕ)
     → list_all (is_tail_byte Sections) text ≡ true
     → rest ≡ drop (prefix_len is_section_byte text) text → rest ≡ b ∷ behind
