@@ -254,7 +254,7 @@ fn scan_run(text: &[u8], start: usize, class: Class) -> Option<Run>
 
 // Returns whether digits are a numeral.
 #[inline(always)]
-fn is_numeral(digits: &[u8]) -> bool
+pub(crate) fn is_numeral(digits: &[u8]) -> bool
     requires { is_digits digits.now ≡ true }
     ensures { result ≡ is_numeral digits.now }
 {
