@@ -5,8 +5,8 @@ use Rattle.std.specs.Ordering.{on}
 use Rattle.std.specs.declared.cmp.Ordering.{Ordering}
 use Rattle.versions.specs.Key.{key_of}
 use Rattle.versions.specs.KeyBytes.{key_bytes}
+use Rattle.versions.specs.Orders.{versioning_cmp}
 use Rattle.versions.specs.Versioning.{PlainVersioning, is_ideal, versioning_of}
-use Rattle.versions.specs.Versioning.{versioning_plain_cmp}
 
 -- the key of a line's version, and no bytes if the line is not a version
 unfoldable pub line_key : List ℕ → List ℕ
@@ -20,6 +20,6 @@ unless_strict version = if is_ideal version then None else Some version
 abbrev pub line_tie_breaker : List ℕ → Option PlainVersioning
 line_tie_breaker line = option_and_then unless_strict (versioning_of line)
 
--- two lines by what breaks the tie of their keys: field by field, nothing before something
+-- two lines by what breaks the tie of their keys: nothing before something
 abbrev pub line_tie_cmp : List ℕ → List ℕ → Ordering
-line_tie_cmp = on line_tie_breaker (option_cmp versioning_plain_cmp)
+line_tie_cmp = on line_tie_breaker (option_cmp versioning_cmp)

@@ -16,7 +16,7 @@ pub fn compare_ties(a: &[u8], b: &[u8]) -> Ordering
     ensures { result ≡ line_tie_cmp a.now b.now }
 {
     match (tie_breaker(a), tie_breaker(b)) {
-        (Some(a), Some(b)) => a.compare_plain(&b),
+        (Some(a), Some(b)) => a.cmp(&b),
         (Some(_), None) => Ordering::Greater,
         (None, Some(_)) => Ordering::Less,
         (None, None) => Ordering::Equal,

@@ -11,4 +11,5 @@ pub mod Shape
 pub mod Sinks
 pub mod TextKey
 pub mod TextKind
+pub mod Ties
 pub mod VersioningRef

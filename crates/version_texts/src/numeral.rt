@@ -58,6 +58,13 @@ pub fn small_number(text: &[u8]) -> Option<u32>
     }
 }
 
+/// Returns whether a text is a numeral.
+pub fn spells_numeral(text: &[u8]) -> bool
+    ensures { result ≡ is_numeral text.now }
+{
+    is_digits(text) && is_numeral(text)
+}
+
 /// Returns the value of a numeral, and None for any other text.
 pub fn numeral(text: &[u8]) -> Option<u32>
     ensures { result ≡ numeral_value text.now }

@@ -14,6 +14,7 @@ pub(crate) mod part;
 pub(crate) mod piece;
 mod release;
 pub(crate) mod section;
+pub(crate) mod ties;
 
 use crate::order::digits::compare_digits;
 use crate::order::list::compare_parts;

@@ -11,6 +11,7 @@ ghost use Rattle.versions.specs.Versioning.{kind_rank, PlainVersioning};
 
 use crate::field::Field;
 use crate::order::piece::through_dot;
+use crate::order::ties;
 use crate::scan::scan;
 use crate::shape::{Shape, TailKind};
 use crate::sink::Sink;
@@ -305,32 +306,6 @@ impl<'a> VersioningRef<'a> {
         Ok(bytes)
     }
 
-    /// Compares two versions by kind, then field by field. `Ord` breaks ties of precedence by this. Does not allocate.
-    pub fn compare_plain(&self, other: &VersioningRef<'_>) -> Ordering
-        ensures { result ≡ versioning_plain_cmp (plain_versioning_ref self.now)
-            (plain_versioning_ref other.now) }
-    {
-        if self.shape.kind != other.shape.kind {
-            return rank(self.shape.kind).cmp(&rank(other.shape.kind));
-        }
-        match self.shape.kind {
-            Kind::Ideal => self.precedence(other),
-            _ => self.compare_fields(other),
-        }
-    }
-
-    // Compares two versions by kind, then field by field. Never inlined, so that callers inline the usual case.
-    #[inline(never)]
-    fn compare_fields(&self, other: &VersioningRef<'_>) -> Ordering
-        ensures { result ≡ versioning_plain_cmp (plain_versioning_ref self.now)
-            (plain_versioning_ref other.now) }
-    {
-        if self.text == other.text {
-            return Ordering::Equal;
-        }
-        self.read().compare_plain(&other.read())
-    }
-
     // Compares two versions of one key by kind, then field by field.
     fn compare_tied(&self, other: &VersioningRef<'_>) -> Ordering
         requires { precedence (key_of (plain_versioning_ref self.now))
@@ -338,9 +313,15 @@ impl<'a> VersioningRef<'a> {
         ensures { result ≡ versioning_plain_cmp (plain_versioning_ref self.now)
             (plain_versioning_ref other.now) }
     {
-        match (self.shape.kind, other.shape.kind) {
-            (Kind::Ideal, Kind::Ideal) => Ordering::Equal,
-            _ => self.compare_plain(other),
+        if self.shape.kind != other.shape.kind {
+            return rank(self.shape.kind).cmp(&rank(other.shape.kind));
+        }
+        match self.shape.kind {
+            Kind::Ideal => Ordering::Equal,
+            Kind::General => {
+                ties::compare_general(self.text, self.shape, other.text, other.shape)
+            }
+            Kind::Complex => ties::compare_messy(self.text, other.text),
         }
     }
 

@@ -11,7 +11,6 @@ use Rattle.std.specs.declared.cmp.Ordering.TheVariants.{Less}
 use Rattle.version_parts.specs.Lists.{none_last_cmp}
 use Rattle.versions.specs.Orders.{versioning_cmp}
 use Rattle.versions.specs.Versioning.{PlainVersioning, is_ideal, versioning_of}
-use Rattle.versions.specs.Versioning.{versioning_plain_cmp}
 use Rattle.versions_c.specs.Offsets.{AreOffsets, text_at}
 
 -- two places: by the versions of their texts, a text that is not a version last, and ties as
@@ -53,7 +52,7 @@ tie_breaker text key = if length key == 0 then None else text_tie_breaker text
 abbrev pub tied_cmp : List ℕ → List ℕ → List ℕ → List ℕ → ℕ → ℕ → Ordering
 tied_cmp texts offsets keys key_offsets =
     then_cmp (on (λ i. tie_breaker (text_at texts offsets i) (text_at keys key_offsets i))
-    (option_cmp versioning_plain_cmp)) nat_cmp
+    (option_cmp versioning_cmp)) nat_cmp
 
 -- two places by the keys that lie there, and if those tie as places whose keys tie
 abbrev pub keyed_cmp : List ℕ → List ℕ → List ℕ → List ℕ → ℕ → ℕ → Ordering

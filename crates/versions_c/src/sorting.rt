@@ -6,7 +6,7 @@ ghost use Rattle.std.specs.List.Sorted.{IsPermutation, IsSorted};
 ghost use Rattle.std.specs.Option.{option_cmp, option_map};
 ghost use Rattle.std.specs.declared.cmp.Ordering.TheVariants.{Equal};
 ghost use Rattle.version_texts.specs.VersioningRef.{plain_versioning_ref};
-ghost use Rattle.versions.specs.Versioning.{versioning_plain_cmp};
+ghost use Rattle.versions.specs.Orders.{versioning_cmp};
 ghost use Rattle.versions_c.specs.Keys.{all_keys, keys_before, room_status, saturated_signed};
 ghost use Rattle.versions_c.specs.Offsets.{text_at};
 ghost use Rattle.versions_c.specs.Sorting.{keyed_cmp, keys_cmp, text_tie_breaker, tied_cmp, AreInOrder, AreSortOffsets};
@@ -150,14 +150,14 @@ fn compare_empty_last(a: &[u8], b: &[u8]) -> Ordering
 
 // Compares two texts whose keys tie.
 fn compare_texts(a: &[u8], b: &[u8]) -> Ordering
-    ensures { result ≡ option_cmp versioning_plain_cmp
+    ensures { result ≡ option_cmp versioning_cmp
         (text_tie_breaker a.now) (text_tie_breaker b.now) }
 {
     if a == b {
         return Ordering::Equal;
     }
     match (tie_breaker(a), tie_breaker(b)) {
-        (Some(a), Some(b)) => a.compare_plain(&b),
+        (Some(a), Some(b)) => a.cmp(&b),
         (Some(_), None) => Ordering::Greater,
         (None, Some(_)) => Ordering::Less,
         (None, None) => Ordering::Equal,

@@ -36,7 +36,6 @@ use Rattle.versions.specs.Orders.{versioning_cmp}
 use Rattle.versions.specs.OrdersLaws.{versioning_cmp_total}
 use Rattle.versions.specs.Versioning.{Complex, General, Ideal, PlainVersioning, versioning_of}
 use Rattle.versions.specs.Versioning.{versioning_plain_cmp}
-use Rattle.versions.specs.VersioningLaws.{versioning_plain_total}
 use Rattle.version_lines.proofs.lemmas.Head.{heads_first}
 use Rattle.version_lines.proofs.lemmas.LineKey.{line_key-some}
 use Rattle.version_lines.proofs.lemmas.Sorting.Places.{ties_rise-in_order}
@@ -100,10 +99,16 @@ then_twice Less = refl
 then_twice Equal = refl
 then_twice Greater = refl
 
--- if keys tie, two versions compare by their fields, unless both are strict
+then_again : (first behind : Ordering)
+    → ordering_then first (ordering_then first behind) ≡ ordering_then first behind
+then_again Less behind = refl
+then_again Equal behind = refl
+then_again Greater behind = refl
+
+-- if keys tie, two versions compare as versions, unless both are strict
 ties_alike : (a b : PlainVersioning)
     → ordering_then (precedence (key_of a) (key_of b))
-    (option_cmp versioning_plain_cmp (unless_strict a) (unless_strict b)) ≡ versioning_cmp a b
+    (option_cmp versioning_cmp (unless_strict a) (unless_strict b)) ≡ versioning_cmp a b
 ties_alike (Ideal a) (Ideal b) =
     then_twice (precedence (key_of_semver a) (key_of_semver b))
     ∙ ap (ordering_then (precedence (key_of_semver a) (key_of_semver b)))
@@ -111,23 +116,29 @@ ties_alike (Ideal a) (Ideal b) =
 ties_alike (Ideal a) (General b) = refl
 ties_alike (Ideal a) (Complex b) = refl
 ties_alike (General a) (Ideal b) = refl
-ties_alike (General a) (General b) = refl
-ties_alike (General a) (Complex b) = refl
+ties_alike (General a) (General b) =
+    then_again (precedence (key_of (General a)) (key_of (General b)))
+    (versioning_plain_cmp (General a) (General b))
+ties_alike (General a) (Complex b) =
+    then_again (precedence (key_of (General a)) (key_of (Complex b))) Less
 ties_alike (Complex a) (Ideal b) = refl
-ties_alike (Complex a) (General b) = refl
-ties_alike (Complex a) (Complex b) = refl
+ties_alike (Complex a) (General b) =
+    then_again (precedence (key_of (Complex a)) (key_of (General b))) Greater
+ties_alike (Complex a) (Complex b) =
+    then_again (precedence (key_of (Complex a)) (key_of (Complex b)))
+    (versioning_plain_cmp (Complex a) (Complex b))
 
 -- two texts that are versions compare by their keys, and then by what breaks the tie
 versions_alike : (v w : Option PlainVersioning) → not (is_some v) ≡ false → not (is_some w) ≡ false
     → ordering_then
     (slice_cmp nat_cmp (option_map_or (λ u. key_bytes (key_of u)) v [])
     (option_map_or (λ u. key_bytes (key_of u)) w []))
-    (option_cmp versioning_plain_cmp (option_and_then unless_strict v)
+    (option_cmp versioning_cmp (option_and_then unless_strict v)
     (option_and_then unless_strict w)) ≡ option_cmp versioning_cmp v w
 versions_alike None w v_good w_good = cc
 versions_alike (Some v) None v_good w_good = cc
 versions_alike (Some v) (Some w) v_good w_good =
-    ap (λ o. ordering_then o (option_cmp versioning_plain_cmp (unless_strict v) (unless_strict w)))
+    ap (λ o. ordering_then o (option_cmp versioning_cmp (unless_strict v) (unless_strict w)))
     (key_bytes_alone (key_of v) (key_of w)) ∙ ties_alike v w
 
 -- a key stays at its place when more keys are added
@@ -198,7 +209,7 @@ entry_ranks keys = ranks_by (entry_total keys) (λ (entry : Entry). entry)
 
 pub tie_total : IsTotalOrder tie_cmp
 tie_total = on_total (λ (entry : Entry). line_tie_breaker (entry_line entry))
-    (options_total versioning_plain_total)
+    (options_total versioning_cmp_total)
 
 -- together they are the order of lines
 entries_alike : (keys : List ℕ)

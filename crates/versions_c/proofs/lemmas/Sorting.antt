@@ -36,10 +36,10 @@ use Rattle.versions.proofs.lemmas.SemVerOrder.{precedence_of_semvers}
 use Rattle.versions.specs.Key.{Key, key_of, key_of_semver, precedence}
 use Rattle.versions.specs.KeyBytes.{key_bytes}
 use Rattle.versions.specs.Orders.{versioning_cmp}
+use Rattle.versions.specs.OrdersLaws.{versioning_cmp_total}
 use Rattle.versions.specs.Tail.{tail_bytes}
 use Rattle.versions.specs.Versioning.{PlainVersioning, Ideal, General, Complex, versioning_of}
 use Rattle.versions.specs.Versioning.{versioning_plain_cmp}
-use Rattle.versions.specs.VersioningLaws.{versioning_plain_total}
 use Rattle.versions_c.specs.Keys.{keys_before, saturated_signed}
 use Rattle.versions_c.specs.Offsets.{text_at}
 use Rattle.versions_c.specs.Sorting.{AreInOrder, keyed_cmp, keys_cmp, place_cmp, text_tie_breaker}
@@ -52,9 +52,9 @@ counted xs n long each = fill_by_all (λ i. i) xs n 0 long each ∙ map-id (rang
 
 -- a text ties with itself
 pub same_text_ties : (a b : List ℕ) → a ≡ b
-    → Equal ≡ option_cmp versioning_plain_cmp (text_tie_breaker a) (text_tie_breaker b)
+    → Equal ≡ option_cmp versioning_cmp (text_tie_breaker a) (text_tie_breaker b)
 same_text_ties a b same =
-    rw same (sym (tied_itself (options_total versioning_plain_total) (text_tie_breaker b)))
+    rw same (sym (tied_itself (options_total versioning_cmp_total) (text_tie_breaker b)))
 
 -- the order by keys is total
 keys_total : IsTotalOrder keys_cmp
@@ -66,7 +66,7 @@ pub keyed_total : (texts offsets keys key_offsets : List ℕ)
 keyed_total texts offsets keys key_offsets =
     then_total (on_total (text_at keys key_offsets) keys_total)
     (then_total (on_total (λ i. tie_breaker (text_at texts offsets i) (text_at keys key_offsets i))
-    (options_total versioning_plain_total)) nat_cmp_total)
+    (options_total versioning_cmp_total)) nat_cmp_total)
 
 -- a place ties only with itself
 keyed_same : (texts offsets keys key_offsets : List ℕ)
@@ -74,7 +74,7 @@ keyed_same : (texts offsets keys key_offsets : List ℕ)
 keyed_same texts offsets keys key_offsets =
     then_same (on (text_at keys key_offsets) keys_cmp)
     (then_same (on (λ i. tie_breaker (text_at texts offsets i) (text_at keys key_offsets i))
-    (option_cmp versioning_plain_cmp)) nat_cmp-IsAntisymmetric)
+    (option_cmp versioning_cmp)) nat_cmp-IsAntisymmetric)
 
 pub keyed_ranks : (texts offsets keys key_offsets : List ℕ)
     → IsStrictWeakOrder (λ a b. is_lt (keyed_cmp texts offsets keys key_offsets a b))
@@ -176,25 +176,37 @@ then_twice Less = refl
 then_twice Equal = refl
 then_twice Greater = refl
 
--- if keys tie, two versions compare by their fields, unless both are strict
+then_again : (first behind : Ordering)
+    → ordering_then first (ordering_then first behind) ≡ ordering_then first behind
+then_again Less behind = refl
+then_again Equal behind = refl
+then_again Greater behind = refl
+
+-- if keys tie, two versions compare as versions, unless both are strict
 ties_alike : (a b : PlainVersioning)
     → ordering_then (precedence (key_of a) (key_of b))
-    (option_cmp versioning_plain_cmp (unless_strict a) (unless_strict b)) ≡ versioning_cmp a b
+    (option_cmp versioning_cmp (unless_strict a) (unless_strict b)) ≡ versioning_cmp a b
 ties_alike (Ideal a) (Ideal b) =
     let keys = precedence (key_of_semver a) (key_of_semver b) in
     then_twice keys ∙ ap (ordering_then keys) (precedence_of_semvers a b)
 ties_alike (Ideal a) (General b) = refl
 ties_alike (Ideal a) (Complex b) = refl
 ties_alike (General a) (Ideal b) = refl
-ties_alike (General a) (General b) = refl
-ties_alike (General a) (Complex b) = refl
+ties_alike (General a) (General b) =
+    then_again (precedence (key_of (General a)) (key_of (General b)))
+    (versioning_plain_cmp (General a) (General b))
+ties_alike (General a) (Complex b) =
+    then_again (precedence (key_of (General a)) (key_of (Complex b))) Less
 ties_alike (Complex a) (Ideal b) = refl
-ties_alike (Complex a) (General b) = refl
-ties_alike (Complex a) (Complex b) = refl
+ties_alike (Complex a) (General b) =
+    then_again (precedence (key_of (Complex a)) (key_of (General b))) Greater
+ties_alike (Complex a) (Complex b) =
+    then_again (precedence (key_of (Complex a)) (key_of (Complex b)))
+    (versioning_plain_cmp (Complex a) (Complex b))
 
 alike : (v w : Option PlainVersioning) (o : Ordering)
     → ordering_then (keys_cmp (key_or_nothing v) (key_or_nothing w))
-    (ordering_then (option_cmp versioning_plain_cmp (breaker v) (breaker w)) o)
+    (ordering_then (option_cmp versioning_cmp (breaker v) (breaker w)) o)
     ≡ ordering_then (none_last_cmp versioning_cmp v w) o
 alike None None o = refl
 alike (Some v) None o = rw (no_key_empty (key_of v)) refl
@@ -202,7 +214,7 @@ alike None (Some w) o = rw (no_key_empty (key_of w)) refl
 alike (Some v) (Some w) o =
     rw (no_key_empty (key_of v), no_key_empty (key_of w), key_bytes_alone (key_of v) (key_of w))
     (sym (then_assoc (precedence (key_of v) (key_of w))
-    (option_cmp versioning_plain_cmp (unless_strict v) (unless_strict w)) o)
+    (option_cmp versioning_cmp (unless_strict v) (unless_strict w)) o)
     ∙ ap (λ r. ordering_then r o) (ties_alike v w))
 
 -- two places compare as their texts do, if their keys lie there

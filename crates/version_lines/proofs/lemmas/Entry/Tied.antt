@@ -19,10 +19,10 @@ use Rattle.versions.specs.Kind.{versioning_kind}
 use Rattle.versions.specs.declared.kind.Kind.{Kind}
 use Rattle.versions.specs.declared.kind.Kind.TheVariants as kind
 use Rattle.versions.specs.Mess.{PlainMess, mess_of}
+use Rattle.versions.specs.Orders.{versioning_cmp}
 use Rattle.versions.specs.SemVer.{PlainSemVer, semver_of}
 use Rattle.versions.specs.Version.{PlainVersion, version_of}
 use Rattle.versions.specs.Versioning.{Complex, General, Ideal, PlainVersioning, versioning_of}
-use Rattle.versions.specs.Versioning.{versioning_plain_cmp}
 use Rattle.version_lines.proofs.lemmas.Entry.{tie_total}
 use Rattle.version_lines.proofs.lemmas.Sorting.{AtLeast, Rises, below, in_order-map}
 use Rattle.version_lines.proofs.lemmas.Sorting.Ties.{in_order-risen}
@@ -36,7 +36,7 @@ HasBreaker breaker entry = line_tie_breaker (entry_line entry) ≡ breaker
 level : (breaker : Option PlainVersioning) (a b : Entry) → HasBreaker breaker a
     → HasBreaker breaker b → below tie_cmp b a ≡ false
 level breaker a b a_same b_same =
-    ap is_lt (ap (λ v. option_cmp versioning_plain_cmp v (line_tie_breaker (entry_line a)))
+    ap is_lt (ap (λ v. option_cmp versioning_cmp v (line_tie_breaker (entry_line a)))
     (b_same ∙ sym a_same) ∙ tied_itself tie_total a)
 
 level_rest : (breaker : Option PlainVersioning) (a : Entry) (run : List Entry)

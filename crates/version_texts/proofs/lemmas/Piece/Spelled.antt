@@ -139,6 +139,14 @@ run_section : (text : List ℕ) → list_all is_ascii_alphanumeric text ≡ true
     → list_all is_section_byte text ≡ true
 run_section = all_weaker is_ascii_alphanumeric is_section_byte alphanumeric_section
 
+-- the pieces of a body: the texts of its parts
+pub body_pieces : (text : List ℕ) (body : PlainBody) (s : SpellsBody text body)
+    → pieces text ≡ map chunk_text (body.0 ++ s.part ∷ [])
+body_pieces text body s =
+    sym (map-id (pieces text))
+    ∙ pieces_give SpellsPart (λ t. t) chunk_text (λ t x h. run_no_dot t (part_bytes t x h))
+    (λ t x h. sym (part_printed t x h)) text (body.0 ++ s.part ∷ []) s.parts_are
+
 -- the parts of a body: those of its chunks, and its last part
 pub body_parts : (text : List ℕ) (body : PlainBody) → SpellsBody text body
     → parts_of text ≡ chunk_parts body.0 ++ part_key (last_text body.1) ∷ []

@@ -79,12 +79,12 @@ without_epoch text first rest chunks more whole s each none key uncounted =
     }
 
 -- without a colon the first section is the body
-alone : (epoch : Option ℕ) (first : Section)
+pub alone : (epoch : Option ℕ) (first : Section)
     → key_behind_epoch epoch first [] ≡ key_of_sections 0 first []
 alone None first = refl
 alone (Some n) first = refl
 
-apart : (epoch : Option ℕ) (first : Section) (sign : PlainSep) (section : Section)
+pub apart : (epoch : Option ℕ) (first : Section) (sign : PlainSep) (section : Section)
     (more : List Further) → is_colon (sep_byte sign) ≡ false
     → key_behind_epoch epoch first ((sign, section) ∷ more)
     ≡ key_of_sections 0 first ((sign, section) ∷ more)
@@ -95,7 +95,7 @@ apart (Some n) first Plus section more other = refl
 apart (Some n) first Underscore section more other = refl
 apart (Some n) first Tilde section more other = refl
 
-uncounted : (first : Section) (sign : PlainSep) (section : Section) (more : List Further)
+pub uncounted : (first : Section) (sign : PlainSep) (section : Section) (more : List Further)
     → is_colon (sep_byte sign) ≡ false → mess_epoch first ((sign, section) ∷ more) ≡ None
 uncounted first Colon section more other = cc other
 uncounted first Hyphen section more other = refl

@@ -1,9 +1,9 @@
 -- Two versions are the same exactly if their texts are, up to the metadata of strict ones.
 use Rattle.std.proofs.Common.{◌≡◌, ◌↔◌, ◌∙◌, ℕ, Bool, IsTrue, true, false, List, [], ◌++◌, length}
-use Rattle.std.proofs.Common.{take, Option, Some, None, refl, sym, ap, subst, arith, inl, inr}
+use Rattle.std.proofs.Common.{drop, take, Option, Some, None, refl, sym, ap, subst, arith, inl, inr}
 use Rattle.std.proofs.Common.{nat_eq, append-nil, append_assoc, length-append}
 use Rattle.std.proofs.lemmas.Bool.{cases_Bool}
-use Rattle.std.proofs.lemmas.List.{take_at}
+use Rattle.std.proofs.lemmas.List.{drop_at, take_at}
 use Rattle.std.specs.Cmp.{Equal-is}
 use Rattle.std.specs.Cmp.Lexicographic.{other_text, pointwise, same_text}
 use Rattle.std.specs.List.{list_all, prefix_len}
@@ -78,14 +78,23 @@ module _ (text : List ℕ) (v : PlainVersion) (s : SpellsVersion text v) where
         length-append s.body s.release,
       )
 
+  -- the text is what stands before the metadata, and the metadata
+  front_and_meta : text ≡ (s.epoch ++ (s.body ++ s.release)) ++ s.meta
+  front_and_meta =
+      s.whole ∙ ap (λ l. s.epoch ++ l) (sym (append_assoc s.body s.release s.meta))
+      ∙ sym (append_assoc s.epoch (s.body ++ s.release) s.meta)
+
   -- the text before the metadata is the epoch, the body and the release
   front_taken : plain_front text ≡ s.epoch ++ (s.body ++ s.release)
   front_taken =
-      let whole : text ≡ (s.epoch ++ (s.body ++ s.release)) ++ s.meta =
-      s.whole ∙ ap (λ l. s.epoch ++ l) (sym (append_assoc s.body s.release s.meta))
-      ∙ sym (append_assoc s.epoch (s.body ++ s.release) s.meta) in
-      ap (take (dashed_end text)) whole
+      ap (take (dashed_end text)) front_and_meta
       ∙ take_at (s.epoch ++ (s.body ++ s.release)) s.meta (dashed_end text) (sym front_len)
+
+  -- the rest is the metadata
+  pub meta_taken : drop (dashed_end text) text ≡ s.meta
+  meta_taken =
+      ap (drop (dashed_end text)) front_and_meta
+      ∙ drop_at (s.epoch ++ (s.body ++ s.release)) s.meta (dashed_end text) (sym front_len)
 
   -- the text before the metadata spells the version without its metadata
   front_spells : SpellsVersion (plain_front text) (without_metadata v)

@@ -1,9 +1,42 @@
-use Rattle.std.proofs.Common.{◌∙◌, sym}
-use Rattle.version_texts.proofs.lemmas.VersioningRef.PlainOrder.{strict_decides}
+use Rattle.std.proofs.Common.{◌≡◌, ◌∙◌, rules, sym}
+use Rattle.std.specs.Ordering.{nat_cmp}
+use Rattle.version_texts.proofs.lemmas.Ties.{general_breaks, messy_breaks}
+use Rattle.version_texts.proofs.lemmas.VersioningRef.{kind-is, shape_fits}
+use Rattle.version_texts.proofs.lemmas.VersioningRef.PlainOrder.{kinds_decide, strict_decides}
 use Rattle.version_texts.proofs.versioning_ref.VersioningRef.compare_tied.Goals as goal
 
-pub returns-in-Ideal-Ideal : goal.returns-in-Ideal-Ideal
-returns-in-Ideal-Ideal c =
+pub returns-then-ne : goal.returns-then-ne
+returns-then-ne c =
+    let self = c.args.self.now in
+    let other = c.args.other.now in
+    let a = c.rank.ensures _ (sym (kind-is _ _ self.read)) in
+    let b = c.rank-then-ne.ensures _ (sym (kind-is _ _ other.read)) in
+    c.cmp.ensures ∙ (λ i. nat_cmp (a i) (b i))
+    ∙ kinds_decide _ _ _ _ self.read other.read (search rules)
+
+pub returns-in-Ideal : goal.returns-in-Ideal
+returns-in-Ideal c =
+    let same : c.args.self.now.shape.kind ≡ c.args.other.now.shape.kind = search rules in
     sym c.requires
-    ∙ strict_decides _ _ _ _ c.args.self.now.read c.args.other.now.read c.in-Ideal-Ideal.is-0
-    c.in-Ideal-Ideal.is-1
+    ∙ strict_decides _ _ _ _ c.args.self.now.read c.args.other.now.read c.in-Ideal.is
+    (sym same ∙ c.in-Ideal.is)
+
+pub compare_general-requires-clause-a_fits : goal.compare_general-requires-clause-a_fits
+compare_general-requires-clause-a_fits c = shape_fits _ _ c.args.self.now.read
+
+pub compare_general-requires-clause-b_fits : goal.compare_general-requires-clause-b_fits
+compare_general-requires-clause-b_fits c = shape_fits _ _ c.args.other.now.read
+
+pub returns-in-General : goal.returns-in-General
+returns-in-General c =
+    let same : c.args.self.now.shape.kind ≡ c.args.other.now.shape.kind = search rules in
+    c.compare_general.ensures
+    ∙ general_breaks _ _ _ _ c.args.self.now.read c.args.other.now.read c.requires
+    c.in-General.is (sym same ∙ c.in-General.is)
+
+pub returns-in-Complex : goal.returns-in-Complex
+returns-in-Complex c =
+    let same : c.args.self.now.shape.kind ≡ c.args.other.now.shape.kind = search rules in
+    c.compare_messy.ensures
+    ∙ messy_breaks _ _ _ _ c.args.self.now.read c.args.other.now.read c.requires
+    c.in-Complex.is (sym same ∙ c.in-Complex.is)
