@@ -5,7 +5,7 @@ pub mod Messy
 pub mod Places
 pub mod Variants
 pub mod Walks
-use Rattle.std.proofs.Common.{◌≡◌, ◌∙◌, ℕ, List, Some, refl, sym, ap}
+use Rattle.std.proofs.Common.{◌≡◌, ◌∙◌, ℕ, List, Some, sym}
 use Rattle.std.specs.declared.cmp.Ordering.TheVariants.{Equal}
 use Rattle.versions.specs.declared.kind.Kind.TheVariants as kind
 use Rattle.versions.specs.Key.{key_of, precedence}

@@ -1,6 +1,6 @@
 -- General versions of one key compare field by field as the pieces of their texts do.
-use Rattle.std.proofs.Common.{◌≡◌, ◌∙◌, ◌<◌, ℕ, List, [], ◌∷◌, ◌++◌, drop, length, map, Option, Some}
-use Rattle.std.proofs.Common.{None, refl, sym, ap, subst, arith, length-append}
+use Rattle.std.proofs.Common.{◌≡◌, ◌∙◌, ◌<◌, ℕ, List, [], ◌∷◌, ◌++◌, drop, length, map, Option}
+use Rattle.std.proofs.Common.{Some, None, refl, sym, ap, subst, arith, length-append}
 use Rattle.std.proofs.lemmas.Cmp.{nat_cmp_total, nat_list_cmp_total, tied_itself}
 use Rattle.std.specs.Cmp.{nat_cmp_is}
 use Rattle.std.specs.Cmp.Lexicographic.{options_total}
@@ -24,12 +24,10 @@ use Rattle.version_parts.proofs.lemmas.Chunk.{part_printed}
 use Rattle.version_parts.proofs.lemmas.General.Orders.{then_assoc}
 use Rattle.version_parts.proofs.lemmas.Numeral.{numeral_printed}
 use Rattle.versions.specs.declared.kind.Kind.TheVariants as kind
-use Rattle.versions.specs.Key.{Key, key_of_version, precedence}
+use Rattle.versions.specs.Key.{Key, key_of_version}
 use Rattle.versions.specs.Tail as tail
-use Rattle.versions.specs.Tail.{Tail}
 use Rattle.versions.specs.Version.{PlainVersion, SpellsEpoch, SpellsVersion, epoch_text}
 use Rattle.versions.specs.VersionOrder.{version_plain_cmp}
-use Rattle.versions.proofs.lemmas.KeyLaws.{keys_same}
 use Rattle.version_texts.specs.Shape.{body_end, body_start, shape_at}
 use Rattle.version_texts.specs.TextKey.{parts_of, pieces}
 use Rattle.version_texts.specs.Ties.{general_tie, parts_tie}
@@ -146,7 +144,8 @@ some_epoch n = omega (arith, length-append (decimal n) (colon ∷ []))
 epochs_decide : (o p : Option ℕ) → unwrap_or o 0 ≡ unwrap_or p 0
     → nat_cmp (length (epoch_text o)) (length (epoch_text p)) ≡ option_cmp nat_cmp o p
 epochs_decide None None e = refl
-epochs_decide None (Some n) e = sym (nat_cmp_is 0 (length (epoch_text (Some n))) Less (some_epoch n))
+epochs_decide None (Some n) e =
+    sym (nat_cmp_is 0 (length (epoch_text (Some n))) Less (some_epoch n))
 epochs_decide (Some n) None e =
     sym (nat_cmp_is (length (epoch_text (Some n))) 0 Greater (some_epoch n))
 epochs_decide (Some m) (Some n) e =

@@ -1,6 +1,6 @@
 -- Last parts of one key compare by whether they are decomposed, and by their texts.
-use Rattle.std.proofs.Common.{◌≡◌, ◌==◌, ◌||◌, ◌&&◌, ◌∙◌, ◌<◌, ℕ, Bool, true, false, List, [], ◌∷◌, ◌++◌}
-use Rattle.std.proofs.Common.{drop, length, Option, Some, None, refl, sym, ap, arith, inl, inr}
+use Rattle.std.proofs.Common.{◌≡◌, ◌==◌, ◌||◌, ◌&&◌, ◌∙◌, ◌<◌, ℕ, Bool, true, false, List, [], ◌∷◌}
+use Rattle.std.proofs.Common.{◌++◌, drop, length, Some, None, refl, sym, ap, arith, inl, inr}
 use Rattle.std.proofs.Common.{append-nil}
 use Rattle.std.proofs.lemmas.Bool.{and_from, and_parts, cases_Bool, eqb-true, or_cases, or_right}
 use Rattle.std.proofs.lemmas.Bool.Decides.{nat_tests}
@@ -12,13 +12,13 @@ use Rattle.std.specs.Fmt.{decimal}
 use Rattle.std.specs.List.{list_all, list_any, prefix_len, take_while}
 use Rattle.std.specs.Option.{option_map_or}
 use Rattle.std.specs.Str.Parse.{digits_value}
-use Rattle.std.specs.declared.cmp.Ordering.TheVariants.{Less, Equal, Greater}
+use Rattle.std.specs.declared.cmp.Ordering.TheVariants.{Equal}
 use Rattle.version_parts.specs.Chunk.{PlainChunk, SpellsPart, chunk_text}
 use Rattle.version_parts.specs.Chunk as chunk
-use Rattle.version_parts.specs.DigitRun.{is_digits, starts_with_digit}
+use Rattle.version_parts.specs.DigitRun.{starts_with_digit}
 use Rattle.version_parts.specs.Front.{begins}
-use Rattle.version_parts.specs.Last.{Alphanum, IsLastOf, IsLetters, IsOther, Numeric, PlainLast, Post}
-use Rattle.version_parts.specs.Last.{Rc, SpellsPost, SpellsRc}
+use Rattle.version_parts.specs.Last.{Alphanum, IsLastOf, IsLetters, IsOther, Numeric, PlainLast}
+use Rattle.version_parts.specs.Last.{Post, Rc, SpellsPost, SpellsRc}
 use Rattle.version_parts.specs.LastOrder.{last_plain_cmp}
 use Rattle.version_parts.specs.Lists.{bytes_cmp}
 use Rattle.version_parts.specs.Numeral.{SpellsNumeral}
@@ -175,8 +175,8 @@ module _ (text : List ℕ) (numbered : is_numbered text ≡ true) where
   post_spelled none = (
     take_while is_ascii_digit text,
     whole
-    ∙ ap (λ (l : List ℕ). take_while is_ascii_digit text ++ (letters ++ l)) none
-    ∙ ap (λ (l : List ℕ). take_while is_ascii_digit text ++ l) (append-nil letters),
+        ∙ ap (λ (l : List ℕ). take_while is_ascii_digit text ++ (letters ++ l)) none
+        ∙ ap (λ (l : List ℕ). take_while is_ascii_digit text ++ l) (append-nil letters),
     first_is,
     letters_are,
   )
@@ -184,9 +184,14 @@ module _ (text : List ℕ) (numbered : is_numbered text ≡ true) where
   rc_spelled : is_numeral last ≡ true
       → SpellsRc text (digits_value 10 (take_while is_ascii_digit text)) letters
       (digits_value 10 last)
-  rc_spelled numeral =
-      (take_while is_ascii_digit text, last, whole, first_is, letters_are,
-        numeral_spells last numeral)
+  rc_spelled numeral = (
+    take_while is_ascii_digit text,
+    last,
+    whole,
+    first_is,
+    letters_are,
+    numeral_spells last numeral,
+  )
 
   no_other : ¬ IsOther text
   no_other o = elim (or_cases (length last == 0) (is_numeral last) (second_so _ _ is_rest)) [

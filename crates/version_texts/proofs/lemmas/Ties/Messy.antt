@@ -1,6 +1,6 @@
 -- Messy versions of one key compare field by field as their texts do by the places of their bytes.
-use Rattle.std.proofs.Common.{◌≡◌, ◌==◌, ◌∙◌, ◌⊎◌, ℕ, true, false, List, [], ◌∷◌, map, Option, Some}
-use Rattle.std.proofs.Common.{None, refl, sym, ap, arith, inl, inr}
+use Rattle.std.proofs.Common.{◌≡◌, ◌∙◌, ◌⊎◌, ℕ, true, false, List, [], ◌∷◌, map, None, refl, sym}
+use Rattle.std.proofs.Common.{ap, arith, inl, inr}
 use Rattle.std.proofs.lemmas.Bool.{cases_Bool}
 use Rattle.std.specs.Cmp.{IsTotalOrder, on_total, then_total}
 use Rattle.std.specs.Cmp.Lexicographic.{lists_total, nat_list_cmp_total, slice_cmp}
@@ -15,14 +15,13 @@ use Rattle.version_parts.specs.MChunk.{mchunk_plain_cmp, mchunk_text}
 use Rattle.version_parts.specs.MChunkLaws.{sep_total}
 use Rattle.version_parts.specs.OrderLaws.{bytes_same, then_first}
 use Rattle.version_parts.specs.PartKey.{Number, PartKey, part_key, section_parts}
-use Rattle.version_parts.specs.Sep.{Colon, Hyphen, Plus, Underscore, Tilde, sep_plain_cmp}
+use Rattle.version_parts.specs.Sep.{Colon, sep_plain_cmp}
 use Rattle.version_parts.proofs.lemmas.General.Orders.{then_decided}
 use Rattle.versions.specs.Key.{Key, key_of_mess, key_of_sections, mess_epoch, precedence}
 use Rattle.versions.specs.Key.{section_epoch, sections_tail}
 use Rattle.versions.specs.Mess.{Further, PlainMess, Section, SpellsMess, further_plain_cmp}
 use Rattle.versions.specs.Mess.{mess_plain_cmp, section_plain_cmp}
 use Rattle.versions.specs.MessLaws.{mess_total}
-use Rattle.versions.specs.Tail.{Tail}
 use Rattle.versions.proofs.lemmas.KeyLaws.{keys_same}
 use Rattle.versions.proofs.lemmas.Mess.{mess_printed}
 use Rattle.version_texts.specs.Ties.{messy_tie}
@@ -194,8 +193,8 @@ module _ (c : PlainMChunk) (body : Section) (more : List Further)
   zero_first (d ∷ []) ((Colon, section) ∷ others) t none =
       let differ : ¬ (ordering_then (bytes_cmp (mchunk_text c) (mchunk_text d)) Equal ≡ Equal) =
       λ tied.
-          let same = bytes_same (mchunk_text c) (mchunk_text d) (then_first _ _ tied) in
-          cc (ap is_digits same, digits, not_epoch d none) in
+      let same = bytes_same (mchunk_text c) (mchunk_text d) (then_first _ _ tied) in
+      cc (ap is_digits same, digits, not_epoch d none) in
       (λ i. ordering_then (ordering_then (zero_epoch c d s t.0 digits value i) Equal)
       (slice_cmp further_plain_cmp epoch_first ((Colon, section) ∷ others)))
       ∙ then_decided _ _ _ differ

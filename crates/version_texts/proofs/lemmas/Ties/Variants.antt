@@ -1,7 +1,6 @@
 -- Chunks of messy versions that have one key compare by their texts, and so do zeros and any chunk.
-use Rattle.std.proofs.Common.{◌≡◌, ◌==◌, ◌∙◌, ◌<◌, ◌≤◌, ◌≢◌, ◌^◌, ℕ, Bool, true, false, List, []}
-use Rattle.std.proofs.Common.{◌∷◌, ◌++◌, drop, length, Option, Some, None, refl, sym, ap, arith}
-use Rattle.std.proofs.Common.{inl, inr, append-nil, rules}
+use Rattle.std.proofs.Common.{◌≡◌, ◌==◌, ◌∙◌, ◌<◌, ◌≢◌, ℕ, true, false, List, [], ◌∷◌, ◌++◌, drop}
+use Rattle.std.proofs.Common.{length, Some, None, refl, sym, ap, arith, inl, inr, append-nil}
 use Rattle.std.proofs.lemmas.Bool.{cases_Bool, eqb-false, eqb-true}
 use Rattle.std.proofs.lemmas.Bool.Decides.{nat_tests}
 use Rattle.std.proofs.lemmas.Cmp.{nat_cmp_total, tied_itself}
@@ -9,16 +8,16 @@ use Rattle.std.proofs.lemmas.List.{take-append-drop}
 use Rattle.std.specs.Char.{is_ascii_alphanumeric, is_ascii_digit}
 use Rattle.std.specs.Cmp.{first_so, nat_cmp_is, second_so}
 use Rattle.std.specs.FinMap.{nat_cmp-IsAntisymmetric}
-use Rattle.std.specs.List.{before_first, list_all, position_or_len, prefix_len, take_while}
+use Rattle.std.specs.List.{before_first, list_all, position_or_len, prefix_len}
 use Rattle.std.specs.Ordering.{nat_cmp, ordering_then}
 use Rattle.std.specs.Str.Parse.{digits_value}
-use Rattle.std.specs.declared.cmp.Ordering.TheVariants.{Less, Equal, Greater}
+use Rattle.std.specs.declared.cmp.Ordering.TheVariants.{Less, Equal}
 use Rattle.version_parts.specs.DigitRun.{is_digits, number_front, run_value, starts_with_digit}
 use Rattle.version_parts.specs.Lists.{bytes_cmp}
 use Rattle.version_parts.specs.MChunk.{Digits, Plain, PlainMChunk, Rev, SpellsDigits, SpellsMChunk}
 use Rattle.version_parts.specs.MChunk.{SpellsRevision, mchunk_plain_cmp, mchunk_text}
 use Rattle.version_parts.specs.OrderLaws.{then_first}
-use Rattle.version_parts.specs.PartKey.{Number, PartKey, Word, part_key, suffix_of}
+use Rattle.version_parts.specs.PartKey.{Number, Word, part_key, suffix_of}
 use Rattle.version_parts.specs.Split.{Split, split_of}
 use Rattle.version_parts.proofs.lemmas.DigitRun.{split_of-digits}
 use Rattle.version_parts.proofs.lemmas.Front.Runs.{all_weaker}

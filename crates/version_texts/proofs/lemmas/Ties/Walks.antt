@@ -1,17 +1,15 @@
 -- What a walk over two texts of one key knows at each step.
-use Rattle.std.proofs.Common.{◌≡◌, ◌∙◌, ◌+◌, ◌<◌, ◌≤◌, ◌⊎◌, ℕ, List, [], ◌∷◌, drop, get_or, length}
-use Rattle.std.proofs.Common.{map, refl, sym, ap, arith, inl, inr, add-one, drop-cons}
-use Rattle.std.proofs.lemmas.Cmp.{nat_cmp_total, tied_itself}
+use Rattle.std.proofs.Common.{◌≡◌, ◌∙◌, ◌+◌, ◌<◌, ◌≤◌, ◌⊎◌, ℕ, List, [], ◌∷◌, drop, length, refl}
+use Rattle.std.proofs.Common.{sym, ap, arith, inl, inr}
 use Rattle.std.proofs.lemmas.List.{drop_all, length-drop}
 use Rattle.std.specs.Cmp.{nat_cmp_is, ranks}
-use Rattle.std.specs.List.{slice_split}
 use Rattle.std.specs.Ordering.{MatchOrdering, nat_cmp, ordering_then}
 use Rattle.std.specs.declared.cmp.Ordering.{Ordering}
 use Rattle.std.specs.declared.cmp.Ordering.TheVariants.{Less, Equal, Greater}
 use Rattle.version_parts.specs.Lists.{bytes_cmp}
 use Rattle.version_texts.specs.Piece.{behind_piece, first_piece, is_dot}
 use Rattle.version_texts.specs.TextKey.{pieces}
-use Rattle.version_texts.specs.Ties.{byte_place, last_tie, messy_tie, parts_tie}
+use Rattle.version_texts.specs.Ties.{last_tie, messy_tie, parts_tie}
 use Rattle.version_texts.proofs.lemmas.Piece.{pieces_are}
 use Rattle.version_texts.proofs.lemmas.TextKey.Lists.{further_of_more, further_of_none}
 
@@ -20,7 +18,8 @@ use Rattle.version_texts.proofs.lemmas.TextKey.Lists.{further_of_more, further_o
 -- where more parts follow in both, the first ones compare by bytes, and then these
 pub parts_go_on : (a b part other rest other_rest more others : List ℕ) (o : Ordering)
     → part ≡ first_piece a → other ≡ first_piece b → rest ≡ behind_piece a
-    → other_rest ≡ behind_piece b → (m : ℕ) × (rest ≡ m ∷ more) → (n : ℕ) × (other_rest ≡ n ∷ others)
+    → other_rest ≡ behind_piece b → (m : ℕ) × (rest ≡ m ∷ more)
+    → (n : ℕ) × (other_rest ≡ n ∷ others)
     → o ≡ bytes_cmp part other
     → parts_tie (pieces a) (pieces b) ≡ ordering_then o (parts_tie (pieces more) (pieces others))
 parts_go_on a b part other rest other_rest more others o e f r s p q order =
@@ -61,13 +60,6 @@ others_end a b rest more other r s p none =
     rw (here, there, pieces_are is_dot more) refl
 
 -- ---- bytes
-
--- two texts from a place on compare by the bytes there, and then what follows these
-pub bytes_go_on : (x y : List ℕ) (n : ℕ) → n < length x → n < length y
-    → messy_tie (drop n x) (drop n y)
-    ≡ ordering_then (nat_cmp (byte_place (get_or x n 0)) (byte_place (get_or y n 0)))
-    (messy_tie (drop (n + 1) x) (drop (n + 1) y))
-bytes_go_on x y n in_x in_y = rw (add-one, drop-cons x n 0, drop-cons y n 0) refl
 
 -- where one text ends, the lengths decide
 one_ends : (x y : List ℕ) → (x ≡ []) ⊎ (y ≡ []) → messy_tie x y ≡ nat_cmp (length x) (length y)
