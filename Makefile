@@ -29,7 +29,7 @@ C_LIBRARY := c/out
 header := c/versions.h
 built := c/out/versions.pc
 c/out/versions.pc: crates.txt c/build c/pkg-config-file c/versions.c c/versions.h \
-  $(call sources,version_parts versions version_texts versions_c)
+  $(call sources,version_rules version_texts versions_c)
 	c/build c/out
 else
 header := $$C_LIBRARY/versions.h
@@ -38,7 +38,7 @@ endif
 ifndef VERS
 VERS := crates/vers/out/vers
 built += $(VERS)
-$(VERS): crates.txt $(call sources,version_parts versions version_texts version_lines vers)
+$(VERS): crates.txt $(call sources,version_rules version_texts version_lines vers)
 	cd crates/vers && rt run </dev/null
 	touch $(VERS)
 endif

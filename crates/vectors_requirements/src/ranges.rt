@@ -2,7 +2,7 @@
 
 use std::test::Fail;
 use vectors_support::{any, bytes, holds};
-use version_texts::{RequirementsRef, VersioningRef};
+use version_texts::{VersioningRef, write_range};
 use versions::{Range, Requirements};
 
 // A list, the low bound of its range, the high one or `none`, the kinds, and whether it is exact.
@@ -36,9 +36,19 @@ fn ranges_byte_by_byte(rt: HostRuntime) -> Result<(), Fail> {
             is_written(&rt, &list.range(rt.alloc())?, range)?,
             format_args!("the range of {text}"),
         )?;
-        let borrowed = RequirementsRef::new(text).ok_or("no list")?;
+        let (mut low, mut high) = ([0; 64], [0; 64]);
+        let held = write_range(text.as_bytes(), &mut low, &mut high).ok_or("no list")?;
+        let borrowed = Range {
+            low: Vec::from_slice(rt.alloc(), &low[..held.low_len])?,
+            high: match held.high_len {
+                Some(len) => Some(Vec::from_slice(rt.alloc(), &high[..len])?),
+                None => None,
+            },
+            kinds: held.kinds,
+            is_exact: held.is_exact,
+        };
         holds(
-            is_written(&rt, &borrowed.range(rt.alloc())?, range)?,
+            is_written(&rt, &borrowed, range)?,
             format_args!("the range of the text {text}"),
         )?;
     }

@@ -2,10 +2,9 @@
 use Rattle.std.specs.Prelude.{ℕ, List, [], ◌∷◌, ◌++◌, codes}
 use Rattle.version_lines.specs.Lines.{labelled_line, line_feed, whole_line}
 use Rattle.version_lines.specs.declared.answer.Answer.{Answer}
-use Rattle.version_lines.specs.declared.answer.Answer.TheVariants.{OfKind, NoVersion, Whole}
-use Rattle.version_lines.specs.declared.answer.Answer.TheVariants.{Nothing}
-use Rattle.versions.specs.declared.kind.Kind.{Kind}
-use Rattle.versions.specs.declared.kind.Kind.TheVariants.{Ideal, General, Complex}
+use Rattle.version_lines.specs.declared.answer.Answer.TheVariants.{OfKind, NoVersion, Whole, Nothing}
+use Rattle.version_rules.specs.declared.kind.Kind.{Kind}
+use Rattle.version_rules.specs.declared.kind.Kind.TheVariants.{Ideal, General, Complex}
 
 -- the word for a kind, and the space after it
 abbrev pub label_of : Kind → List ℕ

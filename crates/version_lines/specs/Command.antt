@@ -1,10 +1,9 @@
 -- The command that the words of a run name.
-use Rattle.std.specs.Prelude.{ℕ, Bool, true, false, List, [], ◌∷◌, Option, None, Some, codes}
-use Rattle.std.specs.Prelude.{is_some, if◌then◌else◌}
+use Rattle.std.specs.Prelude.{ℕ, Bool, true, false, List, [], ◌∷◌, Option, None, Some, codes, is_some, if◌then◌else◌}
 use Rattle.std.specs.Str.{bytes_eq}
 use Rattle.version_lines.specs.declared.command.Command.{Command}
+use Rattle.version_rules.specs.Requirements.{requirements_of}
 use Rattle.version_lines.specs.declared.command.Command.TheVariants as owned
-use Rattle.versions.specs.Requirements.{requirements_of}
 
 -- a command with its words
 pub data PlainCommand : Type 0 where

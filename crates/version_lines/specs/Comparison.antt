@@ -5,9 +5,9 @@ use Rattle.std.specs.declared.cmp.Ordering.{Ordering}
 use Rattle.std.specs.declared.cmp.Ordering.TheVariants.{Less, Equal, Greater}
 use Rattle.hex.specs.Hex.{encode_lower}
 use Rattle.version_lines.specs.Lines.{line_feed}
-use Rattle.versions.specs.Key.{key_of, precedence}
-use Rattle.versions.specs.KeyBytes.{key_bytes}
-use Rattle.versions.specs.Versioning.{PlainVersioning, versioning_of}
+use Rattle.version_rules.specs.Key.{key_of, precedence}
+use Rattle.version_rules.specs.KeyBytes.{key_bytes}
+use Rattle.version_rules.specs.Versioning.{PlainVersioning, versioning_of}
 
 -- the sign of an ordering
 abbrev pub sign_text : Ordering → List ℕ

@@ -7,7 +7,7 @@ use Rattle.version_lines.specs.Head.{behind_heads_cmp, head_number}
 use Rattle.version_lines.specs.Sort.{is_bad}
 use Rattle.version_lines.specs.LineKey.{line_key, line_tie_cmp}
 use Rattle.version_lines.specs.declared.sort.entry.Entry.{Entry}
-use Rattle.versions.specs.SemVer.{semver_of}
+use Rattle.version_rules.specs.SemVer.{semver_of}
 
 -- the line of an entry
 abbrev pub entry_line : Entry → List ℕ

@@ -1,9 +1,7 @@
 -- What a fault prints, and the status that it ends the program with.
-use Rattle.std.specs.Prelude.{◌≡◌, ◌⊎◌, ⊤, ℕ, List, ◌++◌, Option, Some, codes, decimal}
-use Rattle.std.specs.Prelude.{string_bytes}
+use Rattle.std.specs.Prelude.{◌≡◌, ◌⊎◌, ⊤, ℕ, List, ◌++◌, Option, Some, codes, decimal, string_bytes}
 use Rattle.version_lines.specs.declared.faults.Fault.{Fault}
-use Rattle.version_lines.specs.declared.faults.Fault.TheVariants.{Usage, NotVersion, NotRequirement}
-use Rattle.version_lines.specs.declared.faults.Fault.TheVariants.{BadLine, Memory, Read, Write}
+use Rattle.version_lines.specs.declared.faults.Fault.TheVariants.{Usage, NotVersion, NotRequirement, BadLine, Memory, Read, Write}
 
 -- the text of a fault
 abbrev pub fault_text : Fault → List ℕ

@@ -3,10 +3,10 @@ use Rattle.std.specs.Prelude.{ℕ, List, [], Option, None, Some, if◌then◌els
 use Rattle.std.specs.Option.{option_and_then, option_cmp, option_map_or}
 use Rattle.std.specs.Ordering.{on}
 use Rattle.std.specs.declared.cmp.Ordering.{Ordering}
-use Rattle.versions.specs.Key.{key_of}
-use Rattle.versions.specs.KeyBytes.{key_bytes}
-use Rattle.versions.specs.Orders.{versioning_cmp}
-use Rattle.versions.specs.Versioning.{PlainVersioning, is_ideal, versioning_of}
+use Rattle.version_rules.specs.Key.{key_of}
+use Rattle.version_rules.specs.KeyBytes.{key_bytes}
+use Rattle.version_rules.specs.Orders.{versioning_cmp}
+use Rattle.version_rules.specs.Versioning.{PlainVersioning, is_ideal, versioning_of}
 
 -- the key of a line's version, and no bytes if the line is not a version
 unfoldable pub line_key : List ℕ → List ℕ

@@ -5,10 +5,10 @@ use Rattle.version_lines.specs.Answer.{answer_text}
 use Rattle.version_lines.specs.Lines.{output_by}
 use Rattle.version_lines.specs.declared.answer.Answer.{Answer}
 use Rattle.version_lines.specs.declared.answer.Answer.TheVariants.{Whole, Nothing}
-use Rattle.versions.specs.MatchingLaws.{matches_all_or_not}
-use Rattle.versions.specs.Requirement.{PlainRequirement}
-use Rattle.versions.specs.Requirements.{requirements_of}
-use Rattle.versions.specs.Versioning.{PlainVersioning, versioning_of}
+use Rattle.version_rules.specs.laws.Matching.{matches_all_or_not}
+use Rattle.version_rules.specs.Requirement.{PlainRequirement}
+use Rattle.version_rules.specs.Requirements.{requirements_of}
+use Rattle.version_rules.specs.Versioning.{PlainVersioning, versioning_of}
 
 -- the answer for a line: the line if something holds, otherwise nothing
 abbrev pub line_if : {Holds : Type 0} → Holds ⊎ ¬ Holds → Answer

@@ -2,18 +2,17 @@
 use Rattle.std.specs.Prelude.{ℕ, List, Option, None, Some, is_some, if◌then◌else◌}
 use Rattle.std.specs.Option.{option_and_then, option_map}
 use Rattle.version_lines.specs.Answer.{answer_text}
-use Rattle.version_lines.specs.Command.{PlainCommand, Cmp, Ideal, Key, Match, Show, Sort}
-use Rattle.version_lines.specs.Command.{command_of}
+use Rattle.version_lines.specs.Command.{PlainCommand, Cmp, Ideal, Key, Match, Show, Sort, command_of}
 use Rattle.version_lines.specs.Comparison.{cmp_output, key_output}
 use Rattle.version_lines.specs.Lines.{output_by}
 use Rattle.version_lines.specs.Matching.{match_output}
 use Rattle.version_lines.specs.Sort.{sort_output}
 use Rattle.version_lines.specs.declared.answer.Answer.{Answer}
 use Rattle.version_lines.specs.declared.answer.Answer.TheVariants.{OfKind, NoVersion}
-use Rattle.versions.specs.declared.kind.Kind.TheVariants as kind
-use Rattle.versions.specs.Kind.{versioning_kind}
-use Rattle.versions.specs.SemVer.{semver_of}
-use Rattle.versions.specs.Versioning.{PlainVersioning, versioning_of}
+use Rattle.version_rules.specs.Kind.{versioning_kind}
+use Rattle.version_rules.specs.SemVer.{semver_of}
+use Rattle.version_rules.specs.Versioning.{PlainVersioning, versioning_of}
+use Rattle.version_rules.specs.declared.kind.Kind.TheVariants as kind
 
 -- what `ideal` writes for a line
 abbrev pub ideal_line : List ℕ → List ℕ

@@ -1,18 +1,15 @@
 -- How a run ends: when it succeeds, the causes of each fault, and what was written by then.
-use Rattle.std.specs.Prelude.{◌≡◌, ⊤, ℕ, Bool, false, List, Option, None, Some, string_bytes}
-use Rattle.std.specs.Prelude.{IfSome, IsTrue, MatchOption}
+use Rattle.std.specs.Prelude.{◌≡◌, ⊤, ℕ, Bool, false, List, Option, None, Some, string_bytes, IfSome, IsTrue, MatchOption}
 use Rattle.std.specs.Option.{IsSomeAnd, option_map_or, option_or}
 use Rattle.std.specs.Io.KnownBytes.{Keeps}
-use Rattle.version_lines.specs.Command.{PlainCommand, Cmp, Key, Match, Sort, command_of}
-use Rattle.version_lines.specs.Command.{reads_input}
+use Rattle.version_lines.specs.Command.{PlainCommand, Cmp, Key, Match, Sort, command_of, reads_input}
 use Rattle.version_lines.specs.Lines.{lines_of}
 use Rattle.version_lines.specs.Output.{AppendsProperBeginning}
 use Rattle.version_lines.specs.Sort.{bad_line}
 use Rattle.version_lines.specs.declared.faults.Fault.{Fault}
-use Rattle.version_lines.specs.declared.faults.Fault.TheVariants.{Usage, NotVersion, NotRequirement}
-use Rattle.version_lines.specs.declared.faults.Fault.TheVariants.{BadLine, Memory, Read, Write}
-use Rattle.versions.specs.Requirements.{requirements_of}
-use Rattle.versions.specs.Versioning.{versioning_of}
+use Rattle.version_lines.specs.declared.faults.Fault.TheVariants.{Usage, NotVersion, NotRequirement, BadLine, Memory, Read, Write}
+use Rattle.version_rules.specs.Requirements.{requirements_of}
+use Rattle.version_rules.specs.Versioning.{versioning_of}
 
 -- the word, if it is not a version
 abbrev pub unless_version : List ℕ → Option (List ℕ)

@@ -6,8 +6,8 @@ use Rattle.std.specs.Ordering.{on}
 use Rattle.std.specs.declared.cmp.Ordering.{Ordering}
 use Rattle.version_lines.specs.Lines.{lines_of, lines_output, whole_line}
 use Rattle.version_lines.specs.Sorting.{in_order}
-use Rattle.versions.specs.Orders.{versioning_cmp}
-use Rattle.versions.specs.Versioning.{versioning_of}
+use Rattle.version_rules.specs.Orders.{versioning_cmp}
+use Rattle.version_rules.specs.Versioning.{versioning_of}
 
 -- whether a line is not a version
 abbrev pub is_bad : List ℕ → Bool

@@ -2,7 +2,7 @@
 ghost use Rattle.std.specs.Prelude.{◌≡◌};
 ghost use Rattle.version_lines.specs.Answer.{label_of};
 
-use versions::Kind;
+use version_rules::Kind;
 
 /// What is written for a line.
 #[derive(Clone, Copy)]

@@ -1,11 +1,11 @@
 //! The command `ideal`: which lines are strict versions.
 ghost use Rattle.std.specs.Prelude.{◌≡◌, is_some};
-ghost use Rattle.versions.specs.SemVer.{semver_of};
+ghost use Rattle.version_rules.specs.SemVer.{semver_of};
 
 use crate::answer::Answer;
 use crate::lines::LineCommand;
+use version_rules::Kind;
 use version_texts::VersioningRef;
-use versions::Kind;
 
 /// Labels the lines that are strict versions.
 #[derive(Clone, Copy)]

@@ -2,14 +2,14 @@
 ghost use Rattle.std.specs.Prelude.{◌≡◌, ◌++◌, IfOk, OnOk};
 ghost use Rattle.std.specs.Option.{option_map};
 ghost use Rattle.version_lines.specs.LineKey.{line_key, line_tie_breaker, line_tie_cmp};
-ghost use Rattle.versions.specs.Kind.{versioning_kind};
-ghost use Rattle.versions.specs.Versioning.{versioning_of};
+ghost use Rattle.version_rules.specs.Kind.{versioning_kind};
+ghost use Rattle.version_rules.specs.Versioning.{versioning_of};
 ghost use Rattle.version_texts.specs.VersioningRef.{plain_versioning_ref};
 
 use std::alloc::AllocError;
 use std::cmp::Ordering;
+use version_rules::Kind;
 use version_texts::VersioningRef;
-use versions::Kind;
 
 /// Compares two lines with equal keys. Does not allocate.
 pub fn compare_ties(a: &[u8], b: &[u8]) -> Ordering

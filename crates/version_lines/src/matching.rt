@@ -1,7 +1,7 @@
 //! The command `match`: the lines whose versions a list of requirements matches.
 ghost use Rattle.std.specs.Prelude.{◌≡◌};
 ghost use Rattle.version_lines.specs.Matching.{match_answer};
-ghost use Rattle.versions.specs.Versioning.{versioning_of};
+ghost use Rattle.version_rules.specs.Versioning.{versioning_of};
 
 use crate::answer::Answer;
 use crate::lines::LineCommand;

@@ -1,7 +1,7 @@
 //! The command `show`: the kind of version of each line.
 ghost use Rattle.std.specs.Prelude.{◌≡◌};
 ghost use Rattle.version_lines.specs.Program.{show_answer};
-ghost use Rattle.versions.specs.Versioning.{versioning_of};
+ghost use Rattle.version_rules.specs.Versioning.{versioning_of};
 
 use crate::answer::Answer;
 use crate::lines::LineCommand;

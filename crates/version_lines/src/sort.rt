@@ -22,7 +22,7 @@ use entry::Entry;
 use std::alloc::{AllocError, Global};
 use std::io::Write;
 use ties::break_ties;
-use versions::Kind;
+use version_rules::Kind;
 
 /// Writes the lines of the input in the order of their versions. Each line has to be a version.
 pub fn write_sorted<W: Write>(alloc: Global, input: &[u8], writer: &mut W) -> Result<(), Fault>

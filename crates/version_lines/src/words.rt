@@ -2,8 +2,8 @@
 ghost use Rattle.std.specs.Prelude.{◌≡◌, Some, IfErr, IfOk};
 ghost use Rattle.version_lines.specs.Fault.{ComesOfRequirements, ComesOfWords};
 ghost use Rattle.version_lines.specs.Run.{unless_requirements, unless_version};
-ghost use Rattle.versions.specs.Requirements.{requirements_of};
-ghost use Rattle.versions.specs.Versioning.{versioning_of};
+ghost use Rattle.version_rules.specs.Requirements.{requirements_of};
+ghost use Rattle.version_rules.specs.Versioning.{versioning_of};
 ghost use Rattle.version_texts.specs.VersioningRef.{plain_versioning_ref};
 
 use crate::faults::Fault;

@@ -1,10 +1,9 @@
 -- The classes of bytes whose runs the scans read.
-use Rattle.std.specs.Prelude.{◌≡◌, ℕ, Bool, true}
+use Rattle.std.specs.Prelude.{ℕ, Bool}
 use Rattle.std.specs.Char.{is_ascii_alphabetic, is_ascii_alphanumeric, is_ascii_digit}
-use Rattle.version_parts.specs.Bytes.{is_identifier_byte, is_metadata_byte}
+use Rattle.version_rules.specs.Bytes.{is_identifier_byte, is_metadata_byte}
 use Rattle.version_parts.specs.declared.scan.Class.{Class}
-use Rattle.version_parts.specs.declared.scan.Class.TheVariants.{Digit, Letter, Alphanumeric}
-use Rattle.version_parts.specs.declared.scan.Class.TheVariants.{Identifier, Metadata}
+use Rattle.version_parts.specs.declared.scan.Class.TheVariants.{Digit, Letter, Alphanumeric, Identifier, Metadata}
 
 -- whether a byte is of the class
 abbrev pub contains : Class → ℕ → Bool
@@ -13,7 +12,3 @@ contains Letter b = is_ascii_alphabetic b
 contains Alphanumeric b = is_ascii_alphanumeric b
 contains Identifier b = is_identifier_byte b
 contains Metadata b = is_metadata_byte b
-
--- a class that has all digits
-abbrev pub HasDigits : (ℕ → Bool) → Type 0
-HasDigits test = (b : ℕ) → is_ascii_digit b ≡ true → test b ≡ true

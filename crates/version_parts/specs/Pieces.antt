@@ -6,14 +6,13 @@ use Rattle.std.specs.Option.{option_to_list}
 use Rattle.version_parts.specs.declared.key.place.AfterNumber.{AfterNumber}
 use Rattle.version_parts.specs.declared.key.place.AfterNumber.TheVariants.{Suffix, Text, Nothing}
 use Rattle.version_parts.specs.declared.key.place.Place.{Place}
-use Rattle.version_parts.specs.declared.key.place.Place.TheVariants.{Part, Split, Numbered, Number}
-use Rattle.version_parts.specs.declared.key.place.Place.TheVariants.{Length, Digit, Rest}
+use Rattle.version_parts.specs.declared.key.place.Place.TheVariants.{Part, Split, Numbered, Number, Length, Digit, Rest}
 use Rattle.version_parts.specs.declared.key.place.Step.{Step}
-use Rattle.version_parts.specs.DigitRun.{number_front, run_value}
-use Rattle.version_parts.specs.NumberBytes.{length_bytes, number_bytes}
-use Rattle.version_parts.specs.PartKey.{part_bytes, part_key, suffix_bytes, suffix_of}
-use Rattle.version_parts.specs.Split.{numbered_bytes, split_bytes, split_of}
-use Rattle.version_parts.specs.TextBytes.{text_bytes}
+use Rattle.version_rules.specs.DigitRun.{number_front, run_value}
+use Rattle.version_rules.specs.NumberBytes.{length_bytes, number_bytes}
+use Rattle.version_rules.specs.PartKey.{part_bytes, part_key, suffix_bytes, suffix_of}
+use Rattle.version_rules.specs.Split.{numbered_bytes, split_bytes, split_of}
+use Rattle.version_rules.specs.TextBytes.{text_bytes}
 
 -- what follows a number: the suffix of a part, a text, or nothing that counts
 unfoldable pub after_number_bytes : AfterNumber → List ℕ → List ℕ

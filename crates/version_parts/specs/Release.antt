@@ -1,30 +1,14 @@
--- Releases: one chunk or more, joined by dots (SemVer 2.0, section 9).
-use Rattle.std.specs.Prelude.{ℕ, List, map}
-use Rattle.std.specs.Hash as fed
+-- The chunks that an owned release holds, and what a hash is fed of them.
+use Rattle.std.specs.Prelude.{List, map}
 use Rattle.std.specs.Hash.{HashWrites}
-use Rattle.std.specs.List.{join_with_byte}
 use Rattle.version_parts.specs.declared.release.Release.{Release}
-use Rattle.version_parts.specs.Bytes.{dot, hyphen}
-use Rattle.version_parts.specs.Chunk.{PlainChunk, SpellsChunk, chunk_fed, chunk_front, chunk_text}
-use Rattle.version_parts.specs.Chunk.{plain_chunk}
-use Rattle.version_parts.specs.Front.{Front, behind, dotted_front}
-use Rattle.version_parts.specs.Grammar.{SpellsDotted}
+use Rattle.version_rules.specs.Chunk.{PlainChunk}
+use Rattle.version_parts.specs.Chunk.{chunk_fed, plain_chunk}
+use Rattle.std.specs.Hash as fed
 
 -- the chunks of a release
 abbrev pub plain_release : Release → List PlainChunk
 plain_release release = map plain_chunk release.0.items
-
--- the text spells the chunks of a release
-abbrev pub SpellsRelease : List ℕ → List PlainChunk → Type 0
-SpellsRelease = SpellsDotted SpellsChunk
-
--- a hyphen, and the chunks after it
-abbrev pub release_front : Front (List PlainChunk)
-release_front = behind hyphen (dotted_front chunk_front)
-
--- the printed text: the chunks joined by dots
-abbrev pub release_text : List PlainChunk → List ℕ
-release_text chunks = join_with_byte dot (map chunk_text chunks)
 
 -- what a hash is fed: the count of chunks, and each of them
 abbrev pub release_fed : List PlainChunk → HashWrites

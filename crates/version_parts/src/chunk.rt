@@ -6,17 +6,18 @@ ghost use Rattle.std.specs.Option.{option_map};
 ghost use Rattle.std.proofs.Common.{ap};
 ghost use Rattle.std.specs.Cmp.{eq_by_cmp_equiv, on_equiv, on_per, partial_equiv_from_equiv};
 ghost use Rattle.std.specs.Ordering.{eq_by_cmp, on};
-ghost use Rattle.version_parts.specs.Bytes.{is_identifier_byte};
-ghost use Rattle.version_parts.specs.Chunk.{after_letter, chunk_fed, chunk_front, chunk_front_of, chunk_of_text, chunk_text, digits_behind_letter, lenient_digits, number_of, part_front, plain_chunk, plain_chunk_ref, ChunkOwns, IsChunkText, PlainChunk};
-ghost use Rattle.version_parts.specs.Class.{contains, HasDigits};
+ghost use Rattle.version_rules.specs.Bytes.{is_identifier_byte};
+ghost use Rattle.version_rules.specs.Chunk.{after_letter, chunk_front, chunk_front_of, chunk_text, digits_behind_letter, lenient_digits, number_of, part_front, ChunkOwns, PlainChunk};
+ghost use Rattle.version_parts.specs.Chunk.{chunk_fed, chunk_of_text, plain_chunk, plain_chunk_ref, IsChunkText};
+ghost use Rattle.version_parts.specs.Class.{contains};
+ghost use Rattle.version_rules.specs.Bytes.{HasDigits};
 ghost use Rattle.version_parts.specs.Front.{Reads};
-ghost use Rattle.version_parts.specs.FrontLaws.{chunk_consumes};
-ghost use Rattle.version_parts.specs.Numeral.{unsigned_front};
-ghost use Rattle.version_parts.specs.OrderLaws.{same_where_tied};
-ghost use Rattle.version_parts.specs.ReleaseLaws.{chunk_total, chunks_same};
-ghost use Rattle.version_parts.specs.ReleaseOrder.{chunk_cmp};
+ghost use Rattle.version_rules.specs.laws.Front.{chunk_consumes};
+ghost use Rattle.version_rules.specs.Numeral.{unsigned_front};
+ghost use Rattle.version_rules.specs.laws.Order.{same_where_tied};
+ghost use Rattle.version_rules.specs.laws.Release.{chunk_total, chunks_same};
+ghost use Rattle.version_rules.specs.ReleaseOrder.{chunk_cmp};
 
-use crate::elements::Spelled;
 use crate::key::PartText;
 use crate::lists::ListItem;
 use crate::scan::{Class, Element, numeral_of_run, split_run, unsigned, value_of_numeral};
@@ -371,49 +372,5 @@ impl Element for Part {
 
     fn read(alloc: Global, i: &str) -> Result<Option<(Chunk, &str)>, AllocError> {
         Chunk::parse_without_hyphens(alloc, i)
-    }
-}
-
-impl<'a> Spelled<'a> for ReleaseChunk {
-    type Piece = ChunkRef<'a>;
-
-    ghost Plain = { PlainChunk };
-
-    ghost plain = { plain_chunk_ref };
-
-    ghost front = { chunk_front };
-
-    ghost plain_cmp = { chunk_cmp };
-
-    ghost consumes = { chunk_consumes is_identifier_byte };
-
-    fn scan(i: &'a str) -> Option<(ChunkRef<'a>, &'a str)> {
-        ChunkRef::scan(i, Class::Identifier)
-    }
-
-    fn compare(a: ChunkRef<'a>, b: ChunkRef<'a>) -> Ordering {
-        a.compare(b)
-    }
-}
-
-impl<'a> Spelled<'a> for Part {
-    type Piece = ChunkRef<'a>;
-
-    ghost Plain = { PlainChunk };
-
-    ghost plain = { plain_chunk_ref };
-
-    ghost front = { part_front };
-
-    ghost plain_cmp = { chunk_cmp };
-
-    ghost consumes = { chunk_consumes is_ascii_alphanumeric };
-
-    fn scan(i: &'a str) -> Option<(ChunkRef<'a>, &'a str)> {
-        ChunkRef::scan(i, Class::Alphanumeric)
-    }
-
-    fn compare(a: ChunkRef<'a>, b: ChunkRef<'a>) -> Ordering {
-        a.compare(b)
     }
 }

@@ -1,26 +1,23 @@
 //! The chunks of a general version, and its body: the chunks, and the last part after them.
 
-ghost use Rattle.std.specs.Prelude.{◌≡◌, ◌==◌, [], if◌then◌else◌, length, refl, IfOk, OnErr, Some};
+ghost use Rattle.std.specs.Prelude.{◌≡◌, [], refl, IfOk, OnErr, Some};
 ghost use Rattle.std.proofs.Common.{ap};
 ghost use Rattle.std.specs.Cmp.{eq_by_cmp_equiv, on_equiv, on_per, on_total, partial_equiv_from_equiv, po};
-ghost use Rattle.std.specs.List.{slice_get};
-ghost use Rattle.std.specs.Option.{option_and_then, option_map};
-ghost use Rattle.std.specs.Ordering.{as_partial_cmp, eq_by_cmp, on, ordering_then};
-ghost use Rattle.version_parts.specs.Body.{body_front, chunks_front, plain_chunks, BodyOwns};
+ghost use Rattle.std.specs.Option.{option_map};
+ghost use Rattle.std.specs.Ordering.{as_partial_cmp, eq_by_cmp, on};
+ghost use Rattle.version_rules.specs.Body.{body_front, chunks_front, BodyOwns};
+ghost use Rattle.version_parts.specs.Body.{plain_chunks};
 ghost use Rattle.version_parts.specs.Front.{Reads};
-ghost use Rattle.version_parts.specs.Chunk.{number_of, part_front};
-ghost use Rattle.version_parts.specs.ElementsLeft.{elements_left};
-ghost use Rattle.version_parts.specs.Last.{first_number, plain_last, plain_last_ref};
-ghost use Rattle.version_parts.specs.LastOrder.{last_plain_cmp};
-ghost use Rattle.version_parts.specs.OrderLaws.{same_where_tied};
-ghost use Rattle.version_parts.specs.PartOrder.{chunks_cmp};
-ghost use Rattle.version_parts.specs.PartOrderLaws.{chunks_cmp_ties, chunks_cmp_total};
-ghost use Rattle.version_parts.specs.Release.{release_fed, release_text};
-ghost use Rattle.version_parts.specs.ReleaseLaws.{release_total, releases_same};
-ghost use Rattle.version_parts.specs.ReleaseOrder.{release_cmp};
+ghost use Rattle.version_parts.specs.Last.{plain_last, plain_last_ref};
+ghost use Rattle.version_rules.specs.laws.Order.{same_where_tied};
+ghost use Rattle.version_rules.specs.PartOrder.{chunks_cmp};
+ghost use Rattle.version_rules.specs.laws.PartOrder.{chunks_cmp_ties, chunks_cmp_total};
+ghost use Rattle.version_parts.specs.Release.{release_fed};
+ghost use Rattle.version_rules.specs.Release.{release_text};
+ghost use Rattle.version_rules.specs.laws.Release.{release_total, releases_same};
+ghost use Rattle.version_rules.specs.ReleaseOrder.{release_cmp};
 
 use crate::chunk::{Chunk, Part};
-use crate::elements::{ElementsLeft, compare_elements, nth_element};
 use crate::key::compare_part_lists;
 use crate::last::{Last, LastRef};
 use crate::lists::{compare_lists, copy_list, write_dotted};
@@ -131,7 +128,7 @@ pub struct BodyRef<'a> {
 }
 
 impl<'a> Model for BodyRef<'a> {
-    ghost use Rattle.version_parts.specs.Body.{PlainBody};
+    ghost use Rattle.version_rules.specs.Body.{PlainBody};
 
     ghost Value = { PlainBody };
 
@@ -170,36 +167,5 @@ impl<'a> BodyRef<'a> {
         let chunks = self.list.build::<Part>(alloc, self.list.count - 1)?;
         let last = self.last().build(alloc)?;
         Ok((Chunks(chunks), last))
-    }
-
-    /// Compares two bodies chunk by chunk, and then their last parts field by field. Does not allocate.
-    pub fn compare(&self, other: &BodyRef<'_>) -> Ordering
-        ensures { result ≡ ordering_then (release_cmp self.now.0 other.now.0)
-            (last_plain_cmp self.now.1 other.now.1) }
-    {
-        let chunks = compare_elements::<Part>(self.chunks(), other.chunks());
-        match chunks {
-            Ordering::Equal => self.last().compare(other.last()),
-            _ => chunks,
-        }
-    }
-
-    /// Returns the number of the chunk at a place, counted from 0. At the place after the chunks, returns the first
-    /// number of the last part. Returns None if there is no number at the place. Does not allocate.
-    pub fn nth(&self, n: usize) -> Option<u32>
-        ensures { result ≡ (if n == length self.now.0 then first_number self.now.1
-            else option_and_then number_of (slice_get self.now.0 n)) }
-    {
-        if n == self.list.count - 1 {
-            return self.last().first_number();
-        }
-        nth_element::<Part>(self.chunks(), n)?.number()
-    }
-
-    // The chunks.
-    fn chunks(&self) -> ElementsLeft<'a>
-        ensures { elements_left part_front result ≡ self.now.0 }
-    {
-        ElementsLeft::of(self.list, self.list.count - 1)
     }
 }

@@ -4,10 +4,8 @@
 
 mod chunk;
 mod chunks;
-mod elements;
 pub mod key;
 mod last;
-mod laws;
 pub mod lists;
 mod mchunk;
 pub mod parsers;

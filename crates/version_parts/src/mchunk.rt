@@ -1,23 +1,21 @@
 //! Chunks of a messy version: the pieces between its dots and signs.
 
 ghost use Rattle.std.specs.Prelude.{◌≡◌, refl, map, IfOk, Some};
-ghost use Rattle.std.specs.Cmp.Lexicographic.{slice_cmp};
-ghost use Rattle.std.specs.List.{slice_get};
-ghost use Rattle.std.specs.Option.{option_and_then, option_map};
-ghost use Rattle.version_parts.specs.ElementsLeft.{elements_left};
+ghost use Rattle.std.specs.Option.{option_map};
 ghost use Rattle.std.proofs.Common.{ap};
 ghost use Rattle.std.specs.Cmp.{eq_by_cmp_equiv, on_equiv, on_per, on_total, partial_equiv_from_equiv, po};
 ghost use Rattle.std.specs.Ordering.{as_partial_cmp, eq_by_cmp, on};
-ghost use Rattle.version_parts.specs.DigitRun.{is_digits};
-ghost use Rattle.version_parts.specs.Front.{dotted_front, Reads};
-ghost use Rattle.version_parts.specs.FrontLaws.{mchunk_consumes};
-ghost use Rattle.version_parts.specs.MChunk.{chunk_before, digits_number, ends_chunk, mchunk_fed, mchunk_front, mchunk_plain_cmp, mchunk_rank, mchunk_text, mchunk_value, plain_mchunk, plain_mchunk_ref, value_of_digits, value_of_revision, variant_of, PlainMChunk};
-ghost use Rattle.version_parts.specs.MChunkLaws.{mchunk_total, mchunks_same};
-ghost use Rattle.version_parts.specs.OrderLaws.{same_where_tied};
-ghost use Rattle.version_parts.specs.PartOrder.{mchunk_cmp};
-ghost use Rattle.version_parts.specs.PartOrderLaws.{mchunk_cmp_ties, mchunk_cmp_total};
+ghost use Rattle.version_rules.specs.DigitRun.{is_digits};
+ghost use Rattle.version_rules.specs.Front.{dotted_front};
+ghost use Rattle.version_parts.specs.Front.{Reads};
+ghost use Rattle.version_rules.specs.laws.Front.{mchunk_consumes};
+ghost use Rattle.version_rules.specs.MChunk.{chunk_before, digits_number, ends_chunk, mchunk_front, mchunk_plain_cmp, mchunk_rank, mchunk_text, mchunk_value, value_of_digits, value_of_revision, variant_of, PlainMChunk};
+ghost use Rattle.version_parts.specs.MChunk.{mchunk_fed, plain_mchunk, plain_mchunk_ref};
+ghost use Rattle.version_rules.specs.laws.MChunk.{mchunk_total, mchunks_same};
+ghost use Rattle.version_rules.specs.laws.Order.{same_where_tied};
+ghost use Rattle.version_rules.specs.PartOrder.{mchunk_cmp};
+ghost use Rattle.version_rules.specs.laws.PartOrder.{mchunk_cmp_ties, mchunk_cmp_total};
 
-use crate::elements::{ElementsLeft, Spelled, compare_elements, nth_element};
 use crate::key::{PartText, compare_parts};
 use crate::lists::ListItem;
 use crate::scan::{Class, Dotted, Element, after_mark, is_all_digits, nonempty_run, value_of};
@@ -234,7 +232,7 @@ impl Element for MessyChunk {
 
     ghost consumes = { mchunk_consumes };
 
-    #[tactic(auto, unfolding(crate::specs::MChunk::mchunk_front))]
+    #[tactic(auto, unfolding(version_rules::specs::MChunk::mchunk_front))]
     fn skip(i: &str) -> Option<&str> {
         Some(nonempty_run(i, Class::Alphanumeric)?.1)
     }
@@ -252,8 +250,8 @@ pub struct SectionRef<'a> {
 
 impl<'a> Model for SectionRef<'a> {
     ghost use Rattle.std.specs.Prelude.{◌≡◌, List, length};
-    ghost use Rattle.version_parts.specs.Front.{elements_at};
-    ghost use Rattle.version_parts.specs.MChunk.{mchunk_front, PlainMChunk};
+    ghost use Rattle.version_rules.specs.Front.{elements_at};
+    ghost use Rattle.version_rules.specs.MChunk.{mchunk_front, PlainMChunk};
 
     ghost Value = { List PlainMChunk };
 
@@ -294,7 +292,7 @@ pub enum MChunkRef<'a> {
 
 impl<'a> MChunkRef<'a> {
     // Scans the chunk at the start of a text, and returns it with the rest.
-    #[tactic(auto, unfolding(crate::specs::MChunk::mchunk_front))]
+    #[tactic(auto, unfolding(version_rules::specs::MChunk::mchunk_front))]
     fn scan(i: &'a str) -> Option<(MChunkRef<'a>, &'a str)>
         ensures { option_map (λ r. (plain_mchunk_ref r.0, r.1.now)) result ≡ mchunk_front i.now }
     {
@@ -314,7 +312,7 @@ impl<'a> MChunkRef<'a> {
     }
 
     // The chunk of a run of letters and digits.
-    #[tactic(auto, unfolding(crate::specs::MChunk::variant_of))]
+    #[tactic(auto, unfolding(version_rules::specs::MChunk::variant_of))]
     fn of(run: &'a str) -> MChunkRef<'a>
         ensures { plain_mchunk_ref result ≡ variant_of run.now }
     {
@@ -350,16 +348,6 @@ impl<'a> MChunkRef<'a> {
         }
     }
 
-    /// Returns the number of a `Digits`, or None. Does not allocate.
-    pub fn number(self) -> Option<u32>
-        ensures { result ≡ digits_number (plain_mchunk_ref self.entry) }
-    {
-        match self {
-            MChunkRef::Digits(value, _) => Some(value),
-            _ => None,
-        }
-    }
-
     // The place of the variant in the order of declaration.
     fn rank(self) -> u8
         ensures { result ≡ mchunk_rank (plain_mchunk_ref self.entry) }
@@ -390,53 +378,5 @@ impl<'a> MChunkRef<'a> {
         let kinds = self.rank().cmp(&other.rank());
         let values = kinds.then(self.value().cmp(&other.value()));
         values.then(self.text().cmp(other.text()))
-    }
-}
-
-impl<'a> Spelled<'a> for MessyChunk {
-    type Piece = MChunkRef<'a>;
-
-    ghost Plain = { PlainMChunk };
-
-    ghost plain = { plain_mchunk_ref };
-
-    ghost front = { mchunk_front };
-
-    ghost plain_cmp = { mchunk_plain_cmp };
-
-    ghost consumes = { mchunk_consumes };
-
-    fn scan(i: &'a str) -> Option<(MChunkRef<'a>, &'a str)> {
-        MChunkRef::scan(i)
-    }
-
-    fn compare(a: MChunkRef<'a>, b: MChunkRef<'a>) -> Ordering {
-        a.compare(b)
-    }
-}
-
-impl<'a> SectionRef<'a> {
-    /// Compares two sections chunk by chunk, and chunks field by field. A prefix comes before the longer section. Does
-    /// not allocate.
-    pub fn compare(&self, other: &SectionRef<'_>) -> Ordering
-        ensures { result ≡ slice_cmp mchunk_plain_cmp self.now other.now }
-    {
-        compare_elements::<MessyChunk>(self.elements(), other.elements())
-    }
-
-    /// Returns the number of the `Digits` at a place, counted from 0. Returns None for another chunk, or past the end.
-    /// Does not allocate.
-    pub fn number_at(&self, at: usize) -> Option<u32>
-        ensures { result ≡ option_and_then digits_number (slice_get self.now at) }
-    {
-        nth_element::<MessyChunk>(self.elements(), at)?.number()
-    }
-
-    // The chunks.
-    #[tactic(auto, using(crate::proofs::lemmas::ElementsLeft::all_elements))]
-    fn elements(&self) -> ElementsLeft<'a>
-        ensures { elements_left mchunk_front result ≡ self.now }
-    {
-        ElementsLeft::of(self.list, self.list.count)
     }
 }

@@ -5,16 +5,16 @@ ghost use Rattle.std.proofs.Common.{ap};
 ghost use Rattle.std.specs.Cmp.{eq_by_cmp_equiv, on_equiv, on_per, on_total, partial_equiv_from_equiv, po};
 ghost use Rattle.std.specs.Option.{option_map};
 ghost use Rattle.std.specs.Ordering.{as_partial_cmp, eq_by_cmp, on};
-ghost use Rattle.version_parts.specs.Chunk.{chunk_front, PlainChunk};
-ghost use Rattle.version_parts.specs.ElementsLeft.{elements_left};
-ghost use Rattle.version_parts.specs.Front.{elements_at, Reads};
-ghost use Rattle.version_parts.specs.OrderLaws.{same_where_tied};
-ghost use Rattle.version_parts.specs.Release.{plain_release, release_fed, release_front, release_text};
-ghost use Rattle.version_parts.specs.ReleaseLaws.{release_total, releases_same};
-ghost use Rattle.version_parts.specs.ReleaseOrder.{release_bytes, release_cmp};
+ghost use Rattle.version_rules.specs.Chunk.{chunk_front, PlainChunk};
+ghost use Rattle.version_rules.specs.Front.{elements_at};
+ghost use Rattle.version_parts.specs.Front.{Reads};
+ghost use Rattle.version_rules.specs.laws.Order.{same_where_tied};
+ghost use Rattle.version_parts.specs.Release.{plain_release, release_fed};
+ghost use Rattle.version_rules.specs.Release.{release_front, release_text};
+ghost use Rattle.version_rules.specs.laws.Release.{release_total, releases_same};
+ghost use Rattle.version_rules.specs.ReleaseOrder.{release_bytes, release_cmp};
 
 use crate::chunk::{Chunk, ReleaseChunk};
-use crate::elements::{ElementsLeft, compare_elements};
 use crate::key::{ItemsLeft, ListLeft};
 use crate::lists::{compare_lists, copy_list, write_dotted};
 use crate::scan::{Dotted, after_mark};
@@ -43,7 +43,7 @@ impl Release {
     }
 
     /// Returns the chunks as items of a key, and the end of their list. Does not allocate.
-    #[tactic(auto, using(crate::proofs::lemmas::PartKey::Lists::ended))]
+    #[tactic(auto, using(version_rules::proofs::lemmas::Codes::ended))]
     pub fn left(&self) -> ListLeft<'_, ReleaseChunk>
         ensures { result ≡ release_bytes (plain_release self.now) }
     {
@@ -147,20 +147,5 @@ impl<'a> ReleaseRef<'a> {
     {
         let count = self.list.count;
         Ok(Release(self.list.build::<ReleaseChunk>(alloc, count)?))
-    }
-
-    /// Compares two releases chunk by chunk, as [`Release`]s compare. Does not allocate.
-    pub fn compare(&self, other: &ReleaseRef<'_>) -> Ordering
-        ensures { result ≡ release_cmp self.now other.now }
-    {
-        compare_elements::<ReleaseChunk>(self.elements(), other.elements())
-    }
-
-    // The chunks.
-    #[tactic(auto, using(crate::proofs::lemmas::ElementsLeft::all_elements))]
-    fn elements(&self) -> ElementsLeft<'a>
-        ensures { elements_left chunk_front result ≡ self.now }
-    {
-        ElementsLeft::of(self.list, self.list.count)
     }
 }

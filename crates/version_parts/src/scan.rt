@@ -5,13 +5,15 @@ ghost use Rattle.std.specs.Option.{option_map};
 ghost use Rattle.std.specs.Char.{is_ascii_alphanumeric, is_ascii_digit};
 ghost use Rattle.std.specs.List.{list_all, prefix_len, take_while};
 ghost use Rattle.std.specs.Str.Parse.{digits_value};
-ghost use Rattle.version_parts.specs.Bytes.{dot, is_identifier_byte};
+ghost use Rattle.version_rules.specs.Bytes.{dot, is_identifier_byte};
 ghost use Rattle.version_parts.specs.Class.{contains};
-ghost use Rattle.version_parts.specs.Front.{after_mark, behind, dotted_front, elements_at, run_front, Consumes, Front, Reads};
-ghost use Rattle.version_parts.specs.Lists.{split_last};
-ghost use Rattle.version_parts.specs.Metadata.{meta_front};
-ghost use Rattle.version_parts.specs.Numeral.{unsigned_front, SpellsNumeral};
-ghost use Rattle.version_parts.specs.Sep.{plain_sep, sep_front};
+ghost use Rattle.version_rules.specs.Front.{after_mark, behind, dotted_front, elements_at, run_front, Consumes, Front};
+ghost use Rattle.version_parts.specs.Front.{Reads};
+ghost use Rattle.version_rules.specs.Lists.{split_last};
+ghost use Rattle.version_rules.specs.Metadata.{meta_front};
+ghost use Rattle.version_rules.specs.Numeral.{unsigned_front, SpellsNumeral};
+ghost use Rattle.version_parts.specs.Sep.{plain_sep};
+ghost use Rattle.version_rules.specs.Sep.{sep_front};
 
 use crate::sep::Sep;
 use std::alloc::{AllocError, Global};
@@ -72,7 +74,7 @@ pub(crate) fn is_all_digits(text: &str) -> bool
 }
 
 // The longest run of a class at the start of a text, and the rest, or None if the run is empty.
-#[tactic(auto, unfolding(crate::specs::Front::run_front))]
+#[tactic(auto, unfolding(version_rules::specs::Front::run_front))]
 #[inline(always)]
 pub(crate) fn nonempty_run(i: &str, class: Class) -> Option<(&str, &str)>
     ensures { option_map (λ r. (r.0.now, r.1.now)) result ≡ run_front (contains class) i.now }
@@ -121,7 +123,7 @@ pub fn numeral(i: &str) -> Option<(&str, &str)>
 }
 
 // The same, given the longest run of digits at the start of the text, and what follows it.
-#[tactic(auto, using(crate::proofs::lemmas::Numeral::numerals_read))]
+#[tactic(auto, using(version_rules::proofs::lemmas::Numeral::numerals_read))]
 #[inline(always)]
 pub(crate) fn numeral_of_run<'a>(
     i: &'a str,
@@ -148,7 +150,7 @@ pub(crate) fn numeral_of_run<'a>(
 }
 
 // Whether the value of a run of digits is below 2 ^ 32. That of nine digits is.
-#[tactic(auto, using(crate::proofs::lemmas::Numeral::nine_digits))]
+#[tactic(auto, using(version_rules::proofs::lemmas::Numeral::nine_digits))]
 #[inline(always)]
 fn is_below_limit(digits: &str) -> bool
     requires some { 0 < length digits.now }

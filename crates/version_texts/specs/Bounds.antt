@@ -5,12 +5,12 @@ use Rattle.version_texts.specs.declared.bounds.Held.{Held}
 use Rattle.version_texts.specs.declared.versioning_ref.VersioningRef.{VersioningRef}
 use Rattle.version_texts.specs.Sinks.{saturated}
 use Rattle.version_texts.specs.VersioningRef.{plain_versioning_ref}
-use Rattle.versions.specs.declared.op.Op.TheVariants.{Wildcard}
-use Rattle.versions.specs.declared.range.ends.End.{End}
-use Rattle.versions.specs.Ends.{end_bytes}
-use Rattle.versions.specs.Key.{key_of}
-use Rattle.versions.specs.Range.{PlainRange, requirement_range}
-use Rattle.versions.specs.Requirement.{PlainRequirement}
+use Rattle.version_rules.specs.declared.op.Op.TheVariants.{Wildcard}
+use Rattle.version_rules.specs.declared.ends.End.{End}
+use Rattle.version_rules.specs.Ends.{end_bytes}
+use Rattle.version_rules.specs.Key.{key_of}
+use Rattle.version_rules.specs.Range.{PlainRange, requirement_range}
+use Rattle.version_rules.specs.Requirement.{PlainRequirement}
 
 -- the range whose bounds are the first bytes of two buffers
 abbrev pub held_range : Held → List ℕ → List ℕ → PlainRange

@@ -2,16 +2,15 @@
 use Rattle.std.specs.Prelude.{◌+◌, ℕ, List, [], ◌∷◌, ◌++◌, length, Option, None}
 use Rattle.std.specs.Fmt.{decimal}
 use Rattle.std.specs.Option.{option_map}
-use Rattle.version_parts.specs.Bytes.{hyphen, plus}
-use Rattle.version_parts.specs.Release.{release_text}
-use Rattle.versions.specs.Key.{mess_epoch}
-use Rattle.versions.specs.Mess.{joined_section}
-use Rattle.versions.specs.SemVer.{PlainSemVer, semver_text}
-use Rattle.versions.specs.Version.{PlainVersion, version_text}
-use Rattle.versions.specs.Versioning.{PlainVersioning, Ideal, General, Complex}
+use Rattle.version_rules.specs.Bytes.{hyphen, plus}
+use Rattle.version_rules.specs.Release.{release_text}
+use Rattle.version_rules.specs.Key.{mess_epoch}
+use Rattle.version_rules.specs.Mess.{joined_section}
+use Rattle.version_rules.specs.SemVer.{PlainSemVer, semver_text}
+use Rattle.version_rules.specs.Version.{PlainVersion, version_text}
+use Rattle.version_rules.specs.Versioning.{PlainVersioning, Ideal, General, Complex}
 use Rattle.version_texts.specs.declared.field.Field.{Field}
-use Rattle.version_texts.specs.declared.field.Field.TheVariants.{Epoch, PreRelease, Release}
-use Rattle.version_texts.specs.declared.field.Field.TheVariants.{Metadata}
+use Rattle.version_texts.specs.declared.field.Field.TheVariants.{Epoch, PreRelease, Release, Metadata}
 
 -- the text of a field, if the version has it
 abbrev pub field_text : Field → PlainVersioning → Option (List ℕ)

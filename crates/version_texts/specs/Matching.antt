@@ -1,6 +1,6 @@
 -- What `~` and `^` ask of the key of a version.
-use Rattle.versions.specs.Key.{Key}
-use Rattle.versions.specs.VersionMatch.{EpochAndParts}
+use Rattle.version_rules.specs.Key.{Key}
+use Rattle.version_rules.specs.VersionMatch.{EpochAndParts}
 
 -- the epoch and the parts of the body
 abbrev pub epoch_and_parts_of : Key → EpochAndParts

@@ -1,7 +1,7 @@
 -- The parts of a text that may be missing.
 use Rattle.std.specs.Prelude.{ℕ, List, [], Option, Some, None}
 use Rattle.std.specs.Borrow.{Bor}
-use Rattle.version_parts.specs.PartKey.{PartKey}
+use Rattle.version_rules.specs.PartKey.{PartKey}
 use Rattle.version_texts.specs.TextKey.{parts_of}
 
 -- the parts of a text; none without a text

@@ -2,7 +2,7 @@
 use Rattle.std.specs.Prelude.{◌==◌, ℕ, Bool, List, [], ◌∷◌, drop}
 use Rattle.std.specs.Char.{is_ascii_digit}
 use Rattle.std.specs.List.{before_first, position_or_len, prefix_len, slice_split}
-use Rattle.version_parts.specs.Bytes.{dot}
+use Rattle.version_rules.specs.Bytes.{dot}
 
 -- whether a byte is a dot
 abbrev pub is_dot : ℕ → Bool

@@ -2,7 +2,7 @@
 use Rattle.std.specs.Option.{option_map}
 use Rattle.version_texts.specs.declared.requirement_ref.RequirementRef.{RequirementRef}
 use Rattle.version_texts.specs.VersioningRef.{plain_versioning_ref}
-use Rattle.versions.specs.Requirement.{PlainRequirement}
+use Rattle.version_rules.specs.Requirement.{PlainRequirement}
 
 abbrev pub plain_requirement_ref : RequirementRef → PlainRequirement
 plain_requirement_ref r = record { op = r.op; version = option_map plain_versioning_ref r.version }

@@ -1,17 +1,16 @@
 -- The list of requirements that a scanned value holds: its first two members, and the others, by
 -- their text after the second comma. Which member of a text is the first that isn't a requirement.
-use Rattle.std.specs.Prelude.{◌≡◌, ◌+◌, ℕ, eqb, List, [], ◌∷◌, ◌++◌, length, if◌then◌else◌}
-use Rattle.std.specs.Prelude.{Option, Some, None, is_some}
+use Rattle.std.specs.Prelude.{◌≡◌, ◌+◌, ℕ, eqb, List, [], ◌∷◌, ◌++◌, length, if◌then◌else◌, Option, Some, None, is_some}
 use Rattle.std.specs.Borrow.{Bor}
 use Rattle.std.specs.List.{slice_split}
 use Rattle.std.specs.Option.{unwrap_or}
 use Rattle.version_texts.specs.declared.requirement_ref.RequirementRef.{RequirementRef}
 use Rattle.version_texts.specs.RequirementRef.{plain_requirement_ref}
-use Rattle.versions.specs.Matching.{Matches}
-use Rattle.versions.specs.Requirement.{PlainRequirement, requirement_of}
-use Rattle.versions.specs.Requirements.{comma}
-use Rattle.versions.specs.RequirementsRef.{members_of}
-use Rattle.versions.specs.Versioning.{PlainVersioning, versioning_of}
+use Rattle.version_rules.specs.Matching.{Matches}
+use Rattle.version_rules.specs.Requirement.{PlainRequirement, requirement_of}
+use Rattle.version_rules.specs.Requirements.{comma}
+use Rattle.version_rules.specs.RequirementsRef.{members_of}
+use Rattle.version_rules.specs.Versioning.{PlainVersioning, versioning_of}
 
 -- the second member, if there is one, and the others
 abbrev pub from_second : Option RequirementRef → Option (Bor (List ℕ)) → List PlainRequirement

@@ -1,21 +1,19 @@
 -- Where the pieces of a version lie in its text.
-use Rattle.std.specs.Prelude.{◌≡◌, ◌==◌, ◌&&◌, ◌||◌, ◌+◌, ◌-◌, ◌<◌, ◌≤◌, ℕ, Bool, true, List, drop}
-use Rattle.std.specs.Prelude.{length, not, slice_range, take, Option, if◌then◌else◌}
+use Rattle.std.specs.Prelude.{◌≡◌, ◌==◌, ◌&&◌, ◌||◌, ◌+◌, ◌-◌, ◌<◌, ◌≤◌, ℕ, Bool, true, List, drop, length, not, slice_range, take, Option, if◌then◌else◌}
 use Rattle.std.specs.Char.{is_ascii_alphanumeric, is_ascii_digit}
 use Rattle.std.specs.List.{list_all, prefix_len}
 use Rattle.std.specs.Option.{option_map}
-use Rattle.version_parts.specs.Bytes.{colon, dot, hyphen, is_metadata_byte, plus}
-use Rattle.version_parts.specs.DigitRun.{starts_with_digit}
-use Rattle.version_parts.specs.Front.{begins}
-use Rattle.version_parts.specs.Sep.{is_sep}
-use Rattle.versions.specs.declared.kind.Kind.{Kind}
-use Rattle.versions.specs.declared.kind.Kind.TheVariants as kind
-use Rattle.versions.specs.Kind.{versioning_kind}
-use Rattle.versions.specs.Versioning.{versioning_of}
+use Rattle.version_rules.specs.Bytes.{colon, dot, hyphen, is_metadata_byte, plus}
+use Rattle.version_rules.specs.DigitRun.{starts_with_digit}
+use Rattle.version_rules.specs.Front.{begins}
+use Rattle.version_rules.specs.Sep.{is_sep}
+use Rattle.version_rules.specs.declared.kind.Kind.{Kind}
+use Rattle.version_rules.specs.Kind.{versioning_kind}
+use Rattle.version_rules.specs.Versioning.{versioning_of}
 use Rattle.version_texts.specs.declared.shape.Shape.{Shape}
 use Rattle.version_texts.specs.declared.shape.TailKind.{TailKind}
-use Rattle.version_texts.specs.declared.shape.TailKind.TheVariants.{PreRelease, Nothing, Release}
-use Rattle.version_texts.specs.declared.shape.TailKind.TheVariants.{Sections}
+use Rattle.version_texts.specs.declared.shape.TailKind.TheVariants.{PreRelease, Nothing, Release, Sections}
+use Rattle.version_rules.specs.declared.kind.Kind.TheVariants as kind
 
 -- a letter, a digit or a dot: the bytes of a body, and of a section
 abbrev pub is_section_byte : ℕ → Bool

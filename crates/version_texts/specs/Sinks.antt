@@ -1,11 +1,10 @@
 -- What sinks become as bytes are written.
-use Rattle.std.specs.Prelude.{◌≡◌, ℕ, Bool, true, false, zero, suc, ◌+◌, ◌-◌, ◌^◌, min, List, []}
-use Rattle.std.specs.Prelude.{◌∷◌, ◌++◌, length, refl}
+use Rattle.std.specs.Prelude.{◌≡◌, ℕ, Bool, true, false, zero, suc, ◌+◌, ◌-◌, ◌^◌, min, List, [], ◌∷◌, ◌++◌, length, refl}
 use Rattle.std.specs.Ordering.{ordering_then}
 use Rattle.std.specs.declared.cmp.Ordering.{Ordering}
 use Rattle.std.specs.declared.cmp.Ordering.TheVariants.{Less}
 use Rattle.std.proofs.Common.{◌∙◌, ap, append-nil, append_assoc, sym}
-use Rattle.version_parts.specs.Lists.{bytes_cmp, GrowsWithin}
+use Rattle.version_rules.specs.Lists.{bytes_cmp, GrowsWithin}
 use Rattle.version_texts.specs.declared.sinks.Beside.{Beside}
 use Rattle.version_texts.specs.declared.sinks.Between.{Between}
 use Rattle.version_texts.specs.declared.sinks.Growing.{Growing}

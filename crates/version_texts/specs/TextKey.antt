@@ -3,19 +3,18 @@ use Rattle.std.specs.Prelude.{◌==◌, ℕ, List, [], ◌∷◌, ◌++◌, map,
 use Rattle.std.specs.Char.{is_ascii_digit}
 use Rattle.std.specs.List.{list_all, slice_split}
 use Rattle.std.specs.Str.Parse.{digits_value}
-use Rattle.version_parts.specs.Bytes.{dot}
-use Rattle.version_parts.specs.Chunk.{PlainChunk, Numeric, Alphanum}
-use Rattle.version_parts.specs.NumberBytes.{number_bytes}
-use Rattle.version_parts.specs.PartKey.{PartKey, part_key, parts_bytes}
-use Rattle.version_parts.specs.Sep.{is_sep}
-use Rattle.versions.specs.Key.{Key}
-use Rattle.versions.specs.Tail as tail
-use Rattle.versions.specs.Tail.{Tail}
+use Rattle.version_rules.specs.Bytes.{dot}
+use Rattle.version_rules.specs.Chunk.{PlainChunk, Numeric, Alphanum}
+use Rattle.version_rules.specs.NumberBytes.{number_bytes}
+use Rattle.version_rules.specs.PartKey.{PartKey, part_key, parts_bytes}
+use Rattle.version_rules.specs.Sep.{is_sep}
+use Rattle.version_rules.specs.Key.{Key}
+use Rattle.version_rules.specs.Tail.{Tail}
 use Rattle.version_texts.specs.declared.shape.Shape.{Shape}
 use Rattle.version_texts.specs.declared.shape.TailKind.{TailKind}
-use Rattle.version_texts.specs.declared.shape.TailKind.TheVariants.{PreRelease, Nothing, Release}
-use Rattle.version_texts.specs.declared.shape.TailKind.TheVariants.{Sections}
+use Rattle.version_texts.specs.declared.shape.TailKind.TheVariants.{PreRelease, Nothing, Release, Sections}
 use Rattle.version_texts.specs.Shape.{body_in, epoch_in, tail_in}
+use Rattle.version_rules.specs.Tail as tail
 
 -- the pieces of a text between its dots
 abbrev pub pieces : List ℕ → List (List ℕ)

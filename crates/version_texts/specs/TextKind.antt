@@ -1,17 +1,16 @@
 -- Which kind a text is, by its pieces.
-use Rattle.std.specs.Prelude.{◌==◌, ◌&&◌, ◌||◌, ◌+◌, ◌^◌, ℕ, Bool, true, List, [], ◌∷◌, drop}
-use Rattle.std.specs.Prelude.{length, nat_lt, not, Option, Some, None, if◌then◌else◌}
+use Rattle.std.specs.Prelude.{◌==◌, ◌&&◌, ◌||◌, ◌+◌, ◌^◌, ℕ, Bool, true, List, [], ◌∷◌, drop, length, nat_lt, not, Option, Some, None, if◌then◌else◌}
 use Rattle.std.specs.Char.{is_ascii_alphanumeric, is_ascii_digit}
 use Rattle.std.specs.List.{list_all, prefix_len, slice_split, take_while}
 use Rattle.std.specs.Str.Parse.{digits_value}
-use Rattle.version_parts.specs.Bytes.{hyphen, is_identifier_byte, is_metadata_byte, plus}
-use Rattle.version_parts.specs.DigitRun.{is_digits}
-use Rattle.version_parts.specs.Front.{begins}
-use Rattle.versions.specs.declared.kind.Kind.{Kind}
-use Rattle.versions.specs.declared.kind.Kind.TheVariants as kind
+use Rattle.version_rules.specs.Bytes.{hyphen, is_identifier_byte, is_metadata_byte, plus}
+use Rattle.version_rules.specs.DigitRun.{is_digits}
+use Rattle.version_rules.specs.Front.{begins}
+use Rattle.version_rules.specs.declared.kind.Kind.{Kind}
 use Rattle.version_texts.specs.Class.{is_mark}
 use Rattle.version_texts.specs.Shape.{behind_body, body_start, from_body, is_section_byte}
 use Rattle.version_texts.specs.TextKey.{pieces}
+use Rattle.version_rules.specs.declared.kind.Kind.TheVariants as kind
 
 -- a nonempty text of bytes that pass the test
 abbrev pub is_run : (ℕ → Bool) → List ℕ → Bool

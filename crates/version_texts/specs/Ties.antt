@@ -7,10 +7,10 @@ use Rattle.std.specs.Option.{option_map_or}
 use Rattle.std.specs.Ordering.{nat_cmp, on, ordering_then}
 use Rattle.std.specs.declared.cmp.Ordering.{Ordering}
 use Rattle.std.specs.declared.cmp.Ordering.TheVariants.{Less, Equal, Greater}
-use Rattle.version_parts.specs.Bytes.{dot}
-use Rattle.version_parts.specs.Front.{begins}
-use Rattle.version_parts.specs.Lists.{bytes_cmp}
-use Rattle.version_parts.specs.Sep.{sep_of, sep_rank}
+use Rattle.version_rules.specs.Bytes.{dot}
+use Rattle.version_rules.specs.Front.{begins}
+use Rattle.version_rules.specs.Lists.{bytes_cmp}
+use Rattle.version_rules.specs.Sep.{sep_of, sep_rank}
 use Rattle.version_texts.specs.declared.shape.Shape.{Shape}
 use Rattle.version_texts.specs.Numbers.{after_letters}
 use Rattle.version_texts.specs.Piece.{behind_digits}

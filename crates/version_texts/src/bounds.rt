@@ -3,21 +3,21 @@
 ghost use Rattle.std.specs.Prelude.{◌≡◌, ◌≤◌, IfSome, length, take, true};
 ghost use Rattle.std.specs.Option.{is_some, option_map, option_map_or};
 ghost use Rattle.std.specs.Ordering.{is_lt};
-ghost use Rattle.version_parts.specs.Lists.{bytes_cmp};
+ghost use Rattle.version_rules.specs.Lists.{bytes_cmp};
 ghost use Rattle.version_texts.specs.Bounds.{end_of, held_range, high_length, rooms_of, HasRoom, HaveRoom, IsParsed};
 ghost use Rattle.version_texts.specs.RequirementRef.{plain_requirement_ref};
 ghost use Rattle.version_texts.specs.Sinks.{saturated};
 ghost use Rattle.version_texts.specs.VersioningRef.{plain_versioning_ref};
-ghost use Rattle.versions.specs.Ends.{end_bytes};
-ghost use Rattle.versions.specs.Key.{key_of};
-ghost use Rattle.versions.specs.Range.{common, earlier_high as earlier_bound, later, range_of, requirement_range};
-ghost use Rattle.versions.specs.Requirements.{requirements_of};
+ghost use Rattle.version_rules.specs.Ends.{end_bytes};
+ghost use Rattle.version_rules.specs.Key.{key_of};
+ghost use Rattle.version_rules.specs.Range.{common, earlier_high as earlier_bound, later, range_of, requirement_range};
+ghost use Rattle.version_rules.specs.Requirements.{requirements_of};
 
 use crate::requirement_ref::RequirementRef;
 use crate::requirements_ref::split_first;
 use crate::versioning_ref::VersioningRef;
 use std::cmp::Ordering;
-use versions::{End, Kinds, ends_of};
+use version_rules::{End, Kinds, ends_of};
 
 /// A range whose bounds lie in two buffers: the low bound is the first bytes of the one, the high bound those of the
 /// other.

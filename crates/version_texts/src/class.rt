@@ -2,8 +2,8 @@
 
 ghost use Rattle.std.specs.Prelude.{◌≡◌, ◌+◌, ◌≤◌, ℕ, List, drop, length};
 ghost use Rattle.std.specs.List.{prefix_len, take_while};
-ghost use Rattle.version_parts.specs.Class.{HasDigits};
-ghost use Rattle.version_parts.specs.Front.{begins};
+ghost use Rattle.version_rules.specs.Bytes.{HasDigits};
+ghost use Rattle.version_rules.specs.Front.{begins};
 ghost use Rattle.version_texts.specs.Class.{byte_rank, contains, first_rank};
 
 /// A class of bytes.

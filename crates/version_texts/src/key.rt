@@ -1,20 +1,20 @@
 //! The one writer of keys: it reads a text by its shape, and writes into any sink.
 
-ghost use Rattle.std.specs.Prelude.{◌≡◌, ◌==◌, ◌||◌, false, ◌∷◌, ◌++◌, ◌-◌, ◌≤◌, [], List, ℕ, IfNone, IfSome, MatchOption, Some, None, drop, length, true};
+ghost use Rattle.std.specs.Prelude.{◌≡◌, ◌==◌, false, ◌∷◌, ◌-◌, [], List, ℕ, IfNone, IfSome, MatchOption, Some, None, drop, length, true};
 ghost use Rattle.std.specs.Char.{is_ascii_alphanumeric, is_ascii_digit};
 ghost use Rattle.std.specs.List.{list_all, prefix_len, take_while};
 ghost use Rattle.std.specs.Str.Parse.{digits_value};
-ghost use Rattle.version_parts.specs.Bytes.{dot, is_identifier_byte, is_metadata_byte};
-ghost use Rattle.version_parts.specs.Codes.{items_bytes, list_bytes};
-ghost use Rattle.version_parts.specs.DigitRun.{run_value};
-ghost use Rattle.version_parts.specs.Front.{begins};
-ghost use Rattle.version_parts.specs.NumberBytes.{length_bytes, number_bytes};
-ghost use Rattle.version_parts.specs.PartKey.{part_bytes, part_key, parts_bytes};
-ghost use Rattle.version_parts.specs.ReleaseOrder.{chunk_bytes, release_bytes};
-ghost use Rattle.version_parts.specs.Split.{split_bytes, split_of};
-ghost use Rattle.versions.specs.KeyBytes.{key_bytes};
-ghost use Rattle.versions.specs.Range.{begun};
-ghost use Rattle.versions.specs.Tail.{section_bytes, tail_bytes};
+ghost use Rattle.version_rules.specs.Bytes.{dot, is_identifier_byte, is_metadata_byte};
+ghost use Rattle.version_rules.specs.Codes.{items_bytes, list_bytes};
+ghost use Rattle.version_rules.specs.DigitRun.{run_value};
+ghost use Rattle.version_rules.specs.Front.{begins};
+ghost use Rattle.version_rules.specs.NumberBytes.{length_bytes, number_bytes};
+ghost use Rattle.version_rules.specs.PartKey.{part_bytes, part_key, parts_bytes};
+ghost use Rattle.version_rules.specs.ReleaseOrder.{chunk_bytes, release_bytes};
+ghost use Rattle.version_rules.specs.Split.{split_bytes, split_of};
+ghost use Rattle.version_rules.specs.KeyBytes.{key_bytes};
+ghost use Rattle.version_rules.specs.Range.{begun};
+ghost use Rattle.version_rules.specs.Tail.{section_bytes, tail_bytes};
 ghost use Rattle.version_texts.specs.Parts.{parts_behind};
 ghost use Rattle.version_texts.specs.Shape.{body_in, epoch_in, is_section_byte, is_tail_byte, tail_in, Fits};
 ghost use Rattle.version_texts.specs.TextKey.{chunk_of, chunks_of, front_bytes, parts_of, sections_of, tail_of, text_key};

@@ -1,7 +1,7 @@
 //! Versions and requirements borrowed from their texts. A version is its text and where its pieces lie in it: its kind,
-//! what its tail is, where the body begins and ends, where the tail ends. One scan tells these, and with the text they
-//! answer every question: the order, the key, and what a requirement matches. Only `to_owned`, `append_key`,
-//! `append_end` and `range` allocate.
+//! what its tail is, where the body begins and ends, where the tail ends. One scan finds these, and with the text they
+//! answer every question: the order, the key, and what a requirement matches. Only `append_key` and `append_end`
+//! allocate.
 #![tactic(auto)]
 
 mod bounds;

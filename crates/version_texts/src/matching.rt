@@ -5,16 +5,16 @@ ghost use Rattle.std.specs.Ordering.{eq_by_cmp};
 ghost use Rattle.version_texts.specs.Matching.{epoch_and_parts_of};
 ghost use Rattle.version_texts.specs.Shape.{body_in, shape_of, Fits};
 ghost use Rattle.version_texts.specs.TextKey.{text_key};
-ghost use Rattle.versions.specs.Matching.{MatchesCaret, MatchesTilde};
-ghost use Rattle.versions.specs.VersionMatch.{MatchesCaret as PartsCaret, MatchesTilde as PartsTilde};
-ghost use Rattle.versions.specs.Versioning.{versioning_of, versioning_plain_cmp, PlainVersioning};
+ghost use Rattle.version_rules.specs.Matching.{MatchesCaret, MatchesTilde};
+ghost use Rattle.version_rules.specs.VersionMatch.{MatchesCaret as PartsCaret, MatchesTilde as PartsTilde};
+ghost use Rattle.version_rules.specs.Versioning.{versioning_of, versioning_plain_cmp, PlainVersioning};
 
 pub(crate) mod parts;
 
 use crate::matching::parts::{numbers_match_caret, parts_match_caret, parts_match_tilde};
 use crate::order::compare_epochs;
 use crate::shape::Shape;
-use versions::Kind;
+use version_rules::Kind;
 
 /// Returns whether `~wanted` matches a version: by the rule of strict versions if both are strict, by that of general
 /// ones if both are general, else never.

@@ -1,9 +1,9 @@
 //! The number at a place of a version, read off its text. Nothing here allocates.
 
 ghost use Rattle.std.specs.Prelude.{◌≡◌, ◌==◌, ◌∷◌, Some, drop, false, IfNone, IfSome};
-ghost use Rattle.version_parts.specs.Bytes.{colon};
-ghost use Rattle.version_parts.specs.Front.{begins};
-ghost use Rattle.versions.specs.Versioning.{versioning_nth};
+ghost use Rattle.version_rules.specs.Bytes.{colon};
+ghost use Rattle.version_rules.specs.Front.{begins};
+ghost use Rattle.version_rules.specs.Versioning.{versioning_nth};
 ghost use Rattle.version_texts.specs.Numbers.{body_number, chunk_number, last_number, pieces_left, section_in};
 ghost use Rattle.version_texts.specs.Shape.{shape_of};
 ghost use Rattle.version_texts.specs.TextKey.{pieces};
@@ -15,7 +15,7 @@ use crate::numeral::{numeral, small_number};
 use crate::order::piece::{behind_first, split_piece};
 use crate::order::section::split_section;
 use crate::shape::Shape;
-use versions::Kind;
+use version_rules::Kind;
 
 /// Returns the number at a place, counted from 0, or None if no number is there: of the body of a strict or general
 /// version, and of the first section of a messy one that no colon follows.

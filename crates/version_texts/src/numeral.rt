@@ -2,8 +2,8 @@
 
 ghost use Rattle.std.specs.Prelude.{◌≡◌, ◌^◌, None, Some, if◌then◌else◌, nat_lt, true};
 ghost use Rattle.std.specs.Str.Parse.{digits_value};
-ghost use Rattle.version_parts.specs.DigitRun.{is_digits};
-ghost use Rattle.version_parts.specs.MChunk.{value_of_digits};
+ghost use Rattle.version_rules.specs.DigitRun.{is_digits};
+ghost use Rattle.version_rules.specs.MChunk.{value_of_digits};
 ghost use Rattle.version_texts.specs.Numbers.{numeral_value};
 ghost use Rattle.version_texts.specs.TextKind.{is_numeral};
 

@@ -3,8 +3,8 @@
 ghost use Rattle.std.specs.Prelude.{◌≡◌, ◌<◌};
 ghost use Rattle.std.specs.Ordering.{nat_cmp};
 ghost use Rattle.std.specs.Str.Parse.{digits_value};
-ghost use Rattle.versions.specs.Key.{precedence};
-ghost use Rattle.versions.specs.Tail.{tail_cmp};
+ghost use Rattle.version_rules.specs.Key.{precedence};
+ghost use Rattle.version_rules.specs.Tail.{tail_cmp};
 ghost use Rattle.version_texts.specs.Shape.{Fits, epoch_in, tail_in};
 ghost use Rattle.version_texts.specs.TextKey.{tail_of, text_key};
 

@@ -1,8 +1,8 @@
 //! The ends of ranges, read off the texts of versions.
 
 ghost use Rattle.std.specs.Prelude.{◌≡◌, ◌++◌, IfSome, List, ℕ};
-ghost use Rattle.versions.specs.Ends.{end_bytes, kept_parts};
-ghost use Rattle.versions.specs.Range.{begun, but_last, through_other};
+ghost use Rattle.version_rules.specs.Ends.{end_bytes, kept_parts};
+ghost use Rattle.version_rules.specs.Range.{begun, but_last, through_other};
 ghost use Rattle.version_texts.specs.Parts.{parts_behind};
 ghost use Rattle.version_texts.specs.Shape.{Fits};
 ghost use Rattle.version_texts.specs.TextKey.{parts_of, text_key};
@@ -12,7 +12,7 @@ use crate::matching::parts::begins_with_zero;
 use crate::order::piece::{behind_first, split_piece};
 use crate::shape::Shape;
 use crate::sink::Sink;
-use versions::{End, Kept};
+use version_rules::{End, Kept};
 
 // The text before its last dot, or None if it has no dot.
 fn before_last_dot(text: &[u8]) -> Option<&[u8]>

@@ -1,26 +1,23 @@
 //! Lists of requirements that are borrowed from their texts.
 
-ghost use Rattle.std.specs.Prelude.{◌≡◌, ◌<◌, ◌≤◌, ◌+◌, ◌↔◌, [], ◌∷◌, IfOk, IfSome, IsTrue, length};
-ghost use Rattle.std.specs.List.{fold};
-ghost use Rattle.std.specs.Option.{is_none, is_some, option_map, unwrap_or, IsSomeAnd};
+ghost use Rattle.std.specs.Prelude.{◌≡◌, ◌<◌, ◌≤◌, ◌+◌, ◌↔◌, [], ◌∷◌, IfSome, IsTrue, length};
+ghost use Rattle.std.specs.Option.{is_none, is_some, IsSomeAnd};
 ghost use Rattle.version_texts.specs.RequirementRef.{plain_requirement_ref};
 ghost use Rattle.version_texts.specs.RequirementsRef.{cut_at_commas, from_second, pieces_of, wrong_member, IsFront};
 ghost use Rattle.version_texts.specs.VersioningRef.{plain_versioning_ref};
-ghost use Rattle.versions.specs.Matching.{MatchesAll};
-ghost use Rattle.versions.specs.Range.{common, plain_range, range_of, requirement_range, IsIn};
-ghost use Rattle.versions.specs.Requirement.{requirement_of};
-ghost use Rattle.versions.specs.Requirements.{requirements_of};
-ghost use Rattle.versions.specs.RequirementsRef.{before_others, members_of, AreMembers, Keeps};
-ghost use Rattle.versions.specs.Versioning.{versioning_of, PlainVersioning};
+ghost use Rattle.version_rules.specs.Matching.{MatchesAll};
+ghost use Rattle.version_rules.specs.Requirement.{requirement_of};
+ghost use Rattle.version_rules.specs.Requirements.{requirements_of};
+ghost use Rattle.version_rules.specs.RequirementsRef.{before_others, members_of, AreMembers, Keeps};
+ghost use Rattle.version_rules.specs.Versioning.{versioning_of};
 
 use crate::order::piece::place_of;
 use crate::requirement_ref::RequirementRef;
 use crate::versioning_ref::VersioningRef;
-use std::alloc::{AllocError, Global};
 use std::marker::Model;
-use versions::{Op, Range};
+use version_rules::Op;
 
-/// A list of requirements borrowed from its text: a `Requirements` that owns nothing. Only `range` allocates. The first
+/// A list of requirements borrowed from its text: a `Requirements` that owns nothing. The first
 /// two members are parsed once, and each further member again for each version.
 #[derive(Drop)]
 pub struct RequirementsRef<'a> {
@@ -33,8 +30,8 @@ pub struct RequirementsRef<'a> {
 impl<'a> Model for RequirementsRef<'a> {
     ghost use Rattle.std.specs.Prelude.{List};
     ghost use Rattle.version_texts.specs.RequirementsRef.{scanned_requirements};
-    ghost use Rattle.versions.specs.Requirement.{PlainRequirement};
-    ghost use Rattle.versions.specs.RequirementsRef.{AreMembers};
+    ghost use Rattle.version_rules.specs.Requirement.{PlainRequirement};
+    ghost use Rattle.version_rules.specs.RequirementsRef.{AreMembers};
 
     ghost Value = { List PlainRequirement };
 
@@ -84,32 +81,6 @@ impl<'a> RequirementsRef<'a> {
         ensures { IsTrue result ↔ MatchesAll self.now (plain_versioning_ref version.now) }
     {
         self.first.matches(version) && second_and_others_ask(&self.second, self.others, version)
-    }
-
-    /// Returns the range of keys that it asks for: what is in the range of each member. `Err` means allocation failure.
-    #[tactic(auto, using(versions::proofs::lemmas::Range::list_in, versions::proofs::lemmas::Range::list_exact))]
-    pub fn range(&self, alloc: Global) -> Result<Range, AllocError>
-        ensures range { IfOk result (λ range. plain_range range ≡ range_of self.now) }
-
-        // Each version that the list matches is in the range. If the range is exact, the list matches each version in
-        // it.
-        ensures within { IfOk result (λ range. (v : PlainVersioning)
-            → MatchesAll self.now v → IsIn (plain_range range) v) }
-        ensures exact { IfOk result (λ range. (v : PlainVersioning) → IsTrue range.is_exact
-            → IsIn (plain_range range) v → MatchesAll self.now v) }
-    {
-        self.common_range(alloc)
-    }
-
-    // Returns what is in the range of each member.
-    fn common_range(&self, alloc: Global) -> Result<Range, AllocError>
-        ensures { IfOk result (λ range. plain_range range ≡ range_of self.now) }
-    {
-        let range = self.first.range(alloc)?;
-        match &self.second {
-            Some(second) => common_with(range.common(second.range(alloc)?), self.others, alloc),
-            None => Ok(range),
-        }
     }
 
     /// Returns whether the bytes parse as a version that each member matches. Does not allocate.
@@ -244,23 +215,4 @@ fn each_asks_for(mut members: Option<&[u8]>, version: &VersioningRef<'_>) -> boo
         members = others;
     }
     true
-}
-
-// Returns what is in a range and in that of each member of the text.
-fn common_with(
-    mut range: Range,
-    mut members: Option<&[u8]>,
-    alloc: Global,
-) -> Result<Range, AllocError>
-    requires { AreMembers members }
-    ensures { IfOk result (λ all. plain_range all ≡ fold (λ range r. common range (requirement_range r))
-        (plain_range range) (unwrap_or (members_of members.entry) [])) }
-{
-    while let Some(list) = members {
-        let (first, others) = split_first(list);
-        let wanted = RequirementRef::from_bytes(first).unwrap().range(alloc)?;
-        range = range.common(wanted);
-        members = others;
-    }
-    Ok(range)
 }

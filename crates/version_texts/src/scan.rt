@@ -4,8 +4,8 @@ ghost use Rattle.std.specs.Prelude.{◌≡◌, ◌==◌, ◌+◌, ◌<◌, ◌�
 ghost use Rattle.std.specs.Char.{is_ascii_alphanumeric};
 ghost use Rattle.std.specs.List.{list_all, prefix_len, take_while};
 ghost use Rattle.std.specs.Option.{option_map};
-ghost use Rattle.version_parts.specs.Class.{HasDigits};
-ghost use Rattle.version_parts.specs.DigitRun.{is_digits};
+ghost use Rattle.version_rules.specs.Bytes.{HasDigits};
+ghost use Rattle.version_rules.specs.DigitRun.{is_digits};
 ghost use Rattle.version_texts.specs.Class.{contains, first_rank};
 ghost use Rattle.version_texts.specs.Shape.{behind_body, body_end, body_start, shape_at, shape_of};
 ghost use Rattle.version_texts.specs.TextKey.{pieces};
@@ -14,7 +14,7 @@ ghost use Rattle.version_texts.specs.TextKind.{are_marked_runs, body_of, epoch_i
 use crate::class::{COLON, Class, DOT, END, HYPHEN, PLUS, rank_at, run_end};
 use crate::numeral::is_numeral;
 use crate::shape::{Shape, TailKind};
-use versions::Kind;
+use version_rules::Kind;
 
 /// Scans a text once, and returns its shape, or None if it is not a version of any kind. Takes time linear in the text.
 /// Does not allocate.

@@ -2,9 +2,9 @@
 
 ghost use Rattle.std.specs.Prelude.{◌≡◌, List, ℕ};
 ghost use Rattle.version_texts.specs.TextKey.{tail_of};
-ghost use Rattle.versions.specs.Tail.{tail_rank};
+ghost use Rattle.version_rules.specs.Tail.{tail_rank};
 
-use versions::Kind;
+use version_rules::Kind;
 
 /// What follows the body of a version in the order, by its rank there.
 #[derive(Clone, Copy, Debug, PartialEq, Eq)]

@@ -1,6 +1,6 @@
 //! Sinks: what the bytes of a key are written into.
 
-ghost use Rattle.std.specs.Prelude.{◌≡◌, ◌∷◌, ◌++◌, ◌^◌, ◌+◌, ◌-◌, [], List, ℕ, IsTrue, length};
+ghost use Rattle.std.specs.Prelude.{◌∷◌, ◌++◌, ◌+◌, ◌-◌, [], List, ℕ, IsTrue};
 
 /// Where bytes are written, one after another.
 pub trait Sink {

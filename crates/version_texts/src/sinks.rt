@@ -1,12 +1,12 @@
 //! Sinks: a count of bytes, a buffer with room, a comparison with given bytes, and a list that grows.
 
-ghost use Rattle.std.specs.Prelude.{◌≡◌, ◌∷◌, ◌++◌, ◌+◌, [], List, ℕ, IsTrue, OnErr, OnOk, length};
-ghost use Rattle.version_parts.specs.Lists.{bytes_cmp, GrowsWithin};
-ghost use Rattle.versions.specs.Ends.{end_bytes};
-ghost use Rattle.versions.specs.KeyBytes.{key_bytes};
-ghost use Rattle.versions.specs.Tail.{tail_bytes};
+ghost use Rattle.std.specs.Prelude.{◌≡◌, ◌++◌, ◌+◌, [], OnErr, OnOk, length};
+ghost use Rattle.version_rules.specs.Lists.{bytes_cmp, GrowsWithin};
+ghost use Rattle.version_rules.specs.Ends.{end_bytes};
+ghost use Rattle.version_rules.specs.KeyBytes.{key_bytes};
+ghost use Rattle.version_rules.specs.Tail.{tail_bytes};
 ghost use Rattle.version_texts.specs.Shape.{tail_in, Fits};
-ghost use Rattle.version_texts.specs.Sinks.{between_with, count_with, is_between, leads_both, leads_none, list_both, list_none, order_with, put_at, room_both, room_none, room_with, saturated, Leads, LeadsList, LeadsRoom};
+ghost use Rattle.version_texts.specs.Sinks.{between_with, count_with, is_between, leads_both, leads_none, list_both, list_none, order_with, put_at, room_both, room_none, saturated, Leads, LeadsList, LeadsRoom};
 ghost use Rattle.version_texts.specs.TextKey.{tail_of, text_key};
 
 use crate::key::{put_front, put_key, put_tail, tail_at};
@@ -15,7 +15,7 @@ use crate::shape::Shape;
 use crate::sink::Sink;
 use std::alloc::AllocError;
 use std::cmp::Ordering;
-use versions::End;
+use version_rules::End;
 
 // A count of bytes. Past the largest number it stays there.
 #[derive(Drop)]

@@ -6,8 +6,8 @@ ghost use Rattle.std.specs.List.{list_all};
 ghost use Rattle.std.specs.Str.Parse.{digits_value};
 ghost use Rattle.version_texts.specs.Shape.{shape_of};
 ghost use Rattle.version_texts.specs.Sinks.{saturated};
-ghost use Rattle.versions.specs.Kind.{versioning_kind};
-ghost use Rattle.versions.specs.Versioning.{kind_rank, PlainVersioning};
+ghost use Rattle.version_rules.specs.Kind.{versioning_kind};
+ghost use Rattle.version_rules.specs.Versioning.{kind_rank, PlainVersioning};
 
 use crate::field::Field;
 use crate::order::piece::through_dot;
@@ -16,13 +16,13 @@ use crate::scan::scan;
 use crate::shape::{Shape, TailKind};
 use crate::sink::Sink;
 use crate::{key, matching, numbers, order, range, sinks};
-use std::alloc::{AllocError, Global};
+use std::alloc::AllocError;
 use std::cmp::Ordering;
 use std::{fmt, str};
-use versions::{Asked, End, Ends, Kind, Kinds, Range, Versioning};
+use version_rules::{Asked, End, Kind, Kinds};
 
 /// A version of the first kind that fits its text, borrowed from that text: a `Versioning` that owns nothing. It
-/// compares and prints as that `Versioning` does, and has the same numbers. Only `to_owned`, `append_key` and
+/// compares and prints as that `Versioning` does, and has the same numbers. Only `append_key` and
 /// `append_end` allocate. Each call takes time at most linear in the text.
 #[derive(Clone, Copy)]
 pub struct VersioningRef<'a> {
@@ -32,16 +32,15 @@ pub struct VersioningRef<'a> {
 }
 
 impl<'a> VersioningRef<'a> {
-    ghost use Rattle.std.specs.Prelude.{◌+◌, ◌++◌, ◌↔◌, length, IfOk, IsTrue, OnErr, OnOk};
+    ghost use Rattle.std.specs.Prelude.{◌+◌, ◌++◌, ◌↔◌, length, IsTrue, OnErr, OnOk};
     ghost use Rattle.std.specs.Option.{option_map};
     ghost use Rattle.std.specs.declared.cmp.Ordering.TheVariants.{Equal};
-    ghost use Rattle.version_parts.specs.Lists.{bytes_cmp, GrowsWithin};
-    ghost use Rattle.versions.specs.Ends.{end_bytes, range_from};
-    ghost use Rattle.versions.specs.Key.{key_of, precedence, versioning_epoch};
-    ghost use Rattle.versions.specs.KeyBytes.{key_bytes};
-    ghost use Rattle.versions.specs.Range.{has_kind, plain_range, AreBetween};
-    ghost use Rattle.versions.specs.Versioning.{is_prerelease, plain_versioning, versioning_nth, versioning_of, versioning_plain_cmp, versioning_text, VersioningOwns};
-    ghost use Rattle.versions.specs.VersioningRef.{plain_versioning_ref as plain_read};
+    ghost use Rattle.version_rules.specs.Lists.{bytes_cmp, GrowsWithin};
+    ghost use Rattle.version_rules.specs.Ends.{end_bytes};
+    ghost use Rattle.version_rules.specs.Key.{key_of, precedence, versioning_epoch};
+    ghost use Rattle.version_rules.specs.KeyBytes.{key_bytes};
+    ghost use Rattle.version_rules.specs.Range.{has_kind, AreBetween};
+    ghost use Rattle.version_rules.specs.Versioning.{is_prerelease, versioning_nth, versioning_of, versioning_plain_cmp, versioning_text};
     ghost use Rattle.version_texts.specs.Field.{field_place};
     ghost use Rattle.version_texts.specs.Sinks.{is_between, put_at, saturated};
     ghost use Rattle.version_texts.specs.VersioningRef.{major_text, plain_versioning_ref};
@@ -82,9 +81,10 @@ impl<'a> VersioningRef<'a> {
         matches!(self.shape.tail, TailKind::PreRelease)
     }
 
-    // Returns the text that it was parsed from.
-    fn text(&self) -> &'a str
-        ensures { result.now ≡ versioning_text (plain_versioning_ref self.now) }
+    /// Returns the text that it was parsed from, which is what it prints. Does not allocate.
+    pub fn text(&self) -> &'a str
+        ensures printed { result.now ≡ versioning_text (plain_versioning_ref self.now) }
+        ensures read { versioning_of result.now ≡ Some (plain_versioning_ref self.now) }
     {
         str::from_utf8(self.text).unwrap()
     }
@@ -97,13 +97,6 @@ impl<'a> VersioningRef<'a> {
             Kind::Ideal => through_dot(self.text),
             _ => &[],
         }
-    }
-
-    // Reads its fields.
-    fn read(&self) -> versions::VersioningRef<'a>
-        ensures { plain_read result ≡ plain_versioning_ref self.now }
-    {
-        versions::VersioningRef::from_bytes(self.text).unwrap()
     }
 
     /// Returns the number at a place, counted from 0, or None if no number is there. Of a strict version the places are
@@ -278,34 +271,6 @@ impl<'a> VersioningRef<'a> {
         sinks::compare_end(self.text, self.shape, end, bytes)
     }
 
-    // Returns the range that has these ends. `Err` means allocation failure.
-    pub(crate) fn range(&self, ends: Ends, alloc: Global) -> Result<Range, AllocError>
-        ensures { IfOk result (λ range. plain_range range
-            ≡ range_from ends (key_of (plain_versioning_ref self.now))) }
-    {
-        let low = self.end(ends.low, alloc)?;
-        let high = match ends.high {
-            Some(high) => Some(self.end(high, alloc)?),
-            None => None,
-        };
-        Ok(Range {
-            low,
-            high,
-            kinds: ends.kinds,
-            is_exact: ends.is_exact,
-        })
-    }
-
-    // Returns the bytes of an end of a range. `Err` means allocation failure.
-    fn end(&self, end: End, alloc: Global) -> Result<Vec<u8>, AllocError>
-        ensures { IfOk result (λ bytes. bytes.items
-            ≡ end_bytes end (key_of (plain_versioning_ref self.now))) }
-    {
-        let mut bytes = Vec::new(alloc);
-        self.append_end(end, &mut bytes)?;
-        Ok(bytes)
-    }
-
     // Compares two versions of one key by kind, then field by field.
     fn compare_tied(&self, other: &VersioningRef<'_>) -> Ordering
         requires { precedence (key_of (plain_versioning_ref self.now))
@@ -323,15 +288,6 @@ impl<'a> VersioningRef<'a> {
             }
             Kind::Complex => ties::compare_messy(self.text, other.text),
         }
-    }
-
-    /// Copies the version into a `Versioning` that outlives the text. Allocates nothing for three plain numbers, or for
-    /// one number with or without epoch. `Err` means allocation failure.
-    pub fn to_owned(&self, alloc: Global) -> Result<Versioning, AllocError>
-        ensures ok { IfOk result (λ v. plain_versioning v ≡ plain_versioning_ref self.now) }
-        ensures err { OnErr result (VersioningOwns (plain_versioning_ref self.now)) }
-    {
-        self.read().to_owned(alloc)
     }
 }
 
@@ -363,7 +319,7 @@ fn rank(kind: Kind) -> u8
 
 /// Writes the text that the version was parsed from, as its `Versioning` does.
 impl<'a> fmt::Display for VersioningRef<'a> {
-    ghost use Rattle.versions.specs.Versioning.{versioning_text};
+    ghost use Rattle.version_rules.specs.Versioning.{versioning_text};
     ghost use Rattle.version_texts.specs.VersioningRef.{plain_versioning_ref};
 
     ghost output = { λ v. Some (versioning_text (plain_versioning_ref v)) };
@@ -377,8 +333,8 @@ impl<'a> fmt::Display for VersioningRef<'a> {
 impl<'a> PartialEq for VersioningRef<'a> {
     ghost use Rattle.std.specs.Cmp.{eq_by_cmp_equiv, on_per, partial_equiv_from_equiv};
     ghost use Rattle.std.specs.Ordering.{eq_by_cmp, on};
-    ghost use Rattle.versions.specs.Versioning.{versioning_plain_cmp};
-    ghost use Rattle.versions.specs.VersioningLaws.{versioning_plain_total};
+    ghost use Rattle.version_rules.specs.Versioning.{versioning_plain_cmp};
+    ghost use Rattle.version_rules.specs.laws.Versioning.{versioning_plain_total};
     ghost use Rattle.version_texts.specs.VersioningRef.{plain_versioning_ref};
 
     ghost eq = { on plain_versioning_ref (eq_by_cmp versioning_plain_cmp) };
@@ -401,7 +357,7 @@ impl<'a> PartialEq for VersioningRef<'a> {
 
 impl<'a> Eq for VersioningRef<'a> {
     ghost use Rattle.std.specs.Cmp.{eq_by_cmp_equiv, on_equiv};
-    ghost use Rattle.versions.specs.VersioningLaws.{versioning_plain_total};
+    ghost use Rattle.version_rules.specs.laws.Versioning.{versioning_plain_total};
     ghost use Rattle.version_texts.specs.VersioningRef.{plain_versioning_ref};
 
     ghost laws = { on_equiv plain_versioning_ref (eq_by_cmp_equiv versioning_plain_total) };
@@ -413,8 +369,8 @@ impl<'a> Ord for VersioningRef<'a> {
     ghost use Rattle.std.specs.Prelude.{refl};
     ghost use Rattle.std.specs.Cmp.{on_total};
     ghost use Rattle.std.specs.Ordering.{on};
-    ghost use Rattle.versions.specs.Orders.{versioning_cmp};
-    ghost use Rattle.versions.specs.OrdersLaws.{versioning_cmp_ties, versioning_cmp_total};
+    ghost use Rattle.version_rules.specs.Orders.{versioning_cmp};
+    ghost use Rattle.version_rules.specs.laws.Orders.{versioning_cmp_ties, versioning_cmp_total};
     ghost use Rattle.version_texts.specs.VersioningRef.{plain_versioning_ref};
 
     ghost cmp = { on plain_versioning_ref versioning_cmp };
@@ -438,8 +394,8 @@ impl<'a> Ord for VersioningRef<'a> {
 impl<'a> PartialOrd for VersioningRef<'a> {
     ghost use Rattle.std.specs.Cmp.{on_total, po};
     ghost use Rattle.std.specs.Ordering.{as_partial_cmp, on};
-    ghost use Rattle.versions.specs.Orders.{versioning_cmp};
-    ghost use Rattle.versions.specs.OrdersLaws.{versioning_cmp_ties, versioning_cmp_total};
+    ghost use Rattle.version_rules.specs.Orders.{versioning_cmp};
+    ghost use Rattle.version_rules.specs.laws.Orders.{versioning_cmp_ties, versioning_cmp_total};
     ghost use Rattle.version_texts.specs.VersioningRef.{plain_versioning_ref};
 
     ghost partial_cmp = { as_partial_cmp (on plain_versioning_ref versioning_cmp) };

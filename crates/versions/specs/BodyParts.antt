@@ -1,12 +1,14 @@
 -- The parts of a general version that remain at a point of a walk over them.
 use Rattle.std.specs.Prelude.{List, [], ◌∷◌, ◌++◌, map}
 use Rattle.std.specs.Option.{option_map_or}
-use Rattle.version_parts.specs.Chunk.{chunk_text, plain_chunk, plain_chunk_ref}
-use Rattle.version_parts.specs.Last.{last_text, plain_last}
-use Rattle.version_parts.specs.PartKey.{PartKey, chunk_parts, part_key}
+use Rattle.version_rules.specs.Chunk.{chunk_text}
+use Rattle.version_parts.specs.Chunk.{plain_chunk, plain_chunk_ref}
+use Rattle.version_rules.specs.Last.{last_text}
+use Rattle.version_parts.specs.Last.{plain_last}
+use Rattle.version_rules.specs.PartKey.{PartKey, chunk_parts, part_key}
 use Rattle.versions.specs.declared.parts.BodyPart.{BodyPart}
-use Rattle.versions.specs.declared.parts.BodyPart.TheVariants as part
 use Rattle.versions.specs.declared.parts.BodyParts.{BodyParts}
+use Rattle.versions.specs.declared.parts.BodyPart.TheVariants as part
 
 -- the key of a part
 abbrev pub key_of_part : BodyPart → PartKey

@@ -3,11 +3,11 @@ use Rattle.std.specs.Prelude.{◌≡◌, ℕ, List, ◌++◌, Option, Some, None
 use Rattle.std.specs.Option.{ForSome}
 use Rattle.std.specs.String.{string_bytes}
 use Rattle.versions.specs.declared.errors.Error.{Error}
-use Rattle.versions.specs.declared.errors.Error.TheVariants as owned
 use Rattle.versions.specs.declared.errors.JsonError.{JsonError}
-use Rattle.versions.specs.declared.errors.JsonError.TheVariants as json
 use Rattle.versions.specs.declared.errors.ReadError.{ReadError}
 use Rattle.versions.specs.declared.errors.ReadError.TheVariants.{Illegal, Memory}
+use Rattle.versions.specs.declared.errors.Error.TheVariants as owned
+use Rattle.versions.specs.declared.errors.JsonError.TheVariants as json
 
 -- the error for a text that does not parse as the wanted type
 pub data PlainError : Type 0 where

@@ -1,38 +1,9 @@
--- Lists of requirements.
-use Rattle.std.specs.Prelude.{◌≡◌, ℕ, ◌<◌, eqb, List, [], ◌∷◌, length, map, Option, Some}
-use Rattle.std.specs.List.{AllZip, join_with_byte, slice_split}
-use Rattle.std.specs.Option.{option_map}
-use Rattle.version_parts.specs.Front.{◌>>=◌}
+-- The list of requirements that a value holds.
+use Rattle.std.specs.Prelude.{List, map}
 use Rattle.versions.specs.declared.requirements.Requirements.{Requirements}
-use Rattle.versions.specs.Requirement.{PlainRequirement, SpellsRequirement, plain_requirement}
-use Rattle.versions.specs.Requirement.{requirement_of, requirement_text}
-
--- the byte between the members of a list
-abbrev pub comma : ℕ
-comma = 44
+use Rattle.version_rules.specs.Requirement.{PlainRequirement}
+use Rattle.versions.specs.Requirement.{plain_requirement}
 
 -- the requirements of a list
 abbrev pub plain_requirements : Requirements → List PlainRequirement
 plain_requirements list = map plain_requirement list.0.items
-
--- The text spells the list: one text or more with single commas between, each of which spells its
--- member.
-pub record SpellsRequirements (text : List ℕ) (list : List PlainRequirement) : Type 0 where
-  pub members : List (List ℕ)
-  pub whole : text ≡ join_with_byte comma members
-  pub members_are : AllZip SpellsRequirement members list
-  pub some : 0 < length list
-
--- the printed text: the members joined by commas
-abbrev pub requirements_text : List PlainRequirement → List ℕ
-requirements_text list = join_with_byte comma (map requirement_text list)
-
--- the values of some options, or None if one of them is None
-abbrev pub every : {X : Type 0} → List (Option X) → Option (List X)
-every [] = Some []
-every (reading ∷ readings) = reading >>= λ x. option_map (λ xs. x ∷ xs) (every readings)
-
--- the list that the whole text parses as, or None: it is cut at its commas, and each piece parses
--- as a member
-abbrev pub requirements_of : List ℕ → Option (List PlainRequirement)
-requirements_of text = every (map requirement_of (slice_split (λ b. eqb b comma) text))

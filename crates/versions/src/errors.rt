@@ -1,6 +1,6 @@
 //! Errors of the calls that parse.
 
-ghost use Rattle.std.specs.Prelude.{◌≡◌, string_bytes, IfErr, IfNone, IfOk, IsErrAnd, IsSome, MatchOption, Ok, Some};
+ghost use Rattle.std.specs.Prelude.{◌≡◌, string_bytes, IfOk, Ok, Some};
 
 use std::alloc::{AllocError, Global};
 use std::fmt;

@@ -5,8 +5,8 @@
 //! epoch, a release and metadata, as in `1:2.0rc1-3`. A messy version (`Mess`) is runs of letters and digits with dots
 //! and single signs between, as in `10.2+0.93+1-1`. A `Versioning` is the first of these that fits. A `Requirement`,
 //! such as `^1.2.3`, matches versions. A list of them, a `Requirements`, matches the versions that each member matches.
-//! A `VersioningRef` has the fields of a version, read from its text: what orders, prints and matches texts is the
-//! crate `version_texts`.
+//! What they hold is owned, to be read and changed. What orders, prints and matches texts without owning them is the
+//! crate `version_texts`; `Versioning::of` makes its versions owned.
 //!
 //! In a JSON document a `Versioning` is a string, by `serialize_pretty` and `deserialize_pretty`; so are a
 //! `Requirement` and a `Requirements`, by `serialize` and `deserialize`. `SemVer`, `Version` and the parts of versions
@@ -18,11 +18,8 @@ mod conversions;
 mod errors;
 mod json;
 pub mod key;
-mod kind;
-mod laws;
 mod mess;
 mod numbers;
-mod op;
 mod optional;
 mod order;
 mod parts;
@@ -34,19 +31,17 @@ mod requirements;
 mod semver;
 mod version;
 mod versioning;
-mod versioning_ref;
 
-pub use asked::{Asked, asks_for};
 pub use errors::{Error, JsonError, ReadError};
-pub use kind::Kind;
-pub use mess::{Mess, MessRef};
-pub use op::Op;
-pub use range::ends::{End, Ends, Kept, ends_of, ends_without_version};
-pub use range::{Kinds, Range};
+pub use mess::Mess;
+pub use range::Range;
 pub use requirement::Requirement;
 pub use requirements::Requirements;
-pub use semver::{SemVer, SemVerRef};
-pub use version::{Version, VersionRef};
+pub use semver::SemVer;
+pub use version::Version;
 pub use version_parts::{Chunk, Chunks, Last, MChunk, Release, Sep, parsers};
+pub use version_rules::{
+    Asked, End, Ends, Kept, Kind, Kinds, Op, asks_for, ends_of, ends_without_version,
+};
+pub use version_texts::VersioningRef;
 pub use versioning::Versioning;
-pub use versioning_ref::VersioningRef;

@@ -1,17 +1,17 @@
 //! Messy versions. Every call goes along the sections by a loop, without recursion.
 
-ghost use Rattle.std.specs.Prelude.{◌≡◌, ◌<◌, ◌∷◌, [], Some, IfNone, IfOk, IfSome, IsSome, OnErr, length, map};
+ghost use Rattle.std.specs.Prelude.{◌≡◌, ◌<◌, [], Some, IfOk, IfSome, IsSome, OnErr, length, map};
 ghost use Rattle.std.specs.Option.{is_some, option_map};
 ghost use Rattle.std.proofs.Common.{ap};
 ghost use Rattle.std.specs.Cmp.{eq_by_cmp_equiv, on_equiv, on_per, partial_equiv_from_equiv};
-ghost use Rattle.std.specs.Cmp.Lexicographic.{slice_cmp};
 ghost use Rattle.std.specs.Ordering.{eq_by_cmp, on};
-ghost use Rattle.version_parts.specs.Front.{repeated, Reads};
-ghost use Rattle.version_parts.specs.OrderLaws.{same_where_tied};
-ghost use Rattle.version_parts.specs.Sep.{plain_sep};
+ghost use Rattle.version_rules.specs.Front.{repeated};
+ghost use Rattle.version_parts.specs.Front.{Reads};
+ghost use Rattle.version_rules.specs.laws.Order.{same_where_tied};
 ghost use Rattle.versions.specs.Errors.{IllegalMess, ReadsOr};
-ghost use Rattle.versions.specs.Mess.{behind_colons, further_front, further_in, further_plain_cmp, mess_fed, mess_front, mess_of, mess_plain_cmp, mess_text, nth_number, plain_further, plain_mess, plain_mess_ref, plain_section, section_front, PlainMess, SpellsMess};
-ghost use Rattle.versions.specs.MessLaws.{mess_total, messes_same};
+ghost use Rattle.version_rules.specs.Mess.{behind_colons, further_front, mess_front, mess_of, mess_plain_cmp, mess_text, nth_number, section_front, PlainMess, SpellsMess};
+ghost use Rattle.versions.specs.Mess.{mess_fed, plain_further, plain_mess, plain_mess_ref, plain_section};
+ghost use Rattle.version_rules.specs.laws.Mess.{mess_total, messes_same};
 
 use crate::errors::{Error, ReadError};
 use crate::reading::or_illegal;
@@ -287,7 +287,7 @@ fn skip_all_further(i: &str) -> &str
 }
 
 // Returns what follows the sign and the section that the text begins with.
-#[tactic(auto, unfolding(crate::specs::Mess::further_front))]
+#[tactic(auto, unfolding(version_rules::specs::Mess::further_front))]
 fn skip_further(i: &str) -> Option<&str>
     ensures { option_map (λ r. r.now) result ≡ option_map (λ p. p.1) (further_front i.now) }
 {
@@ -306,7 +306,7 @@ fn read_section(alloc: Global, i: &str) -> Result<Option<(Vec<MChunk>, &str)>, A
 }
 
 // Parses a prefix as a sign and a section; returns them and the rest.
-#[tactic(auto, unfolding(crate::specs::Mess::further_front))]
+#[tactic(auto, unfolding(version_rules::specs::Mess::further_front))]
 fn read_further(alloc: Global, i: &str) -> Result<Option<((Sep, Vec<MChunk>), &str)>, AllocError>
     ensures { Reads plain_further (λ _. Unit {0}) result (further_front i.now) }
 {
@@ -331,86 +331,4 @@ fn read_all_further(alloc: Global, i: &str) -> Result<(Vec<(Sep, Vec<MChunk>)>, 
         rest = after;
     }
     Ok((more, rest))
-}
-
-impl<'a> MessRef<'a> {
-    // Compares two versions field by field.
-    pub(crate) fn compare_plain(&self, other: &MessRef<'_>) -> Ordering
-        ensures { result ≡ mess_plain_cmp (plain_mess_ref self.now) (plain_mess_ref other.now) }
-    {
-        let sections = self.first.compare(&other.first);
-        match sections {
-            Ordering::Equal => compare_further(self.rest, other.rest),
-            _ => sections,
-        }
-    }
-
-    // Returns the number of the chunk at `x` in the first section that no colon follows, if it is digits.
-    pub(crate) fn nth(&self, x: usize) -> Option<u32>
-        ensures { result ≡ nth_number (plain_mess_ref self.now) x }
-    {
-        let mut behind = None;
-        let mut rest = self.rest;
-        'sections: while let Some((Sep::Colon, section, after)) = scan_further(rest) {
-            behind = Some(section);
-            rest = after;
-        }
-        match behind {
-            Some(section) => section.number_at(x),
-            None => self.first.number_at(x),
-        }
-    }
-}
-
-// Compares the further sections that two texts begin with, field by field; a prefix comes first.
-fn compare_further(a: &str, b: &str) -> Ordering
-    ensures { result ≡ slice_cmp further_plain_cmp (further_in a.now) (further_in b.now) }
-{
-    let (mut a, mut b) = (a, b);
-    'sections: loop {
-        match (scan_further(a), scan_further(b)) {
-            (Some((sign, section, after)), Some((other_sign, other, other_after))) => {
-                let ordering = compare_sections(sign, &section, other_sign, &other);
-                if ordering != Ordering::Equal {
-                    return ordering;
-                }
-                a = after;
-                b = other_after;
-            }
-            (Some(_), None) => return Ordering::Greater,
-            (None, Some(_)) => return Ordering::Less,
-            (None, None) => return Ordering::Equal,
-        }
-    }
-}
-
-// Compares two sections and the signs before them: the signs, then chunk by chunk.
-fn compare_sections(
-    sign: Sep,
-    section: &SectionRef<'_>,
-    other_sign: Sep,
-    other: &SectionRef<'_>,
-) -> Ordering
-    ensures { result ≡ further_plain_cmp (plain_sep sign, section.now)
-        (plain_sep other_sign, other.now) }
-{
-    let signs = sign.compare_plain(other_sign);
-    match signs {
-        Ordering::Equal => section.compare(other),
-        _ => signs,
-    }
-}
-
-// Parses a prefix as a sign and a section; returns them and the rest.
-#[tactic(auto, using(crate::proofs::lemmas::Mess::Scan::first_further))]
-#[inline(always)]
-pub(crate) fn scan_further(i: &str) -> Option<(Sep, SectionRef<'_>, &str)>
-    ensures some { IfSome result (λ r. further_in i.now
-        ≡ (plain_sep r.0, r.1) ∷ further_in r.2.now) }
-    ensures shorter { IfSome result (λ r. length r.2.now < length i.now) }
-    ensures none { IfNone result (further_in i.now ≡ []) }
-{
-    let (sign, behind) = scan::sign(i)?;
-    let (section, rest) = SectionRef::scan(behind)?;
-    Some((sign, section, rest))
 }

@@ -4,17 +4,17 @@ ghost use Rattle.std.specs.Prelude.{◌≡◌, ◌++◌, List, ℕ, refl, IfOk};
 ghost use Rattle.std.specs.Cmp.{on_total, po, IsTotalOrder};
 ghost use Rattle.std.specs.Ordering.{as_partial_cmp, on};
 ghost use Rattle.std.specs.declared.cmp.Ordering.TheVariants.{Equal};
-ghost use Rattle.version_parts.specs.Lists.{bytes_cmp};
-ghost use Rattle.versions.specs.Key.{key_of, key_of_version, precedence, Key};
-ghost use Rattle.versions.specs.KeyBytes.{key_bytes};
+ghost use Rattle.version_rules.specs.Lists.{bytes_cmp};
+ghost use Rattle.version_rules.specs.Key.{key_of, key_of_version, precedence, Key};
+ghost use Rattle.version_rules.specs.KeyBytes.{key_bytes};
 ghost use Rattle.versions.specs.Mess.{plain_mess};
-ghost use Rattle.versions.specs.Orders.{mess_cmp, version_cmp, versioning_cmp};
-ghost use Rattle.versions.specs.OrdersLaws.{mess_cmp_ties, mess_cmp_total, version_cmp_ties, version_cmp_total, versioning_cmp_ties, versioning_cmp_total};
-ghost use Rattle.versions.specs.SemVer.{PlainSemVer};
-ghost use Rattle.versions.specs.SemVerOrder.{semver_cmp};
+ghost use Rattle.version_rules.specs.Orders.{mess_cmp, version_cmp, versioning_cmp};
+ghost use Rattle.version_rules.specs.laws.Orders.{mess_cmp_ties, mess_cmp_total, version_cmp_ties, version_cmp_total, versioning_cmp_ties, versioning_cmp_total};
+ghost use Rattle.version_rules.specs.SemVer.{PlainSemVer};
+ghost use Rattle.version_rules.specs.SemVerOrder.{semver_cmp};
 ghost use Rattle.versions.specs.Version.{plain_version};
 ghost use Rattle.versions.specs.Versioning.{plain_versioning};
-ghost use Rattle.versions.specs.Versioning as plain;
+ghost use Rattle.version_rules.specs.Versioning as plain;
 
 use crate::key::{KeyBytes, compare_keys, key_list};
 use crate::mess::Mess;
@@ -26,7 +26,7 @@ use std::cmp::Ordering;
 impl Versioning {
     /// Compares two versions of any kind by their keys: the order of all versions (docs/ORDER.md). `Ord` breaks its
     /// ties. Does not allocate.
-    #[tactic(auto, using(crate::proofs::lemmas::OrdersLaws::laws))]
+    #[tactic(auto, using(version_rules::proofs::lemmas::OrdersLaws::laws))]
     pub fn precedence(&self, other: &Versioning) -> Ordering
         ensures keys { result ≡ precedence (key_of (plain_versioning self.now))
             (key_of (plain_versioning other.now)) }
@@ -50,7 +50,7 @@ impl Versioning {
 
     /// Returns the bytes of its key as a list, for a database or a sort that knows nothing of versions. Two lists
     /// compare byte by byte, a prefix first, as the versions do in precedence. `Err` means allocation failure.
-    #[tactic(auto, using(crate::proofs::lemmas::OrdersLaws::laws))]
+    #[tactic(auto, using(version_rules::proofs::lemmas::OrdersLaws::laws))]
     pub fn sort_key(&self, alloc: Global) -> Result<Vec<u8>, AllocError>
         ensures bytes { IfOk result (λ key. key.items
             ≡ key_bytes (key_of (plain_versioning self.now))) }
@@ -99,7 +99,7 @@ impl PartialOrd for Versioning {
 
 impl Version {
     // Compares the keys of two versions.
-    #[tactic(auto, using(crate::proofs::lemmas::OrdersLaws::key_bytes_alone))]
+    #[tactic(auto, using(version_rules::proofs::lemmas::OrdersLaws::key_bytes_alone))]
     fn compare_by_key(&self, other: &Version) -> Ordering
         ensures { result ≡ precedence (key_of_version (plain_version self.now))
             (key_of_version (plain_version other.now)) }
@@ -145,7 +145,7 @@ impl Ord for Mess {
 
     ghost matches_eq = { λ a b. mess_cmp_ties (plain_mess a) (plain_mess b) };
 
-    #[tactic(auto, using(crate::proofs::lemmas::OrdersLaws::key_bytes_alone))]
+    #[tactic(auto, using(version_rules::proofs::lemmas::OrdersLaws::key_bytes_alone))]
     fn cmp(&self, other: &Mess) -> Ordering {
         compare_keys(KeyBytes::of_mess(self), KeyBytes::of_mess(other)).then_with(
             || self.compare_plain(other),

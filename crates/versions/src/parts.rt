@@ -2,10 +2,11 @@
 
 ghost use Rattle.std.specs.Prelude.{◌≡◌, ◌∷◌, ◌++◌, ◌↔◌, [], map, IfNone, IfSome, IsTrue, Some};
 ghost use Rattle.version_parts.specs.Chunk.{plain_chunk};
-ghost use Rattle.version_parts.specs.Last.{last_text, plain_last};
-ghost use Rattle.version_parts.specs.PartKey.{chunk_parts, part_cmp, part_key};
+ghost use Rattle.version_rules.specs.Last.{last_text};
+ghost use Rattle.version_parts.specs.Last.{plain_last};
+ghost use Rattle.version_rules.specs.PartKey.{chunk_parts, part_cmp, part_key};
 ghost use Rattle.versions.specs.BodyParts.{key_of_part, parts_left};
-ghost use Rattle.versions.specs.VersionMatch.{is_plain_zero, PartsMatchCaret, PartsMatchTilde, PartsNotBelow};
+ghost use Rattle.version_rules.specs.VersionMatch.{is_plain_zero, PartsMatchCaret, PartsMatchTilde, PartsNotBelow};
 
 use std::cmp::Ordering;
 use version_parts::key::{PartText, compare_parts};
@@ -38,7 +39,7 @@ impl<'a> BodyPart<'a> {
     }
 
     // Returns whether the part is the number 0 without a suffix.
-    #[tactic(auto, using(crate::proofs::lemmas::VersionMatch::zero_tied))]
+    #[tactic(auto, using(version_rules::proofs::lemmas::VersionMatch::zero_tied))]
     pub(crate) fn is_plain_zero(self) -> bool
         ensures { result ≡ is_plain_zero (key_of_part self.entry) }
     {
@@ -81,7 +82,7 @@ impl<'a> BodyParts<'a> {
 
 // Returns whether there are equally many parts, all but the last the same, and the last not before the wanted one.
 // Does not allocate.
-#[tactic(auto, using(crate::proofs::lemmas::VersionMatch::tildes))]
+#[tactic(auto, using(version_rules::proofs::lemmas::VersionMatch::tildes))]
 pub(crate) fn parts_match_tilde(mut wanted: BodyParts<'_>, mut parts: BodyParts<'_>) -> bool
     ensures { IsTrue result ↔ PartsMatchTilde (parts_left wanted.entry) (parts_left parts.entry) }
 {
@@ -106,7 +107,7 @@ pub(crate) fn parts_match_tilde(mut wanted: BodyParts<'_>, mut parts: BodyParts<
 
 // Returns whether there is a part for each wanted one: the same for leading plain zeros and for the first other part,
 // then parts that are not before the wanted ones. Does not allocate.
-#[tactic(auto, using(crate::proofs::lemmas::VersionMatch::carets))]
+#[tactic(auto, using(version_rules::proofs::lemmas::VersionMatch::carets))]
 pub(crate) fn parts_match_caret(mut wanted: BodyParts<'_>, mut parts: BodyParts<'_>) -> bool
     ensures { IsTrue result ↔ PartsMatchCaret (parts_left wanted.entry) (parts_left parts.entry) }
 {

@@ -3,87 +3,20 @@
 ghost use Rattle.std.specs.Prelude.{◌≡◌, ◌↔◌, IfOk, IfSome, IsTrue};
 ghost use Rattle.std.specs.Option.{option_map};
 ghost use Rattle.std.specs.declared.cmp.Ordering.TheVariants.{Less};
-ghost use Rattle.version_parts.specs.Lists.{bytes_cmp};
-ghost use Rattle.versions.specs.Key.{key_of};
-ghost use Rattle.versions.specs.KeyBytes.{key_bytes};
-ghost use Rattle.versions.specs.Range.{all_kinds, common, common_kinds, earlier, earlier_high, everything, has_kind, kind_alone, later, no_kinds, plain_range, IsIn};
+ghost use Rattle.version_rules.specs.Lists.{bytes_cmp};
+ghost use Rattle.version_rules.specs.Key.{key_of};
+ghost use Rattle.version_rules.specs.KeyBytes.{key_bytes};
+ghost use Rattle.version_rules.specs.Range.{common, earlier, earlier_high, everything, later, IsIn};
+ghost use Rattle.versions.specs.Range.{plain_range};
 ghost use Rattle.versions.specs.Versioning.{plain_versioning};
 
 pub(crate) mod build;
-pub(crate) mod ends;
 
 use crate::key::compare_bytes;
-use crate::kind::Kind;
 use crate::versioning::Versioning;
 use std::alloc::{AllocError, Global};
 use std::cmp::Ordering;
-
-/// Some of the three kinds.
-#[derive(Clone, Copy, Debug, PartialEq, Eq)]
-pub struct Kinds {
-    pub ideal: bool,
-    pub general: bool,
-    pub complex: bool,
-}
-
-impl Kinds {
-    /// Returns all three kinds.
-    pub fn all() -> Kinds
-        ensures { result ≡ all_kinds }
-    {
-        Kinds {
-            ideal: true,
-            general: true,
-            complex: true,
-        }
-    }
-
-    /// Returns no kind.
-    pub fn none() -> Kinds
-        ensures { result ≡ no_kinds }
-    {
-        Kinds {
-            ideal: false,
-            general: false,
-            complex: false,
-        }
-    }
-
-    /// Returns a kind alone.
-    pub fn of(kind: Kind) -> Kinds
-        ensures { result ≡ kind_alone kind }
-    {
-        let mut kinds = Kinds::none();
-        match kind {
-            Kind::Ideal => kinds.ideal = true,
-            Kind::General => kinds.general = true,
-            Kind::Complex => kinds.complex = true,
-        }
-        kinds
-    }
-
-    /// Returns whether a kind is one of them.
-    pub fn has(&self, kind: Kind) -> bool
-        ensures { result ≡ has_kind self.now kind }
-    {
-        match kind {
-            Kind::Ideal => self.ideal,
-            Kind::General => self.general,
-            Kind::Complex => self.complex,
-        }
-    }
-
-    /// Returns the kinds that are in both.
-    pub fn common(&self, other: Kinds) -> Kinds
-        ensures { result ≡ common_kinds self.now other }
-    {
-        Kinds {
-            ideal: self.ideal && other.ideal,
-            general: self.general && other.general,
-            complex: self.complex && other.complex,
-        }
-    }
-}
+use version_rules::Kinds;
 
 /// Keys from a low bound up to a high one, of versions of some kinds: what a list of requirements asks for. Each
 /// version that the list matches is in its range. docs/REQUIREMENTS.md has the rules.

@@ -1,12 +1,10 @@
-//! Helpers of the calls that parse a text or bytes.
+//! Helpers of the calls that parse a text.
 
 ghost use Rattle.std.specs.Prelude.{◌≡◌, string_bytes, String, IfSome, IfNone, IsErrAnd};
-ghost use Rattle.std.specs.Str.{IsNotAscii};
 ghost use Rattle.versions.specs.Errors.{plain_error, IsIllegal, PlainError};
 
 use crate::errors::{Error, ReadError};
 use std::alloc::Global;
-use std::str;
 
 // Returns the parsed value. Otherwise fails with the error that `wrong` makes of a copy of the text, or with `Memory`
 // if that copy cannot be allocated.
@@ -27,16 +25,4 @@ pub(crate) fn or_illegal<T: Drop, F: FnOnce(String) -> Error + Drop>(
         Some(value) => Ok(value),
         None => Err(ReadError::Illegal(wrong(String::from_str(alloc, s)?))),
     }
-}
-
-// Returns the bytes as a text if all of them are ASCII. No other bytes spell a version.
-#[inline(always)]
-pub(crate) fn ascii_text(bytes: &[u8]) -> Option<&str>
-    ensures some { IfSome result (λ text. text.now ≡ bytes.now) }
-    ensures none { IfNone result (IsNotAscii bytes.now) }
-{
-    if !bytes.is_ascii() {
-        return None;
-    }
-    Some(unsafe { str::from_utf8_unchecked(bytes) })
 }

@@ -4,23 +4,25 @@ ghost use Rattle.std.specs.Prelude.{◌≡◌, ◌↔◌, IfOk, IfSome, IsSomeAn
 ghost use Rattle.std.specs.Option.{is_some, option_map};
 ghost use Rattle.version_parts.specs.Front.{Reads};
 ghost use Rattle.versions.specs.Errors.{IllegalOp, ReadsOr};
-ghost use Rattle.versions.specs.Matching.{IsConvex, Matches};
-ghost use Rattle.versions.specs.Range.{plain_range, requirement_range, IsIn};
-ghost use Rattle.versions.specs.Requirement.{plain_requirement, requirement_front, requirement_of, requirement_text, PlainRequirement, RequirementOwns, SpellsRequirement};
-ghost use Rattle.versions.specs.Versioning.{plain_versioning, PlainVersioning};
-ghost use Rattle.versions.specs.declared.op.Op.TheVariants.{Wildcard};
+ghost use Rattle.version_rules.specs.Matching.{IsConvex, Matches};
+ghost use Rattle.versions.specs.Range.{plain_range};
+ghost use Rattle.version_rules.specs.Range.{requirement_range, IsIn};
+ghost use Rattle.versions.specs.Requirement.{plain_requirement};
+ghost use Rattle.version_rules.specs.Requirement.{requirement_front, requirement_of, requirement_text, PlainRequirement, RequirementOwns, SpellsRequirement};
+ghost use Rattle.versions.specs.Versioning.{plain_versioning};
+ghost use Rattle.version_rules.specs.Versioning.{PlainVersioning};
+ghost use Rattle.version_rules.specs.Op.{op_front};
+ghost use Rattle.version_rules.specs.declared.op.Op.TheVariants.{Wildcard};
 
-use crate::asked::asks_for;
 use crate::errors::{Error, ReadError};
-use crate::op::Op;
 use crate::range::Range;
 use crate::range::build::range_from;
-use crate::range::ends::{ends_of, ends_without_version};
 use crate::reading::or_illegal;
 use crate::semver::SemVer;
 use crate::versioning::Versioning;
 use std::alloc::{AllocError, Global};
-use std::fmt;
+use std::{fmt, str};
+use version_rules::{Op, asks_for, ends_of, ends_without_version};
 
 /// An operator and a version, such as `^1.2.3`; or `*` alone. docs/REQUIREMENTS.md has the rules.
 #[derive(Debug, PartialEq, Eq, Hash, Drop)]
@@ -60,7 +62,7 @@ impl Requirement {
     pub fn is_spelled_by(s: &str) -> bool
         ensures { result ≡ is_some (requirement_of s.now) }
     {
-        match Op::scan(s) {
+        match split_op(s) {
             Some((Op::Wildcard, rest)) => rest.is_empty(),
             Some((_, rest)) => Versioning::is_spelled_by(rest),
             None => false,
@@ -82,7 +84,7 @@ impl Requirement {
     pub fn parse(alloc: Global, i: &str) -> Result<Option<(Requirement, &str)>, AllocError>
         ensures { Reads plain_requirement RequirementOwns result (requirement_front i.now) }
     {
-        let Some((op, rest)) = Op::scan(i) else {
+        let Some((op, rest)) = split_op(i) else {
             return Ok(None);
         };
         if let Op::Wildcard = op {
@@ -112,7 +114,7 @@ impl Requirement {
     /// `^` match by the rule of strict versions if both are strict, by that of general ones if both are general, else
     /// never. `*` matches every version, with or without a version of its own. Any other operator without a version
     /// matches nothing. Does not allocate.
-    #[tactic(auto, using(crate::proofs::lemmas::Matching::Convex::requirement_convex))]
+    #[tactic(auto, using(version_rules::proofs::lemmas::Matching::Convex::requirement_convex))]
     pub fn matches(&self, version: &Versioning) -> bool
         ensures set { IsTrue result
             ↔ Matches (plain_requirement self.now) (plain_versioning version.now) }
@@ -127,7 +129,7 @@ impl Requirement {
     }
 
     /// Returns the range of keys that it asks for. `Err` means allocation failure.
-    #[tactic(auto, using(crate::proofs::lemmas::Range::requirement_in, crate::proofs::lemmas::Range::requirement_exact))]
+    #[tactic(auto, using(version_rules::proofs::lemmas::Range::requirement_in, version_rules::proofs::lemmas::Range::requirement_exact))]
     pub fn range(&self, alloc: Global) -> Result<Range, AllocError>
         ensures range { IfOk result
             (λ range. plain_range range ≡ requirement_range (plain_requirement self.now)) }
@@ -198,7 +200,7 @@ fn read_whole(alloc: Global, s: &str) -> Result<Option<Requirement>, AllocError>
     ensures ok { IfOk result (λ o. option_map plain_requirement o ≡ requirement_of s.now) }
     ensures err { OnErr result (IsSomeAnd (requirement_of s.now) RequirementOwns) }
 {
-    let Some((op, rest)) = Op::scan(s) else {
+    let Some((op, rest)) = split_op(s) else {
         return Ok(None);
     };
     if let Op::Wildcard = op {
@@ -208,4 +210,13 @@ fn read_whole(alloc: Global, s: &str) -> Result<Option<Requirement>, AllocError>
         Some(version) => Ok(Some(Requirement::of(op, version))),
         None => Ok(None),
     }
+}
+
+// Parses a prefix as an operator; returns it and the rest.
+#[tactic(auto, unfolding(version_rules::specs::Op::op_front))]
+fn split_op(i: &str) -> Option<(Op, &str)>
+    ensures { option_map (λ r. (r.0, r.1.now)) result ≡ op_front i.now }
+{
+    let (op, rest) = Op::split(i.as_bytes())?;
+    Some((op, str::from_utf8(rest).unwrap()))
 }

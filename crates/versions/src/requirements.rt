@@ -3,11 +3,14 @@
 ghost use Rattle.std.specs.Prelude.{◌≡◌, ◌↔◌, IfOk, IfSome, IsSome, IsTrue, List, OnErr, Some};
 ghost use Rattle.std.specs.Option.{is_some, option_map};
 ghost use Rattle.versions.specs.Errors.{IllegalOp, ReadsOr};
-ghost use Rattle.versions.specs.Matching.{IsConvex, MatchesAll};
-ghost use Rattle.versions.specs.Range.{plain_range, range_of, IsIn};
-ghost use Rattle.versions.specs.Requirement.{plain_requirement, PlainRequirement};
-ghost use Rattle.versions.specs.Requirements.{plain_requirements, requirements_of, requirements_text, SpellsRequirements};
-ghost use Rattle.versions.specs.Versioning.{plain_versioning, PlainVersioning};
+ghost use Rattle.version_rules.specs.Matching.{IsConvex, MatchesAll};
+ghost use Rattle.versions.specs.Range.{plain_range};
+ghost use Rattle.version_rules.specs.Range.{range_of, IsIn};
+ghost use Rattle.version_rules.specs.Requirement.{PlainRequirement};
+ghost use Rattle.versions.specs.Requirements.{plain_requirements};
+ghost use Rattle.version_rules.specs.Requirements.{requirements_of, requirements_text, SpellsRequirements};
+ghost use Rattle.versions.specs.Versioning.{plain_versioning};
+ghost use Rattle.version_rules.specs.Versioning.{PlainVersioning};
 
 use crate::errors::{Error, ReadError};
 use crate::range::Range;
@@ -74,7 +77,7 @@ impl Requirements {
     }
 
     /// Returns whether each member matches the version; an empty list matches every version. Does not allocate.
-    #[tactic(auto, using(crate::proofs::lemmas::Matching::Convex::requirements_convex))]
+    #[tactic(auto, using(version_rules::proofs::lemmas::Matching::Convex::requirements_convex))]
     pub fn matches(&self, version: &Versioning) -> bool
         ensures set { IsTrue result
             ↔ MatchesAll (plain_requirements self.now) (plain_versioning version.now) }
@@ -91,7 +94,7 @@ impl Requirements {
     }
 
     /// Returns the range of keys that it asks for: what is in the range of each member. `Err` means allocation failure.
-    #[tactic(auto, using(crate::proofs::lemmas::Range::list_in, crate::proofs::lemmas::Range::list_exact))]
+    #[tactic(auto, using(version_rules::proofs::lemmas::Range::list_in, version_rules::proofs::lemmas::Range::list_exact))]
     pub fn range(&self, alloc: Global) -> Result<Range, AllocError>
         ensures range { IfOk result
             (λ range. plain_range range ≡ range_of (plain_requirements self.now)) }

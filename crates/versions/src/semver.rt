@@ -4,16 +4,17 @@ ghost use Rattle.std.specs.Prelude.{◌≡◌, ◌↔◌, refl, IfOk, IfSome, Is
 ghost use Rattle.std.specs.Cmp.{eq_by_cmp_equiv, on_equiv, on_per, on_total, partial_equiv_from_equiv, po};
 ghost use Rattle.std.specs.Option.{is_some, option_map};
 ghost use Rattle.std.specs.Ordering.{as_partial_cmp, eq_by_cmp, on};
-ghost use Rattle.version_parts.specs.Front.{optional, Reads};
+ghost use Rattle.version_parts.specs.Front.{Reads};
 ghost use Rattle.version_parts.specs.Release.{plain_release};
-ghost use Rattle.version_parts.specs.Lists.{none_last_cmp};
-ghost use Rattle.version_parts.specs.ReleaseOrder.{release_cmp};
+ghost use Rattle.version_rules.specs.Lists.{none_last_cmp};
+ghost use Rattle.version_rules.specs.ReleaseOrder.{release_cmp};
 ghost use Rattle.versions.specs.Errors.{IllegalSemver, ReadsOr};
-ghost use Rattle.versions.specs.SemVerLaws.{fed_alike, semver_total};
-ghost use Rattle.versions.specs.SemVerMatch.{numbers, MatchesCaret, MatchesTilde};
-ghost use Rattle.versions.specs.SemVerOrder.{semver_cmp};
-ghost use Rattle.versions.specs.Versioning.{semver_nth};
-ghost use Rattle.versions.specs.SemVer.{plain_semver, semver_fed, plain_semver_ref, semver_front, semver_of, semver_of_text, semver_text, IsSemVerText, SemVerOwns, PlainSemVer, SpellsSemVer};
+ghost use Rattle.versions.specs.SemVerLaws.{fed_alike};
+ghost use Rattle.version_rules.specs.laws.SemVer.{semver_total};
+ghost use Rattle.version_rules.specs.SemVerMatch.{numbers, MatchesCaret, MatchesTilde};
+ghost use Rattle.version_rules.specs.SemVerOrder.{semver_cmp};
+ghost use Rattle.versions.specs.SemVer.{plain_semver, semver_fed, plain_semver_ref, semver_of_text, IsSemVerText};
+ghost use Rattle.version_rules.specs.SemVer.{semver_front, semver_of, semver_text, SemVerOwns, PlainSemVer, SpellsSemVer};
 
 use crate::errors::{Error, ReadError};
 use crate::numbers::{Numbers, numbers_match_caret, numbers_match_tilde};
@@ -21,13 +22,12 @@ use crate::optional::{
     build_release, copy_meta, copy_release, copy_text, optional_meta, optional_release, write_tail,
 };
 use crate::reading::or_illegal;
-use crate::version::Version;
 use serde::{Deserialize, Serialize};
 use std::alloc::{AllocError, Global};
 use std::cmp::Ordering;
 use std::fmt;
 use std::hash::{Hash, Hasher};
-use version_parts::{Chunk, Chunks, Last, Release, ReleaseRef, scan};
+use version_parts::{Release, ReleaseRef, scan};
 
 /// A strict version: `major.minor.patch`, then perhaps a pre-release, then perhaps build metadata, such as
 /// `1.2.3-rc.1+x86` (SemVer 2.0, sections 2, 9 and 10). The numbers are below 2^32.
@@ -260,7 +260,7 @@ pub struct SemVerRef<'a> {
 
 impl<'a> SemVerRef<'a> {
     // Parses the whole text as a strict version.
-    #[tactic(auto, unfolding(crate::specs::SemVer::semver_of))]
+    #[tactic(auto, unfolding(version_rules::specs::SemVer::semver_of))]
     #[inline(always)]
     pub(crate) fn new(s: &'a str) -> Option<SemVerRef<'a>>
         ensures { option_map plain_semver_ref result ≡ semver_of s.now }
@@ -298,7 +298,7 @@ pub(crate) struct SemVerText<'a> {
 
 impl<'a> SemVerText<'a> {
     // Parses a prefix as a strict version; returns it and the rest.
-    #[tactic(auto, unfolding(crate::specs::SemVer::semver_front))]
+    #[tactic(auto, unfolding(version_rules::specs::SemVer::semver_front))]
     #[inline(always)]
     fn scan(i: &'a str) -> Option<(SemVerText<'a>, &'a str)>
         ensures version { option_map (λ r. (semver_of_text r.0, r.1.now)) result
@@ -333,46 +333,5 @@ impl<'a> SemVerText<'a> {
             pre_rel: self.pre_rel,
             meta: self.meta,
         }
-    }
-}
-
-impl<'a> SemVerRef<'a> {
-    // Compares two versions as `SemVer` does. Metadata does not count.
-    pub(crate) fn compare_plain(&self, other: &SemVerRef<'_>) -> Ordering
-        ensures { result ≡ semver_cmp (plain_semver_ref self.now) (plain_semver_ref other.now) }
-    {
-        let numbers = self
-            .major
-            .cmp(&other.major)
-            .then(self.minor.cmp(&other.minor));
-        let numbers = numbers.then(self.patch.cmp(&other.patch));
-        match numbers {
-            Ordering::Equal => compare_spelled_pre_releases(&self.pre_rel, &other.pre_rel),
-            _ => numbers,
-        }
-    }
-
-    // Returns major, minor and patch for 0, 1 and 2.
-    pub(crate) fn nth(&self, n: usize) -> Option<u32>
-        ensures { result ≡ semver_nth (plain_semver_ref self.now) n }
-    {
-        match n {
-            0 => Some(self.major),
-            1 => Some(self.minor),
-            2 => Some(self.patch),
-            _ => None,
-        }
-    }
-}
-
-// Compares two scanned pre-releases. No pre-release comes last (SemVer 2.0, section 11).
-fn compare_spelled_pre_releases(a: &Option<ReleaseRef<'_>>, b: &Option<ReleaseRef<'_>>) -> Ordering
-    ensures { result ≡ none_last_cmp release_cmp a.now b.now }
-{
-    match (a, b) {
-        (Some(a), Some(b)) => a.compare(b),
-        (Some(_), None) => Ordering::Less,
-        (None, Some(_)) => Ordering::Greater,
-        (None, None) => Ordering::Equal,
     }
 }

@@ -3,21 +3,21 @@
 ghost use Rattle.std.specs.Prelude.{[], ◌≡◌, ◌↔◌, IfOk, IfSome, IsSomeAnd, IsTrue, None, OnErr, Some};
 ghost use Rattle.std.proofs.Common.{ap};
 ghost use Rattle.std.specs.Cmp.{eq_by_cmp_equiv, on_equiv, on_per, partial_equiv_from_equiv};
-ghost use Rattle.std.specs.Option.{is_some, option_cmp, option_map};
+ghost use Rattle.std.specs.Option.{is_some, option_map};
 ghost use Rattle.std.specs.Ordering.{eq_by_cmp, on};
-ghost use Rattle.version_parts.specs.Body.{body_front};
-ghost use Rattle.version_parts.specs.Front.{optional, Reads};
-ghost use Rattle.version_parts.specs.Last as plain;
-ghost use Rattle.version_parts.specs.Lists.{bytes_cmp};
-ghost use Rattle.version_parts.specs.OrderLaws.{same_where_tied};
-ghost use Rattle.version_parts.specs.ReleaseOrder.{release_cmp};
+ghost use Rattle.version_rules.specs.Body.{body_front};
+ghost use Rattle.version_rules.specs.Front.{optional};
+ghost use Rattle.version_parts.specs.Front.{Reads};
+ghost use Rattle.version_rules.specs.Last as plain;
+ghost use Rattle.version_rules.specs.laws.Order.{same_where_tied};
 ghost use Rattle.versions.specs.Errors.{IllegalVersion, ReadsOr};
 ghost use Rattle.versions.specs.BodyParts.{parts_left};
-ghost use Rattle.versions.specs.Key.{key_of_version};
-ghost use Rattle.versions.specs.Version.{epoch_front, plain_version_ref, plain_version, version_fed, version_front, version_nth, version_of, version_text, PlainVersion, SpellsVersion, VersionOwns};
-ghost use Rattle.versions.specs.VersionLaws.{version_plain_total, versions_same};
-ghost use Rattle.versions.specs.VersionMatch.{epoch_and_parts, MatchesCaret, MatchesTilde};
-ghost use Rattle.versions.specs.VersionOrder.{version_plain_cmp};
+ghost use Rattle.version_rules.specs.Key.{key_of_version};
+ghost use Rattle.version_rules.specs.Version.{epoch_front, version_front, version_nth, version_of, version_text, PlainVersion, SpellsVersion, VersionOwns};
+ghost use Rattle.versions.specs.Version.{plain_version_ref, plain_version, version_fed};
+ghost use Rattle.version_rules.specs.laws.Version.{version_plain_total, versions_same};
+ghost use Rattle.version_rules.specs.VersionMatch.{epoch_and_parts, MatchesCaret, MatchesTilde};
+ghost use Rattle.version_rules.specs.VersionOrder.{version_plain_cmp};
 
 use crate::errors::{Error, ReadError};
 use crate::optional::{
@@ -262,7 +262,7 @@ pub struct VersionRef<'a> {
 
 impl<'a> VersionRef<'a> {
     // Parses the whole text as a general version.
-    #[tactic(auto, unfolding(crate::specs::Version::version_of))]
+    #[tactic(auto, unfolding(version_rules::specs::Version::version_of))]
     #[inline(always)]
     pub(crate) fn new(s: &'a str) -> Option<VersionRef<'a>>
         ensures { option_map plain_version_ref result ≡ version_of s.now }
@@ -274,7 +274,7 @@ impl<'a> VersionRef<'a> {
     }
 
     // Parses a prefix as a general version; returns it and the rest.
-    #[tactic(auto, unfolding(crate::specs::Version::version_front))]
+    #[tactic(auto, unfolding(version_rules::specs::Version::version_front))]
     #[inline(always)]
     fn scan(i: &'a str) -> Option<(VersionRef<'a>, &'a str)>
         ensures { option_map (λ r. (plain_version_ref r.0, r.1.now)) result ≡ version_front i.now }
@@ -339,7 +339,7 @@ fn scan_body_and_epoch(i: &str) -> Option<(Option<u32>, BodyRef<'_>, &str)>
 }
 
 // Parses a prefix as an epoch; returns it and the rest, or None and the whole text.
-#[tactic(auto, unfolding(version_parts::specs::Front::optional))]
+#[tactic(auto, unfolding(version_rules::specs::Front::optional))]
 #[inline(always)]
 fn optional_epoch(i: &str) -> (Option<u32>, &str)
     ensures { (result.0, result.1.now) ≡ optional epoch_front i.now }
@@ -351,7 +351,7 @@ fn optional_epoch(i: &str) -> (Option<u32>, &str)
 }
 
 // Parses a prefix as a number and a colon; returns the number and the rest.
-#[tactic(auto, unfolding(crate::specs::Version::epoch_front))]
+#[tactic(auto, unfolding(version_rules::specs::Version::epoch_front))]
 #[inline(always)]
 fn scan_epoch(i: &str) -> Option<(u32, &str)>
     ensures { option_map (λ r. (r.0, r.1.now)) result ≡ epoch_front i.now }
@@ -359,58 +359,4 @@ fn scan_epoch(i: &str) -> Option<(u32, &str)>
     let (number, rest) = scan::numeral(i)?;
     let rest = scan::after_mark(rest, b':')?;
     Some((scan::value_of_numeral(number), rest))
-}
-
-impl<'a> VersionRef<'a> {
-    // Compares two versions field by field, None before Some.
-    pub(crate) fn compare_plain(&self, other: &VersionRef<'_>) -> Ordering
-        ensures { result ≡ version_plain_cmp (plain_version_ref self.now)
-            (plain_version_ref other.now) }
-    {
-        let epochs = self.epoch.cmp(&other.epoch);
-        if epochs != Ordering::Equal {
-            return epochs;
-        }
-        let bodies = self.body.compare(&other.body);
-        if bodies != Ordering::Equal {
-            return bodies;
-        }
-        let releases = compare_spelled_releases(&self.release, &other.release);
-        if releases != Ordering::Equal {
-            return releases;
-        }
-        compare_meta(self.meta, other.meta)
-    }
-
-    // Returns the number at a place of the body, counted from 0.
-    pub(crate) fn nth(&self, n: usize) -> Option<u32>
-        ensures { result ≡ version_nth (plain_version_ref self.now) n }
-    {
-        self.body.nth(n)
-    }
-}
-
-// Compares metadata, None before Some.
-fn compare_meta(a: Option<&str>, b: Option<&str>) -> Ordering
-    ensures { result ≡ option_cmp bytes_cmp (option_map (λ text. text.now) a.entry)
-        (option_map (λ text. text.now) b.entry) }
-{
-    match (a, b) {
-        (Some(a), Some(b)) => a.cmp(b),
-        (Some(_), None) => Ordering::Greater,
-        (None, Some(_)) => Ordering::Less,
-        (None, None) => Ordering::Equal,
-    }
-}
-
-// Compares scanned releases, None before Some.
-fn compare_spelled_releases(a: &Option<ReleaseRef<'_>>, b: &Option<ReleaseRef<'_>>) -> Ordering
-    ensures { result ≡ option_cmp release_cmp a.now b.now }
-{
-    match (a, b) {
-        (Some(a), Some(b)) => a.compare(b),
-        (Some(_), None) => Ordering::Greater,
-        (None, Some(_)) => Ordering::Less,
-        (None, None) => Ordering::Equal,
-    }
 }

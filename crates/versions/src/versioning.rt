@@ -6,24 +6,27 @@ ghost use Rattle.std.specs.Option.{is_some, option_map};
 ghost use Rattle.std.specs.Ordering.{eq_by_cmp, on};
 ghost use Rattle.version_parts.specs.Front.{Reads};
 ghost use Rattle.versions.specs.Errors.{IllegalVersioning, ReadsOr};
-ghost use Rattle.versions.specs.Kind.{versioning_kind};
+ghost use Rattle.version_rules.specs.Kind.{versioning_kind};
 ghost use Rattle.versions.specs.SemVer.{plain_semver};
-ghost use Rattle.versions.specs.Versioning.{is_complex, is_general, is_ideal, kind_rank, plain_versioning, semver_nth, versioning_fed, versioning_front, versioning_nth, versioning_of, versioning_plain_cmp, versioning_text, PlainVersioning, SpellsVersioning, VersioningOwns};
-ghost use Rattle.versions.specs.Versioning as plain;
-ghost use Rattle.versions.specs.VersioningLaws.{versioning_plain_total, versions_fed_alike};
-ghost use Rattle.versions.specs.VersioningRef.{plain_versioning_ref};
+ghost use Rattle.version_rules.specs.Versioning.{is_complex, is_general, is_ideal, kind_rank, semver_nth, versioning_front, versioning_nth, versioning_of, versioning_plain_cmp, versioning_text, PlainVersioning, SpellsVersioning, VersioningOwns};
+ghost use Rattle.versions.specs.Versioning.{plain_versioning, versioning_fed};
+ghost use Rattle.version_rules.specs.Versioning as plain;
+ghost use Rattle.version_rules.specs.laws.Versioning.{versioning_plain_total};
+ghost use Rattle.versions.specs.VersioningLaws.{versions_fed_alike};
+ghost use Rattle.version_texts.specs.VersioningRef.{plain_versioning_ref};
+ghost use Rattle.versions.specs.Versioning.{AnswersAlike};
 
 use crate::errors::{Error, ReadError};
-use crate::kind::Kind;
-use crate::mess::Mess;
+use crate::mess::{Mess, MessRef};
 use crate::reading::or_illegal;
-use crate::semver::SemVer;
-use crate::version::Version;
-use crate::versioning_ref::VersioningRef;
+use crate::semver::{SemVer, SemVerRef};
+use crate::version::{Version, VersionRef};
 use std::alloc::{AllocError, Global};
 use std::cmp::Ordering;
 use std::fmt;
 use std::hash::{Hash, Hasher};
+use version_rules::Kind;
+use version_texts::VersioningRef;
 
 /// A version of the first kind that fits its text.
 #[derive(Debug, Drop)]
@@ -66,6 +69,19 @@ impl Versioning {
         ensures { result ≡ is_some (versioning_of s.now) }
     {
         VersioningRef::new(s).is_some()
+    }
+
+    /// Copies a borrowed version into one that outlives its text. Allocates nothing for three plain numbers, or for one
+    /// number with or without epoch. `Err` means allocation failure.
+    pub fn of(alloc: Global, version: &VersioningRef<'_>) -> Result<Versioning, AllocError>
+        ensures ok { IfOk result (λ v. plain_versioning v ≡ plain_versioning_ref version.now) }
+
+        // Both have the same text, kind and key, order alike, and are matched by the same requirements.
+        ensures alike { IfOk result (λ v. AnswersAlike (plain_versioning v)
+            (plain_versioning_ref version.now)) }
+        ensures err { OnErr result (VersioningOwns (plain_versioning_ref version.now)) }
+    {
+        Ok(read_whole(alloc, version.text())?.unwrap())
     }
 
     /// Parses the whole text as a version. Fails with `Illegal` if it does not parse: the error is `IllegalVersioning`
@@ -188,28 +204,19 @@ fn nth_of_three(ideal: &SemVer, n: usize) -> Option<u32>
     }
 }
 
-impl<'a> VersioningRef<'a> {
-    /// Copies the version into a `Versioning` that outlives the text. Allocates nothing for three plain numbers, or for
-    /// one number with or without epoch. `Err` means allocation failure.
-    pub fn to_owned(&self, alloc: Global) -> Result<Versioning, AllocError>
-        ensures ok { IfOk result (λ v. plain_versioning v ≡ plain_versioning_ref self.now) }
-        ensures err { OnErr result (VersioningOwns (plain_versioning_ref self.now)) }
-    {
-        match self {
-            VersioningRef::Ideal(ideal) => Ok(Versioning::Ideal(ideal.build(alloc)?)),
-            VersioningRef::General(general) => Ok(Versioning::General(general.build(alloc)?)),
-            VersioningRef::Complex(complex) => Ok(Versioning::Complex(complex.build(alloc)?)),
-        }
-    }
-}
-
 // Parses the whole text as a version of the first kind that fits.
 fn read_whole(alloc: Global, s: &str) -> Result<Option<Versioning>, AllocError>
     ensures ok { IfOk result (λ o. option_map plain_versioning o ≡ versioning_of s.now) }
     ensures err { OnErr result (IsSomeAnd (versioning_of s.now) VersioningOwns) }
 {
-    match VersioningRef::new(s) {
-        Some(spelled) => Ok(Some(spelled.to_owned(alloc)?)),
+    if let Some(ideal) = SemVerRef::new(s) {
+        return Ok(Some(Versioning::Ideal(ideal.build(alloc)?)));
+    }
+    if let Some(general) = VersionRef::new(s) {
+        return Ok(Some(Versioning::General(general.build(alloc)?)));
+    }
+    match MessRef::new(s) {
+        Some(complex) => Ok(Some(Versioning::Complex(complex.build(alloc)?))),
         None => Ok(None),
     }
 }

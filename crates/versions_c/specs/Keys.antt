@@ -1,10 +1,9 @@
 -- Sort keys in the caller's buffer.
-use Rattle.std.specs.Prelude.{◌≡◌, ℕ, zero, suc, ◌+◌, ◌*◌, ◌-◌, ◌^◌, min, ℤ, nat_le, List, [], ◌++◌}
-use Rattle.std.specs.Prelude.{length, Option, Some, None, if◌then◌else◌}
+use Rattle.std.specs.Prelude.{◌≡◌, ℕ, zero, suc, ◌+◌, ◌*◌, ◌-◌, ◌^◌, min, ℤ, nat_le, List, [], ◌++◌, length, Option, Some, None, if◌then◌else◌}
 use Rattle.std.specs.Option.{option_map, unwrap_or}
-use Rattle.versions.specs.Key.{key_of}
-use Rattle.versions.specs.KeyBytes.{key_bytes}
-use Rattle.versions.specs.Versioning.{versioning_of}
+use Rattle.version_rules.specs.Key.{key_of}
+use Rattle.version_rules.specs.KeyBytes.{key_bytes}
+use Rattle.version_rules.specs.Versioning.{versioning_of}
 use Rattle.version_texts.specs.Sinks.{saturated}
 use Rattle.versions_c.specs.Offsets.{AreOffsets, text_at}
 use Rattle.versions_c.specs.declared.status.TheConstants.{OK, NO_ROOM, NO_VERSION}

@@ -1,10 +1,9 @@
 -- Which texts a list of requirements matches.
 use Rattle.std.proofs.Common.{◌⊎◌, inl, inr, ℕ, ℤ, List, Option, Some, None}
-use Rattle.versions.specs.MatchingLaws.{matches_all_or_not}
-use Rattle.versions.specs.Requirement.{PlainRequirement}
-use Rattle.versions.specs.Versioning.{PlainVersioning}
-use Rattle.versions_c.specs.declared.status.TheConstants.{OK, NO_REQUIREMENTS, NO_VERSION}
-use Rattle.versions_c.specs.declared.status.TheConstants.{NO_WRONG_MEMBER}
+use Rattle.version_rules.specs.laws.Matching.{matches_all_or_not}
+use Rattle.version_rules.specs.Requirement.{PlainRequirement}
+use Rattle.version_rules.specs.Versioning.{PlainVersioning}
+use Rattle.versions_c.specs.declared.status.TheConstants.{OK, NO_REQUIREMENTS, NO_VERSION, NO_WRONG_MEMBER}
 
 -- 1 if something holds, otherwise 0
 abbrev pub bit : {Holds : Type 0} → Holds ⊎ ¬ Holds → ℕ

@@ -1,6 +1,6 @@
 -- The numbers of a version.
 use Rattle.std.specs.Prelude.{ℕ, ℤ, Option, Some, None, is_some, if◌then◌else◌}
-use Rattle.versions.specs.Versioning.{PlainVersioning}
+use Rattle.version_rules.specs.Versioning.{PlainVersioning}
 use Rattle.versions_c.specs.declared.status.TheConstants.{OK, NO_NUMBER, NO_VERSION}
 
 -- the status for a text, by the number that its version has or lacks

@@ -2,8 +2,7 @@
 use Rattle.std.specs.Prelude.{Bool, true, false, ℤ, pos, negsuc}
 use Rattle.std.specs.declared.cmp.Ordering.{Ordering}
 use Rattle.std.specs.declared.cmp.Ordering.TheVariants.{Less, Equal, Greater}
-use Rattle.versions_c.specs.declared.status.TheConstants.{OK, NO_VERSION_A, NO_VERSION_B}
-use Rattle.versions_c.specs.declared.status.TheConstants.{NO_VERSION_AB}
+use Rattle.versions_c.specs.declared.status.TheConstants.{OK, NO_VERSION_A, NO_VERSION_B, NO_VERSION_AB}
 
 -- an order as a number
 abbrev pub sign : Ordering → ℤ

@@ -1,16 +1,15 @@
 -- The ranges of lists in the caller's buffers, and which texts have a version in a range.
-use Rattle.std.specs.Prelude.{◌≡◌, ◌⊎◌, ◌&&◌, ℕ, ℤ, Bool, true, false, bit_and, eqb, not, nat_le}
-use Rattle.std.specs.Prelude.{IfSome, IsTrue, List, Option, Some, None, if◌then◌else◌}
+use Rattle.std.specs.Prelude.{◌≡◌, ◌⊎◌, ◌&&◌, ℕ, ℤ, Bool, true, false, bit_and, eqb, not, nat_le, IfSome, IsTrue, List, Option, Some, None, if◌then◌else◌}
 use Rattle.std.proofs.Common.{inl, inr, refl}
 use Rattle.std.specs.declared.cmp.Ordering.{Ordering}
 use Rattle.std.specs.declared.cmp.Ordering.TheVariants.{Less, Equal, Greater}
-use Rattle.version_parts.specs.Lists.{bytes_cmp}
+use Rattle.version_rules.specs.Lists.{bytes_cmp}
 use Rattle.version_texts.specs.Bounds.{high_room, low_room}
 use Rattle.version_texts.specs.Sinks.{saturated}
-use Rattle.versions.specs.Kind.{versioning_kind}
-use Rattle.versions.specs.Range.{IsIn, PlainRange, bytes_of, has_kind}
-use Rattle.versions.specs.Requirement.{PlainRequirement}
-use Rattle.versions.specs.Versioning.{PlainVersioning}
+use Rattle.version_rules.specs.Kind.{versioning_kind}
+use Rattle.version_rules.specs.Range.{IsIn, PlainRange, bytes_of, has_kind}
+use Rattle.version_rules.specs.Requirement.{PlainRequirement}
+use Rattle.version_rules.specs.Versioning.{PlainVersioning}
 use Rattle.versions_c.specs.Matching.{bit}
 use Rattle.versions_c.specs.declared.ranges.TheConstants.{COMPLEX, EXACT, GENERAL, HIGH, IDEAL}
 use Rattle.versions_c.specs.declared.status.TheConstants.{OK, NO_REQUIREMENTS, NO_ROOM}

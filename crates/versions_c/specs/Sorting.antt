@@ -1,6 +1,5 @@
 -- The places of texts, sorted by the texts' versions.
-use Rattle.std.specs.Prelude.{◌≡◌, ◌==◌, ℕ, ◌+◌, ◌-◌, ◌<◌, List, length, slice_index, Option, None}
-use Rattle.std.specs.Prelude.{Some, if◌then◌else◌}
+use Rattle.std.specs.Prelude.{◌≡◌, ◌==◌, ℕ, ◌+◌, ◌-◌, ◌<◌, List, length, slice_index, Option, None, Some, if◌then◌else◌}
 use Rattle.std.specs.Cmp.Lexicographic.{slice_cmp}
 use Rattle.std.specs.List.{range_with_len}
 use Rattle.std.specs.List.Sorted.{IsPermutation}
@@ -8,9 +7,9 @@ use Rattle.std.specs.Option.{option_and_then, option_cmp}
 use Rattle.std.specs.Ordering.{bool_cmp, nat_cmp, on, then_cmp}
 use Rattle.std.specs.declared.cmp.Ordering.{Ordering}
 use Rattle.std.specs.declared.cmp.Ordering.TheVariants.{Less}
-use Rattle.version_parts.specs.Lists.{none_last_cmp}
-use Rattle.versions.specs.Orders.{versioning_cmp}
-use Rattle.versions.specs.Versioning.{PlainVersioning, is_ideal, versioning_of}
+use Rattle.version_rules.specs.Lists.{none_last_cmp}
+use Rattle.version_rules.specs.Orders.{versioning_cmp}
+use Rattle.version_rules.specs.Versioning.{PlainVersioning, is_ideal, versioning_of}
 use Rattle.versions_c.specs.Offsets.{AreOffsets, text_at}
 
 -- two places: by the versions of their texts, a text that is not a version last, and ties as

@@ -1,15 +1,15 @@
 //! The kinds of texts.
 
 ghost use Rattle.std.specs.Prelude.{◌≡◌, ◌≢◌, ◌<◌, ℕ, if◌then◌else◌, length, pos, slice_index, IfSome, Some};
-ghost use Rattle.versions.specs.Kind.{versioning_kind};
-ghost use Rattle.versions.specs.Versioning.{is_prerelease, versioning_of, PlainVersioning};
+ghost use Rattle.version_rules.specs.Kind.{versioning_kind};
+ghost use Rattle.version_rules.specs.Versioning.{is_prerelease, versioning_of, PlainVersioning};
 ghost use Rattle.versions_c.specs.Kinds.{kind_of, version_status};
 ghost use Rattle.versions_c.specs.Offsets.{text_at, AreOffsets};
 
 use crate::offsets::{are_offsets, text_at};
 use crate::status::{BAD_OFFSETS, NO_VERSION, OK};
+use version_rules::Kind;
 use version_texts::VersioningRef;
-use versions::Kind;
 
 /// The kind of a text.
 #[unsafe(no_mangle)]

@@ -2,8 +2,8 @@
 
 ghost use Rattle.std.specs.Prelude.{◌≡◌, ◌≢◌, ◌<◌, ℕ, length, slice_index, IfSome, None, Some};
 ghost use Rattle.version_texts.specs.RequirementsRef.{wrong_member};
-ghost use Rattle.versions.specs.Requirements.{requirements_of};
-ghost use Rattle.versions.specs.Versioning.{versioning_of};
+ghost use Rattle.version_rules.specs.Requirements.{requirements_of};
+ghost use Rattle.version_rules.specs.Versioning.{versioning_of};
 ghost use Rattle.versions_c.specs.Matching.{list_status, match_code, match_status, wrong_status};
 ghost use Rattle.versions_c.specs.Offsets.{text_at, AreOffsets};
 

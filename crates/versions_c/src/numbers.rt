@@ -2,8 +2,8 @@
 
 ghost use Rattle.std.specs.Prelude.{◌≡◌, ◌≢◌, IfSome, Some};
 ghost use Rattle.std.specs.Option.{option_map};
-ghost use Rattle.versions.specs.Key.{versioning_epoch};
-ghost use Rattle.versions.specs.Versioning.{versioning_nth, versioning_of};
+ghost use Rattle.version_rules.specs.Key.{versioning_epoch};
+ghost use Rattle.version_rules.specs.Versioning.{versioning_nth, versioning_of};
 ghost use Rattle.versions_c.specs.Keys.{saturated_signed};
 ghost use Rattle.versions_c.specs.Numbers.{number_status};
 

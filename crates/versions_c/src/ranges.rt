@@ -2,10 +2,10 @@
 
 ghost use Rattle.std.specs.Prelude.{◌≡◌, ◌≢◌, ◌<◌, ◌≤◌, if◌then◌else◌, is_some, length, slice_index, take, IfSome, List, None, Some, [], ℕ};
 ghost use Rattle.std.specs.Option.{option_map};
-ghost use Rattle.versions.specs.Range.{range_of};
-ghost use Rattle.versions.specs.Requirement.{PlainRequirement};
-ghost use Rattle.versions.specs.Requirements.{requirements_of};
-ghost use Rattle.versions.specs.Versioning.{versioning_of};
+ghost use Rattle.version_rules.specs.Range.{range_of};
+ghost use Rattle.version_rules.specs.Requirement.{PlainRequirement};
+ghost use Rattle.version_rules.specs.Requirements.{requirements_of};
+ghost use Rattle.version_rules.specs.Versioning.{versioning_of};
 ghost use Rattle.version_texts.specs.VersioningRef.{plain_versioning_ref};
 ghost use Rattle.versions_c.specs.Keys.{room_for};
 ghost use Rattle.versions_c.specs.Kinds.{version_status};
@@ -14,8 +14,8 @@ ghost use Rattle.versions_c.specs.Ranges.{has_flag, in_range_code, one_if, range
 
 use crate::offsets::{are_offsets, text_at};
 use crate::status::{BAD_OFFSETS, NO_REQUIREMENTS, NO_ROOM, NO_VERSION, OK};
+use version_rules::Kinds;
 use version_texts::{Held, VersioningRef, rooms_for, write_range};
-use versions::Kinds;
 
 /// Versions of the strict kind are in the range.
 pub const IDEAL: u32 = 1;

@@ -6,7 +6,7 @@ ghost use Rattle.std.specs.List.Sorted.{IsPermutation, IsSorted};
 ghost use Rattle.std.specs.Option.{option_cmp, option_map};
 ghost use Rattle.std.specs.declared.cmp.Ordering.TheVariants.{Equal};
 ghost use Rattle.version_texts.specs.VersioningRef.{plain_versioning_ref};
-ghost use Rattle.versions.specs.Orders.{versioning_cmp};
+ghost use Rattle.version_rules.specs.Orders.{versioning_cmp};
 ghost use Rattle.versions_c.specs.Keys.{all_keys, keys_before, room_status, saturated_signed};
 ghost use Rattle.versions_c.specs.Offsets.{text_at};
 ghost use Rattle.versions_c.specs.Sorting.{keyed_cmp, keys_cmp, text_tie_breaker, tied_cmp, AreInOrder, AreSortOffsets};
@@ -15,8 +15,8 @@ use crate::keys::put_keys;
 use crate::offsets::are_offsets;
 use crate::status::{BAD_OFFSETS, NO_ROOM, OK};
 use std::cmp::Ordering;
+use version_rules::Kind;
 use version_texts::VersioningRef;
-use versions::Kind;
 
 /// Writes the places of all texts, sorted by their versions.
 #[unsafe(no_mangle)]

@@ -34,10 +34,10 @@ pub fn make_all(table: &mut Table<'_>) -> io::Result<()> {
         )?;
     }
     for text in [IDEAL, GENERAL, COMPLEX] {
-        table.reads("VersioningRef::to_owned", text, own)?;
+        table.reads("Versioning::of", text, own)?;
     }
     table.reads(
-        "VersioningRef::to_owned, without memory",
+        "Versioning::of, without memory",
         "4294967295.0.0",
         own,
     )?;
@@ -57,7 +57,7 @@ pub fn make_all(table: &mut Table<'_>) -> io::Result<()> {
 
 fn own(alloc: Global, text: &str) -> Result<Option<Versioning>, AllocError> {
     match VersioningRef::new(text) {
-        Some(version) => Ok(Some(version.to_owned(alloc)?)),
+        Some(version) => Ok(Some(Versioning::of(alloc, &version)?)),
         None => Ok(None),
     }
 }

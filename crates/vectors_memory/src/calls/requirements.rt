@@ -3,7 +3,6 @@
 use crate::table::Table;
 use std::alloc::{AllocError, Global};
 use std::io;
-use version_texts::{RequirementRef, RequirementsRef};
 use versions::{Range, Requirement, Requirements};
 
 const TEXT: &str = ">=1:2.a.7b";
@@ -50,8 +49,6 @@ pub fn make_all(table: &mut Table<'_>) -> io::Result<()> {
     )?;
     table.borrows("Range::clone", LIST, range_of, Range::clone)?;
     table.reads("Range::everything, without memory", "*", everything)?;
-    table.reads("RequirementRef::range", "=1.2", range_of_member)?;
-    table.reads("RequirementsRef::range", LIST, range_of_list)?;
     table.reads(
         "Requirements::new, without memory",
         ">=1.0,",
@@ -68,18 +65,4 @@ fn range_of(alloc: Global, list: &str) -> Result<Option<Range>, AllocError> {
 
 fn everything(alloc: Global, _list: &str) -> Result<Range, AllocError> {
     Ok(Range::everything(alloc))
-}
-
-fn range_of_member(alloc: Global, text: &str) -> Result<Option<Range>, AllocError> {
-    match RequirementRef::new(text) {
-        Some(member) => Ok(Some(member.range(alloc)?)),
-        None => Ok(None),
-    }
-}
-
-fn range_of_list(alloc: Global, text: &str) -> Result<Option<Range>, AllocError> {
-    match RequirementsRef::new(text) {
-        Some(list) => Ok(Some(list.range(alloc)?)),
-        None => Ok(None),
-    }
 }

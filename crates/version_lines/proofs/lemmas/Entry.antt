@@ -1,10 +1,7 @@
 -- Lines as they are sorted: they are versions, their keys stay in place, and sorted entries are the
 -- sorted lines.
 pub mod Tied
-use Rattle.std.proofs.Common.{◌≡◌, ℕ, ◌+◌, ◌<◌, ◌≤◌, true, false, not, nat_lt, List, [], ◌∷◌, ◌++◌}
-use Rattle.std.proofs.Common.{length, take, drop, get_or, map, Option, Some, None, is_some, refl}
-use Rattle.std.proofs.Common.{sym, subst, ap, ◌∙◌, arith, append-nil, append_assoc, length-append}
-use Rattle.std.proofs.Common.{length-drop, add-one}
+use Rattle.std.proofs.Common.{◌≡◌, ℕ, ◌+◌, ◌<◌, ◌≤◌, true, false, not, nat_lt, List, [], ◌∷◌, ◌++◌, length, take, drop, get_or, map, Option, Some, None, is_some, refl, sym, subst, ap, ◌∙◌, arith, append-nil, append_assoc, length-append, length-drop, add-one}
 use Rattle.std.specs.Cmp.{IsStrictWeakOrder, IsTotalOrder, nat_cmp_total}
 use Rattle.std.specs.Cmp.Lexicographic.{options_total, slice_cmp}
 use Rattle.std.specs.List.{All, prefix_len}
@@ -16,8 +13,7 @@ use Rattle.std.specs.declared.cmp.Ordering.TheVariants.{Less, Equal, Greater}
 use Rattle.std.proofs.Math.Seq.{drop-cons}
 use Rattle.std.proofs.lemmas.Bool.{le-ltb, lt-ltb}
 use Rattle.std.proofs.lemmas.Cmp.{nat_list_cmp_total, on_total, then_total}
-use Rattle.std.proofs.lemmas.List.{drop-append-le, length-map, length-take, map-append}
-use Rattle.std.proofs.lemmas.List.{take-append-le}
+use Rattle.std.proofs.lemmas.List.{drop-append-le, length-map, length-take, map-append, take-append-le}
 use Rattle.std.proofs.lemmas.List.Elements.{All-head, All-tail}
 use Rattle.std.proofs.lemmas.List.Quantifiers.{all_pairs_push}
 use Rattle.std.proofs.lemmas.List.Sorted.{ranks_by}
@@ -28,14 +24,13 @@ use Rattle.version_lines.specs.Sort.{bad_line, is_bad, line_cmp, sort_output}
 use Rattle.version_lines.specs.Sorting.{in_order, TiesRise}
 use Rattle.version_lines.specs.LineKey.{line_key, line_tie_breaker, line_tie_cmp, unless_strict}
 use Rattle.version_lines.specs.declared.sort.entry.Entry.{Entry}
-use Rattle.versions.proofs.lemmas.OrdersLaws.{key_bytes_alone}
-use Rattle.versions.proofs.lemmas.SemVerOrder.{precedence_of_semvers}
-use Rattle.versions.specs.Key.{key_of, key_of_semver, precedence}
-use Rattle.versions.specs.KeyBytes.{key_bytes}
-use Rattle.versions.specs.Orders.{versioning_cmp}
-use Rattle.versions.specs.OrdersLaws.{versioning_cmp_total}
-use Rattle.versions.specs.Versioning.{Complex, General, Ideal, PlainVersioning, versioning_of}
-use Rattle.versions.specs.Versioning.{versioning_plain_cmp}
+use Rattle.version_rules.proofs.lemmas.OrdersLaws.{key_bytes_alone}
+use Rattle.version_rules.proofs.lemmas.SemVerOrder.{precedence_of_semvers}
+use Rattle.version_rules.specs.Key.{key_of, key_of_semver, precedence}
+use Rattle.version_rules.specs.KeyBytes.{key_bytes}
+use Rattle.version_rules.specs.Orders.{versioning_cmp}
+use Rattle.version_rules.specs.laws.Orders.{versioning_cmp_total}
+use Rattle.version_rules.specs.Versioning.{Complex, General, Ideal, PlainVersioning, versioning_of, versioning_plain_cmp}
 use Rattle.version_lines.proofs.lemmas.Head.{heads_first}
 use Rattle.version_lines.proofs.lemmas.LineKey.{line_key-some}
 use Rattle.version_lines.proofs.lemmas.Sorting.Places.{ties_rise-in_order}

@@ -1,18 +1,16 @@
 -- The keys of lines and words.
-use Rattle.std.proofs.Common.{◌≡◌, ℕ, ◌/◌, ◌%◌, ◌<◌, false, not, List, [], ◌∷◌, ◌++◌, length}
-use Rattle.std.proofs.Common.{length-append, map, replicate, Option, Some, None, is_some, ap, arith}
-use Rattle.std.proofs.Common.{sym}
+use Rattle.std.proofs.Common.{◌≡◌, ℕ, ◌/◌, ◌%◌, ◌<◌, false, not, List, [], ◌∷◌, ◌++◌, length, length-append, map, replicate, Option, Some, None, is_some, ap, arith, sym}
 use Rattle.std.specs.Char.{digit_char}
 use Rattle.std.specs.Int.Digits.{digits_of}
 use Rattle.std.specs.Option.{option_map_or}
 use Rattle.version_lines.specs.Sort.{is_bad}
 use Rattle.version_lines.specs.LineKey.{line_key}
-use Rattle.version_parts.specs.NumberBytes.{length_bytes, number_bytes}
-use Rattle.version_parts.specs.PartKey.{parts_bytes}
-use Rattle.versions.specs.Key.{Key, key_of}
-use Rattle.versions.specs.KeyBytes.{key_bytes}
-use Rattle.versions.specs.Tail.{tail_bytes}
-use Rattle.versions.specs.Versioning.{PlainVersioning, versioning_of}
+use Rattle.version_rules.specs.NumberBytes.{length_bytes, number_bytes}
+use Rattle.version_rules.specs.PartKey.{parts_bytes}
+use Rattle.version_rules.specs.Key.{Key, key_of}
+use Rattle.version_rules.specs.KeyBytes.{key_bytes}
+use Rattle.version_rules.specs.Tail.{tail_bytes}
+use Rattle.version_rules.specs.Versioning.{PlainVersioning, versioning_of}
 
 -- the key of a line, by the version that it spells
 

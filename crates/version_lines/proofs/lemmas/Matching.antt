@@ -3,10 +3,10 @@
 use Rattle.std.proofs.Common.{◌≡◌, ◌⊎◌, List, Option, Some, None, inl, inr, refl}
 use Rattle.version_lines.specs.Matching.{line_if, match_answer}
 use Rattle.version_lines.specs.declared.answer.Answer.TheVariants.{Whole, Nothing}
-use Rattle.versions.specs.MatchingLaws.{matches_all_or_not}
-use Rattle.versions.specs.Requirement.{PlainRequirement}
-use Rattle.versions.specs.RequirementsRef.{Keeps}
-use Rattle.versions.specs.Versioning.{PlainVersioning}
+use Rattle.version_rules.specs.laws.Matching.{matches_all_or_not}
+use Rattle.version_rules.specs.Requirement.{PlainRequirement}
+use Rattle.version_rules.specs.RequirementsRef.{Keeps}
+use Rattle.version_rules.specs.Versioning.{PlainVersioning}
 
 line_if_holds : {Holds : Type 0} (decided : Holds ⊎ ¬ Holds) → Holds → line_if decided ≡ Whole
 line_if_holds (inl known) holds = refl

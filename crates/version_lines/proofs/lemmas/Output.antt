@@ -1,7 +1,5 @@
 -- How successive writes add up to a prefix of the output.
-use Rattle.std.proofs.Common.{◌≡◌, ℕ, ◌<◌, List, [], ◌++◌, Option, length}
-use Rattle.std.proofs.Common.{sym, ap, ◌∙◌, subst, take, drop, take-append-drop, ◌-◌, arith}
-use Rattle.std.proofs.Common.{append_assoc, append-nil, length-append}
+use Rattle.std.proofs.Common.{◌≡◌, ℕ, ◌<◌, List, [], ◌++◌, Option, length, sym, ap, ◌∙◌, subst, take, drop, take-append-drop, ◌-◌, arith, append_assoc, append-nil, length-append}
 use Rattle.std.specs.Io.KnownBytes.{Appends}
 use Rattle.std.proofs.lemmas.List.{take_rest}
 use Rattle.std.proofs.KnownBytes.{Appends-trans}

@@ -1,18 +1,15 @@
 -- What was written at a fault.
-use Rattle.std.proofs.Common.{◌≡◌, ℕ, List, Option, Some, Result, Ok, Err, IfErr}
-use Rattle.std.proofs.Common.{OnErr, inl, inr, refl, sym, subst}
+use Rattle.std.proofs.Common.{◌≡◌, ℕ, List, Option, Some, Result, Ok, Err, IfErr, OnErr, inl, inr, refl, sym, subst}
 use Rattle.std.proofs.KnownBytes.{Keeps-refl}
 use Rattle.std.proofs.lemmas.Result.{IfErr-weaker}
 use Rattle.version_lines.specs.Command.{PlainCommand, Sort}
-use Rattle.version_lines.specs.Fault.{ComesOfLines, ComesOfReading, ComesOfRequirements}
-use Rattle.version_lines.specs.Fault.{ComesOfWords, ComesOfWriting}
+use Rattle.version_lines.specs.Fault.{ComesOfLines, ComesOfReading, ComesOfRequirements, ComesOfWords, ComesOfWriting}
 use Rattle.version_lines.specs.Lines.{lines_of}
 use Rattle.version_lines.specs.Output.{AppendsProperBeginning}
 use Rattle.version_lines.specs.Run.{ComesOfCommand, GrowsAt, IsServable}
 use Rattle.version_lines.specs.Sort.{bad_line}
 use Rattle.version_lines.specs.declared.faults.Fault.{Fault}
-use Rattle.version_lines.specs.declared.faults.Fault.TheVariants.{Usage, NotVersion, NotRequirement}
-use Rattle.version_lines.specs.declared.faults.Fault.TheVariants.{BadLine, Memory, Read, Write}
+use Rattle.version_lines.specs.declared.faults.Fault.TheVariants.{Usage, NotVersion, NotRequirement, BadLine, Memory, Read, Write}
 
 -- a fault before anything is written
 pub GrowsAt-unwritten : (a output : Option (List ℕ)) (fault : Fault) → ¬ (fault ≡ Write)

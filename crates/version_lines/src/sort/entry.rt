@@ -4,14 +4,14 @@ ghost use Rattle.std.specs.Option.{option_map};
 ghost use Rattle.std.specs.Ordering.{then_cmp};
 ghost use Rattle.version_lines.specs.Head.{behind_heads_cmp};
 ghost use Rattle.version_lines.specs.LineKey.{line_key};
-ghost use Rattle.versions.specs.Kind.{versioning_kind};
-ghost use Rattle.versions.specs.Versioning.{versioning_of};
+ghost use Rattle.version_rules.specs.Kind.{versioning_kind};
+ghost use Rattle.version_rules.specs.Versioning.{versioning_of};
 
 use crate::line_key::{add_key, compare_ties};
 use crate::sort::head::head;
 use std::alloc::AllocError;
 use std::cmp::Ordering;
-use versions::Kind;
+use version_rules::Kind;
 
 /// A line that is a version, the place of its key in the one list of all keys, and the key's first bytes, by which most
 /// lines differ.

@@ -1,7 +1,6 @@
 -- How two streams are compared: they gave the same bytes so far, and then give one more each.
 pub mod Past
-use Rattle.std.proofs.Common.{◌≡◌, ℕ, List, [], ◌∷◌, ◌++◌, Option, Some, None, refl, sym, ap, ◌∙◌}
-use Rattle.std.proofs.Common.{append-nil, append_assoc}
+use Rattle.std.proofs.Common.{◌≡◌, ℕ, List, [], ◌∷◌, ◌++◌, Option, Some, None, refl, sym, ap, ◌∙◌, append-nil, append_assoc}
 use Rattle.std.proofs.lemmas.Iterator.Consumers.{YieldsList-from_first}
 use Rattle.std.specs.Cmp.{nat_cmp_total, tied_itself}
 use Rattle.std.specs.Cmp.Lexicographic.{nat_list_cmp_total}
@@ -11,12 +10,12 @@ use Rattle.std.specs.Option.{option_cmp}
 use Rattle.std.specs.Ordering.{nat_cmp, ordering_then}
 use Rattle.std.specs.declared.cmp.Ordering.{Ordering}
 use Rattle.std.specs.declared.cmp.Ordering.TheVariants.{Equal}
-use Rattle.version_parts.proofs.lemmas.Codes.{writes_alone}
-use Rattle.version_parts.specs.Codes.{Writes}
+use Rattle.version_rules.proofs.lemmas.Codes.{writes_alone}
+use Rattle.version_rules.specs.Codes.{Writes}
 use Rattle.version_parts.specs.Compare.{ComparesBytes, GoesOn}
-use Rattle.version_parts.specs.Lists.{bytes_cmp}
-use Rattle.version_parts.specs.OrderLaws.{then_equal}
-use Rattle.version_parts.proofs.lemmas.General.Orders.{then_decided}
+use Rattle.version_rules.specs.Lists.{bytes_cmp}
+use Rattle.version_rules.specs.laws.Order.{then_equal}
+use Rattle.version_rules.proofs.lemmas.Orders.{then_decided}
 use Rattle.version_parts.specs.Pieces.{GonePast}
 
 -- ---- the order of two lists that begin alike

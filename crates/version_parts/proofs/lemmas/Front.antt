@@ -1,5 +1,2 @@
--- Fronts: readers of the beginning of a text.
-pub mod Dotted
+-- Dotted lists that are scanned.
 pub mod DottedScan
-pub mod Repeated
-pub mod Runs

@@ -1,3 +1,2 @@
 -- Lemmas that speak of no definition of this crate: orders and runs of bytes.
-pub mod Orders
 pub mod Runs

@@ -1,33 +1,28 @@
 -- How the bytes of a piece begin at each place, and what remains after the first of them.
-use Rattle.std.proofs.Common.{◌≡◌, ◌==◌, ◌+◌, ◌-◌, ◌*◌, ◌/◌, ◌%◌, ◌^◌, ℕ, zero, suc, ◌<◌, ◌≤◌, ◌≢◌}
-use Rattle.std.proofs.Common.{Bool, false, true, List, [], ◌∷◌, ◌++◌, length, drop, take, Some}
-use Rattle.std.proofs.Common.{None, refl, sym, ap, ◌∙◌, inl, inr, arith, append_assoc, append-nil}
-use Rattle.std.proofs.Common.{one-add}
+use Rattle.std.proofs.Common.{◌≡◌, ◌==◌, ◌+◌, ◌-◌, ◌^◌, ℕ, zero, suc, ◌<◌, ◌≤◌, ◌≢◌, Bool, false, true, List, [], ◌∷◌, ◌++◌, length, drop, take, Some, None, refl, sym, ap, ◌∙◌, inl, inr, arith, append_assoc, append-nil, one-add}
 use Rattle.std.proofs.lemmas.Bool.{cases_Bool, eqb-true}
 use Rattle.std.proofs.lemmas.Bool.Decides.{nat_tests}
 use Rattle.std.proofs.lemmas.Fmt.{decimal_is_IsNumeral}
 use Rattle.std.proofs.lemmas.List.Folds.{length-prefix_len}
-use Rattle.std.specs.Char.{digit_char, digit_value, is_ascii_alphabetic, is_ascii_digit}
-use Rattle.version_parts.specs.Bytes.{is_identifier_byte}
+use Rattle.std.specs.Char.{is_ascii_alphabetic, is_ascii_digit}
+use Rattle.version_rules.specs.Bytes.{is_identifier_byte}
 use Rattle.std.specs.Cmp.{first_so, second_so}
 use Rattle.std.specs.Fmt.{decimal}
 use Rattle.std.specs.List.{list_all, position_or_len, prefix_len, slice_get, take_while}
-use Rattle.std.specs.Str.Parse.{digits_value, digits_value_after}
+use Rattle.std.specs.Str.Parse.{digits_value}
 use Rattle.version_parts.specs.declared.key.place.AfterNumber.{AfterNumber}
 use Rattle.version_parts.specs.declared.key.place.AfterNumber.TheVariants.{Suffix, Text, Nothing}
-use Rattle.version_parts.specs.declared.key.place.Place.TheVariants.{Part, Split, Numbered, Number}
-use Rattle.version_parts.specs.declared.key.place.Place.TheVariants.{Length, Digit, Rest}
-use Rattle.version_parts.specs.DigitRun.{number_front, starts_with_digit}
-use Rattle.version_parts.specs.Front.{begins}
-use Rattle.version_parts.specs.NumberBytes.{length_bytes, number_bytes}
+use Rattle.version_parts.specs.declared.key.place.Place.TheVariants.{Part, Split, Numbered, Number, Length, Digit, Rest}
+use Rattle.version_rules.specs.DigitRun.{number_front, starts_with_digit}
+use Rattle.version_rules.specs.Front.{begins}
+use Rattle.version_rules.specs.NumberBytes.{length_bytes, number_bytes}
 use Rattle.version_parts.specs.Pieces.{after_number_bytes, counted_bytes, place_bytes, run_bytes}
-use Rattle.version_parts.specs.Split.{numbered_bytes}
-use Rattle.version_parts.specs.TextBytes.{text_byte, text_bytes}
-use Rattle.version_parts.proofs.lemmas.DigitRun.{decimal-digits}
-use Rattle.version_parts.proofs.lemmas.NumberBytes.{digit_bytes, digit_bytes_step}
-use Rattle.version_parts.proofs.lemmas.NumberBytes.{length_bytes-long, length_bytes-short}
-use Rattle.version_parts.proofs.lemmas.NumberBytes.{number_bytes-digits}
-use Rattle.version_parts.proofs.lemmas.Front.Runs.{begins-drop, list_all-take_while}
+use Rattle.version_rules.specs.Split.{numbered_bytes}
+use Rattle.version_rules.specs.TextBytes.{text_byte, text_bytes}
+use Rattle.version_rules.proofs.lemmas.DigitRun.{decimal-digits}
+use Rattle.version_rules.proofs.lemmas.NumberBytes.{length_bytes-long, length_bytes-short, number_bytes-digits, is_zero, digits_of_run}
+use Rattle.version_rules.proofs.lemmas.Front.Runs.{begins-drop, list_all-take_while, take_while-all}
+use Rattle.version_rules.proofs.lemmas.Bytes.{letter_other}
 
 -- ---- parts and splits
 
@@ -120,11 +115,6 @@ length_long left behind text long =
     ap (λ n. length_bytes n ++ run_bytes behind text) parts
     ∙ ap (λ (l : List ℕ). l ++ run_bytes behind text) (length_bytes-long (left - 255))
 
--- ---- numbers
-
-abbrev pub is_zero : ℕ → Bool
-is_zero b = b == 48
-
 counted_zero : (behind : AfterNumber) (text : List ℕ)
     → counted_bytes behind (48 ∷ text) ≡ counted_bytes behind text
 counted_zero behind text = rw one-add refl
@@ -142,54 +132,6 @@ zeros_skipped behind (b ∷ text) = elim (cases_Bool (b == 48)) [
       ∙ ap (counted_bytes behind) (sym left))
   | inr other ↦ rw other refl
 ]
-
-digit_of : (c : ℕ) → is_ascii_digit c ≡ true
-    → (digit_value c < 10) × (digit_char (digit_value c) ≡ c)
-digit_of c digit = (grind (arith, nat_tests), grind (arith, nat_tests))
-
-some_digit : (c : ℕ) → is_ascii_digit c ≡ true → is_zero c ≡ false → 0 < digit_value c
-some_digit c digit other = grind (arith, nat_tests)
-
-one_digit : (n : ℕ) → 0 < n → n < 10 → digit_bytes n ≡ digit_char n ∷ []
-one_digit n some small =
-    let tenth : n / 10 ≡ 0 = omega arith in
-    let last : n % 10 ≡ n = omega arith in
-    sym (append-nil (digit_bytes n)) ∙ rw (tenth, last) at (digit_bytes_step n [] some)
-
--- digits after a number that is not 0 are the last of its digits
-digits_behind : (n : ℕ) (digits : List ℕ) → 0 < n → list_all is_ascii_digit digits ≡ true
-    → digit_bytes (digits_value_after 10 n digits) ≡ digit_bytes n ++ digits
-digits_behind n [] some all = sym (append-nil (digit_bytes n))
-digits_behind n (c ∷ digits) some all =
-    let d = digit_of c (first_so _ _ all) in
-    let m = n * 10 + digit_value c in
-    let tenth : m / 10 ≡ n = omega arith in
-    let last : m % 10 ≡ digit_value c = omega arith in
-    let step : digit_bytes m ++ digits ≡ digit_bytes n ++ (c ∷ digits) =
-    rw (tenth, last, d.1) at (digit_bytes_step m digits (omega arith)) in
-    digits_behind m digits (omega arith) (second_so _ _ all) ∙ step
-
--- a run that does not begin with 0 is the digits of its number
-pub digits_of_run : (digits : List ℕ) → list_all is_ascii_digit digits ≡ true
-    → begins is_zero digits ≡ false → digit_bytes (digits_value 10 digits) ≡ digits
-digits_of_run [] all canonical = refl
-digits_of_run (c ∷ digits) all canonical =
-    let digit : is_ascii_digit c ≡ true = first_so _ _ all in
-    let d = digit_of c digit in
-    let n = 0 * 10 + digit_value c in
-    let same : n ≡ digit_value c = omega arith in
-    let some : 0 < n = omega (arith, some_digit c digit canonical) in
-    let first : digit_bytes n ≡ c ∷ [] =
-    one_digit n some (omega (arith, d.0)) ∙ ap (λ k. digit_char k ∷ []) same
-    ∙ ap (λ (b : ℕ). b ∷ []) d.1 in
-    digits_behind n digits some (second_so _ _ all) ∙ ap (λ (l : List ℕ). l ++ digits) first
-
-pub take_while-all : (test : ℕ → Bool) (run : List ℕ) → list_all test run ≡ true
-    → take_while test run ≡ run
-take_while-all test [] all = refl
-take_while-all test (b ∷ run) all =
-    let first : test b ≡ true = first_so _ _ all in
-    rw (first, one-add) (ap (λ (l : List ℕ). b ∷ l) (take_while-all test run (second_so _ _ all)))
 
 begins_within : (test inner : ℕ → Bool) (text : List ℕ) → begins test text ≡ false
     → begins test (take_while inner text) ≡ false
@@ -250,9 +192,6 @@ as_it_is (suc (suc n)) above = refl
 
 letter_above : (b : ℕ) → is_ascii_alphabetic b ≡ true → 1 < b
 letter_above b letter = grind (arith, nat_tests)
-
-pub letter_other : (b : ℕ) → is_ascii_alphabetic b ≡ true → is_ascii_digit b ≡ false
-letter_other b letter = grind (arith, nat_tests)
 
 identifier_above : (b : ℕ) → is_identifier_byte b ≡ true → 1 < b
 identifier_above b identifier = grind (arith, nat_tests)

@@ -2,13 +2,14 @@
 
 ghost use Rattle.std.specs.Prelude.{◌≡◌, ◌∷◌, ◌++◌, [], Some, None, OnErr, OnOk};
 ghost use Rattle.std.specs.Iterator.{item_count, YieldsFirst};
-ghost use Rattle.version_parts.specs.Chunk.{chunk_text, plain_chunk_ref};
-ghost use Rattle.version_parts.specs.DigitRun.{run_value};
-ghost use Rattle.version_parts.specs.Lists.{Growing, GrowsWithin};
-ghost use Rattle.version_parts.specs.NumberBytes.{number_bytes};
-ghost use Rattle.version_parts.specs.PartKey.{part_bytes, part_key, Number};
+ghost use Rattle.version_rules.specs.Chunk.{chunk_text};
+ghost use Rattle.version_parts.specs.Chunk.{plain_chunk_ref};
+ghost use Rattle.version_rules.specs.DigitRun.{run_value};
+ghost use Rattle.version_rules.specs.Lists.{Growing, GrowsWithin};
+ghost use Rattle.version_rules.specs.NumberBytes.{number_bytes};
+ghost use Rattle.version_rules.specs.PartKey.{part_bytes, part_key, Number};
 ghost use Rattle.version_parts.specs.Pieces.{GonePast, after_number_bytes, place_bytes};
-ghost use Rattle.version_parts.specs.ReleaseOrder.{chunk_bytes};
+ghost use Rattle.version_rules.specs.ReleaseOrder.{chunk_bytes};
 
 use crate::chunk::ChunkRef;
 use crate::key::PartText;
@@ -183,7 +184,7 @@ impl<'a> PieceBytes<'a> {
     }
 
     // Sets the piece to the bytes of a chunk as a part.
-    #[tactic(auto, using(crate::proofs::lemmas::PartKey::Lists::plain_number))]
+    #[tactic(auto, using(version_rules::proofs::lemmas::PartKey::plain_number))]
     #[inline(always)]
     pub(crate) fn set_chunk_as_part(&mut self, chunk: ChunkRef<'a>)
         ensures { self.new ≡ part_bytes

@@ -1,7 +1,5 @@
 -- The bounds of a range in two buffers, as they are narrowed member by member.
-use Rattle.std.proofs.Common.{◌≡◌, ◌∙◌, ◌+◌, ◌≤◌, ◌<◌, ◌^◌, ◌++◌, if◌then◌else◌, ℕ}
-use Rattle.std.proofs.Common.{true, List, [], ◌∷◌, Option, Some, None, IfSome, length, min}
-use Rattle.std.proofs.Common.{max, take, drop, fold, refl, sym, ap, arith}
+use Rattle.std.proofs.Common.{◌≡◌, ◌∙◌, ◌+◌, ◌≤◌, ◌<◌, ◌^◌, ◌++◌, if◌then◌else◌, ℕ, true, List, [], ◌∷◌, Option, Some, None, IfSome, length, min, max, take, drop, fold, refl, sym, ap, arith}
 use Rattle.std.proofs.Math.Seq.{take-append_seam}
 use Rattle.std.proofs.lemmas.Bool.Decides.{nat_tests}
 use Rattle.std.proofs.lemmas.Grind.{common_steps}
@@ -10,18 +8,16 @@ use Rattle.std.specs.Option.{option_map, option_map_or}
 use Rattle.std.specs.Ordering.{is_lt, nat_cmp, ord_max, ordering_reverse}
 use Rattle.std.specs.declared.cmp.Ordering.{Ordering}
 use Rattle.std.specs.declared.cmp.Ordering.TheVariants.{Less, Equal, Greater}
-use Rattle.version_parts.specs.Lists.{bytes_cmp}
+use Rattle.version_rules.specs.Lists.{bytes_cmp}
 use Rattle.version_texts.proofs.lemmas.Sinks.{length-put, put_fits}
-use Rattle.version_texts.specs.Bounds.{HasRoom, HaveRoom, IsParsed, high_length, high_room}
-use Rattle.version_texts.specs.Bounds.{low_room, rooms_of}
+use Rattle.version_texts.specs.Bounds.{HasRoom, HaveRoom, IsParsed, high_length, high_room, low_room, rooms_of}
 use Rattle.version_texts.specs.Sinks.{put_at, saturated}
-use Rattle.versions.proofs.lemmas.Requirement.{requirement_of-spells}
-use Rattle.versions.specs.Range.{PlainRange, common, earlier_high, later}
-use Rattle.versions.specs.Range.{requirement_range}
-use Rattle.versions.specs.Requirement.{PlainRequirement, SpellsOperand, requirement_of}
-use Rattle.versions.specs.RequirementsRef.{before_others}
-use Rattle.versions.specs.Versioning.{PlainVersioning}
-use Rattle.versions.specs.declared.op.Op.TheVariants.{Wildcard}
+use Rattle.version_rules.proofs.lemmas.Requirement.{requirement_of-spells}
+use Rattle.version_rules.specs.Range.{PlainRange, common, earlier_high, later, requirement_range}
+use Rattle.version_rules.specs.Requirement.{PlainRequirement, SpellsOperand, requirement_of}
+use Rattle.version_rules.specs.RequirementsRef.{before_others}
+use Rattle.version_rules.specs.Versioning.{PlainVersioning}
+use Rattle.version_rules.specs.declared.op.Op.TheVariants.{Wildcard}
 
 -- ---- one bound
 

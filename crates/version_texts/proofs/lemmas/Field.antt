@@ -1,7 +1,5 @@
 -- Where the fields of a version lie in its text, by its shape.
-use Rattle.std.proofs.Common.{◌≡◌, ◌==◌, ◌+◌, ◌-◌, ◌≤◌, ◌∙◌, if◌then◌else◌, ℕ, Bool, true}
-use Rattle.std.proofs.Common.{false, List, [], ◌∷◌, ◌++◌, drop, length, take, Option, Some, None}
-use Rattle.std.proofs.Common.{refl, sym, ap, subst, arith, append-nil, length-append}
+use Rattle.std.proofs.Common.{◌≡◌, ◌==◌, ◌+◌, ◌-◌, ◌≤◌, ◌∙◌, if◌then◌else◌, ℕ, Bool, true, false, List, [], ◌∷◌, ◌++◌, drop, length, take, Option, Some, None, refl, sym, ap, subst, arith, append-nil, length-append}
 use Rattle.std.proofs.lemmas.Bool.{ne_eqb}
 use Rattle.std.proofs.lemmas.Bool.Decides.{nat_tests}
 use Rattle.std.proofs.lemmas.List.{length-drop, length-take-le}
@@ -10,41 +8,37 @@ use Rattle.std.specs.List.{list_all, prefix_len}
 use Rattle.std.specs.Option.{option_map}
 use Rattle.std.specs.Prelude.{nat_lt}
 use Rattle.std.specs.Str.Parse.{digits_value}
-use Rattle.version_parts.specs.Bytes.{colon, hyphen, plus}
-use Rattle.version_parts.specs.Chunk.{PlainChunk}
-use Rattle.version_parts.specs.Front.{begins}
-use Rattle.version_parts.specs.Grammar.{SpellsOptional}
-use Rattle.version_parts.specs.Metadata.{SpellsMetadata}
-use Rattle.version_parts.specs.Release.{SpellsRelease, release_text}
-use Rattle.version_parts.proofs.lemmas.Chunk.{release_printed}
-use Rattle.version_parts.proofs.lemmas.Numeral.{numeral_printed}
-use Rattle.version_parts.proofs.lemmas.Front.Runs.{prefix_len-append}
-use Rattle.versions.specs.declared.kind.Kind.TheVariants as kind
-use Rattle.versions.specs.Conversions.{version_of_semver}
-use Rattle.versions.specs.Key.{versioning_epoch}
-use Rattle.versions.specs.Kind.{versioning_kind}
-use Rattle.versions.specs.Mess.{PlainMess, SpellsMess}
-use Rattle.versions.specs.SemVer.{PlainSemVer, SpellsSemVer}
-use Rattle.versions.specs.Version.{PlainVersion, SpellsEpoch, SpellsVersion, version_text}
-use Rattle.versions.specs.Versioning.{PlainVersioning, Ideal, General, Complex, SpellsVersioning}
-use Rattle.versions.proofs.lemmas.Conversions.Mess.{version_of_semver_printed}
-use Rattle.versions.proofs.lemmas.Version.{version_printed}
-use Rattle.versions.proofs.lemmas.Conversions.Widening.{strict_is_general}
-use Rattle.version_texts.specs.declared.field.Field.TheVariants as field
+use Rattle.version_rules.specs.Bytes.{colon, hyphen, plus}
+use Rattle.version_rules.specs.Chunk.{PlainChunk}
+use Rattle.version_rules.specs.Front.{begins}
+use Rattle.version_rules.specs.Grammar.{SpellsOptional}
+use Rattle.version_rules.specs.Metadata.{SpellsMetadata}
+use Rattle.version_rules.specs.Release.{SpellsRelease, release_text}
+use Rattle.version_rules.proofs.lemmas.Chunk.{release_printed}
+use Rattle.version_rules.proofs.lemmas.Numeral.{numeral_printed}
+use Rattle.version_rules.proofs.lemmas.Front.Runs.{prefix_len-append}
+use Rattle.version_rules.specs.Conversions.{version_of_semver}
+use Rattle.version_rules.specs.Key.{versioning_epoch}
+use Rattle.version_rules.specs.Kind.{versioning_kind}
+use Rattle.version_rules.specs.Mess.{PlainMess, SpellsMess}
+use Rattle.version_rules.specs.SemVer.{PlainSemVer, SpellsSemVer}
+use Rattle.version_rules.specs.Version.{PlainVersion, SpellsEpoch, SpellsVersion, version_text}
+use Rattle.version_rules.specs.Versioning.{PlainVersioning, Ideal, General, Complex, SpellsVersioning}
+use Rattle.version_rules.proofs.lemmas.Conversions.{version_of_semver_printed, strict_is_general}
+use Rattle.version_rules.proofs.lemmas.Version.{version_printed}
 use Rattle.version_texts.specs.declared.shape.Shape.{Shape}
 use Rattle.version_texts.specs.declared.shape.TailKind.{TailKind}
-use Rattle.version_texts.specs.declared.shape.TailKind.TheVariants as tail
-use Rattle.version_texts.specs.Field.{bare_semver, bare_version, body_alone, field_place}
-use Rattle.version_texts.specs.Field.{numbers_alone, place_behind}
+use Rattle.version_texts.specs.Field.{bare_semver, bare_version, body_alone, field_place, numbers_alone, place_behind}
 use Rattle.version_texts.specs.Shape.{behind_body, body_end, body_start, shape_at, shape_of}
 use Rattle.version_texts.specs.TextKind.{is_not_plus}
 use Rattle.version_texts.specs.VersioningRef.{version_in}
 use Rattle.version_texts.proofs.lemmas.VersioningRef.{is_prerelease_tail, spelled, spells-is}
 use Rattle.version_texts.proofs.lemmas.Shape.Complex.{mess_cut}
 use Rattle.version_texts.proofs.lemmas.Shape.Positions.{IsCut, behind_body-is, body_end-is}
-use Rattle.version_texts.proofs.lemmas.Shape.{IsCounted, IsDashed, dashed_end, dashed_within}
-use Rattle.version_texts.proofs.lemmas.Shape.{epoch_taken, is_hyphen, length_cut, no_meta}
-use Rattle.version_texts.proofs.lemmas.Shape.{release_not_plus, version_cut, version_dashed}
+use Rattle.version_texts.proofs.lemmas.Shape.{IsCounted, IsDashed, dashed_end, dashed_within, epoch_taken, is_hyphen, length_cut, no_meta, release_not_plus, version_cut, version_dashed}
+use Rattle.version_rules.specs.declared.kind.Kind.TheVariants as kind
+use Rattle.version_texts.specs.declared.field.Field.TheVariants as field
+use Rattle.version_texts.specs.declared.shape.TailKind.TheVariants as tail
 
 -- whether a tail is a release
 abbrev pub is_release_tail : TailKind → Bool

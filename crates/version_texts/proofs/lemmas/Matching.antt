@@ -1,22 +1,22 @@
 -- What `~` and `^` ask of two versions, by their texts and shapes.
 use Rattle.std.proofs.Common.{◌≡◌, ◌↔◌, ◌∙◌, ℕ, Bool, List, Some, IsTrue, ap, refl, subst, sym}
-use Rattle.version_parts.specs.PartKey.{PartKey}
-use Rattle.versions.specs.declared.kind.Kind.{Kind}
-use Rattle.versions.specs.declared.kind.Kind.TheVariants as kind
-use Rattle.versions.specs.Key.{Key, key_of, strict_body}
-use Rattle.versions.specs.Kind.{versioning_kind}
-use Rattle.versions.specs.Matching.{MatchesCaret, MatchesTilde}
-use Rattle.versions.specs.SemVerMatch as strict
-use Rattle.versions.specs.SemVerMatch.{Numbers, numbers}
-use Rattle.versions.specs.VersionMatch as general
-use Rattle.versions.specs.VersionMatch.{PartsMatchTilde}
-use Rattle.versions.specs.Versioning.{PlainVersioning, Ideal, General, Complex, versioning_of}
+use Rattle.version_rules.specs.PartKey.{PartKey}
+use Rattle.version_rules.specs.declared.kind.Kind.{Kind}
+use Rattle.version_rules.specs.Key.{Key, key_of, strict_body}
+use Rattle.version_rules.specs.Kind.{versioning_kind}
+use Rattle.version_rules.specs.Matching.{MatchesCaret, MatchesTilde}
+use Rattle.version_rules.specs.SemVerMatch.{Numbers, numbers}
+use Rattle.version_rules.specs.VersionMatch.{PartsMatchTilde}
+use Rattle.version_rules.specs.Versioning.{PlainVersioning, Ideal, General, Complex, versioning_of}
 use Rattle.version_texts.proofs.lemmas.Parts.Strict.{tilde_of_numbers}
 use Rattle.version_texts.proofs.lemmas.TextKey.{versioning_key}
 use Rattle.version_texts.specs.declared.shape.Shape.{Shape}
 use Rattle.version_texts.specs.Matching.{epoch_and_parts_of}
 use Rattle.version_texts.specs.Shape.{body_in, shape_at, shape_of}
 use Rattle.version_texts.specs.TextKey.{parts_of, text_key}
+use Rattle.version_rules.specs.declared.kind.Kind.TheVariants as kind
+use Rattle.version_rules.specs.SemVerMatch as strict
+use Rattle.version_rules.specs.VersionMatch as general
 
 -- ---- the shape of a version
 

@@ -2,18 +2,15 @@
 pub mod Body
 pub mod Places
 pub mod Section
-use Rattle.std.proofs.Common.{◌≡◌, ◌==◌, ◌∙◌, if◌then◌else◌, ℕ, zero, suc, false, List, drop, Some}
-use Rattle.std.proofs.Common.{arith, refl, sym, ap}
+use Rattle.std.proofs.Common.{◌≡◌, ◌==◌, ◌∙◌, ℕ, zero, suc, false, List, drop, Some, arith, refl, sym, ap}
 use Rattle.std.proofs.lemmas.Bool.{ne_eqb}
-use Rattle.versions.specs.declared.kind.Kind.{Kind}
-use Rattle.versions.specs.declared.kind.Kind.TheVariants as kind
-use Rattle.versions.specs.Conversions.{version_of_semver}
-use Rattle.versions.specs.Kind.{versioning_kind}
-use Rattle.versions.specs.SemVer.{PlainSemVer, SpellsSemVer}
-use Rattle.versions.specs.Version.{PlainVersion, SpellsVersion, version_nth}
-use Rattle.versions.specs.Versioning.{PlainVersioning, Ideal, General, Complex, SpellsVersioning}
-use Rattle.versions.specs.Versioning.{semver_nth, versioning_nth}
-use Rattle.versions.proofs.lemmas.Conversions.Widening.{strict_is_general}
+use Rattle.version_rules.specs.declared.kind.Kind.{Kind}
+use Rattle.version_rules.specs.Conversions.{version_of_semver}
+use Rattle.version_rules.specs.Kind.{versioning_kind}
+use Rattle.version_rules.specs.SemVer.{PlainSemVer, SpellsSemVer}
+use Rattle.version_rules.specs.Version.{PlainVersion, SpellsVersion, version_nth}
+use Rattle.version_rules.specs.Versioning.{PlainVersioning, Ideal, General, Complex, SpellsVersioning, semver_nth, versioning_nth}
+use Rattle.version_rules.proofs.lemmas.Conversions.{strict_is_general}
 use Rattle.version_texts.specs.declared.shape.Shape.{Shape}
 use Rattle.version_texts.specs.Numbers.{body_number, chunk_number, section_in}
 use Rattle.version_texts.specs.Shape.{body_in, shape_at, shape_of}
@@ -23,6 +20,7 @@ use Rattle.version_texts.proofs.lemmas.Numbers.Body.{number_of_body}
 use Rattle.version_texts.proofs.lemmas.Numbers.Section.{number_of_mess}
 use Rattle.version_texts.proofs.lemmas.Shape.{body_taken, version_cut}
 use Rattle.version_texts.proofs.lemmas.VersioningRef.{kind-is, spelled, spells-is}
+use Rattle.version_rules.specs.declared.kind.Kind.TheVariants as kind
 
 -- of a general version, and of one that may be strict
 general_number : (text : List ℕ) (v : PlainVersion) → SpellsVersion text v → (k : Kind) (n : ℕ)

@@ -1,18 +1,14 @@
 -- Whether lists of parts match, by their first parts and what follows these.
 pub mod Strict
-use Rattle.std.proofs.Common.{◌≡◌, ◌↔◌, ◌∙◌, ℕ, true, false, List, [], ◌∷◌, map, Option, Some, None}
-use Rattle.std.proofs.Common.{IfSome, IfNone, IsTrue, ap, inl, inr, refl, subst, sym}
+use Rattle.std.proofs.Common.{◌≡◌, ◌↔◌, ◌∙◌, ℕ, true, false, List, [], ◌∷◌, map, Option, Some, None, IfSome, IfNone, IsTrue, ap, inl, inr, refl, subst, sym}
 use Rattle.std.proofs.lemmas.Bool.{cases_Bool}
 use Rattle.std.specs.Borrow.{Bor}
 use Rattle.std.specs.Ordering.{is_ge, is_lt, is_ne}
 use Rattle.std.specs.declared.cmp.Ordering.{Ordering}
 use Rattle.std.specs.declared.cmp.Ordering.TheVariants.{Less, Equal, Greater}
-use Rattle.version_parts.specs.PartKey.{PartKey, part_cmp, part_key}
-use Rattle.versions.proofs.lemmas.VersionMatch.{at_the_end, first_other, first_same, parts_differ}
-use Rattle.versions.proofs.lemmas.VersionMatch.{parts_same, same_so_far, wanted_is_longer}
-use Rattle.versions.proofs.lemmas.VersionMatch.{wanted_is_shorter}
-use Rattle.versions.specs.VersionMatch.{PartsMatchCaret, PartsMatchTilde, PartsNotBelow}
-use Rattle.versions.specs.VersionMatch.{is_plain_zero}
+use Rattle.version_rules.specs.PartKey.{PartKey, part_cmp, part_key}
+use Rattle.version_rules.proofs.lemmas.VersionMatch.{at_the_end, first_other, first_same, parts_differ, parts_same, same_so_far, wanted_is_longer, wanted_is_shorter}
+use Rattle.version_rules.specs.VersionMatch.{PartsMatchCaret, PartsMatchTilde, PartsNotBelow, is_plain_zero}
 use Rattle.version_texts.proofs.lemmas.Piece.{pieces_are}
 use Rattle.version_texts.specs.Parts.{parts_behind}
 use Rattle.version_texts.specs.Piece.{behind_piece, first_piece, further_pieces, is_dot}

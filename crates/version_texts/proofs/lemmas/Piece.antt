@@ -2,24 +2,22 @@
 pub mod Kept
 pub mod Order
 pub mod Spelled
-use Rattle.std.proofs.Common.{◌≡◌, ◌==◌, ◌∙◌, ℕ, Bool, true, false, List, [], ◌∷◌, length, not}
-use Rattle.std.proofs.Common.{refl, sym, ap, inl, inr, one-add}
+use Rattle.std.proofs.Common.{◌≡◌, ◌==◌, ◌∙◌, ℕ, Bool, true, false, List, [], ◌∷◌, length, not, refl, sym, ap, inl, inr, one-add}
 use Rattle.std.proofs.Math.Dec.{eqb-suc-zero}
 use Rattle.std.proofs.lemmas.Bool.{cases_Bool, eqb-true}
 use Rattle.std.specs.Char.{is_ascii_digit}
 use Rattle.std.specs.List.{before_first, list_all, slice_split, take_while}
 use Rattle.std.specs.Str.Parse.{digits_value}
-use Rattle.version_parts.proofs.lemmas.Pieces.{take_while-all}
-use Rattle.version_parts.specs.Bytes.{dot}
-use Rattle.version_parts.specs.Chunk.{Alphanum, Numeric}
-use Rattle.version_parts.specs.DigitRun.{run_value, starts_with_digit}
-use Rattle.version_parts.specs.Split.{split_of}
-use Rattle.version_parts.specs.PartKey.{Word, Number, part_key, suffix_of}
+use Rattle.version_rules.proofs.lemmas.Front.Runs.{take_while-all}
+use Rattle.version_rules.specs.Bytes.{dot}
+use Rattle.version_rules.specs.Chunk.{Alphanum, Numeric}
+use Rattle.version_rules.specs.DigitRun.{run_value, starts_with_digit}
+use Rattle.version_rules.specs.Split.{split_of}
+use Rattle.version_rules.specs.PartKey.{Word, Number, part_key, suffix_of}
 use Rattle.version_texts.proofs.lemmas.TextKey.DotPieces.{is_run}
 use Rattle.version_texts.proofs.lemmas.Piece.Spelled.{digit_no_dot}
 use Rattle.version_texts.proofs.lemmas.General.Runs.{run_cons}
-use Rattle.version_texts.specs.Piece.{behind_digits, behind_piece, first_piece, from_first}
-use Rattle.version_texts.specs.Piece.{further_pieces, is_dot}
+use Rattle.version_texts.specs.Piece.{behind_digits, behind_piece, first_piece, from_first, further_pieces, is_dot}
 use Rattle.version_texts.specs.TextKey.{chunk_of}
 
 -- a first byte that divides pieces stands behind an empty piece; another belongs to the first piece

@@ -4,10 +4,7 @@ pub mod Messy
 pub mod Positions
 pub mod Scanned
 pub mod Section
-use Rattle.std.proofs.Common.{◌≡◌, ◌==◌, ◌&&◌, ◌+◌, ◌-◌, ◌<◌, ◌≤◌, ◌∙◌, if◌then◌else◌, ℕ, Bool}
-use Rattle.std.proofs.Common.{true, false, List, [], ◌∷◌, ◌++◌, drop, length, take, Option, Some}
-use Rattle.std.proofs.Common.{None, refl, sym, ap, subst, arith, append-nil, append_assoc}
-use Rattle.std.proofs.Common.{length-append}
+use Rattle.std.proofs.Common.{◌≡◌, ◌==◌, ◌&&◌, ◌+◌, ◌-◌, ◌<◌, ◌≤◌, ◌∙◌, if◌then◌else◌, ℕ, Bool, true, false, List, [], ◌∷◌, ◌++◌, drop, length, take, Option, Some, None, refl, sym, ap, subst, arith, append-nil, append_assoc, length-append}
 use Rattle.std.proofs.lemmas.Bool.Decides.{nat_tests}
 use Rattle.std.proofs.lemmas.List.{drop-drop, take_at}
 use Rattle.std.proofs.lemmas.List.Sums.{prefix_len-le-length}
@@ -16,34 +13,30 @@ use Rattle.std.specs.List.{list_all, prefix_len}
 use Rattle.std.specs.Option.{unwrap_or}
 use Rattle.std.specs.Prelude.{slice_range}
 use Rattle.std.specs.Str.Parse.{digits_value}
-use Rattle.version_parts.specs.Bytes.{colon, hyphen, is_metadata_byte, plus}
-use Rattle.version_parts.specs.Chunk.{PlainChunk}
-use Rattle.version_parts.specs.DigitRun.{is_digits}
-use Rattle.version_parts.specs.Front.{begins}
-use Rattle.version_parts.specs.Grammar.{SpellsOptional}
-use Rattle.version_parts.specs.Metadata.{SpellsMetadata}
-use Rattle.version_parts.specs.Reading.{EndsRun}
-use Rattle.version_parts.specs.Release.{SpellsRelease}
-use Rattle.version_parts.proofs.lemmas.Front.Runs.{prefix_len-append}
-use Rattle.version_parts.proofs.lemmas.Grammar.{all_weaker}
-use Rattle.versions.specs.declared.kind.Kind.{Kind}
-use Rattle.versions.specs.declared.kind.Kind.TheVariants as kind
-use Rattle.versions.specs.Conversions.{version_of_semver}
-use Rattle.versions.specs.SemVer.{PlainSemVer, SpellsSemVer}
-use Rattle.versions.specs.Version.{PlainVersion, SpellsEpoch, SpellsVersion}
-use Rattle.versions.proofs.lemmas.SemVer.{optional_begins}
-use Rattle.versions.proofs.lemmas.Conversions.Widening.{strict_is_general}
+use Rattle.version_rules.specs.Bytes.{colon, hyphen, is_metadata_byte, plus}
+use Rattle.version_rules.specs.Chunk.{PlainChunk}
+use Rattle.version_rules.specs.DigitRun.{is_digits}
+use Rattle.version_rules.specs.Front.{begins}
+use Rattle.version_rules.specs.Grammar.{SpellsOptional}
+use Rattle.version_rules.specs.Metadata.{SpellsMetadata}
+use Rattle.version_rules.specs.Reading.{EndsRun}
+use Rattle.version_rules.specs.Release.{SpellsRelease}
+use Rattle.version_rules.proofs.lemmas.Front.Runs.{prefix_len-append, all_weaker}
+use Rattle.version_rules.specs.declared.kind.Kind.{Kind}
+use Rattle.version_rules.specs.Conversions.{version_of_semver}
+use Rattle.version_rules.specs.SemVer.{PlainSemVer, SpellsSemVer}
+use Rattle.version_rules.specs.Version.{PlainVersion, SpellsEpoch, SpellsVersion}
+use Rattle.version_rules.proofs.lemmas.SemVer.{optional_begins}
+use Rattle.version_rules.proofs.lemmas.Conversions.{strict_is_general}
 use Rattle.version_texts.specs.declared.shape.Shape.{Shape}
 use Rattle.version_texts.specs.declared.shape.TailKind.{TailKind}
 use Rattle.version_texts.specs.declared.shape.TailKind.TheVariants.{Nothing, PreRelease, Release}
-use Rattle.version_texts.specs.Shape.{Fits, TailFits, behind_body, body_end, body_start}
-use Rattle.version_texts.specs.Shape.{is_section_byte, is_tail_byte, shape_at, tail_in}
+use Rattle.version_texts.specs.Shape.{Fits, TailFits, behind_body, body_end, body_start, is_section_byte, is_tail_byte, shape_at, tail_in}
 use Rattle.version_texts.specs.TextKind.{is_not_plus}
 use Rattle.version_texts.proofs.lemmas.TextKind.Chunks.{digits_from}
 use Rattle.version_texts.proofs.lemmas.Piece.Spelled.{body_bytes, release_bytes}
-use Rattle.version_texts.proofs.lemmas.Shape.Positions.{IsCut, and_false, behind_body-is}
-use Rattle.version_texts.proofs.lemmas.Shape.Positions.{body_end-is, cut_behind_epoch}
-use Rattle.version_texts.proofs.lemmas.Shape.Positions.{cut_without_epoch, from_body-is, is_colon}
+use Rattle.version_texts.proofs.lemmas.Shape.Positions.{IsCut, and_false, behind_body-is, body_end-is, cut_behind_epoch, cut_without_epoch, from_body-is, is_colon}
+use Rattle.version_rules.specs.declared.kind.Kind.TheVariants as kind
 
 -- whether a byte is a hyphen
 abbrev pub is_hyphen : ℕ → Bool

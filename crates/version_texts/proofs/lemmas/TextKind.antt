@@ -8,20 +8,19 @@ pub mod Release
 pub mod Runs
 pub mod StrictText
 pub mod Tail
-use Rattle.std.proofs.Common.{if◌then◌else◌, ◌≡◌, ◌&&◌, ℕ, Bool, true, false, List, Option, Some}
-use Rattle.std.proofs.Common.{None, refl}
+use Rattle.std.proofs.Common.{if◌then◌else◌, ◌≡◌, ◌&&◌, ℕ, Bool, true, false, List, Option, Some, None, refl}
 use Rattle.std.specs.Option.{is_some, option_map, option_or}
-use Rattle.versions.specs.declared.kind.Kind.TheVariants as kind
-use Rattle.versions.specs.Kind.{versioning_kind}
-use Rattle.versions.specs.Mess.{PlainMess, mess_of}
-use Rattle.versions.specs.SemVer.{PlainSemVer, semver_of}
-use Rattle.versions.specs.Version.{PlainVersion, version_of}
-use Rattle.versions.specs.Versioning.{PlainVersioning, Ideal, General, Complex, versioning_of}
+use Rattle.version_rules.specs.Kind.{versioning_kind}
+use Rattle.version_rules.specs.Mess.{PlainMess, mess_of}
+use Rattle.version_rules.specs.SemVer.{PlainSemVer, semver_of}
+use Rattle.version_rules.specs.Version.{PlainVersion, version_of}
+use Rattle.version_rules.specs.Versioning.{PlainVersioning, Ideal, General, Complex, versioning_of}
 use Rattle.version_texts.specs.Shape.{shape_at, shape_of}
 use Rattle.version_texts.specs.TextKind.{has_three_numbers, is_general, is_messy, kind_in}
 use Rattle.version_texts.proofs.lemmas.TextKind.GeneralText.{general_kind}
 use Rattle.version_texts.proofs.lemmas.TextKind.MessyText.{mess_kind}
 use Rattle.version_texts.proofs.lemmas.TextKind.StrictText.{strict_kind}
+use Rattle.version_rules.specs.declared.kind.Kind.TheVariants as kind
 
 mapped : (text : List ℕ) (o : Option PlainVersioning)
     → option_map (λ k. shape_at k text) (option_map versioning_kind o)

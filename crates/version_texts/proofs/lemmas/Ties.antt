@@ -7,12 +7,10 @@ pub mod Variants
 pub mod Walks
 use Rattle.std.proofs.Common.{◌≡◌, ◌∙◌, ℕ, List, Some, sym}
 use Rattle.std.specs.declared.cmp.Ordering.TheVariants.{Equal}
-use Rattle.versions.specs.declared.kind.Kind.TheVariants as kind
-use Rattle.versions.specs.Key.{key_of, precedence}
-use Rattle.versions.specs.Kind.{versioning_kind}
-use Rattle.versions.specs.Versioning.{PlainVersioning, Ideal, General, Complex, SpellsVersioning}
-use Rattle.versions.specs.Versioning.{versioning_plain_cmp}
-use Rattle.versions.proofs.lemmas.KeyLaws.{keys_same}
+use Rattle.version_rules.specs.Key.{key_of, precedence}
+use Rattle.version_rules.specs.Kind.{versioning_kind}
+use Rattle.version_rules.specs.Versioning.{PlainVersioning, Ideal, General, Complex, SpellsVersioning, versioning_plain_cmp}
+use Rattle.version_rules.proofs.lemmas.KeyLaws.{keys_same}
 use Rattle.version_texts.specs.declared.shape.Shape.{Shape}
 use Rattle.version_texts.specs.Shape.{shape_at, shape_of}
 use Rattle.version_texts.specs.Ties.{general_tie, messy_tie}
@@ -20,6 +18,7 @@ use Rattle.version_texts.specs.VersioningRef.{version_in}
 use Rattle.version_texts.proofs.lemmas.Ties.Fields.{general_decides}
 use Rattle.version_texts.proofs.lemmas.Ties.Messy.{messy_decides}
 use Rattle.version_texts.proofs.lemmas.VersioningRef.{kind-is, spelled, spells-is}
+use Rattle.version_rules.specs.declared.kind.Kind.TheVariants as kind
 
 general_order : (text other : List ℕ) (a b : PlainVersioning) → SpellsVersioning text a
     → SpellsVersioning other b → kind.General ≡ versioning_kind a → kind.General ≡ versioning_kind b

@@ -1,36 +1,31 @@
 -- What the text and the shape of a borrowed version say of the version that it is.
 pub mod PlainOrder
 pub mod SameText
-use Rattle.std.proofs.Common.{if◌then◌else◌, ◌≡◌, ◌==◌, ◌≤◌, ◌∙◌, ℕ, Bool, true, false, List}
-use Rattle.std.proofs.Common.{length, Option, Some, None, refl, sym, ap, inl, inr}
+use Rattle.std.proofs.Common.{if◌then◌else◌, ◌≡◌, ◌==◌, ◌≤◌, ◌∙◌, ℕ, Bool, true, false, List, length, Option, Some, None, refl, sym, ap, inl, inr}
 use Rattle.std.proofs.lemmas.Str.{IsUtf8-from_ascii}
 use Rattle.std.specs.Cmp.{tied_itself}
 use Rattle.std.specs.Option.{is_some, option_map}
 use Rattle.std.specs.Str.{IsUtf8}
 use Rattle.std.specs.declared.cmp.Ordering.TheVariants.{Equal}
-use Rattle.version_parts.specs.Chunk.{PlainChunk}
-use Rattle.version_parts.specs.Front.{begins}
-use Rattle.version_parts.proofs.lemmas.Front.Dotted.{cases_Option}
-use Rattle.versions.specs.declared.kind.Kind.TheVariants as kind
-use Rattle.versions.specs.Conversions.{version_of_semver}
-use Rattle.versions.specs.Key.{key_of}
-use Rattle.versions.specs.Kind.{versioning_kind}
-use Rattle.versions.specs.Versioning.{PlainVersioning, Ideal, General, Complex, SpellsVersioning}
-use Rattle.versions.specs.Versioning.{is_prerelease, versioning_of, versioning_plain_cmp}
-use Rattle.versions.specs.Versioning.{versioning_text}
-use Rattle.versions.specs.VersioningLaws.{versioning_plain_total}
-use Rattle.versions.proofs.lemmas.Versioning.{versioning_ascii, versioning_of-spells}
-use Rattle.versions.proofs.lemmas.Versioning.{versioning_printed}
-use Rattle.versions.proofs.lemmas.Conversions.Widening.{strict_is_general}
+use Rattle.version_rules.specs.Chunk.{PlainChunk}
+use Rattle.version_rules.specs.Front.{begins}
+use Rattle.version_rules.proofs.lemmas.Front.Repeated.{cases_Option}
+use Rattle.version_rules.specs.Conversions.{version_of_semver}
+use Rattle.version_rules.specs.Key.{key_of}
+use Rattle.version_rules.specs.Kind.{versioning_kind}
+use Rattle.version_rules.specs.Versioning.{PlainVersioning, Ideal, General, Complex, SpellsVersioning, is_prerelease, versioning_of, versioning_plain_cmp, versioning_text}
+use Rattle.version_rules.specs.laws.Versioning.{versioning_plain_total}
+use Rattle.version_rules.proofs.lemmas.Versioning.{versioning_ascii, versioning_of-spells, versioning_printed}
+use Rattle.version_rules.proofs.lemmas.Conversions.{strict_is_general}
 use Rattle.version_texts.specs.declared.shape.Shape.{Shape}
 use Rattle.version_texts.specs.declared.shape.TailKind.{TailKind}
-use Rattle.version_texts.specs.declared.shape.TailKind.TheVariants.{Nothing, PreRelease, Release}
-use Rattle.version_texts.specs.declared.shape.TailKind.TheVariants.{Sections}
+use Rattle.version_texts.specs.declared.shape.TailKind.TheVariants.{Nothing, PreRelease, Release, Sections}
 use Rattle.version_texts.specs.Shape.{Fits, behind_body, shape_at, shape_of, tail_kind}
 use Rattle.version_texts.specs.TextKey.{text_key}
 use Rattle.version_texts.specs.VersioningRef.{version_in}
 use Rattle.version_texts.proofs.lemmas.TextKey.{versioning_fits, versioning_key}
 use Rattle.version_texts.proofs.lemmas.Shape.{IsDashed, is_hyphen, version_dashed}
+use Rattle.version_rules.specs.declared.kind.Kind.TheVariants as kind
 
 -- a text of a shape spells a version, and its shape is the one at the kind of that version
 pub spelled : (text : List ℕ) (s : Shape) → shape_of text ≡ Some s
@@ -66,15 +61,6 @@ printed-is text s e = versioning_printed text (version_in text) (spells-is text 
 pub utf8-is : (text : List ℕ) (s : Shape) → shape_of text ≡ Some s → IsUtf8 text
 utf8-is text s e =
     IsUtf8-from_ascii text (versioning_ascii text (version_in text) (spells-is text s e))
-
--- a value of another type that is read of the text holds the version that it spells
-pub read-is : {R : Type 0} (view : R → PlainVersioning) (text : List ℕ) (s : Shape)
-    (o : Option R) (r : R) → shape_of text ≡ Some s → option_map view o ≡ versioning_of text
-    → o ≡ Some r → view r ≡ version_in text
-read-is view text s o r e parsed some =
-    let both : Some (view r) ≡ Some (version_in text) =
-    sym (ap (option_map view) some) ∙ parsed ∙ (spelled text s e).0 in
-    cc both
 
 -- versions of one text tie
 pub same_text-ties : (a b : List ℕ) → a ≡ b

@@ -1,13 +1,13 @@
 //! Lists of parts, by their texts, and whether `~` or `^` matches them.
 
 ghost use Rattle.std.specs.Prelude.{◌≡◌, ◌∷◌, ◌<◌, ◌↔◌, length, IfSome, IsTrue};
-ghost use Rattle.version_parts.specs.PartKey.{part_key};
+ghost use Rattle.version_rules.specs.PartKey.{part_key};
 ghost use Rattle.version_texts.specs.Parts.{parts_behind};
 ghost use Rattle.version_texts.specs.Piece.{first_piece};
 ghost use Rattle.version_texts.specs.TextKey.{parts_of};
-ghost use Rattle.versions.specs.Key.{strict_body};
-ghost use Rattle.versions.specs.SemVerMatch.{MatchesCaret, Numbers};
-ghost use Rattle.versions.specs.VersionMatch.{is_plain_zero, PartsMatchCaret, PartsMatchTilde, PartsNotBelow};
+ghost use Rattle.version_rules.specs.Key.{strict_body};
+ghost use Rattle.version_rules.specs.SemVerMatch.{MatchesCaret, Numbers};
+ghost use Rattle.version_rules.specs.VersionMatch.{is_plain_zero, PartsMatchCaret, PartsMatchTilde, PartsNotBelow};
 
 use crate::order::list::compare_parts;
 use crate::order::part::compare_first_parts;

@@ -5,7 +5,7 @@ ghost use Rattle.std.specs.Char.{is_ascii_digit};
 ghost use Rattle.std.specs.List.{list_all, prefix_len, take_while};
 ghost use Rattle.std.specs.Ordering.{nat_cmp};
 ghost use Rattle.std.specs.Str.Parse.{digits_value};
-ghost use Rattle.version_parts.specs.Lists.{bytes_cmp};
+ghost use Rattle.version_rules.specs.Lists.{bytes_cmp};
 
 use std::cmp::Ordering;
 
@@ -35,7 +35,7 @@ pub(crate) fn split_digits(text: &[u8]) -> (&[u8], &[u8])
 
 // Compares the numbers that two runs of digits write: without leading zeros, by the count of
 // digits, and then by the digits.
-#[tactic(auto, using(version_parts::proofs::lemmas::PartOrder::digits_compared))]
+#[tactic(auto, using(version_rules::proofs::lemmas::PartOrder::digits_compared))]
 #[inline(always)]
 pub(crate) fn compare_digits(a: &[u8], b: &[u8]) -> Ordering
     requires a { list_all is_ascii_digit a.now ≡ true }

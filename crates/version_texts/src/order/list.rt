@@ -2,7 +2,7 @@
 
 ghost use Rattle.std.specs.Prelude.{◌≡◌, [], IfNone, IfSome};
 ghost use Rattle.std.specs.declared.cmp.Ordering.TheVariants.{Equal};
-ghost use Rattle.version_parts.specs.PartKey.{list_cmp};
+ghost use Rattle.version_rules.specs.PartKey.{list_cmp};
 ghost use Rattle.version_texts.specs.TextKey.{parts_of};
 
 use crate::class::{Class, begins_with};

@@ -7,10 +7,10 @@ ghost use Rattle.std.specs.Option.{option_cmp};
 ghost use Rattle.std.specs.Ordering.{nat_cmp, ordering_then};
 ghost use Rattle.std.specs.Str.Parse.{digits_value};
 ghost use Rattle.std.specs.declared.cmp.Ordering.TheVariants.{Equal};
-ghost use Rattle.version_parts.specs.DigitRun.{number_front};
-ghost use Rattle.version_parts.specs.Lists.{none_last_cmp};
-ghost use Rattle.version_parts.specs.PartKey.{part_cmp, part_key, suffix_of};
-ghost use Rattle.version_parts.specs.Split.{numbered_cmp, split_cmp, split_of};
+ghost use Rattle.version_rules.specs.DigitRun.{number_front};
+ghost use Rattle.version_rules.specs.Lists.{none_last_cmp};
+ghost use Rattle.version_rules.specs.PartKey.{part_cmp, part_key, suffix_of};
+ghost use Rattle.version_rules.specs.Split.{numbered_cmp, split_cmp, split_of};
 ghost use Rattle.version_texts.specs.Piece.{behind_piece, first_piece};
 
 use crate::class::{Class, begins_with};

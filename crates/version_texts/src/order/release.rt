@@ -2,8 +2,8 @@
 
 ghost use Rattle.std.specs.Prelude.{◌≡◌};
 ghost use Rattle.std.specs.declared.cmp.Ordering.TheVariants.{Equal};
-ghost use Rattle.version_parts.specs.Lists.{bytes_cmp};
-ghost use Rattle.version_parts.specs.ReleaseOrder.{chunk_cmp, release_cmp};
+ghost use Rattle.version_rules.specs.Lists.{bytes_cmp};
+ghost use Rattle.version_rules.specs.ReleaseOrder.{chunk_cmp, release_cmp};
 ghost use Rattle.version_texts.specs.Piece.{behind_piece, first_piece};
 ghost use Rattle.version_texts.specs.TextKey.{chunk_of, chunks_of};
 

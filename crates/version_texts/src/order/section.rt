@@ -2,8 +2,8 @@
 
 ghost use Rattle.std.specs.Prelude.{◌≡◌, ◌≤◌, length};
 ghost use Rattle.std.specs.List.{before_first, position_or_len};
-ghost use Rattle.version_parts.specs.Sep.{is_sep};
-ghost use Rattle.versions.specs.Tail.{sections_cmp};
+ghost use Rattle.version_rules.specs.Sep.{is_sep};
+ghost use Rattle.version_rules.specs.Tail.{sections_cmp};
 ghost use Rattle.version_texts.specs.Piece.{from_first};
 ghost use Rattle.version_texts.specs.TextKey.{sections_of};
 

@@ -1,4 +1,3 @@
 -- Values made of other values.
 pub mod Key
 pub mod Mess
-pub mod Widening

@@ -1,24 +1,25 @@
 //! Ranges built from the ends that operators ask for.
 
 ghost use Rattle.std.specs.Prelude.{◌≡◌, ◌++◌, IfOk, IsTrue, OnOk, Some};
-ghost use Rattle.version_parts.specs.Codes.{items_bytes};
-ghost use Rattle.version_parts.specs.PartKey.{part_bytes};
+ghost use Rattle.version_rules.specs.Codes.{items_bytes};
+ghost use Rattle.version_rules.specs.PartKey.{part_bytes};
 ghost use Rattle.versions.specs.BodyParts.{key_of_part, parts_left};
-ghost use Rattle.versions.specs.Ends.{end_bytes, is_whole, kept_parts, range_from, AreWhole};
-ghost use Rattle.versions.specs.Key.{key_of, strict_body};
-ghost use Rattle.versions.specs.Kind.{versioning_kind};
-ghost use Rattle.versions.specs.Range.{begun, plain_range};
+ghost use Rattle.version_rules.specs.Ends.{end_bytes, is_whole, kept_parts, range_from, AreWhole};
+ghost use Rattle.version_rules.specs.Key.{key_of, strict_body};
+ghost use Rattle.version_rules.specs.Kind.{versioning_kind};
+ghost use Rattle.version_rules.specs.Range.{begun};
+ghost use Rattle.versions.specs.Range.{plain_range};
 ghost use Rattle.versions.specs.Versioning.{plain_versioning};
-ghost use Rattle.versions.specs.declared.kind.Kind.TheVariants.{Complex};
+ghost use Rattle.version_rules.specs.declared.kind.Kind.TheVariants.{Complex};
 
 use crate::numbers::Numbers;
 use crate::parts::{BodyPart, BodyParts};
 use crate::range::Range;
-use crate::range::ends::{End, Ends, Kept};
 use crate::versioning::Versioning;
 use std::alloc::{AllocError, Global};
 use version_parts::key::PieceBytes;
 use version_parts::{Chunk, Last};
+use version_rules::{End, Ends, Kept};
 
 // Returns the range that has these ends, by the key of a version.
 pub(crate) fn range_from(
@@ -96,7 +97,7 @@ fn append_begun(version: &Versioning, kept: Kept, list: &mut Vec<u8>) -> Result<
 }
 
 // Appends the bytes of the epoch 0, and of those of three numbers that are kept as parts, to a list.
-#[tactic(auto, using(crate::proofs::lemmas::Ends::three_parts))]
+#[tactic(auto, using(version_rules::proofs::lemmas::Ends::three_parts))]
 fn append_numbers(numbers: Numbers, kept: Kept, list: &mut Vec<u8>) -> Result<(), AllocError>
     ensures { OnOk result (list.new.items ≡ list.old.items
         ++ begun 0 (kept_parts kept (strict_body numbers.0 numbers.1 numbers.2))) }
@@ -121,7 +122,7 @@ fn append_parts(
 }
 
 // Appends the bytes of the parts that are kept to a list.
-#[tactic(auto, using(crate::proofs::lemmas::Ends::last_kept))]
+#[tactic(auto, using(version_rules::proofs::lemmas::Ends::last_kept))]
 fn append_kept(mut parts: BodyParts<'_>, kept: Kept, list: &mut Vec<u8>) -> Result<(), AllocError>
     ensures { OnOk result (list.new.items ≡ list.old.items
         ++ items_bytes part_bytes (kept_parts kept (parts_left parts.entry))) }

@@ -2,9 +2,7 @@
 pub mod Parts
 pub mod Putting
 use borrow.Author.Tests.{le-leb}
-use Rattle.std.proofs.Common.{◌≡◌, ◌∙◌, ◌+◌, ◌*◌, ◌<◌, ◌≤◌, ℕ, Bool, true, false, List, [], ◌∷◌}
-use Rattle.std.proofs.Common.{◌++◌, length, map, Option, Some, None, refl, sym, ap, arith}
-use Rattle.std.proofs.Common.{if◌then◌else◌}
+use Rattle.std.proofs.Common.{◌≡◌, ◌∙◌, ◌+◌, ◌*◌, ◌<◌, ◌≤◌, ℕ, Bool, true, false, List, [], ◌∷◌, ◌++◌, length, map, Option, Some, None, refl, sym, ap, arith, if◌then◌else◌}
 use Rattle.std.proofs.lemmas.Bool.Decides.{nat_tests}
 use Rattle.std.proofs.lemmas.List.{length-append, map-append}
 use Rattle.std.proofs.lemmas.List.Elements.{All-append, All-cons, All-nil}
@@ -13,40 +11,35 @@ use Rattle.std.specs.Cmp.{first_so, second_so}
 use Rattle.std.specs.List.{list_all}
 use Rattle.std.specs.Option.{option_map, option_map_or, unwrap_or}
 use Rattle.std.specs.Str.Parse.{digits_value}
-use Rattle.version_parts.proofs.lemmas.Chunk.{part_printed}
-use Rattle.version_parts.proofs.lemmas.Last.{last_printed}
-use Rattle.version_parts.proofs.lemmas.MChunk.{mchunk_printed}
-use Rattle.version_parts.proofs.lemmas.Grammar.{all_weaker, of_mchunk, of_numeral}
-use Rattle.version_parts.specs.Body.{PlainBody, SpellsBody}
-use Rattle.version_parts.specs.Bytes.{dot, hyphen, is_identifier_byte, is_metadata_byte}
-use Rattle.version_parts.specs.Chunk.{Numeric, Alphanum, PlainChunk, SpellsChunk, SpellsChunkOf}
-use Rattle.version_parts.specs.Chunk.{SpellsPart, chunk_text}
-use Rattle.version_parts.specs.Codes.{items_bytes}
-use Rattle.version_parts.specs.DigitRun.{is_digits, starts_with_digit}
-use Rattle.version_parts.specs.Grammar.{SpellsDotted, SpellsEach, SpellsOptional}
-use Rattle.version_parts.specs.Last.{last_text}
-use Rattle.version_parts.specs.MChunk.{Digits, Rev, Plain, PlainMChunk, SpellsMChunk, mchunk_text}
-use Rattle.version_parts.specs.NumberBytes.{number_bytes}
-use Rattle.version_parts.specs.Numeral.{SpellsNumeral}
-use Rattle.version_parts.specs.PartKey.{PartKey, chunk_parts, part_bytes, part_key, parts_bytes}
-use Rattle.version_parts.specs.PartKey.{section_parts}
-use Rattle.version_parts.specs.Release.{SpellsRelease}
-use Rattle.version_parts.specs.ReleaseOrder.{chunk_bytes, release_bytes}
-use Rattle.version_parts.specs.Sep.{Colon, Hyphen, Plus, Underscore, Tilde}
-use Rattle.versions.specs.Key.{key_behind_epoch, key_of, key_of_mess, key_of_sections}
-use Rattle.versions.specs.Key.{key_of_semver, key_of_version, plain, section_epoch, sections_tail}
-use Rattle.versions.specs.KeyBytes.{key_bytes}
-use Rattle.versions.specs.Mess.{Further, PlainMess, Section, SpellsFurther, SpellsMess}
-use Rattle.versions.specs.Mess.{SpellsSection}
-use Rattle.versions.specs.SemVer.{PlainSemVer, SpellsSemVer}
-use Rattle.versions.specs.Tail.{Bare, PreReleased, Released, Tail, section_bytes, tail_bytes}
-use Rattle.versions.specs.Version.{PlainVersion, SpellsEpoch, SpellsVersion}
-use Rattle.versions.proofs.lemmas.Versioning.{versioning_of-spells}
-use Rattle.versions.specs.Versioning.{PlainVersioning, Ideal, General, Complex, SpellsVersioning}
-use Rattle.versions.specs.Versioning.{versioning_of}
+use Rattle.version_rules.proofs.lemmas.Chunk.{part_printed}
+use Rattle.version_rules.proofs.lemmas.Last.{last_printed}
+use Rattle.version_rules.proofs.lemmas.MChunk.{mchunk_printed}
+use Rattle.version_rules.proofs.lemmas.Front.Runs.{all_weaker}
+use Rattle.version_rules.proofs.lemmas.Grammar.{of_mchunk, of_numeral}
+use Rattle.version_rules.specs.Body.{PlainBody, SpellsBody}
+use Rattle.version_rules.specs.Bytes.{dot, hyphen, is_identifier_byte, is_metadata_byte}
+use Rattle.version_rules.specs.Chunk.{Numeric, Alphanum, PlainChunk, SpellsChunk, SpellsChunkOf, SpellsPart, chunk_text}
+use Rattle.version_rules.specs.Codes.{items_bytes}
+use Rattle.version_rules.specs.DigitRun.{is_digits, starts_with_digit}
+use Rattle.version_rules.specs.Grammar.{SpellsDotted, SpellsEach, SpellsOptional}
+use Rattle.version_rules.specs.Last.{last_text}
+use Rattle.version_rules.specs.MChunk.{Digits, Rev, Plain, PlainMChunk, SpellsMChunk, mchunk_text}
+use Rattle.version_rules.specs.NumberBytes.{number_bytes}
+use Rattle.version_rules.specs.Numeral.{SpellsNumeral}
+use Rattle.version_rules.specs.PartKey.{PartKey, chunk_parts, part_bytes, part_key, parts_bytes, section_parts}
+use Rattle.version_rules.specs.Release.{SpellsRelease}
+use Rattle.version_rules.specs.ReleaseOrder.{chunk_bytes, release_bytes}
+use Rattle.version_rules.specs.Sep.{Colon, Hyphen, Plus, Underscore, Tilde}
+use Rattle.version_rules.specs.Key.{key_behind_epoch, key_of, key_of_mess, key_of_sections, key_of_semver, key_of_version, plain, section_epoch, sections_tail}
+use Rattle.version_rules.specs.KeyBytes.{key_bytes}
+use Rattle.version_rules.specs.Mess.{Further, PlainMess, Section, SpellsFurther, SpellsMess, SpellsSection}
+use Rattle.version_rules.specs.SemVer.{PlainSemVer, SpellsSemVer}
+use Rattle.version_rules.specs.Tail.{Bare, PreReleased, Released, Tail, section_bytes, tail_bytes}
+use Rattle.version_rules.specs.Version.{PlainVersion, SpellsEpoch, SpellsVersion}
+use Rattle.version_rules.proofs.lemmas.Versioning.{versioning_of-spells}
+use Rattle.version_rules.specs.Versioning.{PlainVersioning, Ideal, General, Complex, SpellsVersioning, versioning_of}
 use Rattle.versions_c.specs.Keys.{length_past, room_for, spelled_key}
-use Rattle.versions_c.proofs.lemmas.Keys.Parts.{IsHigh, list_length, number_length, part_length}
-use Rattle.versions_c.proofs.lemmas.Keys.Parts.{text_length}
+use Rattle.versions_c.proofs.lemmas.Keys.Parts.{IsHigh, list_length, number_length, part_length, text_length}
 
 -- ---- versions have no bytes below 2
 

@@ -1,30 +1,26 @@
 -- The lengths of the bounds of ranges: none is longer than the key of a text of the list's length
 -- may be.
 pub mod Status
-use Rattle.std.proofs.Common.{◌≡◌, ◌∙◌, ◌+◌, ◌<◌, ◌≤◌, ℕ, Bool, true, false, List, [], ◌∷◌, length}
-use Rattle.std.proofs.Common.{Option, Some, None, ap, arith, if◌then◌else◌}
+use Rattle.std.proofs.Common.{◌≡◌, ◌∙◌, ◌+◌, ◌<◌, ◌≤◌, ℕ, Bool, true, false, List, [], ◌∷◌, length, Option, Some, None, ap, arith, if◌then◌else◌}
 use Rattle.std.proofs.lemmas.List.{length-append}
 use Rattle.std.specs.List.{AllZip, join_with_byte}
 use Rattle.std.specs.Option.{option_map_or}
-use Rattle.version_parts.specs.Codes.{items_bytes}
-use Rattle.version_parts.specs.Lists.{split_last}
-use Rattle.version_parts.specs.NumberBytes.{number_bytes}
-use Rattle.version_parts.specs.PartKey.{PartKey, part_bytes}
+use Rattle.version_rules.specs.Codes.{items_bytes}
+use Rattle.version_rules.specs.Lists.{split_last}
+use Rattle.version_rules.specs.NumberBytes.{number_bytes}
+use Rattle.version_rules.specs.PartKey.{PartKey, part_bytes}
 use Rattle.version_texts.specs.Bounds.{high_length, high_room, low_room}
-use Rattle.versions.proofs.lemmas.Requirements.{requirements_of-spells}
-use Rattle.versions.specs.declared.op.Op.{Op}
-use Rattle.versions.specs.declared.op.Op.TheVariants.{Exact, Greater, GreaterEq, Less, LessEq}
-use Rattle.versions.specs.declared.op.Op.TheVariants.{Tilde, Caret, Wildcard}
-use Rattle.versions.specs.Key.{Key, key_of}
-use Rattle.versions.specs.KeyBytes.{key_bytes}
-use Rattle.versions.specs.Op.{op_text}
-use Rattle.versions.specs.Range.{PlainRange, alike_from, begun, but_last, bytes_of, op_range}
-use Rattle.versions.specs.Range.{range_without_version, requirement_range, series_range}
-use Rattle.versions.specs.Range.{through_other}
-use Rattle.versions.specs.Requirement.{PlainRequirement, SpellsOperand, SpellsRequirement}
-use Rattle.versions.specs.Requirements.{comma, requirements_of}
-use Rattle.versions.specs.VersionMatch.{is_plain_zero}
-use Rattle.versions.specs.Versioning.{PlainVersioning, Ideal, General, Complex}
+use Rattle.version_rules.proofs.lemmas.Requirements.{requirements_of-spells}
+use Rattle.version_rules.specs.declared.op.Op.{Op}
+use Rattle.version_rules.specs.declared.op.Op.TheVariants.{Exact, Greater, GreaterEq, Less, LessEq, Tilde, Caret, Wildcard}
+use Rattle.version_rules.specs.Key.{Key, key_of}
+use Rattle.version_rules.specs.KeyBytes.{key_bytes}
+use Rattle.version_rules.specs.Op.{op_text}
+use Rattle.version_rules.specs.Range.{PlainRange, alike_from, begun, but_last, bytes_of, op_range, range_without_version, requirement_range, series_range, through_other}
+use Rattle.version_rules.specs.Requirement.{PlainRequirement, SpellsOperand, SpellsRequirement}
+use Rattle.version_rules.specs.Requirements.{comma, requirements_of}
+use Rattle.version_rules.specs.VersionMatch.{is_plain_zero}
+use Rattle.version_rules.specs.Versioning.{PlainVersioning, Ideal, General, Complex}
 use Rattle.versions_c.proofs.lemmas.Keys.{key_length, spelled_length}
 use Rattle.versions_c.proofs.lemmas.Keys.Parts.{list_length}
 use Rattle.versions_c.specs.Keys.{room_for}

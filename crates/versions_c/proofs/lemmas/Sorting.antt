@@ -1,9 +1,6 @@
 -- Places in the order of the keys that lie there, and in the order of their texts.
 pub mod OneOrder
-use Rattle.std.proofs.Common.{◌≡◌, ◌∙◌, ℕ, ◌+◌, ◌-◌, ◌/◌, ◌%◌, ◌<◌, ◌≤◌, ◌^◌, ◌==◌, zero, suc}
-use Rattle.std.proofs.Common.{false, if◌then◌else◌, List, [], ◌∷◌, ◌++◌, length, take, drop, get_or}
-use Rattle.std.proofs.Common.{map, replicate, Option, Some, None, refl, sym, ap, arith, append-nil}
-use Rattle.std.proofs.Common.{append_assoc, length-append}
+use Rattle.std.proofs.Common.{◌≡◌, ◌∙◌, ℕ, ◌+◌, ◌-◌, ◌/◌, ◌%◌, ◌<◌, ◌≤◌, ◌^◌, ◌==◌, zero, suc, false, if◌then◌else◌, List, [], ◌∷◌, ◌++◌, length, take, drop, get_or, map, replicate, Option, Some, None, refl, sym, ap, arith, append-nil, append_assoc, length-append}
 use Rattle.std.proofs.Math.Dec.{eqb}
 use Rattle.std.proofs.Math.Seq.{drop-append_seam, take-append_seam}
 use Rattle.std.proofs.lemmas.Bool.{eqb-false}
@@ -13,11 +10,9 @@ use Rattle.std.proofs.lemmas.List.{map-id}
 use Rattle.std.proofs.lemmas.List.Elements.{All-from_get_or, All-get_or}
 use Rattle.std.proofs.lemmas.List.FromFn.{fill_by_all, get_or-range_with_len, length-range_with_len}
 use Rattle.std.proofs.lemmas.List.Sorted.{All-permutation, ranks_by}
-use Rattle.std.proofs.lemmas.Map.Keys.{apart_from_distinct, IsDistinct-from_apart}
-use Rattle.std.proofs.lemmas.Map.Keys.{IsDistinct-IsPermutation}
+use Rattle.std.proofs.lemmas.Map.Keys.{apart_from_distinct, IsDistinct-from_apart, IsDistinct-IsPermutation}
 use Rattle.std.specs.Char.{digit_char}
-use Rattle.std.specs.Cmp.{IsStrictWeakOrder, IsTotalOrder, bool_cmp_total, nat_cmp_total}
-use Rattle.std.specs.Cmp.{nat_eq_equiv, tied_itself}
+use Rattle.std.specs.Cmp.{IsStrictWeakOrder, IsTotalOrder, bool_cmp_total, nat_cmp_total, nat_eq_equiv, tied_itself}
 use Rattle.std.specs.Cmp.Lexicographic.{options_total}
 use Rattle.std.specs.FinMap.{IsAntisymmetric, nat_cmp-IsAntisymmetric}
 use Rattle.std.specs.Int.Digits.{digits_of}
@@ -27,23 +22,21 @@ use Rattle.std.specs.Option.{option_and_then, option_cmp, option_map, unwrap_or}
 use Rattle.std.specs.Ordering.{is_lt, nat_cmp, on, ordering_reverse, ordering_then}
 use Rattle.std.specs.declared.cmp.Ordering.{Ordering}
 use Rattle.std.specs.declared.cmp.Ordering.TheVariants.{Less, Equal, Greater}
-use Rattle.version_parts.proofs.lemmas.General.Orders.{then_assoc, then_same}
-use Rattle.version_parts.specs.Lists.{none_last_cmp}
-use Rattle.version_parts.specs.NumberBytes.{length_bytes, number_bytes}
-use Rattle.version_parts.specs.PartKey.{parts_bytes}
-use Rattle.versions.proofs.lemmas.OrdersLaws.{key_bytes_alone}
-use Rattle.versions.proofs.lemmas.SemVerOrder.{precedence_of_semvers}
-use Rattle.versions.specs.Key.{Key, key_of, key_of_semver, precedence}
-use Rattle.versions.specs.KeyBytes.{key_bytes}
-use Rattle.versions.specs.Orders.{versioning_cmp}
-use Rattle.versions.specs.OrdersLaws.{versioning_cmp_total}
-use Rattle.versions.specs.Tail.{tail_bytes}
-use Rattle.versions.specs.Versioning.{PlainVersioning, Ideal, General, Complex, versioning_of}
-use Rattle.versions.specs.Versioning.{versioning_plain_cmp}
+use Rattle.version_rules.proofs.lemmas.Orders.{then_assoc, then_same}
+use Rattle.version_rules.specs.Lists.{none_last_cmp}
+use Rattle.version_rules.specs.NumberBytes.{length_bytes, number_bytes}
+use Rattle.version_rules.specs.PartKey.{parts_bytes}
+use Rattle.version_rules.proofs.lemmas.OrdersLaws.{key_bytes_alone}
+use Rattle.version_rules.proofs.lemmas.SemVerOrder.{precedence_of_semvers}
+use Rattle.version_rules.specs.Key.{Key, key_of, key_of_semver, precedence}
+use Rattle.version_rules.specs.KeyBytes.{key_bytes}
+use Rattle.version_rules.specs.Orders.{versioning_cmp}
+use Rattle.version_rules.specs.laws.Orders.{versioning_cmp_total}
+use Rattle.version_rules.specs.Tail.{tail_bytes}
+use Rattle.version_rules.specs.Versioning.{PlainVersioning, Ideal, General, Complex, versioning_of, versioning_plain_cmp}
 use Rattle.versions_c.specs.Keys.{keys_before, saturated_signed}
 use Rattle.versions_c.specs.Offsets.{text_at}
-use Rattle.versions_c.specs.Sorting.{AreInOrder, keyed_cmp, keys_cmp, place_cmp, text_tie_breaker}
-use Rattle.versions_c.specs.Sorting.{tie_breaker, unless_strict}
+use Rattle.versions_c.specs.Sorting.{AreInOrder, keyed_cmp, keys_cmp, place_cmp, text_tie_breaker, tie_breaker, unless_strict}
 
 -- numbers that are each its own place
 pub counted : (xs : List ℕ) (n : ℕ) → length xs ≡ n → ((i : ℕ) → i < n → get_or xs i 0 ≡ i)

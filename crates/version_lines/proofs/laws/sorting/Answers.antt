@@ -1,7 +1,6 @@
 use Rattle.version_lines.specs.Sort.{line_cmp}
 use Rattle.version_lines.proofs.lemmas.Entry.{line_ranks, line_total}
-use Rattle.version_lines.proofs.lemmas.Sorting.{in_order-only, in_order-permutes, in_order-sorted}
-use Rattle.version_lines.proofs.lemmas.Sorting.{in_order-stable}
+use Rattle.version_lines.proofs.lemmas.Sorting.{in_order-only, in_order-permutes, in_order-sorted, in_order-stable}
 use Rattle.version_lines.proofs.laws.sorting.Goals as goal
 
 pub returns-clause-total : goal.returns-clause-total

@@ -1,31 +1,28 @@
 -- Lines with equal keys, in the order of their versions.
-use Rattle.std.proofs.Common.{◌≡◌, ◌≤◌, ◌-◌, ◌&&◌, ℕ, Bool, true, false, IsTrue, List, [], ◌∷◌}
-use Rattle.std.proofs.Common.{◌++◌, length, take, drop, get_or, Option, None, Some, is_some, refl}
-use Rattle.std.proofs.Common.{sym, ap, ◌∙◌, arith}
+use Rattle.std.proofs.Common.{◌≡◌, ◌≤◌, ◌-◌, ◌&&◌, ℕ, Bool, true, false, IsTrue, List, [], ◌∷◌, ◌++◌, length, take, drop, get_or, Option, None, Some, is_some, refl, sym, ap, ◌∙◌, arith}
 use Rattle.std.specs.List.{All}
 use Rattle.std.specs.Option.{option_and_then, option_cmp, option_map, option_or}
 use Rattle.std.specs.Ordering.{is_lt, ordering_then, then_cmp}
 use Rattle.std.specs.declared.cmp.Ordering.TheVariants.{Equal}
 use Rattle.std.proofs.lemmas.Cmp.{tied_itself}
-use Rattle.std.proofs.lemmas.List.Elements.{All-cons, All-head, All-push, All-same, All-tail}
-use Rattle.std.proofs.lemmas.List.Elements.{All-weaker}
+use Rattle.std.proofs.lemmas.List.Elements.{All-cons, All-head, All-push, All-same, All-tail, All-weaker}
 use Rattle.std.proofs.lemmas.List.{map-id, take_all}
-use Rattle.version_parts.specs.OrderLaws.{then_equal}
+use Rattle.version_rules.specs.laws.Order.{then_equal}
 use Rattle.version_lines.specs.Entry.{entry_cmp, entry_line, tie_cmp, IsStrict}
 use Rattle.version_lines.specs.Sorting.{in_order}
 use Rattle.version_lines.specs.LineKey.{line_tie_breaker, unless_strict}
 use Rattle.version_lines.specs.declared.sort.entry.Entry.{Entry}
-use Rattle.versions.specs.Kind.{versioning_kind}
-use Rattle.versions.specs.declared.kind.Kind.{Kind}
-use Rattle.versions.specs.declared.kind.Kind.TheVariants as kind
-use Rattle.versions.specs.Mess.{PlainMess, mess_of}
-use Rattle.versions.specs.Orders.{versioning_cmp}
-use Rattle.versions.specs.SemVer.{PlainSemVer, semver_of}
-use Rattle.versions.specs.Version.{PlainVersion, version_of}
-use Rattle.versions.specs.Versioning.{Complex, General, Ideal, PlainVersioning, versioning_of}
+use Rattle.version_rules.specs.Kind.{versioning_kind}
+use Rattle.version_rules.specs.declared.kind.Kind.{Kind}
+use Rattle.version_rules.specs.Mess.{PlainMess, mess_of}
+use Rattle.version_rules.specs.Orders.{versioning_cmp}
+use Rattle.version_rules.specs.SemVer.{PlainSemVer, semver_of}
+use Rattle.version_rules.specs.Version.{PlainVersion, version_of}
+use Rattle.version_rules.specs.Versioning.{Complex, General, Ideal, PlainVersioning, versioning_of}
 use Rattle.version_lines.proofs.lemmas.Entry.{tie_total}
 use Rattle.version_lines.proofs.lemmas.Sorting.{AtLeast, Rises, below, in_order-map}
 use Rattle.version_lines.proofs.lemmas.Sorting.Ties.{in_order-risen}
+use Rattle.version_rules.specs.declared.kind.Kind.TheVariants as kind
 
 -- lines that all tie are in order
 

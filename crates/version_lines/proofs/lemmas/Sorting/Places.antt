@@ -1,7 +1,6 @@
 -- Elements sorted by an order and then by their places are stably sorted, if the places rise from
 -- the first element on. So an unstable sort suffices.
-use Rattle.std.proofs.Common.{◌≡◌, ℕ, zero, suc, ◌+◌, ◌-◌, ◌<◌, Bool, true, not, List, [], ◌∷◌}
-use Rattle.std.proofs.Common.{length, take, drop, cond, refl, sym, ap, ◌∙◌, subst, arith}
+use Rattle.std.proofs.Common.{◌≡◌, ℕ, zero, suc, ◌+◌, ◌-◌, ◌<◌, Bool, true, not, List, [], ◌∷◌, length, take, drop, cond, refl, sym, ap, ◌∙◌, subst, arith}
 use Rattle.std.proofs.Math.Numerals.{one-add}
 use Rattle.std.specs.Cmp.{IsTotalOrder, nat_cmp_is}
 use Rattle.std.specs.List.{All, AllPairs, filter, prefix_len}
@@ -9,16 +8,13 @@ use Rattle.std.specs.List.Sorted.{IsPermutation, IsSortedBy, IsStableBy, ties}
 use Rattle.std.specs.Ordering.{is_lt, nat_cmp, on, ordering_then, then_cmp}
 use Rattle.std.specs.declared.cmp.Ordering.{Ordering}
 use Rattle.std.specs.declared.cmp.Ordering.TheVariants.{Less, Equal, Greater}
-use Rattle.std.proofs.lemmas.Cmp.{by_ranked, nat_cmp_total, on_total, ranked, then_total}
-use Rattle.std.proofs.lemmas.Cmp.{tied_itself}
-use Rattle.std.proofs.lemmas.List.Elements.{All-cons, All-filter, All-head, All-nil, All-tail}
-use Rattle.std.proofs.lemmas.List.Elements.{All-take, All-weaker, filter_passes}
+use Rattle.std.proofs.lemmas.Cmp.{by_ranked, nat_cmp_total, on_total, ranked, then_total, tied_itself}
+use Rattle.std.proofs.lemmas.List.Elements.{All-cons, All-filter, All-head, All-nil, All-tail, All-take, All-weaker, filter_passes}
 use Rattle.std.proofs.lemmas.List.Kept.{AllPairs-cons, AllPairs-filter}
 use Rattle.std.proofs.lemmas.List.Sorted.{All-permutation, ranks_by, sum_by-IsPermutation}
 use Rattle.std.proofs.lemmas.List.Sums.{length-filter}
 use Rattle.version_lines.specs.Sorting.{in_order, put_in_order, run_length, TiesRise}
-use Rattle.version_lines.proofs.lemmas.Sorting.{Rises, below, by_test, head-is, in_order-only}
-use Rattle.version_lines.proofs.lemmas.Sorting.{in_order-permutes, neither, put-permutes, tail-is}
+use Rattle.version_lines.proofs.lemmas.Sorting.{Rises, below, by_test, head-is, in_order-only, in_order-permutes, neither, put-permutes, tail-is}
 use Rattle.version_lines.proofs.lemmas.Sorting.Ties.{IsDoneTo, not_less, run_ties}
 
 -- the places rise

@@ -1,8 +1,6 @@
 -- A list sorted by one order is sorted by a finer order once each run of ties is sorted by the
 -- second order.
-use Rattle.std.proofs.Common.{◌≡◌, ℕ, zero, suc, ◌+◌, ◌-◌, ◌<◌, ◌≤◌, Bool, true, false, not, cond}
-use Rattle.std.proofs.Common.{◌&&◌, List, [], ◌∷◌, ◌++◌, length, take, drop, refl, sym, ap, ◌∙◌}
-use Rattle.std.proofs.Common.{subst, arith, append_assoc, length-append, length-drop}
+use Rattle.std.proofs.Common.{◌≡◌, ℕ, zero, suc, ◌+◌, ◌-◌, ◌<◌, ◌≤◌, Bool, true, false, not, cond, ◌&&◌, List, [], ◌∷◌, ◌++◌, length, take, drop, refl, sym, ap, ◌∙◌, subst, arith, append_assoc, length-append, length-drop}
 use Rattle.std.proofs.Math.Numerals.{one-add}
 use Rattle.std.specs.Cmp.{IsStrictWeakOrder, IsTotalOrder}
 use Rattle.std.specs.List.{All, filter, prefix_len}
@@ -12,17 +10,14 @@ use Rattle.std.specs.declared.cmp.Ordering.{Ordering}
 use Rattle.std.specs.declared.cmp.Ordering.TheVariants.{Less, Equal, Greater}
 use Rattle.std.proofs.lemmas.Bool.{false_from_ne_true, true≢false}
 use Rattle.std.proofs.lemmas.Cmp.{tied_itself, then_total}
-use Rattle.std.proofs.lemmas.List.{drop-drop, length-take, length-take-le, map-id}
-use Rattle.std.proofs.lemmas.List.{take-append-drop, take-append-le, take_all}
+use Rattle.std.proofs.lemmas.List.{drop-drop, length-take, length-take-le, map-id, take-append-drop, take-append-le, take_all}
 use Rattle.std.proofs.lemmas.List.Elements.{All-cons, All-head, All-nil, All-tail}
 use Rattle.std.proofs.lemmas.List.Sorted.{length_permutation, ranks_by}
 use Rattle.std.proofs.lemmas.List.Sums.{prefix_len-le-length}
 use Rattle.std.proofs.lemmas.Slice.{drop-put_mid, take-put_mid}
 use borrow.Rule.Slice.PartMut.{put_mid}
 use Rattle.version_lines.specs.Sorting.{put_in_order, in_order, run_length}
-use Rattle.version_lines.proofs.lemmas.Sorting.{AtLeast, Rises, below, at_least-put, by_test}
-use Rattle.version_lines.proofs.lemmas.Sorting.{in_order-map, in_order-only, in_order-permutes}
-use Rattle.version_lines.proofs.lemmas.Sorting.{in_order-sorted, in_order-stable}
+use Rattle.version_lines.proofs.lemmas.Sorting.{AtLeast, Rises, below, at_least-put, by_test, in_order-map, in_order-only, in_order-permutes, in_order-sorted, in_order-stable}
 
 -- the test of a total order
 ranks : {X : Type 0} {R : X → X → Ordering} → IsTotalOrder R → IsStrictWeakOrder (below R)

@@ -1,9 +1,7 @@
 use Rattle.std.proofs.Common.{◌≡◌, [], rules, drop_of_length-le}
 use Rattle.std.proofs.lemmas.Result.{IfErr-at_err}
 use Rattle.version_lines.proofs.lemmas.Lines.{lines_output-first, lines_output-nil}
-use Rattle.version_lines.proofs.lemmas.Output.{AppendsUpTo-step}
-use Rattle.version_lines.proofs.lemmas.Output.{AppendsProperBeginning-step}
-use Rattle.version_lines.proofs.lemmas.Output.{AppendsProperBeginning-after}
+use Rattle.version_lines.proofs.lemmas.Output.{AppendsUpTo-step, AppendsProperBeginning-step, AppendsProperBeginning-after}
 use Rattle.version_lines.proofs.lines.write_lines.Goals as goal
 
 pub returns-in_err-put_answer-clause-write : goal.returns-in_err-put_answer-clause-write

@@ -1,16 +1,14 @@
-use Rattle.std.proofs.Common.{◌≡◌, ◌+◌, ◌++◌, ℕ, true, List, length, map, Some, rules, ap, sym}
-use Rattle.std.proofs.Common.{subst, arith, ◌∙◌}
+use Rattle.std.proofs.Common.{◌≡◌, ◌+◌, ◌++◌, ℕ, true, List, length, map, Some, rules, ap, sym, subst, arith, ◌∙◌}
 use Rattle.std.specs.List.{All}
 use Rattle.std.specs.Option.{option_map}
 use Rattle.std.proofs.lemmas.List.Elements.{All-push, All-same, All-weaker}
 use Rattle.version_lines.specs.Entry.{entry_line, IsRead}
 use Rattle.version_lines.specs.Sort.{bad_line, is_bad}
 use Rattle.version_lines.specs.LineKey.{line_key}
-use Rattle.version_lines.proofs.lemmas.Entry.{bad_line-behind, in_turn-added, lines_of-entries}
-use Rattle.version_lines.proofs.lemmas.Entry.{read-more}
+use Rattle.version_lines.proofs.lemmas.Entry.{bad_line-behind, in_turn-added, lines_of-entries, read-more}
 use Rattle.version_lines.proofs.lemmas.Entry.Tied.{all_strict-added}
-use Rattle.versions.specs.Kind.{versioning_kind}
-use Rattle.versions.specs.Versioning.{versioning_of}
+use Rattle.version_rules.specs.Kind.{versioning_kind}
+use Rattle.version_rules.specs.Versioning.{versioning_of}
 use Rattle.version_lines.proofs.sort.read_entries.Goals as goal
 
 pub returns-in_default-clause-faults : goal.returns-in_default-clause-faults

@@ -1,8 +1,7 @@
 use Rattle.std.proofs.Common.{◌≡◌, [], drop, rules, append-nil, drop_of_length-le}
 use Rattle.std.proofs.lemmas.Result.{on_err_weaker}
 use Rattle.version_lines.proofs.lemmas.Entry.{lines_output-entries}
-use Rattle.version_lines.proofs.lemmas.Output.{AppendsUpTo-step, AppendsProperBeginning-step}
-use Rattle.version_lines.proofs.lemmas.Output.{AppendsProperBeginning-after}
+use Rattle.version_lines.proofs.lemmas.Output.{AppendsUpTo-step, AppendsProperBeginning-step, AppendsProperBeginning-after}
 use Rattle.version_lines.proofs.lemmas.Run.{GrowsAt-memory, GrowsAt-write, OnErr-always}
 use Rattle.version_lines.proofs.sort.write_entries.Goals as goal
 

@@ -5,8 +5,7 @@ use Rattle.version_lines.specs.Fault.{ComesOfLines}
 use Rattle.version_lines.specs.Lines.{lines_of}
 use Rattle.version_lines.specs.Sort.{bad_line}
 use Rattle.version_lines.proofs.lemmas.Entry.{bad_line-none, sort_output-entries}
-use Rattle.version_lines.proofs.lemmas.Run.{ComesOfCommand-lines, ComesOfCommand-writing}
-use Rattle.version_lines.proofs.lemmas.Run.{GrowsAt-lines, GrowsAt-memory}
+use Rattle.version_lines.proofs.lemmas.Run.{ComesOfCommand-lines, ComesOfCommand-writing, GrowsAt-lines, GrowsAt-memory}
 use Rattle.version_lines.proofs.sort.write_sorted.Goals as goal
 
 pub returns-in_err-entries-clause-at_fault : goal.returns-in_err-entries-clause-at_fault

@@ -1,24 +1,16 @@
 -- Chunks by the digits that they begin with: what follows these decides whether the chunk is a
 -- numeral.
-use Rattle.std.proofs.Common.{◌≡◌, ◌+◌, ◌-◌, ◌<◌, ◌≤◌, ℕ, length, Bool, true, false, List, [], ◌∷◌}
-use Rattle.std.proofs.Common.{inl, inr, drop, Some, refl, sym, arith, one-add}
+use Rattle.std.proofs.Common.{◌≡◌, ◌+◌, ◌-◌, ◌<◌, ◌≤◌, ℕ, length, Bool, true, false, List, [], ◌∷◌, inl, inr, drop, Some, refl, sym, arith, one-add}
 use Rattle.std.proofs.lemmas.Bool.{cases_Bool}
-use Rattle.std.proofs.lemmas.Bool.Decides.{nat_tests}
 use Rattle.std.proofs.lemmas.List.{length-drop}
 use Rattle.std.proofs.lemmas.List.Sums.{prefix_len-le-length}
-use Rattle.std.specs.Char.{is_ascii_alphanumeric, is_ascii_digit}
+use Rattle.std.specs.Char.{is_ascii_digit}
 use Rattle.std.specs.List.{list_all, prefix_len, take_while}
-use Rattle.version_parts.specs.Bytes.{is_identifier_byte}
-use Rattle.version_parts.specs.Chunk.{Alphanum, Numeric, chunk_front_of}
-use Rattle.version_parts.specs.Class.{HasDigits}
-use Rattle.version_parts.specs.Front.{begins, map_value}
-use Rattle.version_parts.specs.Numeral.{unsigned_front}
-
-pub digits_alphanumeric : HasDigits is_ascii_alphanumeric
-digits_alphanumeric b digit = grind (arith, nat_tests)
-
-pub digits_identify : HasDigits is_identifier_byte
-digits_identify b digit = rw (digits_alphanumeric b digit) refl
+use Rattle.version_rules.specs.Chunk.{Alphanum, Numeric, chunk_front_of}
+use Rattle.version_rules.specs.Bytes.{HasDigits}
+use Rattle.version_rules.specs.Front.{begins, map_value}
+use Rattle.version_rules.specs.Numeral.{unsigned_front}
+use Rattle.version_rules.proofs.lemmas.Bytes.{digits_alphanumeric, digits_identify}
 
 pub ruleset classes_with_digits = (digits_alphanumeric, digits_identify)
 

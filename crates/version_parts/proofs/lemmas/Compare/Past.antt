@@ -1,6 +1,5 @@
 -- Two streams that pass the same bytes.
-use Rattle.std.proofs.Common.{◌≡◌, ◌∙◌, ℕ, List, [], ◌++◌, take, drop, ap, refl, sym, ◌+◌}
-use Rattle.std.proofs.Common.{append-nil, append_assoc}
+use Rattle.std.proofs.Common.{◌≡◌, ◌∙◌, ℕ, List, [], ◌++◌, take, drop, ap, refl, sym, ◌+◌, append-nil, append_assoc}
 use Rattle.std.proofs.lemmas.List.{drop-drop, take-append-drop}
 use Rattle.version_parts.specs.Pieces.{GonePast}
 

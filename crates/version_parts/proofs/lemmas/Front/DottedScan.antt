@@ -1,15 +1,12 @@
 -- How a scan goes over a dotted list: what it has read so far, and what is left.
-use Rattle.std.proofs.Common.{◌≡◌, ◌∙◌, ◌+◌, ◌-◌, ◌<◌, ◌≤◌, ℕ, suc, take, append-nil, List, [], ◌∷◌}
-use Rattle.std.proofs.Common.{◌++◌, length, Option, Some, None, refl, sym, ap, arith, append_assoc}
-use Rattle.std.proofs.Common.{length-append}
+use Rattle.std.proofs.Common.{◌≡◌, ◌∙◌, ◌+◌, ◌-◌, ◌<◌, ◌≤◌, ℕ, suc, take, append-nil, List, [], ◌∷◌, ◌++◌, length, Option, Some, None, refl, sym, ap, arith, append_assoc, length-append}
 use Rattle.std.proofs.Math.Seq.{take-nil}
 use Rattle.std.specs.Option.{option_map, option_map_or}
-use Rattle.version_parts.specs.Bytes.{dot}
-use Rattle.version_parts.specs.Front.{Consumes, Front, after_mark, behind, dotted_front}
-use Rattle.version_parts.specs.Front.{elements_at, further}
-use Rattle.version_parts.specs.Lists.{split_last}
-use Rattle.version_parts.proofs.lemmas.Front.Dotted.{elements_at-first, further-None, further-next}
-use Rattle.version_parts.proofs.lemmas.Front.Dotted.{listed, unlisted}
+use Rattle.version_rules.specs.Bytes.{dot}
+use Rattle.version_rules.specs.Front.{Consumes, Front, after_mark, behind, dotted_front, elements_at, further}
+use Rattle.version_rules.specs.Lists.{split_last}
+use Rattle.version_rules.proofs.lemmas.Front.Dotted.{elements_at-first, further-None, further-next, listed, unlisted}
+use Rattle.version_rules.proofs.lemmas.Lists.{split_last-append}
 
 -- if a rest is left, a value was read before it
 pub read_before : {X : Type 0} (o : Option (X × List ℕ)) (rest : List ℕ)
@@ -23,12 +20,6 @@ pub nothing_before : {X : Type 0} (o : Option (X × List ℕ)) → None ≡ opti
     → o ≡ None
 nothing_before None e = refl
 nothing_before (Some p) e = cc e
-
--- a list that ends with an item is split there
-pub split_last-append : {X : Type 0} (xs : List X) (x : X)
-    → split_last (xs ++ x ∷ []) ≡ Some (xs, x)
-split_last-append [] x = refl
-split_last-append (y ∷ xs) x = rw (split_last-append xs x) refl
 
 module _ {X : Type 0} (front : Front X) (consumes : Consumes front) where
   -- count elements of the text are read; the last of them begins at `last`, and the rest follows it

@@ -1,6 +1,5 @@
 -- Runs of bytes at the start of a text, and where a text may be cut.
-use Rattle.std.proofs.Common.{◌≡◌, ◌==◌, ◌+◌, ◌++◌, ◌∙◌, ℕ, ◌<◌, ◌≤◌, Bool, true, false, List}
-use Rattle.std.proofs.Common.{length, take, refl, sym, ap, Some, arith, inl, inr, lit<}
+use Rattle.std.proofs.Common.{◌≡◌, ◌==◌, ◌+◌, ◌++◌, ◌∙◌, ℕ, ◌<◌, ◌≤◌, Bool, true, false, List, length, take, refl, sym, ap, Some, arith, inl, inr, lit<}
 use Rattle.std.proofs.lemmas.Bool.{cases_lt, eq-eqb, ne_eqb}
 use Rattle.std.proofs.lemmas.Bool.Decides.{nat_tests}
 use Rattle.std.proofs.lemmas.List.{get_or-take, get_or_past, length-take-le}
@@ -10,12 +9,12 @@ use Rattle.std.proofs.lemmas.Str.{IsCharBoundary-from_take, IsUtf8-from_ascii}
 use Rattle.std.specs.List.{prefix_len}
 use Rattle.std.specs.Str.{IsAscii, IsCharBoundary, IsUtf8}
 use Rattle.std.specs.Char.{is_ascii_alphabetic, is_ascii_alphanumeric, is_ascii_digit}
-use Rattle.version_parts.specs.Bytes.{is_identifier_byte, is_metadata_byte}
+use Rattle.version_rules.specs.Bytes.{is_identifier_byte}
 use Rattle.version_parts.specs.Class.{contains}
-use Rattle.version_parts.specs.Sep.{PlainSep, sep_of}
+use Rattle.version_rules.specs.Sep.{PlainSep, sep_of}
 use Rattle.version_parts.specs.declared.scan.Class.{Class}
-use Rattle.version_parts.specs.declared.scan.Class.TheVariants.{Digit, Letter, Alphanumeric}
-use Rattle.version_parts.specs.declared.scan.Class.TheVariants.{Identifier, Metadata}
+use Rattle.version_parts.specs.declared.scan.Class.TheVariants.{Digit, Letter, Alphanumeric, Identifier, Metadata}
+use Rattle.version_rules.proofs.lemmas.Bytes.{metadata_ascii}
 
 pub digit_ascii : (b : ℕ) → is_ascii_digit b ≡ true → b < 128
 digit_ascii b h = grind (arith, nat_tests)
@@ -28,9 +27,6 @@ letter_ascii b h = grind (arith, nat_tests)
 
 pub identifier_ascii : (b : ℕ) → is_identifier_byte b ≡ true → b < 128
 identifier_ascii b h = grind (arith, nat_tests)
-
-pub metadata_ascii : (b : ℕ) → is_metadata_byte b ≡ true → b < 128
-metadata_ascii b h = grind (arith, nat_tests)
 
 -- a class has bytes of ASCII alone
 pub contains_ascii : (class : Class) (b : ℕ) → contains class b ≡ true → b < 128

@@ -2,8 +2,8 @@
 use Rattle.std.proofs.Common.{◌≡◌, List, map, refl}
 use Rattle.std.proofs.lemmas.List.{length-map}
 use Rattle.std.proofs.lemmas.List.Folds.{flat_map-map}
-use Rattle.std.specs.Hash as fed
 use Rattle.std.specs.Hash.{HashWrites}
+use Rattle.std.specs.Hash as fed
 
 -- items are fed as their plain values are
 pub fed_plain : {T A : Type 0} (plain : T → A) (item_fed : A → HashWrites) (items : List T)

@@ -1,6 +1,6 @@
 use Rattle.std.proofs.Common.{◌≡◌, ◌∙◌, Some, ap, arith, length, sym, take, ◌≤◌, ◌^◌, ◌<◌, min}
-use Rattle.versions.specs.Ends.{end_bytes}
-use Rattle.versions.specs.Key.{key_of}
+use Rattle.version_rules.specs.Ends.{end_bytes}
+use Rattle.version_rules.specs.Key.{key_of}
 use Rattle.version_texts.proofs.lemmas.Bounds.{new_high, written_bound}
 use Rattle.version_texts.specs.VersioningRef.{plain_versioning_ref}
 use Rattle.version_texts.proofs.bounds.earlier_high.Goals as goal

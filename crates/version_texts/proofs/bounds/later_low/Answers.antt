@@ -1,6 +1,6 @@
 use Rattle.std.proofs.Common.{◌∙◌, arith, rules, take}
-use Rattle.versions.specs.Ends.{end_bytes}
-use Rattle.versions.specs.Key.{key_of}
+use Rattle.version_rules.specs.Ends.{end_bytes}
+use Rattle.version_rules.specs.Key.{key_of}
 use Rattle.version_texts.proofs.lemmas.Bounds.{kept_low, new_low, written_bound}
 use Rattle.version_texts.specs.VersioningRef.{plain_versioning_ref}
 use Rattle.version_texts.proofs.bounds.later_low.Goals as goal

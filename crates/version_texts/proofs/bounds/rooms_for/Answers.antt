@@ -1,12 +1,11 @@
 use Rattle.std.proofs.Common.{◌≡◌, ◌∙◌, ap, arith, max, length, sym}
 use Rattle.std.specs.Option.{option_map}
-use Rattle.versions.specs.Range.{requirement_range}
-use Rattle.versions.specs.RequirementsRef.{before_others, members_of}
+use Rattle.version_rules.specs.Range.{requirement_range}
+use Rattle.version_rules.specs.RequirementsRef.{before_others, members_of}
 use Rattle.version_texts.specs.Bounds.{high_length}
 use Rattle.version_texts.specs.RequirementRef.{plain_requirement_ref}
 use Rattle.version_texts.specs.Sinks.{saturated}
-use Rattle.version_texts.proofs.lemmas.Bounds.{larger, no_rooms_before, no_rooms_behind, parsed}
-use Rattle.version_texts.proofs.lemmas.Bounds.{rooms_behind, rooms_with}
+use Rattle.version_texts.proofs.lemmas.Bounds.{larger, no_rooms_before, no_rooms_behind, parsed, rooms_behind, rooms_with}
 use Rattle.version_texts.proofs.bounds.rooms_for.Goals as goal
 
 pub loop-members-init : goal.loop-members-init

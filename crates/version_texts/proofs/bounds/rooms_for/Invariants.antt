@@ -1,7 +1,7 @@
 use Rattle.std.proofs.Common.{◌≡◌, ◌<◌, ◌^◌, length, suc}
 use Rattle.std.specs.Option.{option_map, option_map_or}
-use Rattle.versions.specs.Requirements.{requirements_of}
-use Rattle.versions.specs.RequirementsRef.{members_of}
+use Rattle.version_rules.specs.Requirements.{requirements_of}
+use Rattle.version_rules.specs.RequirementsRef.{members_of}
 use Rattle.version_texts.proofs.lemmas.Bounds.{rooms_with}
 use Rattle.version_texts.specs.Bounds.{rooms_of}
 use Rattle.version_texts.proofs.bounds.rooms_for.Given as goal

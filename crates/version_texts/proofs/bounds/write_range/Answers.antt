@@ -1,10 +1,10 @@
 use Rattle.std.proofs.Common.{◌∙◌, [], None, ap, arith, length, refl, sym, true}
 use Rattle.std.specs.Option.{option_map}
-use Rattle.versions.specs.Range.{range_of, requirement_range}
-use Rattle.versions.specs.Requirement.{requirement_of}
-use Rattle.versions.specs.Requirements.{requirements_of}
-use Rattle.versions.specs.RequirementsRef.{before_others, members_of}
-use Rattle.versions.specs.declared.range.Kinds.{Kinds}
+use Rattle.version_rules.specs.Range.{range_of, requirement_range}
+use Rattle.version_rules.specs.Requirement.{requirement_of}
+use Rattle.version_rules.specs.Requirements.{requirements_of}
+use Rattle.version_rules.specs.RequirementsRef.{before_others, members_of}
+use Rattle.version_rules.specs.declared.kinds.Kinds.{Kinds}
 use Rattle.version_texts.specs.Bounds.{HasRoom, held_range}
 use Rattle.version_texts.specs.RequirementRef.{plain_requirement_ref}
 use Rattle.version_texts.proofs.lemmas.Bounds.{narrowed, narrowed_further}

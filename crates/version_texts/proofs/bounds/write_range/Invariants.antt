@@ -1,8 +1,8 @@
 use Rattle.std.proofs.Common.{◌≡◌, ◌≤◌, IfSome, length, suc}
 use Rattle.std.specs.Option.{is_some, option_map, option_map_or}
-use Rattle.versions.specs.Range.{range_of}
-use Rattle.versions.specs.Requirements.{requirements_of}
-use Rattle.versions.specs.RequirementsRef.{members_of}
+use Rattle.version_rules.specs.Range.{range_of}
+use Rattle.version_rules.specs.Requirements.{requirements_of}
+use Rattle.version_rules.specs.RequirementsRef.{members_of}
 use Rattle.version_texts.specs.Bounds.{HaveRoom, held_range}
 use Rattle.version_texts.proofs.lemmas.Bounds.{IsNarrowed}
 use Rattle.version_texts.proofs.bounds.write_range.Given as goal

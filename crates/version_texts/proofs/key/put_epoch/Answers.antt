@@ -1,8 +1,8 @@
 use Rattle.std.proofs.Common.{ℕ, List, ap, sym}
 use Rattle.std.specs.Char.{is_ascii_digit}
 use Rattle.std.specs.Str.Parse.{digits_value}
-use Rattle.version_parts.specs.NumberBytes.{number_bytes}
-use Rattle.version_parts.proofs.lemmas.Pieces.{take_while-all}
+use Rattle.version_rules.specs.NumberBytes.{number_bytes}
+use Rattle.version_rules.proofs.lemmas.Front.Runs.{take_while-all}
 use Rattle.version_texts.proofs.lemmas.TextKey.Taking.{takes_same}
 use Rattle.version_texts.proofs.key.put_epoch.Goals as goal
 

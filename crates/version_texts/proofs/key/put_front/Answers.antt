@@ -1,9 +1,9 @@
 use Rattle.std.proofs.Common.{ℕ, List, ◌≡◌, ◌∙◌, ◌++◌, ap, sym}
 use Rattle.std.specs.List.{take_while}
 use Rattle.std.specs.Str.Parse.{digits_value}
-use Rattle.version_parts.specs.NumberBytes.{number_bytes}
-use Rattle.version_parts.specs.PartKey.{parts_bytes}
-use Rattle.version_parts.proofs.lemmas.Pieces.{take_while-all}
+use Rattle.version_rules.specs.NumberBytes.{number_bytes}
+use Rattle.version_rules.specs.PartKey.{parts_bytes}
+use Rattle.version_rules.proofs.lemmas.Front.Runs.{take_while-all}
 use Rattle.version_texts.specs.declared.shape.Shape.{Shape}
 use Rattle.version_texts.specs.Shape.{Fits, body_in, epoch_in, is_section_byte}
 use Rattle.version_texts.specs.TextKey.{front_bytes, parts_of, text_key}

@@ -1,7 +1,6 @@
-use Rattle.std.proofs.Common.{◌≡◌, ◌∙◌, ◌+◌, ◌-◌, ◌∷◌, [], ◌++◌, ℕ, List, ap, append_assoc, arith}
-use Rattle.std.proofs.Common.{sym}
-use Rattle.version_parts.specs.NumberBytes.{length_bytes}
-use Rattle.version_parts.proofs.lemmas.NumberBytes.{length_bytes-long, length_bytes-short}
+use Rattle.std.proofs.Common.{◌≡◌, ◌∙◌, ◌+◌, ◌-◌, ◌∷◌, [], ◌++◌, ℕ, List, ap, append_assoc, arith, sym}
+use Rattle.version_rules.specs.NumberBytes.{length_bytes}
+use Rattle.version_rules.proofs.lemmas.NumberBytes.{length_bytes-long, length_bytes-short}
 use Rattle.version_texts.proofs.lemmas.TextKey.Taking.{takes_same}
 use Rattle.version_texts.proofs.key.put_length.Goals as goal
 

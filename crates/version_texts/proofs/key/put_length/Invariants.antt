@@ -1,5 +1,5 @@
 use Rattle.std.proofs.Common.{◌≡◌, ℕ, List, ◌++◌}
-use Rattle.version_parts.specs.NumberBytes.{length_bytes}
+use Rattle.version_rules.specs.NumberBytes.{length_bytes}
 use Rattle.version_texts.proofs.key.put_length.Given as goal
 
 -- some bytes are written, and they begin those of the length: those of what is left follow

@@ -1,6 +1,6 @@
 use Rattle.std.proofs.Common.{[], ◌∷◌, sym}
-use Rattle.version_parts.specs.PartKey.{part_bytes}
-use Rattle.version_parts.proofs.lemmas.PartKey.Lists.{ended}
+use Rattle.version_rules.specs.PartKey.{part_bytes}
+use Rattle.version_rules.proofs.lemmas.Codes.{ended}
 use Rattle.version_texts.proofs.lemmas.TextKey.Taking.{takes_same}
 use Rattle.version_texts.proofs.key.put_list.Goals as goal
 

@@ -1,7 +1,7 @@
 use Rattle.std.proofs.Common.{ℕ, List, ◌∙◌, ap, drop}
 use Rattle.std.specs.Char.{is_ascii_digit}
 use Rattle.std.specs.List.{prefix_len}
-use Rattle.version_parts.proofs.lemmas.Pieces.{is_zero}
+use Rattle.version_rules.proofs.lemmas.NumberBytes.{is_zero}
 use Rattle.version_texts.proofs.lemmas.TextKey.Runs.{number_of_run}
 use Rattle.version_texts.proofs.lemmas.General.RunsWithin.{rest_within, zero_digit}
 use Rattle.version_texts.proofs.lemmas.TextKey.Taking.{takes_same}

@@ -1,13 +1,11 @@
 use Rattle.std.proofs.Common.{ℕ, List, ◌∙◌, ap, drop, sym}
 use Rattle.std.specs.Char.{is_ascii_alphanumeric, is_ascii_digit}
 use Rattle.std.specs.List.{prefix_len}
-use Rattle.version_texts.proofs.lemmas.TextKey.Runs.{plain_of_run, rest_of_plain, suffixed_of_run}
-use Rattle.version_texts.proofs.lemmas.TextKey.Runs.{word_of_run}
+use Rattle.version_texts.proofs.lemmas.TextKey.Runs.{plain_of_run, rest_of_plain, suffixed_of_run, word_of_run}
 use Rattle.version_texts.proofs.lemmas.General.RunsWithin.{digit_alphanumeric, rest_within}
 use Rattle.version_texts.proofs.lemmas.TextKey.Taking.{takes_same}
+use Rattle.version_texts.proofs.key.put_part.Goals.{then-begins_with+else-not-begins_with, else-begins_with}
 use Rattle.version_texts.proofs.key.put_part.Goals as goal
-use Rattle.version_texts.proofs.key.put_part.Goals.{then-begins_with+else-not-begins_with}
-use Rattle.version_texts.proofs.key.put_part.Goals.{else-begins_with}
 
 pub returns-then-not-begins_with-clause-bytes : goal.returns-then-not-begins_with-clause-bytes
 returns-then-not-begins_with-clause-bytes g c =

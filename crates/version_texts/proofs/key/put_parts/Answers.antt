@@ -1,10 +1,8 @@
-use Rattle.std.proofs.Common.{ℕ, List, [], ◌++◌, ◌∙◌, ap, append_assoc, arith, length, refl, rules}
-use Rattle.std.proofs.Common.{sym}
+use Rattle.std.proofs.Common.{ℕ, List, [], ◌++◌, ◌∙◌, ap, append_assoc, arith, length, refl, rules, sym}
 use Rattle.std.proofs.lemmas.List.{length-drop}
 use Rattle.std.specs.Char.{is_ascii_alphanumeric}
 use Rattle.std.specs.List.{prefix_len}
-use Rattle.version_texts.proofs.lemmas.TextKey.DotPieces.{first_part, last_part, part_and_more}
-use Rattle.version_texts.proofs.lemmas.TextKey.DotPieces.{rest_and_more, rest_of_last}
+use Rattle.version_texts.proofs.lemmas.TextKey.DotPieces.{first_part, last_part, part_and_more, rest_and_more, rest_of_last}
 use Rattle.version_texts.proofs.lemmas.TextKey.Taking.{takes_same}
 use Rattle.version_texts.proofs.key.put_parts.Goals as goal
 

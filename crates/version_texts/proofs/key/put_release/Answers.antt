@@ -1,10 +1,8 @@
-use Rattle.std.proofs.Common.{ℕ, List, [], ◌∷◌, ◌++◌, ◌∙◌, ap, append_assoc, arith, length, refl}
-use Rattle.std.proofs.Common.{sym}
+use Rattle.std.proofs.Common.{ℕ, List, [], ◌∷◌, ◌++◌, ◌∙◌, ap, append_assoc, arith, length, refl, sym}
 use Rattle.std.proofs.lemmas.List.{length-drop, nil_from_length}
 use Rattle.std.specs.List.{list_all, prefix_len}
-use Rattle.version_parts.specs.Bytes.{is_identifier_byte}
-use Rattle.version_texts.proofs.lemmas.TextKey.DotPieces.{chunk_and_more, chunk_of_metadata}
-use Rattle.version_texts.proofs.lemmas.TextKey.DotPieces.{last_chunk, not_dot, rest_of_metadata}
+use Rattle.version_rules.specs.Bytes.{is_identifier_byte}
+use Rattle.version_texts.proofs.lemmas.TextKey.DotPieces.{chunk_and_more, chunk_of_metadata, last_chunk, not_dot, rest_of_metadata}
 use Rattle.version_texts.proofs.lemmas.TextKey.Taking.{takes_same}
 use Rattle.version_texts.proofs.key.put_release.Goals as goal
 

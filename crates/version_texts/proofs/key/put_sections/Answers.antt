@@ -1,10 +1,8 @@
-use Rattle.std.proofs.Common.{ℕ, List, [], ◌∷◌, ◌++◌, ◌∙◌, ap, append_assoc, arith, length, refl}
-use Rattle.std.proofs.Common.{sym}
+use Rattle.std.proofs.Common.{ℕ, List, [], ◌∷◌, ◌++◌, ◌∙◌, ap, append_assoc, arith, length, refl, sym}
 use Rattle.std.proofs.lemmas.List.{length-drop, nil_from_length}
 use Rattle.std.specs.List.{prefix_len}
 use Rattle.version_texts.specs.Shape.{is_section_byte}
-use Rattle.version_texts.proofs.lemmas.TextKey.SectionPieces.{behind_all, first_section}
-use Rattle.version_texts.proofs.lemmas.TextKey.SectionPieces.{last_section, section_and_more}
+use Rattle.version_texts.proofs.lemmas.TextKey.SectionPieces.{behind_all, first_section, last_section, section_and_more}
 use Rattle.version_texts.proofs.lemmas.TextKey.Taking.{takes_same}
 use Rattle.version_texts.proofs.key.put_sections.Goals as goal
 

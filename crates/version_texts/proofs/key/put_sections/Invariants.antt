@@ -1,7 +1,7 @@
 use Rattle.std.proofs.Common.{◌≡◌, ℕ, List, ◌++◌, length, true}
 use Rattle.std.specs.List.{list_all}
-use Rattle.version_parts.specs.Codes.{list_bytes}
-use Rattle.versions.specs.Tail.{section_bytes}
+use Rattle.version_rules.specs.Codes.{list_bytes}
+use Rattle.version_rules.specs.Tail.{section_bytes}
 use Rattle.version_texts.specs.declared.shape.TailKind.TheVariants.{Sections}
 use Rattle.version_texts.specs.Shape.{is_tail_byte}
 use Rattle.version_texts.specs.TextKey.{sections_of}

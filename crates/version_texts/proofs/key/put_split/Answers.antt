@@ -1,10 +1,8 @@
 use Rattle.std.proofs.Common.{ℕ, List, ◌∙◌, ap, drop, sym}
 use Rattle.std.specs.Char.{is_ascii_alphabetic, is_ascii_alphanumeric, is_ascii_digit}
 use Rattle.std.specs.List.{prefix_len}
-use Rattle.version_texts.proofs.lemmas.TextKey.Runs.{rest_of_letters, split_of_letters}
-use Rattle.version_texts.proofs.lemmas.TextKey.Runs.{split_of_number}
-use Rattle.version_texts.proofs.lemmas.General.RunsWithin.{digit_alphanumeric, letter_alphanumeric}
-use Rattle.version_texts.proofs.lemmas.General.RunsWithin.{rest_within}
+use Rattle.version_texts.proofs.lemmas.TextKey.Runs.{rest_of_letters, split_of_letters, split_of_number}
+use Rattle.version_texts.proofs.lemmas.General.RunsWithin.{digit_alphanumeric, letter_alphanumeric, rest_within}
 use Rattle.version_texts.proofs.lemmas.TextKey.Taking.{takes_same}
 use Rattle.version_texts.proofs.key.put_split.Goals as goal
 

@@ -1,7 +1,7 @@
 use Rattle.std.proofs.Common.{◌≡◌, ◌∙◌, ℕ, List, ◌∷◌, ap, inl, inr, refl, sym}
-use Rattle.version_parts.specs.Codes.{list_bytes}
-use Rattle.version_parts.specs.ReleaseOrder.{release_bytes}
-use Rattle.versions.specs.Tail.{held_bytes, section_bytes, tail_bytes, tail_rank}
+use Rattle.version_rules.specs.Codes.{list_bytes}
+use Rattle.version_rules.specs.ReleaseOrder.{release_bytes}
+use Rattle.version_rules.specs.Tail.{held_bytes, section_bytes, tail_bytes, tail_rank}
 use Rattle.version_texts.specs.declared.shape.TailKind.{TailKind}
 use Rattle.version_texts.specs.declared.shape.TailKind.TheVariants.{PreRelease, Release, Sections}
 use Rattle.version_texts.specs.TextKey.{chunks_of, sections_of, tail_of}

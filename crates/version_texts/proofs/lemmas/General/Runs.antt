@@ -1,11 +1,10 @@
 -- Texts cut at marks, behind the run that they begin with.
-use Rattle.std.proofs.Common.{◌≡◌, ◌==◌, ℕ, Bool, true, false, List, [], ◌∷◌, drop, not, refl, sym}
-use Rattle.std.proofs.Common.{ap, ◌∙◌, arith, inl, inr, one-add, ◌+◌, ◌<◌, ◌&&◌, zero-add}
+use Rattle.std.proofs.Common.{◌≡◌, ◌==◌, ℕ, Bool, true, false, List, [], ◌∷◌, drop, not, refl, sym, ap, ◌∙◌, arith, inl, inr, one-add, ◌+◌, ◌<◌, ◌&&◌, zero-add}
 use Rattle.std.proofs.lemmas.Bool.{cases_Bool, eqb-true}
 use Rattle.std.proofs.lemmas.List.{drop-drop}
 use Rattle.std.specs.List.{list_all, onto_first, prefix_len, slice_split, take_while}
-use Rattle.version_parts.proofs.lemmas.Front.Runs.{list_all-take_while}
-use Rattle.version_parts.specs.Front.{begins}
+use Rattle.version_rules.proofs.lemmas.Front.Runs.{list_all-take_while}
+use Rattle.version_rules.specs.Front.{begins}
 
 -- what a run that passes leaves, byte by byte
 pub run_cons : (test : ℕ → Bool) (b : ℕ) (text : List ℕ) → test b ≡ true

@@ -1,11 +1,10 @@
 -- Runs of bytes of a class, and runs within runs.
-use Rattle.std.proofs.Common.{◌≡◌, ◌==◌, ◌∙◌, ℕ, Bool, true, false, List, [], ◌∷◌, ◌++◌, drop, refl}
-use Rattle.std.proofs.Common.{sym, ap, inl, inr, arith, one-add}
+use Rattle.std.proofs.Common.{◌≡◌, ◌==◌, ◌∙◌, ℕ, Bool, true, false, List, [], ◌∷◌, ◌++◌, drop, refl, sym, ap, inl, inr, arith, one-add}
 use Rattle.std.proofs.lemmas.Bool.{cases_Bool}
 use Rattle.std.proofs.lemmas.Bool.Decides.{nat_tests}
 use Rattle.std.specs.Char.{is_ascii_alphabetic, is_ascii_alphanumeric, is_ascii_digit}
 use Rattle.std.specs.List.{prefix_len, take_while}
-use Rattle.version_parts.specs.Front.{begins}
+use Rattle.version_rules.specs.Front.{begins}
 use Rattle.std.proofs.lemmas.List.{drop-drop}
 use Rattle.version_texts.proofs.lemmas.General.Runs.{larger_run, run_none}
 

@@ -1,14 +1,13 @@
 -- A text split at each byte that passes a test: the pieces of a text that is put together, and the
 -- text put together from its pieces.
-use Rattle.std.proofs.Common.{◌≡◌, ◌∙◌, ◌<◌, ℕ, Bool, true, false, List, [], ◌∷◌, ◌++◌, length}
-use Rattle.std.proofs.Common.{refl, ap, arith, inl, inr}
+use Rattle.std.proofs.Common.{◌≡◌, ◌∙◌, ◌<◌, ℕ, Bool, true, false, List, [], ◌∷◌, ◌++◌, length, refl, ap, arith, inl, inr}
 use Rattle.std.proofs.lemmas.Bool.{and_from, cases_Bool}
 use Rattle.std.proofs.lemmas.List.Folds.{list_all-append}
 use Rattle.std.proofs.lemmas.List.Splits.{length-slice_split}
 use Rattle.std.specs.Cmp.{first_so, second_so}
 use Rattle.std.specs.List.{list_all, onto_first, slice_split}
-use Rattle.version_parts.specs.Bytes.{dot}
-use Rattle.version_parts.specs.Grammar.{SpellsDotted}
+use Rattle.version_rules.specs.Bytes.{dot}
+use Rattle.version_rules.specs.Grammar.{SpellsDotted}
 
 -- the text is the pieces one after another, with a byte between each two that passes the test
 unfoldable pub JoinedBy : (ℕ → Bool) → List ℕ → List (List ℕ) → Type 0

@@ -1,7 +1,5 @@
 -- The number at a place of a body is that of its chunk, or the first number of its last part.
-use Rattle.std.proofs.Common.{◌≡◌, ◌==◌, ◌∙◌, ◌^◌, if◌then◌else◌, ℕ, zero, suc, Bool, true}
-use Rattle.std.proofs.Common.{false, List, [], ◌∷◌, ◌++◌, drop, length, map, nat_lt, Option, Some}
-use Rattle.std.proofs.Common.{None, refl, sym, ap, inl, inr, arith, append-nil}
+use Rattle.std.proofs.Common.{◌≡◌, ◌==◌, ◌∙◌, ◌^◌, if◌then◌else◌, ℕ, zero, suc, Bool, true, false, List, [], ◌∷◌, ◌++◌, drop, length, map, nat_lt, Option, Some, None, refl, sym, ap, inl, inr, arith, append-nil}
 use Rattle.std.proofs.Math.Dec.{eqb-suc-suc, eqb-suc-zero, eqb-zero-suc}
 use Rattle.std.proofs.lemmas.Bool.{cases_Bool, eqb-true, lt-ltb, or_cases, or_right}
 use Rattle.std.proofs.lemmas.List.{drop-map, drop_at, nil_from_length, take-append-drop, take_at}
@@ -10,29 +8,24 @@ use Rattle.std.specs.Cmp.{first_so}
 use Rattle.std.specs.List.{list_all, prefix_len, slice_get, take_while}
 use Rattle.std.specs.Option.{option_and_then}
 use Rattle.std.specs.Str.Parse.{digits_value}
-use Rattle.version_parts.specs.Body.{PlainBody, SpellsBody}
-use Rattle.version_parts.specs.Chunk as chunk
-use Rattle.version_parts.specs.Chunk.{PlainChunk, SpellsPart, number_of}
-use Rattle.version_parts.specs.Front.{begins}
-use Rattle.version_parts.specs.Last.{Alphanum, IsLastOf, IsLetters, IsOther, Numeric, PlainLast}
-use Rattle.version_parts.specs.Last.{Post, Rc, first_number, last_of}
-use Rattle.version_parts.specs.MChunk.{value_of_digits}
-use Rattle.version_parts.specs.Numeral.{SpellsNumeral}
-use Rattle.version_parts.proofs.lemmas.Chunk.{digit_alphanumeric}
-use Rattle.version_parts.proofs.lemmas.Front.Runs.{begins-drop, list_all-take_while}
-use Rattle.version_parts.proofs.lemmas.Front.Runs.{prefix_len-append}
-use Rattle.version_parts.proofs.lemmas.Last.{last_of-is, last_of-only}
-use Rattle.version_parts.proofs.lemmas.Pieces.{letter_other}
-use Rattle.version_texts.specs.Numbers.{after_letters, body_number, is_numeral_or_empty}
-use Rattle.version_texts.specs.Numbers.{last_number, numeral_value}
+use Rattle.version_rules.specs.Body.{PlainBody, SpellsBody}
+use Rattle.version_rules.specs.Chunk.{PlainChunk, SpellsPart, number_of}
+use Rattle.version_rules.specs.Front.{begins}
+use Rattle.version_rules.specs.Last.{Alphanum, IsLastOf, IsLetters, IsOther, Numeric, PlainLast, Post, Rc, first_number, last_of}
+use Rattle.version_rules.specs.MChunk.{value_of_digits}
+use Rattle.version_rules.specs.Numeral.{SpellsNumeral}
+use Rattle.version_rules.proofs.lemmas.Chunk.{digit_alphanumeric}
+use Rattle.version_rules.proofs.lemmas.Front.Runs.{begins-drop, list_all-take_while, prefix_len-append}
+use Rattle.version_rules.proofs.lemmas.Last.{last_of-is, last_of-only}
+use Rattle.version_rules.proofs.lemmas.Bytes.{letter_other}
+use Rattle.version_texts.specs.Numbers.{after_letters, body_number, is_numeral_or_empty, last_number, numeral_value}
 use Rattle.version_texts.specs.Piece.{behind_digits, is_dot}
 use Rattle.version_texts.specs.TextKey.{pieces}
 use Rattle.version_texts.specs.TextKind.{is_numeral}
-use Rattle.version_texts.proofs.lemmas.Piece.Spelled.{NonePass, alphanumeric_no_dot, chunk_bytes}
-use Rattle.version_texts.proofs.lemmas.Piece.Spelled.{none_pass, pieces_give}
-use Rattle.version_texts.proofs.lemmas.TextKind.Chunks.{digits_from, numeral_passes}
-use Rattle.version_texts.proofs.lemmas.TextKind.Chunks.{numeral_spells}
+use Rattle.version_texts.proofs.lemmas.Piece.Spelled.{NonePass, alphanumeric_no_dot, chunk_bytes, none_pass, pieces_give}
+use Rattle.version_texts.proofs.lemmas.TextKind.Chunks.{digits_from, numeral_passes, numeral_spells}
 use Rattle.version_texts.proofs.lemmas.TextKind.Runs.{digits_not}
+use Rattle.version_rules.specs.Chunk as chunk
 
 -- ---- one part
 

@@ -1,10 +1,9 @@
 -- The pieces of a text from a place on.
-use Rattle.std.proofs.Common.{◌≡◌, ◌==◌, ◌∙◌, ◌+◌, ◌-◌, ◌<◌, ◌≤◌, ℕ, zero, suc, true, false, List, []}
-use Rattle.std.proofs.Common.{◌∷◌, drop, length, refl, sym, ap, arith}
+use Rattle.std.proofs.Common.{◌≡◌, ◌==◌, ◌∙◌, ◌+◌, ◌-◌, ◌<◌, ◌≤◌, ℕ, zero, suc, true, false, List, [], ◌∷◌, drop, length, refl, sym, ap, arith}
 use Rattle.std.proofs.Math.Dec.{eqb-suc-zero}
 use Rattle.std.proofs.Math.Seq.{drop-nil}
 use Rattle.std.proofs.lemmas.List.{drop-drop}
-use Rattle.version_parts.specs.MChunk.{value_of_digits}
+use Rattle.version_rules.specs.MChunk.{value_of_digits}
 use Rattle.version_texts.specs.Numbers.{body_number, chunk_number, last_number}
 use Rattle.version_texts.specs.Piece.{behind_piece, first_piece, further_pieces, is_dot}
 use Rattle.version_texts.specs.TextKey.{pieces}

@@ -1,40 +1,30 @@
 -- The number at a place of a messy version is that of the chunk at this place of its first section
 -- that no colon follows.
-use Rattle.std.proofs.Common.{◌≡◌, ◌∙◌, ℕ, zero, suc, Bool, true, false, not, List, [], ◌∷◌, ◌++◌}
-use Rattle.std.proofs.Common.{drop, length, map, Option, refl, sym, ap, inl, inr, arith}
-use Rattle.std.proofs.Common.{append-nil}
+use Rattle.std.proofs.Common.{◌≡◌, ◌∙◌, ℕ, zero, suc, Bool, true, false, not, List, [], ◌∷◌, ◌++◌, drop, length, map, Option, refl, sym, ap, inl, inr, arith, append-nil}
 use Rattle.std.proofs.lemmas.Bool.Decides.{nat_tests}
 use Rattle.std.proofs.lemmas.List.{drop_at, take_at}
 use Rattle.std.proofs.lemmas.List.Splits.{slice_split_at, slice_split_none}
 use Rattle.std.specs.List.{before_first, prefix_len, slice_get, slice_split}
 use Rattle.std.specs.Option.{option_and_then}
-use Rattle.version_parts.specs.Bytes.{colon}
-use Rattle.version_parts.specs.Front.{begins}
-use Rattle.version_parts.specs.Grammar.{SpellsEach}
-use Rattle.version_parts.specs.MChunk.{PlainMChunk, SpellsMChunk, digits_number}
-use Rattle.version_parts.specs.MChunk.{value_of_digits, value_of_revision, variant_of}
-use Rattle.version_parts.specs.Sep.{PlainSep, Colon, Hyphen, Plus, Tilde, Underscore, is_sep}
-use Rattle.version_parts.specs.Sep.{sep_byte}
-use Rattle.version_parts.proofs.lemmas.Front.Dotted.{cases_Option}
-use Rattle.version_parts.proofs.lemmas.Front.Runs.{begins-drop, list_all-take_while}
-use Rattle.version_parts.proofs.lemmas.Front.Runs.{prefix_len-append}
-use Rattle.version_parts.proofs.lemmas.Grammar.{all_weaker}
-use Rattle.version_parts.proofs.lemmas.MChunk.{spelled_run, spelled_variant}
-use Rattle.versions.specs.Mess.{Further, PlainMess, Section, SpellsFurther, SpellsMess}
-use Rattle.versions.specs.Mess.{SpellsSection, behind_colons, nth_number}
-use Rattle.version_texts.specs.Numbers.{chunk_number, is_other_sign, last_piece}
-use Rattle.version_texts.specs.Numbers.{section_in}
+use Rattle.version_rules.specs.Bytes.{colon}
+use Rattle.version_rules.specs.Front.{begins}
+use Rattle.version_rules.specs.Grammar.{SpellsEach}
+use Rattle.version_rules.specs.MChunk.{PlainMChunk, SpellsMChunk, digits_number, value_of_digits, value_of_revision, variant_of}
+use Rattle.version_rules.specs.Sep.{PlainSep, Colon, Hyphen, Plus, Tilde, Underscore, is_sep, sep_byte}
+use Rattle.version_rules.proofs.lemmas.Front.Repeated.{cases_Option}
+use Rattle.version_rules.proofs.lemmas.Front.Runs.{begins-drop, list_all-take_while, prefix_len-append, all_weaker}
+use Rattle.version_rules.proofs.lemmas.MChunk.{spelled_run, spelled_variant}
+use Rattle.version_rules.specs.Mess.{Further, PlainMess, Section, SpellsFurther, SpellsMess, SpellsSection, behind_colons, nth_number}
+use Rattle.version_texts.specs.Numbers.{chunk_number, is_other_sign, last_piece, section_in}
 use Rattle.version_texts.specs.Piece.{from_first, is_dot}
 use Rattle.version_texts.specs.Shape.{is_section_byte}
 use Rattle.version_texts.specs.TextKey.{pieces}
 use Rattle.version_texts.proofs.lemmas.General.Runs.{not_false}
 use Rattle.version_texts.proofs.lemmas.General.RunsWithin.{run_and_more}
 use Rattle.version_texts.proofs.lemmas.Piece.{piece_ends, piece_grows, pieces_are}
-use Rattle.version_texts.proofs.lemmas.Piece.Spelled.{NonePass, alphanumeric_no_dot, none_pass}
-use Rattle.version_texts.proofs.lemmas.Piece.Spelled.{pieces_give, section_bytes}
+use Rattle.version_texts.proofs.lemmas.Piece.Spelled.{NonePass, alphanumeric_no_dot, none_pass, pieces_give, section_bytes}
 use Rattle.version_texts.proofs.lemmas.Shape.Positions.{is_colon}
-use Rattle.version_texts.proofs.lemmas.TextKey.Sections.{further_text-is, no_further}
-use Rattle.version_texts.proofs.lemmas.TextKey.Sections.{section_no_sep, sign_bytes}
+use Rattle.version_texts.proofs.lemmas.TextKey.Sections.{further_text-is, no_further, section_no_sep, sign_bytes}
 
 -- ---- the chunks of a section
 

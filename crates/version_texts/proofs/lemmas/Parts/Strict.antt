@@ -1,19 +1,18 @@
 -- Whether three plain numbers match, as numbers and as lists of parts.
-use Rattle.std.proofs.Common.{◌≡◌, ◌↔◌, ◌⊎◌, ◌∙◌, ◌<◌, ◌≤◌, ◌==◌, ℕ, suc, zero, true, false, List}
-use Rattle.std.proofs.Common.{[], ◌∷◌, Some, IsTrue, ap, arith, inl, inr, refl, sym}
+use Rattle.std.proofs.Common.{◌≡◌, ◌↔◌, ◌⊎◌, ◌∙◌, ◌<◌, ◌≤◌, ◌==◌, ℕ, suc, zero, true, false, List, [], ◌∷◌, Some, IsTrue, ap, arith, inl, inr, refl, sym}
 use Rattle.std.proofs.Math.Dec.{eqb-suc-zero}
 use Rattle.std.specs.Bool.{MatchBool, ⊤}
 use Rattle.std.specs.Cmp.{Equal-is, nat_cmp_is}
 use Rattle.std.specs.Ordering.{is_eq, is_ge, nat_cmp, ordering_then}
 use Rattle.std.specs.declared.cmp.Ordering.{Ordering}
 use Rattle.std.specs.declared.cmp.Ordering.TheVariants.{Less, Equal, Greater}
-use Rattle.version_parts.proofs.lemmas.NumberBytes.{above, below}
-use Rattle.version_parts.specs.OrderLaws.{then_equal}
-use Rattle.version_parts.specs.PartKey.{PartKey, list_cmp, part_cmp}
-use Rattle.versions.proofs.lemmas.VersionMatch.{at_the_end, first_same}
-use Rattle.versions.specs.Key.{plain, strict_body}
-use Rattle.versions.specs.SemVerMatch.{MatchesCaret, MatchesMinor, MatchesTilde, Numbers}
-use Rattle.versions.specs.VersionMatch.{IsNotBelow, PartsMatchCaret, PartsMatchTilde, is_plain_zero}
+use Rattle.version_rules.proofs.lemmas.NumberBytes.{above, below}
+use Rattle.version_rules.specs.laws.Order.{then_equal}
+use Rattle.version_rules.specs.PartKey.{PartKey, list_cmp, part_cmp}
+use Rattle.version_rules.proofs.lemmas.VersionMatch.{at_the_end, first_same}
+use Rattle.version_rules.specs.Key.{plain, strict_body}
+use Rattle.version_rules.specs.SemVerMatch.{MatchesCaret, MatchesMinor, MatchesTilde, Numbers}
+use Rattle.version_rules.specs.VersionMatch.{IsNotBelow, PartsMatchCaret, PartsMatchTilde, is_plain_zero}
 
 -- plain numbers compare by value
 plain_cmp : (m n : ℕ) → part_cmp (Some (plain m)) (Some (plain n)) ≡ nat_cmp m n

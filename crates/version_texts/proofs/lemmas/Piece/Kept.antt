@@ -1,7 +1,5 @@
 -- The parts of a text before its last dot, and through its first part that is not a plain zero.
-use Rattle.std.proofs.Common.{◌≡◌, ◌+◌, ◌-◌, ◌<◌, ◌≤◌, ◌∙◌, ℕ, Bool, Bor, true, false, IfSome, List}
-use Rattle.std.proofs.Common.{[], ◌∷◌, ◌++◌, get_or, length, map, take, Option, Some, None, refl}
-use Rattle.std.proofs.Common.{sym, ap, arith, inl, inr, append-nil, append_assoc, length-append}
+use Rattle.std.proofs.Common.{◌≡◌, ◌+◌, ◌-◌, ◌<◌, ◌≤◌, ◌∙◌, ℕ, Bool, Bor, true, false, IfSome, List, [], ◌∷◌, ◌++◌, get_or, length, map, take, Option, Some, None, refl, sym, ap, arith, inl, inr, append-nil, append_assoc, length-append}
 use Rattle.std.proofs.lemmas.Bool.{cases_Bool}
 use Rattle.std.proofs.lemmas.List.{map-append, take-append-drop, take_all, take_at}
 use Rattle.std.proofs.lemmas.Grind.{take_at_read}
@@ -10,10 +8,10 @@ use Rattle.std.proofs.lemmas.List.Splits.{slice_split_none}
 use Rattle.std.proofs.lemmas.List.Folds.{list_all-append}
 use Rattle.std.specs.Cmp.{first_so}
 use Rattle.std.specs.List.{list_all, position_or_len}
-use Rattle.version_parts.specs.PartKey.{PartKey, part_key}
-use Rattle.version_parts.proofs.lemmas.Front.DottedScan.{split_last-append}
-use Rattle.versions.specs.Range.{but_last, through_other}
-use Rattle.versions.specs.VersionMatch.{is_plain_zero}
+use Rattle.version_rules.specs.PartKey.{PartKey, part_key}
+use Rattle.version_rules.proofs.lemmas.Lists.{split_last-append}
+use Rattle.version_rules.specs.Range.{but_last, through_other}
+use Rattle.version_rules.specs.VersionMatch.{is_plain_zero}
 use Rattle.version_texts.specs.Piece.{behind_piece, first_piece, is_dot}
 use Rattle.version_texts.specs.TextKey.{parts_of, pieces}
 use Rattle.version_texts.proofs.lemmas.Parts.{parts_begin}

@@ -6,10 +6,10 @@ use Rattle.std.specs.Ordering.{nat_cmp, ordering_index, ordering_then}
 use Rattle.std.specs.Str.Parse.{digits_value}
 use Rattle.std.specs.declared.cmp.Ordering.{Ordering}
 use Rattle.std.specs.declared.cmp.Ordering.TheVariants.{Less, Equal, Greater}
-use Rattle.version_parts.specs.DigitRun.{run_value, starts_with_digit}
-use Rattle.version_parts.specs.Lists.{none_last_cmp}
-use Rattle.version_parts.specs.PartKey.{part_cmp, part_key, suffix_of}
-use Rattle.version_parts.specs.Split.{split_cmp, split_of}
+use Rattle.version_rules.specs.DigitRun.{run_value, starts_with_digit}
+use Rattle.version_rules.specs.Lists.{none_last_cmp}
+use Rattle.version_rules.specs.PartKey.{part_cmp, part_key, suffix_of}
+use Rattle.version_rules.specs.Split.{split_cmp, split_of}
 use Rattle.version_texts.proofs.lemmas.Piece.{part_of_number, part_of_word}
 use Rattle.version_texts.specs.Piece.{behind_digits, first_piece}
 

@@ -1,6 +1,5 @@
 -- The pieces of a text between its dots are the texts of the elements of a list that it spells.
-use Rattle.std.proofs.Common.{◌≡◌, ◌∙◌, ℕ, Bool, true, false, List, [], ◌∷◌, ◌++◌, map, refl, sym}
-use Rattle.std.proofs.Common.{ap, arith}
+use Rattle.std.proofs.Common.{◌≡◌, ◌∙◌, ℕ, Bool, true, false, List, [], ◌∷◌, ◌++◌, map, refl, sym, ap, arith}
 use Rattle.std.proofs.lemmas.Bool.Decides.{nat_tests}
 use Rattle.std.proofs.lemmas.List.{map-append, map-id}
 use Rattle.std.proofs.lemmas.List.Elements.{All-cons, All-nil}
@@ -9,19 +8,18 @@ use Rattle.std.proofs.lemmas.List.Splits.{slice_split_at, slice_split_none}
 use Rattle.std.specs.Char.{is_ascii_alphanumeric, is_ascii_digit}
 use Rattle.std.specs.Cmp.{first_so, second_so}
 use Rattle.std.specs.List.{All, list_all}
-use Rattle.version_parts.specs.Body.{PlainBody, SpellsBody}
-use Rattle.version_parts.specs.Bytes.{dot, is_identifier_byte, is_metadata_byte}
-use Rattle.version_parts.specs.Chunk.{Alphanum, Numeric, PlainChunk, SpellsChunk, SpellsChunkOf}
-use Rattle.version_parts.specs.Chunk.{SpellsPart, chunk_text}
-use Rattle.version_parts.specs.Grammar.{SpellsDotted}
-use Rattle.version_parts.specs.Last.{last_text}
-use Rattle.version_parts.specs.MChunk.{PlainMChunk, SpellsMChunk, mchunk_text}
-use Rattle.version_parts.specs.PartKey.{chunk_parts, part_key, section_parts}
-use Rattle.version_parts.specs.Release.{SpellsRelease}
-use Rattle.version_parts.proofs.lemmas.Chunk.{digit_alphanumeric, part_printed}
-use Rattle.version_parts.proofs.lemmas.Last.{last_printed}
-use Rattle.version_parts.proofs.lemmas.MChunk.{mchunk_printed, spelled_run}
-use Rattle.version_parts.proofs.lemmas.Grammar.{all_weaker}
+use Rattle.version_rules.specs.Body.{PlainBody, SpellsBody}
+use Rattle.version_rules.specs.Bytes.{dot, is_identifier_byte, is_metadata_byte}
+use Rattle.version_rules.specs.Chunk.{Alphanum, Numeric, PlainChunk, SpellsChunk, SpellsChunkOf, SpellsPart, chunk_text}
+use Rattle.version_rules.specs.Grammar.{SpellsDotted}
+use Rattle.version_rules.specs.Last.{last_text}
+use Rattle.version_rules.specs.MChunk.{PlainMChunk, SpellsMChunk, mchunk_text}
+use Rattle.version_rules.specs.PartKey.{chunk_parts, part_key, section_parts}
+use Rattle.version_rules.specs.Release.{SpellsRelease}
+use Rattle.version_rules.proofs.lemmas.Chunk.{digit_alphanumeric, part_printed}
+use Rattle.version_rules.proofs.lemmas.Last.{last_printed}
+use Rattle.version_rules.proofs.lemmas.MChunk.{mchunk_printed, spelled_run}
+use Rattle.version_rules.proofs.lemmas.Front.Runs.{all_weaker}
 use Rattle.version_texts.specs.Piece.{is_dot}
 use Rattle.version_texts.specs.Shape.{is_section_byte}
 use Rattle.version_texts.specs.TextKey.{chunk_of, chunks_of, parts_of, pieces}

@@ -1,7 +1,5 @@
 -- The versions that `~` or `^` matches begin as the wanted version does, if that is strict.
-use Rattle.std.proofs.Common.{◌≡◌, ◌⊎◌, ◌∙◌, ◌+◌, ℕ, suc, true, false, List, [], ◌∷◌, ◌++◌, length}
-use Rattle.std.proofs.Common.{take, Some, refl, sym, ap, arith, inl, inr, nat_eq, one-add}
-use Rattle.std.proofs.Common.{append_assoc, length-append}
+use Rattle.std.proofs.Common.{◌≡◌, ◌⊎◌, ◌∙◌, ◌+◌, ℕ, suc, true, false, List, [], ◌∷◌, ◌++◌, length, take, Some, refl, sym, ap, arith, inl, inr, nat_eq, one-add, append_assoc, length-append}
 use Rattle.std.proofs.lemmas.Bool.{cases_Bool, eqb-true}
 use Rattle.std.proofs.lemmas.List.{take_at}
 use Rattle.std.proofs.lemmas.List.Elements.{All-head}
@@ -10,21 +8,17 @@ use Rattle.std.specs.Cmp.{first_so, second_so}
 use Rattle.std.specs.Cmp.Lexicographic.{other_text}
 use Rattle.std.specs.Fmt.{decimal}
 use Rattle.std.specs.List.{list_all, position_or_len, starts_with}
-use Rattle.version_parts.specs.Bytes.{dot}
-use Rattle.version_parts.proofs.lemmas.Front.Dotted.{cases_Option}
-use Rattle.version_parts.proofs.lemmas.Numeral.{numeral_printed}
-use Rattle.versions.specs.declared.kind.Kind.TheVariants as kind
-use Rattle.versions.specs.declared.op.Op.TheVariants as op
-use Rattle.versions.specs.Kind.{versioning_kind}
-use Rattle.versions.specs.Matching.{Matches, MatchesCaret, MatchesTilde}
-use Rattle.versions.specs.Requirement.{PlainRequirement}
-use Rattle.versions.specs.RequirementsRef.{Keeps}
-use Rattle.versions.specs.SemVer.{PlainSemVer, SpellsSemVer}
-use Rattle.versions.specs.SemVerMatch as strict
-use Rattle.versions.specs.SemVerMatch.{Numbers, both_zero, numbers}
-use Rattle.versions.specs.Versioning.{PlainVersioning, Ideal, General, Complex, SpellsVersioning}
-use Rattle.versions.specs.Versioning.{versioning_of}
-use Rattle.versions.proofs.lemmas.Versioning.{versioning_of-spells}
+use Rattle.version_rules.specs.Bytes.{dot}
+use Rattle.version_rules.proofs.lemmas.Front.Repeated.{cases_Option}
+use Rattle.version_rules.proofs.lemmas.Numeral.{numeral_printed}
+use Rattle.version_rules.specs.Kind.{versioning_kind}
+use Rattle.version_rules.specs.Matching.{Matches, MatchesCaret, MatchesTilde}
+use Rattle.version_rules.specs.Requirement.{PlainRequirement}
+use Rattle.version_rules.specs.RequirementsRef.{Keeps}
+use Rattle.version_rules.specs.SemVer.{PlainSemVer, SpellsSemVer}
+use Rattle.version_rules.specs.SemVerMatch.{Numbers, both_zero, numbers}
+use Rattle.version_rules.specs.Versioning.{PlainVersioning, Ideal, General, Complex, SpellsVersioning, versioning_of}
+use Rattle.version_rules.proofs.lemmas.Versioning.{versioning_of-spells}
 use Rattle.version_texts.proofs.lemmas.VersioningRef.{kind-is, spells-is}
 use Rattle.version_texts.proofs.lemmas.Piece.Spelled.{digit_no_dot}
 use Rattle.version_texts.specs.declared.shape.Shape.{Shape}
@@ -32,6 +26,9 @@ use Rattle.version_texts.specs.Piece.{is_dot}
 use Rattle.version_texts.specs.RequirementsRef.{IsFront}
 use Rattle.version_texts.specs.Shape.{shape_of}
 use Rattle.version_texts.specs.VersioningRef.{major_text, version_in}
+use Rattle.version_rules.specs.declared.kind.Kind.TheVariants as kind
+use Rattle.version_rules.specs.declared.op.Op.TheVariants as op
+use Rattle.version_rules.specs.SemVerMatch as strict
 
 -- the text of a strict version begins with its major number and a dot
 abbrev Begins : List ℕ → List ℕ → Type 0

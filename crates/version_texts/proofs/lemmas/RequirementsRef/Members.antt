@@ -1,7 +1,5 @@
 -- The members of a list of requirements, by the place of its first comma.
-use Rattle.std.proofs.Common.{◌≡◌, ◌==◌, ◌<◌, ◌+◌, ◌-◌, ◌∙◌, ℕ, false, List, [], ◌∷◌, map, ap}
-use Rattle.std.proofs.Common.{Option, Some, None, arith, drop, if◌then◌else◌, length}
-use Rattle.std.proofs.Common.{length-drop, refl, sym, take}
+use Rattle.std.proofs.Common.{◌≡◌, ◌==◌, ◌<◌, ◌+◌, ◌-◌, ◌∙◌, ℕ, false, List, [], ◌∷◌, map, ap, Option, Some, None, arith, drop, if◌then◌else◌, length, length-drop, refl, sym, take}
 use Rattle.std.proofs.lemmas.List.{take_all}
 use Rattle.std.proofs.lemmas.List.Elements.{All-from_get_or}
 use Rattle.std.proofs.lemmas.List.Splits.{slice_split_first, slice_split_none}
@@ -9,9 +7,9 @@ use Rattle.std.proofs.lemmas.List.Sums.{fails_before_first}
 use Rattle.std.specs.List.{after_first, before_first, position_or_len}
 use Rattle.std.specs.Option.{is_none, is_some}
 use Rattle.version_texts.specs.RequirementsRef.{cut_at_commas, first_wrong}
-use Rattle.versions.specs.Requirement.{PlainRequirement, requirement_of}
-use Rattle.versions.specs.Requirements.{comma, every, requirements_of}
-use Rattle.versions.specs.RequirementsRef.{before_others}
+use Rattle.version_rules.specs.Requirement.{PlainRequirement, requirement_of}
+use Rattle.version_rules.specs.Requirements.{comma, every, requirements_of}
+use Rattle.version_rules.specs.RequirementsRef.{before_others}
 
 -- a text without a comma is one piece
 pub one_piece : (text : List ℕ) → position_or_len (λ b. b == comma) text ≡ length text

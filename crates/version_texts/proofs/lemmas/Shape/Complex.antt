@@ -1,7 +1,5 @@
 -- The pieces of a messy version by its shape, and that its shape fits its text.
-use Rattle.std.proofs.Common.{◌≡◌, ◌==◌, ◌&&◌, ◌+◌, ◌<◌, ◌∙◌, ℕ, Bool, true, false, List, [], ◌∷◌}
-use Rattle.std.proofs.Common.{◌++◌, drop, length, Option, Some, None, refl, sym, ap, arith, inl}
-use Rattle.std.proofs.Common.{inr}
+use Rattle.std.proofs.Common.{◌≡◌, ◌==◌, ◌&&◌, ◌+◌, ◌<◌, ◌∙◌, ℕ, Bool, true, false, List, [], ◌∷◌, ◌++◌, drop, length, Option, Some, None, refl, sym, ap, arith, inl, inr}
 use Rattle.std.proofs.lemmas.Bool.{cases_Bool, ne_eqb}
 use Rattle.std.proofs.lemmas.List.{take_rest}
 use Rattle.std.specs.Cmp.{second_so}
@@ -9,31 +7,22 @@ use Rattle.std.specs.List.{list_all}
 use Rattle.std.specs.Option.{option_map}
 use Rattle.std.specs.Prelude.{slice_range}
 use Rattle.std.specs.Str.Parse.{digits_value}
-use Rattle.version_parts.specs.Bytes.{colon}
-use Rattle.version_parts.specs.DigitRun.{is_digits}
-use Rattle.version_parts.specs.Front.{begins}
-use Rattle.version_parts.specs.Grammar.{SpellsEach}
-use Rattle.version_parts.specs.Sep.{PlainSep, Colon, Hyphen, Plus, Underscore, Tilde, sep_byte}
-use Rattle.versions.specs.declared.kind.Kind.TheVariants as kind
-use Rattle.versions.specs.Key.{key_behind_epoch, key_from_first, key_of_sections, mess_epoch}
-use Rattle.versions.specs.Key.{sections_tail}
-use Rattle.versions.specs.Mess.{Further, PlainMess, Section, SpellsFurther, SpellsMess}
-use Rattle.versions.specs.Mess.{SpellsSection, joined_section}
+use Rattle.version_rules.specs.Bytes.{colon}
+use Rattle.version_rules.specs.DigitRun.{is_digits}
+use Rattle.version_rules.specs.Front.{begins}
+use Rattle.version_rules.specs.Grammar.{SpellsEach}
+use Rattle.version_rules.specs.Sep.{PlainSep, Colon, Hyphen, Plus, Underscore, Tilde, sep_byte}
+use Rattle.version_rules.specs.Key.{key_behind_epoch, key_from_first, key_of_sections, mess_epoch, sections_tail}
+use Rattle.version_rules.specs.Mess.{Further, PlainMess, Section, SpellsFurther, SpellsMess, SpellsSection, joined_section}
 use Rattle.version_texts.specs.declared.shape.TailKind.TheVariants.{Nothing, Sections}
-use Rattle.version_texts.specs.Shape.{Fits, TailFits, behind_body, body_end, is_tail_byte, shape_at}
-use Rattle.version_texts.specs.Shape.{tail_kind}
+use Rattle.version_texts.specs.Shape.{Fits, TailFits, behind_body, body_end, is_tail_byte, shape_at, tail_kind}
 use Rattle.version_texts.specs.TextKey.{sections_of, tail_of, tail_of_sections}
-use Rattle.version_texts.proofs.lemmas.Shape.Positions.{IsCut, and_false, behind_body-is}
-use Rattle.version_texts.proofs.lemmas.Shape.Positions.{cut_behind_epoch, cut_without_epoch}
-use Rattle.version_texts.proofs.lemmas.Shape.Positions.{is_colon}
+use Rattle.version_texts.proofs.lemmas.Shape.Positions.{IsCut, and_false, behind_body-is, cut_behind_epoch, cut_without_epoch, is_colon}
 use Rattle.version_texts.proofs.lemmas.Piece.Spelled.{section_bytes}
-use Rattle.version_texts.proofs.lemmas.TextKey.Sections.{further_text-is, no_further}
-use Rattle.version_texts.proofs.lemmas.TextKey.Sections.{section_epoch-is, sections_are}
-use Rattle.version_texts.proofs.lemmas.TextKey.Sections.{sections_bytes, sections_end}
-use Rattle.version_parts.proofs.lemmas.MChunk.{section_printed}
-use Rattle.version_texts.proofs.lemmas.Shape.{IsCounted, IsEpoch, behind_taken, body_ordered}
-use Rattle.version_texts.proofs.lemmas.Shape.{body_taken, epoch_taken, length_cut, no_epoch_taken}
-use Rattle.version_texts.proofs.lemmas.Shape.{none_taken}
+use Rattle.version_texts.proofs.lemmas.TextKey.Sections.{further_text-is, no_further, section_epoch-is, sections_are, sections_bytes, sections_end}
+use Rattle.version_rules.proofs.lemmas.MChunk.{section_printed}
+use Rattle.version_texts.proofs.lemmas.Shape.{IsCounted, IsEpoch, behind_taken, body_ordered, body_taken, epoch_taken, length_cut, no_epoch_taken, none_taken}
+use Rattle.version_rules.specs.declared.kind.Kind.TheVariants as kind
 
 -- ---- the epoch and the body
 

@@ -1,6 +1,5 @@
 -- A messy text, behind its body.
-use Rattle.std.proofs.Common.{◌&&◌, ◌≡◌, ◌≢◌, ◌==◌, ◌+◌, ◌<◌, ◌≤◌, ◌∙◌, ℕ, zero, suc, true, false}
-use Rattle.std.proofs.Common.{List, [], ◌∷◌, drop, length, Some, None, refl, ap, arith, inl, inr}
+use Rattle.std.proofs.Common.{◌&&◌, ◌≡◌, ◌≢◌, ◌==◌, ◌+◌, ◌<◌, ◌≤◌, ◌∙◌, ℕ, zero, suc, true, false, List, [], ◌∷◌, drop, length, Some, None, refl, ap, arith, inl, inr}
 use Rattle.std.proofs.lemmas.Bool.{cases_Bool, cases_lt, eq-eqb, ne_eqb}
 use Rattle.std.proofs.lemmas.List.{length-drop}
 use Rattle.std.proofs.lemmas.List.Sums.{prefix_len-le-length}
@@ -8,21 +7,18 @@ use Rattle.std.specs.Char.{is_ascii_alphanumeric, is_ascii_digit}
 use Rattle.std.specs.Cmp.{first_so, second_so}
 use Rattle.std.specs.List.{list_all, prefix_len}
 use Rattle.std.specs.Option.{option_map}
-use Rattle.version_parts.proofs.lemmas.Chunk.ShortRuns.{digits_alphanumeric}
-use Rattle.version_parts.specs.Bytes.{colon, dot}
-use Rattle.version_parts.specs.DigitRun.{starts_with_digit}
-use Rattle.version_parts.specs.Front.{begins}
-use Rattle.versions.specs.declared.kind.Kind.TheVariants.{Complex}
-use Rattle.version_texts.specs.Shape.{behind_body, body_end, body_start, digits_len, from_body}
-use Rattle.version_texts.specs.Shape.{has_epoch, shape_at}
+use Rattle.version_rules.proofs.lemmas.Bytes.{digits_alphanumeric}
+use Rattle.version_rules.specs.Bytes.{colon, dot}
+use Rattle.version_rules.specs.DigitRun.{starts_with_digit}
+use Rattle.version_rules.specs.Front.{begins}
+use Rattle.version_rules.specs.declared.kind.Kind.TheVariants.{Complex}
+use Rattle.version_texts.specs.Shape.{behind_body, body_end, body_start, digits_len, from_body, has_epoch, shape_at}
 use Rattle.version_texts.specs.TextKey.{pieces}
-use Rattle.version_texts.specs.TextKind.{are_marked_runs, body_of, is_general, is_messy, is_run}
-use Rattle.version_texts.specs.TextKind.{kind_in, section_end, section_pieces}
+use Rattle.version_texts.specs.TextKind.{are_marked_runs, body_of, is_general, is_messy, is_run, kind_in, section_end, section_pieces}
 use Rattle.version_texts.specs.declared.shape.TailKind.TheVariants.{Nothing, Sections}
 use Rattle.version_texts.proofs.lemmas.TextKind.Messy.{messy_empty, messy_next}
 use Rattle.version_texts.proofs.lemmas.General.Runs.{behind_mark, behind_run, larger_run}
-use Rattle.version_texts.proofs.lemmas.Shape.Section.{empty_piece, end_last, end_next, pieces_last}
-use Rattle.version_texts.proofs.lemmas.Shape.Section.{pieces_next}
+use Rattle.version_texts.proofs.lemmas.Shape.Section.{empty_piece, end_last, end_next, pieces_last, pieces_next}
 use Rattle.version_texts.proofs.lemmas.TextKind.Runs.{run_some}
 
 -- a section that is messy is runs, and what follows it is marked runs

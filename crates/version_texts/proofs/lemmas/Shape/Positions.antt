@@ -1,22 +1,18 @@
 -- Where the body of a text lies, if the text is cut into an epoch, a body and a rest.
-use Rattle.std.proofs.Common.{◌≡◌, ◌==◌, ◌&&◌, ◌+◌, ◌∙◌, ℕ, Bool, true, false, List, [], ◌∷◌, ◌++◌}
-use Rattle.std.proofs.Common.{drop, length, refl, sym, ap, arith, inl, inr, append_assoc}
-use Rattle.std.proofs.Common.{length-append}
+use Rattle.std.proofs.Common.{◌≡◌, ◌==◌, ◌&&◌, ◌+◌, ◌∙◌, ℕ, Bool, true, false, List, [], ◌∷◌, ◌++◌, drop, length, refl, sym, ap, arith, inl, inr, append_assoc, length-append}
 use Rattle.std.proofs.lemmas.Bool.{cases_Bool}
 use Rattle.std.proofs.lemmas.Bool.Decides.{nat_tests}
 use Rattle.std.proofs.lemmas.List.{drop_at}
 use Rattle.std.specs.Char.{is_ascii_digit}
 use Rattle.std.specs.Cmp.{first_so, second_so}
 use Rattle.std.specs.List.{list_all}
-use Rattle.version_parts.specs.Bytes.{colon}
-use Rattle.version_parts.specs.DigitRun.{is_digits}
-use Rattle.version_parts.specs.Front.{begins}
-use Rattle.version_parts.specs.Reading.{EndsRun}
-use Rattle.version_parts.proofs.lemmas.Front.Runs.{prefix_len-append}
-use Rattle.version_parts.proofs.lemmas.Grammar.{all_weaker}
+use Rattle.version_rules.specs.Bytes.{colon}
+use Rattle.version_rules.specs.DigitRun.{is_digits}
+use Rattle.version_rules.specs.Front.{begins}
+use Rattle.version_rules.specs.Reading.{EndsRun}
+use Rattle.version_rules.proofs.lemmas.Front.Runs.{prefix_len-append, all_weaker}
 use Rattle.version_texts.proofs.lemmas.General.Runs.{run_cons, run_none}
-use Rattle.version_texts.specs.Shape.{behind_body, body_end, body_start, digits_len, from_body}
-use Rattle.version_texts.specs.Shape.{has_epoch, is_section_byte}
+use Rattle.version_texts.specs.Shape.{behind_body, body_end, body_start, digits_len, from_body, has_epoch, is_section_byte}
 
 -- whether a byte is a colon
 abbrev pub is_colon : ℕ → Bool

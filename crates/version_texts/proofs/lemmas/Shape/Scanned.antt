@@ -1,6 +1,5 @@
 -- What a text is by its first section.
-use Rattle.std.proofs.Common.{◌≡◌, ◌==◌, ◌&&◌, ◌+◌, ◌∙◌, ℕ, Bool, true, false, List, [], ◌∷◌}
-use Rattle.std.proofs.Common.{drop, length, None, zero-add, refl, sym, ap, arith, inl, inr}
+use Rattle.std.proofs.Common.{◌≡◌, ◌==◌, ◌&&◌, ◌+◌, ◌∙◌, ℕ, Bool, true, false, List, [], ◌∷◌, drop, length, None, zero-add, refl, sym, ap, arith, inl, inr}
 use Rattle.std.proofs.lemmas.Bool.{cases_Bool, eq-eqb, eqb-true, ne_eqb}
 use Rattle.std.proofs.lemmas.Bool.Decides.{nat_tests}
 use Rattle.std.proofs.lemmas.List.{take-append-drop}
@@ -9,17 +8,14 @@ use Rattle.std.specs.Char.{is_ascii_alphanumeric, is_ascii_digit}
 use Rattle.std.specs.Cmp.{first_so, second_so}
 use Rattle.std.specs.List.{join_with_byte, list_all, prefix_len, take_while}
 use Rattle.std.specs.Option.{option_map}
-use Rattle.version_parts.proofs.lemmas.Front.Runs.{begins-drop, list_all-take_while}
-use Rattle.version_parts.proofs.lemmas.Chunk.ShortRuns.{digits_alphanumeric}
-use Rattle.version_parts.specs.Bytes.{colon, dot}
-use Rattle.version_parts.specs.DigitRun.{is_digits, starts_with_digit}
-use Rattle.version_parts.specs.Front.{begins}
-use Rattle.version_texts.specs.Shape.{body_end, body_start, digits_len, has_epoch, is_section_byte}
-use Rattle.version_texts.specs.Shape.{shape_at}
+use Rattle.version_rules.proofs.lemmas.Front.Runs.{begins-drop, list_all-take_while}
+use Rattle.version_rules.proofs.lemmas.Bytes.{digits_alphanumeric}
+use Rattle.version_rules.specs.Bytes.{colon, dot}
+use Rattle.version_rules.specs.DigitRun.{is_digits, starts_with_digit}
+use Rattle.version_rules.specs.Front.{begins}
+use Rattle.version_texts.specs.Shape.{body_end, body_start, digits_len, has_epoch, is_section_byte, shape_at}
 use Rattle.version_texts.specs.TextKey.{pieces}
-use Rattle.version_texts.specs.TextKind.{body_of, epoch_is_numeral, has_three_numbers, is_chunk}
-use Rattle.version_texts.specs.TextKind.{is_messy, is_numeral, is_run, kind_in, section_end}
-use Rattle.version_texts.specs.TextKind.{section_pieces}
+use Rattle.version_texts.specs.TextKind.{body_of, epoch_is_numeral, has_three_numbers, is_chunk, is_messy, is_numeral, is_run, kind_in, section_end, section_pieces}
 use Rattle.version_texts.proofs.lemmas.Piece.Spelled.{none_pass}
 use Rattle.version_texts.proofs.lemmas.Shape.Positions.{has_epoch-append}
 use Rattle.version_texts.proofs.lemmas.General.Runs.{and-false, behind_mark, larger_run}

@@ -1,18 +1,16 @@
 -- The pieces of a section, from a place of a text on.
-use Rattle.std.proofs.Common.{◌≡◌, ◌==◌, ◌&&◌, ◌+◌, ◌<◌, ℕ, Bool, true, false, List, [], ◌∷◌, drop}
-use Rattle.std.proofs.Common.{length, refl, sym, ◌∙◌, arith, inl, inr}
+use Rattle.std.proofs.Common.{◌≡◌, ◌==◌, ◌&&◌, ◌+◌, ◌<◌, ℕ, Bool, true, false, List, [], ◌∷◌, drop, length, refl, sym, ◌∙◌, arith, inl, inr}
 use Rattle.std.proofs.lemmas.Bool.{cases_Bool}
 use Rattle.std.proofs.lemmas.Bool.Decides.{nat_tests}
 use Rattle.std.proofs.lemmas.List.{length-drop}
 use Rattle.std.specs.Char.{is_ascii_alphanumeric}
 use Rattle.std.specs.List.{list_all, prefix_len, take_while}
-use Rattle.version_parts.proofs.lemmas.Front.Runs.{begins-drop}
-use Rattle.version_parts.specs.Bytes.{dot}
-use Rattle.version_parts.specs.Front.{begins}
+use Rattle.version_rules.proofs.lemmas.Front.Runs.{begins-drop}
+use Rattle.version_rules.specs.Bytes.{dot}
+use Rattle.version_rules.specs.Front.{begins}
 use Rattle.version_texts.specs.Shape.{is_section_byte}
 use Rattle.version_texts.specs.TextKind.{is_run, section_end, section_pieces}
-use Rattle.version_texts.proofs.lemmas.General.Runs.{behind_mark, behind_run, larger_run}
-use Rattle.version_texts.proofs.lemmas.General.Runs.{last_piece, next_piece}
+use Rattle.version_texts.proofs.lemmas.General.Runs.{behind_mark, behind_run, larger_run, last_piece, next_piece}
 
 pub no_dot_in_run : (b : ℕ) → is_ascii_alphanumeric b ≡ true → (b == dot) ≡ false
 no_dot_in_run b h = grind (arith, nat_tests)

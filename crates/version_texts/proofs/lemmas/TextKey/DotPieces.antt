@@ -1,7 +1,5 @@
 -- The pieces of a text between marks, and the bytes of lists of them, piece by piece.
-use Rattle.std.proofs.Common.{one-add, take, ◌≡◌, ◌==◌, ◌∙◌, ℕ, Bool, true, false, not, List, []}
-use Rattle.std.proofs.Common.{◌∷◌, ◌++◌, drop, length, map, Option, Some, None, refl, sym, ap, inl}
-use Rattle.std.proofs.Common.{inr, arith, append-nil}
+use Rattle.std.proofs.Common.{one-add, take, ◌≡◌, ◌==◌, ◌∙◌, ℕ, Bool, true, false, not, List, [], ◌∷◌, ◌++◌, drop, length, map, Option, Some, None, refl, sym, ap, inl, inr, arith, append-nil}
 use Rattle.std.proofs.lemmas.Bool.{cases_Bool, eqb-true}
 use Rattle.std.proofs.lemmas.Bool.Decides.{nat_tests}
 use Rattle.std.proofs.lemmas.List.{take-append-drop}
@@ -10,20 +8,18 @@ use Rattle.std.specs.Char.{is_ascii_alphanumeric, is_ascii_digit}
 use Rattle.std.specs.Cmp.{first_so, second_so}
 use Rattle.std.specs.List.{list_all, prefix_len, take_while}
 use Rattle.std.specs.Str.Parse.{digits_value}
-use Rattle.version_parts.specs.Bytes.{dot, is_identifier_byte, is_metadata_byte}
-use Rattle.version_parts.specs.Codes.{items_bytes, list_bytes}
-use Rattle.version_parts.specs.DigitRun.{run_value}
-use Rattle.version_parts.specs.Front.{begins}
-use Rattle.version_parts.specs.Lists.{with_end}
-use Rattle.version_parts.specs.NumberBytes.{number_bytes}
-use Rattle.version_parts.specs.PartKey.{part_bytes, part_key}
-use Rattle.version_parts.specs.ReleaseOrder.{chunk_bytes, release_bytes}
-use Rattle.version_parts.proofs.lemmas.Pieces.{take_while-all}
-use Rattle.version_parts.proofs.lemmas.Front.Runs.{begins-drop}
+use Rattle.version_rules.specs.Bytes.{dot, is_identifier_byte, is_metadata_byte}
+use Rattle.version_rules.specs.Codes.{items_bytes, list_bytes}
+use Rattle.version_rules.specs.DigitRun.{run_value}
+use Rattle.version_rules.specs.Front.{begins}
+use Rattle.version_rules.specs.Lists.{with_end}
+use Rattle.version_rules.specs.NumberBytes.{number_bytes}
+use Rattle.version_rules.specs.PartKey.{part_bytes, part_key}
+use Rattle.version_rules.specs.ReleaseOrder.{chunk_bytes, release_bytes}
+use Rattle.version_rules.proofs.lemmas.Front.Runs.{take_while-all, begins-drop}
 use Rattle.version_texts.specs.Shape.{is_section_byte}
 use Rattle.version_texts.specs.TextKey.{chunk_of, chunks_of, parts_of, pieces}
-use Rattle.version_texts.proofs.lemmas.General.Runs.{last_piece, next_piece, not_false, not_true}
-use Rattle.version_texts.proofs.lemmas.General.Runs.{run_cons, run_none, split_end, split_mark}
+use Rattle.version_texts.proofs.lemmas.General.Runs.{last_piece, next_piece, not_false, not_true, run_cons, run_none, split_end, split_mark}
 use Rattle.version_texts.proofs.lemmas.Piece.Spelled.{alphanumeric_no_dot, alphanumeric_section}
 use Rattle.version_texts.proofs.lemmas.General.RunsWithin.{no_run, rest_within}
 use Rattle.version_texts.proofs.lemmas.TextKey.Runs.{text_of_run}

@@ -5,8 +5,8 @@ use Rattle.std.specs.Cmp.Lexicographic.{slice_cmp}
 use Rattle.std.specs.Ordering.{ordering_then}
 use Rattle.std.specs.declared.cmp.Ordering.{Ordering}
 use Rattle.std.specs.declared.cmp.Ordering.TheVariants.{Less, Equal, Greater}
-use Rattle.version_parts.specs.Sep.{is_sep}
-use Rattle.versions.specs.Tail.{tail_rank}
+use Rattle.version_rules.specs.Sep.{is_sep}
+use Rattle.version_rules.specs.Tail.{tail_rank}
 use Rattle.version_texts.proofs.lemmas.Piece.{pieces_are}
 use Rattle.version_texts.specs.Piece.{from_first, further_pieces}
 use Rattle.version_texts.specs.TextKey.{parts_of, sections_of, tail_of_sections}

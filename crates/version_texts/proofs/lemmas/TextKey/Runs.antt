@@ -1,32 +1,25 @@
 -- The bytes of parts whose texts are runs of letters and digits.
-use Rattle.std.proofs.Common.{◌≡◌, ◌==◌, ◌∙◌, ℕ, zero, suc, ◌<◌, true, false, List, [], ◌∷◌, ◌++◌}
-use Rattle.std.proofs.Common.{length, drop, Some, refl, sym, ap, inl, inr, arith, append_assoc}
-use Rattle.std.proofs.Common.{append-nil}
+use Rattle.std.proofs.Common.{◌≡◌, ◌==◌, ◌∙◌, ℕ, zero, suc, ◌<◌, true, false, List, [], ◌∷◌, ◌++◌, length, drop, Some, refl, sym, ap, inl, inr, arith, append_assoc, append-nil}
 use Rattle.std.proofs.lemmas.Bool.{and_from, cases_Bool, eqb-true}
 use Rattle.std.proofs.lemmas.Bool.Decides.{nat_tests}
 use Rattle.std.specs.Char.{is_ascii_alphabetic, is_ascii_alphanumeric, is_ascii_digit}
 use Rattle.std.specs.Cmp.{first_so, second_so}
 use Rattle.std.specs.List.{list_all, list_any, prefix_len, take_while}
 use Rattle.std.specs.Str.Parse.{digits_value}
-use Rattle.version_parts.specs.Bytes.{is_identifier_byte}
-use Rattle.version_parts.specs.DigitRun.{is_digits, run_value}
-use Rattle.version_parts.specs.Front.{begins}
-use Rattle.version_parts.specs.NumberBytes.{length_bytes, number_bytes}
-use Rattle.version_parts.specs.PartKey.{PartKey, part_bytes, part_key, suffix_bytes}
-use Rattle.version_parts.specs.PartKey.{suffix_of}
-use Rattle.version_parts.specs.Split.{split_bytes, split_of}
-use Rattle.version_parts.specs.TextBytes.{text_byte, text_bytes}
-use Rattle.version_parts.proofs.lemmas.DigitRun.{split_of-digits, split_of-no_digit}
-use Rattle.version_parts.proofs.lemmas.Front.Runs.{begins-drop, list_all-take_while}
-use Rattle.version_parts.proofs.lemmas.Grammar.{all_weaker}
-use Rattle.version_parts.proofs.lemmas.NumberBytes.{number_bytes-digits}
-use Rattle.version_parts.proofs.lemmas.PartKey.{part_key-digits, part_key-word}
-use Rattle.version_parts.proofs.lemmas.Pieces.{digits_of_run, is_zero}
+use Rattle.version_rules.specs.Bytes.{is_identifier_byte}
+use Rattle.version_rules.specs.DigitRun.{is_digits, run_value}
+use Rattle.version_rules.specs.Front.{begins}
+use Rattle.version_rules.specs.NumberBytes.{length_bytes, number_bytes}
+use Rattle.version_rules.specs.PartKey.{PartKey, part_bytes, part_key, suffix_bytes, suffix_of}
+use Rattle.version_rules.specs.Split.{split_bytes, split_of}
+use Rattle.version_rules.specs.TextBytes.{text_byte, text_bytes}
+use Rattle.version_rules.proofs.lemmas.DigitRun.{split_of-digits, split_of-no_digit}
+use Rattle.version_rules.proofs.lemmas.Front.Runs.{begins-drop, list_all-take_while, all_weaker}
+use Rattle.version_rules.proofs.lemmas.NumberBytes.{number_bytes-digits, digits_of_run, is_zero}
+use Rattle.version_rules.proofs.lemmas.PartKey.{part_key-digits, part_key-word}
 use Rattle.version_texts.proofs.lemmas.Piece.Spelled.{alphanumeric_identifier}
 use Rattle.version_texts.proofs.lemmas.General.Runs.{run_cons}
-use Rattle.version_texts.proofs.lemmas.General.RunsWithin.{begins_inner, begins_neither}
-use Rattle.version_texts.proofs.lemmas.General.RunsWithin.{digit_alphanumeric, letter_alphanumeric}
-use Rattle.version_texts.proofs.lemmas.General.RunsWithin.{no_run, run_and_more, zero_digit}
+use Rattle.version_texts.proofs.lemmas.General.RunsWithin.{begins_inner, begins_neither, digit_alphanumeric, letter_alphanumeric, no_run, run_and_more, zero_digit}
 
 -- ---- numbers
 

@@ -1,30 +1,27 @@
 -- The sections of a messy version are the pieces of its text between its signs.
-use Rattle.std.proofs.Common.{◌≡◌, ◌&&◌, ◌∙◌, if◌then◌else◌, ℕ, true, false, List, [], ◌∷◌, ◌++◌}
-use Rattle.std.proofs.Common.{map, Some, None, refl, ap, append-nil, arith}
+use Rattle.std.proofs.Common.{◌≡◌, ◌&&◌, ◌∙◌, if◌then◌else◌, ℕ, true, false, List, [], ◌∷◌, ◌++◌, map, Some, None, refl, ap, append-nil, arith}
 use Rattle.std.proofs.lemmas.Bool.Decides.{nat_tests}
 use Rattle.std.proofs.lemmas.List.Folds.{list_all-append}
 use Rattle.std.proofs.lemmas.List.Splits.{slice_split_at, slice_split_none}
 use Rattle.std.specs.Char.{is_ascii_digit}
 use Rattle.std.specs.List.{list_all}
 use Rattle.std.specs.Str.Parse.{digits_value}
-use Rattle.version_parts.specs.Bytes.{dot}
-use Rattle.version_parts.specs.DigitRun.{is_digits, starts_with_digit}
-use Rattle.version_parts.specs.Grammar.{SpellsDotted, SpellsEach}
-use Rattle.version_parts.specs.PartKey.{section_parts}
-use Rattle.version_parts.specs.Reading.{EndsRun}
-use Rattle.version_parts.specs.Sep.{PlainSep, Colon, Hyphen, Plus, Underscore, Tilde, is_sep}
-use Rattle.version_parts.specs.Sep.{sep_byte}
-use Rattle.version_parts.proofs.lemmas.MChunk.{mchunk_printed}
-use Rattle.version_parts.proofs.lemmas.Grammar.{all_weaker}
-use Rattle.versions.specs.Key.{section_epoch}
-use Rattle.versions.specs.Mess.{Further, Section, SpellsFurther, SpellsSection}
+use Rattle.version_rules.specs.Bytes.{dot}
+use Rattle.version_rules.specs.DigitRun.{is_digits, starts_with_digit}
+use Rattle.version_rules.specs.Grammar.{SpellsDotted, SpellsEach}
+use Rattle.version_rules.specs.PartKey.{section_parts}
+use Rattle.version_rules.specs.Reading.{EndsRun}
+use Rattle.version_rules.specs.Sep.{PlainSep, Colon, Hyphen, Plus, Underscore, Tilde, is_sep, sep_byte}
+use Rattle.version_rules.proofs.lemmas.MChunk.{mchunk_printed}
+use Rattle.version_rules.proofs.lemmas.Front.Runs.{all_weaker}
+use Rattle.version_rules.specs.Key.{section_epoch}
+use Rattle.version_rules.specs.Mess.{Further, Section, SpellsFurther, SpellsSection}
 use Rattle.version_texts.specs.Class.{is_mark}
 use Rattle.version_texts.specs.declared.shape.TailKind.TheVariants.{Sections}
 use Rattle.version_texts.specs.Shape.{is_section_byte, is_tail_byte}
 use Rattle.version_texts.specs.TextKey.{parts_of, sections_of}
 use Rattle.version_texts.proofs.lemmas.Shape.Positions.{and_false}
-use Rattle.version_texts.proofs.lemmas.Piece.Spelled.{NonePass, all_pass, none_pass, section_bytes}
-use Rattle.version_texts.proofs.lemmas.Piece.Spelled.{section_parts-is}
+use Rattle.version_texts.proofs.lemmas.Piece.Spelled.{NonePass, all_pass, none_pass, section_bytes, section_parts-is}
 
 -- ---- signs
 

@@ -1,28 +1,24 @@
 -- A text is a numeral, a chunk, or a list of chunks with dots between, exactly if it passes the
 -- test of one.
-use Rattle.std.proofs.Common.{Option, Some, None, ◌≡◌, ◌==◌, ◌&&◌, ◌||◌, ◌∙◌, ◌<◌, ◌^◌, ℕ, Bool}
-use Rattle.std.proofs.Common.{true, false, not, List, [], ◌∷◌, ◌++◌, length, nat_lt, refl, sym, ap}
-use Rattle.std.proofs.Common.{subst, arith, inl, inr}
-use Rattle.std.proofs.lemmas.Bool.{eqb-false, ne_eqb, and_from, and_parts, eqb-true, lt-ltb}
-use Rattle.std.proofs.lemmas.Bool.{ltb-true, not-true, or_cases, or_left, or_right}
+use Rattle.std.proofs.Common.{Option, Some, None, ◌≡◌, ◌==◌, ◌&&◌, ◌||◌, ◌∙◌, ◌<◌, ◌^◌, ℕ, Bool, true, false, not, List, [], ◌∷◌, ◌++◌, length, nat_lt, refl, sym, ap, subst, arith, inl, inr}
+use Rattle.std.proofs.lemmas.Bool.{eqb-false, ne_eqb, and_from, and_parts, eqb-true, lt-ltb, ltb-true, not-true, or_cases, or_left, or_right}
 use Rattle.std.specs.Char.{is_ascii_digit}
 use Rattle.std.specs.Cmp.{first_so, second_so}
 use Rattle.std.specs.List.{list_all}
 use Rattle.std.specs.Option.{is_some}
 use Rattle.std.specs.Str.Parse.{digits_value}
-use Rattle.version_parts.specs.Bytes.{dot}
-use Rattle.version_parts.specs.Chunk.{PlainChunk, Numeric, Alphanum, SpellsChunkOf}
-use Rattle.version_parts.specs.DigitRun.{is_digits}
-use Rattle.version_parts.specs.Front.{begins}
-use Rattle.version_parts.specs.Grammar.{SpellsDotted}
-use Rattle.version_parts.specs.Numeral.{HasNoLeadingZero, SpellsNumeral}
+use Rattle.version_rules.specs.Bytes.{dot}
+use Rattle.version_rules.specs.Chunk.{PlainChunk, Numeric, Alphanum, SpellsChunkOf}
+use Rattle.version_rules.specs.DigitRun.{is_digits}
+use Rattle.version_rules.specs.Front.{begins}
+use Rattle.version_rules.specs.Grammar.{SpellsDotted}
+use Rattle.version_rules.specs.Numeral.{HasNoLeadingZero, SpellsNumeral}
 use Rattle.version_texts.specs.TextKey.{pieces}
 use Rattle.version_texts.specs.TextKind.{is_chunk, is_numeral, is_run}
 use Rattle.version_texts.specs.Piece.{is_dot}
 use Rattle.version_texts.proofs.lemmas.TextKind.Numeral.{some_digits}
 use Rattle.version_texts.proofs.lemmas.Piece.Spelled.{chunk_bytes}
-use Rattle.version_texts.proofs.lemmas.General.Splits.{JoinedBy, dotted_more, dotted_one}
-use Rattle.version_texts.proofs.lemmas.General.Splits.{dotted_pass, split_is_joined, split_run}
+use Rattle.version_texts.proofs.lemmas.General.Splits.{JoinedBy, dotted_more, dotted_one, dotted_pass, split_is_joined, split_run}
 
 -- ---- runs
 

@@ -1,9 +1,6 @@
 -- A text spells a general version exactly if its pieces pass the tests of one.
-use Rattle.std.proofs.Common.{◌≡◌, ◌==◌, ◌&&◌, ◌+◌, Bool, ◌∙◌, ℕ, true, false, List, [], ◌∷◌, ◌++◌}
-use Rattle.std.proofs.Common.{length, take, length-append, Option, Some, None, refl, sym, ap, subst}
-use Rattle.std.proofs.Common.{arith, inl, inr, append_assoc}
-use Rattle.std.proofs.lemmas.Bool.{and_from, and_parts, cases_Bool, eq-eqb, eqb-true, or_cases}
-use Rattle.std.proofs.lemmas.Bool.{or_left, or_right}
+use Rattle.std.proofs.Common.{◌≡◌, ◌==◌, ◌&&◌, ◌+◌, Bool, ◌∙◌, ℕ, true, false, List, [], ◌∷◌, ◌++◌, length, take, length-append, Option, Some, None, refl, sym, ap, subst, arith, inl, inr, append_assoc}
+use Rattle.std.proofs.lemmas.Bool.{and_from, and_parts, cases_Bool, eq-eqb, eqb-true, or_cases, or_left, or_right}
 use Rattle.std.proofs.lemmas.List.{drop-drop, take-append-drop, take_at}
 use Rattle.std.proofs.lemmas.List.Folds.{length-prefix_len}
 use Rattle.std.specs.Char.{is_ascii_alphanumeric, is_ascii_digit}
@@ -11,27 +8,23 @@ use Rattle.std.specs.Cmp.{second_so}
 use Rattle.std.specs.List.{list_all, prefix_len, take_while}
 use Rattle.std.specs.Option.{is_some}
 use Rattle.std.specs.Str.Parse.{digits_value}
-use Rattle.version_parts.specs.Body.{PlainBody, SpellsBody}
-use Rattle.version_parts.specs.Bytes.{colon}
-use Rattle.version_parts.specs.Chunk.{PlainChunk, SpellsPart}
-use Rattle.version_parts.specs.Grammar.{SpellsDotted}
-use Rattle.version_parts.specs.Last.{last_of}
-use Rattle.version_parts.specs.Lists.{split_last}
-use Rattle.version_parts.proofs.lemmas.Body.{split_last-whole}
-use Rattle.version_parts.proofs.lemmas.Chunk.{digit_alphanumeric}
-use Rattle.version_parts.proofs.lemmas.Front.Dotted.{cases_Option}
-use Rattle.version_parts.proofs.lemmas.Last.{last_of-is}
-use Rattle.version_parts.proofs.lemmas.Front.Runs.{prefix_len-append}
-use Rattle.versions.specs.Version.{PlainVersion, SpellsEpoch, SpellsVersion, version_of}
-use Rattle.versions.proofs.lemmas.Version.{version_of-Some, version_of-spells}
-use Rattle.version_texts.specs.Shape.{behind_body, body_end, body_start, digits_len, from_body}
-use Rattle.version_texts.specs.Shape.{has_epoch, is_section_byte}
+use Rattle.version_rules.specs.Body.{PlainBody, SpellsBody}
+use Rattle.version_rules.specs.Bytes.{colon}
+use Rattle.version_rules.specs.Chunk.{PlainChunk, SpellsPart}
+use Rattle.version_rules.specs.Grammar.{SpellsDotted}
+use Rattle.version_rules.specs.Last.{last_of}
+use Rattle.version_rules.specs.Lists.{split_last}
+use Rattle.version_rules.proofs.lemmas.Body.{split_last-whole}
+use Rattle.version_rules.proofs.lemmas.Chunk.{digit_alphanumeric}
+use Rattle.version_rules.proofs.lemmas.Front.Repeated.{cases_Option}
+use Rattle.version_rules.proofs.lemmas.Last.{last_of-is}
+use Rattle.version_rules.proofs.lemmas.Front.Runs.{prefix_len-append}
+use Rattle.version_rules.specs.Version.{PlainVersion, SpellsEpoch, SpellsVersion, version_of}
+use Rattle.version_rules.proofs.lemmas.Version.{version_of-Some, version_of-spells}
+use Rattle.version_texts.specs.Shape.{behind_body, body_end, body_start, digits_len, from_body, has_epoch, is_section_byte}
 use Rattle.version_texts.specs.TextKey.{pieces}
-use Rattle.version_texts.specs.TextKind.{body_of, epoch_is_numeral, is_chunk, is_general}
-use Rattle.version_texts.specs.TextKind.{is_numeral, is_tail}
-use Rattle.version_texts.proofs.lemmas.TextKind.Chunks.{dotted_passes, dotted_spells}
-use Rattle.version_texts.proofs.lemmas.TextKind.Chunks.{numeral_passes, numeral_spells}
-use Rattle.version_texts.proofs.lemmas.TextKind.Chunks.{told_by_test}
+use Rattle.version_texts.specs.TextKind.{body_of, epoch_is_numeral, is_chunk, is_general, is_numeral, is_tail}
+use Rattle.version_texts.proofs.lemmas.TextKind.Chunks.{dotted_passes, dotted_spells, numeral_passes, numeral_spells, told_by_test}
 use Rattle.version_texts.proofs.lemmas.Piece.Spelled.{alphanumeric_no_dot}
 use Rattle.version_texts.proofs.lemmas.Shape.Positions.{IsCut, behind_body-is, from_body-is}
 use Rattle.version_texts.proofs.lemmas.General.Runs.{behind_mark}

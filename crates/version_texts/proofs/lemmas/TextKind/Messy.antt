@@ -1,18 +1,15 @@
 -- Runs between marks, and the metadata at the end of a text.
-use Rattle.std.proofs.Common.{sym, ◌&&◌, ◌≡◌, ◌≢◌, ◌==◌, ◌+◌, ◌<◌, ℕ, Bool, true, false, List, []}
-use Rattle.std.proofs.Common.{◌∷◌, drop, get_or, length, refl, ap, ◌∙◌, arith, inl, inr}
+use Rattle.std.proofs.Common.{sym, ◌&&◌, ◌≡◌, ◌≢◌, ◌==◌, ◌+◌, ◌<◌, ℕ, Bool, true, false, List, [], ◌∷◌, drop, get_or, length, refl, ap, ◌∙◌, arith, inl, inr, add-one}
 use Rattle.std.proofs.lemmas.Bool.{cases_Bool, ne_eqb}
 use Rattle.std.proofs.lemmas.Bool.Decides.{nat_tests}
 use Rattle.std.proofs.lemmas.List.{drop_all, length-drop}
 use Rattle.std.proofs.Math.Seq.{drop-cons}
-use Rattle.std.proofs.Common.{add-one}
 use Rattle.std.specs.Char.{is_ascii_alphanumeric}
 use Rattle.std.specs.List.{take_while, list_all, prefix_len}
-use Rattle.version_parts.specs.Bytes.{is_metadata_byte}
+use Rattle.version_rules.specs.Bytes.{is_metadata_byte}
 use Rattle.version_texts.specs.Class.{is_mark}
 use Rattle.version_texts.specs.TextKind.{are_marked_runs, is_messy, is_metadata_tail, is_run}
-use Rattle.version_texts.proofs.lemmas.General.Runs.{and-false, behind_run, split_end, split_mark}
-use Rattle.version_texts.proofs.lemmas.General.Runs.{split_other}
+use Rattle.version_texts.proofs.lemmas.General.Runs.{and-false, behind_run, split_end, split_mark, split_other}
 use Rattle.std.proofs.lemmas.List.Sums.{prefix_len-le-length}
 use Rattle.version_texts.proofs.lemmas.TextKey.DotPieces.{is_run as is_run_of}
 use Rattle.version_texts.proofs.lemmas.TextKind.Runs.{run_empty, run_some}

@@ -1,30 +1,27 @@
 -- A text spells a messy version exactly if it is runs of letters and digits with single dots and
 -- signs between.
-use Rattle.std.proofs.Common.{◌≡◌, ◌==◌, ◌∙◌, ℕ, true, List, [], ◌∷◌, ◌++◌, Some, refl, sym, ap}
-use Rattle.std.proofs.Common.{subst, inl, inr, append-nil, append_assoc}
+use Rattle.std.proofs.Common.{◌≡◌, ◌==◌, ◌∙◌, ℕ, true, List, [], ◌∷◌, ◌++◌, Some, refl, sym, ap, subst, inl, inr, append-nil, append_assoc}
 use Rattle.std.proofs.lemmas.Bool.{and_parts, eqb-true, or_cases}
 use Rattle.std.specs.Char.{is_ascii_alphanumeric}
 use Rattle.std.specs.Cmp.{second_so}
 use Rattle.std.specs.List.{list_all, slice_split}
 use Rattle.std.specs.Option.{is_some}
-use Rattle.version_parts.specs.Bytes.{dot}
-use Rattle.version_parts.specs.Front.{run_front}
-use Rattle.version_parts.specs.Grammar.{SpellsEach}
-use Rattle.version_parts.specs.MChunk.{PlainMChunk, SpellsMChunk, chunk_before, mchunk_front}
-use Rattle.version_parts.specs.Sep.{PlainSep, is_sep, sep_byte, sep_of}
-use Rattle.version_parts.proofs.lemmas.Front.Dotted.{cases_Option}
-use Rattle.version_parts.proofs.lemmas.MChunk.{byte_of_sep, mchunk_sound, spelled_run, spelled_some}
-use Rattle.version_parts.proofs.lemmas.Front.Runs.{run_front-reads}
-use Rattle.versions.specs.Mess.{Further, PlainMess, mess_of, Section, SpellsFurther, SpellsMess}
-use Rattle.versions.specs.Mess.{SpellsSection}
-use Rattle.versions.proofs.lemmas.Mess.{mess_of-Some, mess_of-spells}
+use Rattle.version_rules.specs.Bytes.{dot}
+use Rattle.version_rules.specs.Front.{run_front}
+use Rattle.version_rules.specs.Grammar.{SpellsEach}
+use Rattle.version_rules.specs.MChunk.{PlainMChunk, SpellsMChunk, chunk_before, mchunk_front}
+use Rattle.version_rules.specs.Sep.{PlainSep, is_sep, sep_byte, sep_of}
+use Rattle.version_rules.proofs.lemmas.Front.Repeated.{cases_Option}
+use Rattle.version_rules.proofs.lemmas.MChunk.{byte_of_sep, mchunk_sound, spelled_run, spelled_some}
+use Rattle.version_rules.proofs.lemmas.Front.Runs.{run_front-reads}
+use Rattle.version_rules.specs.Mess.{Further, PlainMess, mess_of, Section, SpellsFurther, SpellsMess, SpellsSection}
+use Rattle.version_rules.proofs.lemmas.Mess.{mess_of-Some, mess_of-spells}
 use Rattle.version_texts.specs.Class.{is_mark}
 use Rattle.version_texts.specs.TextKind.{is_messy, is_run}
 use Rattle.version_texts.proofs.lemmas.TextKind.Chunks.{run_from, run_some, told_by_test}
 use Rattle.version_texts.proofs.lemmas.TextKind.Messy.{no_mark_in_run}
 use Rattle.version_texts.proofs.lemmas.TextKey.Sections.{sign_bytes}
-use Rattle.version_texts.proofs.lemmas.General.Splits.{JoinedBy, both_pass, dotted_more, dotted_one}
-use Rattle.version_texts.proofs.lemmas.General.Splits.{dotted_pass, split_is_joined, split_run}
+use Rattle.version_texts.proofs.lemmas.General.Splits.{JoinedBy, both_pass, dotted_more, dotted_one, dotted_pass, split_is_joined, split_run}
 
 -- ---- what spells a messy version passes
 

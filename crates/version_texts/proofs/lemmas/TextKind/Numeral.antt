@@ -1,14 +1,13 @@
 -- Numerals, by their digits.
-use Rattle.std.proofs.Common.{◌≡◌, ◌≢◌, ◌==◌, ◌^◌, ◌<◌, ◌≤◌, ◌&&◌, ◌||◌, not, ℕ, true, false, List}
-use Rattle.std.proofs.Common.{[], ◌∷◌, get_or, length, nat_lt, take, refl, sym, arith}
+use Rattle.std.proofs.Common.{◌≡◌, ◌≢◌, ◌==◌, ◌^◌, ◌<◌, ◌≤◌, ◌&&◌, ◌||◌, not, ℕ, true, false, List, [], ◌∷◌, get_or, length, nat_lt, take, refl, sym, arith}
 use Rattle.std.proofs.lemmas.Bool.{eq-eqb, le-ltb, ne_eqb}
 use Rattle.std.proofs.lemmas.Str.Parse.{digits_value-take-le}
 use Rattle.std.specs.Char.{is_ascii_digit}
 use Rattle.std.specs.Cmp.{second_so}
 use Rattle.std.specs.List.{list_all}
 use Rattle.std.specs.Str.Parse.{digits_value}
-use Rattle.version_parts.proofs.lemmas.Numeral.{nine_digits}
-use Rattle.version_parts.specs.DigitRun.{is_digits}
+use Rattle.version_rules.proofs.lemmas.Numeral.{nine_digits}
+use Rattle.version_rules.specs.DigitRun.{is_digits}
 use Rattle.version_texts.proofs.lemmas.General.Runs.{and-false}
 use Rattle.version_texts.specs.TextKind.{is_numeral}
 

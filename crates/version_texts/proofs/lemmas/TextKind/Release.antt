@@ -1,19 +1,16 @@
 -- A release, chunk by chunk, and the metadata behind it.
-use Rattle.std.proofs.Common.{◌≡◌, ◌==◌, ◌+◌, ◌∙◌, ℕ, true, false, List, [], ◌∷◌, drop, length, not}
-use Rattle.std.proofs.Common.{one-add, IfSome, Option, Some, None, refl, arith, inl, inr}
+use Rattle.std.proofs.Common.{◌≡◌, ◌==◌, ◌+◌, ◌∙◌, ℕ, true, false, List, [], ◌∷◌, drop, length, not, one-add, IfSome, Option, Some, None, refl, arith, inl, inr}
 use Rattle.std.proofs.lemmas.Bool.{cases_Bool, eqb-true}
 use Rattle.std.proofs.lemmas.Bool.Decides.{nat_tests}
 use Rattle.std.proofs.lemmas.List.{drop-drop}
 use Rattle.std.specs.List.{list_all, prefix_len, take_while}
-use Rattle.version_parts.specs.Bytes.{dot, hyphen, is_identifier_byte, plus}
-use Rattle.version_parts.specs.Front.{begins}
+use Rattle.version_rules.specs.Bytes.{dot, hyphen, is_identifier_byte, plus}
+use Rattle.version_rules.specs.Front.{begins}
 use Rattle.version_texts.specs.TextKey.{pieces}
-use Rattle.version_texts.specs.TextKind.{is_chunk, is_metadata_tail, is_not_plus, is_released}
-use Rattle.version_texts.specs.TextKind.{is_tail}
+use Rattle.version_texts.specs.TextKind.{is_chunk, is_metadata_tail, is_not_plus, is_released, is_tail}
 use Rattle.version_texts.proofs.lemmas.Piece.Spelled.{identifier_no_dot}
 use Rattle.version_texts.proofs.lemmas.TextKind.Messy.{fails_first}
-use Rattle.version_texts.proofs.lemmas.General.Runs.{and-false, behind_mark, behind_run, larger_run}
-use Rattle.version_texts.proofs.lemmas.General.Runs.{last_piece, next_piece, other_piece}
+use Rattle.version_texts.proofs.lemmas.General.Runs.{and-false, behind_mark, behind_run, larger_run, last_piece, next_piece, other_piece}
 
 no_plus : (b : ℕ) → is_identifier_byte b ≡ true → is_not_plus b ≡ true
 no_plus b h = grind (arith, nat_tests)

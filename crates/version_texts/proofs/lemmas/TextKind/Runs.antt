@@ -1,14 +1,13 @@
 -- What the pieces of a text are, by its runs.
-use Rattle.std.proofs.Common.{◌≡◌, ◌==◌, ◌<◌, ℕ, Bool, true, false, List, [], ◌∷◌, length, refl}
-use Rattle.std.proofs.Common.{arith}
+use Rattle.std.proofs.Common.{◌≡◌, ◌==◌, ◌<◌, ℕ, Bool, true, false, List, [], ◌∷◌, length, refl, arith}
 use Rattle.std.proofs.Math.Bool.{or-false}
 use Rattle.std.proofs.lemmas.Bool.{and_from, ne_eqb, or_right}
 use Rattle.std.proofs.lemmas.List.Folds.{length-prefix_len}
 use Rattle.std.specs.Char.{is_ascii_digit}
 use Rattle.std.specs.Cmp.{first_so}
 use Rattle.std.specs.List.{list_all, prefix_len, take_while}
-use Rattle.version_parts.proofs.lemmas.Front.Runs.{list_all-take_while}
-use Rattle.version_parts.specs.DigitRun.{is_digits, starts_with_digit}
+use Rattle.version_rules.proofs.lemmas.Front.Runs.{list_all-take_while}
+use Rattle.version_rules.specs.DigitRun.{is_digits, starts_with_digit}
 use Rattle.version_texts.proofs.lemmas.General.Runs.{and-false}
 use Rattle.version_texts.specs.TextKind.{is_chunk, is_numeral, is_run}
 

@@ -1,39 +1,35 @@
 -- A text spells a strict version exactly if it spells a general one without an epoch, whose body is
 -- three runs of digits.
-use Rattle.std.proofs.Common.{◌≡◌, ◌==◌, ◌&&◌, ◌||◌, ◌∙◌, ℕ, true, not, List, [], ◌∷◌, ◌++◌, length}
-use Rattle.std.proofs.Common.{take, None, refl, sym, ap, subst, arith, inl, inr, append_assoc}
+use Rattle.std.proofs.Common.{◌≡◌, ◌==◌, ◌&&◌, ◌||◌, ◌∙◌, ℕ, true, not, List, [], ◌∷◌, ◌++◌, length, take, None, refl, sym, ap, subst, arith, inl, inr, append_assoc}
 use Rattle.std.proofs.lemmas.Bool.{and_from, and_parts, eq-eqb, eqb-true, not-true, or_cases}
 use Rattle.std.specs.Char.{is_ascii_alphanumeric, is_ascii_digit}
 use Rattle.std.specs.Cmp.{first_so, second_so}
 use Rattle.std.specs.List.{list_all}
 use Rattle.std.specs.Option.{is_some}
 use Rattle.std.specs.Str.Parse.{digits_value}
-use Rattle.version_parts.specs.Bytes.{dot}
-use Rattle.version_parts.specs.Chunk.{PlainChunk, Numeric, Alphanum, SpellsPart}
-use Rattle.version_parts.specs.DigitRun.{is_digits, starts_with_digit}
-use Rattle.version_parts.specs.Grammar.{SpellsDotted}
-use Rattle.version_parts.specs.Last as last
-use Rattle.version_parts.specs.Last.{IsLastOf}
-use Rattle.version_parts.specs.Numeral.{SpellsNumeral}
-use Rattle.versions.specs.Conversions.{version_of_semver}
-use Rattle.versions.specs.SemVer.{PlainSemVer, SpellsSemVer, semver_of}
-use Rattle.versions.specs.Version.{SpellsEpoch}
-use Rattle.versions.proofs.lemmas.SemVer.{semver_of-Some, semver_of-spells}
-use Rattle.versions.proofs.lemmas.Conversions.Widening.{strict_is_general}
+use Rattle.version_rules.specs.Bytes.{dot}
+use Rattle.version_rules.specs.Chunk.{PlainChunk, Numeric, Alphanum, SpellsPart}
+use Rattle.version_rules.specs.DigitRun.{is_digits, starts_with_digit}
+use Rattle.version_rules.specs.Grammar.{SpellsDotted}
+use Rattle.version_rules.specs.Last.{IsLastOf}
+use Rattle.version_rules.specs.Numeral.{SpellsNumeral}
+use Rattle.version_rules.specs.Conversions.{version_of_semver}
+use Rattle.version_rules.specs.SemVer.{PlainSemVer, SpellsSemVer, semver_of}
+use Rattle.version_rules.specs.Version.{SpellsEpoch}
+use Rattle.version_rules.proofs.lemmas.SemVer.{semver_of-Some, semver_of-spells}
+use Rattle.version_rules.proofs.lemmas.Conversions.{strict_is_general}
 use Rattle.version_texts.specs.Shape.{behind_body, body_start}
 use Rattle.version_texts.specs.TextKey.{pieces}
-use Rattle.version_texts.specs.TextKind.{body_of, has_three_numbers, is_chunk, is_general}
-use Rattle.version_texts.specs.TextKind.{is_numeral, is_run}
+use Rattle.version_texts.specs.TextKind.{body_of, has_three_numbers, is_chunk, is_general, is_numeral, is_run}
 use Rattle.version_texts.proofs.lemmas.TextKind.Chunks.{digits_from, numeral_spells, told_by_test}
-use Rattle.version_texts.proofs.lemmas.TextKind.GeneralText.{body_of-is, cut_at_body, general_parts}
-use Rattle.version_texts.proofs.lemmas.TextKind.GeneralText.{spelled_is_general}
+use Rattle.version_texts.proofs.lemmas.TextKind.GeneralText.{body_of-is, cut_at_body, general_parts, spelled_is_general}
 use Rattle.version_texts.proofs.lemmas.Piece.Spelled.{digit_no_dot}
 use Rattle.version_texts.specs.Piece.{is_dot}
 use Rattle.version_texts.proofs.lemmas.Shape.Positions.{IsCut}
-use Rattle.version_texts.proofs.lemmas.General.Splits.{JoinedBy, split-append, split_is_joined}
-use Rattle.version_texts.proofs.lemmas.General.Splits.{split_run}
+use Rattle.version_texts.proofs.lemmas.General.Splits.{JoinedBy, split-append, split_is_joined, split_run}
 use Rattle.version_texts.proofs.lemmas.TextKind.Tail.{tail_spells}
 use Rattle.version_texts.proofs.lemmas.Shape.{version_cut}
+use Rattle.version_rules.specs.Last as last
 
 -- ---- what spells a strict version passes
 

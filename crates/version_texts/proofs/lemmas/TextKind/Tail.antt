@@ -1,26 +1,22 @@
 -- What follows the body of a strict or general version is a release and metadata exactly if it
 -- passes the test.
-use Rattle.std.proofs.Common.{◌≡◌, ◌==◌, ◌∙◌, ℕ, true, false, List, [], ◌∷◌, ◌++◌, drop, length}
-use Rattle.std.proofs.Common.{Option, Some, None, refl, sym, ap, arith, inl, inr}
+use Rattle.std.proofs.Common.{◌≡◌, ◌==◌, ◌∙◌, ℕ, true, false, List, [], ◌∷◌, ◌++◌, drop, length, Option, Some, None, refl, sym, ap, arith, inl, inr}
 use Rattle.std.proofs.lemmas.Bool.{and_from, and_parts, cases_Bool, eqb-true}
 use Rattle.std.proofs.lemmas.Bool.Decides.{nat_tests}
 use Rattle.std.proofs.lemmas.List.{drop_at, take-append-drop, take_at}
 use Rattle.std.specs.Cmp.{first_so, second_so}
 use Rattle.std.specs.List.{list_all, prefix_len, take_while}
-use Rattle.version_parts.specs.Bytes.{hyphen, is_identifier_byte, is_metadata_byte, plus}
-use Rattle.version_parts.specs.Chunk.{PlainChunk}
-use Rattle.version_parts.specs.Front.{begins}
-use Rattle.version_parts.specs.Grammar.{SpellsOptional}
-use Rattle.version_parts.specs.Metadata.{SpellsMetadata}
-use Rattle.version_parts.specs.Release.{SpellsRelease}
-use Rattle.version_parts.proofs.lemmas.Front.Runs.{prefix_len-append}
-use Rattle.version_parts.proofs.lemmas.Grammar.{all_weaker}
+use Rattle.version_rules.specs.Bytes.{hyphen, is_identifier_byte, is_metadata_byte, plus}
+use Rattle.version_rules.specs.Chunk.{PlainChunk}
+use Rattle.version_rules.specs.Front.{begins}
+use Rattle.version_rules.specs.Grammar.{SpellsOptional}
+use Rattle.version_rules.specs.Metadata.{SpellsMetadata}
+use Rattle.version_rules.specs.Release.{SpellsRelease}
+use Rattle.version_rules.proofs.lemmas.Front.Runs.{prefix_len-append, all_weaker}
 use Rattle.version_texts.specs.TextKey.{pieces}
 use Rattle.version_texts.specs.TextKind.{is_chunk, is_metadata_tail, is_not_plus, is_run, is_tail}
-use Rattle.version_texts.proofs.lemmas.TextKind.Chunks.{dotted_passes, dotted_spells, run_from}
-use Rattle.version_texts.proofs.lemmas.TextKind.Chunks.{run_some}
-use Rattle.version_texts.proofs.lemmas.Piece.Spelled.{digit_identifier, identifier_no_dot}
-use Rattle.version_texts.proofs.lemmas.Piece.Spelled.{release_bytes}
+use Rattle.version_texts.proofs.lemmas.TextKind.Chunks.{dotted_passes, dotted_spells, run_from, run_some}
+use Rattle.version_texts.proofs.lemmas.Piece.Spelled.{digit_identifier, identifier_no_dot, release_bytes}
 
 -- ---- what passes is spelled
 

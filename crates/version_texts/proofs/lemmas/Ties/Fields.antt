@@ -1,6 +1,5 @@
 -- General versions of one key compare field by field as the pieces of their texts do.
-use Rattle.std.proofs.Common.{◌≡◌, ◌∙◌, ◌<◌, ℕ, List, [], ◌∷◌, ◌++◌, drop, length, map, Option}
-use Rattle.std.proofs.Common.{Some, None, refl, sym, ap, subst, arith, length-append}
+use Rattle.std.proofs.Common.{◌≡◌, ◌∙◌, ◌<◌, ℕ, List, [], ◌∷◌, ◌++◌, drop, length, map, Option, Some, None, refl, sym, ap, subst, arith, length-append}
 use Rattle.std.proofs.lemmas.Cmp.{nat_cmp_total, nat_list_cmp_total, tied_itself}
 use Rattle.std.specs.Cmp.{nat_cmp_is}
 use Rattle.std.specs.Cmp.Lexicographic.{options_total}
@@ -9,25 +8,23 @@ use Rattle.std.specs.Option.{option_cmp, option_map_or, unwrap_or}
 use Rattle.std.specs.Ordering.{nat_cmp, ordering_then}
 use Rattle.std.specs.declared.cmp.Ordering.{Ordering}
 use Rattle.std.specs.declared.cmp.Ordering.TheVariants.{Less, Equal, Greater}
-use Rattle.version_parts.specs.Body.{PlainBody, SpellsBody}
-use Rattle.version_parts.specs.Bytes.{colon, plus}
-use Rattle.version_parts.specs.Chunk.{Alphanum, Numeric, PlainChunk, SpellsPart, chunk_text}
-use Rattle.version_parts.specs.Grammar.{SpellsDotted, SpellsOptional}
-use Rattle.version_parts.specs.Last.{IsLastOf, PlainLast}
-use Rattle.version_parts.specs.LastOrder.{last_plain_cmp}
-use Rattle.version_parts.specs.Lists.{bytes_cmp}
-use Rattle.version_parts.specs.Metadata.{SpellsMetadata}
-use Rattle.version_parts.specs.PartKey.{PartKey, part_key}
-use Rattle.version_parts.specs.ReleaseLaws.{release_total}
-use Rattle.version_parts.specs.ReleaseOrder.{chunk_cmp, release_cmp}
-use Rattle.version_parts.proofs.lemmas.Chunk.{part_printed}
-use Rattle.version_parts.proofs.lemmas.General.Orders.{then_assoc}
-use Rattle.version_parts.proofs.lemmas.Numeral.{numeral_printed}
-use Rattle.versions.specs.declared.kind.Kind.TheVariants as kind
-use Rattle.versions.specs.Key.{Key, key_of_version}
-use Rattle.versions.specs.Tail as tail
-use Rattle.versions.specs.Version.{PlainVersion, SpellsEpoch, SpellsVersion, epoch_text}
-use Rattle.versions.specs.VersionOrder.{version_plain_cmp}
+use Rattle.version_rules.specs.Body.{PlainBody, SpellsBody}
+use Rattle.version_rules.specs.Bytes.{colon, plus}
+use Rattle.version_rules.specs.Chunk.{Alphanum, Numeric, PlainChunk, SpellsPart, chunk_text}
+use Rattle.version_rules.specs.Grammar.{SpellsDotted, SpellsOptional}
+use Rattle.version_rules.specs.Last.{IsLastOf, PlainLast}
+use Rattle.version_rules.specs.LastOrder.{last_plain_cmp}
+use Rattle.version_rules.specs.Lists.{bytes_cmp}
+use Rattle.version_rules.specs.Metadata.{SpellsMetadata}
+use Rattle.version_rules.specs.PartKey.{PartKey, part_key}
+use Rattle.version_rules.specs.laws.Release.{release_total}
+use Rattle.version_rules.specs.ReleaseOrder.{chunk_cmp, release_cmp}
+use Rattle.version_rules.proofs.lemmas.Chunk.{part_printed}
+use Rattle.version_rules.proofs.lemmas.Orders.{then_assoc}
+use Rattle.version_rules.proofs.lemmas.Numeral.{numeral_printed}
+use Rattle.version_rules.specs.Key.{Key, key_of_version}
+use Rattle.version_rules.specs.Version.{PlainVersion, SpellsEpoch, SpellsVersion, epoch_text}
+use Rattle.version_rules.specs.VersionOrder.{version_plain_cmp}
 use Rattle.version_texts.specs.Shape.{body_end, body_start, shape_at}
 use Rattle.version_texts.specs.TextKey.{parts_of, pieces}
 use Rattle.version_texts.specs.Ties.{general_tie, parts_tie}
@@ -36,6 +33,8 @@ use Rattle.version_texts.proofs.lemmas.Shape.{body_taken, dashed_end, version_cu
 use Rattle.version_texts.proofs.lemmas.Ties.Lasts.{number_apart, numbers_same, tied_lasts}
 use Rattle.version_texts.proofs.lemmas.VersioningRef.SameText.{meta_taken}
 use Rattle.std.specs.Prelude.{slice_range}
+use Rattle.version_rules.specs.declared.kind.Kind.TheVariants as kind
+use Rattle.version_rules.specs.Tail as tail
 
 -- ---- parts
 

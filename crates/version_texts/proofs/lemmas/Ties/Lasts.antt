@@ -1,7 +1,5 @@
 -- Last parts of one key compare by whether they are decomposed, and by their texts.
-use Rattle.std.proofs.Common.{◌≡◌, ◌==◌, ◌||◌, ◌&&◌, ◌∙◌, ◌<◌, ℕ, Bool, true, false, List, [], ◌∷◌}
-use Rattle.std.proofs.Common.{◌++◌, drop, length, Some, None, refl, sym, ap, arith, inl, inr}
-use Rattle.std.proofs.Common.{append-nil}
+use Rattle.std.proofs.Common.{◌≡◌, ◌==◌, ◌||◌, ◌&&◌, ◌∙◌, ◌<◌, ℕ, Bool, true, false, List, [], ◌∷◌, ◌++◌, drop, length, Some, None, refl, sym, ap, arith, inl, inr, append-nil}
 use Rattle.std.proofs.lemmas.Bool.{and_from, and_parts, cases_Bool, eqb-true, or_cases, or_right}
 use Rattle.std.proofs.lemmas.Bool.Decides.{nat_tests}
 use Rattle.std.proofs.lemmas.Cmp.{nat_list_cmp_total, tied_itself}
@@ -13,24 +11,21 @@ use Rattle.std.specs.List.{list_all, list_any, prefix_len, take_while}
 use Rattle.std.specs.Option.{option_map_or}
 use Rattle.std.specs.Str.Parse.{digits_value}
 use Rattle.std.specs.declared.cmp.Ordering.TheVariants.{Equal}
-use Rattle.version_parts.specs.Chunk.{PlainChunk, SpellsPart, chunk_text}
-use Rattle.version_parts.specs.Chunk as chunk
-use Rattle.version_parts.specs.DigitRun.{starts_with_digit}
-use Rattle.version_parts.specs.Front.{begins}
-use Rattle.version_parts.specs.Last.{Alphanum, IsLastOf, IsLetters, IsOther, Numeric, PlainLast}
-use Rattle.version_parts.specs.Last.{Post, Rc, SpellsPost, SpellsRc}
-use Rattle.version_parts.specs.LastOrder.{last_plain_cmp}
-use Rattle.version_parts.specs.Lists.{bytes_cmp}
-use Rattle.version_parts.specs.Numeral.{SpellsNumeral}
-use Rattle.version_parts.specs.PartKey.{Number, PartKey, Word, part_key, suffix_of}
-use Rattle.version_parts.specs.Split.{Split, split_of}
-use Rattle.version_parts.proofs.lemmas.DigitRun.{split_of-digits, split_of-no_digit}
-use Rattle.version_parts.proofs.lemmas.Front.Runs.{list_all-take_while, prefix_len-append}
-use Rattle.version_parts.proofs.lemmas.Last.{last_of-only}
-use Rattle.version_parts.proofs.lemmas.OrderLaws.{last_plain_equal}
-use Rattle.version_parts.proofs.lemmas.PartKey.{part_key-digits}
-use Rattle.version_parts.proofs.lemmas.PartKey.Lists.{plain_number}
-use Rattle.version_parts.proofs.lemmas.Pieces.{letter_other}
+use Rattle.version_rules.specs.Chunk.{PlainChunk, SpellsPart, chunk_text}
+use Rattle.version_rules.specs.DigitRun.{starts_with_digit}
+use Rattle.version_rules.specs.Front.{begins}
+use Rattle.version_rules.specs.Last.{Alphanum, IsLastOf, IsLetters, IsOther, Numeric, PlainLast, Post, Rc, SpellsPost, SpellsRc}
+use Rattle.version_rules.specs.LastOrder.{last_plain_cmp}
+use Rattle.version_rules.specs.Lists.{bytes_cmp}
+use Rattle.version_rules.specs.Numeral.{SpellsNumeral}
+use Rattle.version_rules.specs.PartKey.{Number, PartKey, Word, part_key, suffix_of}
+use Rattle.version_rules.specs.Split.{Split, split_of}
+use Rattle.version_rules.proofs.lemmas.DigitRun.{split_of-digits, split_of-no_digit}
+use Rattle.version_rules.proofs.lemmas.Front.Runs.{list_all-take_while, prefix_len-append}
+use Rattle.version_rules.proofs.lemmas.Last.{last_of-only}
+use Rattle.version_rules.proofs.lemmas.OrderLaws.{last_plain_equal}
+use Rattle.version_rules.proofs.lemmas.PartKey.{part_key-digits, plain_number}
+use Rattle.version_rules.proofs.lemmas.Bytes.{letter_other}
 use Rattle.version_texts.specs.Piece.{behind_digits}
 use Rattle.version_texts.specs.TextKind.{is_numeral}
 use Rattle.version_texts.specs.Numbers.{after_letters}
@@ -39,6 +34,7 @@ use Rattle.version_texts.proofs.lemmas.General.Runs.{run_cons}
 use Rattle.version_texts.proofs.lemmas.TextKey.DotPieces.{is_run}
 use Rattle.version_texts.proofs.lemmas.TextKind.Chunks.{digits_from, numeral_passes, numeral_spells}
 use Rattle.version_texts.proofs.lemmas.Ties.Variants.{number_key}
+use Rattle.version_rules.specs.Chunk as chunk
 
 -- ---- the keys of decomposed parts
 

@@ -1,6 +1,5 @@
 -- Messy versions of one key compare field by field as their texts do by the places of their bytes.
-use Rattle.std.proofs.Common.{◌≡◌, ◌∙◌, ◌⊎◌, ℕ, true, false, List, [], ◌∷◌, map, None, refl, sym}
-use Rattle.std.proofs.Common.{ap, arith, inl, inr}
+use Rattle.std.proofs.Common.{◌≡◌, ◌∙◌, ◌⊎◌, ℕ, true, false, List, [], ◌∷◌, map, None, refl, sym, ap, arith, inl, inr}
 use Rattle.std.proofs.lemmas.Bool.{cases_Bool}
 use Rattle.std.specs.Cmp.{IsTotalOrder, on_total, then_total}
 use Rattle.std.specs.Cmp.Lexicographic.{lists_total, nat_list_cmp_total, slice_cmp}
@@ -8,27 +7,22 @@ use Rattle.std.specs.Ordering.{ordering_reverse, ordering_then}
 use Rattle.std.specs.Str.Parse.{digits_value}
 use Rattle.std.specs.declared.cmp.Ordering.{Ordering}
 use Rattle.std.specs.declared.cmp.Ordering.TheVariants.{Less, Equal, Greater}
-use Rattle.version_parts.specs.DigitRun.{is_digits}
-use Rattle.version_parts.specs.Lists.{bytes_cmp}
-use Rattle.version_parts.specs.MChunk.{Digits, Plain, PlainMChunk, Rev, SpellsDigits, SpellsMChunk}
-use Rattle.version_parts.specs.MChunk.{mchunk_plain_cmp, mchunk_text}
-use Rattle.version_parts.specs.MChunkLaws.{sep_total}
-use Rattle.version_parts.specs.OrderLaws.{bytes_same, then_first}
-use Rattle.version_parts.specs.PartKey.{Number, PartKey, part_key, section_parts}
-use Rattle.version_parts.specs.Sep.{Colon, sep_plain_cmp}
-use Rattle.version_parts.proofs.lemmas.General.Orders.{then_decided}
-use Rattle.versions.specs.Key.{Key, key_of_mess, key_of_sections, mess_epoch, precedence}
-use Rattle.versions.specs.Key.{section_epoch, sections_tail}
-use Rattle.versions.specs.Mess.{Further, PlainMess, Section, SpellsMess, further_plain_cmp}
-use Rattle.versions.specs.Mess.{mess_plain_cmp, section_plain_cmp}
-use Rattle.versions.specs.MessLaws.{mess_total}
-use Rattle.versions.proofs.lemmas.KeyLaws.{keys_same}
-use Rattle.versions.proofs.lemmas.Mess.{mess_printed}
+use Rattle.version_rules.specs.DigitRun.{is_digits}
+use Rattle.version_rules.specs.Lists.{bytes_cmp}
+use Rattle.version_rules.specs.MChunk.{Digits, Plain, PlainMChunk, Rev, SpellsDigits, SpellsMChunk, mchunk_plain_cmp, mchunk_text}
+use Rattle.version_rules.specs.laws.MChunk.{sep_total}
+use Rattle.version_rules.specs.laws.Order.{bytes_same, then_first}
+use Rattle.version_rules.specs.PartKey.{Number, PartKey, part_key, section_parts}
+use Rattle.version_rules.specs.Sep.{Colon, sep_plain_cmp}
+use Rattle.version_rules.proofs.lemmas.Orders.{then_decided}
+use Rattle.version_rules.specs.Key.{Key, key_of_mess, key_of_sections, mess_epoch, precedence, section_epoch, sections_tail}
+use Rattle.version_rules.specs.Mess.{Further, PlainMess, Section, SpellsMess, further_plain_cmp, mess_plain_cmp, section_plain_cmp}
+use Rattle.version_rules.specs.laws.Mess.{mess_total}
+use Rattle.version_rules.proofs.lemmas.KeyLaws.{keys_same}
+use Rattle.version_rules.proofs.lemmas.Mess.{mess_printed}
 use Rattle.version_texts.specs.Ties.{messy_tie}
 use Rattle.version_texts.proofs.lemmas.Shape.Complex.{alone, apart, uncounted}
-use Rattle.version_texts.proofs.lemmas.Ties.Places.{AreChunks, AreSections, HasSections, IsSection}
-use Rattle.version_texts.proofs.lemmas.Ties.Places.{further_texts_cmp, mess_texts_cmp}
-use Rattle.version_texts.proofs.lemmas.Ties.Places.{spelled_sections, texts_cmp, texts_compare}
+use Rattle.version_texts.proofs.lemmas.Ties.Places.{AreChunks, AreSections, HasSections, IsSection, further_texts_cmp, mess_texts_cmp, spelled_sections, texts_cmp, texts_compare}
 use Rattle.version_texts.proofs.lemmas.Ties.Variants.{digits_key, tied_chunks, zeros_compare}
 
 -- ---- sections of one key

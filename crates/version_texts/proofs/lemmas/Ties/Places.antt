@@ -1,7 +1,5 @@
 -- The texts of messy versions compare by the places of their bytes as their chunks and signs do.
-use Rattle.std.proofs.Common.{◌≡◌, ◌==◌, ◌∙◌, ◌<◌, ◌≤◌, if◌then◌else◌, ℕ, false, true, List, []}
-use Rattle.std.proofs.Common.{◌∷◌, ◌++◌, Option, Some, None, refl, sym, ap, subst, arith}
-use Rattle.std.proofs.Common.{append-nil, append_assoc}
+use Rattle.std.proofs.Common.{◌≡◌, ◌==◌, ◌∙◌, ◌<◌, ◌≤◌, if◌then◌else◌, ℕ, false, true, List, [], ◌∷◌, ◌++◌, Option, Some, None, refl, sym, ap, subst, arith, append-nil, append_assoc}
 use Rattle.std.proofs.lemmas.Bool.Decides.{nat_tests}
 use Rattle.std.specs.Char.{is_ascii_alphanumeric}
 use Rattle.std.specs.Cmp.{first_so, nat_cmp_is, second_so}
@@ -11,16 +9,14 @@ use Rattle.std.specs.Option.{is_some, option_map_or}
 use Rattle.std.specs.Ordering.{nat_cmp, on, ordering_then, then_cmp}
 use Rattle.std.specs.declared.cmp.Ordering.{Ordering}
 use Rattle.std.specs.declared.cmp.Ordering.TheVariants.{Less, Greater}
-use Rattle.version_parts.specs.Bytes.{dot}
-use Rattle.version_parts.specs.Grammar.{SpellsDotted, SpellsEach}
-use Rattle.version_parts.specs.Lists.{bytes_cmp}
-use Rattle.version_parts.specs.MChunk.{PlainMChunk, SpellsMChunk, mchunk_text}
-use Rattle.version_parts.specs.Sep.{PlainSep, Colon, Hyphen, Plus, Underscore, Tilde, is_sep}
-use Rattle.version_parts.specs.Sep.{sep_byte, sep_of, sep_plain_cmp, sep_rank}
-use Rattle.version_parts.proofs.lemmas.General.Orders.{then_assoc}
-use Rattle.version_parts.proofs.lemmas.MChunk.{mchunk_printed, spelled_run}
-use Rattle.versions.specs.Mess.{Further, PlainMess, Section, SpellsFurther, SpellsMess}
-use Rattle.versions.specs.Mess.{SpellsSection, further_text, joined_section, mess_text}
+use Rattle.version_rules.specs.Bytes.{dot}
+use Rattle.version_rules.specs.Grammar.{SpellsDotted, SpellsEach}
+use Rattle.version_rules.specs.Lists.{bytes_cmp}
+use Rattle.version_rules.specs.MChunk.{PlainMChunk, SpellsMChunk, mchunk_text}
+use Rattle.version_rules.specs.Sep.{PlainSep, Colon, Hyphen, Plus, Underscore, Tilde, is_sep, sep_byte, sep_of, sep_plain_cmp, sep_rank}
+use Rattle.version_rules.proofs.lemmas.Orders.{then_assoc}
+use Rattle.version_rules.proofs.lemmas.MChunk.{mchunk_printed, spelled_run}
+use Rattle.version_rules.specs.Mess.{Further, PlainMess, Section, SpellsFurther, SpellsMess, SpellsSection, further_text, joined_section, mess_text}
 use Rattle.version_texts.specs.Ties.{byte_place, messy_tie}
 use Rattle.version_texts.proofs.lemmas.TextKey.Sections.{further_text-is}
 

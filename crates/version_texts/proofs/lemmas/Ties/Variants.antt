@@ -1,6 +1,5 @@
 -- Chunks of messy versions that have one key compare by their texts, and so do zeros and any chunk.
-use Rattle.std.proofs.Common.{◌≡◌, ◌==◌, ◌∙◌, ◌<◌, ◌≢◌, ℕ, true, false, List, [], ◌∷◌, ◌++◌, drop}
-use Rattle.std.proofs.Common.{length, Some, None, refl, sym, ap, arith, inl, inr, append-nil}
+use Rattle.std.proofs.Common.{◌≡◌, ◌==◌, ◌∙◌, ◌<◌, ◌≢◌, ℕ, true, false, List, [], ◌∷◌, ◌++◌, drop, length, Some, None, refl, sym, ap, arith, inl, inr, append-nil}
 use Rattle.std.proofs.lemmas.Bool.{cases_Bool, eqb-false, eqb-true}
 use Rattle.std.proofs.lemmas.Bool.Decides.{nat_tests}
 use Rattle.std.proofs.lemmas.Cmp.{nat_cmp_total, tied_itself}
@@ -12,19 +11,18 @@ use Rattle.std.specs.List.{before_first, list_all, position_or_len, prefix_len}
 use Rattle.std.specs.Ordering.{nat_cmp, ordering_then}
 use Rattle.std.specs.Str.Parse.{digits_value}
 use Rattle.std.specs.declared.cmp.Ordering.TheVariants.{Less, Equal}
-use Rattle.version_parts.specs.DigitRun.{is_digits, number_front, run_value, starts_with_digit}
-use Rattle.version_parts.specs.Lists.{bytes_cmp}
-use Rattle.version_parts.specs.MChunk.{Digits, Plain, PlainMChunk, Rev, SpellsDigits, SpellsMChunk}
-use Rattle.version_parts.specs.MChunk.{SpellsRevision, mchunk_plain_cmp, mchunk_text}
-use Rattle.version_parts.specs.OrderLaws.{then_first}
-use Rattle.version_parts.specs.PartKey.{Number, Word, part_key, suffix_of}
-use Rattle.version_parts.specs.Split.{Split, split_of}
-use Rattle.version_parts.proofs.lemmas.DigitRun.{split_of-digits}
-use Rattle.version_parts.proofs.lemmas.Front.Runs.{all_weaker}
-use Rattle.version_parts.proofs.lemmas.MChunk.{spelled_run}
-use Rattle.version_parts.proofs.lemmas.PartKey.{part_key-digits, part_key-word}
-use Rattle.version_parts.proofs.lemmas.PartOrder.{numbers_compared}
-use Rattle.version_parts.proofs.lemmas.Pieces.{is_zero, take_while-all}
+use Rattle.version_rules.specs.DigitRun.{is_digits, number_front, run_value, starts_with_digit}
+use Rattle.version_rules.specs.Lists.{bytes_cmp}
+use Rattle.version_rules.specs.MChunk.{Digits, Plain, PlainMChunk, Rev, SpellsDigits, SpellsMChunk, SpellsRevision, mchunk_plain_cmp, mchunk_text}
+use Rattle.version_rules.specs.laws.Order.{then_first}
+use Rattle.version_rules.specs.PartKey.{Number, Word, part_key, suffix_of}
+use Rattle.version_rules.specs.Split.{Split, split_of}
+use Rattle.version_rules.proofs.lemmas.DigitRun.{split_of-digits}
+use Rattle.version_rules.proofs.lemmas.Front.Runs.{all_weaker, take_while-all}
+use Rattle.version_rules.proofs.lemmas.MChunk.{spelled_run}
+use Rattle.version_rules.proofs.lemmas.PartKey.{part_key-digits, part_key-word}
+use Rattle.version_rules.proofs.lemmas.PartOrder.{numbers_compared}
+use Rattle.version_rules.proofs.lemmas.NumberBytes.{is_zero}
 use Rattle.version_texts.specs.Piece.{behind_digits, from_first}
 use Rattle.version_texts.proofs.lemmas.TextKey.DotPieces.{is_run}
 

@@ -1,12 +1,11 @@
 -- What a walk over two texts of one key knows at each step.
-use Rattle.std.proofs.Common.{◌≡◌, ◌∙◌, ◌+◌, ◌<◌, ◌≤◌, ◌⊎◌, ℕ, List, [], ◌∷◌, drop, length, refl}
-use Rattle.std.proofs.Common.{sym, ap, arith, inl, inr}
+use Rattle.std.proofs.Common.{◌≡◌, ◌∙◌, ◌+◌, ◌<◌, ◌≤◌, ◌⊎◌, ℕ, List, [], ◌∷◌, drop, length, refl, sym, ap, arith, inl, inr}
 use Rattle.std.proofs.lemmas.List.{drop_all, length-drop}
 use Rattle.std.specs.Cmp.{nat_cmp_is, ranks}
 use Rattle.std.specs.Ordering.{MatchOrdering, nat_cmp, ordering_then}
 use Rattle.std.specs.declared.cmp.Ordering.{Ordering}
 use Rattle.std.specs.declared.cmp.Ordering.TheVariants.{Less, Equal, Greater}
-use Rattle.version_parts.specs.Lists.{bytes_cmp}
+use Rattle.version_rules.specs.Lists.{bytes_cmp}
 use Rattle.version_texts.specs.Piece.{behind_piece, first_piece, is_dot}
 use Rattle.version_texts.specs.TextKey.{pieces}
 use Rattle.version_texts.specs.Ties.{last_tie, messy_tie, parts_tie}

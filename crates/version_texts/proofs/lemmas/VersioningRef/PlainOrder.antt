@@ -1,16 +1,15 @@
 -- The plain order of two versions, by their kinds and their keys.
 use Rattle.std.proofs.Common.{◌≡◌, ◌∙◌, List, ℕ, Some, refl, sym}
 use Rattle.std.specs.Ordering.{nat_cmp}
-use Rattle.versions.specs.declared.kind.Kind.TheVariants as kind
-use Rattle.versions.proofs.lemmas.SemVerOrder.{precedence_of_semvers}
-use Rattle.versions.specs.Key.{key_of, precedence}
-use Rattle.versions.specs.Kind.{versioning_kind}
-use Rattle.versions.specs.Versioning.{PlainVersioning, Ideal, General, Complex, kind_rank}
-use Rattle.versions.specs.Versioning.{versioning_plain_cmp}
+use Rattle.version_rules.proofs.lemmas.SemVerOrder.{precedence_of_semvers}
+use Rattle.version_rules.specs.Key.{key_of, precedence}
+use Rattle.version_rules.specs.Kind.{versioning_kind}
+use Rattle.version_rules.specs.Versioning.{PlainVersioning, Ideal, General, Complex, kind_rank, versioning_plain_cmp}
 use Rattle.version_texts.proofs.lemmas.VersioningRef.{kind-is}
 use Rattle.version_texts.specs.declared.shape.Shape.{Shape}
 use Rattle.version_texts.specs.Shape.{shape_of}
 use Rattle.version_texts.specs.VersioningRef.{version_in}
+use Rattle.version_rules.specs.declared.kind.Kind.TheVariants as kind
 
 -- the plain order of strict versions is precedence
 strict_order : (a b : PlainVersioning) → kind.Ideal ≡ versioning_kind a

@@ -1,7 +1,5 @@
 -- Two versions are the same exactly if their texts are, up to the metadata of strict ones.
-use Rattle.std.proofs.Common.{◌≡◌, ◌↔◌, ◌∙◌, ℕ, Bool, IsTrue, true, false, List, [], ◌++◌, length}
-use Rattle.std.proofs.Common.{drop, take, Option, Some, None, refl, sym, ap, subst, arith, inl, inr}
-use Rattle.std.proofs.Common.{nat_eq, append-nil, append_assoc, length-append}
+use Rattle.std.proofs.Common.{◌≡◌, ◌↔◌, ◌∙◌, ℕ, Bool, IsTrue, true, false, List, [], ◌++◌, length, drop, take, Option, Some, None, refl, sym, ap, subst, arith, inl, inr, nat_eq, append-nil, append_assoc, length-append}
 use Rattle.std.proofs.lemmas.Bool.{cases_Bool}
 use Rattle.std.proofs.lemmas.List.{drop_at, take_at}
 use Rattle.std.specs.Cmp.{Equal-is}
@@ -10,29 +8,27 @@ use Rattle.std.specs.List.{list_all, prefix_len}
 use Rattle.std.specs.Ordering.{eq_by_cmp, is_eq}
 use Rattle.std.specs.declared.cmp.Ordering.{Ordering}
 use Rattle.std.specs.declared.cmp.Ordering.TheVariants.{Equal}
-use Rattle.version_parts.specs.Bytes.{hyphen}
-use Rattle.version_parts.specs.Chunk.{PlainChunk}
-use Rattle.version_parts.specs.Grammar.{SpellsOptional}
-use Rattle.version_parts.specs.Release.{SpellsRelease}
-use Rattle.version_parts.proofs.lemmas.Front.Runs.{prefix_len-append}
-use Rattle.versions.specs.declared.kind.Kind.{Kind}
-use Rattle.versions.specs.declared.kind.Kind.TheVariants as kind
-use Rattle.versions.specs.Conversions.{version_of_semver}
-use Rattle.versions.specs.Kind.{versioning_kind}
-use Rattle.versions.specs.MessLaws.{messes_same}
-use Rattle.versions.specs.SemVer.{PlainSemVer, SpellsSemVer}
-use Rattle.versions.specs.SemVerLaws.{tied_same}
-use Rattle.versions.specs.VersioningLaws.{versioning_plain_total}
-use Rattle.versions.proofs.lemmas.OrdersLaws.{semver_equal}
+use Rattle.version_rules.specs.Bytes.{hyphen}
+use Rattle.version_rules.specs.Chunk.{PlainChunk}
+use Rattle.version_rules.specs.Grammar.{SpellsOptional}
+use Rattle.version_rules.specs.Release.{SpellsRelease}
+use Rattle.version_rules.proofs.lemmas.Front.Runs.{prefix_len-append}
+use Rattle.version_rules.specs.declared.kind.Kind.{Kind}
+use Rattle.version_rules.specs.Conversions.{version_of_semver}
+use Rattle.version_rules.specs.Kind.{versioning_kind}
+use Rattle.version_rules.specs.laws.Mess.{messes_same}
+use Rattle.version_rules.specs.SemVer.{PlainSemVer, SpellsSemVer}
+use Rattle.version_rules.specs.laws.SemVer.{tied_same}
+use Rattle.version_rules.specs.laws.Versioning.{versioning_plain_total}
+use Rattle.version_rules.proofs.lemmas.OrdersLaws.{semver_equal}
 use Rattle.std.proofs.lemmas.Cmp.{eq_by_cmp_equiv}
-use Rattle.versions.specs.SemVerOrder.{SameButMetadata, semver_cmp}
-use Rattle.versions.specs.Version.{PlainVersion, SpellsVersion, version_text}
-use Rattle.versions.specs.VersionLaws.{versions_same}
-use Rattle.versions.specs.Versioning.{PlainVersioning, Ideal, General, Complex, SpellsVersioning}
-use Rattle.versions.specs.Versioning.{versioning_of, versioning_plain_cmp, versioning_text}
-use Rattle.versions.proofs.lemmas.Version.{version_printed, version_unique}
-use Rattle.versions.proofs.lemmas.Versioning.{versioning_printed}
-use Rattle.versions.proofs.lemmas.Conversions.Widening.{strict_is_general}
+use Rattle.version_rules.specs.SemVerOrder.{SameButMetadata, semver_cmp}
+use Rattle.version_rules.specs.Version.{PlainVersion, SpellsVersion, version_text}
+use Rattle.version_rules.specs.laws.Version.{versions_same}
+use Rattle.version_rules.specs.Versioning.{PlainVersioning, Ideal, General, Complex, SpellsVersioning, versioning_of, versioning_plain_cmp, versioning_text}
+use Rattle.version_rules.proofs.lemmas.Version.{version_printed, version_unique}
+use Rattle.version_rules.proofs.lemmas.Versioning.{versioning_printed}
+use Rattle.version_rules.proofs.lemmas.Conversions.{strict_is_general}
 use Rattle.version_texts.specs.declared.shape.Shape.{Shape}
 use Rattle.version_texts.specs.Shape.{behind_body, shape_of, tail_end}
 use Rattle.version_texts.specs.TextKind.{is_not_plus}
@@ -40,6 +36,7 @@ use Rattle.version_texts.specs.VersioningRef.{version_in}
 use Rattle.version_texts.proofs.lemmas.VersioningRef.{kind-is, same_text-ties, spelled, spells-is}
 use Rattle.version_texts.proofs.lemmas.Shape.Positions.{behind_body-is, body_end-is}
 use Rattle.version_texts.proofs.lemmas.Shape.{dashed_end, no_meta, release_not_plus, version_cut}
+use Rattle.version_rules.specs.declared.kind.Kind.TheVariants as kind
 
 -- ---- a version without its metadata
 

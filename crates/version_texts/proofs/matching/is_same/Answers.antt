@@ -1,8 +1,7 @@
 use Rattle.std.proofs.Common.{◌∙◌, sym}
 use Rattle.std.proofs.lemmas.List.{length-take-le}
 use Rattle.version_texts.proofs.lemmas.VersioningRef.{tail_within}
-use Rattle.version_texts.proofs.lemmas.VersioningRef.SameText.{told_back, told_by_fronts}
-use Rattle.version_texts.proofs.lemmas.VersioningRef.SameText.{told_by_whole}
+use Rattle.version_texts.proofs.lemmas.VersioningRef.SameText.{told_back, told_by_fronts, told_by_whole}
 use Rattle.version_texts.proofs.matching.is_same.Goals as goal
 
 pub slice_bounds-eq-end : goal.slice_bounds-eq-end

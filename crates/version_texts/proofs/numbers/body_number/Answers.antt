@@ -1,5 +1,5 @@
 use Rattle.std.proofs.Common.{◌∙◌, ap}
-use Rattle.version_parts.specs.MChunk.{value_of_digits}
+use Rattle.version_rules.specs.MChunk.{value_of_digits}
 use Rattle.version_texts.specs.Numbers.{last_number}
 use Rattle.version_texts.proofs.lemmas.Numbers.Places.{last_left, more_left}
 use Rattle.version_texts.proofs.numbers.body_number.Goals as goal

@@ -1,5 +1,5 @@
 use Rattle.std.proofs.Common.{◌∙◌, ap}
-use Rattle.version_parts.specs.MChunk.{value_of_digits}
+use Rattle.version_rules.specs.MChunk.{value_of_digits}
 use Rattle.version_texts.proofs.lemmas.Numbers.Places.{first_chunk}
 use Rattle.version_texts.proofs.numbers.chunk_number.Goals as goal
 

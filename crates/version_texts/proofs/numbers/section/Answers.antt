@@ -1,5 +1,5 @@
 use Rattle.std.proofs.Common.{◌∙◌, ap, sym}
-use Rattle.version_parts.specs.Front.{begins}
+use Rattle.version_rules.specs.Front.{begins}
 use Rattle.version_texts.proofs.lemmas.Numbers.Section.{section_is, section_passed}
 use Rattle.version_texts.proofs.lemmas.Shape.Positions.{is_colon}
 use Rattle.version_texts.proofs.numbers.section.Goals as goal

@@ -1,6 +1,6 @@
 use Rattle.std.proofs.Common.{◌∙◌}
 use Rattle.std.proofs.lemmas.Bool.{lt-ltb}
-use Rattle.version_parts.proofs.lemmas.Numeral.{nine_digits}
+use Rattle.version_rules.proofs.lemmas.Numeral.{nine_digits}
 use Rattle.version_texts.proofs.lemmas.TextKind.Numeral.{all_digits}
 use Rattle.version_texts.proofs.numeral.is_below_limit.Goals as goal
 

@@ -1,5 +1,5 @@
 use Rattle.std.proofs.Common.{◌≡◌, ◌∙◌, false, sym}
-use Rattle.version_parts.specs.DigitRun.{is_digits}
+use Rattle.version_rules.specs.DigitRun.{is_digits}
 use Rattle.version_texts.specs.TextKind.{is_numeral}
 use Rattle.version_texts.proofs.numeral.spells_numeral.Goals as goal
 

@@ -1,5 +1,5 @@
 use Rattle.std.proofs.Common.{refl}
-use Rattle.version_parts.proofs.lemmas.Numeral.Digits.{next_value}
+use Rattle.version_rules.proofs.lemmas.Numeral.Digits.{next_value}
 use Rattle.version_texts.proofs.lemmas.TextKind.Numeral.{all_digits, too_large}
 use Rattle.version_texts.proofs.numeral.value_below_limit.Goals as goal
 

@@ -2,8 +2,8 @@ use Rattle.std.proofs.Common.{◌≡◌, ◌∙◌, ℕ, List, ap, sym}
 use Rattle.std.specs.Char.{is_ascii_digit}
 use Rattle.std.specs.List.{list_all}
 use Rattle.std.specs.Str.Parse.{digits_value}
-use Rattle.versions.specs.Ends.{kept_parts}
-use Rattle.versions.specs.Range.{begun}
+use Rattle.version_rules.specs.Ends.{kept_parts}
+use Rattle.version_rules.specs.Range.{begun}
 use Rattle.version_texts.specs.Parts.{parts_behind}
 use Rattle.version_texts.specs.Shape.{body_in, epoch_in, is_section_byte}
 use Rattle.version_texts.specs.TextKey.{parts_of}

@@ -1,6 +1,6 @@
 use Rattle.std.proofs.Common.{◌≡◌, length, suc}
 use Rattle.std.specs.Option.{is_some, option_map_or}
-use Rattle.versions.specs.RequirementsRef.{members_of}
+use Rattle.version_rules.specs.RequirementsRef.{members_of}
 use Rattle.version_texts.proofs.requirements_ref.are_members.Given as goal
 
 -- the members so far parse, and what remains decides

@@ -1,8 +1,8 @@
 use Rattle.std.proofs.Common.{refl}
 use Rattle.version_texts.specs.RequirementRef.{plain_requirement_ref}
-use Rattle.versions.specs.RequirementsRef.{members_of}
+use Rattle.version_rules.specs.RequirementsRef.{members_of}
 use Rattle.version_texts.specs.VersioningRef.{plain_versioning_ref}
-use Rattle.versions.proofs.lemmas.RequirementsRef.{text_first_decides, text_others_decide}
+use Rattle.version_rules.proofs.lemmas.RequirementsRef.{text_first_decides, text_others_decide}
 use Rattle.version_texts.proofs.requirements_ref.each_asks_for.Goals as goal
 
 pub returns-then-not-matches : goal.returns-then-not-matches

@@ -1,8 +1,8 @@
 use Rattle.std.proofs.Common.{◌↔◌, length, suc}
 use Rattle.std.specs.Option.{option_map_or}
-use Rattle.versions.specs.RequirementsRef.{members_of}
+use Rattle.version_rules.specs.RequirementsRef.{members_of}
 use Rattle.version_texts.specs.VersioningRef.{plain_versioning_ref}
-use Rattle.versions.proofs.lemmas.RequirementsRef.{Asked}
+use Rattle.version_rules.proofs.lemmas.RequirementsRef.{Asked}
 use Rattle.version_texts.proofs.requirements_ref.each_asks_for.Given as goal
 
 -- the members so far match the version, and what remains decides

@@ -1,7 +1,7 @@
 use Rattle.std.proofs.Common.{◌∙◌, refl}
-use Rattle.versions.proofs.lemmas.RequirementsRef.{text_first_decides, text_others_decide}
-use Rattle.versions.specs.Requirement.{requirement_of}
-use Rattle.versions.specs.RequirementsRef.{members_of}
+use Rattle.version_rules.proofs.lemmas.RequirementsRef.{text_first_decides, text_others_decide}
+use Rattle.version_rules.specs.Requirement.{requirement_of}
+use Rattle.version_rules.specs.RequirementsRef.{members_of}
 use Rattle.version_texts.specs.RequirementRef.{plain_requirement_ref}
 use Rattle.version_texts.specs.VersioningRef.{plain_versioning_ref}
 use Rattle.version_texts.proofs.lemmas.RequirementsRef.Members.{others_parse}

@@ -1,9 +1,9 @@
 use Rattle.std.proofs.Common.{◌≡◌, ◌↔◌, length, suc}
 use Rattle.std.specs.Option.{is_some, option_map_or}
-use Rattle.versions.specs.Requirements.{requirements_of}
-use Rattle.versions.specs.RequirementsRef.{members_of}
+use Rattle.version_rules.specs.Requirements.{requirements_of}
+use Rattle.version_rules.specs.RequirementsRef.{members_of}
 use Rattle.version_texts.specs.VersioningRef.{plain_versioning_ref}
-use Rattle.versions.proofs.lemmas.RequirementsRef.{Asked}
+use Rattle.version_rules.proofs.lemmas.RequirementsRef.{Asked}
 use Rattle.version_texts.proofs.requirements_ref.list_matches.Given as goal
 
 -- the members so far parse and match the version, and what remains decides

@@ -1,9 +1,9 @@
 use Rattle.std.specs.Option.{unwrap_or}
 use Rattle.std.proofs.Common.{[]}
 use Rattle.version_texts.specs.RequirementRef.{plain_requirement_ref}
-use Rattle.versions.specs.RequirementsRef.{members_of}
+use Rattle.version_rules.specs.RequirementsRef.{members_of}
 use Rattle.version_texts.specs.VersioningRef.{plain_versioning_ref}
-use Rattle.versions.proofs.lemmas.RequirementsRef.{all_ask, first_asks_not}
+use Rattle.version_rules.proofs.lemmas.RequirementsRef.{all_ask, first_asks_not}
 use Rattle.version_texts.proofs.requirements_ref.second_and_others_ask.Goals as goal
 
 pub returns-then-matches : goal.returns-then-matches

@@ -1,17 +1,12 @@
-use Rattle.std.proofs.Common.{◌≡◌, ◌==◌, ◌&&◌, ◌+◌, ◌∙◌, ℕ, Bool, List, true, drop, length, refl}
-use Rattle.std.proofs.Common.{sym, ap}
+use Rattle.std.proofs.Common.{◌≡◌, ◌==◌, ◌&&◌, ◌+◌, ◌∙◌, ℕ, Bool, List, true, drop, length, refl, sym, ap}
 use Rattle.std.specs.Char.{is_ascii_alphanumeric}
 use Rattle.std.specs.List.{list_all}
-use Rattle.version_parts.specs.DigitRun.{is_digits}
+use Rattle.version_rules.specs.DigitRun.{is_digits}
 use Rattle.version_texts.specs.Class.{first_rank}
 use Rattle.version_texts.specs.Shape.{body_start, has_epoch}
 use Rattle.version_texts.specs.TextKind.{is_chunk, is_run, section_end, section_pieces}
 use Rattle.version_texts.proofs.lemmas.Class.{next_colon}
-use Rattle.version_texts.proofs.lemmas.Shape.Scanned.{bad_first, behind_colon, body_end-section}
-use Rattle.version_texts.proofs.lemmas.Shape.Scanned.{epoch_chunk, epoch_end, first_chunks}
-use Rattle.version_texts.proofs.lemmas.Shape.Scanned.{first_end, first_numbers, first_runs}
-use Rattle.version_texts.proofs.lemmas.Shape.Scanned.{no_epoch, not_three, numeral_epoch}
-use Rattle.version_texts.proofs.lemmas.Shape.Scanned.{one_by_dots, section_is_epoch, three_by_dots}
+use Rattle.version_texts.proofs.lemmas.Shape.Scanned.{bad_first, behind_colon, body_end-section, epoch_chunk, epoch_end, first_chunks, first_end, first_numbers, first_runs, no_epoch, not_three, numeral_epoch, one_by_dots, section_is_epoch, three_by_dots}
 use Rattle.version_texts.proofs.scan.scan_body.Goals as goal
 
 -- whether a text has an epoch, as its first section tells

@@ -1,8 +1,7 @@
 use Rattle.std.proofs.Common.{◌==◌, ◌∙◌, drop, sym, arith}
-use Rattle.version_parts.specs.Bytes.{dot, is_identifier_byte}
+use Rattle.version_rules.specs.Bytes.{dot, is_identifier_byte}
 use Rattle.version_texts.proofs.lemmas.Class.{is_dot, no_dot}
-use Rattle.version_texts.proofs.lemmas.TextKind.Release.{bad_chunk, from_last, from_next}
-use Rattle.version_texts.proofs.lemmas.TextKind.Release.{place_last, place_next}
+use Rattle.version_texts.proofs.lemmas.TextKind.Release.{bad_chunk, from_last, from_next, place_last, place_next}
 use Rattle.version_texts.proofs.lemmas.General.Runs.{not_false, not_true}
 use Rattle.version_texts.proofs.lemmas.Shape.Section.{begins_within}
 use Rattle.version_texts.proofs.lemmas.TextKind.Runs.{chunk_empty}

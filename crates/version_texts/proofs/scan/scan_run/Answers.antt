@@ -1,10 +1,7 @@
 mod ScanRun
 use Rattle.std.proofs.Common.{◌∙◌, drop, sym, arith}
 use Rattle.version_texts.specs.Class.{contains}
-use Rattle.version_texts.proofs.scan.scan_run.Answers.ScanRun.{between_digits, empty_run}
-use Rattle.version_texts.proofs.scan.scan_run.Answers.ScanRun.{end_of_run, goes_on, number_chunk}
-use Rattle.version_texts.proofs.scan.scan_run.Answers.ScanRun.{run_is_digits, stops, word_chunk}
-use Rattle.version_texts.proofs.scan.scan_run.Answers.ScanRun.{word_digits}
+use Rattle.version_texts.proofs.scan.scan_run.Answers.ScanRun.{between_digits, empty_run, end_of_run, goes_on, number_chunk, run_is_digits, stops, word_chunk, word_digits}
 use Rattle.version_texts.proofs.scan.scan_run.Goals as goal
 
 pub returns-then-has_rank-clause-end : goal.returns-then-has_rank-clause-end

@@ -1,6 +1,6 @@
 use Rattle.std.proofs.Common.{◌∙◌, [], ℕ, List, ap, append-nil}
-use Rattle.version_parts.specs.Lists.{bytes_cmp}
-use Rattle.versions.specs.Ends.{end_bytes}
+use Rattle.version_rules.specs.Lists.{bytes_cmp}
+use Rattle.version_rules.specs.Ends.{end_bytes}
 use Rattle.version_texts.specs.TextKey.{text_key}
 use Rattle.version_texts.proofs.sinks.compare_end.Goals as goal
 

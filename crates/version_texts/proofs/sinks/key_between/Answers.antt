@@ -1,6 +1,6 @@
 use Rattle.std.proofs.Common.{◌∙◌, [], ℕ, List, ap, append-nil}
-use Rattle.version_parts.specs.Lists.{bytes_cmp}
-use Rattle.versions.specs.KeyBytes.{key_bytes}
+use Rattle.version_rules.specs.Lists.{bytes_cmp}
+use Rattle.version_rules.specs.KeyBytes.{key_bytes}
 use Rattle.version_texts.specs.Sinks.{is_between}
 use Rattle.version_texts.specs.TextKey.{text_key}
 use Rattle.version_texts.proofs.sinks.key_between.Goals as goal

@@ -1,5 +1,5 @@
 use Rattle.std.proofs.Common.{◌∙◌, ◌+◌, [], ℕ, List, ap, append-nil, length, zero-add}
-use Rattle.versions.specs.KeyBytes.{key_bytes}
+use Rattle.version_rules.specs.KeyBytes.{key_bytes}
 use Rattle.version_texts.specs.Sinks.{saturated}
 use Rattle.version_texts.specs.TextKey.{text_key}
 use Rattle.version_texts.proofs.sinks.key_length.Goals as goal

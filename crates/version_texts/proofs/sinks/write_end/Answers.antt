@@ -1,5 +1,5 @@
 use Rattle.std.proofs.Common.{◌≡◌, ◌∙◌, ◌+◌, [], ℕ, List, ap, append-nil, arith, length, rules, sym}
-use Rattle.versions.specs.Ends.{end_bytes}
+use Rattle.version_rules.specs.Ends.{end_bytes}
 use Rattle.version_texts.specs.Sinks.{put_at, saturated}
 use Rattle.version_texts.specs.TextKey.{text_key}
 use Rattle.version_texts.proofs.lemmas.Sinks.{put_nothing}

@@ -1,7 +1,6 @@
-use Rattle.std.proofs.Common.{◌≡◌, ◌∙◌, ◌+◌, ◌++◌, [], ℕ, List, ap, append-nil, arith, length}
-use Rattle.std.proofs.Common.{rules, sym}
-use Rattle.versions.specs.KeyBytes.{key_bytes}
-use Rattle.versions.specs.Tail.{tail_bytes}
+use Rattle.std.proofs.Common.{◌≡◌, ◌∙◌, ◌+◌, ◌++◌, [], ℕ, List, ap, append-nil, arith, length, rules, sym}
+use Rattle.version_rules.specs.KeyBytes.{key_bytes}
+use Rattle.version_rules.specs.Tail.{tail_bytes}
 use Rattle.version_texts.specs.Sinks.{put_at, saturated}
 use Rattle.version_texts.specs.TextKey.{front_bytes, text_key}
 use Rattle.version_texts.proofs.lemmas.Sinks.{length-put, put_nothing, put_saturated}

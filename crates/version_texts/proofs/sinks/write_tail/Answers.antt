@@ -1,5 +1,5 @@
 use Rattle.std.proofs.Common.{◌≡◌, ◌∙◌, ◌+◌, [], ℕ, List, ap, append-nil, arith, length, rules, sym}
-use Rattle.versions.specs.Tail.{tail_bytes}
+use Rattle.version_rules.specs.Tail.{tail_bytes}
 use Rattle.version_texts.specs.Shape.{tail_in}
 use Rattle.version_texts.specs.Sinks.{put_at, saturated}
 use Rattle.version_texts.specs.TextKey.{tail_of}

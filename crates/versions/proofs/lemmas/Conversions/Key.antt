@@ -1,29 +1,25 @@
 -- A version and its conversion have the same key, except for a tail of a higher rank.
-use Rattle.std.proofs.Common.{◌≡◌, ℕ, ◌<◌, ◌^◌, List, [], ◌∷◌, ◌++◌, Option, Some, None, IfSome}
-use Rattle.std.proofs.Common.{if◌then◌else◌, ◌||◌, refl, sym, ap, ◌∙◌, arith}
+use Rattle.std.proofs.Common.{◌≡◌, ℕ, ◌<◌, ◌^◌, List, [], ◌∷◌, ◌++◌, Option, Some, None, IfSome, if◌then◌else◌, ◌||◌, refl, sym, ap, ◌∙◌, arith}
 use Rattle.std.proofs.lemmas.Fmt.{decimal_is_IsNumeral}
 use Rattle.std.specs.Cmp.{nat_cmp_total, tied_itself}
 use Rattle.std.specs.Fmt.{decimal}
 use Rattle.std.specs.Option.{is_some, option_map_or, unwrap_or}
 use Rattle.std.specs.declared.cmp.Ordering.TheVariants.{Less, Equal}
-use Rattle.version_parts.proofs.lemmas.DigitRun.{decimal-digits}
-use Rattle.version_parts.proofs.lemmas.PartKey.Lists.{plain_number}
-use Rattle.version_parts.specs.Chunk as chunk
-use Rattle.version_parts.specs.Chunk.{PlainChunk, chunk_text}
-use Rattle.version_parts.specs.Last as last
-use Rattle.version_parts.specs.Last.{PlainLast, last_text}
-use Rattle.version_parts.specs.MChunk.{mchunk_text}
-use Rattle.version_parts.specs.PartKey.{PartKey, chunk_parts, part_key, section_parts}
-use Rattle.version_parts.specs.PartLaws.{list_total}
-use Rattle.versions.specs.Conversions.{behind_epoch, body_section, mchunk_of, mchunk_of_last}
-use Rattle.versions.specs.Conversions.{mess_of_semver, mess_of_version, meta_section}
-use Rattle.versions.specs.Conversions.{release_section, version_of_semver}
-use Rattle.versions.specs.Key.{key_behind_epoch, key_of_mess, key_of_sections, key_of_semver}
-use Rattle.versions.specs.Key.{key_of_version, plain, precedence, section_epoch, sections_tail}
-use Rattle.versions.specs.Mess.{Section}
-use Rattle.versions.specs.SemVer.{PlainSemVer}
-use Rattle.versions.specs.Tail.{Tail, PreReleased, Bare, Released, tail_cmp}
-use Rattle.versions.specs.Version.{PlainVersion}
+use Rattle.version_rules.proofs.lemmas.DigitRun.{decimal-digits}
+use Rattle.version_rules.proofs.lemmas.PartKey.{plain_number}
+use Rattle.version_rules.specs.Chunk.{PlainChunk, chunk_text}
+use Rattle.version_rules.specs.Last.{PlainLast, last_text}
+use Rattle.version_rules.specs.MChunk.{mchunk_text}
+use Rattle.version_rules.specs.PartKey.{PartKey, chunk_parts, part_key, section_parts}
+use Rattle.version_rules.specs.laws.Part.{list_total}
+use Rattle.version_rules.specs.Conversions.{behind_epoch, body_section, mchunk_of, mchunk_of_last, mess_of_semver, mess_of_version, meta_section, release_section, version_of_semver}
+use Rattle.version_rules.specs.Key.{key_behind_epoch, key_of_mess, key_of_sections, key_of_semver, key_of_version, plain, precedence, section_epoch, sections_tail}
+use Rattle.version_rules.specs.Mess.{Section}
+use Rattle.version_rules.specs.SemVer.{PlainSemVer}
+use Rattle.version_rules.specs.Tail.{Tail, PreReleased, Bare, Released, tail_cmp}
+use Rattle.version_rules.specs.Version.{PlainVersion}
+use Rattle.version_rules.specs.Chunk as chunk
+use Rattle.version_rules.specs.Last as last
 
 -- ---- parts stay the same
 

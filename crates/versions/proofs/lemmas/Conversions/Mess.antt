@@ -1,22 +1,20 @@
 -- A conversion to a messy version prints as the version does.
-use Rattle.std.proofs.Common.{◌≡◌, ◌∙◌, List, ℕ, [], ◌∷◌, ◌++◌, map, Option, Some, None, refl, sym}
-use Rattle.std.proofs.Common.{ap, append_assoc, append-nil}
+use Rattle.std.proofs.Common.{◌≡◌, ◌∙◌, List, ℕ, [], ◌∷◌, ◌++◌, map, Option, Some, None, refl, sym, ap, append_assoc, append-nil}
 use Rattle.std.specs.Fmt.{decimal}
 use Rattle.std.specs.List.{flat_map}
-use Rattle.version_parts.specs.Body.{body_text}
-use Rattle.version_parts.specs.Bytes.{colon, dot, hyphen, plus}
-use Rattle.version_parts.specs.Chunk as chunk
-use Rattle.version_parts.specs.Chunk.{PlainChunk, chunk_text}
-use Rattle.version_parts.specs.Last as last
-use Rattle.version_parts.specs.Last.{PlainLast, last_text}
-use Rattle.version_parts.specs.MChunk.{mchunk_text}
-use Rattle.version_parts.specs.Release.{release_text}
-use Rattle.versions.specs.Conversions.{behind_epoch, body_section, mchunk_of, mchunk_of_last}
-use Rattle.versions.specs.Conversions.{mess_of_semver, mess_of_version, meta_section}
-use Rattle.versions.specs.Conversions.{release_section, version_of_semver}
-use Rattle.versions.specs.Mess.{further_text, joined_section, mess_text}
-use Rattle.versions.specs.SemVer.{PlainSemVer, optional_text, semver_text}
-use Rattle.versions.specs.Version.{PlainVersion, epoch_text, version_text}
+use Rattle.version_rules.specs.Body.{body_text}
+use Rattle.version_rules.specs.Bytes.{colon, dot, hyphen, plus}
+use Rattle.version_rules.specs.Chunk.{PlainChunk, chunk_text}
+use Rattle.version_rules.specs.Last.{PlainLast, last_text}
+use Rattle.version_rules.specs.MChunk.{mchunk_text}
+use Rattle.version_rules.specs.Release.{release_text}
+use Rattle.version_rules.specs.Conversions.{behind_epoch, body_section, mchunk_of, mchunk_of_last, mess_of_semver, mess_of_version, meta_section, release_section, version_of_semver}
+use Rattle.version_rules.specs.Mess.{further_text, joined_section, mess_text}
+use Rattle.version_rules.specs.SemVer.{PlainSemVer, optional_text, semver_text}
+use Rattle.version_rules.specs.Version.{PlainVersion, epoch_text, version_text}
+use Rattle.version_rules.proofs.lemmas.Conversions.{version_of_semver_printed}
+use Rattle.version_rules.specs.Chunk as chunk
+use Rattle.version_rules.specs.Last as last
 
 chunk_printed : (c : PlainChunk) → mchunk_text (mchunk_of c) ≡ chunk_text c
 chunk_printed (chunk.Numeric n) = refl
@@ -76,11 +74,6 @@ mess_of_version_printed v = by v.epoch
     by (Some n) =
         rw (body_printed v.chunks v.last, tail_printed v.release v.meta)
         (sym (append_assoc (decimal n) (colon ∷ []) _))
-
--- a strict version prints the same as its general conversion
-pub version_of_semver_printed : (v : PlainSemVer)
-    → version_text (version_of_semver v) ≡ semver_text v
-version_of_semver_printed v = simp append_assoc
 
 pub mess_of_semver_printed : (v : PlainSemVer) → mess_text (mess_of_semver v) ≡ semver_text v
 mess_of_semver_printed v =

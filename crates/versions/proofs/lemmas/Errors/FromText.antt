@@ -1,6 +1,5 @@
 -- What a call named `from_str` returns, from the value that was parsed.
-use Rattle.std.proofs.Common.{◌≡◌, Option, Some, None, Result, Ok, Err, IfSome, IfNone, IsErrAnd}
-use Rattle.std.proofs.Common.{IsSomeAnd, sym}
+use Rattle.std.proofs.Common.{◌≡◌, Option, Some, None, Result, Ok, Err, IfSome, IfNone, IsErrAnd, IsSomeAnd, sym}
 use Rattle.std.specs.Option.{ForSome, option_map}
 use Rattle.std.specs.declared.alloc.AllocError.{AllocError}
 use Rattle.versions.specs.Errors.{IsIllegal, PlainError, ReadsOr}

@@ -1,20 +1,18 @@
 -- How a messy version is parsed, section by section.
-use Rattle.std.proofs.Common.{◌≡◌, ◌≢◌, ◌==◌, ◌∙◌, ◌<◌, ℕ, List, [], ◌∷◌, ◌++◌, length, Option}
-use Rattle.std.proofs.Common.{Some, None, Result, Ok, Err, IsSomeAnd, inl, inr, refl, sym, ap}
-use Rattle.std.proofs.Common.{append-nil, append_assoc}
+use Rattle.std.proofs.Common.{◌≡◌, ◌≢◌, ◌==◌, ◌∙◌, ◌<◌, ℕ, List, [], ◌∷◌, ◌++◌, length, Option, Some, None, Result, Ok, Err, IsSomeAnd, inl, inr, refl, sym, ap, append-nil, append_assoc}
 use Rattle.std.proofs.lemmas.Bool.{cases_Bool, eqb-true}
 use Rattle.std.specs.Borrow.{Bor}
 use Rattle.std.specs.Option.{option_map}
 use Rattle.std.specs.Result.{IsErr}
 use Rattle.std.specs.declared.alloc.AllocError.{AllocError}
-use Rattle.version_parts.specs.Front.{Reads, repeated}
+use Rattle.version_parts.specs.Front.{Reads}
+use Rattle.version_rules.specs.Front.{repeated}
 use Rattle.version_parts.proofs.lemmas.Front.DottedScan.{nothing_before, read_before}
-use Rattle.version_parts.proofs.lemmas.Front.Repeated.{cases_Option, repeated-None, repeated-next}
-use Rattle.version_parts.specs.Sep.{PlainSep, sep_front}
-use Rattle.versions.specs.Mess.{Further, PlainMess, Section, further_front, further_in, mess_front}
-use Rattle.versions.specs.Mess.{mess_of, plain_mess, section_front}
+use Rattle.version_rules.proofs.lemmas.Front.Repeated.{cases_Option, repeated-None, repeated-next}
+use Rattle.version_rules.specs.Mess.{Further, PlainMess, Section, further_front, mess_front, mess_of, section_front}
+use Rattle.versions.specs.Mess.{plain_mess}
 use Rattle.versions.specs.declared.mess.Mess.{Mess}
-use Rattle.versions.proofs.lemmas.Mess.{further_shrinks, mess_front-None, mess_front-Some}
+use Rattle.version_rules.proofs.lemmas.Mess.{further_shrinks, mess_front-None, mess_front-Some}
 
 -- the further sections that a text begins with, and the rest after them
 abbrev pub all_further : List ℕ → List Further × List ℕ
@@ -112,52 +110,3 @@ reads_err (Ok answer) front err some = cc err
 reads_err (Err e) front err some = some
 
 -- ---- one after another
-
-pub further_none : (text : List ℕ) → further_front text ≡ None → all_further text ≡ ([], text)
-further_none text none = repeated-None further_front text (length text) none
-
-pub unsigned : (text : List ℕ) → None ≡ sep_front text → further_front text ≡ None
-unfolding further_front
-unsigned text e = rw (← e) refl
-
-pub unread : (text behind : List ℕ) (sign : PlainSep) → Some (sign, behind) ≡ sep_front text
-    → None ≡ section_front behind → further_front text ≡ None
-unfolding further_front
-unread text behind sign e f = rw (← e, ← f) refl
-
-one_read : (text behind rest : List ℕ) (sign : PlainSep) (section : Section)
-    → Some (sign, behind) ≡ sep_front text → Some (section, rest) ≡ section_front behind
-    → further_front text ≡ Some ((sign, section), rest)
-unfolding further_front
-one_read text behind rest sign section e f = rw (← e, ← f) refl
-
-pub further_next : (text behind rest : List ℕ) (sign : PlainSep) (section : Section)
-    → Some (sign, behind) ≡ sep_front text → Some (section, rest) ≡ section_front behind
-    → (all_further text).0 ≡ (sign, section) ∷ (all_further rest).0
-further_next text behind rest sign section e f =
-    ap (λ (p : List Further × List ℕ). p.0)
-    (repeated-next further_front further_shrinks text (sign, section) rest
-    (one_read text behind rest sign section e f))
-
--- the same for the further sections alone
-
-pub in_next : (text behind rest : List ℕ) (sign : PlainSep) (section : Section)
-    → Some (sign, behind) ≡ sep_front text → Some (section, rest) ≡ section_front behind
-    → further_in text ≡ (sign, section) ∷ further_in rest
-in_next = further_next
-
-pub in_shorter : (text behind rest : List ℕ) (sign : PlainSep) (section : Section)
-    → Some (sign, behind) ≡ sep_front text → Some (section, rest) ≡ section_front behind
-    → length rest < length text
-in_shorter text behind rest sign section e f =
-    further_shrinks text (sign, section) rest (one_read text behind rest sign section e f)
-
-pub in_unsigned : (text : List ℕ) → None ≡ sep_front text → further_in text ≡ []
-in_unsigned text e = ap (λ (p : List Further × List ℕ). p.0) (further_none text (unsigned text e))
-
-pub in_unread : (text behind : List ℕ) (sign : PlainSep) → Some (sign, behind) ≡ sep_front text
-    → None ≡ section_front behind → further_in text ≡ []
-in_unread text behind sign e f =
-    ap (λ (p : List Further × List ℕ). p.0) (further_none text (unread text behind sign e f))
-
-pub ruleset first_further = (in_next, in_shorter, in_unsigned, in_unread)

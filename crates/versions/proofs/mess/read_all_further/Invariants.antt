@@ -1,8 +1,9 @@
 use Rattle.std.proofs.Common.{◌≡◌, ◌++◌, map, length}
 use denote.Text.{Utf8}
 use denote.Shadow.{shadow}
-use Rattle.version_parts.specs.Front.{repeated}
-use Rattle.versions.specs.Mess.{further_front, plain_further}
+use Rattle.version_rules.specs.Front.{repeated}
+use Rattle.version_rules.specs.Mess.{further_front}
+use Rattle.versions.specs.Mess.{plain_further}
 use Rattle.versions.proofs.mess.read_all_further.Given as goal
 
 -- the further sections that are parsed, and those that the rest begins with, are all of them

@@ -1,5 +1,6 @@
 use Rattle.std.proofs.Common.{◌≡◌}
-use Rattle.versions.specs.Mess.{behind_colons, plain_mess}
+use Rattle.version_rules.specs.Mess.{behind_colons}
+use Rattle.versions.specs.Mess.{plain_mess}
 use Rattle.versions.proofs.mess.skip_colons.Given as goal
 
 -- what follows the colons of the remaining sections follows those of all

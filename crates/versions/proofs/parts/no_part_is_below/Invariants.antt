@@ -1,6 +1,6 @@
 use Rattle.std.proofs.Common.{◌↔◌, length}
 use Rattle.versions.specs.BodyParts.{parts_left}
-use Rattle.versions.specs.VersionMatch.{PartsNotBelow}
+use Rattle.version_rules.specs.VersionMatch.{PartsNotBelow}
 use Rattle.versions.proofs.parts.no_part_is_below.Given as goal
 
 -- no part so far is before the wanted one, and what remains decides

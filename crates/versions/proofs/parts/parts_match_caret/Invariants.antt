@@ -1,6 +1,6 @@
 use Rattle.std.proofs.Common.{◌↔◌, length}
 use Rattle.versions.specs.BodyParts.{parts_left}
-use Rattle.versions.specs.VersionMatch.{PartsMatchCaret}
+use Rattle.version_rules.specs.VersionMatch.{PartsMatchCaret}
 use Rattle.versions.proofs.parts.parts_match_caret.Given as goal
 
 -- the parts so far are the same plain zeros, and what remains decides

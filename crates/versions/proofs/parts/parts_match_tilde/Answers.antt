@@ -2,7 +2,7 @@ use Rattle.std.proofs.Common.{◌≡◌, ◌∙◌, [], IfNone, Option, Some, No
 use Rattle.std.specs.Option.{is_some}
 use Rattle.std.specs.Ordering.{is_ge, is_ne}
 use Rattle.versions.specs.BodyParts.{key_of_part, parts_left}
-use Rattle.versions.proofs.lemmas.VersionMatch.{at_the_end, same_so_far}
+use Rattle.version_rules.proofs.lemmas.VersionMatch.{at_the_end, same_so_far}
 use Rattle.versions.proofs.parts.parts_match_tilde.Goals as goal
 
 pub loop-next_wanted-preserved : goal.loop-next_wanted-preserved

@@ -1,6 +1,6 @@
 use Rattle.std.proofs.Common.{◌↔◌, ◌∷◌, length}
 use Rattle.versions.specs.BodyParts.{key_of_part, parts_left}
-use Rattle.versions.specs.VersionMatch.{PartsMatchTilde}
+use Rattle.version_rules.specs.VersionMatch.{PartsMatchTilde}
 use Rattle.versions.proofs.parts.parts_match_tilde.Given as goal
 
 -- the parts before those taken last are the same, and what remains decides

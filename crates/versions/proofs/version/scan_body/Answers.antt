@@ -1,4 +1,4 @@
-use Rattle.versions.proofs.lemmas.Version.{body_alone, body_unread, epoch_unread}
+use Rattle.version_rules.proofs.lemmas.Version.{body_alone, body_unread, epoch_unread}
 use Rattle.versions.proofs.version.scan_body.Goals as goal
 
 pub returns-in_default-clause-body : goal.returns-in_default-clause-body

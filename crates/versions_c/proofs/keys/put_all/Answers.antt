@@ -1,15 +1,15 @@
 use Rattle.std.proofs.Common.{◌≡◌, ◌∙◌, ◌+◌, ap, sym, refl, length, arith}
 use Rattle.std.proofs.lemmas.List.{length-set}
 use Rattle.std.specs.Option.{option_map}
-use Rattle.versions.specs.Key.{key_of}
-use Rattle.versions.specs.KeyBytes.{key_bytes}
+use Rattle.version_rules.specs.Key.{key_of}
+use Rattle.version_rules.specs.KeyBytes.{key_bytes}
 use Rattle.version_texts.specs.VersioningRef.{plain_versioning_ref}
 use Rattle.version_texts.specs.Sinks.{put_at, saturated}
 use Rattle.versions_c.specs.Keys.{keys_before}
 use Rattle.version_texts.proofs.lemmas.Sinks.{put_nothing}
 use Rattle.versions_c.proofs.lemmas.Keys.Putting.{first_told, next_told, no_more_key, one_more_key}
-use Rattle.versions_c.proofs.keys.put_all.Goals as goal
 use Rattle.versions_c.proofs.keys.put_all.Goals.{in-Some, in_default}
+use Rattle.versions_c.proofs.keys.put_all.Goals as goal
 
 pub loop-place-init : goal.loop-place-init
 loop-place-init c = record {

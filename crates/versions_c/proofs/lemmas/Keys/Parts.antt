@@ -1,24 +1,21 @@
 -- The length of a part's bytes: at most three for each byte of its text, and one more.
-use Rattle.std.proofs.Common.{◌≡◌, ◌∙◌, ◌+◌, ◌*◌, ◌/◌, ◌%◌, ◌<◌, ◌≤◌, ℕ, zero, suc, Bool, true}
-use Rattle.std.proofs.Common.{false, List, [], ◌∷◌, length, map, replicate, take, drop, Option}
-use Rattle.std.proofs.Common.{Some, None, refl, sym, ap, arith, lit≤, if◌then◌else◌}
+use Rattle.std.proofs.Common.{◌≡◌, ◌∙◌, ◌+◌, ◌*◌, ◌/◌, ◌%◌, ◌<◌, ◌≤◌, ℕ, zero, suc, Bool, true, false, List, [], ◌∷◌, length, map, replicate, take, drop, Option, Some, None, refl, sym, ap, arith, lit≤, if◌then◌else◌}
 use Rattle.std.proofs.lemmas.Bool.Decides.{nat_tests}
 use Rattle.std.proofs.lemmas.Int.Digits.{digits_value-lt, length-digits_of-le}
-use Rattle.std.proofs.lemmas.List.{length-append, length-map, length-replicate, length-take}
-use Rattle.std.proofs.lemmas.List.{take-append-drop}
+use Rattle.std.proofs.lemmas.List.{length-append, length-map, length-replicate, length-take, take-append-drop}
 use Rattle.std.proofs.lemmas.List.Elements.{All-drop, All-head, All-rest, All-take}
 use Rattle.std.specs.Char.{digit_char, digit_value, is_ascii_digit}
 use Rattle.std.specs.Cmp.{first_so, second_so}
 use Rattle.std.specs.Int.Digits.{digits_of}
 use Rattle.std.specs.List.{All, list_all, position_or_len, prefix_len, take_while}
 use Rattle.std.specs.Str.Parse.{AllDigits, digits_value}
-use Rattle.version_parts.proofs.lemmas.Front.Runs.{list_all-take_while}
-use Rattle.version_parts.specs.Codes.{items_bytes, list_bytes}
-use Rattle.version_parts.specs.DigitRun.{number_front, starts_with_digit}
-use Rattle.version_parts.specs.NumberBytes.{length_bytes, number_bytes}
-use Rattle.version_parts.specs.PartKey.{part_bytes, part_key, suffix_bytes, suffix_of}
-use Rattle.version_parts.specs.Split.{numbered_bytes, split_bytes, split_of}
-use Rattle.version_parts.specs.TextBytes.{text_bytes}
+use Rattle.version_rules.proofs.lemmas.Front.Runs.{list_all-take_while}
+use Rattle.version_rules.specs.Codes.{items_bytes, list_bytes}
+use Rattle.version_rules.specs.DigitRun.{number_front, starts_with_digit}
+use Rattle.version_rules.specs.NumberBytes.{length_bytes, number_bytes}
+use Rattle.version_rules.specs.PartKey.{part_bytes, part_key, suffix_bytes, suffix_of}
+use Rattle.version_rules.specs.Split.{numbered_bytes, split_bytes, split_of}
+use Rattle.version_rules.specs.TextBytes.{text_bytes}
 
 -- a text without the bytes 0 and 1, the only bytes that are written as two
 abbrev pub IsHigh : List ℕ → Type 0

@@ -1,11 +1,10 @@
 -- The sizes of a list's bounds, and the range that its results tell.
-use Rattle.std.proofs.Common.{◌≡◌, ◌∙◌, ◌≤◌, ◌<◌, ◌^◌, ℕ, List, Option, Some, None, IfSome}
-use Rattle.std.proofs.Common.{if◌then◌else◌, refl, take, length, ap, arith, sym}
+use Rattle.std.proofs.Common.{◌≡◌, ◌∙◌, ◌≤◌, ◌<◌, ◌^◌, ℕ, List, Option, Some, None, IfSome, if◌then◌else◌, refl, take, length, ap, arith, sym}
 use Rattle.std.specs.Option.{is_some, option_map, unwrap_or}
 use Rattle.version_texts.specs.Bounds.{HaveRoom, held_range, rooms_of}
 use Rattle.version_texts.specs.declared.bounds.Held.{Held}
-use Rattle.versions.specs.Requirement.{PlainRequirement}
-use Rattle.versions.specs.Requirements.{requirements_of}
+use Rattle.version_rules.specs.Requirement.{PlainRequirement}
+use Rattle.version_rules.specs.Requirements.{requirements_of}
 use Rattle.versions_c.proofs.lemmas.Ranges.{enough_rooms}
 use Rattle.versions_c.specs.Keys.{room_for}
 use Rattle.versions_c.specs.Ranges.{AreSizes, range_with}

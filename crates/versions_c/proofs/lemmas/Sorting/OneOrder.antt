@@ -1,6 +1,5 @@
 -- The places of texts have one order.
-use Rattle.std.proofs.Common.{◌≡◌, ◌∙◌, ℕ, suc, ◌+◌, ◌-◌, ◌<◌, List, [], ◌∷◌, length, get_or, refl}
-use Rattle.std.proofs.Common.{sym, ap, arith, add-one}
+use Rattle.std.proofs.Common.{◌≡◌, ◌∙◌, ℕ, suc, ◌+◌, ◌-◌, ◌<◌, List, [], ◌∷◌, length, get_or, refl, sym, ap, arith, add-one}
 use Rattle.std.proofs.lemmas.Cmp.{by_ranked, on_total, ranked, then_total, tied_itself}
 use Rattle.std.proofs.lemmas.List.Elements.{All-cons, All-contains, All-nil, All-weaker}
 use Rattle.std.proofs.lemmas.List.Sorted.{Contains-permutation, IsPermutation-sym}
@@ -10,9 +9,9 @@ use Rattle.std.specs.List.{All, Contains, range_with_len}
 use Rattle.std.specs.Ordering.{nat_cmp}
 use Rattle.std.specs.declared.cmp.Ordering.{Ordering}
 use Rattle.std.specs.declared.cmp.Ordering.TheVariants.{Less}
-use Rattle.version_parts.specs.OrderLaws.{none_last_total}
-use Rattle.versions.specs.OrdersLaws.{versioning_cmp_total}
-use Rattle.versions.specs.Versioning.{versioning_of}
+use Rattle.version_rules.specs.laws.Order.{none_last_total}
+use Rattle.version_rules.specs.laws.Orders.{versioning_cmp_total}
+use Rattle.version_rules.specs.Versioning.{versioning_of}
 use Rattle.versions_c.specs.Offsets.{text_at}
 use Rattle.versions_c.specs.Sorting.{AreInOrder, place_cmp}
 

@@ -1,11 +1,8 @@
 use Rattle.std.proofs.Common.{◌∙◌, ◌<◌, ◌^◌, Some, ap, arith, length, sym}
-use Rattle.versions.specs.Requirements.{requirements_of}
+use Rattle.version_rules.specs.Requirements.{requirements_of}
 use Rattle.versions_c.proofs.lemmas.Ranges.Status.{fits_bound, has_room, told_range}
+use Rattle.versions_c.proofs.ranges.versions_range.Goals.{then-low_room-low-via-then-low_room-low, then-low_room-low-via-else-low_room-low+then-high_room-high}
 use Rattle.versions_c.proofs.ranges.versions_range.Goals as goal
-use Rattle.versions_c.proofs.ranges.versions_range.Goals.{then-low_room-low-via-then-low_room-low}
-use Rattle.versions_c.proofs.ranges.versions_range.Goals.{
-  then-low_room-low-via-else-low_room-low+then-high_room-high,
-}
 
 pub returns-then-low_room-low-clause-enough : goal.returns-then-low_room-low-clause-enough
 returns-then-low_room-low-clause-enough c = λ wanted read low_enough high_enough.

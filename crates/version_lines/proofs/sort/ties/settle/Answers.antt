@@ -6,11 +6,8 @@ use Rattle.version_lines.specs.declared.sort.entry.Entry.{Entry}
 use Rattle.version_lines.proofs.lemmas.Entry.{tie_total}
 use Rattle.version_lines.proofs.lemmas.Sorting.Places.{in_order-by_place, placed_total}
 use Rattle.version_lines.proofs.lemmas.Entry.Tied.{in_order-one_line, in_order-strict}
+use Rattle.version_lines.proofs.sort.ties.settle.Goals.{then-are_one_line-via-then-are_one_line, then-are_one_line-via-else-are_one_line+then-are_strict}
 use Rattle.version_lines.proofs.sort.ties.settle.Goals as goal
-use Rattle.version_lines.proofs.sort.ties.settle.Goals.{then-are_one_line-via-then-are_one_line}
-use Rattle.version_lines.proofs.sort.ties.settle.Goals.{
-  then-are_one_line-via-else-are_one_line+then-are_strict,
-}
 
 pub returns-then-are_one_line : goal.returns-then-are_one_line
 returns-then-are_one_line c =

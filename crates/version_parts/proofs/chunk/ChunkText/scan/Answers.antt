@@ -1,11 +1,9 @@
 use Rattle.std.proofs.Common.{◌≡◌, ◌∙◌, ap}
-use Rattle.version_parts.specs.Chunk.{Numeric}
+use Rattle.version_rules.specs.Chunk.{Numeric}
 use Rattle.version_parts.specs.Class.{contains}
-use Rattle.version_parts.specs.Front.{map_value}
+use Rattle.version_rules.specs.Front.{map_value}
 use Rattle.version_parts.proofs.lemmas.General.Runs.{run_boundary}
-use Rattle.version_parts.proofs.lemmas.Chunk.ShortRuns.{behind_more, more_by_rests}
-use Rattle.version_parts.proofs.lemmas.Chunk.ShortRuns.{no_more_by_rests, numeral_scanned}
-use Rattle.version_parts.proofs.lemmas.Chunk.ShortRuns.{run_by_rests, run_scanned}
+use Rattle.version_parts.proofs.lemmas.Chunk.ShortRuns.{behind_more, more_by_rests, no_more_by_rests, numeral_scanned, run_by_rests, run_scanned}
 use Rattle.version_parts.proofs.chunk.ChunkText.scan.Goals as goal
 
 pub split_at-requires : goal.split_at-requires

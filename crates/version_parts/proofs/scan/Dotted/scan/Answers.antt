@@ -1,9 +1,8 @@
 use Rattle.std.proofs.Common.{rules, arith, sym}
-use Rattle.version_parts.specs.Bytes.{dot}
-use Rattle.version_parts.specs.Front.{behind}
-use Rattle.version_parts.proofs.lemmas.Front.Dotted.{behind_dot_shrinks, unlisted}
-use Rattle.version_parts.proofs.lemmas.Front.DottedScan.{nothing_before, read_before, scanned_all}
-use Rattle.version_parts.proofs.lemmas.Front.DottedScan.{scanned_first, scanned_next}
+use Rattle.version_rules.specs.Bytes.{dot}
+use Rattle.version_rules.specs.Front.{behind}
+use Rattle.version_rules.proofs.lemmas.Front.Dotted.{behind_dot_shrinks, unlisted}
+use Rattle.version_parts.proofs.lemmas.Front.DottedScan.{nothing_before, read_before, scanned_all, scanned_first, scanned_next}
 use Rattle.version_parts.proofs.scan.Dotted.scan.Goals as goal
 
 pub returns-in_err-rest-clause-elements : goal.returns-in_err-rest-clause-elements

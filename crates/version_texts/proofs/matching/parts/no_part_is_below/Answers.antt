@@ -1,7 +1,6 @@
 use Rattle.std.proofs.Common.{◌∙◌, ap, refl, sym}
 use Rattle.std.specs.Ordering.{is_lt}
-use Rattle.version_texts.proofs.lemmas.Parts.{below, below_ends, below_longer, chain, granted}
-use Rattle.version_texts.proofs.lemmas.Parts.{parts_begin, refused}
+use Rattle.version_texts.proofs.lemmas.Parts.{below, below_ends, below_longer, chain, granted, parts_begin, refused}
 use Rattle.version_texts.proofs.matching.parts.no_part_is_below.Goals as goal
 
 pub returns-then-is_lt : goal.returns-then-is_lt

@@ -1,7 +1,7 @@
 use Rattle.std.proofs.Common.{◌↔◌, length}
-use Rattle.versions.specs.VersionMatch.{PartsNotBelow}
-use Rattle.version_texts.proofs.matching.parts.no_part_is_below.Given as goal
+use Rattle.version_rules.specs.VersionMatch.{PartsNotBelow}
 use Rattle.version_texts.specs.TextKey.{parts_of}
+use Rattle.version_texts.proofs.matching.parts.no_part_is_below.Given as goal
 
 -- the parts so far match, and what is left decides
 abbrev pub invariant-parts : goal.invariant-parts

@@ -1,7 +1,6 @@
 use Rattle.std.proofs.Common.{◌∙◌, ap, refl, sym}
 use Rattle.std.specs.Ordering.{is_ne}
-use Rattle.version_texts.proofs.lemmas.Parts.{caret_apart, caret_ends, caret_longer, caret_other}
-use Rattle.version_texts.proofs.lemmas.Parts.{chain, granted, parts_begin, refused}
+use Rattle.version_texts.proofs.lemmas.Parts.{caret_apart, caret_ends, caret_longer, caret_other, chain, granted, parts_begin, refused}
 use Rattle.version_texts.proofs.matching.parts.parts_match_caret.Goals as goal
 
 pub returns-then-is_ne : goal.returns-then-is_ne

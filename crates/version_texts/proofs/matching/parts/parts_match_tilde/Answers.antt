@@ -1,7 +1,6 @@
 use Rattle.std.proofs.Common.{◌∙◌, ap, refl, sym}
 use Rattle.std.specs.Ordering.{is_ge, is_ne}
-use Rattle.version_texts.proofs.lemmas.Parts.{chain, parts_begin, refused, tilde_apart, tilde_ends}
-use Rattle.version_texts.proofs.lemmas.Parts.{tilde_goes_on, tilde_longer, tilde_shorter}
+use Rattle.version_texts.proofs.lemmas.Parts.{chain, parts_begin, refused, tilde_apart, tilde_ends, tilde_goes_on, tilde_longer, tilde_shorter}
 use Rattle.version_texts.proofs.matching.parts.parts_match_tilde.Goals as goal
 
 pub returns-then-is_ne : goal.returns-then-is_ne

@@ -1,5 +1,5 @@
 use Rattle.std.proofs.Common.{◌≡◌, drop}
-use Rattle.version_parts.specs.Lists.{bytes_cmp}
+use Rattle.version_rules.specs.Lists.{bytes_cmp}
 use Rattle.version_texts.proofs.order.digits.compare_same_len.Given as goal
 
 -- the bytes so far are the same, and what is left decides

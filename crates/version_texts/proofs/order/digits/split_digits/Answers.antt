@@ -1,5 +1,5 @@
 use Rattle.std.specs.Char.{is_ascii_digit}
-use Rattle.version_parts.proofs.lemmas.Front.Runs.{list_all-take_while}
+use Rattle.version_rules.proofs.lemmas.Front.Runs.{list_all-take_while}
 use Rattle.version_texts.proofs.order.digits.split_digits.Goals as goal
 
 pub returns-clause-digits : goal.returns-clause-digits

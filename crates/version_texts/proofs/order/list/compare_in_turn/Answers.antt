@@ -1,7 +1,6 @@
 use Rattle.std.proofs.Common.{Some, ◌∙◌, map, refl, sym}
-use Rattle.version_parts.specs.PartKey.{list_cmp, part_cmp, part_key}
-use Rattle.version_texts.proofs.lemmas.TextKey.Lists.{further_of_more, further_of_none, compared}
-use Rattle.version_texts.proofs.lemmas.TextKey.Lists.{left}
+use Rattle.version_rules.specs.PartKey.{list_cmp, part_cmp, part_key}
+use Rattle.version_texts.proofs.lemmas.TextKey.Lists.{further_of_more, further_of_none, compared, left}
 use Rattle.version_texts.proofs.lemmas.Piece.Order.{decided, tied}
 use Rattle.version_texts.specs.Piece.{behind_piece, is_dot}
 use Rattle.version_texts.proofs.order.list.compare_in_turn.Goals as goal

@@ -1,7 +1,7 @@
 use Rattle.std.proofs.Common.{◌≡◌, length}
-use Rattle.version_parts.specs.PartKey.{list_cmp}
-use Rattle.version_texts.proofs.order.list.compare_in_turn.Given as goal
+use Rattle.version_rules.specs.PartKey.{list_cmp}
 use Rattle.version_texts.specs.TextKey.{parts_of}
+use Rattle.version_texts.proofs.order.list.compare_in_turn.Given as goal
 
 -- the parts so far are equal, and what is left decides
 abbrev pub invariant-parts : goal.invariant-parts

@@ -1,7 +1,7 @@
 use Rattle.std.proofs.Common.{◌≡◌, ◌≤◌, ◌-◌, drop, length, take}
-use Rattle.version_parts.specs.PartKey.{list_cmp}
-use Rattle.version_texts.proofs.order.list.pass_common.Given as goal
+use Rattle.version_rules.specs.PartKey.{list_cmp}
 use Rattle.version_texts.specs.TextKey.{parts_of}
+use Rattle.version_texts.proofs.order.list.pass_common.Given as goal
 
 -- the texts are the same so far, and compare as what follows the last dot
 abbrev pub invariant-bytes : goal.invariant-bytes

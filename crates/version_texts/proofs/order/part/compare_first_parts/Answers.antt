@@ -1,6 +1,5 @@
 use Rattle.std.proofs.Common.{◌∙◌, ap, refl, sym, true, false}
-use Rattle.version_texts.proofs.lemmas.Piece.Order.{digits_decide, number_above_word}
-use Rattle.version_texts.proofs.lemmas.Piece.Order.{word_below_number, words_compared}
+use Rattle.version_texts.proofs.lemmas.Piece.Order.{digits_decide, number_above_word, word_below_number, words_compared}
 use Rattle.version_texts.proofs.lemmas.Piece.{digits_same, starts_by_run}
 use Rattle.version_texts.specs.Piece.{behind_piece}
 use Rattle.version_texts.proofs.order.part.compare_first_parts.Goals as goal

@@ -1,5 +1,5 @@
 use Rattle.std.proofs.Common.{◌∙◌, sym}
-use Rattle.version_parts.specs.ReleaseOrder.{chunk_cmp}
+use Rattle.version_rules.specs.ReleaseOrder.{chunk_cmp}
 use Rattle.version_texts.proofs.lemmas.Piece.{behind_number, chunk_of_number, chunk_of_text}
 use Rattle.version_texts.proofs.order.release.compare_first_chunks.Goals as goal
 

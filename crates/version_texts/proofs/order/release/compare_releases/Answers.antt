@@ -1,7 +1,6 @@
 use Rattle.std.proofs.Common.{◌∙◌, map, refl, sym}
-use Rattle.version_parts.specs.ReleaseOrder.{chunk_cmp, release_cmp}
-use Rattle.version_texts.proofs.lemmas.TextKey.Lists.{further_of_more, further_of_none, above}
-use Rattle.version_texts.proofs.lemmas.TextKey.Lists.{below, compared, left}
+use Rattle.version_rules.specs.ReleaseOrder.{chunk_cmp, release_cmp}
+use Rattle.version_texts.proofs.lemmas.TextKey.Lists.{further_of_more, further_of_none, above, below, compared, left}
 use Rattle.version_texts.proofs.lemmas.Piece.Order.{decided, tied}
 use Rattle.version_texts.specs.Piece.{behind_piece, is_dot}
 use Rattle.version_texts.specs.TextKey.{chunk_of}

@@ -1,7 +1,7 @@
 use Rattle.std.proofs.Common.{◌≡◌, length}
-use Rattle.version_parts.specs.ReleaseOrder.{release_cmp}
-use Rattle.version_texts.proofs.order.release.compare_releases.Given as goal
+use Rattle.version_rules.specs.ReleaseOrder.{release_cmp}
 use Rattle.version_texts.specs.TextKey.{chunks_of}
+use Rattle.version_texts.proofs.order.release.compare_releases.Given as goal
 
 -- the chunks so far are equal, and what is left decides
 abbrev pub invariant-chunks : goal.invariant-chunks

@@ -1,9 +1,8 @@
 use Rattle.std.proofs.Common.{◌∙◌, map, refl, sym}
-use Rattle.versions.specs.Tail.{sections_cmp}
-use Rattle.version_parts.specs.PartKey.{list_cmp}
-use Rattle.version_parts.specs.Sep.{is_sep}
-use Rattle.version_texts.proofs.lemmas.TextKey.Lists.{further_of_more, further_of_none, above}
-use Rattle.version_texts.proofs.lemmas.TextKey.Lists.{below, compared, left}
+use Rattle.version_rules.specs.Tail.{sections_cmp}
+use Rattle.version_rules.specs.PartKey.{list_cmp}
+use Rattle.version_rules.specs.Sep.{is_sep}
+use Rattle.version_texts.proofs.lemmas.TextKey.Lists.{further_of_more, further_of_none, above, below, compared, left}
 use Rattle.version_texts.proofs.lemmas.Piece.Order.{decided, tied}
 use Rattle.version_texts.specs.Piece.{from_first}
 use Rattle.version_texts.specs.TextKey.{parts_of}

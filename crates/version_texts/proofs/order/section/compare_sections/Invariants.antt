@@ -1,7 +1,7 @@
 use Rattle.std.proofs.Common.{◌≡◌, length}
-use Rattle.versions.specs.Tail.{sections_cmp}
-use Rattle.version_texts.proofs.order.section.compare_sections.Given as goal
+use Rattle.version_rules.specs.Tail.{sections_cmp}
 use Rattle.version_texts.specs.TextKey.{sections_of}
+use Rattle.version_texts.proofs.order.section.compare_sections.Given as goal
 
 -- the sections so far are equal, and what is left decides
 abbrev pub invariant-sections : goal.invariant-sections

@@ -1,5 +1,5 @@
 use Rattle.std.proofs.Common.{◌≡◌, ◌+◌, drop}
-use Rattle.version_parts.specs.Sep.{is_sep}
+use Rattle.version_rules.specs.Sep.{is_sep}
 use Rattle.std.specs.List.{position_or_len}
 use Rattle.version_texts.proofs.order.section.first_sign.Given as goal
 

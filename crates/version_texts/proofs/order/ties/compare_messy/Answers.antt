@@ -1,8 +1,7 @@
 use Rattle.std.proofs.Common.{◌≤◌, ◌⊎◌, ◌∙◌, arith, inl, inr, length, sym}
 use Rattle.version_texts.proofs.lemmas.Ties.Walks.{bytes_end}
+use Rattle.version_texts.proofs.order.ties.compare_messy.Goals.{then-bytes-test+else-place-y, else-bytes-test}
 use Rattle.version_texts.proofs.order.ties.compare_messy.Goals as goal
-use Rattle.version_texts.proofs.order.ties.compare_messy.Goals.{then-bytes-test+else-place-y}
-use Rattle.version_texts.proofs.order.ties.compare_messy.Goals.{else-bytes-test}
 
 pub returns : goal.returns
 returns c =

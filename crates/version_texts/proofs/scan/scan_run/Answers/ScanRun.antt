@@ -1,20 +1,18 @@
 -- A run that begins at a place of a text, by where its digits end.
-use Rattle.std.proofs.Common.{◌≡◌, ◌+◌, ◌-◌, ◌<◌, ◌≤◌, ℕ, Bool, true, false, List, drop, take, refl}
-use Rattle.std.proofs.Common.{sym, ap, ◌∙◌, [], ◌∷◌, arith}
+use Rattle.std.proofs.Common.{◌≡◌, ◌+◌, ◌-◌, ◌<◌, ◌≤◌, ℕ, Bool, true, false, List, drop, take, refl, sym, ap, ◌∙◌, [], ◌∷◌, arith}
 use Rattle.std.proofs.lemmas.List.{drop-drop}
 use Rattle.std.proofs.lemmas.List.Folds.{length-prefix_len}
 use Rattle.std.specs.Char.{is_ascii_digit}
 use Rattle.std.specs.List.{list_all, prefix_len, take_while}
-use Rattle.version_parts.specs.Class.{HasDigits}
-use Rattle.version_parts.specs.DigitRun.{is_digits}
-use Rattle.version_parts.specs.Front.{begins}
+use Rattle.version_rules.specs.Bytes.{HasDigits}
+use Rattle.version_rules.specs.DigitRun.{is_digits}
+use Rattle.version_rules.specs.Front.{begins}
 use Rattle.version_texts.specs.Class.{contains}
 use Rattle.version_texts.specs.Shape.{digits_len}
 use Rattle.version_texts.specs.TextKind.{is_chunk, is_numeral}
 use Rattle.version_texts.specs.declared.class.Class.{Class}
 use Rattle.version_texts.proofs.lemmas.General.Runs.{all_smaller, larger_run, some_larger}
-use Rattle.version_texts.proofs.lemmas.TextKind.Runs.{chunk_digits, chunk_word, digits_not}
-use Rattle.version_texts.proofs.lemmas.TextKind.Runs.{digits_some}
+use Rattle.version_texts.proofs.lemmas.TextKind.Runs.{chunk_digits, chunk_word, digits_not, digits_some}
 
 -- whether a run goes on behind a place
 begun_some : (test : ℕ → Bool) (text : List ℕ) → begins test text ≡ true → 0 < prefix_len test text

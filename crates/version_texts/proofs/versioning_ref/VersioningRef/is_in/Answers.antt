@@ -2,9 +2,7 @@ mod InRange
 use Rattle.std.proofs.Common.{◌∙◌, ap}
 use Rattle.std.specs.Ordering.{is_ge}
 use Rattle.version_texts.proofs.lemmas.VersioningRef.{kind-is}
-use Rattle.version_texts.proofs.versioning_ref.VersioningRef.is_in.Answers.InRange.{from_bound}
-use Rattle.version_texts.proofs.versioning_ref.VersioningRef.is_in.Answers.InRange.{in_bounds}
-use Rattle.version_texts.proofs.versioning_ref.VersioningRef.is_in.Answers.InRange.{not_of_kind}
+use Rattle.version_texts.proofs.versioning_ref.VersioningRef.is_in.Answers.InRange.{from_bound, in_bounds, not_of_kind}
 use Rattle.version_texts.proofs.versioning_ref.VersioningRef.is_in.Goals as goal
 
 pub returns-then-not-has : goal.returns-then-not-has

@@ -1,8 +1,9 @@
-use Rattle.std.proofs.Common.{◌≡◌, ◌∙◌, List, ℕ, Bor, Result, Ok, Err, refl, sym}
+use Rattle.std.proofs.Common.{◌≡◌, ◌∙◌, List, ℕ, Bor, Result, Ok, Err, refl, sym, ap}
 use Rattle.std.specs.Prelude.{MatchResult}
 use Rattle.std.specs.Result.{IsOk}
 use Rattle.std.specs.Str.{IsUtf8}
-use Rattle.version_texts.proofs.lemmas.VersioningRef.{printed-is, utf8-is}
+use Rattle.version_rules.specs.Versioning.{versioning_of}
+use Rattle.version_texts.proofs.lemmas.VersioningRef.{printed-is, utf8-is, spelled}
 use Rattle.version_texts.proofs.versioning_ref.VersioningRef.text.Goals as goal
 
 module _ {E : Type 0} (Fault : E → Type 0) (text : List ℕ) where
@@ -24,8 +25,15 @@ unwrap-requires c =
     let utf8 = utf8-is c.args.self.now.text.now c.args.self.now.shape c.args.self.now.read in
     is_read _ c.args.self.now.text.now c.from_utf8.result utf8 c.from_utf8.ensures.cases
 
-pub returns : goal.returns
-returns c =
+pub returns-clause-printed : goal.returns-clause-printed
+returns-clause-printed c =
     same_bytes _ c.args.self.now.text.now c.from_utf8.result _ c.from_utf8.ensures.cases
     c.unwrap.ensures
     ∙ sym (printed-is c.args.self.now.text.now c.args.self.now.shape c.args.self.now.read)
+
+pub returns-clause-read : goal.returns-clause-read
+returns-clause-read c =
+    ap versioning_of
+    (same_bytes _ c.args.self.now.text.now c.from_utf8.result _ c.from_utf8.ensures.cases
+    c.unwrap.ensures)
+    ∙ (spelled c.args.self.now.text.now c.args.self.now.shape c.args.self.now.read).0

@@ -1,15 +1,15 @@
 -- The epoch of a messy section that is one chunk of digits.
-use Rattle.std.proofs.Common.{◌≡◌, ℕ, ◌<◌, ◌≤◌, List, [], ◌∷◌, length, map, slice_index_or, Some}
-use Rattle.std.proofs.Common.{true, refl, ap, ◌∙◌, arith}
+use Rattle.std.proofs.Common.{◌≡◌, ℕ, ◌<◌, ◌≤◌, List, [], ◌∷◌, length, map, slice_index_or, Some, true, refl, ap, ◌∙◌, arith}
 use Rattle.std.proofs.lemmas.List.Sums.{take_while-cons}
 use Rattle.std.specs.Char.{is_ascii_digit}
 use Rattle.std.specs.Cmp.{first_so, second_so}
 use Rattle.std.specs.List.{list_all, take_while}
 use Rattle.std.specs.Str.Parse.{digits_value}
 use Rattle.version_parts.specs.declared.mchunk.MChunk.{MChunk}
-use Rattle.version_parts.specs.DigitRun.{is_digits, starts_with_digit}
-use Rattle.version_parts.specs.MChunk.{mchunk_text, plain_mchunk}
-use Rattle.versions.specs.Key.{section_epoch}
+use Rattle.version_rules.specs.DigitRun.{is_digits, starts_with_digit}
+use Rattle.version_rules.specs.MChunk.{mchunk_text}
+use Rattle.version_parts.specs.MChunk.{plain_mchunk}
+use Rattle.version_rules.specs.Key.{section_epoch}
 
 all_taken : (text : List ℕ) → list_all is_ascii_digit text ≡ true
     → take_while is_ascii_digit text ≡ text

@@ -1,5 +1,6 @@
 use Rattle.std.proofs.Common.{◌≡◌}
-use Rattle.versions.specs.Mess.{mess_plain_cmp, plain_mess}
+use Rattle.version_rules.specs.Mess.{mess_plain_cmp}
+use Rattle.versions.specs.Mess.{plain_mess}
 use Rattle.versions.proofs.mess.Mess.compare_plain.Given as goal
 
 -- the sections so far are equal, and what remains decides

@@ -1,6 +1,7 @@
 use Rattle.version_parts.proofs.lemmas.Reading.{clause_printed, clause_read, clause_spelled}
-use Rattle.versions.specs.Mess.{SpellsMess, mess_of, mess_text, plain_mess}
-use Rattle.versions.proofs.lemmas.Mess.{mess_of-Some, mess_of-spells, mess_printed, spelled_on_err}
+use Rattle.version_rules.specs.Mess.{SpellsMess, mess_of, mess_text}
+use Rattle.versions.specs.Mess.{plain_mess}
+use Rattle.version_rules.proofs.lemmas.Mess.{mess_of-Some, mess_of-spells, mess_printed, spelled_on_err}
 use Rattle.versions.proofs.mess.Mess.new.Goals as goal
 
 pub returns-clause-spelled : goal.returns-clause-spelled

@@ -2,8 +2,10 @@ mod MessText
 use Rattle.std.proofs.Common.{◌≡◌, ◌∷◌, ◌++◌, [], append-nil, refl}
 use Rattle.std.proofs.lemmas.Grind.{put_three}
 use Rattle.std.specs.Fmt.{HasWritten}
-use Rattle.version_parts.specs.Sep.{plain_sep, sep_byte}
-use Rattle.versions.specs.Mess.{joined_section, plain_mess}
+use Rattle.version_parts.specs.Sep.{plain_sep}
+use Rattle.version_rules.specs.Sep.{sep_byte}
+use Rattle.version_rules.specs.Mess.{joined_section}
+use Rattle.versions.specs.Mess.{plain_mess}
 use Rattle.versions.proofs.lemmas.Mess.Flat.{ends, first_is, goes_on}
 use Rattle.versions.proofs.mess.MessDisplay.fmt.Answers.MessText.{written_next}
 use Rattle.versions.proofs.mess.MessDisplay.fmt.Goals as goal

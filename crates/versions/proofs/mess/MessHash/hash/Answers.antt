@@ -1,6 +1,5 @@
 mod MessFed
 use Rattle.std.proofs.Common.{◌∙◌, ◌≡◌}
-use Rattle.std.specs.Hash as fed
 use Rattle.std.specs.Hash.{fed_along}
 use Rattle.std.specs.List.{fold}
 use Rattle.version_parts.specs.MChunk.{mchunk_fed, plain_mchunk}
@@ -10,6 +9,7 @@ use Rattle.versions.specs.declared.mess.Mess.TheViews.{out-Mess}
 use Rattle.versions.specs.Mess.{plain_mess, section_fed}
 use Rattle.versions.proofs.lemmas.Mess.Flat.{ends, first_is, goes_on}
 use Rattle.versions.proofs.mess.MessHash.hash.Answers.MessFed.{fed_behind, fed_further, fed_next}
+use Rattle.std.specs.Hash as fed
 use Rattle.versions.proofs.mess.MessHash.hash.Goals as goal
 
 pub loop-current-init : goal.loop-current-init

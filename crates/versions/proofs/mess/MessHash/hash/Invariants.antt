@@ -1,7 +1,7 @@
 use Rattle.std.proofs.Common.{◌≡◌, ◌++◌}
-use Rattle.std.specs.Hash as fed
 use Rattle.std.specs.List.{flat_map, fold}
 use Rattle.versions.specs.Mess.{further_fed, mess_fed, plain_mess}
+use Rattle.std.specs.Hash as fed
 use Rattle.versions.proofs.mess.MessHash.hash.Given as goal
 
 -- fed with what remains, the hasher is as if fed with all

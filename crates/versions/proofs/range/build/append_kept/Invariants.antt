@@ -1,8 +1,8 @@
 use Rattle.std.proofs.Common.{◌≡◌, ◌∷◌, ◌++◌, length}
-use Rattle.version_parts.specs.Codes.{items_bytes}
-use Rattle.version_parts.specs.PartKey.{part_bytes}
+use Rattle.version_rules.specs.Codes.{items_bytes}
+use Rattle.version_rules.specs.PartKey.{part_bytes}
 use Rattle.versions.specs.BodyParts.{key_of_part, parts_left}
-use Rattle.versions.specs.Ends.{kept_parts}
+use Rattle.version_rules.specs.Ends.{kept_parts}
 use Rattle.versions.proofs.range.build.append_kept.Given as goal
 
 -- what is kept of the part taken last and of the others remains to be appended

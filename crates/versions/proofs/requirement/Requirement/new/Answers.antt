@@ -1,9 +1,7 @@
-use Rattle.version_parts.proofs.lemmas.Reading.{clause_memory, clause_printed, clause_read}
-use Rattle.version_parts.proofs.lemmas.Reading.{clause_spelled}
-use Rattle.versions.specs.Requirement.{RequirementOwns, SpellsRequirement, plain_requirement}
-use Rattle.versions.specs.Requirement.{requirement_of, requirement_text}
-use Rattle.versions.proofs.lemmas.Requirement.{requirement_of-Some, requirement_of-spells}
-use Rattle.versions.proofs.lemmas.Requirement.{requirement_printed}
+use Rattle.version_parts.proofs.lemmas.Reading.{clause_memory, clause_printed, clause_read, clause_spelled}
+use Rattle.version_rules.specs.Requirement.{RequirementOwns, SpellsRequirement, requirement_of, requirement_text}
+use Rattle.versions.specs.Requirement.{plain_requirement}
+use Rattle.version_rules.proofs.lemmas.Requirement.{requirement_of-Some, requirement_of-spells, requirement_printed}
 use Rattle.versions.proofs.requirement.Requirement.new.Goals as goal
 
 pub returns-clause-spelled : goal.returns-clause-spelled

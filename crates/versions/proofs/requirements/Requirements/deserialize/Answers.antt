@@ -1,10 +1,10 @@
 use Rattle.std.proofs.Common.{Ok, Err}
 use Rattle.std.proofs.lemmas.Result.{err_from_is_err_and}
 use Rattle.versions.specs.Errors.{IllegalOp}
-use Rattle.versions.specs.Requirements.{SpellsRequirements, plain_requirements, requirements_of}
-use Rattle.versions.specs.Requirements.{requirements_text}
+use Rattle.version_rules.specs.Requirements.{SpellsRequirements, requirements_of, requirements_text}
+use Rattle.versions.specs.Requirements.{plain_requirements}
 use Rattle.versions.proofs.lemmas.Json.{reads_json, written_again}
-use Rattle.versions.proofs.lemmas.Requirements.{requirements_of-spells, requirements_printed}
+use Rattle.version_rules.proofs.lemmas.Requirements.{requirements_of-spells, requirements_printed}
 use Rattle.versions.proofs.requirements.Requirements.deserialize.Goals as goal
 
 pub returns-in_err-from_str-clause-read : goal.returns-in_err-from_str-clause-read

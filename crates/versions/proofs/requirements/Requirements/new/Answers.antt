@@ -1,8 +1,7 @@
 use Rattle.version_parts.proofs.lemmas.Reading.{clause_printed, clause_read, clause_spelled}
-use Rattle.versions.specs.Requirements.{SpellsRequirements, plain_requirements, requirements_of}
-use Rattle.versions.specs.Requirements.{requirements_text}
-use Rattle.versions.proofs.lemmas.Requirements.{requirements_of-Some, requirements_of-spells}
-use Rattle.versions.proofs.lemmas.Requirements.{requirements_printed, spelled_on_err}
+use Rattle.version_rules.specs.Requirements.{SpellsRequirements, requirements_of, requirements_text}
+use Rattle.versions.specs.Requirements.{plain_requirements}
+use Rattle.version_rules.proofs.lemmas.Requirements.{requirements_of-Some, requirements_of-spells, requirements_printed, spelled_on_err}
 use Rattle.versions.proofs.requirements.Requirements.new.Goals as goal
 
 pub returns-clause-spelled : goal.returns-clause-spelled

@@ -2,8 +2,9 @@ use Rattle.std.proofs.Common.{◌≡◌, ◌∷◌, take, refl, rules}
 use Rattle.std.proofs.lemmas.Grind.{put_two}
 use Rattle.std.proofs.lemmas.List.{take_all}
 use Rattle.version_parts.proofs.lemmas.Lists.Printing.{joined}
-use Rattle.versions.specs.Requirement.{plain_requirement, requirement_text}
-use Rattle.versions.specs.Requirements.{comma}
+use Rattle.versions.specs.Requirement.{plain_requirement}
+use Rattle.version_rules.specs.Requirement.{requirement_text}
+use Rattle.version_rules.specs.Requirements.{comma}
 use Rattle.versions.proofs.requirements.RequirementsDisplay.fmt.Goals as goal
 
 pub returns-clause-writes : goal.returns-clause-writes

@@ -1,7 +1,7 @@
-use Rattle.version_parts.proofs.lemmas.Reading.{clause_memory, clause_printed, clause_read}
-use Rattle.version_parts.proofs.lemmas.Reading.{clause_spelled}
-use Rattle.versions.specs.SemVer.{SpellsSemVer, SemVerOwns, plain_semver, semver_of, semver_text}
-use Rattle.versions.proofs.lemmas.SemVer.{semver_of-Some, semver_of-spells, semver_printed}
+use Rattle.version_parts.proofs.lemmas.Reading.{clause_memory, clause_printed, clause_read, clause_spelled}
+use Rattle.version_rules.specs.SemVer.{SpellsSemVer, SemVerOwns, semver_of, semver_text}
+use Rattle.versions.specs.SemVer.{plain_semver}
+use Rattle.version_rules.proofs.lemmas.SemVer.{semver_of-Some, semver_of-spells, semver_printed}
 use Rattle.versions.proofs.semver.SemVer.new.Goals as goal
 
 pub returns-clause-spelled : goal.returns-clause-spelled

@@ -1,9 +1,9 @@
 use Rattle.versions.proofs.lemmas.Errors.Answered.{along}
 use Rattle.versions.proofs.lemmas.Conversions.Key.{strict_as_general}
-use Rattle.versions.proofs.semver.SemVer.to_version.Goals as goal
-use Rattle.versions.specs.Key.{key_of_semver, key_of_version, precedence}
+use Rattle.version_rules.specs.Key.{key_of_semver, key_of_version, precedence}
 use Rattle.versions.specs.SemVer.{plain_semver}
 use Rattle.versions.specs.Version.{plain_version}
+use Rattle.versions.proofs.semver.SemVer.to_version.Goals as goal
 
 pub returns-clause-precedence : goal.returns-clause-precedence
 returns-clause-precedence c =

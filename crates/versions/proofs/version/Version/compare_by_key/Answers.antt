@@ -1,9 +1,9 @@
 use Rattle.std.proofs.Common.{◌∙◌}
-use Rattle.version_parts.specs.Lists.{bytes_cmp}
-use Rattle.versions.proofs.lemmas.OrdersLaws.{key_bytes_alone}
-use Rattle.versions.proofs.version.Version.compare_by_key.Goals as goal
-use Rattle.versions.specs.Key.{key_of_version}
+use Rattle.version_rules.specs.Lists.{bytes_cmp}
+use Rattle.version_rules.proofs.lemmas.OrdersLaws.{key_bytes_alone}
+use Rattle.version_rules.specs.Key.{key_of_version}
 use Rattle.versions.specs.Version.{plain_version}
+use Rattle.versions.proofs.version.Version.compare_by_key.Goals as goal
 
 pub returns : goal.returns
 returns c =

@@ -1,8 +1,7 @@
-use Rattle.version_parts.proofs.lemmas.Reading.{clause_memory, clause_printed, clause_read}
-use Rattle.version_parts.proofs.lemmas.Reading.{clause_spelled}
-use Rattle.versions.specs.Version.{SpellsVersion, VersionOwns, plain_version, version_of}
-use Rattle.versions.specs.Version.{version_text}
-use Rattle.versions.proofs.lemmas.Version.{version_of-Some, version_of-spells, version_printed}
+use Rattle.version_parts.proofs.lemmas.Reading.{clause_memory, clause_printed, clause_read, clause_spelled}
+use Rattle.version_rules.specs.Version.{SpellsVersion, VersionOwns, version_of, version_text}
+use Rattle.versions.specs.Version.{plain_version}
+use Rattle.version_rules.proofs.lemmas.Version.{version_of-Some, version_of-spells, version_printed}
 use Rattle.versions.proofs.version.Version.new.Goals as goal
 
 pub returns-clause-spelled : goal.returns-clause-spelled

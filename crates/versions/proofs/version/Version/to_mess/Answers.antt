@@ -1,10 +1,11 @@
 use Rattle.versions.proofs.lemmas.Errors.Answered.{along}
 use Rattle.versions.proofs.lemmas.Conversions.Key.{general_as_messy}
 use Rattle.versions.proofs.lemmas.Conversions.Mess.{mess_of_version_printed}
-use Rattle.versions.proofs.version.Version.to_mess.Goals as goal
-use Rattle.versions.specs.Key.{key_of_mess, key_of_version, precedence}
-use Rattle.versions.specs.Mess.{mess_text, plain_mess}
+use Rattle.version_rules.specs.Key.{key_of_mess, key_of_version, precedence}
+use Rattle.version_rules.specs.Mess.{mess_text}
+use Rattle.versions.specs.Mess.{plain_mess}
 use Rattle.versions.specs.Version.{plain_version}
+use Rattle.versions.proofs.version.Version.to_mess.Goals as goal
 
 pub returns-clause-printed : goal.returns-clause-printed
 returns-clause-printed c =

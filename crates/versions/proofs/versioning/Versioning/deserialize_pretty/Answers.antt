@@ -1,6 +1,6 @@
-use Rattle.versions.specs.Versioning.{SpellsVersioning, versioning_of, versioning_text}
+use Rattle.version_rules.specs.Versioning.{SpellsVersioning, versioning_of, versioning_text}
 use Rattle.versions.proofs.lemmas.Json.{written_again}
-use Rattle.versions.proofs.lemmas.Versioning.{versioning_of-spells, versioning_printed}
+use Rattle.version_rules.proofs.lemmas.Versioning.{versioning_of-spells, versioning_printed}
 use Rattle.versions.proofs.versioning.Versioning.deserialize_pretty.Goals as goal
 
 pub returns-clause-written : goal.returns-clause-written

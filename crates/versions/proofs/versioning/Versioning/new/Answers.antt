@@ -1,9 +1,7 @@
-use Rattle.version_parts.proofs.lemmas.Reading.{clause_memory, clause_printed, clause_read}
-use Rattle.version_parts.proofs.lemmas.Reading.{clause_spelled}
-use Rattle.versions.specs.Versioning.{SpellsVersioning, VersioningOwns, plain_versioning}
-use Rattle.versions.specs.Versioning.{versioning_of, versioning_text}
-use Rattle.versions.proofs.lemmas.Versioning.{versioning_of-Some, versioning_of-spells}
-use Rattle.versions.proofs.lemmas.Versioning.{versioning_printed}
+use Rattle.version_parts.proofs.lemmas.Reading.{clause_memory, clause_printed, clause_read, clause_spelled}
+use Rattle.version_rules.specs.Versioning.{SpellsVersioning, VersioningOwns, versioning_of, versioning_text}
+use Rattle.versions.specs.Versioning.{plain_versioning}
+use Rattle.version_rules.proofs.lemmas.Versioning.{versioning_of-Some, versioning_of-spells, versioning_printed}
 use Rattle.versions.proofs.versioning.Versioning.new.Goals as goal
 
 pub returns-clause-spelled : goal.returns-clause-spelled

@@ -1,8 +1,8 @@
 mod SortKey
 use Rattle.versions.proofs.versioning.Versioning.sort_key.Answers.SortKey.{stays_apart}
-use Rattle.versions.proofs.versioning.Versioning.sort_key.Goals as goal
-use Rattle.versions.specs.Key.{key_of}
+use Rattle.version_rules.specs.Key.{key_of}
 use Rattle.versions.specs.Versioning.{plain_versioning}
+use Rattle.versions.proofs.versioning.Versioning.sort_key.Goals as goal
 
 pub returns-clause-followed : goal.returns-clause-followed
 returns-clause-followed c =

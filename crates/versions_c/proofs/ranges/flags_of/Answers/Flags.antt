@@ -1,6 +1,5 @@
 -- The flags of a range, and the range that they tell.
-use Rattle.std.proofs.Common.{◌≡◌, ◌∙◌, ◌+◌, ◌*◌, ◌/◌, ◌%◌, ◌^◌, ◌≤◌, ◌<◌, ℕ, Bool, true, false}
-use Rattle.std.proofs.Common.{List, Some, None, eqb, not, ◌==◌, if◌then◌else◌, refl, ap, arith}
+use Rattle.std.proofs.Common.{◌≡◌, ◌∙◌, ◌+◌, ◌*◌, ◌/◌, ◌%◌, ◌^◌, ◌≤◌, ◌<◌, ℕ, Bool, true, false, List, Some, None, eqb, not, ◌==◌, if◌then◌else◌, refl, ap, arith}
 use Rattle.std.proofs.lemmas.Bool.Decides.{nat_tests}
 use Rattle.std.proofs.lemmas.Nat.Bits.{and_pow}
 use Rattle.versions_c.specs.Ranges.{has_flag, range_with, one_if}

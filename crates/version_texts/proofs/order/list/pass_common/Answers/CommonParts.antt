@@ -1,12 +1,11 @@
 -- Lists of parts that begin alike compare as what follows.
-use Rattle.std.proofs.Common.{◌≡◌, ◌∙◌, ◌+◌, ◌<◌, ◌≤◌, ℕ, List, [], ◌∷◌, ◌++◌, drop, get_or, length}
-use Rattle.std.proofs.Common.{map, take, Some, add-one, ap, drop-cons, refl, sym}
+use Rattle.std.proofs.Common.{◌≡◌, ◌∙◌, ◌+◌, ◌<◌, ◌≤◌, ℕ, List, [], ◌∷◌, ◌++◌, drop, get_or, length, map, take, Some, add-one, ap, drop-cons, refl, sym}
 use Rattle.std.proofs.lemmas.Cmp.{tied_itself}
 use Rattle.std.proofs.lemmas.List.{map-append, take-append-drop, take_all}
 use Rattle.std.specs.declared.cmp.Ordering.TheVariants.{Equal}
-use Rattle.version_parts.specs.Bytes.{dot}
-use Rattle.version_parts.specs.PartKey.{PartKey, list_cmp, part_key}
-use Rattle.version_parts.specs.PartLaws.{list_total, part_total}
+use Rattle.version_rules.specs.Bytes.{dot}
+use Rattle.version_rules.specs.PartKey.{PartKey, list_cmp, part_key}
+use Rattle.version_rules.specs.laws.Part.{list_total, part_total}
 use Rattle.version_texts.proofs.lemmas.General.Splits.{split-append}
 use Rattle.version_texts.specs.Piece.{is_dot}
 use Rattle.version_texts.specs.TextKey.{parts_of, pieces}

@@ -1,13 +1,12 @@
 -- Whether bytes lie between bounds, by how they compare with these.
-use Rattle.std.proofs.Common.{◌≡◌, ◌↔◌, ◌∙◌, ℕ, Bool, true, false, List, Option, Some, None, IsTrue}
-use Rattle.std.proofs.Common.{ap, refl, subst, sym}
+use Rattle.std.proofs.Common.{◌≡◌, ◌↔◌, ◌∙◌, ℕ, Bool, true, false, List, Option, Some, None, IsTrue, ap, refl, subst, sym}
 use Rattle.std.specs.Ordering.{is_ge}
 use Rattle.std.specs.declared.cmp.Ordering.{Ordering}
 use Rattle.std.specs.declared.cmp.Ordering.TheVariants.{Less, Equal, Greater}
-use Rattle.version_parts.specs.Lists.{bytes_cmp}
-use Rattle.versions.specs.declared.kind.Kind.{Kind}
-use Rattle.versions.specs.declared.range.Kinds.{Kinds}
-use Rattle.versions.specs.Range.{AreBetween, has_kind}
+use Rattle.version_rules.specs.Lists.{bytes_cmp}
+use Rattle.version_rules.specs.declared.kind.Kind.{Kind}
+use Rattle.version_rules.specs.declared.kinds.Kinds.{Kinds}
+use Rattle.version_rules.specs.Range.{AreBetween, has_kind}
 use Rattle.version_texts.specs.Sinks.{is_between}
 
 ge_is : (o : Ordering) → IsTrue (is_ge o) ↔ (¬ (o ≡ Less))

@@ -1,11 +1,13 @@
 -- A messy version fed to a hash, section by section.
 use Rattle.std.proofs.Common.{◌≡◌, ◌∙◌, ℕ, List, ◌∷◌, ◌++◌, sym, ap, append_assoc}
 use Rattle.std.proofs.lemmas.List.Sums.{fold-append}
-use Rattle.std.specs.Hash as fed
 use Rattle.std.specs.Hash.{HashWrites, fed_then}
 use Rattle.std.specs.List.{flat_map, fold}
-use Rattle.version_parts.specs.Sep.{PlainSep, sep_fed}
-use Rattle.versions.specs.Mess.{Further, Section, further_fed, section_fed}
+use Rattle.version_rules.specs.Sep.{PlainSep}
+use Rattle.version_parts.specs.Sep.{sep_fed}
+use Rattle.version_rules.specs.Mess.{Further, Section}
+use Rattle.versions.specs.Mess.{further_fed, section_fed}
+use Rattle.std.specs.Hash as fed
 
 -- feeding the remaining writes after the others feeds all of them
 pub fed_behind : {S : Type 0} (write : S → List ℕ → S) (s t : S) (writes left : HashWrites)

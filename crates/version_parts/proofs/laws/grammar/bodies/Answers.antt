@@ -1,5 +1,0 @@
-use Rattle.version_parts.proofs.lemmas.Body.{body_complete, body_printed, body_sound}
-use Rattle.version_parts.proofs.laws.grammar.bodies.Goals as goal
-
-pub returns : goal.returns
-returns c = record { sound = body_sound; complete = body_complete; printed = body_printed }

@@ -1,0 +1,8 @@
+use Rattle.version_rules.proofs.lemmas.Range.{list_exact, list_in}
+use Rattle.version_rules.proofs.laws.matching.ranges.Goals as goal
+
+pub returns-clause-within : goal.returns-clause-within
+returns-clause-within c = list_in
+
+pub returns-clause-exact : goal.returns-clause-exact
+returns-clause-exact c = list_exact

@@ -1,0 +1,173 @@
+-- Numerals: the front of an unsigned number reads what is spelled, and nothing else.
+pub mod Digits
+pub mod Runs
+use Rattle.std.proofs.Common.{◌≡◌, ◌==◌, ◌^◌, ℕ, ◌<◌, true, false, List, [], ◌∷◌, ◌++◌, length, Some, None, nat_lt, refl, sym, ap, ◌∙◌, arith, inl, inr}
+use Rattle.std.proofs.lemmas.Bool.{cases_Bool, eqb-true, ltb-true, lt-ltb}
+use Rattle.std.proofs.lemmas.Fmt.{decimal-digits_value}
+use Rattle.std.specs.Char.{is_ascii_digit}
+use Rattle.std.specs.Fmt.{decimal}
+use Rattle.std.proofs.lemmas.Str.Parse.{digits_value_short}
+use Rattle.std.specs.List.{list_all}
+use Rattle.std.specs.Option.{option_and_then}
+use Rattle.std.specs.Str.Parse.{digits_value}
+use Rattle.version_rules.specs.Front.{after_mark, run_front}
+use Rattle.version_rules.specs.Numeral.{HasNoLeadingZero, SpellsNumeral, unsigned_front, value_of_run}
+use Rattle.version_rules.specs.Reading.{EndsRun, IsComplete, IsPrinted, IsSound}
+use Rattle.version_rules.proofs.lemmas.Front.Repeated.{cases_Option}
+use Rattle.version_rules.proofs.lemmas.Numeral.Runs.{digits_model}
+use Rattle.version_rules.proofs.lemmas.Front.Runs.{after_mark-Some, reads_run, run_front-reads}
+
+zero_numeral : SpellsNumeral (48 ∷ []) 0
+zero_numeral = record { digits = refl; canonical = tt; value = refl; fits = omega arith }
+
+no_leading_zero : (run rest : List ℕ) → after_mark 48 (run ++ rest) ≡ None → 0 < length run
+    → HasNoLeadingZero run
+no_leading_zero [] rest e some = absurd (omega arith)
+no_leading_zero (d ∷ []) rest e some = tt
+no_leading_zero (d ∷ c ∷ digits) rest e some = elim (cases_Bool (d == 48)) [
+  | inl same ↦ cc (rw same at e)
+  | inr other ↦ other
+]
+
+value_of_run-Some : (run : List ℕ × List ℕ) (n : ℕ) (rest : List ℕ)
+    → value_of_run run ≡ Some (n, rest)
+    → (digits_value 10 run.0 ≡ n) × (n < 2 ^ 32) × (run.1 ≡ rest)
+value_of_run-Some run n rest e = elim (cases_Bool (nat_lt (digits_value 10 run.0) (2 ^ 32))) [
+  | inl fits ↦
+      let same : (digits_value 10 run.0, run.1) ≡ (n, rest) = cc (rw fits at e) in
+      let value : digits_value 10 run.0 ≡ n = ap (λ (p : ℕ × List ℕ). p.0) same in
+      (value, rw value at (ltb-true _ _ fits), ap (λ (p : ℕ × List ℕ). p.1) same)
+  | inr large ↦ cc (rw large at e)
+]
+
+-- what the front gives if the text begins with 0, and if it does not
+unsigned-zero : (text tail : List ℕ) → after_mark 48 text ≡ Some tail
+    → unsigned_front text ≡ Some (0, tail)
+unfolding unsigned_front
+unsigned-zero text tail e = rw e refl
+
+unsigned-run : (text : List ℕ) → after_mark 48 text ≡ None
+    → unsigned_front text ≡ option_and_then value_of_run (run_front is_ascii_digit text)
+unfolding unsigned_front
+unsigned-run text e = rw e refl
+
+pub unsigned_sound : IsSound SpellsNumeral unsigned_front
+unsigned_sound text n rest e = elim (cases_Option (after_mark 48 text)) [
+  | inl none ↦ elim (cases_Option (run_front is_ascii_digit text)) [
+    | inl no_run ↦ cc (rw (unsigned-run text none, no_run) at e)
+    | inr one ↦
+        let run = reads_run is_ascii_digit text one.0.0 one.0.1 one.1 in
+        let value = value_of_run-Some one.0 n rest (rw (unsigned-run text none, one.1) at e) in (
+          one.0.0,
+          rw value.2 at run.whole,
+          record {
+            digits =
+                run.all;
+            canonical =
+                no_leading_zero one.0.0 one.0.1 (rw run.whole at none) run.some;
+            value =
+                value.0;
+            fits = value.1;
+          },
+        )
+  ]
+  | inr begun ↦
+      let same : (0, begun.0) ≡ (n, rest) = cc (rw (unsigned-zero text begun.0 begun.1) at e) in
+      let value : 0 ≡ n = ap (λ (p : ℕ × List ℕ). p.0) same in
+      let left : begun.0 ≡ rest = ap (λ (p : ℕ × List ℕ). p.1) same in (
+        48 ∷ [],
+        after_mark-Some 48 text begun.0 begun.1 ∙ ap (λ (l : List ℕ). 48 ∷ l) left,
+        rw (← value) zero_numeral,
+      )
+]
+
+-- a numeral that begins with 0 is 0
+pub only_zero : (d : ℕ) (digits : List ℕ) → (d == 48) ≡ true → HasNoLeadingZero (d ∷ digits)
+    → digits ≡ []
+only_zero d [] same h = refl
+only_zero d (c ∷ digits) same h = cc (h, same)
+
+only_digit : (d : ℕ) (digits : List ℕ) → d ≡ 48 → HasNoLeadingZero (d ∷ digits)
+    → length (d ∷ digits) ≡ 1
+only_digit d digits e h =
+    let none : digits ≡ [] = only_zero d digits (rw e refl) h in
+    rw none refl
+
+pub unsigned_complete : IsComplete SpellsNumeral (EndsRun is_ascii_digit) unsigned_front
+unsigned_complete [] n rest s ends = absurd s.canonical
+unsigned_complete (d ∷ digits) n rest s ends = elim (cases_Bool (d == 48)) [
+  | inl same ↦
+      let none : digits ≡ [] = only_zero d digits same s.canonical in
+      let byte : d ≡ 48 = eqb-true d 48 same in
+      let value : 0 ≡ n = rw (none, byte) at s.value in
+      let begun : after_mark 48 (d ∷ (digits ++ rest)) ≡ Some rest = rw (same, none) refl in
+      rw (unsigned-zero (d ∷ (digits ++ rest)) rest begun) (ap (λ (k : ℕ). Some (k, rest)) value)
+  | inr other ↦
+      let begun : after_mark 48 (d ∷ (digits ++ rest)) ≡ None = rw other refl in
+      let run : run_front is_ascii_digit (d ∷ (digits ++ rest)) ≡ Some (d ∷ digits, rest) =
+      run_front-reads is_ascii_digit (d ∷ digits) rest s.digits (omega arith) ends in
+      let fits : nat_lt (digits_value 10 (d ∷ digits)) (2 ^ 32) ≡ true =
+      lt-ltb _ _ (rw s.value s.fits) in
+      rw (unsigned-run (d ∷ (digits ++ rest)) begun, run, fits)
+      (ap (λ (k : ℕ). Some (k, rest)) s.value)
+]
+
+-- the digits of a numeral are what its value prints
+pub numeral_printed : IsPrinted SpellsNumeral decimal
+numeral_printed [] n s = absurd s.canonical
+numeral_printed (d ∷ digits) n s =
+    let fits : digits_value 10 (d ∷ digits) < 2 ^ 64 = rw s.value (omega (arith, s.fits)) in
+    ap decimal (sym s.value)
+    ∙ decimal-digits_value digits_model (d ∷ digits) s.digits (omega arith)
+    (λ begun. only_digit d digits begun s.canonical) fits
+
+-- ---- a numeral by its digits
+
+pub numeral_zero : (text tail : List ℕ) → Some tail ≡ after_mark 48 text
+    → Some (0, tail) ≡ unsigned_front text
+numeral_zero text tail e = sym (unsigned-zero text tail (sym e))
+
+pub zero_spelled : SpellsNumeral (48 ∷ []) (digits_value 10 (48 ∷ []))
+zero_spelled = zero_numeral
+
+pub numeral_run : (text run rest : List ℕ) → None ≡ after_mark 48 text
+    → Some (run, rest) ≡ run_front is_ascii_digit text
+    → nat_lt (digits_value 10 run) (2 ^ 32) ≡ true
+    → Some (digits_value 10 run, rest) ≡ unsigned_front text
+numeral_run text run rest none e fits = rw (unsigned-run text (sym none), ← e, fits) refl
+
+pub numeral_none : (text : List ℕ) → None ≡ after_mark 48 text
+    → None ≡ run_front is_ascii_digit text → None ≡ unsigned_front text
+numeral_none text none e = rw (unsigned-run text (sym none), ← e) refl
+
+pub numeral_large : (text run rest : List ℕ) → None ≡ after_mark 48 text
+    → Some (run, rest) ≡ run_front is_ascii_digit text
+    → nat_lt (digits_value 10 run) (2 ^ 32) ≡ false
+    → None ≡ unsigned_front text
+numeral_large text run rest none e large = rw (unsigned-run text (sym none), ← e, large) refl
+
+pub run_spelled : (text run rest : List ℕ) → None ≡ after_mark 48 text
+    → Some (run, rest) ≡ run_front is_ascii_digit text
+    → nat_lt (digits_value 10 run) (2 ^ 32) ≡ true
+    → SpellsNumeral run (digits_value 10 run)
+run_spelled text run rest none e fits =
+    let read = reads_run is_ascii_digit text run rest (sym e) in
+    record {
+      digits =
+          read.all;
+      canonical =
+          no_leading_zero run rest (rw read.whole at (sym none)) read.some;
+      value =
+          refl;
+      fits = ltb-true _ _ fits;
+    }
+
+pub nine_digits : (digits : List ℕ) → list_all is_ascii_digit digits ≡ true → length digits < 10
+    → true ≡ nat_lt (digits_value 10 digits) (2 ^ 32)
+nine_digits digits all short =
+    let value : digits_value 10 digits < 10 ^ 9 =
+    digits_value_short digits_model digits 9 all (omega arith) in
+    sym (lt-ltb _ _ (omega (arith, value)))
+
+pub ruleset numerals_read =
+    (numeral_zero, zero_spelled, numeral_run, numeral_none, numeral_large, run_spelled)

@@ -1,0 +1,161 @@
+-- The laws that the contracts of `src/laws/order.rt` state, from the laws of the codes.
+use Rattle.std.proofs.Common.{◌≡◌, ◌↔◌, ℕ, List, ◌∷◌, ◌++◌, Option, refl, ◌∙◌}
+use Rattle.std.specs.Cmp.{tied_itself}
+use Rattle.std.specs.Ordering.{on, ordering_then}
+use Rattle.std.specs.declared.cmp.Ordering.TheVariants.{Equal}
+use Rattle.version_rules.proofs.lemmas.Codes.{writes_alone, writes_canonical, writes_no_prefix}
+use Rattle.version_rules.specs.laws.Order.{then_equal, then_second}
+use Rattle.version_rules.proofs.lemmas.Orders.{equal_where_same, then_decided, then_same}
+use Rattle.version_rules.specs.Lists.{bytes_cmp}
+use Rattle.version_rules.specs.MChunk.{PlainMChunk}
+use Rattle.version_rules.specs.PartKey.{PartKey}
+use Rattle.version_rules.proofs.lemmas.KeyLaws.{key_writes, keys_same}
+use Rattle.version_rules.proofs.lemmas.SemVerOrder.{precedence_of_semvers}
+use Rattle.version_rules.proofs.lemmas.Tail.{sections_same, sections_writes, tail_writes, tails_same}
+use Rattle.version_rules.proofs.lemmas.Texts.{keys_are_bytes, versions_are_bytes}
+use Rattle.version_rules.proofs.lemmas.Worked.{worked_keys}
+use Rattle.version_rules.specs.Key.{Key, key_of, key_of_mess, key_of_semver, key_of_version, precedence, sections_tail}
+use Rattle.version_rules.specs.KeyBytes.{key_bytes}
+use Rattle.version_rules.specs.laws.Key.{precedence_total, sections_total, tail_total}
+use Rattle.version_rules.specs.Mess.{PlainMess, mess_plain_cmp}
+use Rattle.version_rules.specs.Sep.{PlainSep}
+use Rattle.version_rules.specs.laws.Mess.{mess_total, messes_same}
+use Rattle.version_rules.specs.Orders.{mess_cmp, version_cmp, versioning_cmp}
+use Rattle.version_rules.specs.laws.Orders.{keys_tied, mess_cmp_total, version_cmp_total, versioning_cmp_total}
+use Rattle.version_rules.specs.Versioning.{PlainVersioning, Ideal, General, Complex, SameVersioning, versioning_plain_cmp}
+use Rattle.version_rules.specs.laws.Versioning.{versioning_plain_total}
+use Rattle.version_rules.specs.SemVer.{PlainSemVer}
+use Rattle.version_rules.specs.SemVerOrder.{SameButMetadata, semver_cmp}
+use Rattle.version_rules.specs.laws.SemVer.{semver_total, tied_same}
+use Rattle.version_rules.specs.Tail.{Tail, sections_cmp, tail_cmp}
+use Rattle.version_rules.specs.Version.{PlainVersion}
+use Rattle.version_rules.specs.laws.Version.{version_plain_total, versions_same}
+use Rattle.version_rules.specs.VersionOrder.{version_plain_cmp}
+
+pub sections_equal : (a b : List (List PartKey)) → (sections_cmp a b ≡ Equal) ↔ (a ≡ b)
+sections_equal = equal_where_same sections_total sections_same
+
+pub tail_equal : (a b : Tail) → (tail_cmp a b ≡ Equal) ↔ (a ≡ b)
+tail_equal = equal_where_same tail_total tails_same
+
+pub precedence_equal : (k l : Key) → (precedence k l ≡ Equal) ↔ (k ≡ l)
+precedence_equal = equal_where_same precedence_total keys_same
+
+pub key_bytes_compare : (k l : Key) (x y : List ℕ)
+    → bytes_cmp (key_bytes k ++ x) (key_bytes l ++ y)
+    ≡ ordering_then (precedence k l) (bytes_cmp x y)
+key_bytes_compare = key_writes.compares
+
+pub key_bytes_alone : (k l : Key) → bytes_cmp (key_bytes k) (key_bytes l) ≡ precedence k l
+key_bytes_alone = writes_alone key_writes
+
+pub key_bytes_equal : (k l : Key) → (key_bytes k ≡ key_bytes l) ↔ (precedence k l ≡ Equal)
+key_bytes_equal = writes_canonical keys_same key_writes
+
+pub key_bytes_apart : (k l : Key) (x y : List ℕ) → ¬ (precedence k l ≡ Equal)
+    → bytes_cmp (key_bytes k ++ x) (key_bytes l ++ y) ≡ precedence k l
+key_bytes_apart k l x y differ =
+    key_writes.compares k l x y ∙ then_decided (precedence k l) (bytes_cmp x y) Equal differ
+    ∙ then_equal (precedence k l)
+
+pub no_key_begins_another : (k l : Key) (x y : List ℕ) → key_bytes k ++ x ≡ key_bytes l ++ y → k ≡ l
+no_key_begins_another = writes_no_prefix keys_same key_writes
+
+pub version_equal : (a b : PlainVersion) → (version_plain_cmp a b ≡ Equal) ↔ (a ≡ b)
+version_equal = equal_where_same version_plain_total versions_same
+
+pub mess_equal : (a b : PlainMess) → (mess_plain_cmp a b ≡ Equal) ↔ (a ≡ b)
+mess_equal = equal_where_same mess_total messes_same
+
+-- versions that are the same except for their metadata tie
+same_tied : (a b : PlainSemVer) → SameButMetadata a b → semver_cmp a b ≡ Equal
+same_tied a b same =
+    rw (same.major, same.minor, same.patch, same.pre_rel) (tied_itself semver_total b)
+
+pub versioning_equal : (a b : PlainVersioning)
+    → (versioning_plain_cmp a b ≡ Equal) ↔ SameVersioning a b
+versioning_equal (Ideal a) (Ideal b) = (tied_same a b, same_tied a b)
+versioning_equal (General a) (General b) = version_equal a b
+versioning_equal (Complex a) (Complex b) = mess_equal a b
+versioning_equal (Ideal a) (General b) = (λ e. cc e, λ s. absurd s)
+versioning_equal (Ideal a) (Complex b) = (λ e. cc e, λ s. absurd s)
+versioning_equal (General a) (Ideal b) = (λ e. cc e, λ s. absurd s)
+versioning_equal (General a) (Complex b) = (λ e. cc e, λ s. absurd s)
+versioning_equal (Complex a) (Ideal b) = (λ e. cc e, λ s. absurd s)
+versioning_equal (Complex a) (General b) = (λ e. cc e, λ s. absurd s)
+
+-- ---- the orders by keys, and then field by field
+
+pub version_cmp_equal : (a b : PlainVersion) → (version_cmp a b ≡ Equal) ↔ (a ≡ b)
+version_cmp_equal =
+    equal_where_same version_cmp_total (then_same (on key_of_version precedence) versions_same)
+
+pub mess_cmp_equal : (a b : PlainMess) → (mess_cmp a b ≡ Equal) ↔ (a ≡ b)
+mess_cmp_equal = equal_where_same mess_cmp_total (then_same (on key_of_mess precedence) messes_same)
+
+pub versioning_cmp_equal : (a b : PlainVersioning)
+    → (versioning_cmp a b ≡ Equal) ↔ SameVersioning a b
+versioning_cmp_equal a b = (
+  λ tied. (versioning_equal a b).0 (then_second _ _ tied),
+  λ same. let tied = (versioning_equal a b).1 same in rw (keys_tied a b tied, tied) refl,
+)
+
+pub versioning_cmp_refines : (a b : PlainVersioning) → ¬ (precedence (key_of a) (key_of b) ≡ Equal)
+    → versioning_cmp a b ≡ precedence (key_of a) (key_of b)
+versioning_cmp_refines a b differ =
+    then_decided _ (versioning_plain_cmp a b) Equal differ ∙ then_equal _
+
+pub semver_equal : (a b : PlainSemVer) → (semver_cmp a b ≡ Equal) ↔ SameButMetadata a b
+semver_equal a b = (tied_same a b, same_tied a b)
+
+-- metadata and the signs between sections are not in a key
+pub semver_metadata : (v : PlainSemVer) (meta : Option (List ℕ))
+    → key_of_semver (record v { meta = meta }) ≡ key_of_semver v
+semver_metadata v meta = refl
+
+pub version_metadata : (v : PlainVersion) (meta : Option (List ℕ))
+    → key_of_version (record v { meta = meta }) ≡ key_of_version v
+version_metadata v meta = refl
+
+pub signs : (sign other : PlainSep) (section : List PlainMChunk)
+    (more : List (PlainSep × List PlainMChunk))
+    → sections_tail ((sign, section) ∷ more) ≡ sections_tail ((other, section) ∷ more)
+signs sign other section more = refl
+
+pub ruleset laws = (
+  sections_total,
+  sections_equal,
+  sections_writes,
+  tail_total,
+  tail_equal,
+  tail_writes,
+  precedence_total,
+  precedence_equal,
+  key_bytes_compare,
+  key_bytes_alone,
+  key_bytes_equal,
+  key_bytes_apart,
+  no_key_begins_another,
+  precedence_of_semvers,
+  version_plain_total,
+  version_equal,
+  mess_total,
+  mess_equal,
+  versioning_plain_total,
+  versioning_equal,
+  version_cmp_total,
+  version_cmp_equal,
+  mess_cmp_total,
+  mess_cmp_equal,
+  versioning_cmp_total,
+  versioning_cmp_equal,
+  versioning_cmp_refines,
+  semver_total,
+  semver_equal,
+  keys_are_bytes,
+  versions_are_bytes,
+  semver_metadata,
+  version_metadata,
+  signs,
+  worked_keys,
+)

@@ -1,0 +1,197 @@
+-- Requirements: a whole text parses as the requirement that it spells, and that requirement prints
+-- the text.
+use Rattle.std.proofs.Common.{◌≡◌, ◌==◌, ◌∙◌, ◌&&◌, ℕ, Bool, true, false, not, eqb, List, [], ◌∷◌, ◌++◌, Option, Some, None, refl, sym, arith, inl, inr}
+use Rattle.std.proofs.lemmas.Bool.Decides.{nat_tests}
+use Rattle.std.proofs.lemmas.List.Elements.{All-cons, All-nil}
+use Rattle.std.proofs.lemmas.List.Folds.{list_all-append}
+use Rattle.std.specs.Cmp.{first_so, second_so}
+use Rattle.std.specs.List.{All, list_all}
+use Rattle.std.specs.Option.{option_map, option_map_or}
+use Rattle.version_rules.specs.Bytes.{is_metadata_byte}
+use Rattle.version_rules.specs.Front.{begins}
+use Rattle.version_rules.specs.Reading.{IsPrinted}
+use Rattle.version_rules.specs.Sep.{PlainSep, Colon, Hyphen, Plus, Underscore, Tilde, sep_byte}
+use Rattle.version_rules.proofs.lemmas.Front.Repeated.{cases_Option}
+use Rattle.version_rules.proofs.lemmas.Front.Runs.{all_weaker}
+use Rattle.version_rules.specs.declared.op.Op.{Op}
+use Rattle.version_rules.specs.Op.{op_front, op_text}
+use Rattle.version_rules.specs.Requirement.{PlainRequirement, SpellsOperand, SpellsRequirement, operand_of, requirement_of, requirement_text}
+use Rattle.version_rules.specs.Requirements.{comma}
+use Rattle.version_rules.specs.Versioning.{PlainVersioning, SpellsVersioning, versioning_of, versioning_text}
+use Rattle.version_rules.proofs.lemmas.Op.{op_front-Some, op_front-reads}
+use Rattle.version_rules.proofs.lemmas.Versioning.Spelled.{of_versioning}
+use Rattle.version_rules.proofs.lemmas.Versioning.{versioning_of-Some, versioning_of-spells, versioning_printed}
+use Rattle.version_rules.specs.declared.op.Op.TheVariants as op
+
+-- ---- the bytes of versions and of requirements
+
+is_no_comma : ℕ → Bool
+is_no_comma b = not (eqb b comma)
+
+not_so : (t : Bool) → not t ≡ true → t ≡ false
+not_so true e = cc e
+not_so false e = refl
+
+-- neither a comma nor an equals sign
+is_version_byte : ℕ → Bool
+is_version_byte b = is_no_comma b && not (b == 61)
+
+metadata_byte : (b : ℕ) → is_metadata_byte b ≡ true → is_version_byte b ≡ true
+unfolding is_version_byte is_no_comma
+metadata_byte b h = grind (arith, nat_tests)
+
+together : (test : ℕ → Bool) (a b : List ℕ) → list_all test a ≡ true → list_all test b ≡ true
+    → list_all test (a ++ b) ≡ true
+together test a b h g = list_all-append test a b ∙ rw (h, g) refl
+
+sign : (s : PlainSep) → list_all is_version_byte (sep_byte s ∷ []) ≡ true
+unfolding is_version_byte is_no_comma
+sign Colon = refl
+sign Hyphen = refl
+sign Plus = refl
+sign Underscore = refl
+sign Tilde = refl
+
+version_bytes : (text : List ℕ) (v : PlainVersioning) → SpellsVersioning text v
+    → list_all is_version_byte text ≡ true
+version_bytes =
+    of_versioning (λ text. list_all is_version_byte text ≡ true) refl (together is_version_byte)
+    (all_weaker is_metadata_byte is_version_byte metadata_byte) sign
+
+operand_bytes : (o : Op) (text : List ℕ) (version : Option PlainVersioning)
+    → SpellsOperand o text version → list_all is_version_byte text ≡ true
+operand_bytes o text None s = rw s.1 refl
+operand_bytes o text (Some v) s = version_bytes text v s.1
+
+begins_so : (text : List ℕ) → list_all is_version_byte text ≡ true
+    → begins (λ b. b == 61) text ≡ false
+unfolding is_version_byte
+begins_so [] h = refl
+begins_so (b ∷ text) h = not_so (b == 61) (second_so (is_no_comma b) _ (first_so _ _ h))
+
+op_bytes : (o : Op) → list_all is_no_comma (op_text o) ≡ true
+unfolding is_no_comma
+op_bytes op.Exact = refl
+op_bytes op.Greater = refl
+op_bytes op.GreaterEq = refl
+op_bytes op.Less = refl
+op_bytes op.LessEq = refl
+op_bytes op.Tilde = refl
+op_bytes op.Caret = refl
+op_bytes op.Wildcard = refl
+
+version_byte_no_comma : (b : ℕ) → is_version_byte b ≡ true → is_no_comma b ≡ true
+unfolding is_version_byte
+version_byte_no_comma b h = first_so _ _ h
+
+each_no_comma : (text : List ℕ) → list_all is_no_comma text ≡ true
+    → All (λ b. eqb b comma ≡ false) text
+unfolding is_no_comma
+each_no_comma [] h = All-nil (λ b. eqb b comma ≡ false)
+each_no_comma (b ∷ text) h =
+    All-cons (λ c. eqb c comma ≡ false) b text (not_so (eqb b comma) (first_so _ _ h))
+    (each_no_comma text (second_so _ _ h))
+
+pub requirement_without_comma : (text : List ℕ) (r : PlainRequirement) → SpellsRequirement text r
+    → All (λ b. eqb b comma ≡ false) text
+requirement_without_comma text r s =
+    let operand =
+    all_weaker is_version_byte is_no_comma version_byte_no_comma s.operand
+    (operand_bytes r.op s.operand r.version s.operand_is) in
+    rw s.whole (each_no_comma (op_text r.op ++ s.operand)
+    (together is_no_comma (op_text r.op) s.operand (op_bytes r.op) operand))
+
+-- ---- what follows an operator
+
+operand_of-version : (o : Op) (text : List ℕ) → ¬ (o ≡ op.Wildcard)
+    → operand_of o text ≡ option_map Some (versioning_of text)
+operand_of-version op.Exact text other = refl
+operand_of-version op.Greater text other = refl
+operand_of-version op.GreaterEq text other = refl
+operand_of-version op.Less text other = refl
+operand_of-version op.LessEq text other = refl
+operand_of-version op.Tilde text other = refl
+operand_of-version op.Caret text other = refl
+operand_of-version op.Wildcard text other = absurd (other refl)
+
+operand_of-Some : (o : Op) (text : List ℕ) (version : Option PlainVersioning)
+    → SpellsOperand o text version → operand_of o text ≡ Some version
+operand_of-Some o text None s = rw (s.0, s.1) refl
+operand_of-Some o text (Some v) s =
+    rw (operand_of-version o text s.0, versioning_of-Some text v s.1) refl
+
+version_spells : (o : Op) (text : List ℕ) (version : Option PlainVersioning) → ¬ (o ≡ op.Wildcard)
+    → option_map Some (versioning_of text) ≡ Some version → SpellsOperand o text version
+version_spells o text version other e = elim (cases_Option (versioning_of text)) [
+  | inl none ↦ cc (rw none at e)
+  | inr v ↦
+      let same : Some v.0 ≡ version = cc (rw v.1 at e) in
+      rw (← same) (other, versioning_of-spells text v.0 v.1)
+]
+
+operand_of-spells : (o : Op) (text : List ℕ) (version : Option PlainVersioning)
+    → operand_of o text ≡ Some version → SpellsOperand o text version
+operand_of-spells op.Exact text version e = version_spells op.Exact text version (λ d. cc d) e
+operand_of-spells op.Greater text version e = version_spells op.Greater text version (λ d. cc d) e
+operand_of-spells op.GreaterEq text version e =
+    version_spells op.GreaterEq text version (λ d. cc d) e
+operand_of-spells op.Less text version e = version_spells op.Less text version (λ d. cc d) e
+operand_of-spells op.LessEq text version e = version_spells op.LessEq text version (λ d. cc d) e
+operand_of-spells op.Tilde text version e = version_spells op.Tilde text version (λ d. cc d) e
+operand_of-spells op.Caret text version e = version_spells op.Caret text version (λ d. cc d) e
+operand_of-spells op.Wildcard [] None e = (refl, refl)
+operand_of-spells op.Wildcard [] (Some v) e = cc e
+operand_of-spells op.Wildcard (b ∷ text) version e = cc e
+
+-- ---- whole texts
+
+pub requirement_of-Some : (text : List ℕ) (r : PlainRequirement) → SpellsRequirement text r
+    → requirement_of text ≡ Some r
+requirement_of-Some text r s =
+    let bytes = operand_bytes r.op s.operand r.version s.operand_is in
+    rw (
+      s.whole,
+      op_front-reads r.op s.operand (begins_so s.operand bytes),
+      operand_of-Some r.op s.operand r.version s.operand_is,
+    ) refl
+
+-- an operator other than `*`, and a version after it
+pub requirement_of-version : (text rest : List ℕ) (o : Op) (v : PlainVersioning)
+    → op_front text ≡ Some (o, rest) → ¬ (o ≡ op.Wildcard) → SpellsVersioning rest v
+    → requirement_of text ≡ Some (record { op = o; version = Some v })
+requirement_of-version text rest o v e other s =
+    rw (e, operand_of-version o rest other, versioning_of-Some rest v s) refl
+
+pub requirement_of-spells : (text : List ℕ) (r : PlainRequirement) → requirement_of text ≡ Some r
+    → SpellsRequirement text r
+requirement_of-spells text r e = elim (cases_Option (op_front text)) [
+  | inl none ↦ cc (rw none at e)
+  | inr front ↦ elim (cases_Option (operand_of front.0.0 front.0.1)) [
+    | inl none ↦ cc (rw (front.1, none) at e)
+    | inr operand ↦
+        let read : PlainRequirement = record { op = front.0.0; version = operand.0 } in
+        let same : read ≡ r = cc (rw (front.1, operand.1) at e) in
+        rw (← same) (record {
+          operand = front.0.1;
+          whole = op_front-Some text front.0.0 front.0.1 front.1;
+          operand_is = operand_of-spells front.0.0 front.0.1 operand.0 operand.1;
+        })
+  ]
+]
+
+operand_printed : (o : Op) (text : List ℕ) (version : Option PlainVersioning)
+    → SpellsOperand o text version → option_map_or versioning_text version [] ≡ text
+operand_printed o text None s = sym s.1
+operand_printed o text (Some v) s = versioning_printed text v s.1
+
+pub requirement_printed : IsPrinted SpellsRequirement requirement_text
+requirement_printed text r s =
+    rw (operand_printed r.op s.operand r.version s.operand_is) (sym s.whole)
+
+-- a text spells at most one requirement
+pub requirement_unique : (text : List ℕ) (r q : PlainRequirement) → SpellsRequirement text r
+    → SpellsRequirement text q → r ≡ q
+requirement_unique text r q s t =
+    let same : Some r ≡ Some q =
+    sym (requirement_of-Some text r s) ∙ requirement_of-Some text q t in
+    cc same

@@ -1,0 +1,173 @@
+-- The bytes of keys are below 256 if the bytes of the texts are.
+use Rattle.std.proofs.Common.{ℕ, zero, suc, ◌<◌, List, [], ◌∷◌, ◌++◌, map, take, drop, Bool, true, false, if◌then◌else◌, Option, Some, None, lit<}
+use Rattle.std.proofs.lemmas.List.Elements.{All-from_recursion, recursion_from_All}
+use Rattle.std.specs.Char.{is_ascii_digit}
+use Rattle.std.specs.List.{flat_map, position_or_len, prefix_len, take_while}
+use Rattle.std.specs.Option.{option_map_or}
+use Rattle.std.specs.Str.Parse.{digits_value}
+use Rattle.version_rules.proofs.lemmas.PartTexts.{Bytes, append_are_bytes, left_are_bytes, list_are_bytes, number_are_bytes, parts_are_bytes, release_are_bytes, right_are_bytes}
+use Rattle.version_rules.specs.Chunk.{PlainChunk, chunk_text}
+use Rattle.version_rules.specs.DigitRun.{number_front, starts_with_digit}
+use Rattle.version_rules.specs.Last.{last_text}
+use Rattle.version_rules.specs.MChunk.{PlainMChunk, mchunk_text}
+use Rattle.version_rules.specs.NumberBytes.{number_bytes}
+use Rattle.version_rules.specs.PartKey.{PartKey, Word, Number, part_key, chunk_parts, parts_bytes, section_parts, suffix_of}
+use Rattle.version_rules.specs.Split.{split_of}
+use Rattle.version_rules.specs.PartTexts.{AreBytes, held_texts, part_text, parts_text, rest_text, split_text}
+use Rattle.version_rules.specs.Key.{Key, key_behind_epoch, key_of, key_of_sections, section_epoch, sections_tail}
+use Rattle.version_rules.specs.KeyBytes.{key_bytes}
+use Rattle.version_rules.specs.Sep.{PlainSep, Colon}
+use Rattle.version_rules.specs.Tail.{Tail, PreReleased, Bare, Released, Sections, section_bytes, tail_bytes}
+use Rattle.version_rules.specs.Texts.{key_text, section_text, tail_text, texts_of}
+use Rattle.version_rules.specs.Versioning.{PlainVersioning, Ideal, General, Complex}
+
+-- ---- keys
+
+section_are_bytes : (s : List PartKey) → Bytes (parts_text s) → Bytes (section_bytes (Some s))
+section_are_bytes s h = (lit< tt, parts_are_bytes s h)
+
+tail_are_bytes : (t : Tail) → Bytes (tail_text t) → Bytes (tail_bytes t)
+tail_are_bytes (PreReleased r) h = (lit< tt, release_are_bytes r h)
+tail_are_bytes Bare h = (lit< tt, tt)
+tail_are_bytes (Released r) h = (lit< tt, release_are_bytes r h)
+tail_are_bytes (Sections first more) h = (
+  lit< tt,
+  list_are_bytes parts_text section_bytes (lit< tt, tt) section_are_bytes
+      (first ∷ more) h,
+)
+
+key_are_bytes : (k : Key) → Bytes (key_text k) → Bytes (key_bytes k)
+key_are_bytes k h =
+    let body = parts_are_bytes k.body (left_are_bytes (parts_text k.body) (tail_text k.tail) h) in
+    let tail = tail_are_bytes k.tail (right_are_bytes (parts_text k.body) (tail_text k.tail) h) in
+    append_are_bytes (number_bytes k.epoch) (parts_bytes k.body ++ tail_bytes k.tail)
+    (number_are_bytes k.epoch)
+    (append_are_bytes (parts_bytes k.body) (tail_bytes k.tail) body tail)
+
+pub keys_are_bytes : (k : Key) → AreBytes (key_text k) → AreBytes (key_bytes k)
+keys_are_bytes k h =
+    All-from_recursion (λ b. b < 256) (key_bytes k)
+    (key_are_bytes k (recursion_from_All (λ b. b < 256) (key_text k) h))
+
+-- ---- the texts of a key are pieces of the texts of the version
+
+take_are_bytes : (n : ℕ) (xs : List ℕ) → Bytes xs → Bytes (take n xs)
+take_are_bytes zero xs h = tt
+take_are_bytes (suc n) [] h = tt
+take_are_bytes (suc n) (x ∷ xs) h = (h.0, take_are_bytes n xs h.1)
+
+drop_are_bytes : (n : ℕ) (xs : List ℕ) → Bytes xs → Bytes (drop n xs)
+drop_are_bytes zero xs h = h
+drop_are_bytes (suc n) [] h = tt
+drop_are_bytes (suc n) (x ∷ xs) h = drop_are_bytes n xs h.1
+
+rest_pieces : (text : List ℕ) → Bytes text → Bytes (rest_text (number_front text))
+rest_pieces text h = by (starts_with_digit text)
+  where
+    by : (starts : Bool)
+        → Bytes (rest_text
+        (if starts then Some (
+          digits_value 10 (take_while is_ascii_digit text),
+          drop (prefix_len is_ascii_digit text) text,
+        ) else None))
+    by true = drop_are_bytes (prefix_len is_ascii_digit text) text h
+    by false = tt
+
+split_pieces : (text : List ℕ) → Bytes text → Bytes (split_text (split_of text))
+split_pieces text h =
+    let first = position_or_len is_ascii_digit text in
+    append_are_bytes (take first text) (rest_text (number_front (drop first text)))
+    (take_are_bytes first text h) (rest_pieces (drop first text) (drop_are_bytes first text h))
+
+part_pieces : (text : List ℕ) → Bytes text → Bytes (part_text (part_key text))
+part_pieces text h = by (number_front text) (rest_pieces text h)
+  where
+    suffix : (n : ℕ) (rest : List ℕ) → Bytes rest → Bytes (part_text (Number n (suffix_of rest)))
+    suffix n [] g = tt
+    suffix n (b ∷ rest) g = split_pieces (b ∷ rest) g
+
+    by : (front : Option (ℕ × List ℕ)) → Bytes (rest_text front)
+        → Bytes (part_text
+        (option_map_or (λ f. Number f.0 (suffix_of f.1)) front (Word (split_of text))))
+    by None g = split_pieces text h
+    by (Some f) g = suffix f.0 f.1 g
+
+-- a list of the images of xs
+mapped_pieces : {A B : Type 0} (text : A → List ℕ) (f : A → B) (held : B → List ℕ)
+    → ((a : A) → Bytes (text a) → Bytes (held (f a)))
+    → (xs : List A) → Bytes (flat_map text xs) → Bytes (flat_map held (map f xs))
+mapped_pieces text f held each [] h = tt
+mapped_pieces text f held each (x ∷ xs) h = append_are_bytes (held (f x)) (flat_map held (map f xs))
+    (each x (left_are_bytes (text x) (flat_map text xs) h))
+    (mapped_pieces text f held each xs (right_are_bytes (text x) (flat_map text xs) h))
+
+parts_pieces : {A : Type 0} (text : A → List ℕ) (xs : List A) → Bytes (flat_map text xs)
+    → Bytes (parts_text (map (λ x. part_key (text x)) xs))
+parts_pieces text =
+    mapped_pieces text (λ x. part_key (text x)) part_text (λ x. part_pieces (text x))
+
+one_more : (ps : List PartKey) (q : PartKey) → Bytes (parts_text ps) → Bytes (part_text q)
+    → Bytes (parts_text (ps ++ q ∷ []))
+one_more [] q g h = append_are_bytes (part_text q) [] h tt
+one_more (p ∷ ps) q g h =
+    append_are_bytes (part_text p) (parts_text (ps ++ q ∷ []))
+    (left_are_bytes (part_text p) (parts_text ps) g)
+    (one_more ps q (right_are_bytes (part_text p) (parts_text ps) g) h)
+
+pre_release_pieces : (o : Option (List PlainChunk)) → Bytes (option_map_or held_texts o [])
+    → Bytes (tail_text (option_map_or PreReleased o Bare))
+pre_release_pieces None h = tt
+pre_release_pieces (Some r) h = h
+
+release_pieces : (o : Option (List PlainChunk)) → Bytes (option_map_or held_texts o [])
+    → Bytes (tail_text (option_map_or Released o Bare))
+release_pieces None h = tt
+release_pieces (Some r) h = h
+
+-- the printed texts of further sections
+abbrev further_text : List (PlainSep × List PlainMChunk) → List ℕ
+further_text = flat_map (λ section. section_text section.1)
+
+further_pieces : (more : List (PlainSep × List PlainMChunk)) → Bytes (further_text more)
+    → Bytes (tail_text (sections_tail more))
+further_pieces [] h = tt
+further_pieces (section ∷ more) h =
+    mapped_pieces (λ s. section_text s.1) (λ s. section_parts s.1) parts_text
+    (λ s. parts_pieces mchunk_text s.1) (section ∷ more) h
+
+mess_pieces : (epoch : ℕ) (first : List PlainMChunk) (more : List (PlainSep × List PlainMChunk))
+    → Bytes (section_text first ++ further_text more)
+    → Bytes (key_text (key_of_sections epoch first more))
+mess_pieces epoch first more h =
+    append_are_bytes (parts_text (section_parts first)) (tail_text (sections_tail more))
+    (parts_pieces mchunk_text first (left_are_bytes (section_text first) (further_text more) h))
+    (further_pieces more (right_are_bytes (section_text first) (further_text more) h))
+
+epoch_pieces : (epoch : Option ℕ) (first : List PlainMChunk)
+    (more : List (PlainSep × List PlainMChunk)) → Bytes (section_text first ++ further_text more)
+    → Bytes (key_text (key_behind_epoch epoch first more))
+epoch_pieces (Some epoch) first ((Colon, body) ∷ more) h =
+    mess_pieces epoch body more
+    (right_are_bytes (section_text first) (section_text body ++ further_text more) h)
+epoch_pieces epoch first more h = mess_pieces 0 first more h
+
+key_pieces : (v : PlainVersioning) → Bytes (texts_of v) → Bytes (key_text (key_of v))
+key_pieces (Ideal v) h = pre_release_pieces v.pre_rel h
+key_pieces (General v) h =
+    let chunks = flat_map chunk_text v.chunks in
+    let last = last_text v.last in
+    let released = option_map_or held_texts v.release [] in
+    let printed = left_are_bytes (chunks ++ last) released h in
+    append_are_bytes (parts_text (chunk_parts v.chunks ++ part_key last ∷ []))
+    (tail_text (option_map_or Released v.release Bare))
+    (one_more (chunk_parts v.chunks) (part_key last)
+    (parts_pieces chunk_text v.chunks (left_are_bytes chunks last printed))
+    (part_pieces last (right_are_bytes chunks last printed)))
+    (release_pieces v.release (right_are_bytes (chunks ++ last) released h))
+key_pieces (Complex m) h = epoch_pieces (section_epoch m.first) m.first m.more h
+
+pub versions_are_bytes : (v : PlainVersioning) → AreBytes (texts_of v)
+    → AreBytes (key_bytes (key_of v))
+versions_are_bytes v h =
+    All-from_recursion (λ b. b < 256) (key_bytes (key_of v))
+    (key_are_bytes (key_of v) (key_pieces v (recursion_from_All (λ b. b < 256) (texts_of v) h)))

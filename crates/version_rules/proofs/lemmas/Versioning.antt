@@ -1,0 +1,77 @@
+-- Versions of any kind: a text parses as the version of the first kind that fits, and the version
+-- prints the text.
+pub mod Spelled
+use Rattle.std.proofs.Common.{◌≡◌, List, ℕ, Some, None, refl, inl, inr}
+use Rattle.std.specs.Str.{IsAscii}
+use Rattle.version_rules.specs.Reading.{IsPrinted}
+use Rattle.version_rules.proofs.lemmas.Front.Repeated.{cases_Option}
+use Rattle.version_rules.specs.Mess.{mess_of}
+use Rattle.version_rules.specs.SemVer.{PlainSemVer, SpellsSemVer, semver_of}
+use Rattle.version_rules.specs.Version.{PlainVersion, SpellsVersion, version_of}
+use Rattle.version_rules.specs.Versioning.{PlainVersioning, Ideal, General, Complex, SpellsVersioning, versioning_of, versioning_text}
+use Rattle.version_rules.proofs.lemmas.Mess.{mess_of-Some, mess_of-spells, mess_ascii, mess_printed}
+use Rattle.version_rules.proofs.lemmas.SemVer.{semver_ascii, semver_of-Some, semver_of-spells, semver_printed}
+use Rattle.version_rules.proofs.lemmas.Version.{version_ascii, version_of-Some, version_of-spells, version_printed}
+
+-- a text parses as no strict version exactly if it spells none
+no_semver : (text : List ℕ) → ((w : PlainSemVer) → ¬ (SpellsSemVer text w)) → semver_of text ≡ None
+no_semver text none = elim (cases_Option (semver_of text)) [
+  | inl absent ↦ absent
+  | inr one ↦ absurd (none one.0 (semver_of-spells text one.0 one.1))
+]
+
+no_version : (text : List ℕ) → ((w : PlainVersion) → ¬ (SpellsVersion text w))
+    → version_of text ≡ None
+no_version text none = elim (cases_Option (version_of text)) [
+  | inl absent ↦ absent
+  | inr one ↦ absurd (none one.0 (version_of-spells text one.0 one.1))
+]
+
+unspelled_semver : (text : List ℕ) → semver_of text ≡ None → (w : PlainSemVer)
+    → ¬ (SpellsSemVer text w)
+unspelled_semver text none w s = cc (semver_of-Some text w s, none)
+
+unspelled_version : (text : List ℕ) → version_of text ≡ None → (w : PlainVersion)
+    → ¬ (SpellsVersion text w)
+unspelled_version text none w s = cc (version_of-Some text w s, none)
+
+pub versioning_of-Some : (text : List ℕ) (v : PlainVersioning) → SpellsVersioning text v
+    → versioning_of text ≡ Some v
+versioning_of-Some text (Ideal v) s = rw (semver_of-Some text v s) refl
+versioning_of-Some text (General v) s = rw (no_semver text s.1, version_of-Some text v s.0) refl
+versioning_of-Some text (Complex m) s =
+    rw (no_semver text s.2, no_version text s.1, mess_of-Some text m s.0) refl
+
+pub versioning_of-spells : (text : List ℕ) (v : PlainVersioning) → versioning_of text ≡ Some v
+    → SpellsVersioning text v
+versioning_of-spells text v e = elim (cases_Option (semver_of text)) [
+  | inr ideal ↦
+      let same : Ideal ideal.0 ≡ v = cc (rw ideal.1 at e) in
+      rw (← same) (semver_of-spells text ideal.0 ideal.1)
+  | inl no_ideal ↦ elim (cases_Option (version_of text)) [
+    | inr general ↦
+        let same : General general.0 ≡ v = cc (rw (no_ideal, general.1) at e) in
+        rw (← same) (version_of-spells text general.0 general.1, unspelled_semver text no_ideal)
+    | inl no_general ↦ elim (cases_Option (mess_of text)) [
+      | inr complex ↦
+          let same : Complex complex.0 ≡ v = cc (rw (no_ideal, no_general, complex.1) at e) in
+          rw (← same) (
+            mess_of-spells text complex.0 complex.1,
+            unspelled_version text no_general,
+            unspelled_semver text no_ideal,
+          )
+      | inl none ↦ cc (rw (no_ideal, no_general, none) at e)
+    ]
+  ]
+]
+
+pub versioning_printed : IsPrinted SpellsVersioning versioning_text
+versioning_printed text (Ideal v) s = semver_printed text v s
+versioning_printed text (General v) s = version_printed text v s.0
+versioning_printed text (Complex m) s = mess_printed text m s.0
+
+pub versioning_ascii : (text : List ℕ) (v : PlainVersioning) → SpellsVersioning text v
+    → IsAscii text
+versioning_ascii text (Ideal v) s = semver_ascii text v s
+versioning_ascii text (General v) s = version_ascii text v s.0
+versioning_ascii text (Complex m) s = mess_ascii text m s.0

@@ -1,0 +1,40 @@
+-- The worked ranges, by computation.
+use Rattle.std.proofs.Common.{refl}
+use Rattle.std.specs.Fmt.{digits}
+use Rattle.version_rules.specs.Body.{body_front}
+use Rattle.version_rules.specs.Chunk.{chunk_front_of}
+use Rattle.version_rules.specs.Front.{dotted_front, optional, repeated, run_front}
+use Rattle.version_rules.specs.Last.{numbered_last}
+use Rattle.version_rules.specs.MChunk.{mchunk_front, variant_of}
+use Rattle.version_rules.specs.Numeral.{unsigned_front}
+use Rattle.version_rules.specs.Mess.{further_front, mess_front, mess_of}
+use Rattle.version_rules.specs.Op.{op_front}
+use Rattle.version_rules.specs.SemVer.{semver_front, semver_of}
+use Rattle.version_rules.specs.Version.{epoch_front, version_front, version_of}
+use Rattle.version_rules.specs.WorkedRanges.{WorkedRanges}
+
+pub worked_ranges : WorkedRanges
+unfolding digits body_front chunk_front_of dotted_front optional repeated run_front numbered_last
+    mchunk_front variant_of unsigned_front further_front mess_front mess_of op_front semver_front
+    semver_of epoch_front version_front version_of
+worked_ranges = record {
+  between = refl;
+  above = refl;
+  up_to = refl;
+  same_strict = refl;
+  same_general = refl;
+  every = refl;
+  caret_strict = refl;
+  caret_minor = refl;
+  caret_patch = refl;
+  tilde_strict = refl;
+  tilde_general = refl;
+  tilde_number = refl;
+  caret_general = refl;
+  caret_zeros = refl;
+  caret_epoch = refl;
+  tilde_suffix = refl;
+  caret_below = refl;
+  empty = refl;
+  tilde_messy = refl;
+}

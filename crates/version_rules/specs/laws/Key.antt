@@ -1,0 +1,72 @@
+-- Precedence is total; so are the orders of tails and of sections.
+use Rattle.std.proofs.Common.{◌≡◌, List, ◌∷◌, Option, Some, None, refl, subst}
+use Rattle.std.specs.Cmp.{IsTotalOrder, nat_cmp_total, on_total, then_total}
+use Rattle.std.specs.Cmp.Lexicographic.{lists_total, options_total}
+use Rattle.std.specs.Option.{option_cmp}
+use Rattle.std.specs.Ordering.{nat_cmp, on, then_cmp}
+use Rattle.version_rules.specs.Chunk.{PlainChunk}
+use Rattle.version_rules.specs.laws.Order.{then_equal}
+use Rattle.version_rules.specs.PartKey.{PartKey}
+use Rattle.version_rules.specs.laws.Part.{list_total}
+use Rattle.version_rules.specs.laws.Release.{release_total}
+use Rattle.version_rules.specs.ReleaseOrder.{release_cmp}
+use Rattle.version_rules.specs.Key.{Key, precedence}
+use Rattle.version_rules.specs.Tail.{Tail, PreReleased, Bare, Released, Sections, sections_cmp, tail_cmp, tail_rank}
+
+pub sections_total : IsTotalOrder sections_cmp
+sections_total = lists_total list_total
+
+-- the pre-release, the release and the sections of a tail, each if the tail has it
+pre_release : Tail → Option (List PlainChunk)
+pre_release (PreReleased chunks) = Some chunks
+pre_release Bare = None
+pre_release (Released chunks) = None
+pre_release (Sections first more) = None
+
+release : Tail → Option (List PlainChunk)
+release (PreReleased chunks) = None
+release Bare = None
+release (Released chunks) = Some chunks
+release (Sections first more) = None
+
+sections : Tail → Option (List (List PartKey))
+sections (PreReleased chunks) = None
+sections Bare = None
+sections (Released chunks) = None
+sections (Sections first more) = Some (first ∷ more)
+
+in_turn : (a b : Tail)
+    → then_cmp (on tail_rank nat_cmp)
+    (then_cmp (on pre_release (option_cmp release_cmp))
+    (then_cmp (on release (option_cmp release_cmp)) (on sections (option_cmp sections_cmp)))) a
+    b ≡ tail_cmp a b
+unfolding pre_release release sections
+in_turn (PreReleased a) (PreReleased b) = then_equal (release_cmp a b)
+in_turn (Released a) (Released b) = then_equal (release_cmp a b)
+in_turn (PreReleased a) Bare = refl
+in_turn (PreReleased a) (Released b) = refl
+in_turn (PreReleased a) (Sections second further) = refl
+in_turn Bare (PreReleased b) = refl
+in_turn Bare Bare = refl
+in_turn Bare (Released b) = refl
+in_turn Bare (Sections second further) = refl
+in_turn (Released a) (PreReleased b) = refl
+in_turn (Released a) Bare = refl
+in_turn (Released a) (Sections second further) = refl
+in_turn (Sections first more) (PreReleased b) = refl
+in_turn (Sections first more) Bare = refl
+in_turn (Sections first more) (Released b) = refl
+in_turn (Sections first more) (Sections second further) = refl
+
+pub tail_total : IsTotalOrder tail_cmp
+tail_total = subst IsTotalOrder (λ i a b. in_turn a b i)
+    (then_total (on_total tail_rank nat_cmp_total)
+    (then_total (on_total pre_release (options_total release_total))
+    (then_total (on_total release (options_total release_total))
+    (on_total sections (options_total sections_total)))))
+
+pub precedence_total : IsTotalOrder precedence
+precedence_total =
+    then_total (on_total (λ (k : Key). k.epoch) nat_cmp_total)
+    (then_total (on_total (λ (k : Key). k.body) list_total)
+    (on_total (λ (k : Key). k.tail) tail_total))

@@ -1,5 +1,0 @@
-//! Laws of the definitions that contracts cite. Each is the contract of a function that does nothing.
-
-mod grammar;
-mod matching;
-mod order;
