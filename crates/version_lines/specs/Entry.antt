@@ -5,7 +5,8 @@ use Rattle.std.specs.Ordering.{nat_cmp, on, then_cmp}
 use Rattle.std.specs.declared.cmp.Ordering.{Ordering}
 use Rattle.version_lines.specs.Head.{behind_heads_cmp, head_number}
 use Rattle.version_lines.specs.Sort.{is_bad}
-use Rattle.version_lines.specs.LineKey.{line_key, line_tie_cmp}
+use Rattle.version_rules.specs.KeyTies.{key_tie_cmp}
+use Rattle.version_lines.specs.LineKey.{line_key}
 use Rattle.version_lines.specs.declared.sort.entry.Entry.{Entry}
 use Rattle.version_rules.specs.SemVer.{semver_of}
 
@@ -50,4 +51,4 @@ AreInTurn = AllPairs (λ (a b : Entry). a.start < b.start)
 
 -- by what breaks ties of keys
 abbrev pub tie_cmp : Entry → Entry → Ordering
-tie_cmp = on entry_line line_tie_cmp
+tie_cmp = on entry_line key_tie_cmp

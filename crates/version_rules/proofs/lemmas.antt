@@ -8,6 +8,7 @@ pub mod Ends
 pub mod Front
 pub mod Grammar
 pub mod KeyLaws
+pub mod KeyTies
 pub mod Last
 pub mod Lists
 pub mod MChunk

@@ -9,6 +9,7 @@ pub mod Front
 pub mod Grammar
 pub mod Key
 pub mod KeyBytes
+pub mod KeyTies
 pub mod Kind
 pub mod Last
 pub mod LastOrder

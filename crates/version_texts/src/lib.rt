@@ -8,6 +8,7 @@ mod bounds;
 mod class;
 mod field;
 mod key;
+mod key_ties;
 mod laws;
 mod matching;
 mod numbers;
@@ -24,6 +25,7 @@ mod versioning_ref;
 
 pub use bounds::{Held, rooms_for, write_range};
 pub use field::Field;
+pub use key_ties::compare_key_ties;
 pub use requirement_ref::RequirementRef;
 pub use requirements_ref::{RequirementsRef, list_matches, wrong_member};
 pub use sink::Sink;

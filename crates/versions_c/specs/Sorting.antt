@@ -1,15 +1,16 @@
 -- The places of texts, sorted by the texts' versions.
-use Rattle.std.specs.Prelude.{◌≡◌, ◌==◌, ℕ, ◌+◌, ◌-◌, ◌<◌, List, length, slice_index, Option, None, Some, if◌then◌else◌}
+use Rattle.std.specs.Prelude.{◌≡◌, ◌==◌, ℕ, ◌+◌, ◌-◌, ◌<◌, List, length, slice_index, Option, None, if◌then◌else◌}
 use Rattle.std.specs.Cmp.Lexicographic.{slice_cmp}
 use Rattle.std.specs.List.{range_with_len}
 use Rattle.std.specs.List.Sorted.{IsPermutation}
-use Rattle.std.specs.Option.{option_and_then, option_cmp}
+use Rattle.std.specs.Option.{option_cmp}
 use Rattle.std.specs.Ordering.{bool_cmp, nat_cmp, on, then_cmp}
 use Rattle.std.specs.declared.cmp.Ordering.{Ordering}
 use Rattle.std.specs.declared.cmp.Ordering.TheVariants.{Less}
+use Rattle.version_rules.specs.KeyTies.{tie_breaker}
 use Rattle.version_rules.specs.Lists.{none_last_cmp}
 use Rattle.version_rules.specs.Orders.{versioning_cmp}
-use Rattle.version_rules.specs.Versioning.{PlainVersioning, is_ideal, versioning_of}
+use Rattle.version_rules.specs.Versioning.{PlainVersioning, versioning_of}
 use Rattle.versions_c.specs.Offsets.{AreOffsets, text_at}
 
 -- two places: by the versions of their texts, a text that is not a version last, and ties as
@@ -35,22 +36,14 @@ pub record AreSortOffsets (offsets : List ℕ) (buffer key_offsets places : ℕ)
 abbrev pub keys_cmp : List ℕ → List ℕ → Ordering
 keys_cmp = then_cmp (on (λ (key : List ℕ). length key == 0) bool_cmp) (slice_cmp nat_cmp)
 
--- a version, unless it is strict: strict versions compare by their keys alone
-abbrev pub unless_strict : PlainVersioning → Option PlainVersioning
-unless_strict version = if is_ideal version then None else Some version
-
--- what breaks the tie of a text's key with another: the text's version, unless it is strict
-abbrev pub text_tie_breaker : List ℕ → Option PlainVersioning
-text_tie_breaker text = option_and_then unless_strict (versioning_of text)
-
--- the same, and nothing if the key is empty
-abbrev pub tie_breaker : List ℕ → List ℕ → Option PlainVersioning
-tie_breaker text key = if length key == 0 then None else text_tie_breaker text
+-- what breaks the tie of a text's key, and nothing if the key is empty
+abbrev pub keyed_breaker : List ℕ → List ℕ → Option PlainVersioning
+keyed_breaker text key = if length key == 0 then None else tie_breaker text
 
 -- two places whose keys tie: by what breaks the tie, and then as numbers
 abbrev pub tied_cmp : List ℕ → List ℕ → List ℕ → List ℕ → ℕ → ℕ → Ordering
 tied_cmp texts offsets keys key_offsets =
-    then_cmp (on (λ i. tie_breaker (text_at texts offsets i) (text_at keys key_offsets i))
+    then_cmp (on (λ i. keyed_breaker (text_at texts offsets i) (text_at keys key_offsets i))
     (option_cmp versioning_cmp)) nat_cmp
 
 -- two places by the keys that lie there, and if those tie as places whose keys tie

@@ -3,20 +3,16 @@
 ghost use Rattle.std.specs.Prelude.{◌≡◌, ◌≢◌, ℕ, ◌<◌, ◌++◌, drop, length, slice_index};
 ghost use Rattle.std.specs.List.{range_with_len};
 ghost use Rattle.std.specs.List.Sorted.{IsPermutation, IsSorted};
-ghost use Rattle.std.specs.Option.{option_cmp, option_map};
 ghost use Rattle.std.specs.declared.cmp.Ordering.TheVariants.{Equal};
-ghost use Rattle.version_texts.specs.VersioningRef.{plain_versioning_ref};
-ghost use Rattle.version_rules.specs.Orders.{versioning_cmp};
 ghost use Rattle.versions_c.specs.Keys.{all_keys, keys_before, room_status, saturated_signed};
 ghost use Rattle.versions_c.specs.Offsets.{text_at};
-ghost use Rattle.versions_c.specs.Sorting.{keyed_cmp, keys_cmp, text_tie_breaker, tied_cmp, AreInOrder, AreSortOffsets};
+ghost use Rattle.versions_c.specs.Sorting.{keyed_cmp, keys_cmp, tied_cmp, AreInOrder, AreSortOffsets};
 
 use crate::keys::put_keys;
 use crate::offsets::are_offsets;
 use crate::status::{BAD_OFFSETS, NO_ROOM, OK};
 use std::cmp::Ordering;
-use version_rules::Kind;
-use version_texts::VersioningRef;
+use version_texts::compare_key_ties;
 
 /// Writes the places of all texts, sorted by their versions.
 #[unsafe(no_mangle)]
@@ -132,7 +128,7 @@ fn compare_tied_places(texts: &Pieces<'_>, keys: &Pieces<'_>, a: u64, b: u64) ->
     if keys.at(a).is_empty() {
         return a.cmp(&b);
     }
-    match compare_texts(texts.at(a), texts.at(b)) {
+    match compare_key_ties(texts.at(a), texts.at(b)) {
         Ordering::Equal => a.cmp(&b),
         order => order,
     }
@@ -146,32 +142,4 @@ fn compare_empty_last(a: &[u8], b: &[u8]) -> Ordering
         return a.is_empty().cmp(&b.is_empty());
     }
     a.cmp(b)
-}
-
-// Compares two texts whose keys tie.
-fn compare_texts(a: &[u8], b: &[u8]) -> Ordering
-    ensures { result ≡ option_cmp versioning_cmp
-        (text_tie_breaker a.now) (text_tie_breaker b.now) }
-{
-    if a == b {
-        return Ordering::Equal;
-    }
-    match (tie_breaker(a), tie_breaker(b)) {
-        (Some(a), Some(b)) => a.cmp(&b),
-        (Some(_), None) => Ordering::Greater,
-        (None, Some(_)) => Ordering::Less,
-        (None, None) => Ordering::Equal,
-    }
-}
-
-// Returns the version of a text, unless it is strict: only other versions can break the tie of two keys.
-#[inline(always)]
-fn tie_breaker(text: &[u8]) -> Option<VersioningRef<'_>>
-    ensures { option_map plain_versioning_ref result ≡ text_tie_breaker text.now }
-{
-    let version = VersioningRef::from_bytes(text)?;
-    match version.kind() {
-        Kind::Ideal => None,
-        _ => Some(version),
-    }
 }

@@ -8,8 +8,6 @@ use Rattle.std.specs.List.{All, prefix_len}
 use Rattle.std.specs.List.Sorted.{IsSorted}
 use Rattle.std.specs.Option.{option_and_then, option_cmp, option_map_or}
 use Rattle.std.specs.Ordering.{is_lt, nat_cmp, ordering_then, then_cmp}
-use Rattle.std.specs.declared.cmp.Ordering.{Ordering}
-use Rattle.std.specs.declared.cmp.Ordering.TheVariants.{Less, Equal, Greater}
 use Rattle.std.proofs.Math.Seq.{drop-cons}
 use Rattle.std.proofs.lemmas.Bool.{le-ltb, lt-ltb}
 use Rattle.std.proofs.lemmas.Cmp.{nat_list_cmp_total, on_total, then_total}
@@ -22,15 +20,16 @@ use Rattle.version_lines.specs.Entry.{entry_cmp, entry_key, entry_line, tie_cmp,
 use Rattle.version_lines.specs.Lines.{lines_of, lines_output, whole_line}
 use Rattle.version_lines.specs.Sort.{bad_line, is_bad, line_cmp, sort_output}
 use Rattle.version_lines.specs.Sorting.{in_order, TiesRise}
-use Rattle.version_lines.specs.LineKey.{line_key, line_tie_breaker, line_tie_cmp, unless_strict}
+use Rattle.version_rules.specs.KeyTies.{key_tie_cmp, tie_breaker, unless_strict}
+use Rattle.version_rules.proofs.lemmas.KeyTies.{ties_alike}
+use Rattle.version_lines.specs.LineKey.{line_key}
 use Rattle.version_lines.specs.declared.sort.entry.Entry.{Entry}
 use Rattle.version_rules.proofs.lemmas.OrdersLaws.{key_bytes_alone}
-use Rattle.version_rules.proofs.lemmas.SemVerOrder.{precedence_of_semvers}
-use Rattle.version_rules.specs.Key.{key_of, key_of_semver, precedence}
+use Rattle.version_rules.specs.Key.{key_of}
 use Rattle.version_rules.specs.KeyBytes.{key_bytes}
 use Rattle.version_rules.specs.Orders.{versioning_cmp}
 use Rattle.version_rules.specs.laws.Orders.{versioning_cmp_total}
-use Rattle.version_rules.specs.Versioning.{Complex, General, Ideal, PlainVersioning, versioning_of, versioning_plain_cmp}
+use Rattle.version_rules.specs.Versioning.{PlainVersioning, versioning_of}
 use Rattle.version_lines.proofs.lemmas.Head.{heads_first}
 use Rattle.version_lines.proofs.lemmas.LineKey.{line_key-some}
 use Rattle.version_lines.proofs.lemmas.Sorting.Places.{ties_rise-in_order}
@@ -87,41 +86,6 @@ lines_of-entries lines entries after entry rest more line so_far next same added
     so_far ∙ ap (λ l. map entry_line entries ++ l) next
     ∙ sym (append_assoc (map entry_line entries) (line ∷ []) more)
     ∙ ap (λ l. l ++ more) (sym both)
-
--- an order followed by itself is the same order
-then_twice : (first : Ordering) → ordering_then first Equal ≡ ordering_then first first
-then_twice Less = refl
-then_twice Equal = refl
-then_twice Greater = refl
-
-then_again : (first behind : Ordering)
-    → ordering_then first (ordering_then first behind) ≡ ordering_then first behind
-then_again Less behind = refl
-then_again Equal behind = refl
-then_again Greater behind = refl
-
--- if keys tie, two versions compare as versions, unless both are strict
-ties_alike : (a b : PlainVersioning)
-    → ordering_then (precedence (key_of a) (key_of b))
-    (option_cmp versioning_cmp (unless_strict a) (unless_strict b)) ≡ versioning_cmp a b
-ties_alike (Ideal a) (Ideal b) =
-    then_twice (precedence (key_of_semver a) (key_of_semver b))
-    ∙ ap (ordering_then (precedence (key_of_semver a) (key_of_semver b)))
-    (precedence_of_semvers a b)
-ties_alike (Ideal a) (General b) = refl
-ties_alike (Ideal a) (Complex b) = refl
-ties_alike (General a) (Ideal b) = refl
-ties_alike (General a) (General b) =
-    then_again (precedence (key_of (General a)) (key_of (General b)))
-    (versioning_plain_cmp (General a) (General b))
-ties_alike (General a) (Complex b) =
-    then_again (precedence (key_of (General a)) (key_of (Complex b))) Less
-ties_alike (Complex a) (Ideal b) = refl
-ties_alike (Complex a) (General b) =
-    then_again (precedence (key_of (Complex a)) (key_of (General b))) Greater
-ties_alike (Complex a) (Complex b) =
-    then_again (precedence (key_of (Complex a)) (key_of (Complex b)))
-    (versioning_plain_cmp (Complex a) (Complex b))
 
 -- two texts that are versions compare by their keys, and then by what breaks the tie
 versions_alike : (v w : Option PlainVersioning) → not (is_some v) ≡ false → not (is_some w) ≡ false
@@ -183,7 +147,7 @@ line_ranks = ranks_by line_total (λ (line : List ℕ). line)
 
 -- two lines that are versions, in the same way
 pub lines_alike : (a b : List ℕ) → is_bad a ≡ false → is_bad b ≡ false
-    → ordering_then (slice_cmp nat_cmp (line_key a) (line_key b)) (line_tie_cmp a b) ≡ line_cmp a b
+    → ordering_then (slice_cmp nat_cmp (line_key a) (line_key b)) (key_tie_cmp a b) ≡ line_cmp a b
 unfolding line_key
 lines_alike a b a_good b_good = versions_alike (versioning_of a) (versioning_of b) a_good b_good
 
@@ -203,7 +167,7 @@ pub entry_ranks : (keys : List ℕ) → IsStrictWeakOrder (λ a b. is_lt (entry_
 entry_ranks keys = ranks_by (entry_total keys) (λ (entry : Entry). entry)
 
 pub tie_total : IsTotalOrder tie_cmp
-tie_total = on_total (λ (entry : Entry). line_tie_breaker (entry_line entry))
+tie_total = on_total (λ (entry : Entry). tie_breaker (entry_line entry))
     (options_total versioning_cmp_total)
 
 -- together they are the order of lines

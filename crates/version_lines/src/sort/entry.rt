@@ -7,11 +7,12 @@ ghost use Rattle.version_lines.specs.LineKey.{line_key};
 ghost use Rattle.version_rules.specs.Kind.{versioning_kind};
 ghost use Rattle.version_rules.specs.Versioning.{versioning_of};
 
-use crate::line_key::{add_key, compare_ties};
+use crate::line_key::add_key;
 use crate::sort::head::head;
 use std::alloc::AllocError;
 use std::cmp::Ordering;
 use version_rules::Kind;
+use version_texts::compare_key_ties;
 
 /// A line that is a version, the place of its key in the one list of all keys, and the key's first bytes, by which most
 /// lines differ.
@@ -77,7 +78,7 @@ impl<'a> Entry<'a> {
     pub fn compare_ties_in_turn(&self, other: &Entry<'_>) -> Ordering
         ensures { result ≡ then_cmp tie_cmp turn_cmp self.now other.now }
     {
-        compare_ties(self.line, other.line).then(self.start.cmp(&other.start))
+        compare_key_ties(self.line, other.line).then(self.start.cmp(&other.start))
     }
 
     // Compares by the second eight bytes of the keys, then by the rest.

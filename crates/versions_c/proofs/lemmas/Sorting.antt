@@ -12,7 +12,7 @@ use Rattle.std.proofs.lemmas.List.FromFn.{fill_by_all, get_or-range_with_len, le
 use Rattle.std.proofs.lemmas.List.Sorted.{All-permutation, ranks_by}
 use Rattle.std.proofs.lemmas.Map.Keys.{apart_from_distinct, IsDistinct-from_apart, IsDistinct-IsPermutation}
 use Rattle.std.specs.Char.{digit_char}
-use Rattle.std.specs.Cmp.{IsStrictWeakOrder, IsTotalOrder, bool_cmp_total, nat_cmp_total, nat_eq_equiv, tied_itself}
+use Rattle.std.specs.Cmp.{IsStrictWeakOrder, IsTotalOrder, bool_cmp_total, nat_cmp_total, nat_eq_equiv}
 use Rattle.std.specs.Cmp.Lexicographic.{options_total}
 use Rattle.std.specs.FinMap.{IsAntisymmetric, nat_cmp-IsAntisymmetric}
 use Rattle.std.specs.Int.Digits.{digits_of}
@@ -27,27 +27,22 @@ use Rattle.version_rules.specs.Lists.{none_last_cmp}
 use Rattle.version_rules.specs.NumberBytes.{length_bytes, number_bytes}
 use Rattle.version_rules.specs.PartKey.{parts_bytes}
 use Rattle.version_rules.proofs.lemmas.OrdersLaws.{key_bytes_alone}
-use Rattle.version_rules.proofs.lemmas.SemVerOrder.{precedence_of_semvers}
-use Rattle.version_rules.specs.Key.{Key, key_of, key_of_semver, precedence}
+use Rattle.version_rules.specs.Key.{Key, key_of, precedence}
 use Rattle.version_rules.specs.KeyBytes.{key_bytes}
 use Rattle.version_rules.specs.Orders.{versioning_cmp}
 use Rattle.version_rules.specs.laws.Orders.{versioning_cmp_total}
 use Rattle.version_rules.specs.Tail.{tail_bytes}
-use Rattle.version_rules.specs.Versioning.{PlainVersioning, Ideal, General, Complex, versioning_of, versioning_plain_cmp}
+use Rattle.version_rules.specs.Versioning.{PlainVersioning, versioning_of}
 use Rattle.versions_c.specs.Keys.{keys_before, saturated_signed}
 use Rattle.versions_c.specs.Offsets.{text_at}
-use Rattle.versions_c.specs.Sorting.{AreInOrder, keyed_cmp, keys_cmp, place_cmp, text_tie_breaker, tie_breaker, unless_strict}
+use Rattle.version_rules.specs.KeyTies.{unless_strict}
+use Rattle.version_rules.proofs.lemmas.KeyTies.{ties_alike}
+use Rattle.versions_c.specs.Sorting.{AreInOrder, keyed_cmp, keys_cmp, place_cmp, keyed_breaker}
 
 -- numbers that are each its own place
 pub counted : (xs : List ℕ) (n : ℕ) → length xs ≡ n → ((i : ℕ) → i < n → get_or xs i 0 ≡ i)
     → xs ≡ range_with_len 0 n
 counted xs n long each = fill_by_all (λ i. i) xs n 0 long each ∙ map-id (range_with_len 0 n)
-
--- a text ties with itself
-pub same_text_ties : (a b : List ℕ) → a ≡ b
-    → Equal ≡ option_cmp versioning_cmp (text_tie_breaker a) (text_tie_breaker b)
-same_text_ties a b same =
-    rw same (sym (tied_itself (options_total versioning_cmp_total) (text_tie_breaker b)))
 
 -- the order by keys is total
 keys_total : IsTotalOrder keys_cmp
@@ -58,7 +53,7 @@ pub keyed_total : (texts offsets keys key_offsets : List ℕ)
     → IsTotalOrder (keyed_cmp texts offsets keys key_offsets)
 keyed_total texts offsets keys key_offsets =
     then_total (on_total (text_at keys key_offsets) keys_total)
-    (then_total (on_total (λ i. tie_breaker (text_at texts offsets i) (text_at keys key_offsets i))
+    (then_total (on_total (λ i. keyed_breaker (text_at texts offsets i) (text_at keys key_offsets i))
     (options_total versioning_cmp_total)) nat_cmp_total)
 
 -- a place ties only with itself
@@ -66,7 +61,7 @@ keyed_same : (texts offsets keys key_offsets : List ℕ)
     → IsAntisymmetric (keyed_cmp texts offsets keys key_offsets)
 keyed_same texts offsets keys key_offsets =
     then_same (on (text_at keys key_offsets) keys_cmp)
-    (then_same (on (λ i. tie_breaker (text_at texts offsets i) (text_at keys key_offsets i))
+    (then_same (on (λ i. keyed_breaker (text_at texts offsets i) (text_at keys key_offsets i))
     (option_cmp versioning_cmp)) nat_cmp-IsAntisymmetric)
 
 pub keyed_ranks : (texts offsets keys key_offsets : List ℕ)
@@ -162,40 +157,6 @@ no_key_empty k =
 abbrev breaker : Option PlainVersioning → Option PlainVersioning
 breaker spelled =
     if length (key_or_nothing spelled) == 0 then None else option_and_then unless_strict spelled
-
--- an order followed by itself is the same order
-then_twice : (first : Ordering) → ordering_then first Equal ≡ ordering_then first first
-then_twice Less = refl
-then_twice Equal = refl
-then_twice Greater = refl
-
-then_again : (first behind : Ordering)
-    → ordering_then first (ordering_then first behind) ≡ ordering_then first behind
-then_again Less behind = refl
-then_again Equal behind = refl
-then_again Greater behind = refl
-
--- if keys tie, two versions compare as versions, unless both are strict
-ties_alike : (a b : PlainVersioning)
-    → ordering_then (precedence (key_of a) (key_of b))
-    (option_cmp versioning_cmp (unless_strict a) (unless_strict b)) ≡ versioning_cmp a b
-ties_alike (Ideal a) (Ideal b) =
-    let keys = precedence (key_of_semver a) (key_of_semver b) in
-    then_twice keys ∙ ap (ordering_then keys) (precedence_of_semvers a b)
-ties_alike (Ideal a) (General b) = refl
-ties_alike (Ideal a) (Complex b) = refl
-ties_alike (General a) (Ideal b) = refl
-ties_alike (General a) (General b) =
-    then_again (precedence (key_of (General a)) (key_of (General b)))
-    (versioning_plain_cmp (General a) (General b))
-ties_alike (General a) (Complex b) =
-    then_again (precedence (key_of (General a)) (key_of (Complex b))) Less
-ties_alike (Complex a) (Ideal b) = refl
-ties_alike (Complex a) (General b) =
-    then_again (precedence (key_of (Complex a)) (key_of (General b))) Greater
-ties_alike (Complex a) (Complex b) =
-    then_again (precedence (key_of (Complex a)) (key_of (Complex b)))
-    (versioning_plain_cmp (Complex a) (Complex b))
 
 alike : (v w : Option PlainVersioning) (o : Ordering)
     → ordering_then (keys_cmp (key_or_nothing v) (key_or_nothing w))

@@ -10,7 +10,7 @@ use Rattle.std.proofs.lemmas.List.{map-id, take_all}
 use Rattle.version_rules.specs.laws.Order.{then_equal}
 use Rattle.version_lines.specs.Entry.{entry_cmp, entry_line, tie_cmp, IsStrict}
 use Rattle.version_lines.specs.Sorting.{in_order}
-use Rattle.version_lines.specs.LineKey.{line_tie_breaker, unless_strict}
+use Rattle.version_rules.specs.KeyTies.{tie_breaker, unless_strict}
 use Rattle.version_lines.specs.declared.sort.entry.Entry.{Entry}
 use Rattle.version_rules.specs.Kind.{versioning_kind}
 use Rattle.version_rules.specs.declared.kind.Kind.{Kind}
@@ -28,12 +28,12 @@ use Rattle.version_rules.specs.declared.kind.Kind.TheVariants as kind
 
 -- the tie breaker of a line
 abbrev HasBreaker : Option PlainVersioning → Entry → Type 0
-HasBreaker breaker entry = line_tie_breaker (entry_line entry) ≡ breaker
+HasBreaker breaker entry = tie_breaker (entry_line entry) ≡ breaker
 
 level : (breaker : Option PlainVersioning) (a b : Entry) → HasBreaker breaker a
     → HasBreaker breaker b → below tie_cmp b a ≡ false
 level breaker a b a_same b_same =
-    ap is_lt (ap (λ v. option_cmp versioning_cmp v (line_tie_breaker (entry_line a)))
+    ap is_lt (ap (λ v. option_cmp versioning_cmp v (tie_breaker (entry_line a)))
     (b_same ∙ sym a_same) ∙ tied_itself tie_total a)
 
 level_rest : (breaker : Option PlainVersioning) (a : Entry) (run : List Entry)
@@ -58,9 +58,9 @@ pub in_order-one_line : (line : List ℕ) (run : List Entry)
     → All (λ entry. entry_line entry ≡ line) run → in_order tie_cmp run ≡ run
 in_order-one_line line run all =
     in_order-risen tie_cmp run
-    (rises-level (line_tie_breaker line) run
-    (All-weaker (λ entry. entry_line entry ≡ line) (HasBreaker (line_tie_breaker line))
-    (λ entry same. ap line_tie_breaker same) run all))
+    (rises-level (tie_breaker line) run
+    (All-weaker (λ entry. entry_line entry ≡ line) (HasBreaker (tie_breaker line))
+    (λ entry same. ap tie_breaker same) run all))
 
 -- strict versions
 

@@ -1,7 +1,7 @@
 use Rattle.std.proofs.Common.{◌∙◌, sym}
 use Rattle.std.specs.Cmp.Lexicographic.{same_text}
-use Rattle.versions_c.proofs.lemmas.Sorting.{same_text_ties}
-use Rattle.versions_c.proofs.sorting.compare_texts.Goals as goal
+use Rattle.version_rules.proofs.lemmas.KeyTies.{same_text_ties}
+use Rattle.version_texts.proofs.key_ties.compare_key_ties.Goals as goal
 
 pub returns-then-eq : goal.returns-then-eq
 returns-then-eq c =
