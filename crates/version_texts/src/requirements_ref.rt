@@ -17,19 +17,22 @@ use crate::versioning_ref::VersioningRef;
 use std::marker::Model;
 use version_rules::Op;
 
-/// A list of requirements borrowed from its text: a `Requirements` that owns nothing. The first
-/// two members are parsed once, and each further member again for each version.
+/// A list of requirements borrowed from its text: a `Requirements` that owns nothing. The first two members are parsed
+/// once, and each further member again for each version.
 #[derive(Drop)]
 pub struct RequirementsRef<'a> {
     first: RequirementRef<'a>,
     second: Option<RequirementRef<'a>>,
     // The text of the further members, after the second comma.
     others: Option<&'a [u8]>,
+    // What each version that the first member matches begins with.
+    front: &'a [u8],
 }
 
 impl<'a> Model for RequirementsRef<'a> {
     ghost use Rattle.std.specs.Prelude.{List};
-    ghost use Rattle.version_texts.specs.RequirementsRef.{scanned_requirements};
+    ghost use Rattle.version_texts.specs.RequirementRef.{plain_requirement_ref};
+    ghost use Rattle.version_texts.specs.RequirementsRef.{scanned_requirements, IsFront};
     ghost use Rattle.version_rules.specs.Requirement.{PlainRequirement};
     ghost use Rattle.version_rules.specs.RequirementsRef.{AreMembers};
 
@@ -37,7 +40,8 @@ impl<'a> Model for RequirementsRef<'a> {
 
     ghost view = { λ list. scanned_requirements list.first list.second list.others };
 
-    ghost invariant = { λ list. AreMembers list.others };
+    ghost invariant = { λ list. AreMembers list.others
+        × IsFront (plain_requirement_ref list.first) list.front.now };
 }
 
 impl<'a> RequirementsRef<'a> {
@@ -56,11 +60,13 @@ impl<'a> RequirementsRef<'a> {
     {
         let (first, others) = split_first(bytes);
         let first = RequirementRef::from_bytes(first)?;
+        let front = front_of(&first);
         let Some(others) = others else {
             return Some(RequirementsRef {
                 first,
                 second: None,
                 others: None,
+                front,
             });
         };
         let (second, others) = split_first(others);
@@ -72,6 +78,7 @@ impl<'a> RequirementsRef<'a> {
             first,
             second: Some(second),
             others,
+            front,
         })
     }
 
@@ -88,7 +95,7 @@ impl<'a> RequirementsRef<'a> {
         ensures { IsTrue result ↔ Keeps self.now (versioning_of text.now) }
     {
         // The first bytes decide most texts without a scan.
-        if !text.starts_with(front_of(&self.first)) {
+        if !text.starts_with(self.front) {
             return false;
         }
         match VersioningRef::from_bytes(text) {

@@ -36,11 +36,7 @@ pub fn make_all(table: &mut Table<'_>) -> io::Result<()> {
     for text in [IDEAL, GENERAL, COMPLEX] {
         table.reads("Versioning::of", text, own)?;
     }
-    table.reads(
-        "Versioning::of, without memory",
-        "4294967295.0.0",
-        own,
-    )?;
+    table.reads("Versioning::of, without memory", "4294967295.0.0", own)?;
     for text in ["1.2.3", LONG, "1:2:3"] {
         table.borrows(
             "Versioning::sort_key",

@@ -9,7 +9,7 @@ returns-then-not-starts_with c =
     let list = c.self.inside in
     let refused =
     not_kept (plain_requirement_ref list.first)
-    (from_second list.second list.others) c.front_of.result.now
-    c.args.text.now c.front_of.ensures
+    (from_second list.second list.others) list.front.now
+    c.args.text.now c.self.invariant.1
     (sym c.starts_with.ensures.value ∙ c.if-not-starts_with.true) in
     rw (← c.self.view_is) (λ yes. cc yes, λ kept. absurd (refused kept))
