@@ -2,13 +2,15 @@
  * versions.c: functions on versions and a collation, as a loadable extension of SQLite. sqlite/build builds it.
  *
  *   version_key(text)                    the sort key, a BLOB that sorts by precedence
+ *   is_version(text)                     1 or 0: whether a value is a version; NULL for NULL
  *   version_kind(text)                   'ideal', 'general' or 'complex'
  *   version_compare(a, b)                -1, 0 or 1 if a is before, equal to or after b by precedence
  *   version_compare_total(a, b)          the same with ties broken
  *   version_matches(requirement, text)   1 or 0: whether a version matches a requirement or a list of requirements
  *   version_low(requirement)             a BLOB: the key of no version that matches is below it
- *   version_high(requirement)            a BLOB: the key of each version that matches is below it
- *   version_nth(text, n)                 the number at a place, counted from 0
+ *   version_high(requirement)            a BLOB: the key of each version that matches is below it, if its epoch has
+ *                                        fewer than 4,080 digits or the requirement has a high bound
+ *   version_nth(text, n)                 the number at a place, an integer counted from 0
  *   version_epoch(text)                  the epoch, the number before the colon; at most 9223372036854775807
  *   version_pre_release(text)            the pre-release of a strict version, a TEXT
  *   version_release(text)                the release of a general version, a TEXT
@@ -19,11 +21,11 @@
  *   versions_version()                   the version of the library
  *   COLLATE VERSION                      by precedence, then by bytes; texts that are not versions come last
  *
- * Each function returns NULL if a value is not a version or lacks what is asked for. NULL, numbers, BLOBs and texts
- * that are not UTF-8 are not versions. A number is not converted to text, since 1.10 is already 1.1. The aggregates
- * skip values that are not versions. A function of a requirement returns NULL for NULL, and fails if the requirement
- * does not parse. All functions are deterministic and have no side effects, so indexes and generated columns can use
- * them.
+ * Each function but is_version returns NULL if a value is not a version or lacks what is asked for. NULL, numbers,
+ * BLOBs and texts that are not UTF-8 are not versions. A number is not converted to text, since 1.10 is already 1.1.
+ * The aggregates skip values that are not versions. A function of a requirement returns NULL for NULL, and fails if the
+ * requirement does not parse. version_nth returns NULL for NULL, and fails if the place is not an integer. All
+ * functions are deterministic and have no side effects, so indexes and generated columns can use them.
  *
  * All memory is SQLite's: keys, bounds, fields, the range of a constant requirement, the texts that an aggregate keeps,
  * messages, and a number for a connection. Nothing else is allocated.
@@ -86,6 +88,18 @@ static void version_key(sqlite3_context *context, int count, sqlite3_value **val
     case VERSIONS_OK: sqlite3_result_blob64(context, key, len, SQLITE_TRANSIENT); break;
     case VERSIONS_NO_ROOM: give_long_key(context, text, len); break;
     default: sqlite3_result_null(context);
+  }
+}
+
+static void is_version(sqlite3_context *context, int count, sqlite3_value **values) {
+  struct text text = text_of(values[0]);
+  (void)count;
+  if (!text.bytes) {
+    sqlite3_result_error_nomem(context);
+  } else if (sqlite3_value_type(values[0]) == SQLITE_NULL) {
+    sqlite3_result_null(context);
+  } else {
+    sqlite3_result_int(context, versions_kind(text.bytes, text.len) != VERSIONS_NONE);
   }
 }
 
@@ -161,26 +175,37 @@ static void append_reason(sqlite3_str *message, struct text list) {
   sqlite3_str_appendall(message, "; a list looks like '>=1.2,<2'");
 }
 
-/* Fails with the text that does not parse as a requirement, or with the type of a value that is not a text. */
-static void give_no_requirement(sqlite3_context *context, struct text text, int type) {
-  sqlite3_str *message = sqlite3_str_new(NULL);
-  char *said;
-  sqlite3_str_appendall(message, "not a requirement: ");
+/* The name of a type that is not NULL, as typeof returns it. */
+static const char *name_of(int type) {
   switch (type) {
-    case SQLITE_INTEGER: sqlite3_str_appendall(message, "a value of type integer"); break;
-    case SQLITE_FLOAT: sqlite3_str_appendall(message, "a value of type real"); break;
-    case SQLITE_BLOB: sqlite3_str_appendall(message, "a value of type blob"); break;
-    default:
-      append_quoted(message, text);
-      append_reason(message, text);
+    case SQLITE_INTEGER: return "integer";
+    case SQLITE_FLOAT: return "real";
+    case SQLITE_BLOB: return "blob";
+    default: return "text";
   }
-  said = sqlite3_str_finish(message);
+}
+
+/* Fails with a message of SQLite's memory, and frees it. A null message is an allocation failure. */
+static void give_error(sqlite3_context *context, char *said) {
   if (said) {
     sqlite3_result_error(context, said, -1);
   } else {
     sqlite3_result_error_nomem(context);
   }
   sqlite3_free(said);
+}
+
+/* Fails with the text that does not parse as a requirement, or with the type of a value that is not a text. */
+static void give_no_requirement(sqlite3_context *context, struct text text, int type) {
+  sqlite3_str *message = sqlite3_str_new(NULL);
+  sqlite3_str_appendall(message, "not a requirement: ");
+  if (type == SQLITE_TEXT) {
+    append_quoted(message, text);
+    append_reason(message, text);
+  } else {
+    sqlite3_str_appendf(message, "a value of type %s", name_of(type));
+  }
+  give_error(context, sqlite3_str_finish(message));
 }
 
 /* What a list of requirements asks for, as versions_range returns it. */
@@ -229,16 +254,19 @@ static void version_low(sqlite3_context *context, int count, sqlite3_value **val
 }
 
 /*
- * Without a high bound the result is the byte FF. It is above the key of each version whose epoch has fewer than 255
- * digits; no blob is above every key. With NULL instead, a comparison would find no version.
+ * Without a high bound the result is sixteen bytes FF. A key begins with one for each 255 digits of its epoch, so they
+ * are above the key of each version whose epoch has fewer than 4,080 digits; no blob is above every key. With NULL
+ * instead, a comparison would find no version.
  */
+static const uint8_t unbounded[16] = {255, 255, 255, 255, 255, 255, 255, 255, 255, 255, 255, 255, 255, 255, 255, 255};
+
 static void version_high(sqlite3_context *context, int count, sqlite3_value **values) {
   struct range *range = range_of(context, values[0]);
   (void)count;
   if (range && range->flags & VERSIONS_RANGE_HIGH) {
     sqlite3_result_blob64(context, range->high, range->high_len, SQLITE_TRANSIENT);
   } else if (range) {
-    sqlite3_result_blob64(context, "\xff", 1, SQLITE_STATIC);
+    sqlite3_result_blob64(context, unbounded, sizeof unbounded, SQLITE_STATIC);
   }
   sqlite3_free(range);
 }
@@ -304,14 +332,21 @@ static void version_matches(sqlite3_context *context, int count, sqlite3_value *
 
 static void version_nth(sqlite3_context *context, int count, sqlite3_value **values) {
   struct text text = text_of(values[0]);
-  sqlite3_int64 place = sqlite3_value_int64(values[1]);
+  int type = sqlite3_value_type(values[1]);
+  sqlite3_int64 place;
   uint32_t number;
   (void)count;
   if (!text.bytes) {
     sqlite3_result_error_nomem(context);
-  } else if (sqlite3_value_type(values[1]) != SQLITE_INTEGER || place < 0) {
-    sqlite3_result_null(context);
-  } else if (versions_nth(text.bytes, text.len, (size_t)place, &number) == VERSIONS_OK) {
+    return;
+  }
+  if (type != SQLITE_INTEGER && type != SQLITE_NULL) {
+    give_error(context, sqlite3_mprintf("not a place: a value of type %s; a place is an integer, counted from 0",
+                                        name_of(type)));
+    return;
+  }
+  place = type == SQLITE_NULL ? -1 : sqlite3_value_int64(values[1]);
+  if (place >= 0 && versions_nth(text.bytes, text.len, (size_t)place, &number) == VERSIONS_OK) {
     sqlite3_result_int64(context, number);
   } else {
     sqlite3_result_null(context);
@@ -525,6 +560,7 @@ static int define_functions(sqlite3 *db) {
     void (*call)(sqlite3_context *, int, sqlite3_value **);
   } functions[] = {
       {"version_key", 1, version_key},
+      {"is_version", 1, is_version},
       {"version_kind", 1, version_kind},
       {"version_compare", 2, version_compare},
       {"version_compare_total", 2, version_compare_total},

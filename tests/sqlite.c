@@ -114,6 +114,8 @@ static const char *const statements[] = {
     ROWS("9") "SELECT version_matches('=1.19,>' || " LONG ", iif(i % 3, v, '1.19')) FROM versions",
     ROWS("9") "SELECT version_matches(iif(i % 2, '>=1.2', '<1.40.0'), v) FROM versions",
     "SELECT version_nth('1.2.3', 2)",
+    "SELECT version_nth('1.2.3', 1.0)",
+    "SELECT is_version(" LONG ") || is_version('1..2')",
     "SELECT version_epoch('1:2.0-3') || version_is_prerelease('1.0.0-rc.1')",
     "SELECT version_pre_release('1.0.0-rc.1') || version_release('1-2') || version_metadata('1+' || " LONG ")",
     "SELECT column1 FROM (VALUES ('1.10'), ('x y'), (" LONG "), ('1.9')) ORDER BY column1 COLLATE VERSION",
