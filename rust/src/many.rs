@@ -1,7 +1,7 @@
 use crate::library::{self, Texts};
 use crate::{Kind, Requirement};
 
-/// Returns the kind of each text, as [`kind`](crate::kind) returns it, in one call of the library.
+/// Returns the kind of each text, as [`kind`](crate::kind()) returns it, in one call of the library.
 ///
 /// Allocates, beside the answers, all texts once more, and at most 9 bytes for each text.
 ///
