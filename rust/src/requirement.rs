@@ -141,6 +141,13 @@ impl<'a> Requirement<'a> {
     }
 }
 
+/// `*`, which matches every version.
+impl Default for Requirement<'_> {
+    fn default() -> Self {
+        Requirement::new("*").expect("the library does not take * for a requirement")
+    }
+}
+
 impl Eq for Requirement<'_> {}
 
 impl<'b> PartialEq<Requirement<'b>> for Requirement<'_> {

@@ -39,7 +39,8 @@ pub struct Versioning<'a> {
 }
 
 impl<'a> Versioning<'a> {
-    /// Parses a text, in one scan. Borrows a `&str`, and takes a `String` as it is.
+    /// Parses a text, in one scan. Borrows a `&str`, and takes a `String` as it is. [`Text`] names all
+    /// types that it takes.
     ///
     /// Allocates nothing where the text has at most 41 bytes and its key at most 38. Otherwise 3
     /// bytes for each byte of the text, and 5 more, are allocated for the key; a key of more than
@@ -273,6 +274,27 @@ impl<'a> Versioning<'a> {
     }
 
     /// Returns the same version, with a text of its own. Copies a borrowed text.
+    ///
+    /// A struct that outlives the text that was read holds such a version:
+    ///
+    /// ```
+    /// use proved_versions::{InvalidVersion, Versioning};
+    ///
+    /// struct Package {
+    ///     name: String,
+    ///     version: Versioning<'static>,
+    /// }
+    ///
+    /// fn read(line: &str) -> Result<Package, InvalidVersion> {
+    ///     let (name, version) = line.split_once(' ').unwrap_or((line, ""));
+    ///     let version = Versioning::new(version)?.into_owned();
+    ///     Ok(Package { name: name.into(), version })
+    /// }
+    ///
+    /// let package = read(&String::from("zlib 1.3.1"))?;
+    /// assert_eq!((&*package.name, package.version.as_str()), ("zlib", "1.3.1"));
+    /// # Ok::<(), InvalidVersion>(())
+    /// ```
     pub fn into_owned(self) -> Versioning<'static> {
         Versioning {
             text: Cow::Owned(self.text.into_owned()),
@@ -308,6 +330,13 @@ impl Ord for Versioning<'_> {
 impl<'b> PartialOrd<Versioning<'b>> for Versioning<'_> {
     fn partial_cmp(&self, other: &Versioning<'b>) -> Option<Ordering> {
         Some(self.cmp(other))
+    }
+}
+
+/// `0.0.0`.
+impl Default for Versioning<'_> {
+    fn default() -> Self {
+        Versioning::new("0.0.0").expect("the library does not take 0.0.0 for a version")
     }
 }
 

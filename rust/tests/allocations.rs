@@ -94,6 +94,8 @@ fn calls_that_allocate_nothing() {
         assert_eq!(of(|| requirement.matches_text(b)), (0, 0));
         assert_eq!(of(|| requirement.filter([&x, &y]).count()), (0, 0));
     }
+    let defaults = || (Versioning::default(), Requirement::default());
+    assert_eq!(of(defaults), (0, 0));
     let owned = String::from("1.2.3");
     assert_eq!(
         of(|| String::from(Versioning::new(owned).unwrap().into_owned())),

@@ -3,11 +3,16 @@
 //! The page is the file that the environment variable `MIGRATING` names, or else the one of the
 //! repository that this folder is in.
 
+use std::collections::BTreeSet;
 use std::convert::TryFrom;
 use std::error::Error;
+use std::rc::Rc;
+use std::sync::Arc;
 use std::{env, fs};
 
-use proved_versions::{kind, match_all, sort, Kind, Requirement, Versioning};
+use proved_versions::{
+    kind, match_all, sort, sort_key, InvalidVersion, Key, Kind, Requirement, Versioning,
+};
 
 /// What this crate answers to a call of the page.
 fn answer(call: &str, words: &[&str]) -> String {
@@ -95,10 +100,17 @@ fn calls() -> Result<(), Box<dyn Error>> {
         .precedence(&Versioning::new("0:1.0")?)
         .is_eq());
 
+    // A map by versions has two entries for versions that tie, and one by keys has one.
+    let ties = ["1.0", "0:1.0"];
+    let versions: BTreeSet<Versioning> = ties.iter().flat_map(Versioning::new).collect();
+    let keys: BTreeSet<Key> = ties.iter().flat_map(|text| sort_key(text)).collect();
+    assert_eq!((versions.len(), keys.len()), (2, 1));
+
     let mut versions = [Versioning::new("1.10")?, Versioning::new("1.9")?];
     versions.sort();
     assert_eq!(versions.map(String::from), ["1.9", "1.10"]);
-    assert!(Versioning::new("0.0.0").is_ok() && Requirement::new("*").is_ok());
+    assert_eq!(Versioning::default().as_str(), "0.0.0");
+    assert_eq!(Requirement::default().as_str(), "*");
     assert_eq!(format!("{version}, {version:>7.3}"), "1.2.3,     1.2");
     assert_eq!(format!("{version:?}"), r#"Versioning("1.2.3")"#);
 
@@ -114,5 +126,47 @@ fn calls() -> Result<(), Box<dyn Error>> {
     assert!(Requirement::new("*")?.matches(&Versioning::new("0.0.0")?));
     assert_eq!(Versioning::new("1..2").unwrap_err().text(), "1..2");
     assert_eq!(Requirement::new("1.2").unwrap_err().text(), "1.2");
+    Ok(())
+}
+
+/// The second column of the page's table of what `new` does not take. The doctests of `Text` have the
+/// first.
+#[test]
+fn instead_of_what_new_does_not_take() -> Result<(), InvalidVersion> {
+    struct Tag(String);
+    impl AsRef<str> for Tag {
+        fn as_ref(&self) -> &str {
+            &self.0
+        }
+    }
+    fn lent<S: AsRef<str> + ?Sized>(text: &S) -> Result<Versioning<'_>, InvalidVersion> {
+        Versioning::new(text.as_ref())
+    }
+    fn owned<S: AsRef<str>>(text: S) -> Result<Versioning<'static>, InvalidVersion> {
+        text.as_ref().parse()
+    }
+    fn of_its_own_text() -> Result<[Versioning<'static>; 2], InvalidVersion> {
+        let text = String::from("1.2.3");
+        Ok([text.parse()?, Versioning::new(text)?])
+    }
+    let (shared, across) = (Rc::<str>::from("1.2.3"), Arc::<str>::from("1.2.3"));
+    let (mut text, tag) = (String::from("1.2.3"), Tag(String::from("1.2.3")));
+    let mutable: &mut String = &mut text;
+    let [parsed, kept] = of_its_own_text()?;
+    let versions = [
+        Versioning::new(&shared)?,
+        Versioning::new(&across)?,
+        Versioning::new(&*mutable)?,
+        Versioning::new(tag.as_ref())?,
+        lent(&tag)?,
+        lent("1.2.3")?,
+        owned("1.2.3")?,
+        parsed,
+        kept,
+    ];
+    for version in versions {
+        assert_eq!(version.as_str(), "1.2.3");
+    }
+    assert_eq!(owned(Tag(String::from("1..2"))).unwrap_err().text(), "1..2");
     Ok(())
 }

@@ -6,6 +6,8 @@ use std::collections::hash_map::DefaultHasher;
 use std::collections::{BTreeMap, BTreeSet, HashSet};
 use std::error::Error;
 use std::hash::{Hash, Hasher};
+use std::rc::Rc;
+use std::sync::Arc;
 
 use proved_versions::{
     compare, compare_total, kind, sort_key, InvalidRequirement, InvalidVersion, Key, KeyRange,
@@ -571,8 +573,17 @@ fn what_new_takes() {
     let owned = texts.map(String::from);
     let cows = texts.map(Cow::Borrowed);
     let boxes = texts.map(Box::<str>::from);
+    let (shared, across) = (texts.map(Rc::<str>::from), texts.map(Arc::<str>::from));
     for n in 0..3 {
         let (lent, twice): (&&str, &&String) = (&texts[n], &&owned[n]);
+        type Deeper<'a> = (
+            &'a &'a &'a str,
+            &'a &'a &'a String,
+            &'a &'a Box<str>,
+            &'a &'a Cow<'a, str>,
+        );
+        let deeper: Deeper = (&lent, &twice, &&boxes[n], &&cows[n]);
+        let deepest: (&&&Rc<str>, &&&Arc<str>) = (&&&shared[n], &&&across[n]);
         let versions = [
             Versioning::new(*lent),
             Versioning::new(lent),
@@ -583,6 +594,14 @@ fn what_new_takes() {
             Versioning::new(boxes[n].clone()),
             Versioning::new(&cows[n]),
             Versioning::new(cows[n].clone()),
+            Versioning::new(&shared[n]),
+            Versioning::new(&across[n]),
+            Versioning::new(deeper.0),
+            Versioning::new(deeper.1),
+            Versioning::new(deeper.2),
+            Versioning::new(deeper.3),
+            Versioning::new(deepest.0),
+            Versioning::new(deepest.1),
         ];
         for version in versions {
             assert_eq!(version.unwrap().as_str(), texts[n]);
@@ -593,8 +612,52 @@ fn what_new_takes() {
     assert!(lent.iter().map(Versioning::as_str).eq(texts));
     let lent: Vec<Versioning> = owned.iter().flat_map(Versioning::new).collect();
     assert!(lent.iter().map(Versioning::as_str).eq(texts));
+    // The closure of `filter` gets a reference to what `iter` gives.
+    let is_version = texts.iter().filter(|text| Versioning::new(text).is_ok());
+    assert_eq!(is_version.count(), 3);
+    let is_version = owned.iter().filter(|text| Versioning::new(text).is_ok());
+    assert_eq!(is_version.count(), 3);
     let handed_over: Vec<Versioning> = owned.into_iter().flat_map(Versioning::new).collect();
     assert!(handed_over.iter().map(Versioning::as_str).eq(texts));
+}
+
+#[test]
+fn a_version_outlives_the_references_that_led_to_its_text() {
+    fn of_a_slice<'a>(texts: &[&'a str]) -> Vec<Versioning<'a>> {
+        let found = texts.iter().filter(|text| Versioning::new(text).is_ok());
+        found.flat_map(Versioning::new).collect()
+    }
+    fn of_references<'a>(texts: &[&&'a String]) -> Vec<Versioning<'a>> {
+        texts.iter().flat_map(Versioning::new).collect()
+    }
+    let text = String::from("1.2.3");
+    let versions = {
+        let (lent, twice) = (vec![&*text], [&&text]);
+        [of_a_slice(&lent), of_references(&twice)].concat()
+    };
+    assert_eq!(versions.len(), 2);
+    for version in &versions {
+        assert_eq!(version.as_str().as_ptr(), text.as_ptr());
+    }
+}
+
+#[test]
+fn defaults() {
+    // As those of the crate `versions`.
+    #[derive(Default)]
+    struct Package {
+        version: Versioning<'static>,
+        wanted: Requirement<'static>,
+    }
+    let package = Package::default();
+    assert_eq!(package.version.as_str(), "0.0.0");
+    assert_eq!(package.wanted.as_str(), "*");
+    assert_eq!(package.version, version("0.0.0"));
+    assert_eq!(package.version.kind(), Kind::Ideal);
+    assert_eq!(hash(&package.version), hash(&version("0.0.0")));
+    for text in ["0", "1a.0", "0.0.0-rc.1", "1.2.3", "1:1_2"] {
+        assert!(package.wanted.matches(&version(text)), "{text}");
+    }
 }
 
 #[test]
