@@ -216,24 +216,61 @@ CREATE CAST (varchar AS requirement) WITH INOUT AS ASSIGNMENT;
 CREATE CAST (requirement AS text) WITH INOUT AS ASSIGNMENT;
 CREATE CAST (requirement AS varchar) WITH INOUT AS ASSIGNMENT;
 
--- Requirements are equal if their texts are.
+-- The order of requirements: that of the bytes of their texts. Requirements are equal if their texts are.
 
+CREATE FUNCTION requirement_lt(requirement, requirement) RETURNS boolean
+  AS 'MODULE_PATHNAME' LANGUAGE C IMMUTABLE STRICT PARALLEL SAFE;
+CREATE FUNCTION requirement_le(requirement, requirement) RETURNS boolean
+  AS 'MODULE_PATHNAME' LANGUAGE C IMMUTABLE STRICT PARALLEL SAFE;
 CREATE FUNCTION requirement_eq(requirement, requirement) RETURNS boolean
-  AS 'byteaeq' LANGUAGE internal IMMUTABLE STRICT PARALLEL SAFE;
+  AS 'MODULE_PATHNAME' LANGUAGE C IMMUTABLE STRICT PARALLEL SAFE;
 CREATE FUNCTION requirement_ne(requirement, requirement) RETURNS boolean
-  AS 'byteane' LANGUAGE internal IMMUTABLE STRICT PARALLEL SAFE;
-CREATE FUNCTION requirement_hash(requirement) RETURNS integer
-  AS 'hashvarlena' LANGUAGE internal IMMUTABLE STRICT PARALLEL SAFE;
-CREATE FUNCTION requirement_hash_extended(requirement, bigint) RETURNS bigint
-  AS 'hashvarlenaextended' LANGUAGE internal IMMUTABLE STRICT PARALLEL SAFE;
+  AS 'MODULE_PATHNAME' LANGUAGE C IMMUTABLE STRICT PARALLEL SAFE;
+CREATE FUNCTION requirement_ge(requirement, requirement) RETURNS boolean
+  AS 'MODULE_PATHNAME' LANGUAGE C IMMUTABLE STRICT PARALLEL SAFE;
+CREATE FUNCTION requirement_gt(requirement, requirement) RETURNS boolean
+  AS 'MODULE_PATHNAME' LANGUAGE C IMMUTABLE STRICT PARALLEL SAFE;
+
+CREATE OPERATOR < (
+  LEFTARG = requirement, RIGHTARG = requirement, FUNCTION = requirement_lt, COMMUTATOR = >, NEGATOR = >=,
+  RESTRICT = scalarltsel, JOIN = scalarltjoinsel
+);
+CREATE OPERATOR <= (
+  LEFTARG = requirement, RIGHTARG = requirement, FUNCTION = requirement_le, COMMUTATOR = >=, NEGATOR = >,
+  RESTRICT = scalarlesel, JOIN = scalarlejoinsel
+);
 CREATE OPERATOR = (
   LEFTARG = requirement, RIGHTARG = requirement, FUNCTION = requirement_eq, COMMUTATOR = =, NEGATOR = <>,
-  RESTRICT = eqsel, JOIN = eqjoinsel, HASHES
+  RESTRICT = eqsel, JOIN = eqjoinsel, HASHES, MERGES
 );
 CREATE OPERATOR <> (
   LEFTARG = requirement, RIGHTARG = requirement, FUNCTION = requirement_ne, COMMUTATOR = <>, NEGATOR = =,
   RESTRICT = neqsel, JOIN = neqjoinsel
 );
+CREATE OPERATOR >= (
+  LEFTARG = requirement, RIGHTARG = requirement, FUNCTION = requirement_ge, COMMUTATOR = <=, NEGATOR = <,
+  RESTRICT = scalargesel, JOIN = scalargejoinsel
+);
+CREATE OPERATOR > (
+  LEFTARG = requirement, RIGHTARG = requirement, FUNCTION = requirement_gt, COMMUTATOR = <, NEGATOR = <=,
+  RESTRICT = scalargtsel, JOIN = scalargtjoinsel
+);
+
+CREATE FUNCTION requirement_cmp(requirement, requirement) RETURNS integer
+  AS 'MODULE_PATHNAME' LANGUAGE C IMMUTABLE STRICT PARALLEL SAFE;
+CREATE FUNCTION requirement_hash(requirement) RETURNS integer
+  AS 'MODULE_PATHNAME' LANGUAGE C IMMUTABLE STRICT PARALLEL SAFE;
+CREATE FUNCTION requirement_hash_extended(requirement, bigint) RETURNS bigint
+  AS 'MODULE_PATHNAME' LANGUAGE C IMMUTABLE STRICT PARALLEL SAFE;
+
+CREATE OPERATOR CLASS requirement_ops DEFAULT FOR TYPE requirement USING btree AS
+  OPERATOR 1 <,
+  OPERATOR 2 <=,
+  OPERATOR 3 =,
+  OPERATOR 4 >=,
+  OPERATOR 5 >,
+  FUNCTION 1 requirement_cmp(requirement, requirement);
+
 CREATE OPERATOR CLASS requirement_ops DEFAULT FOR TYPE requirement USING hash AS
   OPERATOR 1 =,
   FUNCTION 1 requirement_hash(requirement),

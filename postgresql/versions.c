@@ -586,6 +586,32 @@ SQL_FUNCTION(requirement_send) {
   PG_RETURN_TEXT_P(cstring_to_text_with_len(list.bytes, (int)list.len));
 }
 
+/* The order of requirements is that of the bytes of their lists, and equal lists are equal. */
+static int order_of_lists(Datum a, Datum b) {
+  bytea *first = DatumGetByteaPP(a), *second = DatumGetByteaPP(b);
+  Span x = requirement_of(first).list, y = requirement_of(second).list;
+  int order = memcmp(x.bytes, y.bytes, Min(x.len, y.len));
+  if (order == 0) order = x.len < y.len ? -1 : x.len > y.len;
+  free_copy(first, a);
+  free_copy(second, b);
+  return order;
+}
+
+#define ORDER_OF_LISTS order_of_lists(PG_GETARG_DATUM(0), PG_GETARG_DATUM(1))
+
+ORDER_FUNCTIONS(requirement, ORDER_OF_LISTS, ORDER_OF_LISTS < 0)
+SQL_FUNCTION(requirement_ne) { PG_RETURN_BOOL(ORDER_OF_LISTS != 0); }
+
+SQL_FUNCTION(requirement_hash) {
+  Span list = requirement_of(PG_GETARG_BYTEA_PP(0)).list;
+  return hash_any((const unsigned char *)list.bytes, (int)list.len);
+}
+
+SQL_FUNCTION(requirement_hash_extended) {
+  Span list = requirement_of(PG_GETARG_BYTEA_PP(0)).list;
+  return hash_any_extended((const unsigned char *)list.bytes, (int)list.len, PG_GETARG_INT64(1));
+}
+
 /* A version outside the range does not match. One inside is tested against the list only if the range is not exact. */
 static Datum matches(Datum version, Datum list) {
   text *value = DatumGetTextPP(version);
@@ -624,12 +650,14 @@ static Datum bound_from(bool is_above_all, Span bytes) {
   PG_RETURN_BYTEA_P(bound);
 }
 
-SQL_FUNCTION(requirement_low) { return bound_from(false, requirement_of(PG_GETARG_BYTEA_PP(0)).low); }
+static Datum low_bound(Requirement requirement) { return bound_from(false, requirement.low); }
 
-SQL_FUNCTION(requirement_high) {
-  Requirement requirement = requirement_of(PG_GETARG_BYTEA_PP(0));
+static Datum high_bound(Requirement requirement) {
   return bound_from(!(requirement.flags & VERSIONS_RANGE_HIGH), requirement.high);
 }
+
+SQL_FUNCTION(requirement_low) { return low_bound(requirement_of(PG_GETARG_BYTEA_PP(0))); }
+SQL_FUNCTION(requirement_high) { return high_bound(requirement_of(PG_GETARG_BYTEA_PP(0))); }
 
 SQL_FUNCTION(version_bound_in) {
   ereturn(fcinfo->context, (Datum)0,
@@ -698,19 +726,33 @@ static List *arguments_of(Node *call) {
   return NIL;
 }
 
+/* A type of the extension. It is in the schema of the function that the planner has called, as the whole is. */
+static Oid type_of(Oid caller, const char *name) {
+  return GetSysCacheOid2(TYPENAMENSP, Anum_pg_type_oid, CStringGetDatum(name),
+                         ObjectIdGetDatum(get_func_namespace(caller)));
+}
+
+static bool is_requirement(Node *expression, Oid caller) {
+  return exprType(expression) == type_of(caller, "requirement");
+}
+
 /*
- * A bound of a requirement: a call of requirement_low or requirement_high, or its result if the requirement is
- * constant. It is in the schema of the function that the planner has called, as the whole extension is.
+ * A bound of a requirement. That of a constant is a constant, and needs no right to call a function; that of another
+ * expression is a call of requirement_low or requirement_high.
  */
-static Node *bound_of(PlannerInfo *root, Oid caller, const char *name, Node *requirement) {
-  Oid type = exprType(requirement);
-  Oid function = GetSysCacheOid3(PROCNAMEARGSNSP, Anum_pg_proc_oid, CStringGetDatum(name),
-                                 PointerGetDatum(buildoidvector(&type, 1)),
-                                 ObjectIdGetDatum(get_func_namespace(caller)));
+static Node *bound_of(Oid caller, bool is_high, Node *requirement) {
+  Oid type = exprType(requirement), function;
+  if (IsA(requirement, Const)) {
+    Requirement value = requirement_of(DatumGetByteaPP(((Const *)requirement)->constvalue));
+    return (Node *)makeConst(type_of(caller, "version_bound"), -1, InvalidOid, -1,
+                             is_high ? high_bound(value) : low_bound(value), false, false);
+  }
+  function = GetSysCacheOid3(PROCNAMEARGSNSP, Anum_pg_proc_oid,
+                             CStringGetDatum(is_high ? "requirement_high" : "requirement_low"),
+                             PointerGetDatum(buildoidvector(&type, 1)), ObjectIdGetDatum(get_func_namespace(caller)));
   if (!OidIsValid(function)) return NULL;
-  return eval_const_expressions(root, (Node *)makeFuncExpr(function, get_func_rettype(function),
-                                                           list_make1(copyObject(requirement)), InvalidOid,
-                                                           InvalidOid, COERCE_EXPLICIT_CALL));
+  return (Node *)makeFuncExpr(function, get_func_rettype(function), list_make1(copyObject(requirement)), InvalidOid,
+                              InvalidOid, COERCE_EXPLICIT_CALL);
 }
 
 /* Appends the condition that a version compares so with a bound, if the operator family has that comparison. */
@@ -742,8 +784,8 @@ static bool is_whole(Node *requirement) {
 #endif
 
 /*
- * The conditions of an index scan. The requirement may be anything that is known when the scan begins: a constant, a
- * parameter, or a column of another table. Rows are tested again unless the range is known to be all that matters.
+ * The conditions of the scan of an index on versions; there are none for one on requirements. The requirement may be
+ * anything that is known when the scan begins: a constant, a parameter, or a column of another table. Rows are tested again unless the range is known to be all that matters.
  */
 static List *index_conditions(SupportRequestIndexCondition *request, Oid caller) {
   List *arguments = arguments_of(request->node), *conditions = NIL;
@@ -751,10 +793,11 @@ static List *index_conditions(SupportRequestIndexCondition *request, Oid caller)
   if (request->index->relam != BTREE_AM_OID || list_length(arguments) != 2) return NIL;
   version = list_nth(arguments, request->indexarg);
   requirement = list_nth(arguments, 1 - request->indexarg);
+  if (!is_requirement(requirement, caller)) return NIL;
   if (!is_pseudo_constant_for_index(request->root, requirement, request->index)) return NIL;
   if (IsA(requirement, Const) && ((Const *)requirement)->constisnull) return NIL;
-  low = bound_of(request->root, caller, "requirement_low", requirement);
-  high = bound_of(request->root, caller, "requirement_high", requirement);
+  low = bound_of(caller, false, requirement);
+  high = bound_of(caller, true, requirement);
   if (!is_open(low, false)) {
     conditions = append_condition(conditions, version, request->opfamily, BTGreaterEqualStrategyNumber, low);
   }
@@ -809,8 +852,7 @@ static double share_of_kinds(const AttStatsSlot *histogram, uint32 flags) {
  * that match, and of the others those between the bounds and of the kinds, but not less than one value. A negative
  * number if there are no statistics.
  */
-static double share_by_statistics(VariableStatData *column, Oid function, Const *requirement, bool is_first,
-                                  Datum low, Datum high) {
+static double share_by_statistics(VariableStatData *column, Oid function, Const *requirement, bool is_first) {
   double common, share, others, values;
   bool is_default;
   AttStatsSlot histogram;
@@ -822,10 +864,10 @@ static double share_by_statistics(VariableStatData *column, Oid function, Const 
   if (others > 0 && statistic_proc_security_check(column, function) &&
       get_attstatsslot(&histogram, column->statsTuple, STATISTIC_KIND_HISTOGRAM, InvalidOid, ATTSTATSSLOT_VALUES)) {
     if (histogram.nvalues > 1) {
-      uint32 flags = requirement_of(DatumGetByteaPP(requirement->constvalue)).flags;
-      double between = share_below(&histogram, high) - share_below(&histogram, low);
+      Requirement value = requirement_of(DatumGetByteaPP(requirement->constvalue));
+      double between = share_below(&histogram, high_bound(value)) - share_below(&histogram, low_bound(value));
       values = get_variable_numdistinct(column, &is_default);
-      share += others * Max(between * share_of_kinds(&histogram, flags), 1 / values);
+      share += others * Max(between * share_of_kinds(&histogram, value.flags), 1 / values);
     }
     free_attstatsslot(&histogram);
   }
@@ -839,13 +881,8 @@ static Selectivity share_of(PlannerInfo *root, Oid caller, Oid function, List *a
   Node *other;
   bool is_first;
   if (!get_restriction_variable(root, arguments, table, &column, &other, &is_first)) return DEFAULT_MATCHING_SEL;
-  if (IsA(other, Const) && !((Const *)other)->constisnull) {
-    Node *low = bound_of(root, caller, "requirement_low", other);
-    Node *high = bound_of(root, caller, "requirement_high", other);
-    if (low && IsA(low, Const) && high && IsA(high, Const)) {
-      share = share_by_statistics(&column, function, (Const *)other, is_first, ((Const *)low)->constvalue,
-                                  ((Const *)high)->constvalue);
-    }
+  if (IsA(other, Const) && !((Const *)other)->constisnull && is_requirement(other, caller)) {
+    share = share_by_statistics(&column, function, (Const *)other, is_first);
   }
   ReleaseVariableStats(column);
   if (share < 0) return DEFAULT_MATCHING_SEL;

@@ -26,7 +26,7 @@ PREPARE matching (requirement) AS SELECT count(*) FROM packages WHERE v <@ $1;
 EXPLAIN (COSTS OFF) EXECUTE matching ('^1.2');
 CREATE TABLE wishes (r requirement);
 INSERT INTO wishes VALUES ('^1.2'), ('>=1.2,<2'), ('*'), ('<1'), ('>=4.11'), (NULL);
-EXPLAIN (COSTS OFF) SELECT r, count(*) FROM wishes JOIN packages ON v <@ r GROUP BY r;
+EXPLAIN (COSTS OFF) SELECT * FROM wishes JOIN packages ON v <@ r;
 SELECT r, count(*), count(*) = (SELECT count(*) FROM packages WHERE version_matches(r::text, v::text)) AS is_right
   FROM wishes JOIN packages ON v <@ r GROUP BY r ORDER BY r::text;
 CREATE INDEX of_some ON packages (name) WHERE v <@ '~1.2';

@@ -23,6 +23,11 @@ END $$;
 -- Requirements are equal if their texts are.
 SELECT r, count(*) FROM (VALUES (requirement '^1.2'), ('^1.2'), ('^1.2.0'), (NULL)) t (r) GROUP BY r ORDER BY r::text;
 SELECT requirement '^1.2' = '^1.2', requirement '^1.2' <> '^1.2', requirement '=1.0' = '=0:1.0';
+-- Their order is that of their texts' bytes.
+SELECT r FROM unnest(ARRAY['^1.2', '>=1.9', '*', '>=1.10', NULL, '^1.2.0']::requirement[]) r ORDER BY r;
+CREATE TEMP TABLE kept (r requirement PRIMARY KEY);
+INSERT INTO kept VALUES ('^1.2'), ('^1.2.0');
+INSERT INTO kept VALUES ('^1.2');
 -- The ranges of docs/REQUIREMENTS.md, "As a range of keys".
 SELECT r, requirement_low(r), requirement_high(r) FROM unnest(ARRAY['>=1.2.3,<2.0.0', '>1.0', '=1.0', '^1.2.3',
   '^0.0.3', '~1.2', '^1:1.2rc1', '^1.2.3,<1.9.0', '*', '~1_2', '<=1.0']::requirement[]) r;
