@@ -92,27 +92,42 @@ static const char *quoted(Span span) {
   return said.data;
 }
 
-/* Fails for a value of the type that is not a version. Only a damaged file has one. */
+/*
+ * Damage: values of the types that are not what the input makes. Only a damaged file has one, or a cast that a superuser
+ * declares. Each call that reads a value fails for it, but the outputs write what is there.
+ */
+
 static void report_damage(Span span) {
   ereport(ERROR,
           (errcode(ERRCODE_DATA_CORRUPTED), errmsg("a value of type version is not a version: %s", quoted(span))));
 }
 
-/* Keys. */
+static void report_damaged_requirement(void) {
+  ereport(ERROR, (errcode(ERRCODE_DATA_CORRUPTED), errmsg("a value of type requirement is not a requirement")));
+}
+
+static void report_damaged_bound(void) {
+  ereport(ERROR, (errcode(ERRCODE_DATA_CORRUPTED), errmsg("a value of type version_bound is not a bound")));
+}
 
 /*
- * The longest text that a key is made of, or a range of keys, in bytes. A statement can't be cancelled while the library
- * reads a text: this one takes it a few seconds. A key has at most three bytes for each of the text.
+ * The longest text that a key is made of, or a value of the types, in bytes. A statement can't be cancelled while the
+ * library reads a text: this one takes it a few seconds. A key has at most three bytes for each of the text.
  */
-enum { LONGEST_WITH_KEY = 16 * 1024 * 1024 };
+enum { LONGEST = 16 * 1024 * 1024 };
 
-static void fail_if_too_long(Span span) {
-  if (span.len > LONGEST_WITH_KEY) {
-    ereport(ERROR, (errcode(ERRCODE_PROGRAM_LIMIT_EXCEEDED),
-                    errmsg("a text of %zu bytes is too long for a sort key", span.len),
-                    errdetail("Sort keys are made of texts of at most %d bytes.", LONGEST_WITH_KEY)));
+/* Whether a text is not too long for what is made of it. An input that is asked to goes on after the error. */
+static bool fits(fmNodePtr context, Span span, const char *made) {
+  if (span.len > LONGEST) {
+    ereturn(context, false,
+            (errcode(ERRCODE_PROGRAM_LIMIT_EXCEEDED),
+             errmsg("a text of %zu bytes is too long for a %s", span.len, made),
+             errdetail("The longest text that is taken has %d bytes.", LONGEST)));
   }
+  return true;
 }
+
+/* Keys. */
 
 /* Room for nearly every key. */
 typedef union {
@@ -125,7 +140,7 @@ static bytea *key_of(Span span, KeyRoom *room) {
   bytea *key = &room->key;
   size_t len;
   int status;
-  fail_if_too_long(span);
+  fits(NULL, span, "sort key");
   status =
       versions_sort_key(span.bytes, span.len, (uint8_t *)VARDATA(key), sizeof room->bytes - VARHDRSZ, &len);
   if (status == VERSIONS_NO_ROOM) {
@@ -141,29 +156,45 @@ static void free_key(bytea *key, KeyRoom *room) {
   if (key != &room->key) pfree(key);
 }
 
-/* Functions on texts. The functions on versions are the same, since a version is stored as its text. */
+/*
+ * Functions on texts and on versions, of the same representation. For a text that is not a version the result is NULL;
+ * a version that is not one is damaged. This defines both: the body begins after it, and `typed` says which it is.
+ */
+#define FUNCTIONS(name)                                                            \
+  static inline Datum name##_result(FunctionCallInfo fcinfo, bool typed);          \
+  SQL_FUNCTION(name) { return name##_result(fcinfo, false); }                      \
+  SQL_FUNCTION(name##_of_version) { return name##_result(fcinfo, true); }          \
+  static inline Datum name##_result(FunctionCallInfo fcinfo, bool typed)
+
+/* The result NULL, by the status of a call for a text or a version. */
+static Datum no_result(FunctionCallInfo fcinfo, bool typed, int status, Span span) {
+  if (typed && status == VERSIONS_NO_VERSION) report_damage(span);
+  PG_RETURN_NULL();
+}
 
 SQL_FUNCTION(is_version) { PG_RETURN_BOOL(parses(span_of(PG_GETARG_TEXT_PP(0)))); }
 
 SQL_FUNCTION(to_version) {
   text *value = PG_GETARG_TEXT_PP(0);
+  fits(NULL, span_of(value), "version");
   if (!parses(span_of(value))) PG_RETURN_NULL();
   PG_RETURN_TEXT_P(value);
 }
 
-SQL_FUNCTION(version_key) {
+FUNCTIONS(version_key) {
   KeyRoom room;
-  bytea *key = key_of(span_of(PG_GETARG_TEXT_PP(0)), &room);
-  if (!key) PG_RETURN_NULL();
+  Span span = span_of(PG_GETARG_TEXT_PP(0));
+  bytea *key = key_of(span, &room);
+  if (!key) return no_result(fcinfo, typed, VERSIONS_NO_VERSION, span);
   if (key == &room.key) key = memcpy(palloc(VARSIZE(key)), key, VARSIZE(key));
   PG_RETURN_BYTEA_P(key);
 }
 
-SQL_FUNCTION(version_kind) {
+FUNCTIONS(version_kind) {
   static const char *const names[] = {NULL, "ideal", "general", "complex"};
   Span span = span_of(PG_GETARG_TEXT_PP(0));
   const char *name = names[versions_kind(span.bytes, span.len)];
-  if (!name) PG_RETURN_NULL();
+  if (!name) return no_result(fcinfo, typed, VERSIONS_NO_VERSION, span);
   PG_RETURN_TEXT_P(cstring_to_text(name));
 }
 
@@ -171,26 +202,21 @@ SQL_FUNCTION(version_kind) {
 typedef int Comparison(const char *, size_t, const char *, size_t, int32_t *);
 
 /* Compares the first two arguments, and frees their copies, as functions of an index have to. */
-static int compare_arguments(FunctionCallInfo fcinfo, Comparison *compare, int32_t *order) {
+static Datum compare_arguments(FunctionCallInfo fcinfo, bool typed, Comparison *compare) {
   text *first = PG_GETARG_TEXT_PP(0), *second = PG_GETARG_TEXT_PP(1);
   Span a = span_of(first), b = span_of(second);
-  int status = compare(a.bytes, a.len, b.bytes, b.len, order);
+  int32_t order;
+  int status = compare(a.bytes, a.len, b.bytes, b.len, &order);
+  if (status != VERSIONS_OK) {
+    return no_result(fcinfo, typed, VERSIONS_NO_VERSION, status == VERSIONS_NO_VERSION_B ? b : a);
+  }
   PG_FREE_IF_COPY(first, 0);
   PG_FREE_IF_COPY(second, 1);
-  return status;
-}
-
-SQL_FUNCTION(version_compare) {
-  int32_t order;
-  if (compare_arguments(fcinfo, versions_compare, &order) != VERSIONS_OK) PG_RETURN_NULL();
   PG_RETURN_INT32(order);
 }
 
-SQL_FUNCTION(version_compare_total) {
-  int32_t order;
-  if (compare_arguments(fcinfo, versions_compare_total, &order) != VERSIONS_OK) PG_RETURN_NULL();
-  PG_RETURN_INT32(order);
-}
+FUNCTIONS(version_compare) { return compare_arguments(fcinfo, typed, versions_compare); }
+FUNCTIONS(version_compare_total) { return compare_arguments(fcinfo, typed, versions_compare_total); }
 
 /* Why a text is not a list of requirements, and what one looks like, for the errors about such texts. */
 static int explain(Span list) {
@@ -217,37 +243,41 @@ SQL_FUNCTION(version_matches_text) {
   PG_RETURN_NULL();
 }
 
-SQL_FUNCTION(version_nth) {
+/* A place below 0 is, as a size_t, above each place of a version. */
+FUNCTIONS(version_nth) {
   Span span = span_of(PG_GETARG_TEXT_PP(0));
-  int32 place = PG_GETARG_INT32(1);
   uint32_t number;
-  if (place < 0 || versions_nth(span.bytes, span.len, (size_t)place, &number) != VERSIONS_OK) PG_RETURN_NULL();
+  int status = versions_nth(span.bytes, span.len, (size_t)PG_GETARG_INT32(1), &number);
+  if (status != VERSIONS_OK) return no_result(fcinfo, typed, status, span);
   PG_RETURN_INT64(number);
 }
 
-SQL_FUNCTION(version_epoch) {
+FUNCTIONS(version_epoch) {
   Span span = span_of(PG_GETARG_TEXT_PP(0));
   uint64_t epoch;
-  if (versions_epoch(span.bytes, span.len, &epoch) != VERSIONS_OK) PG_RETURN_NULL();
+  int status = versions_epoch(span.bytes, span.len, &epoch);
+  if (status != VERSIONS_OK) return no_result(fcinfo, typed, status, span);
   PG_RETURN_INT64((int64)epoch); /* at most the largest bigint */
 }
 
 /* A field of the argument, as a text. */
-static Datum field_of_argument(FunctionCallInfo fcinfo, uint32_t field) {
+static Datum field_of_argument(FunctionCallInfo fcinfo, bool typed, uint32_t field) {
   Span span = span_of(PG_GETARG_TEXT_PP(0));
   size_t start, end;
-  if (versions_field(span.bytes, span.len, field, &start, &end) != VERSIONS_OK) PG_RETURN_NULL();
+  int status = versions_field(span.bytes, span.len, field, &start, &end);
+  if (status != VERSIONS_OK) return no_result(fcinfo, typed, status, span);
   PG_RETURN_TEXT_P(cstring_to_text_with_len(span.bytes + start, (int)(end - start)));
 }
 
-SQL_FUNCTION(version_pre_release) { return field_of_argument(fcinfo, VERSIONS_FIELD_PRE_RELEASE); }
-SQL_FUNCTION(version_release) { return field_of_argument(fcinfo, VERSIONS_FIELD_RELEASE); }
-SQL_FUNCTION(version_metadata) { return field_of_argument(fcinfo, VERSIONS_FIELD_METADATA); }
+FUNCTIONS(version_pre_release) { return field_of_argument(fcinfo, typed, VERSIONS_FIELD_PRE_RELEASE); }
+FUNCTIONS(version_release) { return field_of_argument(fcinfo, typed, VERSIONS_FIELD_RELEASE); }
+FUNCTIONS(version_metadata) { return field_of_argument(fcinfo, typed, VERSIONS_FIELD_METADATA); }
 
-SQL_FUNCTION(version_is_prerelease) {
+FUNCTIONS(version_is_prerelease) {
   Span span = span_of(PG_GETARG_TEXT_PP(0));
   bool is_prerelease;
-  if (versions_is_prerelease(span.bytes, span.len, &is_prerelease) != VERSIONS_OK) PG_RETURN_NULL();
+  int status = versions_is_prerelease(span.bytes, span.len, &is_prerelease);
+  if (status != VERSIONS_OK) return no_result(fcinfo, typed, status, span);
   PG_RETURN_BOOL(is_prerelease);
 }
 
@@ -258,6 +288,7 @@ SQL_FUNCTION(version_of_library) { PG_RETURN_TEXT_P(cstring_to_text(versions_ver
 SQL_FUNCTION(version_in) {
   char *bytes = PG_GETARG_CSTRING(0);
   Span span = {bytes, strlen(bytes)};
+  if (!fits(fcinfo->context, span, "version")) return (Datum)0;
   if (!parses(span)) {
     ereturn(fcinfo->context, (Datum)0,
             (errcode(ERRCODE_INVALID_TEXT_REPRESENTATION),
@@ -271,6 +302,7 @@ SQL_FUNCTION(version_recv) {
   int len;
   const char *bytes = pq_getmsgtext(message, message->len - message->cursor, &len);
   Span span = {bytes, (size_t)len};
+  fits(NULL, span, "version");
   if (!parses(span)) {
     ereport(ERROR, (errcode(ERRCODE_INVALID_BINARY_REPRESENTATION),
                     errmsg("invalid binary representation of type version: %s", quoted(span))));
@@ -280,6 +312,7 @@ SQL_FUNCTION(version_recv) {
 
 SQL_FUNCTION(version_of_text) {
   text *value = PG_GETARG_TEXT_PP(0);
+  if (!fits(fcinfo->context, span_of(value), "version")) return (Datum)0;
   if (!parses(span_of(value))) {
     ereturn(fcinfo->context, (Datum)0,
             (errcode(ERRCODE_INVALID_TEXT_REPRESENTATION),
@@ -495,6 +528,11 @@ typedef struct {
   Span low, high, list;
 } Requirement;
 
+enum {
+  ALL_KINDS = VERSIONS_RANGE_IDEAL | VERSIONS_RANGE_GENERAL | VERSIONS_RANGE_COMPLEX,
+  ALL_FLAGS = ALL_KINDS | VERSIONS_RANGE_HIGH | VERSIONS_RANGE_EXACT
+};
+
 static Requirement requirement_of(const struct varlena *value) {
   const char *bytes = VARDATA_ANY(value);
   size_t len = VARSIZE_ANY_EXHDR(value), of_range;
@@ -502,8 +540,8 @@ static Requirement requirement_of(const struct varlena *value) {
   Requirement requirement;
   if (len >= sizeof head) memcpy(&head, bytes, sizeof head);
   of_range = sizeof head + head.low_len + head.high_len;
-  if (len <= of_range) {
-    ereport(ERROR, (errcode(ERRCODE_DATA_CORRUPTED), errmsg("a value of type requirement is not a requirement")));
+  if (len <= of_range || head.flags > ALL_FLAGS || (head.high_len && !(head.flags & VERSIONS_RANGE_HIGH))) {
+    report_damaged_requirement();
   }
   requirement.flags = head.flags;
   requirement.low.bytes = bytes + sizeof head;
@@ -515,7 +553,7 @@ static Requirement requirement_of(const struct varlena *value) {
   return requirement;
 }
 
-/* The value of a list. NULL if that does not parse. */
+/* The value of a list that is not too long. NULL if that does not parse. */
 static bytea *requirement_from(Span list) {
   uint8_t low_room[256], high_room[256], *low = low_room, *high = high_room;
   size_t low_len, high_len, len;
@@ -524,9 +562,8 @@ static bytea *requirement_from(Span list) {
   bytea *value;
   char *end;
   int status;
-  fail_if_too_long(list);
   status = versions_range(list.bytes, list.len, low, sizeof low_room, &low_len, high, sizeof high_room, &high_len,
-                              &flags);
+                          &flags);
   if (status == VERSIONS_NO_ROOM) {
     low = palloc(low_len);
     high = palloc(high_len);
@@ -553,7 +590,9 @@ static bytea *requirement_from(Span list) {
 SQL_FUNCTION(requirement_in) {
   char *bytes = PG_GETARG_CSTRING(0);
   Span list = {bytes, strlen(bytes)};
-  bytea *value = requirement_from(list);
+  bytea *value;
+  if (!fits(fcinfo->context, list, "requirement")) return (Datum)0;
+  value = requirement_from(list);
   if (!value) {
     ereturn(fcinfo->context, (Datum)0,
             (errcode(ERRCODE_INVALID_TEXT_REPRESENTATION),
@@ -567,7 +606,9 @@ SQL_FUNCTION(requirement_recv) {
   int len;
   const char *bytes = pq_getmsgtext(message, message->len - message->cursor, &len);
   Span list = {bytes, (size_t)len};
-  bytea *value = requirement_from(list);
+  bytea *value;
+  fits(NULL, list, "requirement");
+  value = requirement_from(list);
   if (!value) {
     ereport(ERROR,
             (errcode(ERRCODE_INVALID_BINARY_REPRESENTATION),
@@ -586,12 +627,17 @@ SQL_FUNCTION(requirement_send) {
   PG_RETURN_TEXT_P(cstring_to_text_with_len(list.bytes, (int)list.len));
 }
 
+/* Compares bytes: a shorter text that is a prefix comes first. */
+static int order_of_bytes(Span a, Span b) {
+  int order = memcmp(a.bytes, b.bytes, Min(a.len, b.len));
+  if (order == 0) order = a.len < b.len ? -1 : a.len > b.len;
+  return order;
+}
+
 /* The order of requirements is that of the bytes of their lists, and equal lists are equal. */
 static int order_of_lists(Datum a, Datum b) {
   bytea *first = DatumGetByteaPP(a), *second = DatumGetByteaPP(b);
-  Span x = requirement_of(first).list, y = requirement_of(second).list;
-  int order = memcmp(x.bytes, y.bytes, Min(x.len, y.len));
-  if (order == 0) order = x.len < y.len ? -1 : x.len > y.len;
+  int order = order_of_bytes(requirement_of(first).list, requirement_of(second).list);
   free_copy(first, a);
   free_copy(second, b);
   return order;
@@ -603,13 +649,19 @@ ORDER_FUNCTIONS(requirement, ORDER_OF_LISTS, ORDER_OF_LISTS < 0)
 SQL_FUNCTION(requirement_ne) { PG_RETURN_BOOL(ORDER_OF_LISTS != 0); }
 
 SQL_FUNCTION(requirement_hash) {
-  Span list = requirement_of(PG_GETARG_BYTEA_PP(0)).list;
-  return hash_any((const unsigned char *)list.bytes, (int)list.len);
+  bytea *value = PG_GETARG_BYTEA_PP(0);
+  Span list = requirement_of(value).list;
+  Datum hash = hash_any((const unsigned char *)list.bytes, (int)list.len);
+  PG_FREE_IF_COPY(value, 0);
+  return hash;
 }
 
 SQL_FUNCTION(requirement_hash_extended) {
-  Span list = requirement_of(PG_GETARG_BYTEA_PP(0)).list;
-  return hash_any_extended((const unsigned char *)list.bytes, (int)list.len, PG_GETARG_INT64(1));
+  bytea *value = PG_GETARG_BYTEA_PP(0);
+  Span list = requirement_of(value).list;
+  Datum hash = hash_any_extended((const unsigned char *)list.bytes, (int)list.len, PG_GETARG_INT64(1));
+  PG_FREE_IF_COPY(value, 0);
+  return hash;
 }
 
 /* A version outside the range does not match. One inside is tested against the list only if the range is not exact. */
@@ -625,6 +677,7 @@ static Datum matches(Datum version, Datum list) {
   if (status == VERSIONS_OK && matches && !(requirement.flags & VERSIONS_RANGE_EXACT)) {
     status = versions_matches(requirement.list.bytes, requirement.list.len, span.bytes, span.len, &matches);
   }
+  if (status == VERSIONS_NO_REQUIREMENTS) report_damaged_requirement();
   if (status != VERSIONS_OK) report_damage(span);
   free_copy(value, version);
   free_copy(requirements, list);
@@ -640,7 +693,20 @@ SQL_FUNCTION(version_matched_by) { return matches(PG_GETARG_DATUM(0), PG_GETARG_
  * side of each bound. A value is one byte, which is 1 for the bound above every key, and otherwise 0; then the bytes.
  */
 
-enum { ALL_KINDS = VERSIONS_RANGE_IDEAL | VERSIONS_RANGE_GENERAL | VERSIONS_RANGE_COMPLEX };
+typedef struct {
+  bool is_above_all;
+  Span bytes;
+} Bound;
+
+static Bound bound_in(const struct varlena *value) {
+  Span all = span_of(value);
+  Bound bound;
+  if (all.len == 0 || (all.bytes[0] != 0 && (all.bytes[0] != 1 || all.len != 1))) report_damaged_bound();
+  bound.is_above_all = all.bytes[0];
+  bound.bytes.bytes = all.bytes + 1;
+  bound.bytes.len = all.len - 1;
+  return bound;
+}
 
 static Datum bound_from(bool is_above_all, Span bytes) {
   bytea *bound = palloc(VARHDRSZ + 1 + bytes.len);
@@ -666,54 +732,63 @@ SQL_FUNCTION(version_bound_in) {
 
 /* Hexadecimal digits, or the word `infinity`. */
 SQL_FUNCTION(version_bound_out) {
-  bytea *bound = PG_GETARG_BYTEA_PP(0);
-  const char *bytes = VARDATA_ANY(bound);
-  size_t len = VARSIZE_ANY_EXHDR(bound);
+  Bound bound = bound_in(PG_GETARG_BYTEA_PP(0));
   char *digits;
-  if (bytes[0]) PG_RETURN_CSTRING(pstrdup("infinity"));
-  digits = palloc(2 * len);
-  digits[hex_encode(bytes + 1, len - 1, digits)] = 0;
+  if (bound.is_above_all) PG_RETURN_CSTRING(pstrdup("infinity"));
+  digits = palloc(2 * bound.bytes.len + 1);
+  digits[hex_encode(bound.bytes.bytes, bound.bytes.len, digits)] = 0;
   PG_RETURN_CSTRING(digits);
 }
 
-/* Compares the key of a version with a bound: a shorter one that is a prefix comes first. */
+/* Compares the key of a version with a bound. */
 static int order_with_bound(Datum version, Datum value) {
-  bytea *bound = DatumGetByteaPP(value), *key;
-  const char *bytes = VARDATA_ANY(bound);
-  size_t len = VARSIZE_ANY_EXHDR(bound) - 1, key_len;
+  bytea *bytes = DatumGetByteaPP(value), *key;
+  Bound bound = bound_in(bytes);
   KeyRoom room;
   int order = -1;
-  if (!bytes[0]) {
+  if (!bound.is_above_all) {
     key = key_of_value(version, &room);
-    key_len = VARSIZE(key) - VARHDRSZ;
-    order = memcmp(VARDATA(key), bytes + 1, Min(key_len, len));
-    if (order == 0) order = key_len < len ? -1 : key_len > len;
+    order = order_of_bytes(span_of(key), bound.bytes);
     free_key(key, &room);
   }
-  free_copy(bound, value);
+  free_copy(bytes, value);
   return order;
 }
 
 /* Whether the key of a version is below a bound. No key is made: the scan of an index calls this for each row. */
 static bool is_below(Datum version, Datum value) {
   text *text_of_version = DatumGetTextPP(version);
-  bytea *bound = DatumGetByteaPP(value);
-  Span span = span_of(text_of_version), limit = span_of(bound);
+  bytea *bytes = DatumGetByteaPP(value);
+  Span span = span_of(text_of_version);
+  Bound bound = bound_in(bytes);
   bool is_below = true;
-  if (!limit.bytes[0] &&
-      versions_in_range(span.bytes, span.len, NULL, 0, (const uint8_t *)limit.bytes + 1, limit.len - 1,
+  if (!bound.is_above_all &&
+      versions_in_range(span.bytes, span.len, NULL, 0, (const uint8_t *)bound.bytes.bytes, bound.bytes.len,
                         ALL_KINDS | VERSIONS_RANGE_HIGH, &is_below) != VERSIONS_OK) {
     report_damage(span);
   }
   free_copy(text_of_version, version);
-  free_copy(bound, value);
+  free_copy(bytes, value);
   return is_below;
 }
 
+/* Compares two bounds: the one above every key is the last. */
+static int order_of_bounds(Datum a, Datum b) {
+  bytea *first = DatumGetByteaPP(a), *second = DatumGetByteaPP(b);
+  Bound x = bound_in(first), y = bound_in(second);
+  int order = (int)x.is_above_all - (int)y.is_above_all;
+  if (order == 0) order = order_of_bytes(x.bytes, y.bytes);
+  free_copy(first, a);
+  free_copy(second, b);
+  return order;
+}
+
+#define ORDER_OF_BOUNDS order_of_bounds(PG_GETARG_DATUM(0), PG_GETARG_DATUM(1))
 #define ORDER_WITH_BOUND(version, bound) order_with_bound(PG_GETARG_DATUM(version), PG_GETARG_DATUM(bound))
 
 ORDER_FUNCTIONS(version_bound, ORDER_WITH_BOUND(0, 1), is_below(PG_GETARG_DATUM(0), PG_GETARG_DATUM(1)))
 ORDER_FUNCTIONS(bound_version, -ORDER_WITH_BOUND(1, 0), ORDER_WITH_BOUND(1, 0) > 0)
+ORDER_FUNCTIONS(bounds, ORDER_OF_BOUNDS, ORDER_OF_BOUNDS < 0)
 
 /*
  * The planner: a version that matches is not below the low bound of the requirement, and is below the high one. These
@@ -765,11 +840,11 @@ static List *append_condition(List *conditions, Node *version, Oid family, int16
 }
 
 /* Whether every version meets a bound: the constant one with no bytes that is below every key, or above it. */
-static bool is_open(Node *bound, bool is_high) {
-  bytea *value;
-  if (!bound || !IsA(bound, Const)) return false;
-  value = DatumGetByteaPP(((Const *)bound)->constvalue);
-  return VARSIZE_ANY_EXHDR(value) == 1 && VARDATA_ANY(value)[0] == is_high;
+static bool is_open(Node *node, bool is_high) {
+  Bound bound;
+  if (!node || !IsA(node, Const)) return false;
+  bound = bound_in(DatumGetByteaPP(((Const *)node)->constvalue));
+  return bound.bytes.len == 0 && bound.is_above_all == is_high;
 }
 
 /* Whether the versions in the range are all those that match, whatever their kinds. */
@@ -826,10 +901,7 @@ static double share_below(const AttStatsSlot *histogram, Datum bound) {
   from = beginning_of_value(histogram->values[below - 1]);
   to = beginning_of_value(histogram->values[below]);
   if (from < to) {
-    Span bytes = span_of(DatumGetByteaPP(bound));
-    bytes.bytes++; /* after the byte that says whether it is above every key */
-    bytes.len--;
-    part = (double)(beginning_of_code(bytes) - from) / (double)(to - from);
+    part = (double)(beginning_of_code(bound_in(DatumGetByteaPP(bound)).bytes) - from) / (double)(to - from);
   }
   return (below - 1 + part) / (histogram->nvalues - 1);
 }
