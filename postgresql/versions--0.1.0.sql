@@ -285,6 +285,9 @@ CREATE FUNCTION version_matches_sel(internal, oid, internal, integer) RETURNS do
   AS 'MODULE_PATHNAME' LANGUAGE C STABLE STRICT PARALLEL SAFE;
 CREATE FUNCTION version_matches(requirement requirement, version version) RETURNS boolean
   AS 'MODULE_PATHNAME' LANGUAGE C IMMUTABLE STRICT PARALLEL SAFE COST 10 SUPPORT version_matches_support;
+CREATE FUNCTION version_matches(requirement text, version version) RETURNS boolean
+  AS 'MODULE_PATHNAME', 'version_matches_cast' LANGUAGE C IMMUTABLE STRICT PARALLEL SAFE COST 10
+  SUPPORT version_matches_support;
 CREATE FUNCTION version_matched_by(version version, requirement requirement) RETURNS boolean
   AS 'MODULE_PATHNAME' LANGUAGE C IMMUTABLE STRICT PARALLEL SAFE COST 10 SUPPORT version_matches_support;
 
@@ -297,8 +300,19 @@ CREATE OPERATOR @> (
   RESTRICT = version_matches_sel, JOIN = matchingjoinsel
 );
 
+-- The bounds of a requirement, as bytes that compare with version_key(text): no version that matches has a key below
+-- the first, and the keys of all are below the second. A text that is not a requirement is an error.
+CREATE FUNCTION version_low(requirement text) RETURNS bytea
+  AS 'MODULE_PATHNAME', 'version_low_text' LANGUAGE C IMMUTABLE STRICT PARALLEL SAFE COST 10;
+CREATE FUNCTION version_high(requirement text) RETURNS bytea
+  AS 'MODULE_PATHNAME', 'version_high_text' LANGUAGE C IMMUTABLE STRICT PARALLEL SAFE COST 10;
+CREATE FUNCTION version_low(requirement requirement) RETURNS bytea
+  AS 'MODULE_PATHNAME' LANGUAGE C IMMUTABLE STRICT PARALLEL SAFE;
+CREATE FUNCTION version_high(requirement requirement) RETURNS bytea
+  AS 'MODULE_PATHNAME' LANGUAGE C IMMUTABLE STRICT PARALLEL SAFE;
+
 -- The type version_bound, for conditions that the planner makes: a bound of a range. Its bytes compare with the keys of
--- versions. It has no input.
+-- versions. Its input takes what its output writes.
 
 CREATE TYPE version_bound;
 

@@ -93,8 +93,8 @@ static const char *quoted(Span span) {
 }
 
 /*
- * Damage: values of the types that are not what the input makes. Only a damaged file has one, or a cast that a superuser
- * declares. Each call that reads a value fails for it, but the outputs write what is there.
+ * Damage: values of the types that no input makes. Only a damaged file has one, or a cast that a superuser declares.
+ * Each call that reads a value fails for it. The outputs write a damaged text as it is.
  */
 
 static void report_damage(Span span) {
@@ -231,14 +231,18 @@ static int explain(Span list) {
                  "no spaces and no ||.");
 }
 
+/* Fails for a text that is not a list of requirements. */
+static void report_no_requirement(Span list) {
+  ereport(ERROR,
+          (errcode(ERRCODE_INVALID_PARAMETER_VALUE), errmsg("not a requirement: %s", quoted(list)), explain(list)));
+}
+
 SQL_FUNCTION(version_matches_text) {
   Span list = span_of(PG_GETARG_TEXT_PP(0)), span = span_of(PG_GETARG_TEXT_PP(1));
   bool matches = false;
   switch (versions_matches(list.bytes, list.len, span.bytes, span.len, &matches)) {
     case VERSIONS_OK: PG_RETURN_BOOL(matches);
-    case VERSIONS_NO_REQUIREMENTS:
-      ereport(ERROR,
-              (errcode(ERRCODE_INVALID_PARAMETER_VALUE), errmsg("not a requirement: %s", quoted(list)), explain(list)));
+    case VERSIONS_NO_REQUIREMENTS: report_no_requirement(list);
   }
   PG_RETURN_NULL();
 }
@@ -684,6 +688,21 @@ static Datum matches(Datum version, Datum list) {
   PG_RETURN_BOOL(matches);
 }
 
+/* A text that is a list for a version. The planner makes the next function of it, with a cast, so it fails as that. */
+SQL_FUNCTION(version_matches_cast) {
+  Span list = span_of(PG_GETARG_TEXT_PP(0)), span = span_of(PG_GETARG_TEXT_PP(1));
+  bool matches = false;
+  int status;
+  fits(NULL, list, "requirement");
+  status = versions_matches(list.bytes, list.len, span.bytes, span.len, &matches);
+  if (status == VERSIONS_NO_REQUIREMENTS) {
+    ereport(ERROR, (errcode(ERRCODE_INVALID_TEXT_REPRESENTATION),
+                    errmsg("invalid input syntax for type requirement: %s", quoted(list)), explain(list)));
+  }
+  if (status != VERSIONS_OK) report_damage(span);
+  PG_RETURN_BOOL(matches);
+}
+
 SQL_FUNCTION(version_matches) { return matches(PG_GETARG_DATUM(1), PG_GETARG_DATUM(0)); }
 SQL_FUNCTION(version_matched_by) { return matches(PG_GETARG_DATUM(0), PG_GETARG_DATUM(1)); }
 
@@ -725,9 +744,52 @@ static Datum high_bound(Requirement requirement) {
 SQL_FUNCTION(requirement_low) { return low_bound(requirement_of(PG_GETARG_BYTEA_PP(0))); }
 SQL_FUNCTION(requirement_high) { return high_bound(requirement_of(PG_GETARG_BYTEA_PP(0))); }
 
+/*
+ * The bounds as bytes, for an index of the keys of texts. The one above every key is the byte 255, which is above the
+ * key of each version whose epoch has fewer than 255 digits.
+ */
+
+static Datum bytes_of(Span bytes) {
+  return PointerGetDatum(cstring_to_text_with_len(bytes.bytes, (int)bytes.len));
+}
+
+static Datum low_bytes(Requirement requirement) { return bytes_of(requirement.low); }
+
+static Datum high_bytes(Requirement requirement) {
+  static const Span above_all = {"\xff", 1};
+  return bytes_of(requirement.flags & VERSIONS_RANGE_HIGH ? requirement.high : above_all);
+}
+
+static Requirement requirement_of_text(const text *value) {
+  bytea *made;
+  fits(NULL, span_of(value), "requirement");
+  made = requirement_from(span_of(value));
+  if (!made) report_no_requirement(span_of(value));
+  return requirement_of(made);
+}
+
+SQL_FUNCTION(version_low) { return low_bytes(requirement_of(PG_GETARG_BYTEA_PP(0))); }
+SQL_FUNCTION(version_high) { return high_bytes(requirement_of(PG_GETARG_BYTEA_PP(0))); }
+SQL_FUNCTION(version_low_text) { return low_bytes(requirement_of_text(PG_GETARG_TEXT_PP(0))); }
+SQL_FUNCTION(version_high_text) { return high_bytes(requirement_of_text(PG_GETARG_TEXT_PP(0))); }
+
+/* What the output writes. */
 SQL_FUNCTION(version_bound_in) {
-  ereturn(fcinfo->context, (Datum)0,
-          (errcode(ERRCODE_FEATURE_NOT_SUPPORTED), errmsg("cannot accept a value of type version_bound")));
+  char *digits = PG_GETARG_CSTRING(0);
+  Span written = {digits, strlen(digits)}, bytes;
+  if (strcmp(digits, "infinity") == 0) {
+    written.len = 0;
+    return bound_from(true, written);
+  }
+  if (written.len % 2 || strspn(digits, "0123456789abcdefABCDEF") != written.len) {
+    ereturn(fcinfo->context, (Datum)0,
+            (errcode(ERRCODE_INVALID_TEXT_REPRESENTATION),
+             errmsg("invalid input syntax for type version_bound: %s", quoted(written)),
+             errhint("A bound is pairs of hexadecimal digits, or infinity.")));
+  }
+  bytes.bytes = palloc(written.len / 2 + 1);
+  bytes.len = hex_decode(written.bytes, written.len, (char *)bytes.bytes);
+  return bound_from(false, bytes);
 }
 
 /* Hexadecimal digits, or the word `infinity`. */
@@ -860,7 +922,8 @@ static bool is_whole(Node *requirement) {
 
 /*
  * The conditions of the scan of an index on versions; there are none for one on requirements. The requirement may be
- * anything that is known when the scan begins: a constant, a parameter, or a column of another table. Rows are tested again unless the range is known to be all that matters.
+ * anything that is known when the scan begins: a constant, a parameter, or a column of another table. Rows are tested
+ * again unless the range is known to be all that matters.
  */
 static List *index_conditions(SupportRequestIndexCondition *request, Oid caller) {
   List *arguments = arguments_of(request->node), *conditions = NIL;
@@ -962,6 +1025,29 @@ static Selectivity share_of(PlannerInfo *root, Oid caller, Oid function, List *a
   return share;
 }
 
+/*
+ * A call with a text and a version is one with the requirement that the text is cast to, so that the planner sees its
+ * bounds. NULL for another call.
+ */
+static Node *with_requirement(SupportRequestSimplify *request, Oid caller) {
+  Oid types[] = {type_of(caller, "requirement"), type_of(caller, "version")}, function;
+  Node *list = linitial(request->fcall->args), *version = lsecond(request->fcall->args);
+  CoerceViaIO *cast;
+  if (exprType(list) != TEXTOID || exprType(version) != types[1]) return NULL;
+  function = GetSysCacheOid3(PROCNAMEARGSNSP, Anum_pg_proc_oid, CStringGetDatum("version_matches"),
+                             PointerGetDatum(buildoidvector(types, lengthof(types))),
+                             ObjectIdGetDatum(get_func_namespace(caller)));
+  if (!OidIsValid(function)) return NULL;
+  cast = makeNode(CoerceViaIO);
+  cast->arg = (Expr *)list;
+  cast->resulttype = types[0];
+  cast->coerceformat = COERCE_EXPLICIT_CAST;
+  cast->location = -1;
+  return (Node *)makeFuncExpr(function, BOOLOID,
+                              list_make2(eval_const_expressions(request->root, (Node *)cast), version), InvalidOid,
+                              InvalidOid, COERCE_EXPLICIT_CALL);
+}
+
 SQL_FUNCTION(version_matches_sel) {
   PG_RETURN_FLOAT8(share_of((PlannerInfo *)PG_GETARG_POINTER(0), fcinfo->flinfo->fn_oid,
                             get_opcode(PG_GETARG_OID(1)), (List *)PG_GETARG_POINTER(2), PG_GETARG_INT32(3)));
@@ -978,6 +1064,8 @@ SQL_FUNCTION(version_matches_support) {
                                             : share_of(request->root, fcinfo->flinfo->fn_oid, request->funcid,
                                                        request->args, request->varRelid);
     answer = request;
+  } else if (IsA(node, SupportRequestSimplify)) {
+    answer = with_requirement((SupportRequestSimplify *)node, fcinfo->flinfo->fn_oid);
   }
   PG_RETURN_POINTER(answer);
 }

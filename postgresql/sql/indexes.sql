@@ -1,4 +1,6 @@
 -- The conditions of index scans: bounds, in order of keys. docs/REQUIREMENTS.md has the bounds.
+-- Plans need pages that VACUUM marks as visible to all, which it does once the commit is on the disk.
+SET synchronous_commit = on;
 CREATE TABLE packages (v version, name text);
 INSERT INTO packages SELECT v::version, 'package-' || row_number() OVER () FROM (
   SELECT format(form, a, b, c) AS v FROM generate_series(0, 4) a, generate_series(0, 11) b, generate_series(0, 3) c,

@@ -31,7 +31,8 @@ INSERT INTO kept VALUES ('^1.2');
 -- The ranges of docs/REQUIREMENTS.md, "As a range of keys".
 SELECT r, requirement_low(r), requirement_high(r) FROM unnest(ARRAY['>=1.2.3,<2.0.0', '>1.0', '=1.0', '^1.2.3',
   '^0.0.3', '~1.2', '^1:1.2rc1', '^1.2.3,<1.9.0', '*', '~1_2', '<=1.0']::requirement[]) r;
-SELECT version_bound '00';
+SELECT version_bound '00', version_bound 'infinity';
+SELECT version_bound '0';
 -- The tables of docs/REQUIREMENTS.md: what each requirement matches and does not match. No row is wrong.
 CREATE TEMP TABLE wanted (r requirement, yes version[], no version[]);
 INSERT INTO wanted VALUES
