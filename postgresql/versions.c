@@ -946,8 +946,11 @@ static List *index_conditions(SupportRequestIndexCondition *request, Oid caller)
   return conditions;
 }
 
-/* The share of a histogram's values that are below a bound. Between two of them it grows as the codes of keys do. */
-static double share_below(const AttStatsSlot *histogram, Datum bound) {
+/*
+ * The share of a histogram's values that are below a bound. Between two of them it grows as the codes of keys do, or
+ * the bound is in their middle, as for PostgreSQL's own operators.
+ */
+static double share_below(const AttStatsSlot *histogram, Datum bound, bool by_codes) {
   int below = 0, end = histogram->nvalues;
   double part = 0.5;
   uint64 from, to;
@@ -961,12 +964,31 @@ static double share_below(const AttStatsSlot *histogram, Datum bound) {
   }
   if (below == 0) return 0;
   if (below == histogram->nvalues) return 1;
-  from = beginning_of_value(histogram->values[below - 1]);
-  to = beginning_of_value(histogram->values[below]);
+  from = by_codes ? beginning_of_value(histogram->values[below - 1]) : 0;
+  to = by_codes ? beginning_of_value(histogram->values[below]) : 0;
   if (from < to) {
     part = (double)(beginning_of_code(bound_in(DatumGetByteaPP(bound)).bytes) - from) / (double)(to - from);
   }
   return (below - 1 + part) / (histogram->nvalues - 1);
+}
+
+/* Whether at most one key is between two bounds. */
+static bool is_of_one_key(Span low, Span high) {
+  return high.len == low.len + 1 && high.bytes[low.len] == 0 && memcmp(low.bytes, high.bytes, low.len) == 0;
+}
+
+/*
+ * The share of a histogram's values that are in a range of more than one key: the larger of two estimates. By codes a
+ * range seems empty if most codes near it are of no version, as those above 2.5.999 and below 2.6; too low an estimate
+ * makes the worse plan.
+ */
+static double share_between(const AttStatsSlot *histogram, Requirement range) {
+  Datum low = low_bound(range), high = high_bound(range);
+  double by_codes, by_middles;
+  if (is_of_one_key(range.low, range.high)) return 0;
+  by_codes = share_below(histogram, high, true) - share_below(histogram, low, true);
+  by_middles = share_below(histogram, high, false) - share_below(histogram, low, false);
+  return Max(by_codes, by_middles);
 }
 
 /* The share of the values of a histogram whose kinds a range has. */
@@ -1000,7 +1022,7 @@ static double share_by_statistics(VariableStatData *column, Oid function, Const 
       get_attstatsslot(&histogram, column->statsTuple, STATISTIC_KIND_HISTOGRAM, InvalidOid, ATTSTATSSLOT_VALUES)) {
     if (histogram.nvalues > 1) {
       Requirement value = requirement_of(DatumGetByteaPP(requirement->constvalue));
-      double between = share_below(&histogram, high_bound(value)) - share_below(&histogram, low_bound(value));
+      double between = share_between(&histogram, value);
       values = get_variable_numdistinct(column, &is_default);
       share += others * Max(between * share_of_kinds(&histogram, value.flags), 1 / values);
     }
