@@ -341,8 +341,9 @@ class Requirements(unittest.TestCase):
             "1.2.3": (0, "1.2.3"), "": (0, ""), ",": (0, ""), ",*": (0, ""), "=1.0.0,": (7, ""), "=1.0.0,,*": (7, ""),
             ">=1.0, <2.0": (6, " <2.0"), "=1.0 || =2.0": (0, "=1.0 || =2.0"), "*,!=1.0,^1.*": (2, "!=1.0"),
             "*,=\0,*": (2, "=\0"), "*,=é,*": (2, "=é"), "*,\U0001f600\xff": (2, "\U0001f600\xff"),
-            # A text with a lone surrogate has no pieces.
-            "\ud800": (0, "\ud800"), "*,\ud800,é": (0, "*,\ud800,é"),
+            "\ud800": (0, "\ud800"), "*,\ud800,é": (2, "\ud800"), ">=1,\ud800": (4, "\ud800"), "1,\ud800": (0, "1"),
+            "^1.2,=1\udcff": (5, "=1\udcff"), "*,\ud83d\ude00é,*": (2, "\ud83d\ude00é"), "\ud800,*": (0, "\ud800"),
+            "*,é,\ud800": (2, "é"), "*,,\ud800": (2, ""), "*,*\udfff": (2, "*\udfff"), "*,\xff\ud800": (2, "\xff\ud800"),
         }
         for text, (start, member) in members.items():
             with self.subTest(text=text), self.assertRaises(InvalidRequirement) as raised:
@@ -353,6 +354,25 @@ class Requirements(unittest.TestCase):
             self.assertEqual(str(error), f"not a requirement: {text!r}{wrong}; a list looks like '>=1.2,<2'")
         # One made by hand of a text that is a requirement
         self.assertEqual((InvalidRequirement("*,*").start, InvalidRequirement("*,*").member), (0, "*,*"))
+
+    def test_the_member_that_is_wrong_of_many_lists(self):
+        # By docs/REQUIREMENTS.md; what has a lone surrogate is wrong.
+        right = ["*", ">=1", "^1.2.3", "=1.0", "~2", "<2.0-1", ">1:2"]
+        wrong = ["", "1.2", " <2", "=é", "=\0", "\U0001f600", ">=", "**", "*1"]
+        lone = ["\ud800", "=1\udfff", "\udc00\ud800>=1", "*\ud83d", "é\ud800\U0001f600", ">=\ud83d\ude00"]
+        chosen = random.Random(1)
+        for _ in range(20_000):
+            some = chosen.choice([right + lone, right * 3 + wrong + lone])
+            pieces = chosen.choices(some, k=chosen.randrange(1, 9))
+            place = next((n for n, piece in enumerate(pieces) if piece not in right), None)
+            text = ",".join(pieces)
+            if place is None:
+                self.assertEqual(str(Requirement(text)), text)
+                continue
+            with self.assertRaises(InvalidRequirement) as raised:
+                Requirement(text)
+            start = sum(len(piece) + 1 for piece in pieces[:place])
+            self.assertEqual((raised.exception.start, raised.exception.member), (start, pieces[place]), ascii(text))
 
     def test_no_version(self):
         anything = Requirement("*")

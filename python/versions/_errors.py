@@ -34,7 +34,8 @@ class InvalidVersion(_Invalid):
 class InvalidRequirement(_Invalid):
     """A text that is neither a requirement nor a list of them, which `text` is.
 
-    Its members are the pieces between the commas. The first that is wrong is `member`, and begins at `start`.
+    Its members are the pieces between the commas. The first that is wrong is `member`, and begins at `start`, a place
+    of the text as Python counts them. A piece with a lone surrogate is wrong.
 
     >>> try:
     ...     Requirement(">=1.0, <2.0")

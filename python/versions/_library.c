@@ -155,28 +155,37 @@ static PyObject *is_prerelease(PyObject *Py_UNUSED(module), PyObject *object) {
   return status == VERSIONS_OK ? PyBool_FromLong(answer) : none_or_raise(status, object);
 }
 
-/* wrong_member(text): where the first member begins and ends that is not a requirement; None where each is one */
-static PyObject *wrong_member(PyObject *Py_UNUSED(module), PyObject *object) {
-  PyObject *member;
-  PyThreadState *thread;
-  struct text text;
+/* The first member of the bytes of a list that is not a requirement, as wrong_member returns it. */
+static PyObject *wrong_member_of(const char *bytes, size_t size) {
+  PyThreadState *thread = let_go(size);
   size_t start = 0, end = 0;
+  int status = versions_wrong_member(bytes, size, &start, &end);
+  PyObject *member;
   Py_ssize_t length;
-  int status;
 
-  if (read_text(object, &text) < 0) return NULL;
-  if (text.size > 0 && text.bytes[0] == NOT_UTF8[0]) return Py_BuildValue("(in)", 0, PyUnicode_GetLength(object));
-  thread = let_go(text.size);
-  status = versions_wrong_member(text.bytes, text.size, &start, &end);
   take_again(thread);
   if (status == VERSIONS_NO_WRONG_MEMBER) Py_RETURN_NONE;
   if (status != VERSIONS_OK) return raise_status(status);
   /* What precedes the member are requirements and commas, so each of its bytes is a character. */
-  member = PyUnicode_FromStringAndSize(text.bytes + start, (Py_ssize_t)(end - start));
+  member = PyUnicode_Decode(bytes + start, (Py_ssize_t)(end - start), "utf-8", "surrogatepass");
   if (member == NULL) return NULL;
   length = PyUnicode_GetLength(member);
   Py_DECREF(member);
   return Py_BuildValue("(nn)", (Py_ssize_t)start, (Py_ssize_t)start + length);
+}
+
+/* wrong_member(text): where the first member begins and ends that is not a requirement; None where each is one */
+static PyObject *wrong_member(PyObject *Py_UNUSED(module), PyObject *object) {
+  PyObject *bytes, *answer;
+  struct text text;
+
+  if (read_text(object, &text) < 0) return NULL;
+  /* A lone surrogate becomes three bytes that are not UTF-8, so its member is not a requirement. */
+  bytes = PyUnicode_AsEncodedString(object, "utf-8", "surrogatepass");
+  if (bytes == NULL) return NULL;
+  answer = wrong_member_of(PyBytes_AsString(bytes), (size_t)PyBytes_Size(bytes));
+  Py_DECREF(bytes);
+  return answer;
 }
 
 /*
