@@ -6,7 +6,6 @@ The modules that are named are left out, as test_faults. The last line is 'N pas
 """
 
 import doctest
-import importlib
 import os
 import sys
 import unittest
@@ -14,16 +13,13 @@ import unittest
 import versions
 
 HERE = os.path.dirname(os.path.abspath(__file__))
-MODULES = ("versions", "versions._library")
 TOP = os.path.join(HERE, "..", "..")
 PAGES = [os.path.join(TOP, *names) for names in (["README.md"], ["docs", "PYTHON.md"], ["python", "README.md"])]
 
 names = {name[: -len(".py")] for name in os.listdir(HERE) if name.startswith("test_") and name.endswith(".py")}
 tests = unittest.defaultTestLoader.loadTestsFromNames(sorted(names - set(sys.argv[1:])))
-for module in MODULES:
-    # The examples mean Python's own `sorted`, which `versions.sorted` hides inside the package.
-    names = {**vars(versions), "sorted": sorted}
-    tests.addTest(doctest.DocTestSuite(importlib.import_module(module), extraglobs=names))
+tests.addTest(doctest.DocTestSuite(versions))
+tests.addTest(doctest.DocTestSuite(versions._library, extraglobs=vars(versions)))
 tests.addTest(doctest.DocFileSuite(*PAGES, module_relative=False, encoding="utf-8"))
 result = unittest.TextTestRunner(sys.stdout).run(tests)
 failed = len({test.id().split(" ")[0] for test, _ in result.failures + result.errors} | set(result.unexpectedSuccesses))

@@ -1,7 +1,7 @@
 """Version numbers, parsed, ordered and matched by a library that is proved.
 
 >>> import versions
->>> sorted(["1.10", "1.9", "1.10rc1"], key=versions.sort_key)
+>>> versions.sorted(["1.10", "1.9", "1.10rc1"])
 ['1.9', '1.10rc1', '1.10']
 >>> versions.Version("1.0") == versions.Version("0:1.0")
 True

@@ -528,8 +528,8 @@ PyDoc_STRVAR(
     "\n"
     ">>> sort_key(\"1.2.3\").hex()\n"
     "'000301310203013202030133020202'\n"
-    ">>> sorted([\"1.10\", \"1.9\", \"1.10rc1\"], key=sort_key)\n"
-    "['1.9', '1.10rc1', '1.10']\n");
+    ">>> max([\"1.10\", \"1.9\", \"1.10rc1\"], key=sort_key)\n"
+    "'1.10'\n");
 
 PyDoc_STRVAR(compare_doc,
              "compare(a, b)\n--\n\n"
@@ -550,8 +550,8 @@ PyDoc_STRVAR(compare_total_doc,
              ">>> compare_total(\"1.0\", \"0:1.0\"), compare_total(\"1.0.0+a\", \"1.0.0+b\")\n"
              "(-1, 0)\n"
              ">>> from functools import cmp_to_key\n"
-             ">>> sorted([\"0:1.0\", \"1.1\", \"1.0\"], key=cmp_to_key(compare_total))\n"
-             "['1.0', '0:1.0', '1.1']\n");
+             ">>> min([\"0:1.0\", \"1.1\", \"1.0\"], key=cmp_to_key(compare_total))\n"
+             "'1.0'\n");
 
 PyDoc_STRVAR(
     kinds_doc,
