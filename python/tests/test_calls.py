@@ -66,18 +66,57 @@ class One(unittest.TestCase):
                 self.assertEqual(raised.exception.text, named)
 
     def test_no_text(self):
-        for other in (None, 1.2, b"1.2", versions.Version("1.2"), float("nan")):
+        for other in (None, 1.2, b"1.2", versions.Requirement("*"), float("nan")):
             for call in (
                 lambda: versions.kind(other),
                 lambda: versions.sort_key(other),
                 lambda: versions.compare(other, "1"),
                 lambda: versions.compare("1", other),
                 lambda: versions.compare_total("1", other),
-                lambda: versions.match_all(other, []),
                 lambda: versions.Version(other),
-                lambda: versions.Requirement(other),
             ):
                 self.assertRaisesRegex(TypeError, f"a text is a str, and this is of type {type(other).__name__}", call)
+        for other in (None, 1.2, b"1.2", versions.Version("1.2"), float("nan")):
+            for call in (lambda: versions.match_all(other, []), lambda: versions.Requirement(other)):
+                self.assertRaisesRegex(TypeError, f"a text is a str, and this is of type {type(other).__name__}", call)
+
+    def test_a_version_is_taken_for_its_text(self):
+        class Mine(versions.Version):
+            def __str__(self):
+                return "9.9"
+
+            __repr__ = __format__ = __str__
+            kind = key = _text = None
+
+        # From docs/ORDER.md.
+        key = bytes.fromhex("01 31 03 01 32 02 03 00 02 02 03 02 01 33 01")
+        for make in (versions.Version, Mine):
+            version = make("1:2.0-3")
+            self.assertEqual((versions.kind(version), versions.kind(make("1.2.3"))), ("general", "ideal"))
+            self.assertEqual(versions.sort_key(version), key)
+            tied = make("1.0"), make("0:1.0")
+            for a in (tied[0], "1.0"):
+                for b in (tied[1], "0:1.0"):
+                    self.assertEqual([call(a, b) for call in (versions.compare, versions.compare_total)], [0, -1])
+                    self.assertEqual([call(b, a) for call in (versions.compare, versions.compare_total)], [0, 1])
+            for call in (versions.compare, versions.compare_total):
+                for words in (("1..2", version), (version, "1..2")):
+                    with self.assertRaises(versions.InvalidVersion) as raised:
+                        call(*words)
+                    self.assertEqual(raised.exception.text, "1..2")
+            for again in (versions.Version(version), versions.Version(text=version)):
+                self.assertEqual((type(again), str(again), again.kind), (versions.Version, "1:2.0-3", "general"))
+                self.assertEqual((again.key, again.epoch, again.release), (key, 1, "3"))
+            self.assertIs(type(Mine(version)), Mine)
+            self.assertEqual(str(versions.Version(Mine(version))), "1:2.0-3")
+
+    def test_what_only_looks_like_a_version_is_no_text(self):
+        version = versions.Version("1.2")
+        names = {"_text": "1.2", "key": version.key, "kind": "general", "__class__": versions.Version}
+        alike = type("Alike", (), names)()
+        for call in (versions.kind, versions.sort_key, versions.Version, lambda it: versions.compare(it, "1")):
+            for other in (alike, versions.Version):
+                self.assertRaises(TypeError, call, other)
 
     def test_names_of_arguments(self):
         self.assertEqual(versions.kind(text="1.2"), "general")

@@ -98,7 +98,7 @@ class Versions(unittest.TestCase):
             self.assertEqual(str(raised.exception), f"not a version: {text!r}")
 
     def test_no_text(self):
-        for other in (None, 1.2, 5, b"1.2", ["1.2"], Version("1.2"), object):
+        for other in (None, 1.2, 5, b"1.2", ["1.2"], Requirement("=1.2"), object):
             with self.subTest(other=other), self.assertRaisesRegex(TypeError, type(other).__name__):
                 Version(other)
         with self.assertRaises(TypeError):

@@ -27,6 +27,10 @@ prerelease: Optional[bool] = version.is_prerelease
 sorted_texts: list[str] = versions.sorted(text for text in texts)
 sorted_versions: list[Version] = versions.sorted([version, newest])
 of_both: list[Union[str, Version]] = versions.sorted(["1.2", version])
+of_versions: Optional[Kind] = versions.kind(version)
+key_of_version: bytes = versions.sort_key(version)
+order_of_versions: int = versions.compare(version, "1.3") + versions.compare_total("1.2", version)
+again: Version = Version(version)
 text: str = InvalidVersion("1..2").text + InvalidRequirement("1").text + versions.__version__
 errors: list[type[ValueError]] = [InvalidVersion, InvalidRequirement]
 
@@ -41,6 +45,8 @@ below: bool = mine < version
 # What is wrong at run time is an error of the type checker, too: each comment is one that it must need.
 version < "1.2"  # type: ignore[operator]
 "1.2" >= version  # type: ignore[operator]
-versions.kind(version)  # type: ignore[arg-type]
+versions.kind(None)  # type: ignore[arg-type]
+Version(1.2)  # type: ignore[arg-type]
+versions.match_all(version, [])  # type: ignore[arg-type]
 versions.kinds([1.2])  # type: ignore[list-item]
 version.key = b""  # type: ignore[misc]

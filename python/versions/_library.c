@@ -13,7 +13,7 @@ struct state {
 };
 
 /*
- * One text
+ * One text, a str or that of a Version
  */
 
 static PyObject *kind(PyObject *module, PyObject *args, PyObject *named) {
@@ -24,7 +24,7 @@ static PyObject *kind(PyObject *module, PyObject *args, PyObject *named) {
   struct text text;
   int number;
 
-  if (read_arguments(args, named, "O:kind", names, &object, NULL) < 0 || read_text(object, &text) < 0) return NULL;
+  if (read_arguments(args, named, "O:kind", names, &object, NULL) < 0 || read_item(object, &text) < 0) return NULL;
   thread = let_go(text.size);
   number = versions_kind(text.bytes, text.size);
   take_again(thread);
@@ -49,7 +49,7 @@ static PyObject *compared(comparison *call, PyObject *first, PyObject *second) {
   int32_t order = 0;
   int status;
 
-  if (read_text(first, &a) < 0 || read_text(second, &b) < 0) return NULL;
+  if (read_item(first, &a) < 0 || read_item(second, &b) < 0) return NULL;
   thread = let_go(a.size > b.size ? a.size : b.size);
   status = call(a.bytes, a.size, b.bytes, b.size, &order);
   take_again(thread);
@@ -514,6 +514,8 @@ PyDoc_STRVAR(
     "kind(text)\n--\n\n"
     "The kind of a version: `'ideal'`, `'general'` or `'complex'`, the first that fits, or None for any other text.\n"
     "\n"
+    "It takes a `Version` too.\n"
+    "\n"
     ">>> kind(\"1.2.3-rc.1\"), kind(\"1:2.0rc1-3\"), kind(\"20.0026.1_0-2+0.93\"), kind(\"1..2\")\n"
     "('ideal', 'general', 'complex', None)\n");
 
@@ -525,6 +527,7 @@ PyDoc_STRVAR(
     "Versions that compare equal have equal keys, as `1.0` and `0:1.0`. No key is empty or a prefix of another. A key "
     "has\n"
     "at most three bytes for each byte of the text and five more. `InvalidVersion` where the text is not a version.\n"
+    "Of a `Version` it is the `key`.\n"
     "\n"
     ">>> sort_key(\"1.2.3\").hex()\n"
     "'000301310203013202030133020202'\n"
@@ -535,7 +538,7 @@ PyDoc_STRVAR(compare_doc,
              "compare(a, b)\n--\n\n"
              "-1, 0 or 1 where `a` is below, equal to or above `b` by precedence, the one order of all versions.\n"
              "\n"
-             "`InvalidVersion` with the first text that is not a version.\n"
+             "Each is a text or a `Version`. `InvalidVersion` with the first text that is not a version.\n"
              "\n"
              ">>> compare(\"1.2.0-rc.1\", \"1.2.0\"), compare(\"1.0\", \"0:1.0\"), compare(\"1:0.1\", \"9.9\")\n"
              "(-1, 0, 1)\n");
@@ -545,7 +548,7 @@ PyDoc_STRVAR(compare_total_doc,
              "The same with ties broken, by kind and then field by field, as `vers sort` orders its lines.\n"
              "\n"
              "It is 0 only where both are the same version, up to the metadata of ideal ones.\n"
-             "`InvalidVersion` with the first text that is not a version.\n"
+             "Each is a text or a `Version`. `InvalidVersion` with the first text that is not a version.\n"
              "\n"
              ">>> compare_total(\"1.0\", \"0:1.0\"), compare_total(\"1.0.0+a\", \"1.0.0+b\")\n"
              "(-1, 0)\n"

@@ -128,7 +128,7 @@ struct range {
 /* The names of the kinds, by their numbers. */
 extern const char *const kind_names[];
 
-/* The key of a version, and its kind. InvalidVersion for any other text. */
+/* The key of a str or of a Version, and its kind. InvalidVersion for a text that is not a version. */
 PyObject *key_of(PyObject *object, uint8_t *kind);
 
 /* Reads a str as a list of requirements, or copies what a Requirement keeps. InvalidRequirement for any other text. */

@@ -72,6 +72,15 @@ static PyObject *long_key_of(const struct text *text, uint8_t *kind, size_t size
   return raise_status(status);
 }
 
+/* The key that a Version keeps, and its kind. */
+static PyObject *kept_key(PyObject *object, uint8_t *kind) {
+  struct keyed *keyed = (struct keyed *)object;
+
+  *kind = keyed->kind;
+  Py_INCREF(keyed->key.bytes);
+  return keyed->key.bytes;
+}
+
 PyObject *key_of(PyObject *object, uint8_t *kind) {
   uint8_t key[1024];
   size_t size = 0;
@@ -79,6 +88,7 @@ PyObject *key_of(PyObject *object, uint8_t *kind) {
   struct text text;
   int status;
 
+  if (!PyUnicode_Check(object) && is_keyed(object)) return kept_key(object, kind);
   if (read_text(object, &text) < 0) return NULL;
   thread = let_go(text.size);
   status = versions_parse(text.bytes, text.size, kind, key, sizeof key, &size);
@@ -107,7 +117,7 @@ static PyObject *keyed_new(PyTypeObject *type, PyObject *args, PyObject *named) 
   keyed->key = ordered_of(key);
   keyed->kind = kind;
   /* The text of a subclass of str is copied, as it is and not as the subclass shows it. */
-  keyed->text = PyUnicode_FromObject(object);
+  keyed->text = PyUnicode_FromObject(PyUnicode_Check(object) ? object : keyed_text(object));
   if (keyed->text == NULL) Py_CLEAR(keyed);
   return (PyObject *)keyed;
 }

@@ -13,6 +13,8 @@ Kind = Literal["ideal", "general", "complex"]
 class Version(Value, _library.Keyed):
     """A version of any kind, which can't be changed. `InvalidVersion` where the text is not a version.
 
+    It is made of a text, or of a `Version`, whose text it has then.
+
     Comparisons, `==` and hashes go by precedence, the one order of all versions, and so by `key`. The text stays as it
     was written, and `str` returns it. Equal versions may have different texts. The requirement `=` distinguishes them:
     `Requirement("=1.0")` doesn't match `0:1.0`.
