@@ -120,6 +120,35 @@ class Array:
         return in_capsule(schema(self.format)), in_capsule(self.c_array())
 
 
+class Views(Array):
+    """The same as views, of which those of more than 12 bytes are of two buffers in turn."""
+
+    def __init__(self, texts, format=b"vu", first=0, length=None, pad=0, **changed):
+        super().__init__(texts, b"U", first, length, b"", pad)
+        self.format, self.changed = format, changed
+        self.parts, self.views = [b"", b"9.9"], b""
+        for place, text in enumerate(texts):
+            if text is None:
+                # What a null has in its place may be anything.
+                self.views += struct.pack("=4i", -7, -7, 9, -7)
+            elif len(text) <= 12:
+                self.views += struct.pack("=i12s", len(text), text)
+            else:
+                part = place % 2
+                self.views += struct.pack("=i4s2i", len(text), text[:4], part, len(self.parts[part]))
+                self.parts[part] += text
+        self.lengths = struct.pack("=2q", *map(len, self.parts))
+
+    def c_array(self):
+        blocks = [
+            None if part is None else ctypes.create_string_buffer(b"\0" * self.pad + part, self.pad + len(part))
+            for part in (self.validity, self.views, *self.parts, self.lengths)
+        ]
+        pointers = (c_void_p * 5)(*(None if block is None else ctypes.addressof(block) + self.pad for block in blocks))
+        fields = {"length": self.length, "null_count": -1, "offset": self.first, "n_buffers": 5, **self.changed}
+        return hand_out(CArray(buffers=ctypes.addressof(pointers), **fields), blocks, pointers)
+
+
 class Stream:
     """Of arrays. `error_at` is the call that fails: 0 is that of the schema, n is that of the n-th array."""
 

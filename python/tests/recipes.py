@@ -12,6 +12,7 @@ import re
 import sys
 import unittest
 
+import numpy
 import pandas
 
 import arrow
@@ -89,6 +90,30 @@ class Columns(unittest.TestCase):
                 self.assertEqual([key is None for key in versions.sort_keys(column)], [k is None for k in kinds])
                 self.assertEqual(versions.match_all("<1.9", column), [False, None, False, None, True])
                 self.assertEqual(versions.Requirement(">=1.9").filter(column), ["1.10", "1.9"])
+
+    def test_floats_of_numpy_and_times_that_are_missing(self):
+        floats = numpy.float16, numpy.float32, numpy.float64, numpy.longdouble
+        for missing in (*(each("nan") for each in floats), pandas.NaT):
+            for texts in (["1.2", missing], pandas.Series(["1.2", missing], dtype=object)):
+                with self.subTest(missing=missing):
+                    self.assertEqual(versions.kinds(texts), ["general", None])
+                    self.assertEqual(versions.match_all("*", texts), [True, None])
+                    self.assertEqual(versions.Requirement("*").filter(texts), ["1.2"])
+                    self.assertEqual(versions.sorted(texts, invalid="last", reverse=True)[0], "1.2")
+        for other in (numpy.float32(1.2), numpy.int64(1), numpy.bool_(False), pandas.Timestamp("2026-01-01")):
+            self.assertRaises(TypeError, versions.kinds, ["1.2", other])
+        self.assertEqual(versions.kinds(pandas.Series([None, None], dtype="float32")), [None, None])
+        self.assertEqual(versions.kinds(pandas.Series([None], dtype="datetime64[ns]")), [None])
+
+    def test_a_column_whose_export_fails(self):
+        class Series(pandas.Series):
+            """As one of pandas 3 without pyarrow."""
+
+            def __arrow_c_stream__(self, requested_schema=None):
+                raise ImportError("Missing optional dependency 'pyarrow'.")
+
+        self.assertEqual(versions.kinds(Series(TEXTS)), ["general", None, "general", None, "ideal"])
+        self.assertEqual(versions.match_all("<1.9", Series(TEXTS)), [False, None, False, None, True])
 
     def test_columns_of_versions(self):
         column = pandas.Series([versions.Version("1.10"), versions.Version("1.9"), None])

@@ -89,9 +89,54 @@ class Arrow(unittest.TestCase):
         self.assertEqual(versions.kinds(Both(arrow.Array([b"1.2"]))), ["complex"])
 
     def test_other_types(self):
-        for format in (b"l", b"vu", b"vz", b"+s", b"+l", b"w:4", b"", b"uu"):
+        words = r"string, binary, large_string, .*, string_view or .* \(format u, z, U, Z, vu or vz\)"
+        for format in (b"l", b"v", b"vuu", b"+vl", b"+s", b"+l", b"w:4", b"", b"uu"):
             for texts in (arrow.Array([b"1.2"], format), arrow.Stream(arrow.Array([b"1.2"], format), format=format)):
-                self.assertFails(TypeError, r"string, binary, large_string.*\(format u, z, U or Z\)", texts)
+                self.assertFails(TypeError, words, texts)
+
+    # Around the 12 bytes that a view has room for, and long.
+    LONG = [b"1.2.3-rc.1+12", None, b"1.2.3-rc.1+1", b"1_" * 200 + b"1", b"1:" + b"2." * 100 + b"3", *CONTENT]
+
+    def test_views(self):
+        kinds = ["ideal", None, "ideal", "complex", "general", *KINDS]
+        for format in (b"vu", b"vz"):
+            for pad in (0, 3):
+                views = arrow.Views(self.LONG, format, pad=pad)
+                for texts in (views, arrow.Stream(arrow.Views([], format), views, format=format)):
+                    self.assertEqual(versions.kinds(texts), kinds)
+                    texts_of = [None if text is None else text.decode("utf-8", "surrogateescape") for text in self.LONG]
+                    keys = [None if text is None else key_of(text) for text in texts_of]
+                    self.assertEqual(versions.sort_keys(texts), keys)
+                self.assertAnswers(arrow.Views(CONTENT, format, pad=pad))
+        for first in range(len(self.LONG) + 1):
+            for length in range(len(self.LONG) - first + 1):
+                found = versions.kinds(arrow.Views(self.LONG, b"vu", first, length))
+                self.assertEqual(found, kinds[first:first + length])
+        self.assertEqual(versions.kinds(arrow.Views([b"1.2"] * 3)), ["general"] * 3)
+
+    def test_views_that_are_wrong(self):
+        size, largest = 13, 2**31 - 1
+        for wrong in (
+            *((-1, 0, 0), (-size, 0, 0), (size, -1, 0), (size, 2, 0), (size, 3, 0), (size, largest, 0), (size, 0, -1)),
+            *((size, 0, 1), (size + 1, 0, 0), (size, 1, 0), (largest, 0, 0), (largest, 0, largest), (size, 0, largest)),
+        ):
+            views = arrow.Views([b"1.2", b"1.2.3-rc.1+12", None])
+            views.parts[0], views.parts[1] = b"1.2.3-rc.1+12", b"9.9"
+            views.lengths = struct.pack("=2q", 13, 3)
+            views.views = views.views[:16] + struct.pack("=i4s2i", wrong[0], b"1.2.", *wrong[1:]) + views.views[32:]
+            with self.subTest(wrong=wrong):
+                self.assertFails(ValueError, "has a view that", views)
+                self.assertFails(ValueError, "has a view that", arrow.Stream(views, format=b"vu"))
+        for changed in ({"length": -1}, {"offset": -1}, {"n_buffers": 2}, {"n_buffers": 0}, {"length": 2**59}):
+            with self.subTest(changed=changed):
+                self.assertFails(ValueError, "length", arrow.Views([b"1.2"], **changed))
+        for lacking in ("views", "lengths"):
+            views = arrow.Views([b"1.2.3-rc.1+12"])
+            setattr(views, lacking, None)
+            self.assertFails(ValueError, "lacks its views" if lacking == "views" else "has a view that", views)
+        views = arrow.Views([b"1.2.3-rc.1+12"])
+        views.parts[0] = None
+        self.assertFails(ValueError, "has a view that", views)
 
     def test_dictionaries(self):
         class Dictionary(arrow.Array):
@@ -100,6 +145,102 @@ class Arrow(unittest.TestCase):
                 return arrow.in_capsule(arrow.schema(b"u", inner)), arrow.in_capsule(self.c_array())
 
         self.assertFails(TypeError, "a dictionary", Dictionary([b"1.2"]))
+        iterable = type("Iterable", (Dictionary,), {"__iter__": lambda self: iter(USUAL)})
+        self.assertAnswers(iterable([b"1.2"]))
+
+    def test_what_is_not_exported_is_iterated(self):
+        def raising(error):
+            def method(self):
+                raise error
+            return method
+
+        def released(self):
+            schema, array = arrow.Array([b"9.9"]).__arrow_c_array__()
+            address = arrow.get_pointer(id(schema), b"arrow_schema")
+            arrow.Release(arrow.CSchema.from_address(address).release)(address)
+            return schema, array
+
+        names = array, stream = "__arrow_c_array__", "__arrow_c_stream__"
+        ways = [
+            *((name, raising(error)) for name in names for error in (ImportError(), AttributeError("mine"), OSError())),
+            *((name, property(raising(ValueError("mine")))) for name in names),
+            *((name, lambda self, it=it: it) for name in names for it in (None, 5, (), (1, 2), "arrow_array")),
+            *((name, 5) for name in names),
+            *((array, lambda self, f=f: arrow.Array([b"9.9"], f).__arrow_c_array__()) for f in (b"l", b"+s", b"")),
+            *((stream, lambda self, f=f: arrow.Stream(format=f).__arrow_c_stream__()) for f in (b"l", b"+s", b"")),
+            (array, lambda self: arrow.Array([b"9.9"]).__arrow_c_array__()[::-1]),
+            (array, released),
+            (stream, lambda self: arrow.Stream(error_at=0).__arrow_c_stream__()),
+        ]
+        sequence = {"__getitem__": lambda self, n: USUAL[n], "__len__": lambda self: len(USUAL)}
+        for name, way in ways:
+            for items in ({"__iter__": lambda self: iter(USUAL)}, sequence):
+                with self.subTest(name=name, way=way):
+                    self.assertAnswers(type("Column", (), {name: way, **items})())
+            # A list is iterated, too.
+            self.assertAnswers(type("Listed", (list,), {name: way})(USUAL))
+
+    def test_what_a_stream_has_handed_out_is_not_iterated_again(self):
+        class Column(arrow.Stream):
+            def __iter__(self):
+                return iter(["1.2"])
+
+        chunk, bad = arrow.Array([b"1.2"]), arrow.Array([b"1.2"], length=-1)
+        for n in (1, 2, 3):
+            self.assertFails(ValueError, "failed with 5: no more", Column(chunk, chunk, error_at=n))
+        self.assertFails(ValueError, "length", Column(bad))
+        self.assertFails(ValueError, "length", Column(chunk, bad))
+        column = type("Column", (arrow.Array,), {"__iter__": Column.__iter__})
+        self.assertFails(ValueError, "length", column([b"1.2"], length=-1))
+
+    def test_what_iterating_raises_after_an_export_that_failed(self):
+        mine, own = ImportError("mine"), OSError("own")
+        own.__context__ = KeyError("its own")
+
+        def column(iterate):
+            def export(self):
+                raise mine
+
+            return type("Column", (), {"__arrow_c_stream__": export, "__iter__": iterate})()
+
+        def raising(error):
+            def iterate(self):
+                raise error
+
+            return iterate
+
+        def midway(self):
+            yield "1.2"
+            raise OSError("midway")
+
+        for call in CALLS:
+            for iterate, words in (
+                (lambda self: iter(["1.2", 5]), "a text is a str, and this is of type int: 5"),
+                (midway, "midway"),
+                (raising(OSError("at once")), "at once"),
+            ):
+                with self.assertRaisesRegex((TypeError, OSError), words) as raised:
+                    call(column(iterate))
+                self.assertIs(raised.exception.__context__, mine)
+            with self.assertRaises(OSError) as raised:
+                call(column(raising(own)))
+            self.assertIsInstance(raised.exception.__context__, KeyError)
+            # What can't be iterated raises why it isn't exported.
+            for iterate in (None, lambda self: 5, raising(TypeError("no items")), raising(mine)):
+                with self.assertRaises(ImportError) as raised:
+                    call(column(iterate))
+                self.assertIs(raised.exception, mine)
+                self.assertIsNone(mine.__context__)
+
+    def test_what_is_not_about_the_export_is_raised(self):
+        for error in (MemoryError(), KeyboardInterrupt(), SystemExit(3)):
+            for name in ("__arrow_c_array__", "__arrow_c_stream__"):
+                def method(self):
+                    raise error
+
+                column = type("Column", (list,), {name: method})
+                for call in CALLS:
+                    self.assertRaises(type(error), call, column(["1.2"]))
 
     def test_bad_offsets(self):
         for format, code in ((b"u", "i"), (b"U", "q")):

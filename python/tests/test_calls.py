@@ -5,6 +5,7 @@ import importlib.metadata
 import inspect
 import os
 import pickle
+import random
 import subprocess
 import sys
 import threading
@@ -248,11 +249,59 @@ class Items(LongLists):
             self.assertRaises(TypeError, versions.kind, marker)
             for refused in (marker, nan, None):
                 self.assertRaises(TypeError, versions.sorted, [refused])
-                self.assertRaises(TypeError, versions.sorted, ["1.2", refused], invalid="last")
+                self.assertRaises(TypeError, versions.sorted, ["1.2", refused], reverse=True)
+                self.assertEqual(versions.sorted([refused, "1.2"], invalid="last"), ["1.2", refused])
                 self.assertEqual(versions.Requirement("*").filter(["1.2", refused]), ["1.2"])
             self.assertRaises(TypeError, versions.Requirement("*").filter, ["1.2", type(marker)()])
             sys.modules["pandas"] = Raising()
             self.assertRaisesRegex(OSError, "mine", versions.kinds, [marker])
+
+    def test_missing_values_of_numpy_and_of_time(self):
+        class floating:
+            """As numpy.floating, which is no float of Python."""
+
+            def __init__(self, number):
+                self.number = number
+
+            def __float__(self):
+                return self.number
+
+        class Longer(floating):
+            pass
+
+        nan, wanted = float("nan"), versions.Requirement("*")
+        pandas, numpy = types.ModuleType("pandas"), types.ModuleType("numpy")
+        # NaT differs from itself, and is told by what it is.
+        time = type("NaTType", (), {"__ne__": lambda self, other: True, "__eq__": lambda self, other: False})()
+        with mock.patch.dict(sys.modules):
+            for name in ("pandas", "numpy"):
+                sys.modules.pop(name, None)
+            for missing in (floating(nan), time):
+                self.assertRaises(TypeError, versions.kinds, [missing])
+            self.assertFalse({"numpy", "pandas"} & set(sys.modules))
+            sys.modules.update(pandas=pandas, numpy=numpy)
+            for missing in (floating(nan), time):
+                self.assertRaises(TypeError, versions.kinds, [missing])
+            pandas.NaT, numpy.floating = time, floating
+            for missing in (floating(nan), floating(-nan), Longer(nan), time):
+                self.assertEqual(versions.kinds(["1.2", missing, "1.2.3"]), ["general", None, "ideal"])
+                self.assertEqual(versions.sort_keys([missing]), [None])
+                self.assertEqual(versions.match_all("*", [missing, "1"]), [None, True])
+                self.assertEqual(wanted.filter([missing, "1"]), ["1"])
+                self.assertEqual(list(map(id, versions.sorted([missing], invalid="last"))), [id(missing)])
+                for call in (versions.kind, versions.sort_key, versions.Version, lambda it: versions.sorted([it])):
+                    self.assertRaises(TypeError, call, missing)
+            for other in (floating(1.2), Longer(float("inf")), type(time)(), floating, 1.2):
+                for call in (versions.kinds, wanted.filter, lambda items: versions.sorted(items, invalid="last")):
+                    self.assertRaises(TypeError, call, ["1.2", other])
+            for nothing in (None, 5, "floating", lambda: floating):
+                numpy.floating = nothing
+                self.assertRaises(TypeError, versions.kinds, [floating(nan)])
+            numpy.floating = floating
+            floating.__float__ = lambda self: 1 // 0
+            self.assertRaises(ZeroDivisionError, versions.kinds, [floating(nan)])
+            sys.modules["numpy"] = Raising()
+            self.assertRaisesRegex(OSError, "mine", versions.kinds, [floating(nan)])
 
     def test_an_iterable_with_attributes_of_an_array(self):
         for name in ("chunks", "buffers", "type", "offset"):
@@ -344,6 +393,70 @@ class Sorted(unittest.TestCase):
             self.assertEqual(versions.sorted([], reverse=reverse, invalid="last"), [])
             self.assertEqual(versions.sorted(["2", "2"], reverse=reverse, invalid="last"), ["2", "2"])
 
+    def test_missing_values_come_last_in_their_order(self):
+        nan, one = float("nan"), versions.Version("1")
+        items = [None, "2", "x y", nan, one, None, "", "3"]
+        for reverse, wanted in ((False, [one, "2", "3"]), (True, ["3", "2", one])):
+            found = versions.sorted(iter(items), reverse=reverse, invalid="last")
+            wanted = [*wanted, None, "x y", nan, None, ""]
+            self.assertEqual(list(map(id, found)), list(map(id, wanted)))
+            self.assertEqual(versions.sorted([None, None], reverse=reverse, invalid="last"), [None, None])
+            for other in (5, b"1", 1.2, versions.Requirement("*")):
+                self.assertRaises(TypeError, versions.sorted, ["1", other], reverse=reverse, invalid="last")
+            for invalid in ({}, {"invalid": "raise"}):
+                self.assertRaises(TypeError, versions.sorted, ["1", None], reverse=reverse, **invalid)
+
+    def test_key(self):
+        rows = [{"v": "1.10"}, {"v": versions.Version("1.9")}, {"v": "0:1.9"}, {"v": "1.9"}, {"v": "1.10rc1"}]
+        key = {"key": lambda row: row["v"]}
+        # By docs/ORDER.md `1.9` and `0:1.9` tie in `compare`, and not in `compare_total`.
+        for reverse, places in ((False, (1, 3, 2, 4, 0)), (True, (0, 4, 2, 1, 3))):
+            for given in (rows, tuple(rows), iter(rows)):
+                found = versions.sorted(given, reverse=reverse, **key)
+                self.assertEqual(list(map(id, found)), [id(rows[n]) for n in places])
+        self.assertEqual(versions.sorted(["2", "10"], key=None), ["2", "10"])
+        self.assertEqual(versions.sorted([3, 20, 1], key=str), [1, 3, 20])
+        self.assertEqual(versions.sorted([], key=None), versions.sorted([], key=5))
+        bad = [{"v": "x y"}, {"v": "1"}, {"v": None}, {"v": "2"}, {"v": ""}]
+        for reverse, places in ((False, (1, 3, 0, 2, 4)), (True, (3, 1, 0, 2, 4))):
+            found = versions.sorted(bad, reverse=reverse, invalid="last", **key)
+            self.assertEqual(list(map(id, found)), [id(bad[n]) for n in places])
+            for named, given in (("x y", [bad[1], bad[0], bad[4]]), ("", [bad[4], bad[0]])):
+                with self.assertRaises(versions.InvalidVersion) as raised:
+                    versions.sorted(given, reverse=reverse, **key)
+                self.assertEqual(raised.exception.text, named)
+            self.assertRaises(TypeError, versions.sorted, [bad[2]], reverse=reverse, **key)
+            self.assertRaises(TypeError, versions.sorted, ["1"], key=lambda item: 5, invalid="last", reverse=reverse)
+
+    def test_key_is_called_once_for_each_item_in_their_order(self):
+        for reverse in (False, True):
+            called = []
+            versions.sorted("3 1 2".split(), key=lambda item: called.append(item) or item, reverse=reverse)
+            self.assertEqual(called, ["3", "1", "2"])
+
+    def test_a_key_that_fails(self):
+        def failing(item):
+            if item == "2":
+                raise OSError("mine")
+            return item
+
+        self.assertRaisesRegex(OSError, "mine", versions.sorted, ["1", "2", "3"], key=failing)
+        for key in (5, "text", lambda: "1", lambda a, b: "1"):
+            self.assertRaises(TypeError, versions.sorted, ["1"], key=key)
+
+    def test_sorted_is_that_of_python_by_a_model(self):
+        chosen = random.Random(2)
+        # In increasing order by docs/ORDER.md; those of one text tie.
+        order = "0.9.0", "1.0.0 1.0.0+a 1.0.0+b", *"1.2 1.2+a 1.2+b 0:1.2 01.2 1.002 1.2.0-rc.1 1:0.1".split()
+        ranks = {text: n for n, tied in enumerate(order) for text in tied.split()}
+        texts = [*ranks, "x y", "", None]
+        for _ in range(2000):
+            items = [(n, text) for n, text in enumerate(chosen.choices(texts, k=chosen.randrange(12)))]
+            for reverse in (False, True):
+                found = versions.sorted(items, key=lambda item: item[1], reverse=reverse, invalid="last")
+                wanted = sorted((i for i in items if i[1] in ranks), key=lambda i: ranks[i[1]], reverse=reverse)
+                self.assertEqual(found, wanted + [item for item in items if item[1] not in ranks])
+
     def test_in_reverse_the_first_text_that_is_not_a_version_is_named(self):
         for invalid in ({}, {"invalid": "raise"}):
             with self.assertRaises(versions.InvalidVersion) as raised:
@@ -356,7 +469,8 @@ class Sorted(unittest.TestCase):
         for wrong in (None, True, b"last"):
             self.assertRaises(TypeError, versions.sorted, ["1"], invalid=wrong)
         self.assertRaises(TypeError, versions.sorted, ["1"], True)
-        self.assertEqual(str(inspect.signature(versions.sorted)), "(texts, *, reverse=False, invalid='raise')")
+        signature = "(texts, *, key=None, reverse=False, invalid='raise')"
+        self.assertEqual(str(inspect.signature(versions.sorted)), signature)
 
     def test_is_not_among_the_names_of_a_star(self):
         names = {}

@@ -207,6 +207,10 @@ CALLS = {
     "match_all of no requirement": partial(versions.match_all, "1.2", ["1.2"]),
     "sorted": partial(versions.sorted, ["1.3", "1.2", LONG]),
     "sorted in reverse": partial(versions.sorted, ["1.3", "1..2", LONG], reverse=True, invalid="last"),
+    "sorted with missing values": partial(versions.sorted, [None, "1.2", float("nan")], invalid="last"),
+    "sorted by a key": partial(versions.sorted, [["1.3"], [LONG]], key=operator.itemgetter(0), reverse=True),
+    "sorted by a key of no version": partial(versions.sorted, [["1.3"], ["1..2"]], key=operator.itemgetter(0)),
+    "sorted by a key that fails": partial(versions.sorted, [["1.3"], []], key=operator.itemgetter(0)),
     "sorted of a wrong name": partial(versions.sorted, ["1.3"], invalid="first"),
     "sorted of no version": partial(versions.sorted, ["1.2", PLAIN, "1..2"]),
     "sorted of no text": partial(versions.sorted, ["1.2", None]),
@@ -246,8 +250,22 @@ ARROW_CALLS = {
     "stream": lambda: versions.kinds(arrow.Stream(array(), array(), format=b"u")),
     "stream that fails": lambda: versions.kinds(arrow.Stream(array(), format=b"u", error_at=2)),
     "stream with a bad length": lambda: versions.kinds(arrow.Stream(array(), array(length=-1), format=b"u")),
-    "stream of another type": lambda: versions.kinds(arrow.Stream(format=b"vu")),
+    "stream of another type": lambda: versions.kinds(arrow.Stream(format=b"l")),
+    "views": lambda: versions.kinds(arrow.Views([b"1.2", None, b"1" * 99])),
+    "views with a bad length": lambda: versions.kinds(arrow.Views([b"1.2"], length=-1)),
+    "array of another type with items": lambda: versions.kinds(Items([b"1"], b"l")),
+    "array of another type with items that fail": lambda: versions.kinds(BadItems([b"1"], b"l")),
 }
+
+
+class Items(arrow.Array):
+    def __iter__(self):
+        return iter(["1.2", None])
+
+
+class BadItems(arrow.Array):
+    def __iter__(self):
+        return iter(["1.2", 5])
 
 
 def outcome(call):

@@ -27,6 +27,11 @@ prerelease: Optional[bool] = version.is_prerelease
 sorted_texts: list[str] = versions.sorted(text for text in texts)
 sorted_versions: list[Version] = versions.sorted([version, newest])
 of_both: list[Union[str, Version]] = versions.sorted(["1.2", version])
+last_texts: list[str] = versions.sorted(texts, invalid="last", reverse=True)
+with_missing: list[Optional[str]] = versions.sorted(["1.2", None], invalid="last")
+with_all: list[Union[str, Version, None]] = versions.sorted(["1.2", version, None], invalid="last")
+rows: list[tuple[int, str]] = versions.sorted([(1, "1.2")], key=lambda row: row[1], reverse=True)
+rows_last: list[tuple[Optional[str]]] = versions.sorted([("1.2",), (None,)], key=lambda row: row[0], invalid="last")
 of_versions: Optional[Kind] = versions.kind(version)
 key_of_version: bytes = versions.sort_key(version)
 order_of_versions: int = versions.compare(version, "1.3") + versions.compare_total("1.2", version)
@@ -47,6 +52,9 @@ version < "1.2"  # type: ignore[operator]
 "1.2" >= version  # type: ignore[operator]
 versions.kind(None)  # type: ignore[arg-type]
 Version(1.2)  # type: ignore[arg-type]
+versions.sorted(["1.2", None])  # type: ignore[type-var]
+versions.sorted([("1.2",)])  # type: ignore[type-var]
+versions.sorted([1], key=lambda row: row)  # type: ignore[arg-type,return-value]
 versions.match_all(version, [])  # type: ignore[arg-type]
 versions.kinds([1.2])  # type: ignore[list-item]
 version.key = b""  # type: ignore[misc]

@@ -318,26 +318,24 @@ static int ask_sort_keys(const struct call *Py_UNUSED(call), const struct texts 
   return failed;
 }
 
-/* Gathers the texts of an iterable. A missing value becomes a text that is not a version. */
-static int gather(struct gathered *gathered, PyObject *iterable) {
-  const struct text missing = {NOT_UTF8, sizeof NOT_UTF8 - 1};
-  PyObject *iterator = PyObject_GetIter(iterable), *item;
-  int failed = iterator == NULL ? -1 : 0;
+/* Gathers the texts that an iterator gives. A missing value, where those are taken, becomes a text of no version. */
+static int gather(struct gathered *gathered, PyObject *iterator, bool takes_missing) {
+  PyObject *item;
+  int failed = 0;
 
   while (failed == 0 && (item = PyIter_Next(iterator)) != NULL) {
-    struct text text;
-    int found = read_item_or_none(item, &text);
+    struct text text = {NOT_UTF8, sizeof NOT_UTF8 - 1};
 
-    failed = found < 0 ? -1 : add_text(gathered, found == 0 ? &missing : &text);
+    failed = takes_missing ? read_item_or_none(item, &text) : read_item(item, &text);
+    if (failed >= 0) failed = add_text(gathered, &text);
     Py_DECREF(item);
   }
-  Py_XDECREF(iterator);
   return failed < 0 || PyErr_Occurred() ? -1 : 0;
 }
 
-static int ask_iterable(const struct call *call, PyObject *iterable, PyObject *answers) {
+static int ask_iterator(const struct call *call, PyObject *iterator, PyObject *answers) {
   struct gathered gathered = {NULL, 0, 0, NULL, 0, 0};
-  int failed = gather(&gathered, iterable);
+  int failed = gather(&gathered, iterator, true);
 
   if (failed == 0) {
     struct texts texts = texts_of(&gathered);
@@ -345,6 +343,25 @@ static int ask_iterable(const struct call *call, PyObject *iterable, PyObject *a
     failed = call->ask(call, &texts, answers);
   }
   free_gathered(&gathered);
+  return failed;
+}
+
+/*
+ * Asks about the items of an iterable. An error that is set says why its Arrow arrays are not read. It is raised if the
+ * object can't be iterated, and is otherwise the context of what iterating it raises.
+ */
+static int ask_iterable(const struct call *call, PyObject *iterable, PyObject *answers) {
+  struct error refused = put_aside();
+  PyObject *iterator = PyObject_GetIter(iterable);
+  int failed;
+
+  if (iterator == NULL && refused.type != NULL && PyErr_ExceptionMatches(PyExc_TypeError)) {
+    put_back(refused);
+    return -1;
+  }
+  failed = iterator == NULL ? -1 : ask_iterator(call, iterator, answers);
+  Py_XDECREF(iterator);
+  add_context(refused);
   return failed;
 }
 
@@ -400,6 +417,7 @@ static PyObject *match_all(PyObject *Py_UNUSED(module), PyObject *args, PyObject
 /* What is sorted, how, and with what. */
 struct sort {
   PyObject *items; /* a list that only this call knows */
+  PyObject *texts; /* a list of what `key` gives for each item, or `items` where there is no key */
   bool reverse, last;
   struct keys keys;
   uint64_t *order;
@@ -414,9 +432,9 @@ static size_t versions_of(const struct sort *sort, size_t count) {
 /* Raises InvalidVersion with the first text that is not a version, of those from `good` on in sorted order. */
 static void *raise_first(const struct sort *sort, size_t good, size_t count) {
   uint64_t place = sort->order[sort->reverse ? count - 1 : good];
-  PyObject *item = PyList_GetItem(sort->items, (Py_ssize_t)place);
 
-  return raise_invalid("InvalidVersion", is_keyed(item) ? keyed_text(item) : item);
+  /* A Version is one, so this is a str. */
+  return raise_invalid("InvalidVersion", PyList_GetItem(sort->texts, (Py_ssize_t)place));
 }
 
 /* Appends the items of the places from `from` up to `end` in sorted order, or in reverse. */
@@ -462,45 +480,65 @@ static PyObject *sort_texts(struct sort *sort, const struct texts *texts) {
   return answers;
 }
 
-static int gather_items(struct gathered *gathered, PyObject *items) {
-  Py_ssize_t place, count = PyList_Size(items);
-  int failed = 0;
-
-  for (place = 0; failed == 0 && place < count; place++) {
-    struct text text;
-
-    failed = read_item(PyList_GetItem(items, place), &text) < 0 ? -1 : add_text(gathered, &text);
-  }
-  return failed;
+/* Reverses what is sorted, if it is to be sorted in reverse. */
+static int turn(const struct sort *sort) {
+  if (!sort->reverse) return 0;
+  if (sort->texts != sort->items && PyList_Reverse(sort->texts) < 0) return -1;
+  return PyList_Reverse(sort->items);
 }
 
 static PyObject *sort_items(struct sort *sort) {
   struct gathered gathered = {NULL, 0, 0, NULL, 0, 0};
-  PyObject *answers = NULL;
+  PyObject *iterator = turn(sort) < 0 ? NULL : PyObject_GetIter(sort->texts), *answers = NULL;
 
-  if ((!sort->reverse || PyList_Reverse(sort->items) == 0) && gather_items(&gathered, sort->items) == 0) {
+  if (iterator != NULL && gather(&gathered, iterator, sort->last) == 0) {
     struct texts texts = texts_of(&gathered);
 
     answers = sort_texts(sort, &texts);
   }
+  Py_XDECREF(iterator);
   free_gathered(&gathered);
   return answers;
 }
 
+/* A list of what the key gives for each item; the items themselves where the key is None. */
+static PyObject *texts_by(PyObject *key, PyObject *items) {
+  PyObject *texts, *iterator, *item;
+
+  if (key == Py_None) {
+    Py_INCREF(items);
+    return items;
+  }
+  texts = PyList_New(0);
+  iterator = texts == NULL ? NULL : PyObject_GetIter(items);
+  while (iterator != NULL && texts != NULL && (item = PyIter_Next(iterator)) != NULL) {
+    PyObject *text = PyObject_CallFunctionObjArgs(key, item, NULL);
+
+    if (text == NULL || PyList_Append(texts, text) < 0) Py_CLEAR(texts);
+    Py_XDECREF(text);
+    Py_DECREF(item);
+  }
+  Py_XDECREF(iterator);
+  if (PyErr_Occurred()) Py_CLEAR(texts);
+  return texts;
+}
+
 static PyObject *sorted(PyObject *Py_UNUSED(module), PyObject *args, PyObject *named) {
-  static char *names[] = {"texts", "reverse", "invalid", NULL};
-  struct sort sort = {NULL, false, false, {NULL, 0, NULL}, NULL};
+  static char *names[] = {"texts", "key", "reverse", "invalid", NULL};
+  struct sort sort = {NULL, NULL, false, false, {NULL, 0, NULL}, NULL};
   const char *invalid = "raise";
-  PyObject *texts, *answers;
+  PyObject *texts, *key = Py_None, *answers;
   int reverse = 0;
 
-  if (!PyArg_ParseTupleAndKeywords(args, named, "O|$ps:sorted", names, &texts, &reverse, &invalid)) return NULL;
+  if (!PyArg_ParseTupleAndKeywords(args, named, "O|$Ops:sorted", names, &texts, &key, &reverse, &invalid)) return NULL;
   sort.reverse = reverse;
   sort.last = strcmp(invalid, "last") == 0;
   if (!sort.last && strcmp(invalid, "raise") != 0)
     return fail(PyExc_ValueError, "invalid is 'raise' or 'last', and this is '%s'", invalid);
   if (refuse_one(texts) < 0 || (sort.items = PySequence_List(texts)) == NULL) return NULL;
-  answers = sort_items(&sort);
+  sort.texts = texts_by(key, sort.items);
+  answers = sort.texts == NULL ? NULL : sort_items(&sort);
+  Py_XDECREF(sort.texts);
   Py_DECREF(sort.items);
   return answers;
 }
@@ -561,7 +599,11 @@ PyDoc_STRVAR(
     "kinds(texts)\n--\n\n"
     "The kind of each of many texts, as `kind` gives it.\n"
     "\n"
-    "`texts` is an iterable of texts or `Version`s, or an Arrow array of texts. A missing value has the answer None.\n"
+    "`texts` is an iterable of texts or `Version`s, or an Arrow array of texts. An object whose Arrow arrays fail to "
+    "be\n"
+    "exported, or are of another type, is iterated. A missing value has the answer None: None, a NaN of Python or "
+    "numpy,\n"
+    "and NA and NaT of pandas.\n"
     "\n"
     ">>> kinds([\"1.2.3\", None, \"1.2\", \"1..2\"])\n"
     "['ideal', None, 'general', None]\n");
@@ -589,19 +631,24 @@ PyDoc_STRVAR(match_all_doc,
              "[True, False, None, None]\n");
 
 PyDoc_STRVAR(sorted_doc,
-             "sorted(texts, *, reverse=False, invalid='raise')\n--\n\n"
+             "sorted(texts, *, key=None, reverse=False, invalid='raise')\n--\n\n"
              "A list of texts or `Version`s in the order of `compare_total`, or in reverse.\n"
              "\n"
              "`texts` is an iterable. Those that `compare_total` ties keep their order, in reverse too.\n"
+             "With `key`, the items may be anything, and they are in the order of what `key` returns for each, which "
+             "is a text\n"
+             "or a `Version`.\n"
              "`InvalidVersion` with the first text that is not a version. With `invalid='last'` such texts come last,\n"
-             "in their order, in reverse too.\n"
+             "and so do missing values, as `kinds` has them: in their order, in reverse too.\n"
              "`from versions import *` leaves this name out, since Python has a function of the name.\n"
              "\n"
              ">>> import versions\n"
              ">>> versions.sorted([\"1.10\", \"0:1.9\", \"1.9\", \"1.10rc1\"])\n"
              "['1.9', '0:1.9', '1.10rc1', '1.10']\n"
-             ">>> versions.sorted([\"1.9\", \"x y\", \"1.10\"], reverse=True, invalid='last')\n"
-             "['1.10', '1.9', 'x y']\n");
+             ">>> versions.sorted([\"1.9\", \"x y\", None, \"1.10\"], reverse=True, invalid='last')\n"
+             "['1.10', '1.9', 'x y', None]\n"
+             ">>> versions.sorted([(\"a\", \"1.10\"), (\"b\", \"1.9\")], key=lambda item: item[1])\n"
+             "[('b', '1.9'), ('a', '1.10')]\n");
 
 static PyMethodDef functions[] = {
     {"kind", NAMED(kind), METH_VARARGS | METH_KEYWORDS, kind_doc},

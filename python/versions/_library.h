@@ -31,6 +31,17 @@
  */
 void *fail(PyObject *type, const char *format, ...);
 
+/* An error that is put aside while code runs that may raise others. Its type is null where there is none. */
+struct error {
+  PyObject *type, *value, *trace;
+};
+
+struct error put_aside(void);
+void put_back(struct error error);
+
+/* Makes an error that was put aside the context of the one that is raised since, or forgets it where none is. */
+void add_context(struct error context);
+
 /* Raises an error of the package that holds the text, InvalidVersion or InvalidRequirement. */
 void *raise_invalid(const char *name, PyObject *text);
 
@@ -93,7 +104,10 @@ PyThreadState *let_go_of(const struct texts *texts);
 /* Reads the text of a str or of a Version. */
 int read_item(PyObject *item, struct text *text);
 
-/* The same. Returns 1, or 0 for a missing value: None, NaN or the NA of pandas. */
+/*
+ * The same. Returns 1, or 0 for a missing value, and leaves `text` as it is then: None, a float of Python or numpy that
+ * is not a number, and NA and NaT of pandas.
+ */
 int read_item_or_none(PyObject *item, struct text *text);
 
 /* Adds a copy of a text to those that are gathered. */
@@ -156,7 +170,10 @@ struct call {
   const struct range *wanted; /* the requirement of match_all */
 };
 
-/* Makes a call on texts of Arrow. Returns 1, or 0 if the object has none. */
+/*
+ * Makes a call on texts of Arrow. Returns 1, or 0 if the object offers none: without an error, or with the one that
+ * says why it doesn't export them or why their type isn't taken.
+ */
 int ask_arrow(const struct call *call, PyObject *object, PyObject *answers);
 
 #endif

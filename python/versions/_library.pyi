@@ -1,6 +1,6 @@
 """The types of `_library.c`."""
 
-from typing import Any, Iterable, Literal, Optional, Protocol, TypeVar, Union
+from typing import Any, Callable, Iterable, Literal, Optional, Protocol, TypeVar, Union, overload
 
 from typing_extensions import Self
 
@@ -8,7 +8,7 @@ from ._requirement import Requirement
 from ._version import Kind, Version
 
 class ArrowArray(Protocol):
-    """An Arrow array of type string, binary, large_string or large_binary."""
+    """An Arrow array of type string, binary, large_string, large_binary, string_view or binary_view."""
 
     def __arrow_c_array__(self) -> tuple[Any, Any]: ...
 
@@ -19,6 +19,17 @@ class ArrowStream(Protocol):
 
 Texts = Union[Iterable[Union[str, Version, None]], ArrowArray, ArrowStream]
 VersionOrText = TypeVar("VersionOrText", str, Version, Union[str, Version])
+# Also with missing values.
+VersionOrMissing = TypeVar(
+    "VersionOrMissing",
+    str,
+    Version,
+    Union[str, Version],
+    Optional[str],
+    Optional[Version],
+    Union[str, Version, None],
+)
+Item = TypeVar("Item")
 
 __version__: str
 
@@ -66,9 +77,30 @@ def compare_total(a: Union[str, Version], b: Union[str, Version]) -> int: ...
 def kinds(texts: Texts) -> list[Optional[Kind]]: ...
 def sort_keys(texts: Texts) -> list[Optional[bytes]]: ...
 def match_all(requirement: Union[str, Requirement], texts: Texts) -> list[Optional[bool]]: ...
+@overload
 def sorted(
-    texts: Iterable[VersionOrText], *, reverse: bool = ..., invalid: Literal["raise", "last"] = ...
+    texts: Iterable[VersionOrText], *, key: None = ..., reverse: bool = ..., invalid: Literal["raise"] = ...
 ) -> list[VersionOrText]: ...
+@overload
+def sorted(
+    texts: Iterable[VersionOrMissing], *, key: None = ..., reverse: bool = ..., invalid: Literal["last"]
+) -> list[VersionOrMissing]: ...
+@overload
+def sorted(
+    texts: Iterable[Item],
+    *,
+    key: Callable[[Item], Union[str, Version]],
+    reverse: bool = ...,
+    invalid: Literal["raise"] = ...,
+) -> list[Item]: ...
+@overload
+def sorted(
+    texts: Iterable[Item],
+    *,
+    key: Callable[[Item], Union[str, Version, None]],
+    reverse: bool = ...,
+    invalid: Literal["last"],
+) -> list[Item]: ...
 def nth(text: str, n: int) -> Optional[int]: ...
 def epoch(text: str) -> Optional[int]: ...
 def field(text: str, which: int) -> Optional[str]: ...

@@ -46,6 +46,35 @@ void *raise_status(int status) {
   return fail(PyExc_RuntimeError, "versions: the library returned status %d", status);
 }
 
+struct error put_aside(void) {
+  struct error error;
+
+  PyErr_Fetch(&error.type, &error.value, &error.trace);
+  return error;
+}
+
+void put_back(struct error error) { PyErr_Restore(error.type, error.value, error.trace); }
+
+void add_context(struct error context) {
+  struct error raised = put_aside();
+  PyObject *of_its_own = NULL;
+
+  if (raised.type != NULL && context.type != NULL) {
+    PyErr_NormalizeException(&raised.type, &raised.value, &raised.trace);
+    PyErr_NormalizeException(&context.type, &context.value, &context.trace);
+    of_its_own = PyException_GetContext(raised.value);
+    if (of_its_own == NULL && context.value != raised.value) {
+      Py_INCREF(context.value);
+      PyException_SetContext(raised.value, context.value);
+    }
+  }
+  Py_XDECREF(of_its_own);
+  Py_XDECREF(context.type);
+  Py_XDECREF(context.value);
+  Py_XDECREF(context.trace);
+  put_back(raised);
+}
+
 /*
  * One text
  */
@@ -98,31 +127,56 @@ PyThreadState *let_go_of(const struct texts *texts) {
   return let_go(texts->count > LONG ? texts->count : texts->size);
 }
 
-/* Whether an item is a missing value: None, a float that is not a number, or the NA of pandas where that is loaded. */
+/* What a module has by a name, and NULL without an error where it isn't loaded or has nothing of that name. */
+static PyObject *of_loaded(const char *module, const char *name) {
+  PyObject *named = PyUnicode_FromString(module), *loaded, *found;
+
+  if (named == NULL) return NULL;
+  loaded = PyImport_GetModule(named);
+  Py_DECREF(named);
+  if (loaded == NULL) return NULL;
+  found = PyObject_GetAttrString(loaded, name);
+  Py_DECREF(loaded);
+  if (found == NULL && PyErr_ExceptionMatches(PyExc_AttributeError)) PyErr_Clear();
+  return found;
+}
+
+/* Whether an item is what pandas has by that name. */
+static int is_of_pandas(PyObject *item, const char *name) {
+  PyObject *found = of_loaded("pandas", name);
+  int answer = found == item;
+
+  Py_XDECREF(found);
+  return PyErr_Occurred() ? -1 : answer;
+}
+
+/* Whether an item is a float of numpy, of any width. */
+static int is_of_numpy(PyObject *item) {
+  PyObject *floating = of_loaded("numpy", "floating");
+  int answer = floating != NULL && PyType_Check(floating) && PyType_IsSubtype(Py_TYPE(item), (PyTypeObject *)floating);
+
+  Py_XDECREF(floating);
+  return PyErr_Occurred() ? -1 : answer;
+}
+
+/* Whether a float, of Python or of numpy, is not a number. */
+static int is_nan(PyObject *item) {
+  double number = PyFloat_AsDouble(item);
+
+  return PyErr_Occurred() ? -1 : number != number;
+}
+
+/* Whether an item is a missing value. */
 static int is_missing(PyObject *item) {
-  PyObject *name, *pandas, *missing;
   int answer;
 
   if (item == Py_None) return 1;
-  if (PyFloat_Check(item)) {
-    double number = PyFloat_AsDouble(item);
-
-    return number != number;
-  }
-  name = PyUnicode_FromString("pandas");
-  if (name == NULL) return -1;
-  pandas = PyImport_GetModule(name);
-  Py_DECREF(name);
-  if (pandas == NULL) return PyErr_Occurred() ? -1 : 0;
-  missing = PyObject_GetAttrString(pandas, "NA");
-  Py_DECREF(pandas);
-  if (missing == NULL) {
-    if (!PyErr_ExceptionMatches(PyExc_AttributeError)) return -1;
-    PyErr_Clear();
-  }
-  answer = item == missing;
-  Py_XDECREF(missing);
-  return answer;
+  if (PyFloat_Check(item)) return is_nan(item);
+  answer = is_of_pandas(item, "NA");
+  if (answer == 0) answer = is_of_pandas(item, "NaT");
+  if (answer != 0) return answer;
+  answer = is_of_numpy(item);
+  return answer == 1 ? is_nan(item) : answer;
 }
 
 int read_item(PyObject *item, struct text *text) {

@@ -531,7 +531,7 @@ PyDoc_STRVAR(filter_doc,
              "filter($self, versions)\n--\n\n"
              "Those of many versions that it matches, in their order: of an iterable of `Version`s and texts.\n"
              "\n"
-             "Texts that are not versions are left out, and so are missing values: None, NaN and `pandas.NA`.\n"
+             "Texts that are not versions are left out, and so are missing values, as `kinds` has them.\n"
              "\n"
              ">>> Requirement(\"^1.2.0\").filter([\"1.1.0\", \"1.3.0\", \"x y\", None, \"2.0.0\", \"1.2.0\"])\n"
              "['1.3.0', '1.2.0']\n");
