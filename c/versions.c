@@ -7,37 +7,11 @@
 #include <cpuid.h>
 
 /*
- * The proved functions. crates/versions_c exports them under the names of the functions below, and c/build adds the
- * prefix proved_. Their pointers are never null, because a slice in Rust is never null, even if it is empty.
+ * The proved functions. crates/versions_c exports them under the names of the functions below; c/build adds the prefix
+ * proved_, and writes their prototypes. Their pointers are never null, because a slice in Rust is never null, even if
+ * it is empty.
  */
-int proved_versions_kind(const char *text, size_t text_len);
-int proved_versions_compare(const char *a, size_t a_len, const char *b, size_t b_len, int32_t *order);
-int proved_versions_compare_total(const char *a, size_t a_len, const char *b, size_t b_len, int32_t *order);
-int proved_versions_sort_key(const char *text, size_t text_len, uint8_t *key, size_t room, size_t *key_len);
-int proved_versions_parse(const char *text, size_t text_len, uint8_t *kind, uint8_t *key, size_t room, size_t *key_len);
-size_t proved_versions_sort_key_bound(size_t text_len);
-int proved_versions_matches(const char *list, size_t list_len, const char *text, size_t text_len, bool *matches);
-int proved_versions_wrong_member(const char *list, size_t list_len, size_t *start, size_t *end);
-int proved_versions_range(const char *list, size_t list_len, uint8_t *low, size_t low_room, size_t *low_len,
-                          uint8_t *high, size_t high_room, size_t *high_len, uint32_t *flags);
-int proved_versions_in_range(const char *text, size_t text_len, const uint8_t *low, size_t low_len, const uint8_t *high,
-                             size_t high_len, uint32_t flags, bool *is_in);
-int proved_versions_nth(const char *text, size_t text_len, size_t n, uint32_t *number);
-int proved_versions_epoch(const char *text, size_t text_len, uint64_t *epoch);
-int proved_versions_field(const char *text, size_t text_len, uint32_t field, size_t *start, size_t *end);
-int proved_versions_is_prerelease(const char *text, size_t text_len, bool *is_prerelease);
-int proved_versions_kinds(const char *texts, size_t texts_len, const int64_t *offsets, size_t offsets_len,
-                          uint8_t *kinds, size_t kinds_len);
-int proved_versions_sort_keys(const char *texts, size_t texts_len, const int64_t *offsets, size_t offsets_len,
-                              uint8_t *keys, size_t room, int64_t *key_offsets, size_t key_offsets_len);
-int proved_versions_sort(const char *texts, size_t texts_len, const int64_t *offsets, size_t offsets_len, uint8_t *keys,
-                         size_t room, int64_t *key_offsets, size_t key_offsets_len, uint64_t *order,
-                         size_t order_len);
-int proved_versions_match_all(const char *list, size_t list_len, const char *texts, size_t texts_len,
-                              const int64_t *offsets, size_t offsets_len, uint8_t *matches, size_t matches_len);
-int proved_versions_in_range_all(const char *texts, size_t texts_len, const int64_t *offsets, size_t offsets_len,
-                                 const uint8_t *low, size_t low_len, const uint8_t *high, size_t high_len,
-                                 uint32_t flags, uint8_t *answers, size_t answers_len);
+#include "proved.h"
 
 /* Stands in for a null pointer to an empty array. It is aligned for each type, and is neither read nor written. */
 static uint64_t nothing;
@@ -184,6 +158,8 @@ const char *versions_status_text(int status) {
     case VERSIONS_NULL: return "a pointer is null, and what it should point to is not empty";
     case VERSIONS_NO_FIELD: return "the version has no such field";
     case VERSIONS_NO_WRONG_MEMBER: return "each member of the list is a requirement";
+    case VERSIONS_LARGE_EPOCH: return "the epoch is above 9223372036854775807";
+    case VERSIONS_UNKNOWN_FIELD: return "no field has that number";
     default: return "not a status of this library";
   }
 }

@@ -61,6 +61,8 @@ extern "C" {
 #define VERSIONS_NULL 10            /* a pointer is null, and what it should point to is not empty */
 #define VERSIONS_NO_FIELD 11        /* the version has no such field */
 #define VERSIONS_NO_WRONG_MEMBER 12 /* each member of the list is a requirement */
+#define VERSIONS_LARGE_EPOCH 13     /* the epoch is above 9223372036854775807 */
+#define VERSIONS_UNKNOWN_FIELD 14   /* no field has that number */
 
 /* The kinds. */
 #define VERSIONS_NONE 0    /* not a version */
@@ -172,10 +174,10 @@ int versions_wrong_member(const char *list, size_t list_len, size_t *start, size
  * VERSIONS_RANGE_EXACT added, to *flags. No low bound is missing, but it can be empty: every key is above it. Without
  * VERSIONS_RANGE_HIGH there is no high bound, and *high_len is 0. The rest of each buffer is then unspecified.
  *
- * If a buffer is too small, the call returns VERSIONS_NO_ROOM, sets *low_len and *high_len to sizes that are large
- * enough, which may be larger than the bounds, and writes nothing else. Buffers of versions_sort_key_bound(list_len)
- * bytes are always large enough. To get only the sizes, pass the rooms 0; `low` and `high` may then be null. If room 0
- * is enough for both bounds, as for *, the call returns VERSIONS_OK.
+ * If a bound is longer than its buffer, the call returns VERSIONS_NO_ROOM, sets *low_len and *high_len to the lengths of
+ * the two bounds, and writes nothing else. Buffers of versions_sort_key_bound(list_len) bytes are always large enough.
+ * To get only the lengths, pass the rooms 0; `low` and `high` may then be null. If room 0 is enough for both bounds, as
+ * for *, the call returns VERSIONS_OK.
  *
  * An index over keys answers a list by one scan. With a table that has the key and the kind of each version, in the
  * order of the keys:
@@ -227,10 +229,11 @@ int versions_nth(const char *text, size_t text_len, size_t n, uint32_t *number);
 /*
  * Gets the epoch of a version: the number before its colon, which counts first in the order. 1:2.0-3 has 1.
  *
- * A general or messy version has an epoch if its text begins with digits and a colon: 8:2007f~dfsg-7 has 8. For an
- * epoch above 9223372036854775807 the call sets *epoch to 9223372036854775807; versions_field finds its digits.
+ * A general or messy version has an epoch if its text begins with digits and a colon: 8:2007f~dfsg-7 has 8. An epoch
+ * is at most 9223372036854775807, so that it fits a signed number too. For a larger one the call sets *epoch to
+ * 9223372036854775807, as strtoll does, and returns VERSIONS_LARGE_EPOCH; versions_field finds its digits.
  *
- * Returns VERSIONS_OK, VERSIONS_NO_VERSION, or VERSIONS_NO_NUMBER for a version without an epoch.
+ * Returns VERSIONS_OK, VERSIONS_NO_VERSION, VERSIONS_NO_NUMBER for a version without an epoch, or VERSIONS_LARGE_EPOCH.
  */
 int versions_epoch(const char *text, size_t text_len, uint64_t *epoch);
 
@@ -241,8 +244,8 @@ int versions_epoch(const char *text, size_t text_len, uint64_t *epoch);
  * The field is the bytes of the text from *start up to, but without, *end. No field is empty. A strict version can have
  * a pre-release and metadata, a general version an epoch, a release and metadata, and a messy version an epoch.
  *
- * Returns VERSIONS_OK, VERSIONS_NO_VERSION, or VERSIONS_NO_FIELD for a version without that field and for every other
- * number of a field.
+ * Returns VERSIONS_OK, VERSIONS_UNKNOWN_FIELD for every other number (whatever the text is), VERSIONS_NO_VERSION, or
+ * VERSIONS_NO_FIELD for a version without that field.
  */
 int versions_field(const char *text, size_t text_len, uint32_t field, size_t *start, size_t *end);
 

@@ -260,8 +260,9 @@ FUNCTIONS(version_epoch) {
   Span span = span_of(PG_GETARG_TEXT_PP(0));
   uint64_t epoch;
   int status = versions_epoch(span.bytes, span.len, &epoch);
-  if (status != VERSIONS_OK) return no_result(fcinfo, typed, status, span);
-  PG_RETURN_INT64((int64)epoch); /* at most the largest bigint */
+  /* A large epoch is the largest bigint. */
+  if (status != VERSIONS_OK && status != VERSIONS_LARGE_EPOCH) return no_result(fcinfo, typed, status, span);
+  PG_RETURN_INT64((int64)epoch);
 }
 
 /* A field of the argument, as a text. */

@@ -359,11 +359,14 @@ static void version_epoch(sqlite3_context *context, int count, sqlite3_value **v
   (void)count;
   if (!text.bytes) {
     sqlite3_result_error_nomem(context);
-  } else if (versions_epoch(text.bytes, text.len, &epoch) == VERSIONS_OK) {
-    /* At most the largest integer of SQLite. */
-    sqlite3_result_int64(context, (sqlite3_int64)epoch);
-  } else {
-    sqlite3_result_null(context);
+    return;
+  }
+  switch (versions_epoch(text.bytes, text.len, &epoch)) {
+    case VERSIONS_OK:
+    case VERSIONS_LARGE_EPOCH: /* and `epoch` is then the largest integer of SQLite */
+      sqlite3_result_int64(context, (sqlite3_int64)epoch);
+      break;
+    default: sqlite3_result_null(context);
   }
 }
 

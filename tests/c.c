@@ -185,7 +185,9 @@ static void check_fields(const char *text, size_t length, int kind) {
       CHECK(start == wanted_start && end == wanted_end);
       CHECK(start < end && end <= length);
     } else {
-      CHECK(status == (kind == VERSIONS_NONE ? VERSIONS_NO_VERSION : VERSIONS_NO_FIELD));
+      bool is_field = VERSIONS_FIELD_EPOCH <= fields[i] && fields[i] <= VERSIONS_FIELD_METADATA;
+      int without = kind == VERSIONS_NONE ? VERSIONS_NO_VERSION : VERSIONS_NO_FIELD;
+      CHECK(status == (is_field ? without : VERSIONS_UNKNOWN_FIELD));
       CHECK(start == 77 && end == 78);
     }
   }
@@ -201,12 +203,21 @@ static uint64_t number_of(const char *digits, size_t length) {
   return value < INT64_MAX ? value : INT64_MAX;
 }
 
+// Whether the number of some digits is greater than INT64_MAX.
+static bool is_large(const char *digits, size_t length) {
+  static const char largest[] = "9223372036854775807";
+  for (; length > 0 && *digits == '0'; length--) digits++;
+  if (length != strlen(largest)) return length > strlen(largest);
+  return memcmp(digits, largest, length) > 0;
+}
+
 static void check_epoch(const char *text, size_t length, int kind) {
   size_t start, end;
   uint64_t epoch = 77;
   int status = versions_epoch(text, length, &epoch);
   if (field_of(text, length, kind, VERSIONS_FIELD_EPOCH, &start, &end)) {
-    CHECK(status == VERSIONS_OK && epoch == number_of(text, end));
+    CHECK(epoch == number_of(text, end));
+    CHECK(status == (is_large(text, end) ? VERSIONS_LARGE_EPOCH : VERSIONS_OK));
   } else {
     CHECK(status == (kind == VERSIONS_NONE ? VERSIONS_NO_VERSION : VERSIONS_NO_NUMBER) && epoch == 77);
   }
@@ -338,7 +349,7 @@ static void free_range(struct range *range) {
 }
 
 // The range that a list asks for. Checks that a buffer that is too small stays unchanged, that the sizes that a call
-// reports are enough, and that so are those of versions_sort_key_bound.
+// reports are those of the bounds, and that those of versions_sort_key_bound are enough.
 static bool range_of(const char *list, size_t length, struct range *range) {
   size_t bound = versions_sort_key_bound(length), low = 77, high = 77, low_room, high_room;
   uint32_t flags = 77;
@@ -368,7 +379,7 @@ static bool range_of(const char *list, size_t length, struct range *range) {
   }
   CHECK(versions_range(list, length, range->low, low_room, &range->low_length, range->high, high_room,
                        &range->high_length, &range->flags) == VERSIONS_OK);
-  CHECK(range->low_length <= low_room && range->high_length <= high_room && range->flags < 32);
+  CHECK(range->low_length == low_room && range->high_length == high_room && range->flags < 32);
   CHECK((range->flags & VERSIONS_RANGE_HIGH) != 0 || range->high_length == 0);
 
   uint8_t *low_bytes = (uint8_t *)block(bound), *high_bytes = (uint8_t *)block(bound);
@@ -606,117 +617,6 @@ static void sorted(const char *texts, const int64_t *offsets, size_t count, cons
   CHECK(order[count] == 77);
 }
 
-// A null pointer with another length than 0 is an error, whatever else is wrong, and nothing is written.
-static void refused_null_pointers(void) {
-  const int64_t offsets[] = {0, 5}, descending[] = {5, 0};
-  int32_t order = 77;
-  bool matches = true;
-  uint32_t number = 77;
-  uint64_t epoch = 77;
-  size_t length = 77, end = 77;
-  uint8_t answers[8], kind = 77;
-  const uint8_t keys[8] = {0};
-  int64_t key_offsets[2] = {77, 77};
-  uint64_t place = 77;
-  memset(answers, 77, sizeof answers);
-  CHECK(versions_kind(NULL, 1) == -VERSIONS_NULL);
-  CHECK(versions_kind(NULL, SIZE_MAX) == -VERSIONS_NULL);
-
-  CHECK(versions_compare(NULL, 1, "1", 1, &order) == VERSIONS_NULL);
-  CHECK(versions_compare("1", 1, NULL, SIZE_MAX, &order) == VERSIONS_NULL);
-  CHECK(versions_compare("", 0, NULL, 1, &order) == VERSIONS_NULL);
-  CHECK(versions_compare("1", 1, "2", 1, NULL) == VERSIONS_NULL);
-  CHECK(versions_compare_total(NULL, 1, "1", 1, &order) == VERSIONS_NULL);
-  CHECK(versions_compare_total("1", 1, NULL, SIZE_MAX, &order) == VERSIONS_NULL);
-  CHECK(versions_compare_total("", 0, NULL, 1, &order) == VERSIONS_NULL);
-  CHECK(versions_compare_total("1", 1, "2", 1, NULL) == VERSIONS_NULL);
-  CHECK(order == 77);
-
-  CHECK(versions_sort_key(NULL, 5, answers, sizeof answers, &length) == VERSIONS_NULL);
-  CHECK(versions_sort_key("1.2.3", 5, NULL, 20, &length) == VERSIONS_NULL);
-  CHECK(versions_sort_key("1.2.3", 5, NULL, 1, &length) == VERSIONS_NULL);
-  CHECK(versions_sort_key("", 0, NULL, 1, &length) == VERSIONS_NULL);
-  CHECK(versions_sort_key("1.2.3", 5, answers, sizeof answers, NULL) == VERSIONS_NULL);
-  CHECK(versions_sort_key("1.2.3", 5, NULL, 0, NULL) == VERSIONS_NULL);
-  CHECK(versions_parse(NULL, 5, &kind, answers, sizeof answers, &length) == VERSIONS_NULL);
-  CHECK(versions_parse("1.2.3", 5, NULL, answers, sizeof answers, &length) == VERSIONS_NULL);
-  CHECK(versions_parse("1.2.3", 5, &kind, NULL, 20, &length) == VERSIONS_NULL);
-  CHECK(versions_parse("1.2.3", 5, &kind, answers, sizeof answers, NULL) == VERSIONS_NULL);
-  CHECK(versions_parse("no version", 10, NULL, NULL, 0, &length) == VERSIONS_NULL);
-  CHECK(length == 77 && kind == 77);
-
-  CHECK(versions_matches(NULL, 1, "1", 1, &matches) == VERSIONS_NULL);
-  CHECK(versions_matches("*", 1, NULL, 1, &matches) == VERSIONS_NULL);
-  CHECK(versions_matches("no list", 7, NULL, 1, &matches) == VERSIONS_NULL);
-  CHECK(versions_matches("*", 1, "1", 1, NULL) == VERSIONS_NULL);
-  CHECK(matches);
-  CHECK(versions_wrong_member(NULL, 1, &length, &end) == VERSIONS_NULL);
-  CHECK(versions_wrong_member("no list", 7, NULL, &end) == VERSIONS_NULL);
-  CHECK(versions_wrong_member("no list", 7, &length, NULL) == VERSIONS_NULL);
-  CHECK(versions_wrong_member("*", 1, NULL, &end) == VERSIONS_NULL);
-  CHECK(length == 77 && end == 77);
-  CHECK(versions_range(NULL, 1, answers, 8, &length, answers, 8, &length, &number) == VERSIONS_NULL);
-  CHECK(versions_range("*", 1, NULL, 8, &length, answers, 8, &length, &number) == VERSIONS_NULL);
-  CHECK(versions_range("*", 1, answers, 8, NULL, answers, 8, &length, &number) == VERSIONS_NULL);
-  CHECK(versions_range("*", 1, answers, 8, &length, NULL, 8, &length, &number) == VERSIONS_NULL);
-  CHECK(versions_range("*", 1, answers, 8, &length, answers, 8, NULL, &number) == VERSIONS_NULL);
-  CHECK(versions_range("*", 1, answers, 8, &length, answers, 8, &length, NULL) == VERSIONS_NULL);
-  CHECK(versions_range("no list", 7, NULL, 1, &length, NULL, 0, &length, &number) == VERSIONS_NULL);
-  CHECK(length == 77);
-  CHECK(versions_in_range(NULL, 1, answers, 8, answers, 8, 7, &matches) == VERSIONS_NULL);
-  CHECK(versions_in_range("1", 1, NULL, 8, answers, 8, 7, &matches) == VERSIONS_NULL);
-  CHECK(versions_in_range("1", 1, answers, 8, NULL, 8, 7, &matches) == VERSIONS_NULL);
-  CHECK(versions_in_range("1", 1, answers, 8, answers, 8, 7, NULL) == VERSIONS_NULL);
-  CHECK(versions_in_range("no version", 10, NULL, 1, NULL, 0, 7, &matches) == VERSIONS_NULL);
-  CHECK(matches);
-  CHECK(versions_nth(NULL, 1, 0, &number) == VERSIONS_NULL);
-  CHECK(versions_nth("1", 1, 0, NULL) == VERSIONS_NULL);
-  CHECK(versions_nth("", 0, 0, NULL) == VERSIONS_NULL);
-  CHECK(number == 77);
-  CHECK(versions_epoch(NULL, 1, &epoch) == VERSIONS_NULL);
-  CHECK(versions_epoch("1:2", 3, NULL) == VERSIONS_NULL);
-  CHECK(versions_epoch("no version", 10, NULL) == VERSIONS_NULL);
-  CHECK(epoch == 77);
-  CHECK(versions_field(NULL, 1, VERSIONS_FIELD_EPOCH, &length, &end) == VERSIONS_NULL);
-  CHECK(versions_field("1:2", 3, VERSIONS_FIELD_EPOCH, NULL, &end) == VERSIONS_NULL);
-  CHECK(versions_field("1:2", 3, VERSIONS_FIELD_EPOCH, &length, NULL) == VERSIONS_NULL);
-  CHECK(versions_field("no version", 10, UINT32_MAX, &length, NULL) == VERSIONS_NULL);
-  CHECK(length == 77 && end == 77);
-  CHECK(versions_is_prerelease(NULL, 1, &matches) == VERSIONS_NULL);
-  CHECK(versions_is_prerelease("1.2.3", 5, NULL) == VERSIONS_NULL);
-  CHECK(matches);
-
-  CHECK(versions_kinds(NULL, 5, offsets, 2, answers, 1) == VERSIONS_NULL);
-  CHECK(versions_kinds("1.2.3", 5, NULL, 2, answers, 1) == VERSIONS_NULL);
-  CHECK(versions_kinds("1.2.3", 5, offsets, 2, NULL, 1) == VERSIONS_NULL);
-  CHECK(versions_kinds("1.2.3", 5, descending, 2, NULL, 1) == VERSIONS_NULL);
-  CHECK(versions_sort_keys(NULL, 5, offsets, 2, answers, sizeof answers, key_offsets, 2) == VERSIONS_NULL);
-  CHECK(versions_sort_keys("1.2.3", 5, NULL, 2, answers, sizeof answers, key_offsets, 2) == VERSIONS_NULL);
-  CHECK(versions_sort_keys("1.2.3", 5, offsets, 2, NULL, 20, key_offsets, 2) == VERSIONS_NULL);
-  CHECK(versions_sort_keys("1.2.3", 5, offsets, 2, answers, sizeof answers, NULL, 2) == VERSIONS_NULL);
-  CHECK(versions_sort_keys("1.2.3", 5, descending, 2, NULL, 20, key_offsets, 2) == VERSIONS_NULL);
-  CHECK(versions_sort(NULL, 5, offsets, 2, answers, sizeof answers, key_offsets, 2, &place, 1) == VERSIONS_NULL);
-  CHECK(versions_sort("1.2.3", 5, NULL, 2, answers, sizeof answers, key_offsets, 2, &place, 1) == VERSIONS_NULL);
-  CHECK(versions_sort("1.2.3", 5, offsets, 2, NULL, 20, key_offsets, 2, &place, 1) == VERSIONS_NULL);
-  CHECK(versions_sort("1.2.3", 5, offsets, 2, answers, sizeof answers, NULL, 2, &place, 1) == VERSIONS_NULL);
-  CHECK(versions_sort("1.2.3", 5, offsets, 2, answers, sizeof answers, key_offsets, 2, NULL, 1) == VERSIONS_NULL);
-  CHECK(versions_sort("1.2.3", 5, descending, 2, answers, sizeof answers, key_offsets, 2, NULL, 1) == VERSIONS_NULL);
-  CHECK(place == 77);
-  CHECK(versions_match_all(NULL, 1, "1.2.3", 5, offsets, 2, answers, 1) == VERSIONS_NULL);
-  CHECK(versions_match_all("*", 1, NULL, 5, offsets, 2, answers, 1) == VERSIONS_NULL);
-  CHECK(versions_match_all("*", 1, "1.2.3", 5, NULL, 2, answers, 1) == VERSIONS_NULL);
-  CHECK(versions_match_all("*", 1, "1.2.3", 5, offsets, 2, NULL, 1) == VERSIONS_NULL);
-  CHECK(versions_match_all("no list", 7, "1.2.3", 5, descending, 2, NULL, 1) == VERSIONS_NULL);
-  CHECK(versions_in_range_all(NULL, 5, offsets, 2, keys, 8, keys, 8, 7, answers, 1) == VERSIONS_NULL);
-  CHECK(versions_in_range_all("1.2.3", 5, NULL, 2, keys, 8, keys, 8, 7, answers, 1) == VERSIONS_NULL);
-  CHECK(versions_in_range_all("1.2.3", 5, offsets, 2, NULL, 8, keys, 8, 7, answers, 1) == VERSIONS_NULL);
-  CHECK(versions_in_range_all("1.2.3", 5, offsets, 2, keys, 8, NULL, 8, 7, answers, 1) == VERSIONS_NULL);
-  CHECK(versions_in_range_all("1.2.3", 5, offsets, 2, keys, 8, keys, 8, 7, NULL, 1) == VERSIONS_NULL);
-  CHECK(versions_in_range_all("1.2.3", 5, descending, 2, keys, 8, keys, 8, 7, NULL, 1) == VERSIONS_NULL);
-  for (size_t i = 0; i < sizeof answers; i++) CHECK(answers[i] == 77);
-  CHECK(key_offsets[0] == 77 && key_offsets[1] == 77);
-}
-
 // Fields of texts, by docs/GRAMMAR.md and docs/ORDER.md. A place that ends at 0 stands for no field.
 struct place {
   size_t start, end;
@@ -773,7 +673,8 @@ static void worked_fields(void) {
         CHECK(status == VERSIONS_OK);
         CHECK(start == worked[i].fields[field - 1].start && end == worked[i].fields[field - 1].end);
       } else {
-        CHECK(status == (worked[i].kind == VERSIONS_NONE ? VERSIONS_NO_VERSION : VERSIONS_NO_FIELD));
+        int without = worked[i].kind == VERSIONS_NONE ? VERSIONS_NO_VERSION : VERSIONS_NO_FIELD;
+        CHECK(status == (field == 0 || field == 5 ? VERSIONS_UNKNOWN_FIELD : without));
         CHECK(start == 77 && end == 78);
       }
     }
@@ -781,6 +682,9 @@ static void worked_fields(void) {
   }
   size_t start = 77, end = 78;
   CHECK(versions_field(NULL, 0, VERSIONS_FIELD_EPOCH, &start, &end) == VERSIONS_NO_VERSION);
+  CHECK(versions_field(NULL, 0, 0, &start, &end) == VERSIONS_UNKNOWN_FIELD);
+  CHECK(versions_field("1.2.3-1+x", 9, 99, &start, &end) == VERSIONS_UNKNOWN_FIELD);
+  CHECK(versions_field("1.2.3-1+x", 9, UINT32_MAX, &start, &end) == VERSIONS_UNKNOWN_FIELD);
   CHECK(start == 77 && end == 78);
 }
 
@@ -788,30 +692,31 @@ static void worked_epochs(void) {
   static const struct {
     const char *text;
     uint64_t epoch;
+    int status;
   } worked[] = {
-      {"0:7", 0},
-      {"00:7", 0},
-      {"1:2.0rc1-3", 1},
-      {"01:1.0", 1},
-      {"1:2:3", 1},
-      {"8:2007f~dfsg-7", 8},
-      {"20081126:1.03-4", 20081126},
-      {"4294967295:1", 4294967295},
-      {"4294967296:1", 4294967296},
-      {"4294967297:1", 4294967297},
-      {"9223372036854775806:1", 9223372036854775806},
-      {"9223372036854775807:1", 9223372036854775807},
-      {"9223372036854775808:1", 9223372036854775807},
-      {"9223372036854775810:1", 9223372036854775807},
-      {"10000000000000000000:1", 9223372036854775807},
-      {"18446744073709551615:1", 9223372036854775807},
-      {"18446744073709551616:1", 9223372036854775807},
-      {"18446744073709551623:1", 9223372036854775807},
-      {"99999999999999999999:1", 9223372036854775807},
-      {"1000000000000000000000000000000000000000:1", 9223372036854775807},
-      {"0000000000000000000000000000000000000007:1", 7},
-      {"0000000000000000000009223372036854775807:1", 9223372036854775807},
-      {"0000000000000000000009223372036854775808:1", 9223372036854775807},
+      {"0:7", 0, VERSIONS_OK},
+      {"00:7", 0, VERSIONS_OK},
+      {"1:2.0rc1-3", 1, VERSIONS_OK},
+      {"01:1.0", 1, VERSIONS_OK},
+      {"1:2:3", 1, VERSIONS_OK},
+      {"8:2007f~dfsg-7", 8, VERSIONS_OK},
+      {"20081126:1.03-4", 20081126, VERSIONS_OK},
+      {"4294967295:1", 4294967295, VERSIONS_OK},
+      {"4294967296:1", 4294967296, VERSIONS_OK},
+      {"4294967297:1", 4294967297, VERSIONS_OK},
+      {"9223372036854775806:1", 9223372036854775806, VERSIONS_OK},
+      {"9223372036854775807:1", 9223372036854775807, VERSIONS_OK},
+      {"9223372036854775808:1", 9223372036854775807, VERSIONS_LARGE_EPOCH},
+      {"9223372036854775810:1", 9223372036854775807, VERSIONS_LARGE_EPOCH},
+      {"10000000000000000000:1", 9223372036854775807, VERSIONS_LARGE_EPOCH},
+      {"18446744073709551615:1", 9223372036854775807, VERSIONS_LARGE_EPOCH},
+      {"18446744073709551616:1", 9223372036854775807, VERSIONS_LARGE_EPOCH},
+      {"18446744073709551623:1", 9223372036854775807, VERSIONS_LARGE_EPOCH},
+      {"99999999999999999999:1", 9223372036854775807, VERSIONS_LARGE_EPOCH},
+      {"1000000000000000000000000000000000000000:1", 9223372036854775807, VERSIONS_LARGE_EPOCH},
+      {"0000000000000000000000000000000000000007:1", 7, VERSIONS_OK},
+      {"0000000000000000000009223372036854775807:1", 9223372036854775807, VERSIONS_OK},
+      {"0000000000000000000009223372036854775808:1", 9223372036854775807, VERSIONS_LARGE_EPOCH},
   };
   static const char *const without[] = {"1.2.3-1", "1.2-1", "1.0_1", "1.0_1:2", "1-2:3", "1.2:3", "1a:2", "r1:2"};
   uint64_t epoch = 77;
@@ -824,7 +729,7 @@ static void worked_epochs(void) {
   CHECK(epoch == 77);
   for (size_t i = 0; i < sizeof worked / sizeof *worked; i++) {
     epoch = 77;
-    CHECK(versions_epoch(worked[i].text, strlen(worked[i].text), &epoch) == VERSIONS_OK);
+    CHECK(versions_epoch(worked[i].text, strlen(worked[i].text), &epoch) == worked[i].status);
     CHECK(epoch == worked[i].epoch);
     check_values(worked[i].text, strlen(worked[i].text), versions_kind(worked[i].text, strlen(worked[i].text)));
   }
@@ -1033,7 +938,7 @@ static void bad_offsets(void) {
 
 // Every status has its own text.
 static void statuses(void) {
-  for (int a = VERSIONS_OK; a <= VERSIONS_NO_WRONG_MEMBER + 1; a++) {
+  for (int a = VERSIONS_OK; a <= VERSIONS_UNKNOWN_FIELD + 1; a++) {
     CHECK(strlen(versions_status_text(a)) > 5);
     for (int b = VERSIONS_OK; b < a; b++) CHECK(strcmp(versions_status_text(a), versions_status_text(b)) != 0);
   }
@@ -1332,10 +1237,21 @@ static void ranges(void) {
   every.flags = 0;
   CHECK(in_range("1.2.3", 5, &every) == 0);
 
-  // What is no list has no range, and nothing is written: also if a first member could be.
+  // Buffers of the bounds' lengths, 13 for 2.0.0 and 14 for 2.5.0, are enough where other members have longer ones.
   uint8_t low[64], high[64];
   size_t low_length = 77, high_length = 77;
   uint32_t flags = 77;
+  static const char crossed[] = ">=1.0.0-abcdefghijklmnop,>=2.0.0,<3.0.0-abcdefghijklmnop,<2.5.0";
+  CHECK(versions_range(crossed, sizeof crossed - 1, low, 12, &low_length, high, 14, &high_length, &flags) ==
+        VERSIONS_NO_ROOM);
+  CHECK(low_length == 13 && high_length == 14 && flags == 77);
+  CHECK(versions_range(crossed, sizeof crossed - 1, low, 13, &low_length, high, 14, &high_length, &flags) ==
+        VERSIONS_OK);
+  CHECK(low_length == 13 && high_length == 14);
+
+  // What is no list has no range, and nothing is written: also if a first member could be.
+  low_length = high_length = 77;
+  flags = 77;
   static const char *const others[] = {"", ",", ">=1,", ",>=1", ">=1,x", ">=1,>=2,1", "1.2", "**", "^"};
   memset(low, 170, sizeof low);
   memset(high, 170, sizeof high);
@@ -1429,7 +1345,6 @@ int main(int count, char **words) {
     sorted_places();
     refused_lengths();
     bad_offsets();
-    refused_null_pointers();
     statuses();
     library();
   } else if (strcmp(word, "long") == 0) {

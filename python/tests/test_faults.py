@@ -18,8 +18,12 @@ from functools import partial
 import arrow
 import versions
 from compiled import WithFolder, compiled
+from test_calls import LIBRARY
 
 HERE = os.path.dirname(os.path.abspath(__file__))
+sys.path.insert(0, os.path.join(HERE, "..", "..", "tests", "support"))
+from calls import stand_ins  # noqa: E402
+
 PACKAGE = os.path.join(HERE, "..", "versions")
 SOURCES = [os.path.join(PACKAGE, name) for name in sorted(os.listdir(PACKAGE)) if name.endswith(".c")]
 
@@ -28,7 +32,10 @@ class FakeLibrary(WithFolder):
     @classmethod
     def setUpClass(cls):
         super().setUpClass()
-        sources = *SOURCES, os.path.join(HERE, "fake_library.c")
+        others = os.path.join(cls.folder, "others.c")
+        with open(os.path.join(LIBRARY, "versions.h"), encoding="ascii") as header, open(others, "w") as written:
+            written.write(stand_ins(header.read()))
+        sources = *SOURCES, os.path.join(HERE, "fake_library.c"), others
         cls.path = compiled(cls.folder, "_library.so", "-DPy_LIMITED_API=0x03090000", *sources)
         cls.shared = ctypes.CDLL(cls.path)
 

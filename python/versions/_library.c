@@ -122,7 +122,9 @@ static PyObject *epoch(PyObject *Py_UNUSED(module), PyObject *object) {
   thread = let_go(text.size);
   status = versions_epoch(text.bytes, text.size, &number);
   take_again(thread);
-  return status == VERSIONS_OK ? PyLong_FromUnsignedLongLong(number) : none_or_raise(status, object);
+  /* A large epoch is the largest one that the library writes. */
+  if (status != VERSIONS_OK && status != VERSIONS_LARGE_EPOCH) return none_or_raise(status, object);
+  return PyLong_FromUnsignedLongLong(number);
 }
 
 /* field(text, which): the field as it is written, by the number that versions.h gives it */

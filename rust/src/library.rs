@@ -19,6 +19,7 @@ const NO_VERSION_AB: c_int = 4;
 const NO_REQUIREMENTS: c_int = 5;
 const NO_NUMBER: c_int = 6;
 const NO_FIELD: c_int = 11;
+const LARGE_EPOCH: c_int = 13;
 
 const IDEAL: c_int = 1;
 const GENERAL: c_int = 2;
@@ -444,14 +445,14 @@ pub fn nth(text: &str, n: usize) -> Option<u32> {
     }
 }
 
-/// The epoch of a version. Panics where the text is not a version.
+/// The epoch of a version, or the largest `i64` for a larger one. Panics where the text is not a version.
 pub fn epoch(text: &str) -> Option<u64> {
     let mut epoch = 0;
     // SAFETY: the pointer and the length are those of `text`, which is only read; `epoch` is
     // written.
     let status = unsafe { versions_epoch(start(text), text.len(), &mut epoch) };
     match status {
-        OK => Some(epoch),
+        OK | LARGE_EPOCH => Some(epoch),
         NO_NUMBER => None,
         _ => unexpected("versions_epoch", "status", status),
     }

@@ -72,20 +72,20 @@ pub fn times(rt: &HostRuntime, text: &str) -> io::Result<[Duration; COUNT]> {
     ])
 }
 
-// Returns the processor's time since the last reading; other work on the machine adds little to it.
+/// Returns the processor's time since the last reading; other work on the machine adds little to it.
 #[derive(Drop)]
-struct Watch {
+pub struct Watch {
     last: Duration,
 }
 
 impl Watch {
-    fn start(clock: &impl CpuClock) -> io::Result<Watch> {
+    pub fn start(clock: &impl CpuClock) -> io::Result<Watch> {
         Ok(Watch {
             last: clock.thread_cpu_time()?,
         })
     }
 
-    fn lap(&mut self, clock: &impl CpuClock) -> io::Result<Duration> {
+    pub fn lap(&mut self, clock: &impl CpuClock) -> io::Result<Duration> {
         let now = clock.thread_cpu_time()?;
         let taken = now.saturating_sub(self.last);
         self.last = now;

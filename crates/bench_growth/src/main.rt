@@ -1,19 +1,22 @@
-//! The program `bench_growth`: the time of each call on one long version, for each byte of its text. If the work is
-//! linear, that time is the same for texts of any length. `bench/growth` runs it. With the word `check`, as the gate
-//! runs it, it makes the same calls on short texts, and prints the texts and no times.
+//! The program `bench_growth`: the time of each call on one long version, or on a long list and a long version, for each
+//! byte of its text. If the work is linear, that time is the same for texts of any length. `bench/growth` runs it. With
+//! the word `check`, as the gate runs it, it makes the same calls on short texts, and prints the texts and no times.
 #![tactic(auto)]
 
 mod calls;
+mod lists;
 mod shape;
 
 use calls::{COUNT, NAMES, times};
+use lists::List;
 use shape::Shape;
 use std::num::nearest_usize_to_f64;
 use std::time::Duration;
 use std::{env, io};
 
 const USAGE: &str =
-    "usage: bench_growth signs|letters|dots|metadata MEGABYTES, or bench_growth check";
+    "usage: bench_growth SHAPE MEGABYTES, or bench_growth check; SHAPE is signs, letters, dots, \
+    metadata, or of a list zeros, digits, words, epochs";
 
 const ROUNDS: u8 = 3;
 
@@ -27,14 +30,23 @@ fn main(rt: HostRuntime) -> io::Result<()> {
     {
         return check(&rt);
     }
-    match wanted(words.as_slice()) {
-        Some((shape, bytes)) => {
-            let text = shape.text(rt.alloc(), bytes)?;
-            let best = best_times(&rt, text.as_str())?;
-            print(&rt, best, text.len())
-        }
-        None => println!(rt; "{USAGE}"),
+    let Some((name, bytes)) = wanted(words.as_slice()) else {
+        return println!(rt; "{USAGE}");
+    };
+    if let Some(shape) = Shape::named(name) {
+        let text = shape.text(rt.alloc(), bytes)?;
+        let best = best_times(&rt, text.as_str())?;
+        return print(&rt, &NAMES, &best, text.len());
     }
+    if let Some(list) = List::named(name) {
+        let (text, version) = (
+            list.text(rt.alloc(), bytes)?,
+            list.version(rt.alloc(), bytes)?,
+        );
+        let best = best_list_times(&rt, text.as_str(), version.as_str())?;
+        return print(&rt, &lists::NAMES, &best, text.len());
+    }
+    println!(rt; "{USAGE}")
 }
 
 // Prints a line for each shape, with a short text and the calls whose results were checked.
@@ -48,18 +60,24 @@ fn check(rt: &HostRuntime) -> io::Result<()> {
         }
         println!(rt)?;
     }
+    for (name, list) in lists::ALL {
+        let (text, version) = (list.text(rt.alloc(), FEW)?, list.version(rt.alloc(), FEW)?);
+        lists::times(rt, text.as_str(), version.as_str())?;
+        print!(rt; "{name} {text} {version}:")?;
+        for call in lists::NAMES {
+            print!(rt; " {call}")?;
+        }
+        println!(rt)?;
+    }
     Ok(())
 }
 
-// Returns the shape and the length that the words name.
-fn wanted(words: &[String]) -> Option<(Shape, usize)> {
+// Returns the name of a shape and the length that the words are.
+fn wanted(words: &[String]) -> Option<(&str, usize)> {
     match words {
         [shape, megabytes] => {
             let megabytes = megabytes.as_str().parse::<usize>().ok()?;
-            Some((
-                Shape::named(shape.as_str())?,
-                megabytes.checked_mul(1_000_000)?,
-            ))
+            Some((shape.as_str(), megabytes.checked_mul(1_000_000)?))
         }
         _ => None,
     }
@@ -77,9 +95,25 @@ fn best_times(rt: &HostRuntime, text: &str) -> io::Result<[Duration; COUNT]> {
     Ok(best)
 }
 
+// The same for a list and a version.
+fn best_list_times(
+    rt: &HostRuntime,
+    text: &str,
+    version: &str,
+) -> io::Result<[Duration; lists::COUNT]> {
+    let mut best = [Duration::MAX; lists::COUNT];
+    for _ in 0..ROUNDS {
+        let taken = lists::times(rt, text, version)?;
+        for (least, time) in best.iter_mut().zip(taken.iter()) {
+            *least = (*least).min(*time);
+        }
+    }
+    Ok(best)
+}
+
 // Prints a line for each call, with the nanoseconds for each byte.
-fn print(rt: &HostRuntime, times: [Duration; COUNT], bytes: usize) -> io::Result<()> {
-    for (name, time) in NAMES.iter().zip(times.iter()) {
+fn print(rt: &HostRuntime, names: &[&str], times: &[Duration], bytes: usize) -> io::Result<()> {
+    for (name, time) in names.iter().zip(times.iter()) {
         let of_a_byte = time.as_secs_f64() * 1e9 / nearest_usize_to_f64(bytes);
         println!(rt; "{name} {of_a_byte:.2}")?;
     }

@@ -39,13 +39,23 @@ impl Shape {
             Shape::Dots => ("1", ".1"),
             Shape::Metadata => ("1.2.3+a", "a"),
         };
-        let mut text = String::from_str(alloc, front)?;
-        for _ in 0..bytes {
-            if text.len() >= bytes {
-                break;
-            }
-            text.push_str(further)?;
-        }
-        Ok(text)
+        filled(alloc, front, further, bytes)
     }
+}
+
+/// Returns a text that goes on as it began, of as many bytes or a few more.
+pub fn filled(
+    alloc: Global,
+    front: &str,
+    further: &str,
+    bytes: usize,
+) -> Result<String, AllocError> {
+    let mut text = String::from_str(alloc, front)?;
+    for _ in 0..bytes {
+        if text.len() >= bytes {
+            break;
+        }
+        text.push_str(further)?;
+    }
+    Ok(text)
 }

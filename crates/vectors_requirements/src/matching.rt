@@ -2,7 +2,7 @@
 
 use std::test::Fail;
 use vectors_support::{any, holds, prints};
-use version_texts::{RequirementRef, RequirementsRef, VersioningRef};
+use version_texts::{RequirementRef, RequirementsRef, VersioningRef, list_matches};
 use versions::{Op, Requirement, Requirements};
 
 // A requirement or a list in each row, and then versions: it does not match those after a `!`.
@@ -67,7 +67,9 @@ fn the_same_version_or_any(rt: HostRuntime) -> Result<(), Fail> {
 
 const LISTS: &str = "\
 ^1.1.1,<1.5.0 1.2.0 1.5.0-rc.1 !1.5.0
->=1.1.1,<2.0.0 1.2.0 1.5 !2.0.0";
+>=1.1.1,<2.0.0 1.2.0 1.5 !2.0.0
+>=1.1,~1.2,<9 1.5 !1.2.0.1 !2 !1.2.5
+=1.0,<=1.0,>=1 1.0 !0:1.0 !1.0.0";
 
 #[test]
 fn lists_match_what_each_member_matches(rt: HostRuntime) -> Result<(), Fail> {
@@ -118,6 +120,10 @@ const KEPT: [(&[u8], bool, bool); 6] = [
     (b"1.3.0-\xff", false, false),
 ];
 
+// Members that match everything.
+const MANY: &str = "\
+*,*,*,*,*,*,*,*,*,*,*,*,*,*,*,*,*,*,*,*,*,*,*,*,*,*,*,*,*,*,*,*,*,*,*,*,*,*,*,*,";
+
 // Fails if a version of a row matches although the row says no, or does not although the row says yes.
 fn match_those(rt: &impl AllocGlobal, rows: &str) -> Result<(), Fail> {
     for row in rows.lines() {
@@ -136,6 +142,16 @@ fn match_those(rt: &impl AllocGlobal, rows: &str) -> Result<(), Fail> {
             holds(
                 keeps(text, version)? == wanted,
                 format_args!("the list {text} of the text {version}"),
+            )?;
+            let later = format!(in rt.alloc(); "{MANY}{text}")?;
+            holds(
+                keeps(later.as_str(), version)? == wanted,
+                format_args!("the list {later} of the text {version}"),
+            )?;
+            let spelled = VersioningRef::new(version).ok_or("no version")?;
+            holds(
+                list_matches(later.as_bytes(), &spelled) == Some(wanted),
+                format_args!("{later}, asked once, of the text {version}"),
             )?;
         }
     }

@@ -2,7 +2,7 @@
 
 use std::test::Fail;
 use vectors_support::{any, bytes, holds};
-use version_texts::{VersioningRef, write_range};
+use version_texts::{RangeRef, VersioningRef};
 use versions::{Range, Requirements};
 
 // A list, the low bound of its range, the high one or `none`, the kinds, and whether it is exact.
@@ -37,18 +37,22 @@ fn ranges_byte_by_byte(rt: HostRuntime) -> Result<(), Fail> {
             format_args!("the range of {text}"),
         )?;
         let (mut low, mut high) = ([0; 64], [0; 64]);
-        let held = write_range(text.as_bytes(), &mut low, &mut high).ok_or("no list")?;
-        let borrowed = Range {
-            low: Vec::from_slice(rt.alloc(), &low[..held.low_len])?,
-            high: match held.high_len {
-                Some(len) => Some(Vec::from_slice(rt.alloc(), &high[..len])?),
+        let borrowed = RangeRef::from_bytes(text.as_bytes()).ok_or("no list")?;
+        borrowed.write_low(&mut low);
+        borrowed.write_high(&mut high);
+        let low = low.get(..borrowed.low_length()).ok_or("a longer bound")?;
+        let high = high.get(..borrowed.high_length()).ok_or("a longer bound")?;
+        let written = Range {
+            low: Vec::from_slice(rt.alloc(), low)?,
+            high: match borrowed.high {
+                Some(_) => Some(Vec::from_slice(rt.alloc(), high)?),
                 None => None,
             },
-            kinds: held.kinds,
-            is_exact: held.is_exact,
+            kinds: borrowed.kinds,
+            is_exact: borrowed.is_exact,
         };
         holds(
-            is_written(&rt, &borrowed, range)?,
+            is_written(&rt, &written, range)?,
             format_args!("the range of the text {text}"),
         )?;
     }
@@ -117,6 +121,11 @@ fn versions_in_ranges(rt: HostRuntime) -> Result<(), Fail> {
             holds(
                 is_in(&borrowed, &range) == wanted,
                 format_args!("the text {version} in the range of {text}"),
+            )?;
+            let of_text = RangeRef::from_bytes(text.as_bytes()).ok_or("no list")?;
+            holds(
+                of_text.has(&borrowed) == wanted,
+                format_args!("the text {version} in the range of the text {text}"),
             )?;
         }
     }

@@ -22,7 +22,6 @@ use entry::Entry;
 use std::alloc::{AllocError, Global};
 use std::io::Write;
 use ties::break_ties;
-use version_rules::Kind;
 
 /// Writes the lines of the input in the order of their versions. Each line has to be a version.
 pub fn write_sorted<W: Write>(alloc: Global, input: &[u8], writer: &mut W) -> Result<(), Fault>
@@ -69,24 +68,14 @@ fn read_entries<'a>(
     let mut rest = input;
     while !rest.is_empty() {
         let (line, after) = split_line(rest);
-        let Some((entry, kind)) = Entry::read(keys, line)? else {
+        let Some(entry) = Entry::read(keys, line)? else {
             return Err(Fault::BadLine(entries.len() + 1));
         };
         add(&mut entries, entry)?;
-        are_strict &= is_ideal(kind);
+        are_strict &= entry.is_strict();
         rest = after;
     }
     Ok((entries, are_strict))
-}
-
-// Returns whether the kind is the strict one.
-fn is_ideal(kind: Kind) -> bool
-    ensures { IsTrue result → kind ≡ Kind.Ideal }
-{
-    match kind {
-        Kind::Ideal => true,
-        Kind::General | Kind::Complex => false,
-    }
 }
 
 // Adds a line after the others.

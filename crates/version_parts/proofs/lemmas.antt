@@ -6,4 +6,3 @@ pub mod Lists
 pub mod NumberBytes
 pub mod PartKey
 pub mod Pieces
-pub mod Reading

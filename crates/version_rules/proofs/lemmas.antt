@@ -35,6 +35,7 @@ pub mod Split
 pub mod Tail
 pub mod TextBytes
 pub mod Texts
+pub mod Utf8
 pub mod Version
 pub mod VersionMatch
 pub mod Versioning

@@ -10,9 +10,11 @@ mod kind;
 mod kinds;
 mod laws;
 mod op;
+mod parts;
 
 pub use asked::{Asked, asks_for};
 pub use ends::{End, Ends, Kept, ends_of, ends_without_version};
 pub use kind::Kind;
 pub use kinds::Kinds;
 pub use op::Op;
+pub use parts::{Parts, parts_match_caret, parts_match_tilde};

@@ -1,11 +1,13 @@
-pub mod Bounds
 pub mod Class
+pub mod EndOrder
 pub mod Field
 pub mod General
+pub mod KeyTies
 pub mod Matching
 pub mod Numbers
 pub mod Parts
 pub mod Piece
+pub mod RangeRef
 pub mod RequirementsRef
 pub mod Shape
 pub mod Sinks

@@ -1,10 +1,14 @@
-pub mod Bounds
 pub mod Class
+pub mod EndOrder
 pub mod Field
+pub mod KeyTies
 pub mod Matching
+pub mod Members
 pub mod Numbers
+pub mod Others
 pub mod Parts
 pub mod Piece
+pub mod RangeRef
 pub mod RequirementRef
 pub mod RequirementsRef
 pub mod Shape

@@ -10,6 +10,8 @@ use Rattle.version_rules.specs.PartKey.{PartKey, part_key, parts_bytes}
 use Rattle.version_rules.specs.Sep.{is_sep}
 use Rattle.version_rules.specs.Key.{Key}
 use Rattle.version_rules.specs.Tail.{Tail}
+use Rattle.version_texts.specs.Piece.{sign_of}
+use Rattle.version_texts.specs.declared.order.ends.Ends.{Ends}
 use Rattle.version_texts.specs.declared.shape.Shape.{Shape}
 use Rattle.version_texts.specs.declared.shape.TailKind.{TailKind}
 use Rattle.version_texts.specs.declared.shape.TailKind.TheVariants.{PreRelease, Nothing, Release, Sections}
@@ -36,6 +38,10 @@ chunks_of text = map chunk_of (pieces text)
 -- the parts of each section of a text, between its signs
 abbrev pub sections_of : List ℕ → List (List PartKey)
 sections_of text = map parts_of (slice_split is_sep text)
+
+-- the same, where signs divide sections if they end parts
+abbrev pub lists_of : Ends → List ℕ → List (List PartKey)
+lists_of ends text = map parts_of (slice_split (sign_of ends) text)
 
 -- the tail of one section or more
 abbrev pub tail_of_sections : List (List PartKey) → Tail

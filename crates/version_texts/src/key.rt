@@ -21,6 +21,7 @@ ghost use Rattle.version_texts.specs.TextKey.{chunk_of, chunks_of, front_bytes, 
 
 use crate::class::{Class, begins_with, split_run};
 use crate::order::digits::without_zeros;
+use crate::order::piece::after_dot;
 use crate::shape::{Shape, TailKind};
 use crate::sink::{Sink, put_all};
 
@@ -89,18 +90,6 @@ fn put_part<'t, S: Sink>(sink: &mut S, text: &'t [u8]) -> &'t [u8]
     }
     sink.put(1);
     put_split(sink, left)
-}
-
-// The text after the dot that it begins with, or None if it begins with no dot.
-#[inline(always)]
-fn after_dot(text: &[u8]) -> Option<&[u8]>
-    ensures { MatchOption result (begins (λ b. b == dot) text.now ≡ false)
-        (λ behind. text.now ≡ dot ∷ behind.now) }
-{
-    match text.split_first() {
-        Some((b'.', behind)) => Some(behind),
-        _ => None,
-    }
 }
 
 // Writes the parts at the start of a text, with dots between them, and returns the rest. Returns None once the sink is

@@ -1,38 +1,82 @@
 //! Texts whose keys tie.
 
-ghost use Rattle.std.specs.Prelude.{◌≡◌};
-ghost use Rattle.std.specs.Option.{option_map};
-ghost use Rattle.version_rules.specs.KeyTies.{key_tie_cmp, tie_breaker};
-ghost use Rattle.version_texts.specs.VersioningRef.{plain_versioning_ref};
+ghost use Rattle.std.specs.Prelude.{◌≡◌, ◌<◌, ◌^◌, Some};
+ghost use Rattle.std.specs.declared.cmp.Ordering.TheVariants.{Equal};
+ghost use Rattle.version_rules.specs.Key.{key_of, precedence};
+ghost use Rattle.version_rules.specs.KeyTies.{key_tie_cmp};
+ghost use Rattle.version_rules.specs.Kind.{versioning_kind};
+ghost use Rattle.version_rules.specs.Versioning.{PlainVersioning, versioning_of};
+ghost use Rattle.version_texts.specs.KeyTies.{general_texts_tie, kind_on, kind_place, marked_number, texts_tie};
 
+use crate::order::ties::compare_messy;
 use crate::versioning_ref::VersioningRef;
 use std::cmp::Ordering;
 use version_rules::Kind;
 
-/// Compares two texts whose keys tie, as a sort by keys has them. Strict versions of one key are all alike, and come
-/// first; others come as `Ord` has them. Texts that are no version count as strict ones. Does not allocate.
-pub fn compare_key_ties(a: &[u8], b: &[u8]) -> Ordering
-    ensures { result ≡ key_tie_cmp a.now b.now }
+/// Compares two texts whose keys tie, by their kinds, as a sort by keys has them. Strict versions of one key are all
+/// alike, and come first; others come as `Ord` has them. Only general texts that differ are scanned. Does not allocate.
+pub fn compare_key_ties(kind: Kind, a: &[u8], other: Kind, b: &[u8]) -> Ordering
+    ensures texts { result ≡ texts_tie (kind, a.now) (other, b.now) }
+
+    // So two versions of these kinds compare, if their keys tie.
+    ensures versions { (v w : PlainVersioning) → versioning_of a.now ≡ Some v
+        → versioning_of b.now ≡ Some w → versioning_kind v ≡ kind → versioning_kind w ≡ other
+        → precedence (key_of v) (key_of w) ≡ Equal → result ≡ key_tie_cmp v w }
+{
+    match (kind, other) {
+        (Kind::General, Kind::General) => compare_general(a, b),
+        (Kind::Complex, Kind::Complex) => compare_messy(a, b),
+        _ => kind_place(kind).cmp(&kind_place(other)),
+    }
+}
+
+// Compares two texts of general versions.
+fn compare_general(a: &[u8], b: &[u8]) -> Ordering
+    ensures { result ≡ general_texts_tie a.now b.now }
 {
     if a == b {
         return Ordering::Equal;
     }
-    match (tie_breaker(a), tie_breaker(b)) {
-        (Some(a), Some(b)) => a.cmp(&b),
-        (Some(_), None) => Ordering::Greater,
-        (None, Some(_)) => Ordering::Less,
-        (None, None) => Ordering::Equal,
+    VersioningRef::from_bytes(a).cmp(&VersioningRef::from_bytes(b))
+}
+
+// The place of a kind among the three.
+fn kind_place(kind: Kind) -> u64
+    ensures { result ≡ kind_place kind }
+{
+    match kind {
+        Kind::Ideal => 0,
+        Kind::General => 1,
+        Kind::Complex => 2,
     }
 }
 
-// Returns the version of a text, unless it is strict: only other versions can break the tie of two keys.
+/// Marks a kind on a number.
 #[inline(always)]
-fn tie_breaker(text: &[u8]) -> Option<VersioningRef<'_>>
-    ensures { option_map plain_versioning_ref result ≡ tie_breaker text.now }
+pub fn mark_kind(number: u64, kind: Kind) -> u64
+    requires { number < 2 ^ 62 }
+    ensures number { marked_number result ≡ number }
+    ensures kind { kind_on result ≡ kind }
 {
-    let version = VersioningRef::from_bytes(text)?;
-    match version.kind() {
-        Kind::Ideal => None,
-        _ => Some(version),
+    number * 4 + kind_place(kind)
+}
+
+/// Returns the number that a kind is marked on.
+#[inline(always)]
+pub fn marked_number(marked: u64) -> u64
+    ensures { result ≡ marked_number marked }
+{
+    marked / 4
+}
+
+/// Returns the kind that is marked on a number.
+#[inline(always)]
+pub fn marked_kind(marked: u64) -> Kind
+    ensures { result ≡ kind_on marked }
+{
+    match marked % 4 {
+        0 => Kind::Ideal,
+        1 => Kind::General,
+        _ => Kind::Complex,
     }
 }

@@ -4,17 +4,20 @@
 //! allocate.
 #![tactic(auto)]
 
-mod bounds;
 mod class;
+mod end_order;
 mod field;
 mod key;
 mod key_ties;
 mod laws;
 mod matching;
+mod members;
 mod numbers;
 mod numeral;
 mod order;
+mod others;
 mod range;
+mod range_ref;
 mod requirement_ref;
 mod requirements_ref;
 mod scan;
@@ -23,9 +26,9 @@ mod sink;
 mod sinks;
 mod versioning_ref;
 
-pub use bounds::{Held, rooms_for, write_range};
 pub use field::Field;
-pub use key_ties::compare_key_ties;
+pub use key_ties::{compare_key_ties, mark_kind, marked_kind, marked_number};
+pub use range_ref::{Bound, RangeRef};
 pub use requirement_ref::RequirementRef;
 pub use requirements_ref::{RequirementsRef, list_matches, wrong_member};
 pub use sink::Sink;

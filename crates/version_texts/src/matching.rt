@@ -1,20 +1,20 @@
 //! What an operator asks of two versions, by their texts and shapes. Nothing here allocates.
 
-ghost use Rattle.std.specs.Prelude.{◌≡◌, ◌↔◌, IsTrue, Some};
-ghost use Rattle.std.specs.Ordering.{eq_by_cmp};
+ghost use Rattle.std.specs.Prelude.{◌≡◌, ◌∷◌, ◌↔◌, IsTrue, Some};
 ghost use Rattle.version_texts.specs.Matching.{epoch_and_parts_of};
 ghost use Rattle.version_texts.specs.Shape.{body_in, shape_of, Fits};
-ghost use Rattle.version_texts.specs.TextKey.{text_key};
+ghost use Rattle.version_texts.specs.Parts.{first_part, more_parts};
+ghost use Rattle.version_texts.specs.TextKey.{parts_of, text_key};
 ghost use Rattle.version_rules.specs.Matching.{MatchesCaret, MatchesTilde};
 ghost use Rattle.version_rules.specs.VersionMatch.{MatchesCaret as PartsCaret, MatchesTilde as PartsTilde};
-ghost use Rattle.version_rules.specs.Versioning.{versioning_of, versioning_plain_cmp, PlainVersioning};
+ghost use Rattle.version_rules.specs.Versioning.{versioning_of, PlainVersioning};
 
 pub(crate) mod parts;
 
-use crate::matching::parts::{numbers_match_caret, parts_match_caret, parts_match_tilde};
+use crate::matching::parts::{TextParts, numbers_match_caret};
 use crate::order::compare_epochs;
 use crate::shape::Shape;
-use version_rules::Kind;
+use version_rules::{Kind, parts_match_caret, parts_match_tilde};
 
 /// Returns whether `~wanted` matches a version: by the rule of strict versions if both are strict, by that of general
 /// ones if both are general, else never.
@@ -27,7 +27,7 @@ pub fn matches_tilde(wanted: &[u8], wanted_shape: Shape, text: &[u8], shape: Sha
 {
     match (wanted_shape.kind, shape.kind) {
         (Kind::Ideal, Kind::Ideal) => {
-            parts_match_tilde(body(wanted, wanted_shape), body(text, shape))
+            parts_match_tilde(body_parts(wanted, wanted_shape), body_parts(text, shape))
         }
         (Kind::General, Kind::General) => general_match_tilde(wanted, wanted_shape, text, shape),
         _ => false,
@@ -45,26 +45,9 @@ pub fn matches_caret(wanted: &[u8], wanted_shape: Shape, text: &[u8], shape: Sha
 {
     match (wanted_shape.kind, shape.kind) {
         (Kind::Ideal, Kind::Ideal) => {
-            numbers_match_caret(body(wanted, wanted_shape), body(text, shape))
+            numbers_match_caret(body_parts(wanted, wanted_shape), body_parts(text, shape))
         }
         (Kind::General, Kind::General) => general_match_caret(wanted, wanted_shape, text, shape),
-        _ => false,
-    }
-}
-
-/// Returns whether two versions are the same, except for metadata of strict ones.
-#[tactic(auto, using(crate::proofs::lemmas::Matching::kinds))]
-pub fn is_same(wanted: &[u8], wanted_shape: Shape, text: &[u8], shape: Shape) -> bool
-    requires wanted_is { shape_of wanted.now ≡ Some wanted_shape }
-    requires text_is { shape_of text.now ≡ Some shape }
-    ensures { (w v : PlainVersioning) → versioning_of wanted.now ≡ Some w
-        → versioning_of text.now ≡ Some v → (IsTrue result
-        ↔ IsTrue (eq_by_cmp versioning_plain_cmp v w)) }
-{
-    match (wanted_shape.kind, shape.kind) {
-        (Kind::Ideal, Kind::Ideal) => wanted[..wanted_shape.tail_end] == text[..shape.tail_end],
-        (Kind::General, Kind::General) => wanted == text,
-        (Kind::Complex, Kind::Complex) => wanted == text,
         _ => false,
     }
 }
@@ -77,7 +60,7 @@ fn general_match_tilde(wanted: &[u8], wanted_shape: Shape, text: &[u8], shape: S
         (epoch_and_parts_of (text_key text.now shape)) }
 {
     compare_epochs(wanted, wanted_shape, text, shape).is_eq()
-        && parts_match_tilde(body(wanted, wanted_shape), body(text, shape))
+        && parts_match_tilde(body_parts(wanted, wanted_shape), body_parts(text, shape))
 }
 
 // Whether `^wanted` matches by epochs and parts.
@@ -88,14 +71,14 @@ fn general_match_caret(wanted: &[u8], wanted_shape: Shape, text: &[u8], shape: S
         (epoch_and_parts_of (text_key text.now shape)) }
 {
     compare_epochs(wanted, wanted_shape, text, shape).is_eq()
-        && parts_match_caret(body(wanted, wanted_shape), body(text, shape))
+        && parts_match_caret(body_parts(wanted, wanted_shape), body_parts(text, shape))
 }
 
-// The body of a version.
+// The parts of the body of a version.
 #[inline(always)]
-fn body(text: &[u8], shape: Shape) -> &[u8]
+fn body_parts(text: &[u8], shape: Shape) -> TextParts<'_>
     requires { Fits text.now shape }
-    ensures { result.now ≡ body_in text.now shape }
+    ensures { first_part result.0.now ∷ more_parts result.0.now ≡ parts_of (body_in text.now shape) }
 {
-    &text[shape.body..shape.end]
+    TextParts(&text[shape.body..shape.end])
 }

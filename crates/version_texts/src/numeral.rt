@@ -7,8 +7,7 @@ ghost use Rattle.version_rules.specs.MChunk.{value_of_digits};
 ghost use Rattle.version_texts.specs.Numbers.{numeral_value};
 ghost use Rattle.version_texts.specs.TextKind.{is_numeral};
 
-use crate::class::{Class, begins_with};
-use crate::order::digits::split_digits;
+use crate::class::{Class, begins_with, split_run};
 
 /// Returns whether digits are a numeral.
 #[inline(always)]
@@ -80,6 +79,6 @@ pub fn numeral(text: &[u8]) -> Option<u32>
 fn is_digits(text: &[u8]) -> bool
     ensures { result ≡ is_digits text.now }
 {
-    let (_, rest) = split_digits(text);
+    let (_, rest) = split_run(text, Class::Digit);
     begins_with(text, Class::Digit) && rest.is_empty()
 }

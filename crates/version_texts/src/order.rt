@@ -9,17 +9,18 @@ ghost use Rattle.version_texts.specs.Shape.{Fits, epoch_in, tail_in};
 ghost use Rattle.version_texts.specs.TextKey.{tail_of, text_key};
 
 pub(crate) mod digits;
+pub(crate) mod ends;
 pub(crate) mod list;
 pub(crate) mod part;
 pub(crate) mod piece;
 mod release;
+pub(crate) mod run;
 pub(crate) mod section;
 pub(crate) mod ties;
 
-use crate::order::digits::compare_digits;
-use crate::order::list::compare_parts;
+use crate::order::digits::compare_numbers;
+use crate::order::list::{compare_parts, compare_sections};
 use crate::order::release::compare_releases;
-use crate::order::section::compare_sections;
 use crate::shape::{Shape, TailKind};
 use std::cmp::Ordering;
 
@@ -52,7 +53,7 @@ pub(crate) fn compare_epochs(a: &[u8], a_shape: Shape, b: &[u8], b_shape: Shape)
     if a_shape.body == 0 && b_shape.body == 0 {
         return Ordering::Equal;
     }
-    compare_digits(epoch(a, a_shape), epoch(b, b_shape))
+    compare_numbers(epoch(a, a_shape), epoch(b, b_shape)).order
 }
 
 // The digits of an epoch. None if there is no epoch.

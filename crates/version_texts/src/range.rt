@@ -8,11 +8,11 @@ ghost use Rattle.version_texts.specs.Shape.{Fits};
 ghost use Rattle.version_texts.specs.TextKey.{parts_of, text_key};
 
 use crate::key::{body_at, epoch_at, put_begun, put_key};
-use crate::matching::parts::begins_with_zero;
+use crate::matching::parts::TextParts;
 use crate::order::piece::{behind_first, split_piece};
 use crate::shape::Shape;
 use crate::sink::Sink;
-use version_rules::{End, Kept};
+use version_rules::{End, Kept, Parts};
 
 // The text before its last dot, or None if it has no dot.
 fn before_last_dot(text: &[u8]) -> Option<&[u8]>
@@ -37,7 +37,7 @@ fn through_other(text: &[u8]) -> &[u8]
     let mut left = text;
     'parts: loop {
         let (_, rest) = split_piece(left);
-        if !begins_with_zero(left) {
+        if !TextParts(left).begins_with_zero() {
             return &text[..text.len() - rest.len()];
         }
         match behind_first(rest) {
@@ -48,7 +48,7 @@ fn through_other(text: &[u8]) -> &[u8]
 }
 
 // The kept parts of a body, or None if there are none.
-fn kept_parts(body: &[u8], kept: Kept) -> Option<&[u8]>
+pub(crate) fn kept_parts(body: &[u8], kept: Kept) -> Option<&[u8]>
     ensures parts { parts_behind result ≡ kept_parts kept (parts_of body.now) }
     ensures front { IfSome result (λ front. (rest : List ℕ) × (body.now ≡ front.now ++ rest)) }
 {

@@ -5,10 +5,11 @@ ghost use Rattle.std.specs.Option.{option_map};
 ghost use Rattle.version_texts.specs.RequirementRef.{plain_requirement_ref};
 ghost use Rattle.version_texts.specs.VersioningRef.{plain_versioning_ref};
 ghost use Rattle.version_rules.specs.Matching.{Matches};
+ghost use Rattle.version_rules.specs.Range.{requirement_range};
 ghost use Rattle.version_rules.specs.Requirement.{requirement_of};
 
 use crate::versioning_ref::VersioningRef;
-use version_rules::{Op, asks_for};
+use version_rules::{Op, asks_for, ends_of};
 
 /// A requirement borrowed from its text: a `Requirement` that owns nothing.
 /// docs/REQUIREMENTS.md has the rules.
@@ -53,6 +54,16 @@ impl<'a> RequirementRef<'a> {
         match &self.version {
             Some(wanted) => asks_for(self.op, wanted, version),
             None => self.op == Op::Wildcard,
+        }
+    }
+
+    // Returns whether it matches every version in its range.
+    pub(crate) fn is_exact(&self) -> bool
+        ensures { result ≡ (requirement_range (plain_requirement_ref self.now)).is_exact }
+    {
+        match &self.version {
+            Some(version) => ends_of(self.op, version.kind()).is_exact,
+            None => true,
         }
     }
 }

@@ -1,30 +1,33 @@
 //! Lists of requirements that are borrowed from their texts.
 
-ghost use Rattle.std.specs.Prelude.{◌≡◌, ◌<◌, ◌≤◌, ◌+◌, ◌↔◌, [], ◌∷◌, IfSome, IsTrue, length};
+ghost use Rattle.std.specs.Prelude.{◌≡◌, ◌↔◌, IfSome, IsTrue};
 ghost use Rattle.std.specs.Option.{is_none, is_some, IsSomeAnd};
 ghost use Rattle.version_texts.specs.RequirementRef.{plain_requirement_ref};
-ghost use Rattle.version_texts.specs.RequirementsRef.{cut_at_commas, from_second, pieces_of, wrong_member, IsFront};
+ghost use Rattle.version_texts.specs.RequirementsRef.{from_second, others_of, wrong_member, IsFront};
 ghost use Rattle.version_texts.specs.VersioningRef.{plain_versioning_ref};
 ghost use Rattle.version_rules.specs.Matching.{MatchesAll};
-ghost use Rattle.version_rules.specs.Requirement.{requirement_of};
 ghost use Rattle.version_rules.specs.Requirements.{requirements_of};
-ghost use Rattle.version_rules.specs.RequirementsRef.{before_others, members_of, AreMembers, Keeps};
+ghost use Rattle.version_rules.specs.RequirementsRef.{Keeps};
 ghost use Rattle.version_rules.specs.Versioning.{versioning_of};
 
-use crate::order::piece::place_of;
+use crate::members::{Members, split_first};
+use crate::others::Others;
 use crate::requirement_ref::RequirementRef;
 use crate::versioning_ref::VersioningRef;
 use std::marker::Model;
 use version_rules::Op;
 
+// The length of a list whose members are asked in turn about one version. Of a longer one the range is asked first.
+const SHORT: usize = 64;
+
 /// A list of requirements borrowed from its text: a `Requirements` that owns nothing. The first two members are parsed
-/// once, and each further member again for each version.
+/// once. Of the others the range is kept: only those that the range doesn't decide are parsed again for a version.
 #[derive(Drop)]
 pub struct RequirementsRef<'a> {
     first: RequirementRef<'a>,
     second: Option<RequirementRef<'a>>,
-    // The text of the further members, after the second comma.
-    others: Option<&'a [u8]>,
+    // The further members, after the second comma.
+    others: Option<Others<'a>>,
     // What each version that the first member matches begins with.
     front: &'a [u8],
 }
@@ -34,14 +37,12 @@ impl<'a> Model for RequirementsRef<'a> {
     ghost use Rattle.version_texts.specs.RequirementRef.{plain_requirement_ref};
     ghost use Rattle.version_texts.specs.RequirementsRef.{scanned_requirements, IsFront};
     ghost use Rattle.version_rules.specs.Requirement.{PlainRequirement};
-    ghost use Rattle.version_rules.specs.RequirementsRef.{AreMembers};
 
     ghost Value = { List PlainRequirement };
 
     ghost view = { λ list. scanned_requirements list.first list.second list.others };
 
-    ghost invariant = { λ list. AreMembers list.others
-        × IsFront (plain_requirement_ref list.first) list.front.now };
+    ghost invariant = { λ list. IsFront (plain_requirement_ref list.first) list.front.now };
 }
 
 impl<'a> RequirementsRef<'a> {
@@ -71,9 +72,10 @@ impl<'a> RequirementsRef<'a> {
         };
         let (second, others) = split_first(others);
         let second = RequirementRef::from_bytes(second)?;
-        if !are_members(others) {
-            return None;
-        }
+        let others = match others {
+            Some(text) => Some(Others::from_bytes(text)?),
+            None => None,
+        };
         Some(RequirementsRef {
             first,
             second: Some(second),
@@ -82,12 +84,11 @@ impl<'a> RequirementsRef<'a> {
         })
     }
 
-    /// Returns whether each member matches the version. The members are tried in turn, up to the first that does not
-    /// match. Does not allocate.
+    /// Returns whether each member matches the version. Does not allocate.
     pub fn matches(&self, version: &VersioningRef<'_>) -> bool
         ensures { IsTrue result ↔ MatchesAll self.now (plain_versioning_ref version.now) }
     {
-        self.first.matches(version) && second_and_others_ask(&self.second, self.others, version)
+        self.first.matches(version) && second_and_others_match(&self.second, &self.others, version)
     }
 
     /// Returns whether the bytes parse as a version that each member matches. Does not allocate.
@@ -112,20 +113,28 @@ pub fn list_matches(list: &[u8], version: &VersioningRef<'_>) -> Option<bool>
     ensures matches { IfSome result (λ all. IsTrue all ↔ IsSomeAnd (requirements_of list.now)
         (λ wanted. MatchesAll wanted (plain_versioning_ref version.now))) }
 {
-    let mut members = Some(list);
-    while let Some(left) = members {
-        let (first, others) = split_first(left);
-        let first = RequirementRef::from_bytes(first)?;
-        if !first.matches(version) {
-            return if are_members(others) {
-                Some(false)
-            } else {
-                None
-            };
+    if list.len() > SHORT {
+        return long_list_matches(list, version);
+    }
+    let mut members = Members::of(list);
+    while let Some(member) = members.next() {
+        let member = RequirementRef::from_bytes(member)?;
+        if !member.matches(version) {
+            return if members.parse() { Some(false) } else { None };
         }
-        members = others;
     }
     Some(true)
+}
+
+// The same by the range of the list.
+// Not inlined: so a short list has no cost of it.
+#[inline(never)]
+fn long_list_matches(list: &[u8], version: &VersioningRef<'_>) -> Option<bool>
+    ensures parses { is_some result ≡ is_some (requirements_of list.now) }
+    ensures matches { IfSome result (λ all. IsTrue all ↔ IsSomeAnd (requirements_of list.now)
+        (λ wanted. MatchesAll wanted (plain_versioning_ref version.now))) }
+{
+    Some(Others::from_bytes(list)?.matches(version))
 }
 
 /// Returns where the first member of a list that is not a requirement begins and ends, or None if the text parses as a
@@ -160,66 +169,27 @@ fn front_of<'a>(member: &RequirementRef<'a>) -> &'a [u8]
     }
 }
 
-// Returns the text before the first comma, and the text after it, if there is one.
-pub(crate) fn split_first(list: &[u8]) -> (&[u8], Option<&[u8]>)
-    ensures pieces { cut_at_commas list.now ≡ result.0.now ∷ pieces_of result.1 }
-    ensures members { requirements_of list.now
-        ≡ before_others (requirement_of result.0.now) (members_of result.1) }
-    ensures within { length result.0.now ≤ length list.now }
-    ensures shorter { IfSome result.1
-        (λ others. length result.0.now + length others.now < length list.now) }
-{
-    let end = place_of(b',', list);
-    if end == list.len() {
-        return (list, None);
-    }
-    (&list[..end], Some(&list[end + 1..]))
-}
-
-// Returns whether the text parses as members. True without a text.
-fn are_members(mut members: Option<&[u8]>) -> bool
-    ensures { result ≡ is_some (members_of members.entry) }
-{
-    while let Some(list) = members {
-        let (first, others) = split_first(list);
-        if RequirementRef::from_bytes(first).is_none() {
-            return false;
-        }
-        members = others;
-    }
-    true
-}
-
-// Returns whether the second member, if there is one, and each further member match the version.
-fn second_and_others_ask(
+// Returns whether the second member, if there is one, and the others match the version.
+fn second_and_others_match(
     second: &Option<RequirementRef<'_>>,
-    others: Option<&[u8]>,
+    others: &Option<Others<'_>>,
     version: &VersioningRef<'_>,
 ) -> bool
-    requires { AreMembers others }
-    ensures { IsTrue result ↔ MatchesAll (from_second second.now others.entry)
+    ensures { IsTrue result ↔ MatchesAll (from_second second.now others.now)
         (plain_versioning_ref version.now) }
 {
     match second {
-        Some(second) => second.matches(version) && each_asks_for(others, version),
+        Some(second) => second.matches(version) && others_match(others, version),
         None => true,
     }
 }
 
-// Returns whether each member of the text matches the version.
-fn each_asks_for(mut members: Option<&[u8]>, version: &VersioningRef<'_>) -> bool
-    ensures { IsTrue result ↔ IsSomeAnd (members_of members.entry)
-        (λ list. MatchesAll list (plain_versioning_ref version.now)) }
+// Returns whether the others match the version.
+fn others_match(others: &Option<Others<'_>>, version: &VersioningRef<'_>) -> bool
+    ensures { IsTrue result ↔ MatchesAll (others_of others.now) (plain_versioning_ref version.now) }
 {
-    while let Some(list) = members {
-        let (first, others) = split_first(list);
-        let Some(first) = RequirementRef::from_bytes(first) else {
-            return false;
-        };
-        if !first.matches(version) {
-            return false;
-        }
-        members = others;
+    match others {
+        Some(others) => others.matches(version),
+        None => true,
     }
-    true
 }

@@ -1,26 +1,25 @@
 //! Sinks: a count of bytes, a buffer with room, a comparison with given bytes, and a list that grows.
 
-ghost use Rattle.std.specs.Prelude.{◌≡◌, ◌++◌, ◌+◌, [], OnErr, OnOk, length};
-ghost use Rattle.version_rules.specs.Lists.{bytes_cmp, GrowsWithin};
+ghost use Rattle.std.specs.Prelude.{◌≡◌, ◌+◌, [], length};
 ghost use Rattle.version_rules.specs.Ends.{end_bytes};
 ghost use Rattle.version_rules.specs.KeyBytes.{key_bytes};
+ghost use Rattle.version_rules.specs.Lists.{bytes_cmp};
 ghost use Rattle.version_rules.specs.Tail.{tail_bytes};
 ghost use Rattle.version_texts.specs.Shape.{tail_in, Fits};
-ghost use Rattle.version_texts.specs.Sinks.{between_with, count_with, is_between, leads_both, leads_none, list_both, list_none, order_with, put_at, room_both, room_none, saturated, Leads, LeadsList, LeadsRoom};
+ghost use Rattle.version_texts.specs.Sinks.{between_with, count_with, leads_both, leads_none, list_both, list_none, order_with, put_at, room_both, room_none, saturated, Leads, LeadsList, LeadsRoom};
 ghost use Rattle.version_texts.specs.TextKey.{tail_of, text_key};
 
-use crate::key::{put_front, put_key, put_tail, tail_at};
+use crate::key::{put_front, put_tail, tail_at};
 use crate::range::put_end;
 use crate::shape::Shape;
 use crate::sink::Sink;
-use std::alloc::AllocError;
 use std::cmp::Ordering;
 use version_rules::End;
 
 // A count of bytes. Past the largest number it stays there.
 #[derive(Drop)]
 pub(crate) struct Count {
-    length: usize,
+    pub(crate) length: usize,
 }
 
 impl Sink for Count {
@@ -44,7 +43,7 @@ impl Sink for Count {
 impl Count {
     // The count.
     #[inline(always)]
-    fn length(&self) -> usize
+    pub(crate) fn length(&self) -> usize
         ensures { result ≡ count_with self.now [] }
     {
         self.length
@@ -54,8 +53,8 @@ impl Count {
 // A buffer and the place after the bytes written. Bytes that do not fit are only counted.
 #[derive(Drop)]
 pub(crate) struct Room<'a> {
-    room: &'a mut [u8],
-    end: usize,
+    pub(crate) room: &'a mut [u8],
+    pub(crate) end: usize,
 }
 
 impl<'a> Sink for Room<'a> {
@@ -84,7 +83,7 @@ impl<'a> Sink for Room<'a> {
 impl<'a> Room<'a> {
     // The place after the bytes written.
     #[inline(always)]
-    fn end(&self) -> usize
+    pub(crate) fn end(&self) -> usize
         ensures { result ≡ saturated self.now.end }
     {
         self.end
@@ -94,8 +93,8 @@ impl<'a> Room<'a> {
 // A comparison of the bytes written with given ones, of which these are left, as far as no byte differed.
 #[derive(Drop)]
 pub(crate) struct Beside<'a> {
-    left: &'a [u8],
-    order: Ordering,
+    pub(crate) left: &'a [u8],
+    pub(crate) order: Ordering,
 }
 
 impl<'a> Sink for Beside<'a> {
@@ -132,7 +131,7 @@ impl<'a> Sink for Beside<'a> {
 impl<'a> Beside<'a> {
     // How all bytes written compare with the given ones.
     #[inline(always)]
-    fn order(&self) -> Ordering
+    pub(crate) fn order(&self) -> Ordering
         ensures { result ≡ order_with self.now [] }
     {
         if self.order != Ordering::Equal {
@@ -149,8 +148,8 @@ impl<'a> Beside<'a> {
 // A list that grows. After a refused request it takes no more bytes.
 #[derive(Drop)]
 pub(crate) struct Growing<'a> {
-    list: &'a mut Vec<u8>,
-    refused: bool,
+    pub(crate) list: &'a mut Vec<u8>,
+    pub(crate) refused: bool,
 }
 
 impl<'a> Sink for Growing<'a> {
@@ -179,8 +178,8 @@ impl<'a> Sink for Growing<'a> {
 // Two comparisons of the bytes written, with a low and a high bound.
 #[derive(Drop)]
 pub(crate) struct Between<'a> {
-    low: Beside<'a>,
-    high: Beside<'a>,
+    pub(crate) low: Beside<'a>,
+    pub(crate) high: Beside<'a>,
 }
 
 impl<'a> Sink for Between<'a> {
@@ -208,21 +207,11 @@ impl<'a> Sink for Between<'a> {
 impl<'a> Between<'a> {
     // Whether all bytes written are at least the low bound and below the high one.
     #[inline(always)]
-    fn is_between(&self) -> bool
+    pub(crate) fn is_between(&self) -> bool
         ensures { result ≡ between_with self.now [] }
     {
         self.low.order() != Ordering::Less && self.high.order() == Ordering::Less
     }
-}
-
-/// Returns how many bytes the key of a version has. Does not allocate.
-pub fn key_length(text: &[u8], shape: Shape) -> usize
-    requires { Fits text.now shape }
-    ensures { result ≡ saturated (length (key_bytes (text_key text.now shape))) }
-{
-    let mut count = Count { length: 0 };
-    put_key(&mut count, text, shape);
-    count.length()
 }
 
 /// Writes the key of a version into a buffer from a place on, as far as it fits, and returns the place after it.
@@ -257,84 +246,8 @@ fn write_tail(text: &[u8], shape: Shape, room: &mut [u8], start: usize) -> usize
     sink.end()
 }
 
-/// Compares the key of a version with given bytes, as far as they are the same and one byte further. Does not allocate.
+/// Compares an end of a range with given bytes, up to the first difference.
 #[inline(always)]
-pub fn compare_key(text: &[u8], shape: Shape, bytes: &[u8]) -> Ordering
-    requires { Fits text.now shape }
-    ensures { result ≡ bytes_cmp (key_bytes (text_key text.now shape)) bytes.now }
-{
-    let mut sink = Beside {
-        left: bytes,
-        order: Ordering::Equal,
-    };
-    put_key(&mut sink, text, shape);
-    sink.order()
-}
-
-/// Returns whether the key of a version is at least the low bound and below the high one. Does not allocate.
-#[inline(always)]
-pub fn key_between(text: &[u8], shape: Shape, low: &[u8], high: &[u8]) -> bool
-    requires { Fits text.now shape }
-    ensures { result ≡ is_between (bytes_cmp (key_bytes (text_key text.now shape)) low.now)
-        (bytes_cmp (key_bytes (text_key text.now shape)) high.now) }
-{
-    let mut sink = Between {
-        low: Beside {
-            left: low,
-            order: Ordering::Equal,
-        },
-        high: Beside {
-            left: high,
-            order: Ordering::Equal,
-        },
-    };
-    put_key(&mut sink, text, shape);
-    sink.is_between()
-}
-
-/// Appends the key of a version to a list. `Err` means allocation failure; the list then ends with a prefix of the key.
-pub fn append_key(text: &[u8], shape: Shape, list: &mut Vec<u8>) -> Result<(), AllocError>
-    requires { Fits text.now shape }
-    ensures ok { OnOk result (list.new.items
-        ≡ list.old.items ++ key_bytes (text_key text.now shape)) }
-    ensures err { OnErr result (GrowsWithin list.old.items list.new.items
-        (key_bytes (text_key text.now shape))) }
-{
-    let mut sink = Growing {
-        list,
-        refused: false,
-    };
-    put_key(&mut sink, text, shape);
-    if sink.refused {
-        return Err(AllocError);
-    }
-    Ok(())
-}
-
-/// Returns how many bytes an end of a range has. Does not allocate.
-pub fn end_length(text: &[u8], shape: Shape, end: End) -> usize
-    requires { Fits text.now shape }
-    ensures { result ≡ saturated (length (end_bytes end (text_key text.now shape))) }
-{
-    let mut sink = Count { length: 0 };
-    put_end(&mut sink, text, shape, end);
-    sink.length()
-}
-
-/// Writes an end of a range into a buffer from a place on, as far as it fits, and returns the place after it. Does not
-/// allocate.
-#[inline(never)]
-pub fn write_end(text: &[u8], shape: Shape, end: End, room: &mut [u8], start: usize) -> usize
-    requires { Fits text.now shape }
-    ensures bytes { room.new ≡ put_at room.old start (end_bytes end (text_key text.now shape)) }
-    ensures end { result ≡ saturated (start + length (end_bytes end (text_key text.now shape))) }
-{
-    let mut sink = Room { room, end: start };
-    put_end(&mut sink, text, shape, end);
-    sink.end()
-}
-
-/// Compares an end of a range with given bytes, as far as they are the same and one byte further. Does not allocate.
 pub fn compare_end(text: &[u8], shape: Shape, end: End, bytes: &[u8]) -> Ordering
     requires { Fits text.now shape }
     ensures { result ≡ bytes_cmp (end_bytes end (text_key text.now shape)) bytes.now }
@@ -345,23 +258,4 @@ pub fn compare_end(text: &[u8], shape: Shape, end: End, bytes: &[u8]) -> Orderin
     };
     put_end(&mut sink, text, shape, end);
     sink.order()
-}
-
-/// Appends an end of a range to a list. `Err` means allocation failure; the list then ends with a prefix of the end.
-pub fn append_end(text: &[u8], shape: Shape, end: End, list: &mut Vec<u8>) -> Result<(), AllocError>
-    requires { Fits text.now shape }
-    ensures ok { OnOk result (list.new.items
-        ≡ list.old.items ++ end_bytes end (text_key text.now shape)) }
-    ensures err { OnErr result (GrowsWithin list.old.items list.new.items
-        (end_bytes end (text_key text.now shape))) }
-{
-    let mut sink = Growing {
-        list,
-        refused: false,
-    };
-    put_end(&mut sink, text, shape, end);
-    if sink.refused {
-        return Err(AllocError);
-    }
-    Ok(())
 }

@@ -9,12 +9,14 @@ ghost use Rattle.version_texts.specs.Sinks.{saturated};
 ghost use Rattle.version_rules.specs.Kind.{versioning_kind};
 ghost use Rattle.version_rules.specs.Versioning.{kind_rank, PlainVersioning};
 
+use crate::end_order::compare_ends;
 use crate::field::Field;
 use crate::order::piece::through_dot;
 use crate::order::ties;
 use crate::scan::scan;
 use crate::shape::{Shape, TailKind};
 use crate::sink::Sink;
+use crate::sinks::{Beside, Between, Count, Growing, Room};
 use crate::{key, matching, numbers, order, range, sinks};
 use std::alloc::AllocError;
 use std::cmp::Ordering;
@@ -157,7 +159,7 @@ impl<'a> VersioningRef<'a> {
         ensures err { OnErr result (GrowsWithin list.old.items list.new.items
             (key_bytes (key_of (plain_versioning_ref self.now)))) }
     {
-        sinks::append_key(self.text, self.shape, list)
+        self.append_end(End::Key, list)
     }
 
     /// Writes the bytes of its key into a sink. Returns early once the sink is decided. Does not allocate.
@@ -184,7 +186,7 @@ impl<'a> VersioningRef<'a> {
     pub fn key_length(&self) -> usize
         ensures { result ≡ saturated (length (key_bytes (key_of (plain_versioning_ref self.now)))) }
     {
-        sinks::key_length(self.text, self.shape)
+        self.end_length(End::Key)
     }
 
     /// Compares the bytes of its key with given bytes, up to the first difference. Does not allocate.
@@ -193,7 +195,12 @@ impl<'a> VersioningRef<'a> {
         ensures { result ≡ bytes_cmp (key_bytes (key_of (plain_versioning_ref self.now)))
             bytes.now }
     {
-        sinks::compare_key(self.text, self.shape, bytes)
+        let mut sink = Beside {
+            left: bytes,
+            order: Ordering::Equal,
+        };
+        self.put_key(&mut sink);
+        sink.order()
     }
 
     /// Returns whether the bytes of its key are at least the low bound and below the high one. Does not allocate.
@@ -203,7 +210,18 @@ impl<'a> VersioningRef<'a> {
             ≡ is_between (bytes_cmp (key_bytes (key_of (plain_versioning_ref self.now))) low.now)
             (bytes_cmp (key_bytes (key_of (plain_versioning_ref self.now))) high.now) }
     {
-        sinks::key_between(self.text, self.shape, low, high)
+        let mut sink = Between {
+            low: Beside {
+                left: low,
+                order: Ordering::Equal,
+            },
+            high: Beside {
+                left: high,
+                order: Ordering::Equal,
+            },
+        };
+        self.put_key(&mut sink);
+        sink.is_between()
     }
 
     /// Returns whether its key is at least the low bound, and below the high one, if there is one, and its kind is one
@@ -225,13 +243,22 @@ impl<'a> VersioningRef<'a> {
 
     /// Appends the bytes of an end of a range of its key to a list. `Err` means allocation failure; the list then ends
     /// with a prefix of the bytes.
+    #[inline(always)]
     pub fn append_end(&self, end: End, list: &mut Vec<u8>) -> Result<(), AllocError>
         ensures ok { OnOk result (list.new.items
             ≡ list.old.items ++ end_bytes end (key_of (plain_versioning_ref self.now))) }
         ensures err { OnErr result (GrowsWithin list.old.items list.new.items
             (end_bytes end (key_of (plain_versioning_ref self.now)))) }
     {
-        sinks::append_end(self.text, self.shape, end, list)
+        let mut sink = Growing {
+            list,
+            refused: false,
+        };
+        self.put_end(end, &mut sink);
+        if sink.refused {
+            return Err(AllocError);
+        }
+        Ok(())
     }
 
     /// Writes the bytes of an end of a range into a sink. Does not allocate.
@@ -245,14 +272,16 @@ impl<'a> VersioningRef<'a> {
 
     /// Writes the bytes of an end of a range into a buffer from a place on, as far as they fit, and returns the place
     /// after them. Does not allocate.
-    #[inline(always)]
+    #[inline(never)]
     pub fn write_end(&self, end: End, room: &mut [u8], start: usize) -> usize
         ensures bytes { room.new ≡ put_at room.old start
             (end_bytes end (key_of (plain_versioning_ref self.now))) }
         ensures end { result ≡ saturated (start
             + length (end_bytes end (key_of (plain_versioning_ref self.now)))) }
     {
-        sinks::write_end(self.text, self.shape, end, room, start)
+        let mut sink = Room { room, end: start };
+        self.put_end(end, &mut sink);
+        sink.end()
     }
 
     /// Returns how many bytes an end of a range has. Does not allocate.
@@ -260,15 +289,38 @@ impl<'a> VersioningRef<'a> {
         ensures { result
             ≡ saturated (length (end_bytes end (key_of (plain_versioning_ref self.now)))) }
     {
-        sinks::end_length(self.text, self.shape, end)
+        let mut sink = Count { length: 0 };
+        self.put_end(end, &mut sink);
+        sink.length()
     }
 
     /// Compares the bytes of an end of a range with given bytes, up to the first difference. Does not allocate.
+    #[inline(always)]
     pub fn compare_end(&self, end: End, bytes: &[u8]) -> Ordering
         ensures { result ≡ bytes_cmp (end_bytes end (key_of (plain_versioning_ref self.now)))
             bytes.now }
     {
         sinks::compare_end(self.text, self.shape, end, bytes)
+    }
+
+    // Compares the bytes of an end of a range with those of another, up to the first difference.
+    pub(crate) fn compare_ends(
+        &self,
+        end: End,
+        other: &VersioningRef<'_>,
+        other_end: End,
+    ) -> Ordering
+        ensures { result ≡ bytes_cmp (end_bytes end (key_of (plain_versioning_ref self.now)))
+            (end_bytes other_end (key_of (plain_versioning_ref other.now))) }
+    {
+        compare_ends(
+            self.text,
+            self.shape,
+            end,
+            other.text,
+            other.shape,
+            other_end,
+        )
     }
 
     // Compares two versions of one key by kind, then field by field.
@@ -415,11 +467,11 @@ impl<'a> Asked for VersioningRef<'a> {
     ghost plain = { plain_versioning_ref };
 
     fn is_same(&self, other: &VersioningRef<'a>) -> bool {
-        matching::is_same(other.text, other.shape, self.text, self.shape)
+        self == other
     }
 
     fn precedence(&self, other: &VersioningRef<'a>) -> Ordering {
-        order::compare(self.text, self.shape, other.text, other.shape)
+        VersioningRef::precedence(self, other)
     }
 
     fn matches_tilde(&self, version: &VersioningRef<'a>) -> bool {

@@ -1,23 +1,25 @@
--- The parts of a general version that remain at a point of a walk over them.
+-- The parts of a general version: those of its chunks, then its last part.
 use Rattle.std.specs.Prelude.{List, [], ◌∷◌, ◌++◌, map}
-use Rattle.std.specs.Option.{option_map_or}
-use Rattle.version_rules.specs.Chunk.{chunk_text}
-use Rattle.version_parts.specs.Chunk.{plain_chunk, plain_chunk_ref}
+use Rattle.version_rules.specs.Chunk.{PlainChunk, chunk_text}
+use Rattle.version_parts.specs.Chunk.{plain_chunk}
 use Rattle.version_rules.specs.Last.{last_text}
 use Rattle.version_parts.specs.Last.{plain_last}
 use Rattle.version_rules.specs.PartKey.{PartKey, chunk_parts, part_key}
-use Rattle.versions.specs.declared.parts.BodyPart.{BodyPart}
 use Rattle.versions.specs.declared.parts.BodyParts.{BodyParts}
-use Rattle.versions.specs.declared.parts.BodyPart.TheVariants as part
 
--- the key of a part
-abbrev pub key_of_part : BodyPart → PartKey
-key_of_part (part.Chunk chunk) = part_key (chunk_text (plain_chunk_ref chunk))
-key_of_part (part.Last last) = part_key (last_text (plain_last last.now))
+-- the first of chunks and a last part, and those after it
+abbrev pub first_of : List PlainChunk → PartKey → PartKey
+first_of [] last = last
+first_of (chunk ∷ chunks) last = part_key (chunk_text chunk)
 
--- the keys of the remaining parts: those of the chunks, and that of the last part if it is not
--- taken
-abbrev pub parts_left : BodyParts → List PartKey
-parts_left parts =
-    chunk_parts (map plain_chunk parts.chunks.now)
-    ++ option_map_or (λ last. key_of_part (part.Last last) ∷ []) parts.last []
+abbrev pub more_of : List PlainChunk → PartKey → List PartKey
+more_of [] last = []
+more_of (chunk ∷ chunks) last = chunk_parts chunks ++ last ∷ []
+
+abbrev pub first_part : BodyParts → PartKey
+first_part parts =
+    first_of (map plain_chunk parts.chunks.now) (part_key (last_text (plain_last parts.last.now)))
+
+abbrev pub more_parts : BodyParts → List PartKey
+more_parts parts =
+    more_of (map plain_chunk parts.chunks.now) (part_key (last_text (plain_last parts.last.now)))

@@ -1,6 +1,6 @@
 //! Messy versions. Every call goes along the sections by a loop, without recursion.
 
-ghost use Rattle.std.specs.Prelude.{◌≡◌, ◌<◌, [], Some, IfOk, IfSome, IsSome, OnErr, length, map};
+ghost use Rattle.std.specs.Prelude.{◌≡◌, ◌<◌, [], Some, IfOk, IsSome, OnErr, length, map};
 ghost use Rattle.std.specs.Option.{is_some, option_map};
 ghost use Rattle.std.proofs.Common.{ap};
 ghost use Rattle.std.specs.Cmp.{eq_by_cmp_equiv, on_equiv, on_per, partial_equiv_from_equiv};
@@ -9,7 +9,7 @@ ghost use Rattle.version_rules.specs.Front.{repeated};
 ghost use Rattle.version_parts.specs.Front.{Reads};
 ghost use Rattle.version_rules.specs.laws.Order.{same_where_tied};
 ghost use Rattle.versions.specs.Errors.{IllegalMess, ReadsOr};
-ghost use Rattle.version_rules.specs.Mess.{behind_colons, further_front, mess_front, mess_of, mess_plain_cmp, mess_text, nth_number, section_front, PlainMess, SpellsMess};
+ghost use Rattle.version_rules.specs.Mess.{behind_colons, further_front, mess_front, mess_of, mess_plain_cmp, mess_text, nth_number, section_front};
 ghost use Rattle.versions.specs.Mess.{mess_fed, plain_further, plain_mess, plain_mess_ref, plain_section};
 ghost use Rattle.version_rules.specs.laws.Mess.{mess_total, messes_same};
 
@@ -35,21 +35,15 @@ impl Mess {
     /// Parses the whole text as a messy version; returns None if it does not parse. Copies the chunks; allocates
     /// nothing for None. `Err` means allocation failure.
     pub fn new(alloc: Global, s: &str) -> Result<Option<Mess>, AllocError>
-        // The text spells the version that is returned, and that version prints the text.
-        ensures spelled { IfOk result (λ o. IfSome o (λ m. SpellsMess s.now (plain_mess m))) }
-        ensures printed { IfOk result (λ o. IfSome o (λ m. mess_text (plain_mess m) ≡ s.now)) }
-
-        // If the text spells a version, it is returned. So None means that the text spells no version.
-        ensures read { (m : PlainMess) → SpellsMess s.now m
-            → IfOk result (λ o. option_map plain_mess o ≡ Some m) }
-
-        // An allocation fails only if the text spells a version, since each version has chunks.
-        ensures memory { OnErr result ((m : PlainMess) × SpellsMess s.now m) }
-
-        // The same as an equation.
+        // What the text spells, or None: the law `messy_versions: answer`.
         ensures exact { IfOk result (λ o. option_map plain_mess o ≡ mess_of s.now) }
+        // An allocation fails only if the text spells a version, since each has chunks.
+        ensures memory { OnErr result (IsSome (mess_of s.now)) }
     {
-        read_whole(alloc, s)
+        match MessRef::new(s) {
+            Some(version) => Ok(Some(version.build(alloc)?)),
+            None => Ok(None),
+        }
     }
 
     /// Returns whether the whole text parses as a messy version, so that `new` returns one. Does not allocate.
@@ -64,7 +58,7 @@ impl Mess {
     pub fn from_str(alloc: Global, s: &str) -> Result<Mess, ReadError>
         ensures { ReadsOr plain_mess (λ _. Unit {0}) (IllegalMess s.now) result (mess_of s.now) }
     {
-        or_illegal(alloc, read_whole(alloc, s)?, s, Error::IllegalMess)
+        or_illegal(alloc, Mess::new(alloc, s)?, s, Error::IllegalMess)
     }
 
     /// Parses a prefix as a messy version; returns it and the rest, or None. It parses chunks with dots or signs
@@ -231,17 +225,6 @@ pub(crate) fn link(
         next = Some((sign, Box::new(alloc, Mess { chunks, next })?));
     }
     Ok(Mess { chunks, next })
-}
-
-// Parses the whole text as a messy version.
-fn read_whole(alloc: Global, s: &str) -> Result<Option<Mess>, AllocError>
-    ensures ok { IfOk result (λ o. option_map plain_mess o ≡ mess_of s.now) }
-    ensures err { OnErr result (IsSome (mess_of s.now)) }
-{
-    match MessRef::new(s) {
-        Some(version) => Ok(Some(version.build(alloc)?)),
-        None => Ok(None),
-    }
 }
 
 /// A messy version borrowed from its text: its first section, and the text of the further sections with their signs.

@@ -1,6 +1,6 @@
 //! Requirements, such as `^1.2.3` and `>=1.0`, and what they match.
 
-ghost use Rattle.std.specs.Prelude.{◌≡◌, ◌↔◌, IfOk, IfSome, IsSomeAnd, IsTrue, None, OnErr, Some};
+ghost use Rattle.std.specs.Prelude.{◌≡◌, ◌↔◌, IfOk, IsSomeAnd, IsTrue, None, OnErr, Some};
 ghost use Rattle.std.specs.Option.{is_some, option_map};
 ghost use Rattle.version_parts.specs.Front.{Reads};
 ghost use Rattle.versions.specs.Errors.{IllegalOp, ReadsOr};
@@ -8,7 +8,7 @@ ghost use Rattle.version_rules.specs.Matching.{IsConvex, Matches};
 ghost use Rattle.versions.specs.Range.{plain_range};
 ghost use Rattle.version_rules.specs.Range.{requirement_range, IsIn};
 ghost use Rattle.versions.specs.Requirement.{plain_requirement};
-ghost use Rattle.version_rules.specs.Requirement.{requirement_front, requirement_of, requirement_text, PlainRequirement, RequirementOwns, SpellsRequirement};
+ghost use Rattle.version_rules.specs.Requirement.{requirement_front, requirement_of, requirement_text, RequirementOwns};
 ghost use Rattle.versions.specs.Versioning.{plain_versioning};
 ghost use Rattle.version_rules.specs.Versioning.{PlainVersioning};
 ghost use Rattle.version_rules.specs.Op.{op_front};
@@ -38,24 +38,21 @@ impl Requirement {
     /// text that `Versioning::new` parses, or `*` alone. Allocates only for the version; nothing for None. `Err` means
     /// allocation failure.
     pub fn new(alloc: Global, s: &str) -> Result<Option<Requirement>, AllocError>
-        // The text spells the requirement that is returned, and that requirement prints the text.
-        ensures spelled { IfOk result (λ o. IfSome o
-            (λ r. SpellsRequirement s.now (plain_requirement r))) }
-        ensures printed { IfOk result (λ o. IfSome o
-            (λ r. requirement_text (plain_requirement r) ≡ s.now)) }
-
-        // If the text spells a requirement, it is returned. So None means that the text spells no requirement.
-        ensures read { (r : PlainRequirement) → SpellsRequirement s.now r
-            → IfOk result (λ o. option_map plain_requirement o ≡ Some r) }
-
-        // An allocation fails only if the text spells a requirement that owns memory.
-        ensures memory { OnErr result ((r : PlainRequirement) × SpellsRequirement s.now r
-            × RequirementOwns r) }
-
-        // The same as an equation.
+        // What the text spells, or None: the law `requirements: answer`.
         ensures exact { IfOk result (λ o. option_map plain_requirement o ≡ requirement_of s.now) }
+        // An allocation fails only if the text spells a requirement whose version owns memory.
+        ensures memory { OnErr result (IsSomeAnd (requirement_of s.now) RequirementOwns) }
     {
-        read_whole(alloc, s)
+        let Some((op, rest)) = split_op(s) else {
+            return Ok(None);
+        };
+        if let Op::Wildcard = op {
+            return Ok(rest.is_empty().then(Requirement::default));
+        }
+        match Versioning::new(alloc, rest)? {
+            Some(version) => Ok(Some(Requirement::of(op, version))),
+            None => Ok(None),
+        }
     }
 
     /// Returns whether the whole text parses as a requirement, so that `new` returns one. Does not allocate.
@@ -75,7 +72,7 @@ impl Requirement {
         ensures { ReadsOr plain_requirement RequirementOwns (IllegalOp s.now) result
             (requirement_of s.now) }
     {
-        or_illegal(alloc, read_whole(alloc, s)?, s, Error::IllegalOp)
+        or_illegal(alloc, Requirement::new(alloc, s)?, s, Error::IllegalOp)
     }
 
     /// Parses a prefix as a requirement; returns it and the rest, or None. A requirement is an operator and what
@@ -192,23 +189,6 @@ impl fmt::Display for Requirement {
             write!(f, "{version}")?;
         }
         Ok(())
-    }
-}
-
-// Parses the whole text as a requirement.
-fn read_whole(alloc: Global, s: &str) -> Result<Option<Requirement>, AllocError>
-    ensures ok { IfOk result (λ o. option_map plain_requirement o ≡ requirement_of s.now) }
-    ensures err { OnErr result (IsSomeAnd (requirement_of s.now) RequirementOwns) }
-{
-    let Some((op, rest)) = split_op(s) else {
-        return Ok(None);
-    };
-    if let Op::Wildcard = op {
-        return Ok(rest.is_empty().then(Requirement::default));
-    }
-    match Versioning::new(alloc, rest)? {
-        Some(version) => Ok(Some(Requirement::of(op, version))),
-        None => Ok(None),
     }
 }
 

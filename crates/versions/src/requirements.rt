@@ -1,14 +1,13 @@
 //! Lists of requirements, such as `>=1.1.1,<2.0.0`.
 
-ghost use Rattle.std.specs.Prelude.{◌≡◌, ◌↔◌, IfOk, IfSome, IsSome, IsTrue, List, OnErr, Some};
+ghost use Rattle.std.specs.Prelude.{◌≡◌, ◌↔◌, IfOk, IsSome, IsTrue, OnErr, Some};
 ghost use Rattle.std.specs.Option.{is_some, option_map};
 ghost use Rattle.versions.specs.Errors.{IllegalOp, ReadsOr};
 ghost use Rattle.version_rules.specs.Matching.{IsConvex, MatchesAll};
 ghost use Rattle.versions.specs.Range.{plain_range};
 ghost use Rattle.version_rules.specs.Range.{range_of, IsIn};
-ghost use Rattle.version_rules.specs.Requirement.{PlainRequirement};
 ghost use Rattle.versions.specs.Requirements.{plain_requirements};
-ghost use Rattle.version_rules.specs.Requirements.{requirements_of, requirements_text, SpellsRequirements};
+ghost use Rattle.version_rules.specs.Requirements.{requirements_of, requirements_text};
 ghost use Rattle.versions.specs.Versioning.{plain_versioning};
 ghost use Rattle.version_rules.specs.Versioning.{PlainVersioning};
 
@@ -29,24 +28,15 @@ impl Requirements {
     /// single commas between. So neither the empty text nor an empty member parses. Allocates nothing for None. `Err`
     /// means allocation failure.
     pub fn new(alloc: Global, s: &str) -> Result<Option<Requirements>, AllocError>
-        // The text spells the list that is returned, and that list prints the text.
-        ensures spelled { IfOk result (λ o. IfSome o
-            (λ list. SpellsRequirements s.now (plain_requirements list))) }
-        ensures printed { IfOk result (λ o. IfSome o
-            (λ list. requirements_text (plain_requirements list) ≡ s.now)) }
-
-        // If the text spells a list, it is returned. So None means that the text spells no list.
-        ensures read { (list : List PlainRequirement) → SpellsRequirements s.now list
-            → IfOk result (λ o. option_map plain_requirements o ≡ Some list) }
-
-        // An allocation fails only if the text spells a list.
-        ensures memory { OnErr result ((list : List PlainRequirement)
-            × SpellsRequirements s.now list) }
-
-        // The same as an equation.
+        // What the text spells, or None: the law `requirement_lists: answer`.
         ensures exact { IfOk result (λ o. option_map plain_requirements o ≡ requirements_of s.now) }
+        // An allocation fails only if the text spells a list.
+        ensures memory { OnErr result (IsSome (requirements_of s.now)) }
     {
-        read_whole(alloc, s)
+        if !Requirements::is_spelled_by(s) {
+            return Ok(None);
+        }
+        read_members(alloc, s)
     }
 
     /// Returns whether the whole text parses as a list, so that `new` returns one. Does not allocate.
@@ -62,7 +52,7 @@ impl Requirements {
         ensures { ReadsOr plain_requirements
             (λ _. Unit {0}) (IllegalOp s.now) result (requirements_of s.now) }
     {
-        or_illegal(alloc, read_whole(alloc, s)?, s, Error::IllegalOp)
+        or_illegal(alloc, Requirements::new(alloc, s)?, s, Error::IllegalOp)
     }
 
     /// Returns a copy. `Err` means allocation failure.
@@ -136,17 +126,6 @@ impl fmt::Display for Requirements {
         }
         Ok(())
     }
-}
-
-// Parses the whole text as a list.
-fn read_whole(alloc: Global, s: &str) -> Result<Option<Requirements>, AllocError>
-    ensures ok { IfOk result (λ o. option_map plain_requirements o ≡ requirements_of s.now) }
-    ensures err { OnErr result (IsSome (requirements_of s.now)) }
-{
-    if !Requirements::is_spelled_by(s) {
-        return Ok(None);
-    }
-    read_members(alloc, s)
 }
 
 // Parses the members of a list, one after another.

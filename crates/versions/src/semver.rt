@@ -14,7 +14,7 @@ ghost use Rattle.version_rules.specs.laws.SemVer.{semver_total};
 ghost use Rattle.version_rules.specs.SemVerMatch.{numbers, MatchesCaret, MatchesTilde};
 ghost use Rattle.version_rules.specs.SemVerOrder.{semver_cmp};
 ghost use Rattle.versions.specs.SemVer.{plain_semver, semver_fed, plain_semver_ref, semver_of_text, IsSemVerText};
-ghost use Rattle.version_rules.specs.SemVer.{semver_front, semver_of, semver_text, SemVerOwns, PlainSemVer, SpellsSemVer};
+ghost use Rattle.version_rules.specs.SemVer.{semver_front, semver_of, semver_text, SemVerOwns};
 
 use crate::errors::{Error, ReadError};
 use crate::numbers::{Numbers, numbers_match_caret, numbers_match_tilde};
@@ -46,21 +46,15 @@ impl SemVer {
     /// Parses the whole text as a strict version; returns None if it does not parse. Allocates only for a pre-release
     /// and metadata, which it copies. `Err` means allocation failure.
     pub fn new(alloc: Global, s: &str) -> Result<Option<SemVer>, AllocError>
-        // The text spells the version that is returned, and that version prints the text.
-        ensures spelled { IfOk result (λ o. IfSome o (λ v. SpellsSemVer s.now (plain_semver v))) }
-        ensures printed { IfOk result (λ o. IfSome o (λ v. semver_text (plain_semver v) ≡ s.now)) }
-
-        // If the text spells a version, it is returned. So None means that the text spells no version.
-        ensures read { (v : PlainSemVer) → SpellsSemVer s.now v
-            → IfOk result (λ o. option_map plain_semver o ≡ Some v) }
-
-        // An allocation fails only if the text spells a version that owns memory.
-        ensures memory { OnErr result ((v : PlainSemVer) × SpellsSemVer s.now v × SemVerOwns v) }
-
-        // The same as an equation.
+        // What the text spells, or None: the law `strict_versions: answer`.
         ensures exact { IfOk result (λ o. option_map plain_semver o ≡ semver_of s.now) }
+        // An allocation fails only if the text spells a version that owns memory.
+        ensures memory { OnErr result (IsSomeAnd (semver_of s.now) SemVerOwns) }
     {
-        read_whole(alloc, s)
+        match SemVerRef::new(s) {
+            Some(version) => Ok(Some(version.build(alloc)?)),
+            None => Ok(None),
+        }
     }
 
     /// Returns whether the whole text parses as a strict version, so that `new` returns one. Does not allocate.
@@ -75,7 +69,7 @@ impl SemVer {
     pub fn from_str(alloc: Global, s: &str) -> Result<SemVer, ReadError>
         ensures { ReadsOr plain_semver SemVerOwns (IllegalSemver s.now) result (semver_of s.now) }
     {
-        or_illegal(alloc, read_whole(alloc, s)?, s, Error::IllegalSemver)
+        or_illegal(alloc, SemVer::new(alloc, s)?, s, Error::IllegalSemver)
     }
 
     /// Parses a prefix as a strict version; returns it and the rest, or None. It parses three numbers with dots
@@ -232,17 +226,6 @@ fn compare_pre_releases(a: &Option<Release>, b: &Option<Release>) -> Ordering
         (Some(_), None) => Ordering::Less,
         (None, Some(_)) => Ordering::Greater,
         (None, None) => Ordering::Equal,
-    }
-}
-
-// Parses the whole text as a strict version.
-fn read_whole(alloc: Global, s: &str) -> Result<Option<SemVer>, AllocError>
-    ensures ok { IfOk result (λ o. option_map plain_semver o ≡ semver_of s.now) }
-    ensures err { OnErr result (IsSomeAnd (semver_of s.now) SemVerOwns) }
-{
-    match SemVerRef::new(s) {
-        Some(version) => Ok(Some(version.build(alloc)?)),
-        None => Ok(None),
     }
 }
 

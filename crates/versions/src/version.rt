@@ -1,6 +1,6 @@
 //! General versions.
 
-ghost use Rattle.std.specs.Prelude.{[], ◌≡◌, ◌↔◌, IfOk, IfSome, IsSomeAnd, IsTrue, None, OnErr, Some};
+ghost use Rattle.std.specs.Prelude.{[], ◌≡◌, ◌∷◌, ◌↔◌, IfOk, IfSome, IsSomeAnd, IsTrue, None, OnErr, Some};
 ghost use Rattle.std.proofs.Common.{ap};
 ghost use Rattle.std.specs.Cmp.{eq_by_cmp_equiv, on_equiv, on_per, partial_equiv_from_equiv};
 ghost use Rattle.std.specs.Option.{is_some, option_map};
@@ -11,9 +11,9 @@ ghost use Rattle.version_parts.specs.Front.{Reads};
 ghost use Rattle.version_rules.specs.Last as plain;
 ghost use Rattle.version_rules.specs.laws.Order.{same_where_tied};
 ghost use Rattle.versions.specs.Errors.{IllegalVersion, ReadsOr};
-ghost use Rattle.versions.specs.BodyParts.{parts_left};
+ghost use Rattle.versions.specs.BodyParts.{first_part, more_parts};
 ghost use Rattle.version_rules.specs.Key.{key_of_version};
-ghost use Rattle.version_rules.specs.Version.{epoch_front, version_front, version_nth, version_of, version_text, PlainVersion, SpellsVersion, VersionOwns};
+ghost use Rattle.version_rules.specs.Version.{epoch_front, version_front, version_nth, version_of, version_text, VersionOwns};
 ghost use Rattle.versions.specs.Version.{plain_version_ref, plain_version, version_fed};
 ghost use Rattle.version_rules.specs.laws.Version.{version_plain_total, versions_same};
 ghost use Rattle.version_rules.specs.VersionMatch.{epoch_and_parts, MatchesCaret, MatchesTilde};
@@ -23,7 +23,7 @@ use crate::errors::{Error, ReadError};
 use crate::optional::{
     build_release, copy_meta, copy_release, copy_text, optional_meta, optional_release, write_tail,
 };
-use crate::parts::{BodyParts, parts_match_caret, parts_match_tilde};
+use crate::parts::BodyParts;
 use crate::reading::or_illegal;
 use serde::{Deserialize, Serialize};
 use std::alloc::{AllocError, Global};
@@ -32,6 +32,7 @@ use std::fmt;
 use std::hash::{Hash, Hasher};
 use version_parts::lists::{ListItem, compare_lists};
 use version_parts::{BodyRef, Chunks, Last, Release, ReleaseRef, scan};
+use version_rules::{parts_match_caret, parts_match_tilde};
 
 /// A general version: perhaps a number and a colon, then parts with dots between, then perhaps a release, then perhaps
 /// metadata, such as `1:2.0rc1-3`. Most packages have such versions. The numbers are below 2^32.
@@ -53,22 +54,15 @@ impl Version {
     /// Parses the whole text as a general version; returns None if it does not parse. Copies the chunks and texts;
     /// allocates nothing for None or for one number with or without epoch. `Err` means allocation failure.
     pub fn new(alloc: Global, s: &str) -> Result<Option<Version>, AllocError>
-        // The text spells the version that is returned, and that version prints the text.
-        ensures spelled { IfOk result (λ o. IfSome o (λ v. SpellsVersion s.now (plain_version v))) }
-        ensures printed { IfOk result (λ o. IfSome o
-            (λ v. version_text (plain_version v) ≡ s.now)) }
-
-        // If the text spells a version, it is returned. So None means that the text spells no version.
-        ensures read { (v : PlainVersion) → SpellsVersion s.now v
-            → IfOk result (λ o. option_map plain_version o ≡ Some v) }
-
-        // An allocation fails only if the text spells a version that owns memory.
-        ensures memory { OnErr result ((v : PlainVersion) × SpellsVersion s.now v × VersionOwns v) }
-
-        // The same as an equation.
+        // What the text spells, or None: the law `general_versions: answer`.
         ensures exact { IfOk result (λ o. option_map plain_version o ≡ version_of s.now) }
+        // An allocation fails only if the text spells a version that owns memory.
+        ensures memory { OnErr result (IsSomeAnd (version_of s.now) VersionOwns) }
     {
-        read_whole(alloc, s)
+        match VersionRef::new(s) {
+            Some(version) => Ok(Some(version.build(alloc)?)),
+            None => Ok(None),
+        }
     }
 
     /// Returns whether the whole text parses as a general version, so that `new` returns one. Does not allocate.
@@ -84,7 +78,7 @@ impl Version {
         ensures { ReadsOr plain_version VersionOwns (IllegalVersion s.now) result
             (version_of s.now) }
     {
-        or_illegal(alloc, read_whole(alloc, s)?, s, Error::IllegalVersion)
+        or_illegal(alloc, Version::new(alloc, s)?, s, Error::IllegalVersion)
     }
 
     /// Parses a prefix as a general version; returns it and the rest, or None. It parses a number and a colon if both
@@ -194,9 +188,13 @@ impl Version {
 
     // Returns all parts of its body.
     pub(crate) fn parts(&self) -> BodyParts<'_>
-        ensures { parts_left result ≡ (key_of_version (plain_version self.now)).body }
+        ensures { first_part result ∷ more_parts result
+            ≡ (key_of_version (plain_version self.now)).body }
     {
-        BodyParts::with_last(self.chunks.0.as_slice(), &self.last)
+        BodyParts {
+            chunks: self.chunks.0.as_slice(),
+            last: &self.last,
+        }
     }
 
     // Returns the epoch, or 0 without one.
@@ -235,17 +233,6 @@ impl Hash for Version {
         self.last.hash(state);
         self.release.hash(state);
         self.meta.hash(state);
-    }
-}
-
-// Parses the whole text as a general version.
-fn read_whole(alloc: Global, s: &str) -> Result<Option<Version>, AllocError>
-    ensures ok { IfOk result (λ o. option_map plain_version o ≡ version_of s.now) }
-    ensures err { OnErr result (IsSomeAnd (version_of s.now) VersionOwns) }
-{
-    match VersionRef::new(s) {
-        Some(version) => Ok(Some(version.build(alloc)?)),
-        None => Ok(None),
     }
 }
 

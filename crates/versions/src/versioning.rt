@@ -1,6 +1,6 @@
 //! Versions of any kind.
 
-ghost use Rattle.std.specs.Prelude.{◌≡◌, IfOk, IfSome, IsSomeAnd, None, OnErr, Some};
+ghost use Rattle.std.specs.Prelude.{◌≡◌, IfOk, IsSomeAnd, None, OnErr, Some};
 ghost use Rattle.std.specs.Cmp.{eq_by_cmp_equiv, on_equiv, on_per, partial_equiv_from_equiv};
 ghost use Rattle.std.specs.Option.{is_some, option_map};
 ghost use Rattle.std.specs.Ordering.{eq_by_cmp, on};
@@ -8,7 +8,7 @@ ghost use Rattle.version_parts.specs.Front.{Reads};
 ghost use Rattle.versions.specs.Errors.{IllegalVersioning, ReadsOr};
 ghost use Rattle.version_rules.specs.Kind.{versioning_kind};
 ghost use Rattle.versions.specs.SemVer.{plain_semver};
-ghost use Rattle.version_rules.specs.Versioning.{is_complex, is_general, is_ideal, kind_rank, semver_nth, versioning_front, versioning_nth, versioning_of, versioning_plain_cmp, versioning_text, PlainVersioning, SpellsVersioning, VersioningOwns};
+ghost use Rattle.version_rules.specs.Versioning.{is_complex, is_general, is_ideal, kind_rank, semver_nth, versioning_front, versioning_nth, versioning_of, versioning_plain_cmp, versioning_text, VersioningOwns};
 ghost use Rattle.versions.specs.Versioning.{plain_versioning, versioning_fed};
 ghost use Rattle.version_rules.specs.Versioning as plain;
 ghost use Rattle.version_rules.specs.laws.Versioning.{versioning_plain_total};
@@ -44,24 +44,21 @@ impl Versioning {
     /// parse. Only the kind that is returned is built. Allocates nothing for None, three plain numbers, or one number
     /// with or without epoch. `Err` means allocation failure.
     pub fn new(alloc: Global, s: &str) -> Result<Option<Versioning>, AllocError>
-        // The text spells the version that is returned, and that version prints the text.
-        ensures spelled { IfOk result (λ o. IfSome o
-            (λ v. SpellsVersioning s.now (plain_versioning v))) }
-        ensures printed { IfOk result (λ o. IfSome o
-            (λ v. versioning_text (plain_versioning v) ≡ s.now)) }
-
-        // If the text spells a version, it is returned. So None means that the text spells no version.
-        ensures read { (v : PlainVersioning) → SpellsVersioning s.now v
-            → IfOk result (λ o. option_map plain_versioning o ≡ Some v) }
-
-        // An allocation fails only if the text spells a version that owns memory.
-        ensures memory { OnErr result ((v : PlainVersioning) × SpellsVersioning s.now v
-            × VersioningOwns v) }
-
-        // The same as an equation.
+        // What the text spells, or None: the law `versions: answer`.
         ensures exact { IfOk result (λ o. option_map plain_versioning o ≡ versioning_of s.now) }
+        // An allocation fails only if the text spells a version that owns memory.
+        ensures memory { OnErr result (IsSomeAnd (versioning_of s.now) VersioningOwns) }
     {
-        read_whole(alloc, s)
+        if let Some(ideal) = SemVerRef::new(s) {
+            return Ok(Some(Versioning::Ideal(ideal.build(alloc)?)));
+        }
+        if let Some(general) = VersionRef::new(s) {
+            return Ok(Some(Versioning::General(general.build(alloc)?)));
+        }
+        match MessRef::new(s) {
+            Some(complex) => Ok(Some(Versioning::Complex(complex.build(alloc)?))),
+            None => Ok(None),
+        }
     }
 
     /// Returns whether the whole text parses as a version of any kind, so that `new` returns one. Does not allocate.
@@ -81,7 +78,7 @@ impl Versioning {
             (plain_versioning_ref version.now)) }
         ensures err { OnErr result (VersioningOwns (plain_versioning_ref version.now)) }
     {
-        Ok(read_whole(alloc, version.text())?.unwrap())
+        Ok(Versioning::new(alloc, version.text())?.unwrap())
     }
 
     /// Parses the whole text as a version. Fails with `Illegal` if it does not parse: the error is `IllegalVersioning`
@@ -90,7 +87,12 @@ impl Versioning {
         ensures { ReadsOr plain_versioning VersioningOwns (IllegalVersioning s.now) result
             (versioning_of s.now) }
     {
-        or_illegal(alloc, read_whole(alloc, s)?, s, Error::IllegalVersioning)
+        or_illegal(
+            alloc,
+            Versioning::new(alloc, s)?,
+            s,
+            Error::IllegalVersioning,
+        )
     }
 
     /// Parses a prefix as a version; returns it and the rest, or None. It is the first of `SemVer::parse`,
@@ -201,23 +203,6 @@ fn nth_of_three(ideal: &SemVer, n: usize) -> Option<u32>
         1 => Some(ideal.minor),
         2 => Some(ideal.patch),
         _ => None,
-    }
-}
-
-// Parses the whole text as a version of the first kind that fits.
-fn read_whole(alloc: Global, s: &str) -> Result<Option<Versioning>, AllocError>
-    ensures ok { IfOk result (λ o. option_map plain_versioning o ≡ versioning_of s.now) }
-    ensures err { OnErr result (IsSomeAnd (versioning_of s.now) VersioningOwns) }
-{
-    if let Some(ideal) = SemVerRef::new(s) {
-        return Ok(Some(Versioning::Ideal(ideal.build(alloc)?)));
-    }
-    if let Some(general) = VersionRef::new(s) {
-        return Ok(Some(Versioning::General(general.build(alloc)?)));
-    }
-    match MessRef::new(s) {
-        Some(complex) => Ok(Some(Versioning::Complex(complex.build(alloc)?))),
-        None => Ok(None),
     }
 }
 

@@ -1,13 +1,13 @@
 -- The ranges of lists in the caller's buffers, and which texts have a version in a range.
-use Rattle.std.specs.Prelude.{◌≡◌, ◌⊎◌, ◌&&◌, ℕ, ℤ, Bool, true, false, bit_and, eqb, not, nat_le, IfSome, IsTrue, List, Option, Some, None, if◌then◌else◌}
+use Rattle.std.specs.Prelude.{◌≡◌, ◌⊎◌, ◌&&◌, ℕ, ℤ, Bool, true, false, bit_and, eqb, not, nat_le, IfSome, IsTrue, List, length, Option, Some, None, if◌then◌else◌}
 use Rattle.std.proofs.Common.{inl, inr, refl}
 use Rattle.std.specs.declared.cmp.Ordering.{Ordering}
 use Rattle.std.specs.declared.cmp.Ordering.TheVariants.{Less, Equal, Greater}
 use Rattle.version_rules.specs.Lists.{bytes_cmp}
-use Rattle.version_texts.specs.Bounds.{high_room, low_room}
+use Rattle.version_texts.specs.RangeRef.{high_length}
 use Rattle.version_texts.specs.Sinks.{saturated}
 use Rattle.version_rules.specs.Kind.{versioning_kind}
-use Rattle.version_rules.specs.Range.{IsIn, PlainRange, bytes_of, has_kind}
+use Rattle.version_rules.specs.Range.{IsIn, PlainRange, bytes_of, has_kind, range_of}
 use Rattle.version_rules.specs.Requirement.{PlainRequirement}
 use Rattle.version_rules.specs.Versioning.{PlainVersioning}
 use Rattle.versions_c.specs.Matching.{bit}
@@ -37,16 +37,17 @@ range_with low high flags = record {
   is_exact = has_flag flags EXACT;
 }
 
--- the status for a list and the sizes of two buffers
+-- the status for a list and the sizes of two buffers: whether the bounds of its range fit
 abbrev pub range_status : Option (List PlainRequirement) → ℕ → ℕ → ℤ
 range_status None low high = NO_REQUIREMENTS
 range_status (Some wanted) low high =
-    if nat_le (low_room wanted) low && nat_le (high_room wanted) high then OK else NO_ROOM
+    if nat_le (length (range_of wanted).low) low && nat_le (high_length (range_of wanted)) high
+    then OK else NO_ROOM
 
--- the sizes that two buffers must have for the bounds of each member
-pub record AreSizes (low high : ℕ) (wanted : List PlainRequirement) : Type 0 where
-  pub of_low : low ≡ saturated (low_room wanted)
-  pub of_high : high ≡ saturated (high_room wanted)
+-- the lengths of the bounds of a range
+pub record AreLengths (low high : ℕ) (range : PlainRange) : Type 0 where
+  pub of_low : low ≡ saturated (length range.low)
+  pub of_high : high ≡ saturated (high_length range)
 
 -- ---- a version is in a range or is not
 

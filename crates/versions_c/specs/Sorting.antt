@@ -1,16 +1,19 @@
 -- The places of texts, sorted by the texts' versions.
-use Rattle.std.specs.Prelude.{◌≡◌, ◌==◌, ℕ, ◌+◌, ◌-◌, ◌<◌, List, length, slice_index, Option, None, if◌then◌else◌}
+use Rattle.std.specs.Prelude.{◌≡◌, ◌==◌, ℕ, ◌+◌, ◌-◌, ◌<◌, List, length, slice_index}
 use Rattle.std.specs.Cmp.Lexicographic.{slice_cmp}
 use Rattle.std.specs.List.{range_with_len}
 use Rattle.std.specs.List.Sorted.{IsPermutation}
-use Rattle.std.specs.Option.{option_cmp}
+use Rattle.std.specs.Option.{option_map_or}
 use Rattle.std.specs.Ordering.{bool_cmp, nat_cmp, on, then_cmp}
 use Rattle.std.specs.declared.cmp.Ordering.{Ordering}
 use Rattle.std.specs.declared.cmp.Ordering.TheVariants.{Less}
-use Rattle.version_rules.specs.KeyTies.{tie_breaker}
+use Rattle.version_rules.specs.Kind.{versioning_kind}
 use Rattle.version_rules.specs.Lists.{none_last_cmp}
 use Rattle.version_rules.specs.Orders.{versioning_cmp}
-use Rattle.version_rules.specs.Versioning.{PlainVersioning, versioning_of}
+use Rattle.version_rules.specs.Versioning.{versioning_of}
+use Rattle.version_rules.specs.declared.kind.Kind.{Kind}
+use Rattle.version_rules.specs.declared.kind.Kind.TheVariants.{Ideal}
+use Rattle.version_texts.specs.KeyTies.{kind_on, marked_number, texts_tie}
 use Rattle.versions_c.specs.Offsets.{AreOffsets, text_at}
 
 -- two places: by the versions of their texts, a text that is not a version last, and ties as
@@ -36,17 +39,25 @@ pub record AreSortOffsets (offsets : List ℕ) (buffer key_offsets places : ℕ)
 abbrev pub keys_cmp : List ℕ → List ℕ → Ordering
 keys_cmp = then_cmp (on (λ (key : List ℕ). length key == 0) bool_cmp) (slice_cmp nat_cmp)
 
--- what breaks the tie of a text's key, and nothing if the key is empty
-abbrev pub keyed_breaker : List ℕ → List ℕ → Option PlainVersioning
-keyed_breaker text key = if length key == 0 then None else tie_breaker text
+-- the number on which a kind is marked is the place, and the kind that of the text there; a text
+-- that is not a version counts as strict
+pub record IsMarked (texts offsets : List ℕ) (place marked : ℕ) : Type 0 where
+  pub number : marked_number marked ≡ place
+  pub kind : kind_on marked
+      ≡ option_map_or versioning_kind (versioning_of (text_at texts offsets place)) Ideal
 
--- two places whose keys tie: by what breaks the tie, and then as numbers
-abbrev pub tied_cmp : List ℕ → List ℕ → List ℕ → List ℕ → ℕ → ℕ → Ordering
-tied_cmp texts offsets keys key_offsets =
-    then_cmp (on (λ i. keyed_breaker (text_at texts offsets i) (text_at keys key_offsets i))
-    (option_cmp versioning_cmp)) nat_cmp
+-- what breaks the tie of the key of a marked place: the kind and the text
+abbrev pub marked_tie : List ℕ → List ℕ → ℕ → Kind × List ℕ
+marked_tie texts offsets marked =
+    (kind_on marked, text_at texts offsets (marked_number marked))
 
--- two places by the keys that lie there, and if those tie as places whose keys tie
+-- two marked places whose keys tie: by what breaks the tie, and then by the places
+abbrev pub tied_cmp : List ℕ → List ℕ → ℕ → ℕ → Ordering
+tied_cmp texts offsets =
+    then_cmp (on (marked_tie texts offsets) texts_tie) (on marked_number nat_cmp)
+
+-- two marked places by the keys that lie there, and if those tie as places whose keys tie
 abbrev pub keyed_cmp : List ℕ → List ℕ → List ℕ → List ℕ → ℕ → ℕ → Ordering
 keyed_cmp texts offsets keys key_offsets =
-    then_cmp (on (text_at keys key_offsets) keys_cmp) (tied_cmp texts offsets keys key_offsets)
+    then_cmp (on (λ marked. text_at keys key_offsets (marked_number marked)) keys_cmp)
+    (tied_cmp texts offsets)

@@ -3,11 +3,10 @@
 ghost use Rattle.std.specs.Prelude.{◌≡◌, ◌≢◌, IfSome, Some};
 ghost use Rattle.std.specs.Option.{option_and_then};
 ghost use Rattle.version_texts.specs.Field.{field_place};
-ghost use Rattle.version_texts.specs.VersioningRef.{plain_versioning_ref};
 ghost use Rattle.version_rules.specs.Versioning.{versioning_of};
 ghost use Rattle.versions_c.specs.Fields.{field_of, field_status};
 
-use crate::status::{NO_FIELD, NO_VERSION, OK};
+use crate::status::{NO_FIELD, NO_VERSION, OK, UNKNOWN_FIELD};
 use version_texts::{Field, VersioningRef};
 
 /// The digits before the colon.
@@ -29,23 +28,18 @@ pub extern "C" fn versions_field(text: &[u8], field: u32, start: &mut usize, end
     ensures kept_start { result ≢ OK → start.new ≡ start.old }
     ensures kept_end { result ≢ OK → end.new ≡ end.old }
 {
+    let Some(field) = field_of(field) else {
+        return UNKNOWN_FIELD;
+    };
     let Some(version) = VersioningRef::from_bytes(text) else {
         return NO_VERSION;
     };
-    let Some((first, behind)) = place(&version, field) else {
+    let Some((first, behind)) = version.place(field) else {
         return NO_FIELD;
     };
     *start = first;
     *end = behind;
     OK
-}
-
-// Returns where the field of a number lies.
-fn place(version: &VersioningRef<'_>, field: u32) -> Option<(usize, usize)>
-    ensures { result ≡ option_and_then (λ f. field_place f (plain_versioning_ref version.now))
-        (field_of field) }
-{
-    version.place(field_of(field)?)
 }
 
 // Returns the field of a number, if there is one.

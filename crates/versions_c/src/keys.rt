@@ -8,11 +8,13 @@ ghost use Rattle.version_texts.specs.Sinks.{put_at, saturated};
 ghost use Rattle.versions_c.specs.Keys.{all_keys, key_status, keys_before, length_past, room_for, room_status, saturated_signed, spelled_key, AreKeyOffsets};
 ghost use Rattle.versions_c.specs.Kinds.{kind_of};
 ghost use Rattle.versions_c.specs.Offsets.{AreOffsets};
+ghost use Rattle.versions_c.specs.Sorting.{IsMarked};
 
 use crate::kinds::kind_number;
 use crate::offsets::{LARGEST, are_offsets, text_at};
 use crate::status::{BAD_OFFSETS, NO_ROOM, NO_VERSION, OK};
-use version_texts::VersioningRef;
+use version_rules::Kind;
+use version_texts::{VersioningRef, mark_kind};
 
 /// Returns a size that is enough for the key of any text of a length.
 #[unsafe(no_mangle)]
@@ -109,20 +111,22 @@ pub extern "C" fn versions_sort_keys(
     if key_offsets.len() != offsets.len() || !are_offsets(offsets, texts.len(), count) {
         return BAD_OFFSETS;
     }
-    if put_keys(texts, offsets, count, keys, key_offsets) {
+    if put_keys(texts, offsets, count, keys, key_offsets, &mut []) {
         OK
     } else {
         NO_ROOM
     }
 }
 
-/// Writes the keys of all texts, as far as they fit, and their offsets, and returns whether all of them fit.
+/// Writes the keys of all texts, as far as they fit, and their offsets, and returns whether all of them fit. Writes the
+/// places of the first texts, with the kinds of the texts marked on them, as many as there is room for.
 pub fn put_keys(
     texts: &[u8],
     offsets: &[u64],
     count: usize,
     keys: &mut [u8],
     key_offsets: &mut [u64],
+    places: &mut [u64],
 ) -> bool
     requires offsets { AreOffsets offsets.now (length texts.now) count }
     requires as_many { length key_offsets.old ≡ count + 1 }
@@ -134,17 +138,21 @@ pub fn put_keys(
     ensures key_offsets { (i : ℕ) → i ≤ count
         → slice_index key_offsets.new i
         ≡ saturated_signed (length (keys_before texts.now offsets.now i)) }
+    ensures places { (i : ℕ) → i < count → i < length places.old
+        → IsMarked texts.now offsets.now i (slice_index places.new i) }
 {
-    put_all(texts, offsets, count, keys, key_offsets) <= keys.len()
+    put_all(texts, offsets, count, keys, key_offsets, places) <= keys.len()
 }
 
-// Writes the keys of all texts, as far as they fit, and their offsets, and returns the place after them.
+// Writes the keys of all texts, as far as they fit, and their offsets, and returns the place after them. Writes the
+// marked places too.
 fn put_all(
     texts: &[u8],
     offsets: &[u64],
     count: usize,
     keys: &mut [u8],
     key_offsets: &mut [u64],
+    places: &mut [u64],
 ) -> usize
     requires offsets { AreOffsets offsets.now (length texts.now) count }
     requires room { length key_offsets.old ≡ count + 1 }
@@ -153,16 +161,33 @@ fn put_all(
     ensures key_offsets { (i : ℕ) → i ≤ count
         → slice_index key_offsets.new i
         ≡ saturated_signed (length (keys_before texts.now offsets.now i)) }
+    ensures places { (i : ℕ) → i < count → i < length places.old
+        → IsMarked texts.now offsets.now i (slice_index places.new i) }
 {
     let mut end: usize = 0;
     key_offsets[0] = 0;
     for place in 0..count {
+        let mut kind = Kind::Ideal;
         if let Some(version) = VersioningRef::from_bytes(text_at(texts, offsets, count, place)) {
             end = version.write_key(keys, end);
+            kind = version.kind();
         }
         key_offsets[place + 1] = (end as u64).min(LARGEST);
+        if place < places.len() {
+            places[place] = mark_kind(place as u64, kind);
+        }
     }
     end
+}
+
+/// Returns whether a room is enough for the keys of any texts with these offsets.
+pub fn is_always_room(texts: &[u8], offsets: &[u64], count: usize, room: usize) -> bool
+    requires { AreOffsets offsets.now (length texts.now) count }
+    ensures { IsTrue result → length (keys_before texts.now offsets.now count) ≤ room }
+{
+    let fives = 5 * count;
+    let bytes = offsets[count] - offsets[0];
+    fives <= room && bytes <= ((room - fives) / 3) as u64
 }
 
 // Returns the length of the key of a version, if it does not fit.

@@ -1,14 +1,12 @@
 //! The numbers of a version.
 
 ghost use Rattle.std.specs.Prelude.{◌≡◌, ◌≢◌, IfSome, Some};
-ghost use Rattle.std.specs.Option.{option_map};
 ghost use Rattle.version_rules.specs.Key.{versioning_epoch};
 ghost use Rattle.version_rules.specs.Versioning.{versioning_nth, versioning_of};
-ghost use Rattle.versions_c.specs.Keys.{saturated_signed};
-ghost use Rattle.versions_c.specs.Numbers.{number_status};
+ghost use Rattle.versions_c.specs.Numbers.{epoch_status, largest_epoch, number_status};
 
 use crate::offsets::LARGEST;
-use crate::status::{NO_NUMBER, NO_VERSION, OK};
+use crate::status::{LARGE_EPOCH, NO_NUMBER, NO_VERSION, OK};
 use version_texts::VersioningRef;
 
 /// Writes the number at a place of a version.
@@ -29,13 +27,14 @@ pub extern "C" fn versions_nth(text: &[u8], n: usize, number: &mut u32) -> i32
     OK
 }
 
-/// Writes the epoch of a version.
+/// Writes the epoch of a version, or the largest one that can be written if it is larger.
 #[unsafe(no_mangle)]
 pub extern "C" fn versions_epoch(text: &[u8], epoch: &mut u64) -> i32
-    ensures status { result ≡ number_status (versioning_of text.now) versioning_epoch }
+    ensures status { result ≡ epoch_status (versioning_of text.now) }
     ensures epoch { result ≡ OK → IfSome (versioning_of text.now)
-        (λ v. option_map saturated_signed (versioning_epoch v) ≡ Some epoch.new) }
-    ensures kept { result ≢ OK → epoch.new ≡ epoch.old }
+        (λ v. versioning_epoch v ≡ Some epoch.new) }
+    ensures largest { result ≡ LARGE_EPOCH → epoch.new ≡ largest_epoch }
+    ensures kept { result ≢ OK → result ≢ LARGE_EPOCH → epoch.new ≡ epoch.old }
 {
     let Some(version) = VersioningRef::from_bytes(text) else {
         return NO_VERSION;
@@ -43,6 +42,10 @@ pub extern "C" fn versions_epoch(text: &[u8], epoch: &mut u64) -> i32
     let Some(found) = version.epoch() else {
         return NO_NUMBER;
     };
-    *epoch = found.min(LARGEST);
+    if found > LARGEST {
+        *epoch = LARGEST;
+        return LARGE_EPOCH;
+    }
+    *epoch = found;
     OK
 }

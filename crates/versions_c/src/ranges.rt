@@ -10,12 +10,12 @@ ghost use Rattle.version_texts.specs.VersioningRef.{plain_versioning_ref};
 ghost use Rattle.versions_c.specs.Keys.{room_for};
 ghost use Rattle.versions_c.specs.Kinds.{version_status};
 ghost use Rattle.versions_c.specs.Offsets.{text_at, AreOffsets};
-ghost use Rattle.versions_c.specs.Ranges.{has_flag, in_range_code, one_if, range_status, range_with, AreSizes};
+ghost use Rattle.versions_c.specs.Ranges.{has_flag, in_range_code, one_if, range_status, range_with, AreLengths};
 
 use crate::offsets::{are_offsets, text_at};
 use crate::status::{BAD_OFFSETS, NO_REQUIREMENTS, NO_ROOM, NO_VERSION, OK};
 use version_rules::Kinds;
-use version_texts::{Held, VersioningRef, rooms_for, write_range};
+use version_texts::{RangeRef, VersioningRef};
 
 /// Versions of the strict kind are in the range.
 pub const IDEAL: u32 = 1;
@@ -48,9 +48,9 @@ pub extern "C" fn versions_range(
     ensures low_within { result ≡ OK → low_len.new ≤ length low.new }
     ensures high_within { result ≡ OK → high_len.new ≤ length high.new }
 
-    // Sizes that are large enough are reported if a buffer is too small.
-    ensures sizes { result ≡ NO_ROOM → IfSome (requirements_of list.now)
-        (AreSizes low_len.new high_len.new) }
+    // The lengths of the bounds are reported, also if a buffer is too small.
+    ensures sizes { IfSome (requirements_of list.now)
+        (λ wanted. AreLengths low_len.new high_len.new (range_of wanted)) }
 
     // Otherwise nothing is written.
     ensures kept_low { result ≢ OK → low.new ≡ low.old }
@@ -65,20 +65,17 @@ pub extern "C" fn versions_range(
         → room_for (length list.now) ≤ length high.old
         → result ≡ OK }
 {
-    let Some((low_room, high_room)) = rooms_for(list) else {
+    let Some(range) = RangeRef::from_bytes(list) else {
         return NO_REQUIREMENTS;
     };
-    if low_room > low.len() || high_room > high.len() {
-        *low_len = low_room;
-        *high_len = high_room;
+    *low_len = range.low_length();
+    *high_len = range.high_length();
+    if *low_len > low.len() || *high_len > high.len() {
         return NO_ROOM;
     }
-    let Some(held) = write_range(list, low, high) else {
-        return NO_REQUIREMENTS;
-    };
-    *low_len = held.low_len;
-    *high_len = held.high_len.unwrap_or(0);
-    *flags = flags_of(held);
+    range.write_low(low);
+    range.write_high(high);
+    *flags = flags_of(&range);
     OK
 }
 
@@ -191,20 +188,20 @@ fn has_flag(flags: u32, flag: u32) -> bool
 }
 
 // Returns the flags of a range.
-fn flags_of(held: Held) -> u32
+fn flags_of(range: &RangeRef<'_>) -> u32
     ensures flags { (low high : List ℕ) → range_with low high result ≡ record {
       low = low;
-      high = if is_some held.high_len then Some high else None;
-      kinds = held.kinds;
-      is_exact = held.is_exact;
+      high = if is_some range.now.high then Some high else None;
+      kinds = range.now.kinds;
+      is_exact = range.now.is_exact;
     } }
     ensures few { result < 32 }
 {
-    one_if(held.kinds.ideal) * IDEAL
-        + one_if(held.kinds.general) * GENERAL
-        + one_if(held.kinds.complex) * COMPLEX
-        + one_if(held.high_len.is_some()) * HIGH
-        + one_if(held.is_exact) * EXACT
+    one_if(range.kinds.ideal) * IDEAL
+        + one_if(range.kinds.general) * GENERAL
+        + one_if(range.kinds.complex) * COMPLEX
+        + one_if(range.high.is_some()) * HIGH
+        + one_if(range.is_exact) * EXACT
 }
 
 // Returns 1 if something holds, otherwise 0.

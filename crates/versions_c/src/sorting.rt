@@ -1,18 +1,17 @@
 //! Many texts, sorted by their versions.
 
-ghost use Rattle.std.specs.Prelude.{◌≡◌, ◌≢◌, ℕ, ◌<◌, ◌++◌, drop, length, slice_index};
-ghost use Rattle.std.specs.List.{range_with_len};
+ghost use Rattle.std.specs.Prelude.{◌≡◌, ◌≢◌, ◌↔◌, ℕ, ◌<◌, ◌≤◌, ◌+◌, ◌++◌, drop, false, length, map, slice_index, IsTrue};
 ghost use Rattle.std.specs.List.Sorted.{IsPermutation, IsSorted};
-ghost use Rattle.std.specs.declared.cmp.Ordering.TheVariants.{Equal};
 ghost use Rattle.versions_c.specs.Keys.{all_keys, keys_before, room_status, saturated_signed};
-ghost use Rattle.versions_c.specs.Offsets.{text_at};
-ghost use Rattle.versions_c.specs.Sorting.{keyed_cmp, keys_cmp, tied_cmp, AreInOrder, AreSortOffsets};
+ghost use Rattle.versions_c.specs.Offsets.{text_at, AreOffsets};
+ghost use Rattle.version_texts.specs.KeyTies.{marked_number};
+ghost use Rattle.versions_c.specs.Sorting.{keyed_cmp, keys_cmp, tied_cmp, AreInOrder, AreSortOffsets, IsMarked};
 
-use crate::keys::put_keys;
-use crate::offsets::are_offsets;
+use crate::keys::{is_always_room, put_keys};
+use crate::offsets::{are_offsets, text_at};
 use crate::status::{BAD_OFFSETS, NO_ROOM, OK};
 use std::cmp::Ordering;
-use version_texts::compare_key_ties;
+use version_texts::{compare_key_ties, marked_kind, marked_number};
 
 /// Writes the places of all texts, sorted by their versions.
 #[unsafe(no_mangle)]
@@ -51,19 +50,55 @@ pub extern "C" fn versions_sort(
     if key_offsets.len() != offsets.len() || !are_offsets(offsets, texts.len(), count) {
         return BAD_OFFSETS;
     }
-    if !put_keys(texts, offsets, count, keys, key_offsets) {
+    if !put_places(texts, offsets, keys, key_offsets, order) {
         return NO_ROOM;
     }
     let texts = Pieces {
         bytes: texts,
         offsets,
+        count,
     };
     let keys = Pieces {
         bytes: keys,
         offsets: key_offsets,
+        count,
     };
     sort(&texts, &keys, order);
+    remove_marks(order);
     OK
+}
+
+// Writes the keys of all texts, as far as they fit, and their offsets. Returns whether all of them fit, and writes only
+// then the places, with the kinds of their texts marked on them.
+fn put_places(
+    texts: &[u8],
+    offsets: &[u64],
+    keys: &mut [u8],
+    key_offsets: &mut [u64],
+    order: &mut [u64],
+) -> bool
+    requires offsets { AreOffsets offsets.now (length texts.now) (length order.old) }
+    requires as_many { length key_offsets.old ≡ length order.old + 1 }
+    ensures room { IsTrue result
+        ↔ (length (keys_before texts.now offsets.now (length order.old)) ≤ length keys.old) }
+    ensures keys { IsTrue result → keys.new
+        ≡ keys_before texts.now offsets.now (length order.old)
+        ++ drop (length (keys_before texts.now offsets.now (length order.old))) keys.old }
+    ensures key_offsets { (i : ℕ) → i ≤ length order.old
+        → slice_index key_offsets.new i
+        ≡ saturated_signed (length (keys_before texts.now offsets.now i)) }
+    ensures places { IsTrue result → (i : ℕ) → i < length order.old
+        → IsMarked texts.now offsets.now i (slice_index order.new i) }
+    ensures kept { result ≡ false → order.new ≡ order.old }
+{
+    let count = order.len();
+    // Where the keys may be too long, they are put a first time without the places.
+    if !is_always_room(texts, offsets, count, keys.len())
+        && !put_keys(texts, offsets, count, keys, key_offsets, &mut [])
+    {
+        return false;
+    }
+    put_keys(texts, offsets, count, keys, key_offsets, order)
 }
 
 // Many pieces in one buffer, each from one offset up to the next.
@@ -71,65 +106,61 @@ pub extern "C" fn versions_sort(
 struct Pieces<'a> {
     bytes: &'a [u8],
     offsets: &'a [u64],
+    count: usize,
+    ghost fit: { AreOffsets offsets.now (length bytes.now) count },
 }
 
 impl<'a> Pieces<'a> {
     // Returns the piece at a place, which is empty after the last piece.
+    #[inline(always)]
     fn at(&self, place: u64) -> &'a [u8]
         ensures { result.now ≡ text_at self.now.bytes.now self.now.offsets.now place }
     {
-        let Some([start, end, ..]) = self.offsets.get(place as usize..) else {
+        if place >= self.count as u64 {
             return &[];
-        };
-        let end = (*end as usize).min(self.bytes.len());
-        let start = (*start as usize).min(end);
-        &self.bytes[start..end]
+        }
+        text_at(self.bytes, self.offsets, self.count, place as usize)
     }
 }
 
-// Writes the places of texts, sorted by their keys.
+// Sorts places, on which the kinds of their texts are marked, by their keys.
 fn sort(texts: &Pieces<'_>, keys: &Pieces<'_>, order: &mut [u64])
-    ensures places { IsPermutation (range_with_len 0 (length order.old)) order.new }
+    ensures places { IsPermutation order.old order.new }
     ensures sorted { IsSorted (keyed_cmp texts.now.bytes.now texts.now.offsets.now
         keys.now.bytes.now keys.now.offsets.now) order.new }
 {
-    write_places(order);
-    order.sort_unstable_by(|a, b| compare_places(texts, keys, *a, *b));
+    order.sort_unstable_by(|a, b| compare_marked(texts, keys, *a, *b));
 }
 
-// Writes the places from 0 on.
-fn write_places(order: &mut [u64])
-    ensures { order.new ≡ range_with_len 0 (length order.old) }
+// Removes the kinds that are marked on places.
+fn remove_marks(order: &mut [u64])
+    ensures { order.new ≡ map marked_number order.old }
 {
-    for (place, written) in order.iter_mut().enumerate() {
-        *written = place as u64;
+    for marked in order.iter_mut() {
+        *marked = marked_number(*marked);
     }
 }
 
-// Compares two places by their keys, then by what breaks the tie, then as numbers.
-fn compare_places(texts: &Pieces<'_>, keys: &Pieces<'_>, a: u64, b: u64) -> Ordering
+// Compares two marked places by their keys, then by what breaks the tie, then as numbers.
+fn compare_marked(texts: &Pieces<'_>, keys: &Pieces<'_>, a: u64, b: u64) -> Ordering
     ensures { result ≡ keyed_cmp texts.now.bytes.now texts.now.offsets.now
         keys.now.bytes.now keys.now.offsets.now a b }
 {
-    match compare_empty_last(keys.at(a), keys.at(b)) {
-        Ordering::Equal => compare_tied_places(texts, keys, a, b),
+    match compare_empty_last(keys.at(marked_number(a)), keys.at(marked_number(b))) {
+        Ordering::Equal => compare_tied(texts, a, b),
         order => order,
     }
 }
 
-// Compares two places whose keys tie by what breaks the tie, then as numbers.
+// Compares two marked places whose keys tie by what breaks the tie, then as numbers.
 #[inline(never)]
-fn compare_tied_places(texts: &Pieces<'_>, keys: &Pieces<'_>, a: u64, b: u64) -> Ordering
-    requires { keys_cmp (text_at keys.now.bytes.now keys.now.offsets.now a)
-        (text_at keys.now.bytes.now keys.now.offsets.now b) ≡ Equal }
-    ensures { result ≡ tied_cmp texts.now.bytes.now texts.now.offsets.now
-        keys.now.bytes.now keys.now.offsets.now a b }
+fn compare_tied(texts: &Pieces<'_>, a: u64, b: u64) -> Ordering
+    ensures { result ≡ tied_cmp texts.now.bytes.now texts.now.offsets.now a b }
 {
-    if keys.at(a).is_empty() {
-        return a.cmp(&b);
-    }
-    match compare_key_ties(texts.at(a), texts.at(b)) {
-        Ordering::Equal => a.cmp(&b),
+    let (place, other) = (marked_number(a), marked_number(b));
+    let (text, other_text) = (texts.at(place), texts.at(other));
+    match compare_key_ties(marked_kind(a), text, marked_kind(b), other_text) {
+        Ordering::Equal => place.cmp(&other),
         order => order,
     }
 }

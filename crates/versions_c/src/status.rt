@@ -22,3 +22,7 @@ pub const BAD_OFFSETS: i32 = 8;
 pub const NO_FIELD: i32 = 11;
 /// Each member of the list is a requirement.
 pub const NO_WRONG_MEMBER: i32 = 12;
+/// The epoch is above the largest signed number of 64 bits.
+pub const LARGE_EPOCH: i32 = 13;
+/// No field has that number.
+pub const UNKNOWN_FIELD: i32 = 14;

@@ -6,7 +6,7 @@ use Rattle.std.specs.Cmp.{IsStrictWeakOrder, IsTotalOrder, nat_cmp_total}
 use Rattle.std.specs.Cmp.Lexicographic.{options_total, slice_cmp}
 use Rattle.std.specs.List.{All, prefix_len}
 use Rattle.std.specs.List.Sorted.{IsSorted}
-use Rattle.std.specs.Option.{option_and_then, option_cmp, option_map_or}
+use Rattle.std.specs.Option.{option_cmp, option_map, option_map_or}
 use Rattle.std.specs.Ordering.{is_lt, nat_cmp, ordering_then, then_cmp}
 use Rattle.std.proofs.Math.Seq.{drop-cons}
 use Rattle.std.proofs.lemmas.Bool.{le-ltb, lt-ltb}
@@ -16,12 +16,14 @@ use Rattle.std.proofs.lemmas.List.Elements.{All-head, All-tail}
 use Rattle.std.proofs.lemmas.List.Quantifiers.{all_pairs_push}
 use Rattle.std.proofs.lemmas.List.Sorted.{ranks_by}
 use Rattle.version_lines.specs.Head.{behind_heads_cmp}
-use Rattle.version_lines.specs.Entry.{entry_cmp, entry_key, entry_line, tie_cmp, AreInTurn, IsRead}
+use Rattle.version_lines.specs.Entry.{entry_cmp, entry_key, entry_kind, entry_line, entry_tie, key_length, tie_cmp, AreInTurn, IsRead}
 use Rattle.version_lines.specs.Lines.{lines_of, lines_output, whole_line}
 use Rattle.version_lines.specs.Sort.{bad_line, is_bad, line_cmp, sort_output}
 use Rattle.version_lines.specs.Sorting.{in_order, TiesRise}
-use Rattle.version_rules.specs.KeyTies.{key_tie_cmp, tie_breaker, unless_strict}
-use Rattle.version_rules.proofs.lemmas.KeyTies.{ties_alike}
+use Rattle.version_rules.specs.Kind.{versioning_kind}
+use Rattle.version_rules.specs.declared.kind.Kind.{Kind}
+use Rattle.version_texts.specs.KeyTies.{texts_tie}
+use Rattle.version_texts.proofs.lemmas.KeyTies.{texts_alike, texts_tie_total}
 use Rattle.version_lines.specs.LineKey.{line_key}
 use Rattle.version_lines.specs.declared.sort.entry.Entry.{Entry}
 use Rattle.version_rules.proofs.lemmas.OrdersLaws.{key_bytes_alone}
@@ -88,43 +90,48 @@ lines_of-entries lines entries after entry rest more line so_far next same added
     ∙ ap (λ l. l ++ more) (sym both)
 
 -- two texts that are versions compare by their keys, and then by what breaks the tie
-versions_alike : (v w : Option PlainVersioning) → not (is_some v) ≡ false → not (is_some w) ≡ false
+versions_alike : (a b : List ℕ) (k l : Kind) (v w : Option PlainVersioning) → versioning_of a ≡ v
+    → versioning_of b ≡ w → option_map versioning_kind v ≡ Some k
+    → option_map versioning_kind w ≡ Some l
     → ordering_then
     (slice_cmp nat_cmp (option_map_or (λ u. key_bytes (key_of u)) v [])
-    (option_map_or (λ u. key_bytes (key_of u)) w []))
-    (option_cmp versioning_cmp (option_and_then unless_strict v)
-    (option_and_then unless_strict w)) ≡ option_cmp versioning_cmp v w
-versions_alike None w v_good w_good = cc
-versions_alike (Some v) None v_good w_good = cc
-versions_alike (Some v) (Some w) v_good w_good =
-    ap (λ o. ordering_then o (option_cmp versioning_cmp (unless_strict v) (unless_strict w)))
-    (key_bytes_alone (key_of v) (key_of w)) ∙ ties_alike v w
+    (option_map_or (λ u. key_bytes (key_of u)) w [])) (texts_tie (k, a) (l, b))
+    ≡ option_cmp versioning_cmp v w
+versions_alike a b k l None w here there of_v of_w = cc of_v
+versions_alike a b k l (Some v) None here there of_v of_w = cc of_w
+versions_alike a b k l (Some v) (Some w) here there of_v of_w =
+    let v_kind : versioning_kind v ≡ k = cc of_v in
+    let w_kind : versioning_kind w ≡ l = cc of_w in
+    (λ i. ordering_then (key_bytes_alone (key_of v) (key_of w) i)
+    (texts_tie (sym v_kind i, a) (sym w_kind i, b)))
+    ∙ texts_alike a b v w here there
 
 -- a key stays at its place when more keys are added
 pub read-more : (keys more : List ℕ) (entry : Entry) → IsRead keys entry
     → IsRead (keys ++ more) entry
 read-more keys more entry read =
     let start : entry.start ≤ length keys = omega (arith, read.within) in
-    let inside : entry.length ≤ length (drop entry.start keys) =
+    let inside : key_length entry ≤ length (drop entry.start keys) =
     omega (arith, read.within, length-drop entry.start keys) in
     record {
       good = read.good;
+      kind = read.kind;
       within = omega (arith, read.within, length-append keys more);
-      key = ap (take entry.length) (drop-append-le entry.start keys more start)
-          ∙ take-append-le entry.length (drop entry.start keys) more inside ∙ read.key;
+      key = ap (take (key_length entry)) (drop-append-le entry.start keys more start)
+          ∙ take-append-le (key_length entry) (drop entry.start keys) more inside ∙ read.key;
       bytes = read.bytes;
       first = read.first;
       second = read.second;
     }
 
 -- no key is empty
-length-some : (keys : List ℕ) (entry : Entry) → IsRead keys entry → 0 < entry.length
+length-some : (keys : List ℕ) (entry : Entry) → IsRead keys entry → 0 < key_length entry
 length-some keys entry read =
     omega (
       arith,
       line_key-some (entry_line entry) read.good,
       ap length read.key,
-      length-take entry.length (drop entry.start keys),
+      length-take (key_length entry) (drop entry.start keys),
     )
 
 -- an entry after others, whose key lies after theirs, is in turn
@@ -145,11 +152,14 @@ line_total = on_total versioning_of (options_total versioning_cmp_total)
 pub line_ranks : IsStrictWeakOrder (λ a b. is_lt (line_cmp a b))
 line_ranks = ranks_by line_total (λ (line : List ℕ). line)
 
--- two lines that are versions, in the same way
-pub lines_alike : (a b : List ℕ) → is_bad a ≡ false → is_bad b ≡ false
-    → ordering_then (slice_cmp nat_cmp (line_key a) (line_key b)) (key_tie_cmp a b) ≡ line_cmp a b
+-- two lines that are versions of these kinds, in the same way
+pub lines_alike : (a b : List ℕ) (k l : Kind)
+    → option_map versioning_kind (versioning_of a) ≡ Some k
+    → option_map versioning_kind (versioning_of b) ≡ Some l
+    → ordering_then (slice_cmp nat_cmp (line_key a) (line_key b)) (texts_tie (k, a) (l, b))
+    ≡ line_cmp a b
 unfolding line_key
-lines_alike a b a_good b_good = versions_alike (versioning_of a) (versioning_of b) a_good b_good
+lines_alike a b k l = versions_alike a b k l (versioning_of a) (versioning_of b) refl refl
 
 -- the orders of entries are total
 
@@ -167,8 +177,7 @@ pub entry_ranks : (keys : List ℕ) → IsStrictWeakOrder (λ a b. is_lt (entry_
 entry_ranks keys = ranks_by (entry_total keys) (λ (entry : Entry). entry)
 
 pub tie_total : IsTotalOrder tie_cmp
-tie_total = on_total (λ (entry : Entry). tie_breaker (entry_line entry))
-    (options_total versioning_cmp_total)
+tie_total = on_total entry_tie texts_tie_total
 
 -- together they are the order of lines
 entries_alike : (keys : List ℕ)
@@ -179,7 +188,8 @@ entries_alike keys a b a_read b_read =
     rw (a_read.first, b_read.first, a_read.second, b_read.second, a_read.key, b_read.key)
     (heads_first (line_key (entry_line a)) (line_key (entry_line b)) a_read.bytes b_read.bytes) in
     ap (λ o. ordering_then o (tie_cmp a b)) by_keys
-    ∙ lines_alike (entry_line a) (entry_line b) a_read.good b_read.good
+    ∙ lines_alike (entry_line a) (entry_line b) (entry_kind a) (entry_kind b) a_read.kind
+    b_read.kind
 
 -- in the order of their keys they are sorted
 pub entries-sorted : (keys : List ℕ) (entries by_keys : List Entry)

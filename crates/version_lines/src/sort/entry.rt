@@ -1,57 +1,58 @@
 //! A line as it is sorted.
-ghost use Rattle.std.specs.Prelude.{◌≡◌, ◌++◌, drop, length, IfOk, IfSome, IsTrue, MatchOption, OnOk, Some};
-ghost use Rattle.std.specs.Option.{option_map};
+ghost use Rattle.std.specs.Prelude.{◌≡◌, ◌++◌, drop, length, IfOk, IfSome, IsTrue, MatchOption, OnOk};
 ghost use Rattle.std.specs.Ordering.{then_cmp};
 ghost use Rattle.version_lines.specs.Head.{behind_heads_cmp};
 ghost use Rattle.version_lines.specs.LineKey.{line_key};
-ghost use Rattle.version_rules.specs.Kind.{versioning_kind};
-ghost use Rattle.version_rules.specs.Versioning.{versioning_of};
 
 use crate::line_key::add_key;
 use crate::sort::head::head;
 use std::alloc::AllocError;
 use std::cmp::Ordering;
 use version_rules::Kind;
-use version_texts::compare_key_ties;
+use version_texts::{compare_key_ties, mark_kind, marked_kind, marked_number};
 
-/// A line that is a version, the place of its key in the one list of all keys, and the key's first bytes, by which most
-/// lines differ.
+/// A line that is a version, the place of its key in the one list of all keys, the key's length with the kind marked on
+/// it, and the key's first bytes, by which most lines differ.
 #[derive(Clone, Copy)]
 pub struct Entry<'a> {
     first: u64,
     second: u64,
     line: &'a [u8],
     start: usize,
-    length: usize,
+    length: u64,
 }
 
+// A key's length is below it, so that a kind can be marked on the length. No memory holds a longer key.
+const LENGTH_LIMIT: u64 = 1 << 62;
+
 impl<'a> Entry<'a> {
-    ghost use Rattle.version_lines.specs.Entry.{behind_cmp, entry_cmp, entry_key, entry_line, tie_cmp, turn_cmp, IsRead};
+    ghost use Rattle.version_lines.specs.Entry.{behind_cmp, entry_cmp, entry_key, entry_kind, entry_line, entry_tie, tie_cmp, turn_cmp, IsRead, IsStrict};
     ghost use Rattle.version_lines.specs.Sort.{is_bad};
 
-    /// Returns an entry for the line and the kind of its version, or None if it is not a version. Its key is added to
-    /// `keys`. Fails if the key cannot be allocated.
-    pub fn read(keys: &mut Vec<u8>, line: &'a [u8]) -> Result<Option<(Entry<'a>, Kind)>, AllocError>
+    /// Returns an entry for the line, or None if it is not a version. Its key is added to `keys`. Fails if the key
+    /// cannot be allocated.
+    pub fn read(keys: &mut Vec<u8>, line: &'a [u8]) -> Result<Option<Entry<'a>>, AllocError>
         ensures key { OnOk result (keys.new.items ≡ keys.old.items ++ line_key line.now) }
         ensures read { IfOk result (λ read. MatchOption read (IsTrue (is_bad line.now))
-            (λ e. (entry_line e.0 ≡ line.now) × IsRead keys.new.items e.0)) }
-        ensures last { IfOk result (λ read. IfSome read (λ e. e.0.start ≡ length keys.old.items)) }
-        ensures kind { IfOk result (λ read. IfSome read (λ e.
-            Some e.1 ≡ option_map versioning_kind (versioning_of line.now))) }
+            (λ e. (entry_line e ≡ line.now) × IsRead keys.new.items e)) }
+        ensures last { IfOk result (λ read. IfSome read (λ e. e.start ≡ length keys.old.items)) }
     {
         let start = keys.len();
         let Some(kind) = add_key(keys, line)? else {
             return Ok(None);
         };
         let key = &keys.as_slice()[start..];
-        let entry = Entry {
+        let length = key.len() as u64;
+        if length >= LENGTH_LIMIT {
+            return Err(AllocError);
+        }
+        Ok(Some(Entry {
             first: head(key),
             second: head(key.get(8..).unwrap_or(&[])),
             line,
             start,
-            length: key.len(),
-        };
-        Ok(Some((entry, kind)))
+            length: mark_kind(length, kind),
+        }))
     }
 
     /// Compares by the keys, their first bytes first.
@@ -78,7 +79,9 @@ impl<'a> Entry<'a> {
     pub fn compare_ties_in_turn(&self, other: &Entry<'_>) -> Ordering
         ensures { result ≡ then_cmp tie_cmp turn_cmp self.now other.now }
     {
-        compare_key_ties(self.line, other.line).then(self.start.cmp(&other.start))
+        compare_key_ties(self.kind(), self.line, other.kind(), other.line).then(
+            self.start.cmp(&other.start),
+        )
     }
 
     // Compares by the second eight bytes of the keys, then by the rest.
@@ -105,8 +108,33 @@ impl<'a> Entry<'a> {
     fn key<'k>(&self, keys: &'k [u8]) -> &'k [u8]
         ensures { result.now ≡ entry_key keys.now self.now }
     {
-        let behind = keys.get(self.start..).unwrap_or(&[]);
-        behind.get(..self.length).unwrap_or(behind)
+        let behind = &keys[self.start.min(keys.len())..];
+        &behind[..(marked_number(self.length) as usize).min(behind.len())]
+    }
+
+    // Returns the kind of its version.
+    #[inline(always)]
+    fn kind(&self) -> Kind
+        ensures { result ≡ entry_kind self.now }
+    {
+        marked_kind(self.length)
+    }
+
+    /// Returns whether its version is strict.
+    pub fn is_strict(&self) -> bool
+        ensures { IsTrue result → IsStrict self.now }
+    {
+        match self.kind() {
+            Kind::Ideal => true,
+            Kind::General | Kind::Complex => false,
+        }
+    }
+
+    /// Returns whether two lines are identical, and their keys equally long.
+    pub fn is_same(&self, other: &Entry<'_>) -> bool
+        ensures { IsTrue result → entry_tie self.now ≡ entry_tie other.now }
+    {
+        self.length == other.length && self.line == other.line
     }
 
     /// Returns the line.

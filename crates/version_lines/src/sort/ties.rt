@@ -1,12 +1,12 @@
 //! Lines whose keys tie, in the order of their versions.
 ghost use Rattle.std.specs.Prelude.{◌≡◌, ℕ, ◌<◌, ◌≤◌, ◌+◌, List, drop, length, IsTrue};
+ghost use Rattle.version_rules.specs.declared.kind.Kind.{Kind};
 ghost use Rattle.std.specs.List.{All};
 ghost use Rattle.std.specs.List.Sorted.{IsSorted};
 ghost use Rattle.std.specs.Ordering.{then_cmp};
-ghost use Rattle.version_lines.specs.Entry.{entry_cmp, entry_line, tie_cmp, AreInTurn, IsStrict};
+ghost use Rattle.version_lines.specs.Entry.{entry_cmp, entry_tie, tie_cmp, AreInTurn, IsStrict};
 ghost use Rattle.version_lines.specs.Sorting.{in_order, run_length, TiesRise};
 
-use crate::ideal::is_strict;
 use crate::sort::entry::Entry;
 
 /// Puts lines that are sorted by keys in the order of their versions. Each run of lines with equal keys is sorted by
@@ -56,7 +56,7 @@ fn settle(run: &mut [Entry<'_>])
     requires { AreInTurn run.old }
     ensures { run.new ≡ in_order tie_cmp run.old }
 {
-    if are_one_line(run) || are_strict(run) {
+    if are_strict(run) || are_one_line(run) {
         return;
     }
     run.sort_unstable_by(|a, b| a.compare_ties_in_turn(b));
@@ -64,13 +64,14 @@ fn settle(run: &mut [Entry<'_>])
 
 // Returns whether the lines are identical.
 fn are_one_line(run: &[Entry<'_>]) -> bool
-    ensures { IsTrue result → (line : List ℕ) × All (λ entry. entry_line entry ≡ line) run.now }
+    ensures { IsTrue result
+        → (tie : Kind × List ℕ) × All (λ entry. entry_tie entry ≡ tie) run.now }
 {
     let [first, others @ ..] = run else {
         return true;
     };
     for other in others {
-        if other.line() != first.line() {
+        if !other.is_same(first) {
             return false;
         }
     }
@@ -82,7 +83,7 @@ fn are_strict(run: &[Entry<'_>]) -> bool
     ensures { IsTrue result → All IsStrict run.now }
 {
     for entry in run {
-        if !is_strict(entry.line()) {
+        if !entry.is_strict() {
             return false;
         }
     }

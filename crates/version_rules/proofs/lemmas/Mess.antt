@@ -1,6 +1,6 @@
 -- Messy versions. A prefix spells the version that it parses as, if a dot, a sign or the end
 -- follows. A text that spells a version parses as that version, which prints that text.
-use Rattle.std.proofs.Common.{◌≡◌, ◌∙◌, ℕ, ◌<◌, List, [], ◌∷◌, ◌++◌, length, Some, None, Result, Ok, Err, IsSome, OnErr, refl, sym, ap, subst, arith, append-nil, append_assoc, inl, inr}
+use Rattle.std.proofs.Common.{◌≡◌, ◌∙◌, ℕ, ◌<◌, List, [], ◌∷◌, ◌++◌, length, Some, None, refl, sym, ap, subst, arith, append-nil, append_assoc, inl, inr}
 use Rattle.std.proofs.lemmas.Str.{IsAscii-append}
 use Rattle.std.specs.Str.{IsAscii}
 use Rattle.version_rules.specs.Bytes.{dot}
@@ -241,15 +241,3 @@ mess_of-Some text m s = rw (mess_complete text m s) refl
 pub mess_of-spells : (text : List ℕ) (m : PlainMess) → mess_of text ≡ Some m → SpellsMess text m
 unfolding mess_of
 mess_of-spells text m e = mess_whole text m (whole-Some _ m e)
-
--- a text that parses spells a version; so only such a text needs an allocation
-some_spelled : (text : List ℕ) → IsSome (mess_of text) → (m : PlainMess) × SpellsMess text m
-some_spelled text some = elim (cases_Option (mess_of text)) [
-  | inl none ↦ cc (rw none at some)
-  | inr one ↦ (one.0, mess_of-spells text one.0 one.1)
-]
-
-pub spelled_on_err : {V E : Type 0} (text : List ℕ) (r : Result V E)
-    → OnErr r (IsSome (mess_of text)) → OnErr r ((m : PlainMess) × SpellsMess text m)
-spelled_on_err text (Ok v) some = tt
-spelled_on_err text (Err e) some = some_spelled text some

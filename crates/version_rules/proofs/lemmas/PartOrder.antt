@@ -55,5 +55,3 @@ numbers_compared a b all_a all_b =
     ∙ (λ i. bytes_cmp (number_written a all_a i) (number_written b all_b i))
     ∙ length_writes.compares (length (without_zeros a)) (length (without_zeros b)) (without_zeros a)
     (without_zeros b)
-
-pub ruleset digits_compared = (numbers_compared)

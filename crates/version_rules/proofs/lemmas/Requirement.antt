@@ -1,6 +1,6 @@
 -- Requirements: a whole text parses as the requirement that it spells, and that requirement prints
 -- the text.
-use Rattle.std.proofs.Common.{◌≡◌, ◌==◌, ◌∙◌, ◌&&◌, ℕ, Bool, true, false, not, eqb, List, [], ◌∷◌, ◌++◌, Option, Some, None, refl, sym, arith, inl, inr}
+use Rattle.std.proofs.Common.{◌≡◌, ◌==◌, ◌∙◌, ◌&&◌, ℕ, Bool, true, false, not, eqb, List, [], ◌∷◌, ◌++◌, Option, Some, None, IsSomeAnd, refl, sym, arith, inl, inr}
 use Rattle.std.proofs.lemmas.Bool.Decides.{nat_tests}
 use Rattle.std.proofs.lemmas.List.Elements.{All-cons, All-nil}
 use Rattle.std.proofs.lemmas.List.Folds.{list_all-append}
@@ -15,9 +15,9 @@ use Rattle.version_rules.proofs.lemmas.Front.Repeated.{cases_Option}
 use Rattle.version_rules.proofs.lemmas.Front.Runs.{all_weaker}
 use Rattle.version_rules.specs.declared.op.Op.{Op}
 use Rattle.version_rules.specs.Op.{op_front, op_text}
-use Rattle.version_rules.specs.Requirement.{PlainRequirement, SpellsOperand, SpellsRequirement, operand_of, requirement_of, requirement_text}
+use Rattle.version_rules.specs.Requirement.{PlainRequirement, RequirementOwns, SpellsOperand, SpellsRequirement, operand_of, requirement_of, requirement_text}
 use Rattle.version_rules.specs.Requirements.{comma}
-use Rattle.version_rules.specs.Versioning.{PlainVersioning, SpellsVersioning, versioning_of, versioning_text}
+use Rattle.version_rules.specs.Versioning.{PlainVersioning, SpellsVersioning, VersioningOwns, versioning_of, versioning_text}
 use Rattle.version_rules.proofs.lemmas.Op.{op_front-Some, op_front-reads}
 use Rattle.version_rules.proofs.lemmas.Versioning.Spelled.{of_versioning}
 use Rattle.version_rules.proofs.lemmas.Versioning.{versioning_of-Some, versioning_of-spells, versioning_printed}
@@ -155,12 +155,13 @@ requirement_of-Some text r s =
       operand_of-Some r.op s.operand r.version s.operand_is,
     ) refl
 
--- an operator other than `*`, and a version after it
-pub requirement_of-version : (text rest : List ℕ) (o : Op) (v : PlainVersioning)
-    → op_front text ≡ Some (o, rest) → ¬ (o ≡ op.Wildcard) → SpellsVersioning rest v
-    → requirement_of text ≡ Some (record { op = o; version = Some v })
-requirement_of-version text rest o v e other s =
-    rw (e, operand_of-version o rest other, versioning_of-Some rest v s) refl
+-- after an operator other than `*`, a requirement owns what its version owns
+pub requirement_owns : (text rest : List ℕ) (o : Op) (v : Option PlainVersioning)
+    → op_front text ≡ Some (o, rest) → ¬ (o ≡ op.Wildcard) → versioning_of rest ≡ v
+    → IsSomeAnd v VersioningOwns → IsSomeAnd (requirement_of text) RequirementOwns
+requirement_owns text rest o None e other is owns = absurd owns
+requirement_owns text rest o (Some v) e other is owns =
+    rw (e, operand_of-version o rest other, is) owns
 
 pub requirement_of-spells : (text : List ℕ) (r : PlainRequirement) → requirement_of text ≡ Some r
     → SpellsRequirement text r

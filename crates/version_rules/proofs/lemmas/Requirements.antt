@@ -1,6 +1,6 @@
 -- Lists of requirements: a whole text parses as the list that it spells, and that list prints the
 -- text.
-use Rattle.std.proofs.Common.{◌≡◌, ◌∙◌, ◌<◌, ◌+◌, ℕ, zero, suc, eqb, IsSome, OnErr, Result, Ok, Err, List, [], ◌∷◌, ◌++◌, get_or, length, map, Option, Some, None, refl, sym, ap, arith, inl, inr}
+use Rattle.std.proofs.Common.{◌≡◌, ◌∙◌, ◌<◌, ◌+◌, ℕ, zero, suc, eqb, List, [], ◌∷◌, ◌++◌, get_or, length, map, Option, Some, None, refl, sym, ap, arith, inl, inr}
 use Rattle.std.proofs.lemmas.List.Splits.{join_with_byte-slice_split, length-slice_split, slice_split_at, slice_split_none}
 use Rattle.std.proofs.lemmas.Slice.Zip.{AllZip-long}
 use Rattle.std.specs.List.{AllZip, count_by, join_with_byte, list_all, slice_split}
@@ -141,17 +141,3 @@ pub requirements_unique : (text : List ℕ) (list others : List PlainRequirement
     → SpellsRequirements text list → SpellsRequirements text others → list ≡ others
 requirements_unique text list others s t =
     cc (sym (requirements_of-Some text list s) ∙ requirements_of-Some text others t)
-
--- a text that parses spells a list
-some_spelled : (text : List ℕ) → IsSome (requirements_of text)
-    → (list : List PlainRequirement) × SpellsRequirements text list
-some_spelled text some = elim (cases_Option (requirements_of text)) [
-  | inl none ↦ cc (rw none at some)
-  | inr one ↦ (one.0, requirements_of-spells text one.0 one.1)
-]
-
-pub spelled_on_err : {V E : Type 0} (text : List ℕ) (r : Result V E)
-    → OnErr r (IsSome (requirements_of text))
-    → OnErr r ((list : List PlainRequirement) × SpellsRequirements text list)
-spelled_on_err text (Ok v) some = tt
-spelled_on_err text (Err e) some = some_spelled text some

@@ -9,6 +9,7 @@ ghost use Rattle.version_rules.specs.Mess.{mess_front, mess_of, mess_text, Plain
 ghost use Rattle.version_rules.specs.Requirement.{requirement_of, requirement_text, PlainRequirement, SpellsRequirement};
 ghost use Rattle.version_rules.specs.Requirements.{requirements_of, requirements_text, SpellsRequirements};
 ghost use Rattle.version_rules.specs.SemVer.{semver_front, semver_of, semver_text, PlainSemVer, SpellsSemVer};
+ghost use Rattle.version_rules.specs.Versioning.{versioning_of, versioning_text, PlainVersioning, SpellsVersioning};
 ghost use Rattle.version_rules.specs.Version.{version_front, version_of, version_text, PlainVersion, SpellsVersion};
 
 // A text parses as a version without rest exactly if it spells that version. A prefix spells the version that it
@@ -56,6 +57,15 @@ fn messy_versions()
     ensures printed { IsPrinted SpellsMess mess_text }
     ensures ascii { (text : List ℕ) (m : PlainMess) → SpellsMess text m → IsAscii text }
     ensures answer { (text : List ℕ) (m : PlainMess) → (mess_of text ≡ Some m) ↔ SpellsMess text m }
+{}
+
+// A text spells at most one version of any kind, which prints the text.
+fn versions()
+    ensures only { (text : List ℕ) (v w : PlainVersioning) → SpellsVersioning text v
+        → SpellsVersioning text w → v ≡ w }
+    ensures printed { IsPrinted SpellsVersioning versioning_text }
+    ensures answer { (text : List ℕ) (v : PlainVersioning)
+        → (versioning_of text ≡ Some v) ↔ SpellsVersioning text v }
 {}
 
 // A text spells at most one requirement, which prints the text.

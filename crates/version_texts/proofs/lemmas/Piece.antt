@@ -1,8 +1,11 @@
 -- The first piece of a text: its digits, and how the other pieces follow.
+pub mod Chunks
+pub mod Ends
 pub mod Kept
 pub mod Order
 pub mod Spelled
-use Rattle.std.proofs.Common.{◌≡◌, ◌==◌, ◌∙◌, ℕ, Bool, true, false, List, [], ◌∷◌, length, not, refl, sym, ap, inl, inr, one-add}
+pub mod Words
+use Rattle.std.proofs.Common.{◌≡◌, ◌==◌, ◌∙◌, ℕ, Bool, true, false, List, [], ◌∷◌, length, not, Some, refl, sym, ap, inl, inr, one-add}
 use Rattle.std.proofs.Math.Dec.{eqb-suc-zero}
 use Rattle.std.proofs.lemmas.Bool.{cases_Bool, eqb-true}
 use Rattle.std.specs.Char.{is_ascii_digit}
@@ -11,7 +14,7 @@ use Rattle.std.specs.Str.Parse.{digits_value}
 use Rattle.version_rules.proofs.lemmas.Front.Runs.{take_while-all}
 use Rattle.version_rules.specs.Bytes.{dot}
 use Rattle.version_rules.specs.Chunk.{Alphanum, Numeric}
-use Rattle.version_rules.specs.DigitRun.{run_value, starts_with_digit}
+use Rattle.version_rules.specs.DigitRun.{number_front, run_value, starts_with_digit}
 use Rattle.version_rules.specs.Split.{split_of}
 use Rattle.version_rules.specs.PartKey.{Word, Number, part_key, suffix_of}
 use Rattle.version_texts.proofs.lemmas.TextKey.DotPieces.{is_run}
@@ -56,89 +59,86 @@ piece_empty test (b ∷ text) e = elim (cases_Bool (test b)) [
       ) at e)
 ]
 
--- a text begins with a digit if its run of digits is not empty
-pub starts_are : (text : List ℕ)
-    → starts_with_digit text ≡ not (length (take_while is_ascii_digit text) == 0)
-starts_are [] = refl
-starts_are (b ∷ text) = elim (cases_Bool (is_ascii_digit b)) [
-  | inl digit ↦
-      rw (run_cons is_ascii_digit b text digit).0
-      (rw digit (sym (ap not (eqb-suc-zero (length (take_while is_ascii_digit text))))))
-  | inr other ↦ rw other refl
-]
-
-pub starts_by_run : (text digits : List ℕ) (none : Bool) → digits ≡ take_while is_ascii_digit text
-    → none ≡ (length digits == 0) → starts_with_digit text ≡ not none
-starts_by_run text digits none run e =
-    starts_are text ∙ ap (λ (l : List ℕ). not (length l == 0)) (sym run) ∙ ap not (sym e)
-
-pub starts_same : (text : List ℕ) → starts_with_digit (first_piece text) ≡ starts_with_digit text
-starts_same [] = refl
-starts_same (b ∷ text) = elim (cases_Bool (is_dot b)) [
-  | inl at_dot ↦ let is : b ≡ dot = eqb-true b dot at_dot in rw is refl
-  | inr within ↦ rw (piece_grows is_dot b text within).0 refl
-]
-
--- the digits of the first piece, and what follows them in it and behind it
-pub digits_same : (text : List ℕ)
-    → (take_while is_ascii_digit (first_piece text) ≡ take_while is_ascii_digit text)
-    × (behind_digits (first_piece text) ≡ first_piece (behind_digits text))
-    × (behind_piece (behind_digits text) ≡ behind_piece text)
-digits_same [] = (refl, refl, refl)
-digits_same (b ∷ text) = elim (cases_Bool (is_ascii_digit b)) [
-  | inl digit ↦
-      let here = piece_grows is_dot b text (digit_no_dot b digit) in
-      let more = digits_same text in
-      let inside = run_cons is_ascii_digit b (first_piece text) digit in
-      let outside = run_cons is_ascii_digit b text digit in (
-        ap (take_while is_ascii_digit) here.0 ∙ inside.0 ∙ ap (λ (l : List ℕ). b ∷ l) more.0
-            ∙ sym outside.0,
-        ap behind_digits here.0 ∙ inside.1 ∙ more.1 ∙ sym (ap first_piece outside.1),
-        ap behind_piece outside.1 ∙ more.2 ∙ sym here.1,
-      )
-  | inr other ↦ elim (cases_Bool (is_dot b)) [
-    | inl at_dot ↦ let is : b ≡ dot = eqb-true b dot at_dot in rw is (refl, refl, refl)
-    | inr within ↦
-        rw (piece_grows is_dot b text within).0
-        (rw other (refl, sym (piece_grows is_dot b text within).0, refl))
+module _ (ends : ℕ → Bool) (apart : (b : ℕ) → is_ascii_digit b ≡ true → ends b ≡ false) where
+  pub starts_same : (text : List ℕ)
+      → starts_with_digit (before_first ends text) ≡ starts_with_digit text
+  starts_same [] = refl
+  starts_same (b ∷ text) = elim (cases_Bool (ends b)) [
+    | inl at_end ↦ elim (cases_Bool (is_ascii_digit b)) [
+      | inl digit ↦ cc (sym at_end ∙ apart b digit)
+      | inr other ↦ rw ((piece_ends ends b text at_end).0, other) refl
+    ]
+    | inr within ↦ rw (piece_grows ends b text within).0 refl
   ]
-]
 
--- the part of a first piece that begins with a digit, and of another
-pub part_of_number : (text : List ℕ) → starts_with_digit text ≡ true
-    → part_key (first_piece text)
-    ≡ Number (run_value text) (suffix_of (first_piece (behind_digits text)))
-part_of_number text e =
-    let same = digits_same text in
-    rw (starts_same text, e, same.0, same.1) refl
+  -- the digits of the first piece, and what follows them in it and behind it
+  pub digits_same : (text : List ℕ)
+      → (take_while is_ascii_digit (before_first ends text) ≡ take_while is_ascii_digit text)
+      × (behind_digits (before_first ends text) ≡ before_first ends (behind_digits text))
+      × (from_first ends (behind_digits text) ≡ from_first ends text)
+  digits_same [] = (refl, refl, refl)
+  digits_same (b ∷ text) = elim (cases_Bool (is_ascii_digit b)) [
+    | inl digit ↦
+        let here = piece_grows ends b text (apart b digit) in
+        let more = digits_same text in
+        let inside = run_cons is_ascii_digit b (before_first ends text) digit in
+        let outside = run_cons is_ascii_digit b text digit in (
+          ap (take_while is_ascii_digit) here.0 ∙ inside.0 ∙ ap (λ (l : List ℕ). b ∷ l) more.0
+              ∙ sym outside.0,
+          ap behind_digits here.0 ∙ inside.1 ∙ more.1 ∙ sym (ap (before_first ends) outside.1),
+          ap (from_first ends) outside.1 ∙ more.2 ∙ sym here.1,
+        )
+    | inr other ↦ elim (cases_Bool (ends b)) [
+      | inl at_end ↦
+          let here = piece_ends ends b text at_end in
+          rw here.0 (rw other (refl, sym here.0, refl))
+      | inr within ↦
+          let here = piece_grows ends b text within in
+          rw here.0 (rw other (refl, sym here.0, refl))
+    ]
+  ]
 
-pub part_of_word : (text : List ℕ) → starts_with_digit text ≡ false
-    → part_key (first_piece text) ≡ Word (split_of (first_piece text))
-part_of_word text e = rw (starts_same text, e) refl
+  -- the part of a first piece that begins with a digit, and of another
+  pub front_of_number : (text : List ℕ) → starts_with_digit text ≡ true
+      → number_front (before_first ends text)
+      ≡ Some (run_value text, before_first ends (behind_digits text))
+  front_of_number text e =
+      let same = digits_same text in
+      rw (starts_same text, e, same.0, same.1) refl
 
--- the chunk of a first piece, by what follows its digits; what follows the digits of a number
--- follows its piece
+  pub part_of_number : (text : List ℕ) → starts_with_digit text ≡ true
+      → part_key (before_first ends text)
+      ≡ Number (run_value text) (suffix_of (before_first ends (behind_digits text)))
+  part_of_number text e = rw (front_of_number text e) refl
+
+  pub part_of_word : (text : List ℕ) → starts_with_digit text ≡ false
+      → part_key (before_first ends text) ≡ Word (split_of (before_first ends text))
+  part_of_word text e = rw (starts_same text, e) refl
+
+-- the chunk of a first piece is a number if nothing follows the digits in it; what follows the
+-- digits of a number follows its piece
 module _ (text rest : List ℕ) (left : rest ≡ behind_digits text) where
-  digits_alone : (all : Bool) → all ≡ (length (first_piece rest) == 0)
+  pub digits_alone : (all : Bool) → all ≡ (length (first_piece rest) == 0)
       → list_all is_ascii_digit (first_piece text) ≡ all
   digits_alone all e =
       sym (is_run is_ascii_digit (first_piece text))
-      ∙ ap (λ (l : List ℕ). length l == 0) ((digits_same text).1 ∙ ap first_piece (sym left))
+      ∙ ap (λ (l : List ℕ). length l == 0)
+      ((digits_same is_dot digit_no_dot text).1 ∙ ap first_piece (sym left))
       ∙ sym e
-
-  pub chunk_of_number : (digits : List ℕ) → digits ≡ take_while is_ascii_digit text
-      → true ≡ (length (first_piece rest) == 0)
-      → chunk_of (first_piece text) ≡ Numeric (digits_value 10 digits)
-  chunk_of_number digits run e =
-      let all = digits_alone true e in
-      let same : first_piece text ≡ digits =
-      sym (take_while-all is_ascii_digit (first_piece text) all) ∙ (digits_same text).0 ∙ sym run in
-      rw all (ap (λ (l : List ℕ). Numeric (digits_value 10 l)) same)
-
-  pub chunk_of_text : false ≡ (length (first_piece rest) == 0)
-      → chunk_of (first_piece text) ≡ Alphanum (first_piece text)
-  chunk_of_text e = rw (digits_alone false e) refl
 
   pub behind_number : true ≡ (length (first_piece rest) == 0) → rest ≡ behind_piece text
   behind_number e =
-      sym (piece_empty is_dot rest (sym e)) ∙ ap behind_piece left ∙ (digits_same text).2
+      sym (piece_empty is_dot rest (sym e)) ∙ ap behind_piece left
+      ∙ (digits_same is_dot digit_no_dot text).2
+
+pub chunk_of_number : (text : List ℕ) → list_all is_ascii_digit (first_piece text) ≡ true
+    → chunk_of (first_piece text) ≡ Numeric (run_value text)
+chunk_of_number text all =
+    let same : first_piece text ≡ take_while is_ascii_digit text =
+    sym (take_while-all is_ascii_digit (first_piece text) all)
+    ∙ (digits_same is_dot digit_no_dot text).0 in
+    rw all (ap (λ (l : List ℕ). Numeric (digits_value 10 l)) same)
+
+pub chunk_of_text : (text : List ℕ) → list_all is_ascii_digit (first_piece text) ≡ false
+    → chunk_of (first_piece text) ≡ Alphanum (first_piece text)
+chunk_of_text text other = rw other refl

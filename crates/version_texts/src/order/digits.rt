@@ -1,67 +1,88 @@
 //! Numbers of any size, by their digits.
 
-ghost use Rattle.std.specs.Prelude.{◌≡◌, ◌==◌, ◌≤◌, drop, length, true};
+ghost use Rattle.std.specs.Prelude.{◌≡◌, ◌==◌, ◌∷◌, drop, false, true, IfNone, IfSome};
 ghost use Rattle.std.specs.Char.{is_ascii_digit};
-ghost use Rattle.std.specs.List.{list_all, prefix_len, take_while};
+ghost use Rattle.std.specs.List.{prefix_len};
 ghost use Rattle.std.specs.Ordering.{nat_cmp};
-ghost use Rattle.std.specs.Str.Parse.{digits_value};
-ghost use Rattle.version_rules.specs.Lists.{bytes_cmp};
+ghost use Rattle.std.specs.declared.cmp.Ordering.TheVariants.{Equal};
+ghost use Rattle.version_rules.specs.DigitRun.{run_value, starts_with_digit};
+ghost use Rattle.version_texts.specs.Piece.{behind_digits};
 
+use crate::class::{Class, begins_with};
+use crate::order::run::Compared;
 use std::cmp::Ordering;
 
-// The length of the run of digits at the start of a text.
+// Compares the numbers at the starts of two texts, without leading zeros: by the count of digits, and then by the first
+// digits that differ. A text that begins with no digit has the number 0. No more digits are read of one number than the
+// other has.
 #[inline(always)]
-pub(crate) fn digits_len(text: &[u8]) -> usize
-    ensures length { result ≡ prefix_len is_ascii_digit text.now }
-    ensures within { result ≤ length text.now }
+pub(crate) fn compare_numbers<'t>(x: &'t [u8], y: &'t [u8]) -> Compared<'t>
+    ensures order { result.order ≡ nat_cmp (run_value x.now) (run_value y.now) }
+    ensures rest { result.order ≡ Equal → result.rest.now ≡ behind_digits x.now }
+    ensures other_rest { result.order ≡ Equal → result.other_rest.now ≡ behind_digits y.now }
 {
-    for (n, byte) in text.iter().enumerate() {
-        if !byte.is_ascii_digit() {
-            return n;
+    let (mut a, mut b) = (without_zeros(x), without_zeros(y));
+    'digits: loop {
+        let Some((digit, rest)) = split_digit(a) else {
+            return Compared {
+                order: false.cmp(&begins_with(b, Class::Digit)),
+                rest: a,
+                other_rest: b,
+            };
+        };
+        let Some((other, other_rest)) = split_digit(b) else {
+            return Compared {
+                order: Ordering::Greater,
+                rest: a,
+                other_rest: b,
+            };
+        };
+        if digit != other {
+            let order = compare_lengths(rest, other_rest).then(digit.cmp(&other));
+            return Compared {
+                order,
+                rest: a,
+                other_rest: b,
+            };
         }
+        a = rest;
+        b = other_rest;
     }
-    text.len()
 }
 
-// The longest run of digits at the start of a text, which may be empty, and the rest.
+// Compares the counts of the digits that two texts begin with.
 #[inline(always)]
-pub(crate) fn split_digits(text: &[u8]) -> (&[u8], &[u8])
-    ensures run { result.0.now ≡ take_while is_ascii_digit text.now }
-    ensures rest { result.1.now ≡ drop (prefix_len is_ascii_digit text.now) text.now }
-    ensures digits { list_all is_ascii_digit result.0.now ≡ true }
+fn compare_lengths(x: &[u8], y: &[u8]) -> Ordering
+    ensures { result
+        ≡ nat_cmp (prefix_len is_ascii_digit x.now) (prefix_len is_ascii_digit y.now) }
 {
-    text.split_at(digits_len(text))
-}
-
-// Compares the numbers that two runs of digits write: without leading zeros, by the count of
-// digits, and then by the digits.
-#[tactic(auto, using(version_rules::proofs::lemmas::PartOrder::digits_compared))]
-#[inline(always)]
-pub(crate) fn compare_digits(a: &[u8], b: &[u8]) -> Ordering
-    requires a { list_all is_ascii_digit a.now ≡ true }
-    requires b { list_all is_ascii_digit b.now ≡ true }
-    ensures { result ≡ nat_cmp (digits_value 10 a.now) (digits_value 10 b.now) }
-{
-    let (a, b) = (without_zeros(a), without_zeros(b));
-    let lengths = a.len().cmp(&b.len());
-    if lengths != Ordering::Equal {
-        return lengths;
-    }
-    compare_same_len(a, b)
-}
-
-// Compares two texts of one length by bytes. They are mostly short.
-#[inline(always)]
-fn compare_same_len(a: &[u8], b: &[u8]) -> Ordering
-    requires { length a.now ≡ length b.now }
-    ensures { result ≡ bytes_cmp a.now b.now }
-{
-    for (place, byte) in a.iter().enumerate() {
-        if *byte != b[place] {
-            return byte.cmp(&b[place]);
+    let mut place = 0;
+    'digits: loop {
+        let others = place < y.len() && y[place].is_ascii_digit();
+        if place == x.len() || !x[place].is_ascii_digit() {
+            return if others {
+                Ordering::Less
+            } else {
+                Ordering::Equal
+            };
         }
+        if !others {
+            return Ordering::Greater;
+        }
+        place += 1;
     }
-    Ordering::Equal
+}
+
+// The digit that a text begins with, and the rest, or None if it begins with no digit.
+#[inline(always)]
+fn split_digit(text: &[u8]) -> Option<(u8, &[u8])>
+    ensures some { IfSome result (λ p. (text.now ≡ p.0 ∷ p.1.now) × (is_ascii_digit p.0 ≡ true)) }
+    ensures none { IfNone result (starts_with_digit text.now ≡ false) }
+{
+    match text {
+        [digit, rest @ ..] if digit.is_ascii_digit() => Some((*digit, rest)),
+        _ => None,
+    }
 }
 
 // The text after its leading zeros.

@@ -1,13 +1,16 @@
-//! Lists of parts, compared.
+//! Lists of parts and of sections, compared.
 
-ghost use Rattle.std.specs.Prelude.{◌≡◌, [], IfNone, IfSome};
+ghost use Rattle.std.specs.Prelude.{◌≡◌, IfNone, IfSome, None, Some};
 ghost use Rattle.std.specs.declared.cmp.Ordering.TheVariants.{Equal};
-ghost use Rattle.version_rules.specs.PartKey.{list_cmp};
-ghost use Rattle.version_texts.specs.TextKey.{parts_of};
+ghost use Rattle.version_rules.specs.PartKey.{list_cmp, part_cmp, part_key};
+ghost use Rattle.version_rules.specs.Tail.{sections_cmp};
+ghost use Rattle.version_texts.specs.TextKey.{lists_of, parts_of, sections_of};
 
 use crate::class::{Class, begins_with};
-use crate::order::part::compare_first_parts;
-use crate::order::piece::behind_first;
+use crate::order::digits::compare_numbers;
+use crate::order::ends::Ends;
+use crate::order::part::compare_parts_to;
+use crate::order::piece::{after_dot, behind_first};
 use std::cmp::Ordering;
 
 // Compares two lists of parts. The first place where they differ decides:
@@ -17,7 +20,10 @@ pub(crate) fn compare_parts(x: &[u8], y: &[u8]) -> Ordering
     ensures { result ≡ list_cmp (parts_of x.now) (parts_of y.now) }
 {
     match pass_common(x, y) {
-        Some((x, y)) => compare_in_turn(x, y),
+        Some((x, y)) => match compare_first_numbers(x, y) {
+            Some(order) => order,
+            None => compare_in_turn(x, y),
+        },
         None => Ordering::Equal,
     }
 }
@@ -47,49 +53,78 @@ fn pass_common<'a>(x: &'a [u8], y: &'a [u8]) -> Option<(&'a [u8], &'a [u8])>
     Some((&x[start..], &y[start..]))
 }
 
-// Compares two lists of parts, part by part.
+// Compares two lists of parts that begin with different numbers, as most do. Returns None for others.
 #[inline(always)]
+fn compare_first_numbers(x: &[u8], y: &[u8]) -> Option<Ordering>
+    ensures { IfSome result (λ order. order ≡ list_cmp (parts_of x.now) (parts_of y.now)) }
+{
+    if !begins_with(x, Class::Digit) || !begins_with(y, Class::Digit) {
+        return None;
+    }
+    let numbers = compare_numbers(x, y);
+    if numbers.order != Ordering::Equal {
+        return Some(numbers.order);
+    }
+    None
+}
+
+// Compares two lists of parts, part by part.
+#[inline(never)]
 fn compare_in_turn(x: &[u8], y: &[u8]) -> Ordering
     ensures { result ≡ list_cmp (parts_of x.now) (parts_of y.now) }
 {
+    compare_lists(Ends::Dots, x, y)
+}
+
+// Compares two lists of sections, part by part. A prefix comes before the longer list.
+#[inline(never)]
+pub(crate) fn compare_sections(x: &[u8], y: &[u8]) -> Ordering
+    ensures { result ≡ sections_cmp (sections_of x.now) (sections_of y.now) }
+{
+    compare_lists(Ends::Marks, x, y)
+}
+
+// Compares two lists of sections, which signs divide if these are ends of parts: part by part, and not section by
+// section, since one may be much longer than the other.
+#[inline(always)]
+fn compare_lists(ends: Ends, x: &[u8], y: &[u8]) -> Ordering
+    ensures { result ≡ sections_cmp (lists_of ends x.now) (lists_of ends y.now) }
+{
     let (mut a, mut b) = (x, y);
     'parts: loop {
-        let (order, rest, other_rest) = compare_first_parts(a, b);
-        if order != Ordering::Equal {
-            return order;
+        let parts = compare_parts_to(ends, a, b);
+        if parts.order != Ordering::Equal {
+            return parts.order;
         }
-        match (behind_first(rest), behind_first(other_rest)) {
+        let (rest, other_rest) = (parts.rest, parts.other_rest);
+        match (after_dot(rest), after_dot(other_rest)) {
             (Some(more), Some(others)) => {
                 a = more;
                 b = others;
             }
             (Some(more), None) => return compare_with_end(more),
-            (None, Some(others)) => return compare_end_with(others),
-            (None, None) => return Ordering::Equal,
+            (None, Some(others)) => return compare_with_end(others).reverse(),
+            (None, None) => match (behind_first(rest), behind_first(other_rest)) {
+                (Some(more), Some(others)) => {
+                    a = more;
+                    b = others;
+                }
+                (Some(_), None) => return Ordering::Greater,
+                (None, Some(_)) => return Ordering::Less,
+                (None, None) => return Ordering::Equal,
+            },
         }
     }
 }
 
-// Compares a list of parts with the end of a list.
+// Compares a part that a text begins with, and the end of a list.
 #[inline(always)]
-fn compare_with_end(parts: &[u8]) -> Ordering
-    ensures { result ≡ list_cmp (parts_of parts.now) [] }
+fn compare_with_end(text: &[u8]) -> Ordering
+    ensures { result ≡ part_cmp (Some (part_key text.now)) None }
 {
-    if begins_with(parts, Class::Digit) {
+    if begins_with(text, Class::Digit) {
         Ordering::Greater
     } else {
         Ordering::Less
-    }
-}
-
-// Compares the end of a list with a list of parts.
-#[inline(always)]
-fn compare_end_with(parts: &[u8]) -> Ordering
-    ensures { result ≡ list_cmp [] (parts_of parts.now) }
-{
-    if begins_with(parts, Class::Digit) {
-        Ordering::Less
-    } else {
-        Ordering::Greater
     }
 }

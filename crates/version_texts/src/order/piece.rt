@@ -1,7 +1,9 @@
 //! The pieces of a text between its dots.
 
-ghost use Rattle.std.specs.Prelude.{◌≡◌, ◌==◌, ◌≤◌, ◌∷◌, [], ℕ, length, suc, take, IfNone, IfSome};
+ghost use Rattle.std.specs.Prelude.{◌≡◌, ◌==◌, ◌≤◌, ◌∷◌, [], ℕ, length, suc, take, IfNone, IfSome, MatchOption, false};
 ghost use Rattle.std.specs.List.{position_or_len};
+ghost use Rattle.version_rules.specs.Bytes.{dot};
+ghost use Rattle.version_rules.specs.Front.{begins};
 ghost use Rattle.version_texts.specs.Piece.{behind_piece, first_piece, is_dot};
 
 // Whether a text is empty or begins with a dot.
@@ -54,5 +56,17 @@ pub(crate) fn behind_first(text: &[u8]) -> Option<&[u8]>
     match text {
         [_, more @ ..] => Some(more),
         [] => None,
+    }
+}
+
+// The text after the dot that it begins with, or None if it begins with no dot.
+#[inline(always)]
+pub(crate) fn after_dot(text: &[u8]) -> Option<&[u8]>
+    ensures { MatchOption result (begins (λ b. b == dot) text.now ≡ false)
+        (λ behind. text.now ≡ dot ∷ behind.now) }
+{
+    match text.split_first() {
+        Some((b'.', behind)) => Some(behind),
+        _ => None,
     }
 }

@@ -1,14 +1,21 @@
 //! Releases, compared.
 
 ghost use Rattle.std.specs.Prelude.{◌≡◌};
-ghost use Rattle.std.specs.declared.cmp.Ordering.TheVariants.{Equal};
-ghost use Rattle.version_rules.specs.Lists.{bytes_cmp};
+ghost use Rattle.std.specs.Char.{is_ascii_digit};
+ghost use Rattle.std.specs.List.{list_all};
+ghost use Rattle.std.specs.Ordering.{nat_cmp};
+ghost use Rattle.std.specs.declared.cmp.Ordering.TheVariants.{Equal, Greater};
+ghost use Rattle.version_rules.specs.DigitRun.{run_value};
 ghost use Rattle.version_rules.specs.ReleaseOrder.{chunk_cmp, release_cmp};
 ghost use Rattle.version_texts.specs.Piece.{behind_piece, first_piece};
 ghost use Rattle.version_texts.specs.TextKey.{chunk_of, chunks_of};
 
-use crate::order::digits::{compare_digits, split_digits};
-use crate::order::piece::{behind_first, piece_is_empty, split_piece};
+use crate::class::{Class, split_run};
+use crate::order::digits::compare_numbers;
+use crate::order::ends::Ends;
+use crate::order::part::compare_texts;
+use crate::order::piece::{behind_first, piece_is_empty};
+use crate::order::run::Compared;
 use std::cmp::Ordering;
 
 // Compares two releases chunk by chunk. A prefix comes before the longer release.
@@ -18,11 +25,11 @@ pub(crate) fn compare_releases(x: &[u8], y: &[u8]) -> Ordering
 {
     let (mut a, mut b) = (x, y);
     'chunks: loop {
-        let (order, rest, other_rest) = compare_first_chunks(a, b);
-        if order != Ordering::Equal {
-            return order;
+        let chunks = compare_first_chunks(a, b);
+        if chunks.order != Ordering::Equal {
+            return chunks.order;
         }
-        match (behind_first(rest), behind_first(other_rest)) {
+        match (behind_first(chunks.rest), behind_first(chunks.other_rest)) {
             (Some(more), Some(others)) => {
                 a = more;
                 b = others;
@@ -37,28 +44,61 @@ pub(crate) fn compare_releases(x: &[u8], y: &[u8]) -> Ordering
 // Compares two releases by their first chunks. If these are equal, returns what follows them.
 // Numbers come before texts.
 #[inline(always)]
-fn compare_first_chunks<'a>(a: &'a [u8], b: &'a [u8]) -> (Ordering, &'a [u8], &'a [u8])
-    ensures order { result.0
+fn compare_first_chunks<'a>(a: &'a [u8], b: &'a [u8]) -> Compared<'a>
+    ensures order { result.order
         ≡ chunk_cmp (chunk_of (first_piece a.now)) (chunk_of (first_piece b.now)) }
-    ensures rest { result.0 ≡ Equal → result.1.now ≡ behind_piece a.now }
-    ensures other_rest { result.0 ≡ Equal → result.2.now ≡ behind_piece b.now }
+    ensures rest { result.order ≡ Equal → result.rest.now ≡ behind_piece a.now }
+    ensures other_rest { result.order ≡ Equal → result.other_rest.now ≡ behind_piece b.now }
 {
-    let ((digits, rest), (other_digits, other_rest)) = (split_digits(a), split_digits(b));
-    match (piece_is_empty(rest), piece_is_empty(other_rest)) {
-        (true, true) => (compare_digits(digits, other_digits), rest, other_rest),
-        (true, false) => (Ordering::Less, a, b),
-        (false, true) => (Ordering::Greater, a, b),
-        (false, false) => compare_first_texts(a, b),
+    let numbers = compare_numbers(a, b);
+    match numbers.order {
+        Ordering::Greater => Compared {
+            order: compare_greater(a, b),
+            ..numbers
+        },
+        Ordering::Less => Compared {
+            order: compare_greater(b, a).reverse(),
+            ..numbers
+        },
+        Ordering::Equal => match (
+            piece_is_empty(numbers.rest),
+            piece_is_empty(numbers.other_rest),
+        ) {
+            (true, true) => numbers,
+            (true, false) => Compared {
+                order: Ordering::Less,
+                ..numbers
+            },
+            (false, true) => Compared {
+                order: Ordering::Greater,
+                ..numbers
+            },
+            (false, false) => compare_texts(Ends::Dots, a, b),
+        },
     }
 }
 
-// Compares the first pieces of two releases by bytes, and returns what follows them.
+// Compares two first chunks, of which the first one begins with the greater number. Its digits may be many, so they
+// are read to their end only where this decides.
 #[inline(always)]
-fn compare_first_texts<'a>(a: &'a [u8], b: &'a [u8]) -> (Ordering, &'a [u8], &'a [u8])
-    ensures order { result.0 ≡ bytes_cmp (first_piece a.now) (first_piece b.now) }
-    ensures rest { result.1.now ≡ behind_piece a.now }
-    ensures other_rest { result.2.now ≡ behind_piece b.now }
+fn compare_greater(a: &[u8], b: &[u8]) -> Ordering
+    requires { nat_cmp (run_value a.now) (run_value b.now) ≡ Greater }
+    ensures { result ≡ chunk_cmp (chunk_of (first_piece a.now)) (chunk_of (first_piece b.now)) }
 {
-    let ((piece, rest), (other_piece, other_rest)) = (split_piece(a), split_piece(b));
-    (piece.cmp(other_piece), rest, other_rest)
+    if chunk_is_number(b) {
+        return Ordering::Greater;
+    }
+    let texts = compare_texts(Ends::Dots, a, b).order;
+    if texts == Ordering::Less || !chunk_is_number(a) {
+        return texts;
+    }
+    Ordering::Less
+}
+
+// Whether the first chunk of a release is a number: digits alone.
+#[inline(always)]
+fn chunk_is_number(text: &[u8]) -> bool
+    ensures { result ≡ list_all is_ascii_digit (first_piece text.now) }
+{
+    piece_is_empty(split_run(text, Class::Digit).1)
 }

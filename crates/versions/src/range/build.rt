@@ -1,9 +1,9 @@
 //! Ranges built from the ends that operators ask for.
 
-ghost use Rattle.std.specs.Prelude.{◌≡◌, ◌++◌, IfOk, IsTrue, OnOk, Some};
+ghost use Rattle.std.specs.Prelude.{◌≡◌, ◌∷◌, ◌++◌, IfOk, IsTrue, OnOk, Some};
 ghost use Rattle.version_rules.specs.Codes.{items_bytes};
 ghost use Rattle.version_rules.specs.PartKey.{part_bytes};
-ghost use Rattle.versions.specs.BodyParts.{key_of_part, parts_left};
+ghost use Rattle.versions.specs.BodyParts.{first_part, more_parts};
 ghost use Rattle.version_rules.specs.Ends.{end_bytes, is_whole, kept_parts, range_from, AreWhole};
 ghost use Rattle.version_rules.specs.Key.{key_of, strict_body};
 ghost use Rattle.version_rules.specs.Kind.{versioning_kind};
@@ -13,13 +13,13 @@ ghost use Rattle.versions.specs.Versioning.{plain_versioning};
 ghost use Rattle.version_rules.specs.declared.kind.Kind.TheVariants.{Complex};
 
 use crate::numbers::Numbers;
-use crate::parts::{BodyPart, BodyParts};
+use crate::parts::BodyParts;
 use crate::range::Range;
 use crate::versioning::Versioning;
 use std::alloc::{AllocError, Global};
 use version_parts::key::PieceBytes;
 use version_parts::{Chunk, Last};
-use version_rules::{End, Ends, Kept};
+use version_rules::{End, Ends, Kept, Parts};
 
 // Returns the range that has these ends, by the key of a version.
 pub(crate) fn range_from(
@@ -104,7 +104,11 @@ fn append_numbers(numbers: Numbers, kept: Kept, list: &mut Vec<u8>) -> Result<()
 {
     let chunks = [Chunk::Numeric(numbers.0), Chunk::Numeric(numbers.1)];
     let last = Last::Numeric(numbers.2);
-    append_parts(0, BodyParts::with_last(&chunks, &last), kept, list)
+    let parts = BodyParts {
+        chunks: &chunks,
+        last: &last,
+    };
+    append_parts(0, parts, kept, list)
 }
 
 // Appends the bytes of an epoch, and of the parts that are kept, to a list.
@@ -114,8 +118,8 @@ fn append_parts(
     kept: Kept,
     list: &mut Vec<u8>,
 ) -> Result<(), AllocError>
-    ensures { OnOk result (list.new.items
-        ≡ list.old.items ++ begun epoch (kept_parts kept (parts_left parts.entry))) }
+    ensures { OnOk result (list.new.items ≡ list.old.items
+        ++ begun epoch (kept_parts kept (first_part parts.entry ∷ more_parts parts.entry))) }
 {
     PieceBytes::number(epoch).append_to(list)?;
     append_kept(parts, kept, list)
@@ -124,29 +128,18 @@ fn append_parts(
 // Appends the bytes of the parts that are kept to a list.
 #[tactic(auto, using(version_rules::proofs::lemmas::Ends::last_kept))]
 fn append_kept(mut parts: BodyParts<'_>, kept: Kept, list: &mut Vec<u8>) -> Result<(), AllocError>
-    ensures { OnOk result (list.new.items ≡ list.old.items
-        ++ items_bytes part_bytes (kept_parts kept (parts_left parts.entry))) }
+    ensures { OnOk result (list.new.items ≡ list.old.items ++ items_bytes part_bytes
+        (kept_parts kept (first_part parts.entry ∷ more_parts parts.entry))) }
 {
-    let Some(mut part) = parts.take_first() else {
-        return Ok(());
-    };
-    while let Some(next) = parts.take_first() {
-        append_part(part, list)?;
-        if kept == Kept::ThroughOther && !part.is_plain_zero() {
+    while let Some(rest) = parts.rest() {
+        PieceBytes::part(parts.first()).append_to(list)?;
+        if kept == Kept::ThroughOther && !parts.begins_with_zero() {
             return Ok(());
         }
-        part = next;
+        parts = rest;
     }
     if kept == Kept::ButLast {
         return Ok(());
     }
-    append_part(part, list)
-}
-
-// Appends the bytes of a part to a list.
-fn append_part(part: BodyPart<'_>, list: &mut Vec<u8>) -> Result<(), AllocError>
-    ensures { OnOk result (list.new.items
-        ≡ list.old.items ++ part_bytes (Some (key_of_part part.entry))) }
-{
-    PieceBytes::part(part.text()).append_to(list)
+    PieceBytes::part(parts.first()).append_to(list)
 }

@@ -5,18 +5,20 @@ use Rattle.std.proofs.Common.{◌≡◌, ◌∙◌, ◌+◌, ◌<◌, ◌≤◌,
 use Rattle.std.proofs.lemmas.List.{length-append}
 use Rattle.std.specs.List.{AllZip, join_with_byte}
 use Rattle.std.specs.Option.{option_map_or}
+use Rattle.std.specs.Ordering.{is_lt}
 use Rattle.version_rules.specs.Codes.{items_bytes}
-use Rattle.version_rules.specs.Lists.{split_last}
+use Rattle.version_rules.specs.Lists.{bytes_cmp, split_last}
 use Rattle.version_rules.specs.NumberBytes.{number_bytes}
 use Rattle.version_rules.specs.PartKey.{PartKey, part_bytes}
-use Rattle.version_texts.specs.Bounds.{high_length, high_room, low_room}
+use Rattle.version_texts.proofs.lemmas.RangeRef.{narrowed}
+use Rattle.version_texts.specs.RangeRef.{high_length}
 use Rattle.version_rules.proofs.lemmas.Requirements.{requirements_of-spells}
 use Rattle.version_rules.specs.declared.op.Op.{Op}
 use Rattle.version_rules.specs.declared.op.Op.TheVariants.{Exact, Greater, GreaterEq, Less, LessEq, Tilde, Caret, Wildcard}
 use Rattle.version_rules.specs.Key.{Key, key_of}
 use Rattle.version_rules.specs.KeyBytes.{key_bytes}
 use Rattle.version_rules.specs.Op.{op_text}
-use Rattle.version_rules.specs.Range.{PlainRange, alike_from, begun, but_last, bytes_of, op_range, range_without_version, requirement_range, series_range, through_other}
+use Rattle.version_rules.specs.Range.{PlainRange, alike_from, begun, but_last, bytes_of, common, earlier_high, everything, later, op_range, range_of, range_without_version, requirement_range, series_range, through_other}
 use Rattle.version_rules.specs.Requirement.{PlainRequirement, SpellsOperand, SpellsRequirement}
 use Rattle.version_rules.specs.Requirements.{comma, requirements_of}
 use Rattle.version_rules.specs.VersionMatch.{is_plain_zero}
@@ -150,35 +152,54 @@ requirement_short text r s = by r.version s.operand_is
 
 -- ---- a list
 
+-- the common bounds of two ranges are bounds of these
+later_short : (a b : List ℕ) (n : ℕ) → length a ≤ n → length b ≤ n → length (later a b) ≤ n
+later_short a b n short short_too = by (is_lt (bytes_cmp a b))
+  where
+    by : (less : Bool) → length (if less then b else a) ≤ n
+    by true = short_too
+    by false = short
+
+high_short : (a b : Option (List ℕ)) (n : ℕ) → option_map_or length a 0 ≤ n
+    → option_map_or length b 0 ≤ n → option_map_or length (earlier_high a b) 0 ≤ n
+high_short None b n short short_too = short_too
+high_short (Some a) None n short short_too = short
+high_short (Some a) (Some b) n short short_too = by (is_lt (bytes_cmp b a))
+  where
+    by : (less : Bool) → length (if less then b else a) ≤ n
+    by true = short_too
+    by false = short
+
+common_short : (n : ℕ) (a b : PlainRange) → IsShort n a → IsShort n b → IsShort n (common a b)
+common_short n a b short short_too = record {
+  low = later_short a.low b.low n short.low short_too.low;
+  high = high_short a.high b.high n short.high short_too.high;
+}
+
 -- the members of a text are no longer than the text
-pub record RoomsWithin (n : ℕ) (list : List PlainRequirement) : Type 0 where
-  pub low : low_room list ≤ n
-  pub high : high_room list ≤ n
-
-members_short : (members : List (List ℕ)) (list : List PlainRequirement) (n : ℕ)
+members_short : (members : List (List ℕ)) (list : List PlainRequirement) (range : PlainRange) (n : ℕ)
     → AllZip SpellsRequirement members list → length (join_with_byte comma members) ≤ n
-    → RoomsWithin (room_for n) list
-members_short [] [] n s within = record { low = omega arith; high = omega arith }
-members_short [] (r ∷ list) n s within = absurd s
-members_short (text ∷ members) [] n s within = absurd s
-members_short (text ∷ []) (r ∷ []) n s within =
-    let first = requirement_short text r s.0 in
-    record { low = omega (arith, first.low, within); high = omega (arith, first.high, within) }
-members_short (text ∷ []) (r ∷ q ∷ list) n s within = absurd s.1
-members_short (text ∷ next ∷ members) (r ∷ list) n s within =
+    → IsShort (room_for n) range → IsShort (room_for n) (narrowed range list)
+members_short [] [] range n s within short = short
+members_short [] (r ∷ list) range n s within short = absurd s
+members_short (text ∷ members) [] range n s within short = absurd s
+members_short (text ∷ []) (r ∷ []) range n s within short =
+    common_short (room_for n) range (requirement_range r) short
+    (longer (room_for (length text)) (room_for n) (requirement_range r) (omega (arith, within))
+    (requirement_short text r s.0))
+members_short (text ∷ []) (r ∷ q ∷ list) range n s within short = absurd s.1
+members_short (text ∷ next ∷ members) (r ∷ list) range n s within short =
     let all = length-append text (comma ∷ join_with_byte comma (next ∷ members)) in
-    let first = requirement_short text r s.0 in
-    let others = members_short (next ∷ members) list n s.1 (omega (arith, within, all)) in
-    record {
-      low =
-          omega (arith, first.low, others.low, within, all);
-      high =
-          omega (arith, first.high, others.high, within, all);
-    }
+    members_short (next ∷ members) list (common range (requirement_range r)) n s.1
+    (omega (arith, within, all))
+    (common_short (room_for n) range (requirement_range r) short
+    (longer (room_for (length text)) (room_for n) (requirement_range r) (omega (arith, within, all))
+    (requirement_short text r s.0)))
 
-pub enough_rooms : (text : List ℕ) (list : List PlainRequirement) → requirements_of text ≡ Some list
-    → RoomsWithin (room_for (length text)) list
-enough_rooms text list e =
+pub list_short : (text : List ℕ) (list : List PlainRequirement) → requirements_of text ≡ Some list
+    → IsShort (room_for (length text)) (range_of list)
+list_short text list e =
     let s = requirements_of-spells text list e in
     let long = ap length s.whole in
-    members_short s.members list (length text) s.members_are (omega (arith, long))
+    members_short s.members list everything (length text) s.members_are (omega (arith, long))
+    (record { low = omega arith; high = omega arith })

@@ -6,23 +6,23 @@ use Rattle.std.proofs.Math.Seq.{drop-append_seam, take-append_seam}
 use Rattle.std.proofs.lemmas.Bool.{eqb-false}
 use Rattle.std.proofs.lemmas.Bool.Decides.{nat_tests}
 use Rattle.std.proofs.lemmas.Cmp.{nat_list_cmp_total, on_total, then_total}
-use Rattle.std.proofs.lemmas.List.{map-id}
+use Rattle.std.proofs.lemmas.Grind.{get_or_default_zero}
+use Rattle.std.proofs.lemmas.List.{get_or-map, length-map, map-id}
 use Rattle.std.proofs.lemmas.List.Elements.{All-from_get_or, All-get_or}
 use Rattle.std.proofs.lemmas.List.FromFn.{fill_by_all, get_or-range_with_len, length-range_with_len}
-use Rattle.std.proofs.lemmas.List.Sorted.{All-permutation, ranks_by}
+use Rattle.std.proofs.lemmas.List.Sorted.{All-permutation, IsPermutation-map, ranks_by}
 use Rattle.std.proofs.lemmas.Map.Keys.{apart_from_distinct, IsDistinct-from_apart, IsDistinct-IsPermutation}
 use Rattle.std.specs.Char.{digit_char}
 use Rattle.std.specs.Cmp.{IsStrictWeakOrder, IsTotalOrder, bool_cmp_total, nat_cmp_total, nat_eq_equiv}
-use Rattle.std.specs.Cmp.Lexicographic.{options_total}
-use Rattle.std.specs.FinMap.{IsAntisymmetric, nat_cmp-IsAntisymmetric}
+use Rattle.std.specs.FinMap.{nat_cmp-IsAntisymmetric}
 use Rattle.std.specs.Int.Digits.{digits_of}
-use Rattle.std.specs.List.{IsDistinct, range_with_len}
+use Rattle.std.specs.List.{All, IsDistinct, range_with_len}
 use Rattle.std.specs.List.Sorted.{IsPermutation, IsSorted}
-use Rattle.std.specs.Option.{option_and_then, option_cmp, option_map, unwrap_or}
+use Rattle.std.specs.Option.{option_map, option_map_or, unwrap_or}
 use Rattle.std.specs.Ordering.{is_lt, nat_cmp, on, ordering_reverse, ordering_then}
 use Rattle.std.specs.declared.cmp.Ordering.{Ordering}
 use Rattle.std.specs.declared.cmp.Ordering.TheVariants.{Less, Equal, Greater}
-use Rattle.version_rules.proofs.lemmas.Orders.{then_assoc, then_same}
+use Rattle.version_rules.proofs.lemmas.Orders.{then_assoc}
 use Rattle.version_rules.specs.Lists.{none_last_cmp}
 use Rattle.version_rules.specs.NumberBytes.{length_bytes, number_bytes}
 use Rattle.version_rules.specs.PartKey.{parts_bytes}
@@ -30,14 +30,16 @@ use Rattle.version_rules.proofs.lemmas.OrdersLaws.{key_bytes_alone}
 use Rattle.version_rules.specs.Key.{Key, key_of, precedence}
 use Rattle.version_rules.specs.KeyBytes.{key_bytes}
 use Rattle.version_rules.specs.Orders.{versioning_cmp}
-use Rattle.version_rules.specs.laws.Orders.{versioning_cmp_total}
 use Rattle.version_rules.specs.Tail.{tail_bytes}
 use Rattle.version_rules.specs.Versioning.{PlainVersioning, versioning_of}
 use Rattle.versions_c.specs.Keys.{keys_before, saturated_signed}
-use Rattle.versions_c.specs.Offsets.{text_at}
-use Rattle.version_rules.specs.KeyTies.{unless_strict}
-use Rattle.version_rules.proofs.lemmas.KeyTies.{ties_alike}
-use Rattle.versions_c.specs.Sorting.{AreInOrder, keyed_cmp, keys_cmp, place_cmp, keyed_breaker}
+use Rattle.versions_c.specs.Offsets.{AreOffsets, text_at}
+use Rattle.version_rules.specs.Kind.{versioning_kind}
+use Rattle.version_rules.specs.declared.kind.Kind.{Kind}
+use Rattle.version_rules.specs.declared.kind.Kind.TheVariants.{Ideal}
+use Rattle.version_texts.specs.KeyTies.{kind_on, marked_number, texts_tie}
+use Rattle.version_texts.proofs.lemmas.KeyTies.{texts_alike, texts_tie_total}
+use Rattle.versions_c.specs.Sorting.{AreInOrder, IsMarked, keyed_cmp, keys_cmp, marked_tie, place_cmp}
 
 -- numbers that are each its own place
 pub counted : (xs : List ℕ) (n : ℕ) → length xs ≡ n → ((i : ℕ) → i < n → get_or xs i 0 ≡ i)
@@ -52,17 +54,23 @@ keys_total = then_total
 pub keyed_total : (texts offsets keys key_offsets : List ℕ)
     → IsTotalOrder (keyed_cmp texts offsets keys key_offsets)
 keyed_total texts offsets keys key_offsets =
-    then_total (on_total (text_at keys key_offsets) keys_total)
-    (then_total (on_total (λ i. keyed_breaker (text_at texts offsets i) (text_at keys key_offsets i))
-    (options_total versioning_cmp_total)) nat_cmp_total)
+    then_total (on_total (λ m. text_at keys key_offsets (marked_number m)) keys_total)
+    (then_total (on_total (marked_tie texts offsets) texts_tie_total)
+    (on_total marked_number nat_cmp_total))
+
+last_equal : (first next last : Ordering)
+    → ordering_then first (ordering_then next last) ≡ Equal → last ≡ Equal
+last_equal Less next last e = cc e
+last_equal Equal Less last e = cc e
+last_equal Equal Equal last e = e
+last_equal Equal Greater last e = cc e
+last_equal Greater next last e = cc e
 
 -- a place ties only with itself
-keyed_same : (texts offsets keys key_offsets : List ℕ)
-    → IsAntisymmetric (keyed_cmp texts offsets keys key_offsets)
-keyed_same texts offsets keys key_offsets =
-    then_same (on (text_at keys key_offsets) keys_cmp)
-    (then_same (on (λ i. keyed_breaker (text_at texts offsets i) (text_at keys key_offsets i))
-    (option_cmp versioning_cmp)) nat_cmp-IsAntisymmetric)
+keyed_same : (texts offsets keys key_offsets : List ℕ) (m n : ℕ)
+    → keyed_cmp texts offsets keys key_offsets m n ≡ Equal → marked_number m ≡ marked_number n
+keyed_same texts offsets keys key_offsets m n tied =
+    nat_cmp-IsAntisymmetric (marked_number m) (marked_number n) (last_equal _ _ _ tied)
 
 pub keyed_ranks : (texts offsets keys key_offsets : List ℕ)
     → IsStrictWeakOrder (λ a b. is_lt (keyed_cmp texts offsets keys key_offsets a b))
@@ -90,6 +98,33 @@ keys_begin texts offsets i (suc k) =
           ∙ ap (λ (l : List ℕ). l ++ next) shorter.1
           ∙ append_assoc (keys_before texts offsets i) shorter.0 next,
     )
+
+-- the offsets of keys that fit are offsets in their buffer
+pub are_key_offsets : (texts offsets told : List ℕ) (room count : ℕ) → length told ≡ count + 1
+    → length (keys_before texts offsets count) ≤ room
+    → ((i : ℕ) → i ≤ count
+    → get_or told i 0 ≡ saturated_signed (length (keys_before texts offsets i)))
+    → AreOffsets told room count
+are_key_offsets texts offsets told room count many fits each =
+    record {
+      one_more = many;
+      ascending = λ i j d low inside.
+          let more = keys_begin texts offsets i (j - i) in
+          let up_to : j - i + i ≡ j = omega (arith, low) in
+          let longer : length (keys_before texts offsets j)
+          ≡ length (keys_before texts offsets i) + length more.0 =
+          ap (λ k. length (keys_before texts offsets k)) (sym up_to) ∙ ap length more.1
+          ∙ length-append (keys_before texts offsets i) more.0 in
+          omega (
+            arith,
+            longer,
+            each i (omega (arith, low, inside, many)),
+            each j (omega (arith, inside, many)),
+            get_or_default_zero told i d (omega (arith, low, inside)),
+            get_or_default_zero told j d inside,
+          );
+      within = omega (arith, each count (omega arith), fits);
+    }
 
 -- the list between two lists
 between_two : (before key more : List ℕ) (start end : ℕ) → start ≡ length before
@@ -153,51 +188,44 @@ no_key_empty k =
     let some : 0 < length (key_bytes k) = omega (arith, number, last, whole) in
     grind (arith, nat_tests)
 
--- what breaks a tie, by the text's version
-abbrev breaker : Option PlainVersioning → Option PlainVersioning
-breaker spelled =
-    if length (key_or_nothing spelled) == 0 then None else option_and_then unless_strict spelled
+-- the kind of a text by its version, as it is marked
+abbrev marked_as : Option PlainVersioning → Kind
+marked_as spelled = option_map_or versioning_kind spelled Ideal
 
-alike : (v w : Option PlainVersioning) (o : Ordering)
+alike : (a b : List ℕ) (v w : Option PlainVersioning) (o : Ordering) → versioning_of a ≡ v
+    → versioning_of b ≡ w
     → ordering_then (keys_cmp (key_or_nothing v) (key_or_nothing w))
-    (ordering_then (option_cmp versioning_cmp (breaker v) (breaker w)) o)
+    (ordering_then (texts_tie (marked_as v, a) (marked_as w, b)) o)
     ≡ ordering_then (none_last_cmp versioning_cmp v w) o
-alike None None o = refl
-alike (Some v) None o = rw (no_key_empty (key_of v)) refl
-alike None (Some w) o = rw (no_key_empty (key_of w)) refl
-alike (Some v) (Some w) o =
+alike a b None None o here there = refl
+alike a b (Some v) None o here there = rw (no_key_empty (key_of v)) refl
+alike a b None (Some w) o here there = rw (no_key_empty (key_of w)) refl
+alike a b (Some v) (Some w) o here there =
     rw (no_key_empty (key_of v), no_key_empty (key_of w), key_bytes_alone (key_of v) (key_of w))
     (sym (then_assoc (precedence (key_of v) (key_of w))
-    (option_cmp versioning_cmp (unless_strict v) (unless_strict w)) o)
-    ∙ ap (λ r. ordering_then r o) (ties_alike v w))
+    (texts_tie (versioning_kind v, a) (versioning_kind w, b)) o)
+    ∙ ap (λ r. ordering_then r o) (texts_alike a b v w here there))
 
--- two places compare as their texts do, if their keys lie there
-pub places_alike : (texts offsets keys key_offsets : List ℕ) (i j : ℕ)
-    → text_at keys key_offsets i ≡ key_or_nothing (versioning_of (text_at texts offsets i))
-    → text_at keys key_offsets j ≡ key_or_nothing (versioning_of (text_at texts offsets j))
-    → keyed_cmp texts offsets keys key_offsets i j ≡ place_cmp texts offsets i j
-places_alike texts offsets keys key_offsets i j i_lies j_lies =
-    rw (i_lies, j_lies)
-    (alike (versioning_of (text_at texts offsets i)) (versioning_of (text_at texts offsets j))
-    (nat_cmp i j))
+-- two marked places compare as their texts do, if their keys lie there
+pub places_alike : (texts offsets keys key_offsets : List ℕ) (m n : ℕ)
+    → IsMarked texts offsets (marked_number m) m → IsMarked texts offsets (marked_number n) n
+    → text_at keys key_offsets (marked_number m)
+    ≡ key_or_nothing (versioning_of (text_at texts offsets (marked_number m)))
+    → text_at keys key_offsets (marked_number n)
+    ≡ key_or_nothing (versioning_of (text_at texts offsets (marked_number n)))
+    → keyed_cmp texts offsets keys key_offsets m n
+    ≡ place_cmp texts offsets (marked_number m) (marked_number n)
+places_alike texts offsets keys key_offsets m n m_marked n_marked m_lies n_lies =
+    let a = text_at texts offsets (marked_number m) in
+    let b = text_at texts offsets (marked_number n) in
+    let o = nat_cmp (marked_number m) (marked_number n) in
+    (λ i. ordering_then (keys_cmp (m_lies i) (n_lies i))
+    (ordering_then (texts_tie (m_marked.kind i, a) (n_marked.kind i, b)) o))
+    ∙ alike a b (versioning_of a) (versioning_of b) o refl refl
 
 -- ---- places in order
 
--- places that change places stay different, and below the same number
-
-places_below : (order : List ℕ) (n : ℕ) → IsPermutation (range_with_len 0 n) order → (k : ℕ)
-    → k < length order → get_or order k 0 < n
-places_below order n permutes k inside =
-    let P : ℕ → Type 0 = λ i. i < n in
-    All-get_or P order k 0 inside
-    (All-permutation P (range_with_len 0 n) order permutes
-    (All-from_get_or P (range_with_len 0 n) 0
-    (λ i within. omega (
-      arith,
-      get_or-range_with_len 0 n i 0 (omega (arith, within, length-range_with_len 0 n)),
-      within,
-      length-range_with_len 0 n,
-    ))))
+-- places that change places stay different
 
 eqb_flips : (x y : ℕ) → eqb x y ≡ eqb y x
 eqb_flips = nat_eq_equiv.symm
@@ -223,26 +251,66 @@ below Less above other = refl
 below Equal above other = absurd (other refl)
 below Greater above other = cc above
 
-pub in_order : (texts offsets keys key_offsets order : List ℕ) (n : ℕ) → length offsets ≡ n + 1
+-- marked places of the first texts
+abbrev AreMarked : List ℕ → List ℕ → ℕ → ℕ → Type 0
+AreMarked texts offsets n m = (marked_number m < n) × IsMarked texts offsets (marked_number m) m
+
+all_marked : (texts offsets marks : List ℕ) (n : ℕ) → length marks ≡ n
+    → ((i : ℕ) → i < n → IsMarked texts offsets i (get_or marks i 0))
+    → All (AreMarked texts offsets n) marks
+all_marked texts offsets marks n long each =
+    All-from_get_or (AreMarked texts offsets n) marks 0 (λ i inside.
+    let here = each i (omega (arith, inside, long)) in (
+      omega (arith, here.number, inside, long),
+      rw here.number here,
+    ))
+
+places_of : (texts offsets marks : List ℕ) (n : ℕ) → length marks ≡ n
+    → ((i : ℕ) → i < n → IsMarked texts offsets i (get_or marks i 0))
+    → map marked_number marks ≡ range_with_len 0 n
+places_of texts offsets marks n long each =
+    counted (map marked_number marks) n (length-map marks marked_number ∙ long)
+    (λ i inside. get_or-map marked_number marks i 0 0 (omega (arith, inside, long))
+    ∙ (each i inside).number)
+
+pub in_order : (texts offsets keys key_offsets marks sorted_marks : List ℕ) (n : ℕ)
+    → length offsets ≡ n + 1 → length marks ≡ n
+    → ((i : ℕ) → i < n → IsMarked texts offsets i (get_or marks i 0))
     → ((i : ℕ) → i < n
     → text_at keys key_offsets i ≡ key_or_nothing (versioning_of (text_at texts offsets i)))
-    → IsPermutation (range_with_len 0 n) order
-    → IsSorted (keyed_cmp texts offsets keys key_offsets) order → AreInOrder texts offsets order
-in_order texts offsets keys key_offsets order n many lies permutes sorted =
+    → IsPermutation marks sorted_marks
+    → IsSorted (keyed_cmp texts offsets keys key_offsets) sorted_marks
+    → AreInOrder texts offsets (map marked_number sorted_marks)
+in_order texts offsets keys key_offsets marks sorted_marks n many long each lies permutes sorted =
     let count : length offsets - 1 ≡ n = omega (arith, many) in
     let cmp = keyed_cmp texts offsets keys key_offsets in
+    let order = map marked_number sorted_marks in
+    let places : IsPermutation (range_with_len 0 n) order =
+    rw (← places_of texts offsets marks n long each)
+    (IsPermutation-map marked_number marks sorted_marks permutes) in
+    let all = All-permutation (AreMarked texts offsets n) marks sorted_marks permutes
+    (all_marked texts offsets marks n long each) in
     record {
-      places = rw count permutes;
+      places = rw count places;
       ascending = λ k inside.
-          let i = get_or order k 0 in
-          let j = get_or order (k + 1) 0 in
+          let within : k + 1 < length sorted_marks =
+          omega (arith, inside, length-map sorted_marks marked_number) in
+          let i = get_or sorted_marks k 0 in
+          let j = get_or sorted_marks (k + 1) 0 in
           let not_above : is_lt (ordering_reverse (cmp i j)) ≡ false =
           ap is_lt (sym ((keyed_total texts offsets keys key_offsets).antisymm j i))
-          ∙ sorted k 0 (omega arith) inside in
-          let other = λ (tied : cmp i j ≡ Equal). places_differ order n permutes k inside
-          (keyed_same texts offsets keys key_offsets i j tied) in
-          let i_lies = lies i (places_below order n permutes k (omega (arith, inside))) in
-          let j_lies = lies j (places_below order n permutes (k + 1) inside) in
-          sym (places_alike texts offsets keys key_offsets i j i_lies j_lies)
-          ∙ below (cmp i j) not_above other;
+          ∙ sorted k 0 (omega arith) within in
+          let i_is : get_or order k 0 ≡ marked_number i =
+          get_or-map marked_number sorted_marks k 0 0 (omega (arith, within)) in
+          let j_is : get_or order (k + 1) 0 ≡ marked_number j =
+          get_or-map marked_number sorted_marks (k + 1) 0 0 within in
+          let other = λ (tied : cmp i j ≡ Equal). places_differ order n places k inside
+          (i_is ∙ keyed_same texts offsets keys key_offsets i j tied ∙ sym j_is) in
+          let i_marked =
+          All-get_or (AreMarked texts offsets n) sorted_marks k 0 (omega (arith, within)) all in
+          let j_marked = All-get_or (AreMarked texts offsets n) sorted_marks (k + 1) 0 within all in
+          rw (i_is, j_is)
+          (sym (places_alike texts offsets keys key_offsets i j i_marked.1 j_marked.1
+          (lies (marked_number i) i_marked.0) (lies (marked_number j) j_marked.0))
+          ∙ below (cmp i j) not_above other);
     }

@@ -1,14 +1,11 @@
 use Rattle.std.proofs.Common.{◌≡◌, ◌+◌, ◌++◌, ℕ, true, List, length, map, Some, rules, ap, sym, subst, arith, ◌∙◌}
 use Rattle.std.specs.List.{All}
-use Rattle.std.specs.Option.{option_map}
 use Rattle.std.proofs.lemmas.List.Elements.{All-push, All-same, All-weaker}
 use Rattle.version_lines.specs.Entry.{entry_line, IsRead}
 use Rattle.version_lines.specs.Sort.{bad_line, is_bad}
 use Rattle.version_lines.specs.LineKey.{line_key}
 use Rattle.version_lines.proofs.lemmas.Entry.{bad_line-behind, in_turn-added, lines_of-entries, read-more}
 use Rattle.version_lines.proofs.lemmas.Entry.Tied.{all_strict-added}
-use Rattle.version_rules.specs.Kind.{versioning_kind}
-use Rattle.version_rules.specs.Versioning.{versioning_of}
 use Rattle.version_lines.proofs.sort.read_entries.Goals as goal
 
 pub returns-in_default-clause-faults : goal.returns-in_default-clause-faults
@@ -31,8 +28,6 @@ loop-rest-preserved c =
     let grown : after ≡ keys ++ more = c.in_ok-entry.ensures.key in
     let same : entry_line entry ≡ c.split_line.result.0.now = search rules in
     let entry_read : IsRead after entry = search rules in
-    let kind : Some c.in-Some.kind
-    ≡ option_map versioning_kind (versioning_of c.split_line.result.0.now) = search rules in
     let last : entry.start ≡ length keys = search rules in
     let kept : All (IsRead after) entries =
     subst (λ (ks : List ℕ). All (IsRead ks) entries) (sym grown)
@@ -42,7 +37,7 @@ loop-rest-preserved c =
       All-same (IsRead after) _ _ c.in_ok-add.ensures
           (All-push (IsRead after) entries entry kept entry_read),
       in_turn-added _ entries entry keys in_turn read last c.in_ok-add.ensures,
-      λ both. all_strict-added _ entries entry c.split_line.result.0.now c.in-Some.kind
-          c.loop-rest.are_strict c.is_ideal-are_strict.result both strict
-          c.is_ideal-are_strict.ensures kind same c.in_ok-add.ensures,
+      λ both. all_strict-added _ entries entry c.loop-rest.are_strict
+          c.is_strict-are_strict.result both strict c.is_strict-are_strict.ensures
+          c.in_ok-add.ensures,
     )

@@ -1,8 +1,9 @@
-use Rattle.std.proofs.Common.{◌∙◌, sym}
-use Rattle.std.specs.Cmp.Lexicographic.{same_text}
-use Rattle.version_rules.proofs.lemmas.KeyTies.{same_text_ties}
+use Rattle.std.proofs.Common.{rules}
+use Rattle.version_texts.proofs.lemmas.KeyTies.{tied_as}
 use Rattle.version_texts.proofs.key_ties.compare_key_ties.Goals as goal
 
-pub returns-then-eq : goal.returns-then-eq
-returns-then-eq c =
-    same_text_ties c.args.a.now c.args.b.now (same_text _ _ (sym c.if-eq.true ∙ c.eq.ensures))
+pub returns-in-Complex-Complex-clause-versions : goal.returns-in-Complex-Complex-clause-versions
+returns-in-Complex-Complex-clause-versions c = tied_as _ _ _ _ _ (search rules)
+
+pub returns-in-General-General-clause-versions : goal.returns-in-General-General-clause-versions
+returns-in-General-General-clause-versions c = tied_as _ _ _ _ _ (search rules)

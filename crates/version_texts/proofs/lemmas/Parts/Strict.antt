@@ -1,15 +1,15 @@
 -- Whether three plain numbers match, as numbers and as lists of parts.
-use Rattle.std.proofs.Common.{◌≡◌, ◌↔◌, ◌⊎◌, ◌∙◌, ◌<◌, ◌≤◌, ◌==◌, ℕ, suc, zero, true, false, List, [], ◌∷◌, Some, IsTrue, ap, arith, inl, inr, refl, sym}
+use Rattle.std.proofs.Common.{◌≡◌, ◌↔◌, ◌⊎◌, ◌∙◌, ◌<◌, ◌≤◌, ◌==◌, ℕ, suc, zero, true, false, List, [], ◌∷◌, Some, IsTrue, ap, arith, inl, inr, refl, subst, sym}
 use Rattle.std.proofs.Math.Dec.{eqb-suc-zero}
-use Rattle.std.specs.Bool.{MatchBool, ⊤}
+use Rattle.std.proofs.lemmas.Bool.Decides.{Decides-and, Decides-like}
+use Rattle.std.specs.Bool.{Decides, MatchBool, ⊤}
 use Rattle.std.specs.Cmp.{Equal-is, nat_cmp_is}
 use Rattle.std.specs.Ordering.{is_eq, is_ge, nat_cmp, ordering_then}
-use Rattle.std.specs.declared.cmp.Ordering.{Ordering}
-use Rattle.std.specs.declared.cmp.Ordering.TheVariants.{Less, Equal, Greater}
+use Rattle.std.specs.declared.cmp.Ordering.TheVariants.{Equal}
 use Rattle.version_rules.proofs.lemmas.NumberBytes.{above, below}
 use Rattle.version_rules.specs.laws.Order.{then_equal}
 use Rattle.version_rules.specs.PartKey.{PartKey, list_cmp, part_cmp}
-use Rattle.version_rules.proofs.lemmas.VersionMatch.{at_the_end, first_same}
+use Rattle.version_rules.proofs.lemmas.VersionMatch.{not_less, same_decides, tilde_decides}
 use Rattle.version_rules.specs.Key.{plain, strict_body}
 use Rattle.version_rules.specs.SemVerMatch.{MatchesCaret, MatchesMinor, MatchesTilde, Numbers}
 use Rattle.version_rules.specs.VersionMatch.{IsNotBelow, PartsMatchCaret, PartsMatchTilde, is_plain_zero}
@@ -42,33 +42,18 @@ not_below m n = elim (three_ways n m) [
 
 pub tilde_of_numbers : (a b c x y z : ℕ)
     → PartsMatchTilde (strict_body a b c) (strict_body x y z) ↔ MatchesTilde (a, b, c) (x, y, z)
-tilde_of_numbers a b c x y z = (
-  λ match.
-      let majors =
-      (first_same (plain a) (plain x) (plain b) (plain y) (plain c ∷ []) (plain z ∷ [])).0 match in
-      let minors = (first_same (plain b) (plain y) (plain c) (plain z) [] []).0 majors.1 in
-      let patch : IsTrue (is_ge (part_cmp (Some (plain z)) (Some (plain c)))) =
-      (at_the_end {all_wanted = []} {all = []} (plain c) (plain z) refl refl).1 minors.1 in
-      (plain_same a x majors.0, plain_same b y minors.0, (not_below c z).0 (ge_not_less _ patch)),
-  λ match.
-      let patch =
-      (at_the_end {all_wanted = []} {all = []} (plain c) (plain z) refl refl).0
-      (not_less_ge _ ((not_below c z).1 match.2)) in
-      let minors =
-      (first_same (plain b) (plain y) (plain c) (plain z) [] []).1 (ap plain match.1, patch) in
-      (first_same (plain a) (plain x) (plain b) (plain y) (plain c ∷ []) (plain z ∷ [])).1
-      (ap plain match.0, minors),
-)
+tilde_of_numbers a b c x y z =
+    let tested = tilde_decides (strict_body a b c) (strict_body x y z) in
+    let numbers = Decides-and _ _ (same a x) (Decides-and _ _ (same b y) (at_least c z)) in (
+      λ match. let known = numbers.0 (tested.1 match) in (known.0, known.1.0, known.1.1),
+      λ match. tested.0 (numbers.1 (match.0, (match.1, match.2))),
+    )
   where
-    ge_not_less : (o : Ordering) → IsTrue (is_ge o) → ¬ (o ≡ Less)
-    ge_not_less Less e less = cc e
-    ge_not_less Equal e less = cc less
-    ge_not_less Greater e less = cc less
+    same : (m n : ℕ) → Decides (is_eq (part_cmp (Some (plain n)) (Some (plain m)))) (m ≡ n)
+    same m n = Decides-like _ (plain_same m n) (ap plain) (same_decides (plain m) (plain n))
 
-    not_less_ge : (o : Ordering) → ¬ (o ≡ Less) → IsTrue (is_ge o)
-    not_less_ge Less above = absurd (above refl)
-    not_less_ge Equal above = refl
-    not_less_ge Greater above = refl
+    at_least : (m n : ℕ) → Decides (is_ge (part_cmp (Some (plain n)) (Some (plain m)))) (m ≤ n)
+    at_least m n = Decides-like _ (not_below m n).0 (not_below m n).1 (not_less _)
 
 -- ---- a caret
 
@@ -142,23 +127,23 @@ no_plain_zero zero e = cc e
 no_plain_zero (suc n) e = eqb-suc-zero n
 
 -- two bodies of three plain numbers, by their first parts
-module _ (all_wanted all : List PartKey) (w p : PartKey) (wanted_more more : List PartKey)
-    (wanted_is : all_wanted ≡ w ∷ wanted_more) (all_is : all ≡ p ∷ more)
-    (wanted v : Numbers) (wanted_numbers : all_wanted ≡ strict_body wanted.0 wanted.1 wanted.2)
-    (numbers : all ≡ strict_body v.0 v.1 v.2) where
+module _ (w p : PartKey) (wanted_more more : List PartKey) (wanted v : Numbers)
+    (wanted_numbers : w ∷ wanted_more ≡ strict_body wanted.0 wanted.1 wanted.2)
+    (numbers : p ∷ more ≡ strict_body v.0 v.1 v.2) where
   first_wanted : w ≡ plain wanted.0
-  first_wanted = cc (sym wanted_is ∙ wanted_numbers)
+  first_wanted = cc wanted_numbers
 
   first : p ≡ plain v.0
-  first = cc (sym all_is ∙ numbers)
+  first = cc numbers
 
   -- the wanted major is 0
   pub caret_of_zero : is_plain_zero w ≡ true
-      → PartsMatchCaret all_wanted all ↔ MatchesCaret wanted v
+      → PartsMatchCaret (w ∷ wanted_more) (p ∷ more) ↔ MatchesCaret wanted v
   caret_of_zero is_none =
       let none = is_zero wanted.0 (rw first_wanted at is_none) in
-      let both = majors_caret wanted.1 wanted.2 v.0 v.1 v.2 in
-      rw (wanted_numbers, numbers, none) both
+      subst (λ (l : List PartKey × List PartKey). PartsMatchCaret l.0 l.1 ↔ MatchesCaret wanted v)
+      (λ i. (sym wanted_numbers i, sym numbers i))
+      (rw none (majors_caret wanted.1 wanted.2 v.0 v.1 v.2))
 
   -- the majors differ
   pub caret_differs : is_plain_zero w ≡ false → is_eq (part_cmp (Some p) (Some w)) ≡ false
@@ -172,12 +157,12 @@ module _ (all_wanted all : List PartKey) (w p : PartKey) (wanted_more more : Lis
 
   -- they are equal
   pub caret_of_major : is_plain_zero w ≡ false → is_eq (part_cmp (Some p) (Some w)) ≡ true
-      → IsTrue (is_ge (list_cmp all all_wanted)) ↔ MatchesCaret wanted v
+      → IsTrue (is_ge (list_cmp (p ∷ more) (w ∷ wanted_more))) ↔ MatchesCaret wanted v
   caret_of_major other same =
       let tied : nat_cmp v.0 wanted.0 ≡ Equal =
       sym (plain_cmp v.0 wanted.0)
       ∙ (λ i. part_cmp (Some (sym first i)) (Some (sym first_wanted i))) ∙ (Equal-is _).0 same in
-      let order : list_cmp all all_wanted
+      let order : list_cmp (p ∷ more) (w ∷ wanted_more)
       ≡ ordering_then (nat_cmp v.1 wanted.1) (nat_cmp v.2 wanted.2) =
       (λ i. list_cmp (numbers i) (wanted_numbers i))
       ∙ bodies_cmp wanted.0 wanted.1 wanted.2 v.0 v.1 v.2

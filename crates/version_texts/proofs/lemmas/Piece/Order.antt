@@ -1,37 +1,17 @@
 -- Two first pieces, compared as parts by their digits and what follows these.
-use Rattle.std.proofs.Common.{◌≡◌, ℕ, ◌==◌, true, false, List, Some, not, refl}
+use Rattle.std.proofs.Common.{◌≡◌, ℕ, Bool, ◌==◌, true, false, List, Some, not, refl, sym, ap, ◌∙◌}
 use Rattle.std.specs.Char.{is_ascii_digit}
-use Rattle.std.specs.List.{take_while}
+use Rattle.std.specs.List.{before_first}
+use Rattle.std.specs.Option.{option_cmp}
 use Rattle.std.specs.Ordering.{nat_cmp, ordering_index, ordering_then}
-use Rattle.std.specs.Str.Parse.{digits_value}
 use Rattle.std.specs.declared.cmp.Ordering.{Ordering}
 use Rattle.std.specs.declared.cmp.Ordering.TheVariants.{Less, Equal, Greater}
-use Rattle.version_rules.specs.DigitRun.{run_value, starts_with_digit}
-use Rattle.version_rules.specs.Lists.{none_last_cmp}
+use Rattle.version_rules.specs.DigitRun.{number_front, run_value, starts_with_digit}
+use Rattle.version_rules.specs.Lists.{bytes_cmp, none_last_cmp}
 use Rattle.version_rules.specs.PartKey.{part_cmp, part_key, suffix_of}
-use Rattle.version_rules.specs.Split.{split_cmp, split_of}
-use Rattle.version_texts.proofs.lemmas.Piece.{part_of_number, part_of_word}
-use Rattle.version_texts.specs.Piece.{behind_digits, first_piece}
-
-pub numbers_compared : (a b : List ℕ) → starts_with_digit a ≡ true → starts_with_digit b ≡ true
-    → part_cmp (Some (part_key (first_piece a))) (Some (part_key (first_piece b)))
-    ≡ ordering_then (nat_cmp (run_value a) (run_value b))
-    (none_last_cmp split_cmp (suffix_of (first_piece (behind_digits a)))
-    (suffix_of (first_piece (behind_digits b))))
-numbers_compared a b is_number is_too =
-    rw (part_of_number a is_number, part_of_number b is_too) refl
-
--- the same of the digits and of what follows them
-pub digits_decide : (a b digits other rest more : List ℕ) (o : Ordering)
-    → starts_with_digit a ≡ true → starts_with_digit b ≡ true
-    → digits ≡ take_while is_ascii_digit a → other ≡ take_while is_ascii_digit b
-    → rest ≡ behind_digits a → more ≡ behind_digits b
-    → o ≡ nat_cmp (digits_value 10 digits) (digits_value 10 other)
-    → part_cmp (Some (part_key (first_piece a))) (Some (part_key (first_piece b)))
-    ≡ ordering_then o
-    (none_last_cmp split_cmp (suffix_of (first_piece rest)) (suffix_of (first_piece more)))
-digits_decide a b digits other rest more o is_number is_too run run_too left left_too e =
-    rw (numbers_compared a b is_number is_too, e, run, run_too, left, left_too) refl
+use Rattle.version_rules.specs.Split.{numbered_cmp, split_cmp, split_of}
+use Rattle.version_texts.proofs.lemmas.Piece.{front_of_number, part_of_number, part_of_word}
+use Rattle.version_texts.specs.Piece.{behind_digits}
 
 -- the code's test for Equal; what is not Equal decides
 pub tied : (o : Ordering) → false ≡ not (ordering_index o == 1) → o ≡ Equal
@@ -44,17 +24,51 @@ decided Less more e = refl
 decided Equal more e = cc e
 decided Greater more e = refl
 
-pub number_above_word : (a b : List ℕ) → starts_with_digit a ≡ true → starts_with_digit b ≡ false
-    → part_cmp (Some (part_key (first_piece a))) (Some (part_key (first_piece b))) ≡ Greater
-number_above_word a b is_number is_word =
-    rw (part_of_number a is_number, part_of_word b is_word) refl
+-- of two orders in turn, the first one decides, or leaves it to the second
+pub decides : (o first second whole : Ordering) → o ≡ first → whole ≡ ordering_then first second
+    → true ≡ not (ordering_index o == 1) → o ≡ whole
+decides o first second whole e is other =
+    sym (is ∙ ap (λ p. ordering_then p second) (sym e) ∙ decided o second other)
 
-pub word_below_number : (a b : List ℕ) → starts_with_digit a ≡ false → starts_with_digit b ≡ true
-    → part_cmp (Some (part_key (first_piece a))) (Some (part_key (first_piece b))) ≡ Less
-word_below_number a b is_word is_number =
-    rw (part_of_word a is_word, part_of_number b is_number) refl
+pub leaves : (o first second whole : Ordering) → o ≡ first → whole ≡ ordering_then first second
+    → o ≡ Equal → second ≡ whole
+leaves o first second whole e is same =
+    sym (is ∙ ap (λ p. ordering_then p second) (sym e ∙ same))
 
-pub words_compared : (a b : List ℕ) → starts_with_digit a ≡ false → starts_with_digit b ≡ false
-    → part_cmp (Some (part_key (first_piece a))) (Some (part_key (first_piece b)))
-    ≡ split_cmp (split_of (first_piece a)) (split_of (first_piece b))
-words_compared a b is_word is_too = rw (part_of_word a is_word, part_of_word b is_too) refl
+module _ (ends : ℕ → Bool) (apart : (b : ℕ) → is_ascii_digit b ≡ true → ends b ≡ false)
+    (a b : List ℕ) where
+  abbrev parts_cmp : Ordering
+  parts_cmp =
+      part_cmp (Some (part_key (before_first ends a))) (Some (part_key (before_first ends b)))
+
+  -- two numbers, and the texts after them as suffixes, or as they are
+  pub numbers_compared : starts_with_digit a ≡ true → starts_with_digit b ≡ true
+      → parts_cmp
+      ≡ ordering_then (nat_cmp (run_value a) (run_value b))
+      (none_last_cmp split_cmp (suffix_of (before_first ends (behind_digits a)))
+      (suffix_of (before_first ends (behind_digits b))))
+  numbers_compared is_number is_too =
+      rw (part_of_number ends apart a is_number, part_of_number ends apart b is_too) refl
+
+  pub numbered_compared : starts_with_digit a ≡ true → starts_with_digit b ≡ true
+      → option_cmp numbered_cmp (number_front (before_first ends a))
+      (number_front (before_first ends b))
+      ≡ ordering_then (nat_cmp (run_value a) (run_value b))
+      (bytes_cmp (before_first ends (behind_digits a)) (before_first ends (behind_digits b)))
+  numbered_compared is_number is_too =
+      rw (front_of_number ends apart a is_number, front_of_number ends apart b is_too) refl
+
+  pub number_above_word : starts_with_digit a ≡ true → starts_with_digit b ≡ false
+      → parts_cmp ≡ Greater
+  number_above_word is_number is_word =
+      rw (part_of_number ends apart a is_number, part_of_word ends apart b is_word) refl
+
+  pub word_below_number : starts_with_digit a ≡ false → starts_with_digit b ≡ true
+      → parts_cmp ≡ Less
+  word_below_number is_word is_number =
+      rw (part_of_word ends apart a is_word, part_of_number ends apart b is_number) refl
+
+  pub words_compared : starts_with_digit a ≡ false → starts_with_digit b ≡ false
+      → parts_cmp ≡ split_cmp (split_of (before_first ends a)) (split_of (before_first ends b))
+  words_compared is_word is_too =
+      rw (part_of_word ends apart a is_word, part_of_word ends apart b is_too) refl

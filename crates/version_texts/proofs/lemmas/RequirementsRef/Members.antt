@@ -6,9 +6,10 @@ use Rattle.std.proofs.lemmas.List.Splits.{slice_split_first, slice_split_none}
 use Rattle.std.proofs.lemmas.List.Sums.{fails_before_first}
 use Rattle.std.specs.List.{after_first, before_first, position_or_len}
 use Rattle.std.specs.Option.{is_none, is_some}
-use Rattle.version_texts.specs.RequirementsRef.{cut_at_commas, first_wrong}
+use Rattle.version_texts.specs.Members.{cut_at_commas, list_of}
+use Rattle.version_texts.specs.RequirementsRef.{first_wrong}
 use Rattle.version_rules.specs.Requirement.{PlainRequirement, requirement_of}
-use Rattle.version_rules.specs.Requirements.{comma, every, requirements_of}
+use Rattle.version_rules.specs.Requirements.{comma, every}
 use Rattle.version_rules.specs.RequirementsRef.{before_others}
 
 -- a text without a comma is one piece
@@ -34,27 +35,18 @@ pieces_cut text n e some =
     slice_split_first (λ b. b == comma) text 0 (omega (arith, e))
     ∙ (λ i. first i ∷ cut_at_commas (others i))
 
--- what the pieces of a text are read as is what the text is read as
-pub read_pieces : (text piece : List ℕ) (pieces : List (List ℕ))
-    → cut_at_commas text ≡ piece ∷ pieces
-    → requirements_of text
-    ≡ before_others (requirement_of piece) (every (map requirement_of pieces))
-read_pieces text piece pieces cut = ap (λ pieces. every (map requirement_of pieces)) cut
+-- what pieces are read as, by the first one and the others
+pub list_split : (pieces next : List (List ℕ)) (piece : List ℕ) (r : PlainRequirement)
+    → pieces ≡ piece ∷ next → Some r ≡ requirement_of piece
+    → list_of pieces ≡ before_others (Some r) (list_of next)
+list_split pieces next piece r cut read =
+    ap list_of cut ∙ ap (λ first. before_others first (list_of next)) (sym read)
 
 -- others with a member before them are a list if the others are
-behind_member : (r : PlainRequirement) (others : Option (List PlainRequirement))
+pub more_parse : (r : PlainRequirement) (others : Option (List PlainRequirement))
     → is_some others ≡ is_some (before_others (Some r) others)
-behind_member r None = refl
-behind_member r (Some list) = refl
-
--- a list whose first member parses is one if the others are
-pub others_parse : (text : List ℕ) (member : Option PlainRequirement) (r : PlainRequirement)
-    (others : Option (List PlainRequirement)) → requirements_of text ≡ before_others member others
-    → Some r ≡ member
-    → is_some others ≡ is_some (requirements_of text)
-others_parse text member r others split read =
-    behind_member r others
-    ∙ ap is_some (sym (split ∙ ap (λ first. before_others first others) (sym read)))
+more_parse r None = refl
+more_parse r (Some list) = refl
 
 -- no piece is wrong where all of them are read
 pub none_wrong : (start : ℕ) (pieces : List (List ℕ))
@@ -70,4 +62,4 @@ none_wrong start (piece ∷ pieces) =
         else Some (start, start + length piece))
         ≡ is_some (before_others read (every (map requirement_of pieces)))
     first None others = refl
-    first (Some r) others = others ∙ behind_member r (every (map requirement_of pieces))
+    first (Some r) others = others ∙ more_parse r (every (map requirement_of pieces))

@@ -24,7 +24,8 @@ use Rattle.version_texts.proofs.lemmas.General.RunsWithin.{begins_inner, begins_
 -- ---- numbers
 
 -- leading zeros do not change the number of a run
-zeros_skipped : (text : List ℕ) → run_value (drop (prefix_len is_zero text) text) ≡ run_value text
+pub zeros_skipped : (text : List ℕ)
+    → run_value (drop (prefix_len is_zero text) text) ≡ run_value text
 zeros_skipped [] = refl
 zeros_skipped (b ∷ text) = elim (cases_Bool (b == 48)) [
   | inl same ↦

@@ -1,5 +1,5 @@
 -- Two versions are the same exactly if their texts are, up to the metadata of strict ones.
-use Rattle.std.proofs.Common.{◌≡◌, ◌↔◌, ◌∙◌, ℕ, Bool, IsTrue, true, false, List, [], ◌++◌, length, drop, take, Option, Some, None, refl, sym, ap, subst, arith, inl, inr, nat_eq, append-nil, append_assoc, length-append}
+use Rattle.std.proofs.Common.{◌≡◌, ◌↔◌, ◌∙◌, ℕ, true, false, List, [], ◌++◌, length, drop, take, Option, Some, None, refl, sym, ap, subst, arith, inl, inr, nat_eq, append-nil, append_assoc, length-append}
 use Rattle.std.proofs.lemmas.Bool.{cases_Bool}
 use Rattle.std.proofs.lemmas.List.{drop_at, take_at}
 use Rattle.std.specs.Cmp.{Equal-is}
@@ -19,13 +19,11 @@ use Rattle.version_rules.specs.Kind.{versioning_kind}
 use Rattle.version_rules.specs.laws.Mess.{messes_same}
 use Rattle.version_rules.specs.SemVer.{PlainSemVer, SpellsSemVer}
 use Rattle.version_rules.specs.laws.SemVer.{tied_same}
-use Rattle.version_rules.specs.laws.Versioning.{versioning_plain_total}
 use Rattle.version_rules.proofs.lemmas.OrdersLaws.{semver_equal}
-use Rattle.std.proofs.lemmas.Cmp.{eq_by_cmp_equiv}
 use Rattle.version_rules.specs.SemVerOrder.{SameButMetadata, semver_cmp}
 use Rattle.version_rules.specs.Version.{PlainVersion, SpellsVersion, version_text}
 use Rattle.version_rules.specs.laws.Version.{versions_same}
-use Rattle.version_rules.specs.Versioning.{PlainVersioning, Ideal, General, Complex, SpellsVersioning, versioning_of, versioning_plain_cmp, versioning_text}
+use Rattle.version_rules.specs.Versioning.{PlainVersioning, Ideal, General, Complex, SpellsVersioning, versioning_plain_cmp, versioning_text}
 use Rattle.version_rules.proofs.lemmas.Version.{version_printed, version_unique}
 use Rattle.version_rules.proofs.lemmas.Versioning.{versioning_printed}
 use Rattle.version_rules.proofs.lemmas.Conversions.{strict_is_general}
@@ -233,15 +231,3 @@ module _ (text other : List ℕ) (s t : Shape) (e : shape_of text ≡ Some s)
       (told_by_texts (plain_front text) (plain_front other) (versioning_plain_cmp a b)
       (strict_tied text other a b (spells-is text s e) (spells-is other t f)
       (sym (kind-is text s e) ∙ k) (sym (kind-is other t f) ∙ l)))
-
-  -- the same, asked of the versions the other way round
-  pub told_back : (answer : Bool) (v w : PlainVersioning)
-      → answer ≡ eq_by_cmp versioning_plain_cmp a b → versioning_of text ≡ Some v
-      → versioning_of other ≡ Some w → IsTrue answer ↔ IsTrue (eq_by_cmp versioning_plain_cmp w v)
-  told_back answer v w told text_is other_is =
-      let here : a ≡ v = cc ((spelled text s e).0, text_is) in
-      let there : b ≡ w = cc ((spelled other t f).0, other_is) in
-      let same : answer ≡ eq_by_cmp versioning_plain_cmp w v =
-      told ∙ (λ i. eq_by_cmp versioning_plain_cmp (here i) (there i))
-      ∙ (eq_by_cmp_equiv versioning_plain_total).symm v w in
-      (λ yes. sym same ∙ yes, λ yes. same ∙ yes)

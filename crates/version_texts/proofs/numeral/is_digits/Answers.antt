@@ -6,5 +6,5 @@ use Rattle.version_texts.proofs.numeral.is_digits.Goals as goal
 pub returns-then-begins_with : goal.returns-then-begins_with
 returns-then-begins_with c =
     rw (← c.if-begins_with.ensures)
-    (c.is_empty.ensures ∙ ap (λ (l : List ℕ). length l == 0) c.split_digits.ensures.rest
+    (c.is_empty.ensures ∙ ap (λ (l : List ℕ). length l == 0) c.split_run.ensures.rest
     ∙ is_run is_ascii_digit c.args.text.now)

@@ -1,36 +1,31 @@
 use Rattle.std.proofs.Common.{◌∙◌, refl}
-use Rattle.version_rules.proofs.lemmas.RequirementsRef.{text_first_decides, text_others_decide}
-use Rattle.version_rules.specs.Requirement.{requirement_of}
-use Rattle.version_rules.specs.RequirementsRef.{members_of}
+use Rattle.version_rules.proofs.lemmas.RequirementsRef.{first_decides, others_decide}
+use Rattle.version_texts.proofs.lemmas.RequirementsRef.Members.{list_split, more_parse}
+use Rattle.version_texts.specs.Members.{list_of, pieces_of}
 use Rattle.version_texts.specs.RequirementRef.{plain_requirement_ref}
 use Rattle.version_texts.specs.VersioningRef.{plain_versioning_ref}
-use Rattle.version_texts.proofs.lemmas.RequirementsRef.Members.{others_parse}
 use Rattle.version_texts.proofs.requirements_ref.list_matches.Goals as goal
 
-pub returns-then-are_members-clause-matches : goal.returns-then-are_members-clause-matches
-returns-then-are_members-clause-matches c =
-    let version = plain_versioning_ref c.args.version.now in
-    let r = plain_requirement_ref c.in_ok-first.first in
-    let others = members_of c.split_first.result.1 in
-    let fails = text_first_decides version c.in-Some.left.now c.split_first.result.0.now r others
-    c.split_first.ensures.members c.in_ok-first.ensures
-    (λ asks. cc (c.if-not-matches.ensures.1 asks)) in
-    let left = rw c.in-Some.is at c.loop-members.invariant.asks in
-    (λ yes. cc yes, λ asked. absurd (fails (left.1 asked)))
+pub returns-then-parse-clause-matches : goal.returns-then-parse-clause-matches
+returns-then-parse-clause-matches c =
+    let v = plain_versioning_ref c.args.version.now in
+    let r = plain_requirement_ref c.in_ok-member.member in
+    let next = pieces_of c.next.new.self.left in
+    let split = list_split (pieces_of c.loop-member.members.left) next c.in-Some.member.now r
+    c.in-Some.ensures.some c.in_ok-member.ensures in
+    let fails = first_decides v r (list_of next) (λ asks. cc (c.if-not-matches.ensures.1 asks)) in
+    (λ yes. cc yes, λ asked. absurd (fails (rw split at c.loop-member.invariant.asks.1 asked)))
 
-pub loop-members-preserved : goal.loop-members-preserved
-loop-members-preserved c =
-    let version = plain_versioning_ref c.args.version.now in
-    let r = plain_requirement_ref c.in_ok-first.first in
-    let others = members_of c.split_first.result.1 in
-    let step = text_others_decide version c.in-Some.left.now c.split_first.result.0.now r others
-    c.split_first.ensures.members c.in_ok-first.ensures (c.if-not-matches.ensures.0 refl) in
-    let left = rw c.in-Some.is at c.loop-members.invariant.asks in
-    let parsed = rw c.in-Some.is at c.loop-members.invariant.parses in
-    let parses = others_parse c.in-Some.left.now
-    (requirement_of c.split_first.result.0.now) r others
-    c.split_first.ensures.members c.in_ok-first.ensures in
+pub loop-member-preserved : goal.loop-member-preserved
+loop-member-preserved c =
+    let v = plain_versioning_ref c.args.version.now in
+    let r = plain_requirement_ref c.in_ok-member.member in
+    let next = pieces_of c.next.new.self.left in
+    let split = list_split (pieces_of c.loop-member.members.left) next c.in-Some.member.now r
+    c.in-Some.ensures.some c.in_ok-member.ensures in
+    let before = rw split at c.loop-member.invariant in
+    let step = others_decide v r (list_of next) (c.if-not-matches.ensures.0 refl) in
     record {
-      parses = parses ∙ parsed;
-      asks = (λ asked. left.0 (step.1 asked), λ asked. step.0 (left.1 asked));
+      parses = more_parse r (list_of next) ∙ before.parses;
+      asks = (λ asked. before.asks.0 (step.1 asked), λ asked. step.0 (before.asks.1 asked));
     }

@@ -1,12 +1,11 @@
-use Rattle.std.proofs.Common.{◌≡◌, ◌<◌, ◌++◌, ◌∷◌, ℕ, List, Bor, Result, Ok, Err, length, arith, lit<, refl, sym, Some}
+use Rattle.std.proofs.Common.{◌≡◌, ◌<◌, ◌++◌, ◌∷◌, ℕ, List, length, arith, lit<, sym, Some}
 use Rattle.std.proofs.lemmas.Str.{IsCharBoundary-after_ascii, IsUtf8-drop}
-use Rattle.std.specs.Prelude.{MatchResult}
-use Rattle.std.specs.Result.{IsOk}
 use Rattle.std.specs.Str.{IsUtf8}
 use Rattle.version_rules.specs.declared.op.Op.{Op}
 use Rattle.version_rules.specs.declared.op.Op.TheVariants.{Exact, Greater, GreaterEq, Less, LessEq, Tilde, Caret, Wildcard}
 use Rattle.version_rules.specs.Op.{op_front, op_text}
 use Rattle.version_rules.proofs.lemmas.Op.{op_front-Some}
+use Rattle.version_rules.proofs.lemmas.Utf8.{is_read}
 use Rattle.versions.proofs.requirement.split_op.Goals as goal
 
 -- what follows a byte of ASCII is a text
@@ -25,13 +24,6 @@ past_op LessEq rest utf8 = past_ascii 61 rest (lit< tt) (past_ascii 60 (61 ∷ r
 past_op Tilde rest utf8 = past_ascii 126 rest (lit< tt) utf8
 past_op Caret rest utf8 = past_ascii 94 rest (lit< tt) utf8
 past_op Wildcard rest utf8 = past_ascii 42 rest (lit< tt) utf8
-
-is_read : {E : Type 0} (Fault : E → Type 0) (text : List ℕ) (r : Result (Bor (List ℕ)) E)
-    → IsUtf8 text
-    → MatchResult r (λ s. (s.now ≡ text) × IsUtf8 text) (λ e. (¬ (IsUtf8 text)) × Fault e)
-    → IsOk r
-is_read Fault text (Ok s) utf8 read = refl
-is_read Fault text (Err e) utf8 read = absurd (read.0 utf8)
 
 pub unwrap-requires : goal.unwrap-requires
 unwrap-requires c =

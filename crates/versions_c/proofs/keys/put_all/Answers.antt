@@ -1,14 +1,18 @@
-use Rattle.std.proofs.Common.{◌≡◌, ◌∙◌, ◌+◌, ap, sym, refl, length, arith}
+use Rattle.std.proofs.Common.{◌≡◌, ◌∙◌, ◌+◌, ◌<◌, ℕ, List, ap, sym, refl, length, arith}
 use Rattle.std.proofs.lemmas.List.{length-set}
-use Rattle.std.specs.Option.{option_map}
+use Rattle.std.specs.Option.{option_map, option_map_or}
 use Rattle.version_rules.specs.Key.{key_of}
 use Rattle.version_rules.specs.KeyBytes.{key_bytes}
 use Rattle.version_texts.specs.VersioningRef.{plain_versioning_ref}
 use Rattle.version_texts.specs.Sinks.{put_at, saturated}
 use Rattle.versions_c.specs.Keys.{keys_before}
+use Rattle.versions_c.specs.Offsets.{text_at}
+use Rattle.version_rules.specs.Kind.{versioning_kind}
+use Rattle.version_rules.specs.Versioning.{versioning_of}
+use Rattle.version_rules.specs.declared.kind.Kind.TheVariants.{Ideal}
 use Rattle.version_texts.proofs.lemmas.Sinks.{put_nothing}
-use Rattle.versions_c.proofs.lemmas.Keys.Putting.{first_told, next_told, no_more_key, one_more_key}
-use Rattle.versions_c.proofs.keys.put_all.Goals.{in-Some, in_default}
+use Rattle.versions_c.proofs.lemmas.Keys.Putting.{first_told, next_marked, next_told, no_more_key, one_more_key}
+use Rattle.versions_c.proofs.keys.put_all.Goals.{else-place-places, in-Some, in_default, then-place-places}
 use Rattle.versions_c.proofs.keys.put_all.Goals as goal
 
 pub loop-place-init : goal.loop-place-init
@@ -17,6 +21,7 @@ loop-place-init c = record {
   written = sym (put_nothing c.args.keys.now 0);
   told = first_told c.args.texts.now c.args.offsets.now c.args.key_offsets.now
       (omega (arith, c.requires.room));
+  marked = λ i below inside. absurd (omega (arith, below));
 }
 
 pub loop-place-preserved : goal.loop-place-preserved
@@ -42,7 +47,32 @@ loop-place-preserved c =
           (ap (option_map (λ v. key_bytes (key_of v))) w.in_default.ensures)
           (w.end-is ∙ before.ended) (w.keys-is ∙ before.written)
     ] in
+    let spelled =
+    ap (λ (t : List ℕ). option_map_or versioning_kind (versioning_of t) Ideal) c.text_at.ensures in
+    let known : c.match-from_bytes.kind
+    ≡ option_map_or versioning_kind (versioning_of (text_at texts offsets i)) Ideal =
+    elim c.match-from_bytes.branch [
+      | in-Some w ↦
+          w.kind-is ∙ w.kind-kind.ensures
+          ∙ ap (λ o. option_map_or versioning_kind o Ideal) w.in-Some.ensures ∙ spelled
+      | in_default w ↦
+          w.kind-is ∙ ap (λ o. option_map_or versioning_kind o Ideal) w.in_default.ensures
+          ∙ spelled
+    ] in
     record {
+      marked = elim c.if-place-places.branch [
+        | then-place-places w ↦ λ j below inside.
+            rw w.places-is (next_marked texts offsets c.loop-place.places i w.mark_kind.result
+            w.if-place-places.true before.marked
+            (record {
+              number = w.mark_kind.ensures.number;
+              kind = w.mark_kind.ensures.kind ∙ known;
+            }) j below)
+        | else-place-places w ↦ λ j below inside.
+            let in_all : j < length c.loop-place.places =
+            omega (arith, inside, c.if-place-places.auto.places) in
+            rw w.places-is (before.marked j (omega (arith, in_all, w.if-place-places.false)) in_all)
+      ];
       ended = both.0;
       written = both.1;
       told = next_told texts offsets c.loop-place.key_offsets i c.min.result

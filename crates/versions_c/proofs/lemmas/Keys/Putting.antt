@@ -7,6 +7,7 @@ use Rattle.version_texts.proofs.lemmas.Sinks.{length-put, put_fits, put_past}
 use Rattle.version_texts.specs.Sinks.{put_at, saturated}
 use Rattle.versions_c.specs.Keys.{keys_before, length_past, saturated_signed, spelled_key}
 use Rattle.versions_c.specs.Offsets.{text_at}
+use Rattle.versions_c.specs.Sorting.{IsMarked}
 
 -- one list after another
 pub put_more : (room : List ℕ) (start : ℕ) (first more : List ℕ)
@@ -149,3 +150,21 @@ next_told texts offsets told place end fits known new i low = by (nat_eq i (plac
         let before : i < place + 1 = grind (arith, nat_tests) in
         get_or-set_other told (place + 1) i end 0 (λ e. omega (arith, before, e))
         ∙ known i (omega (arith, before))
+
+-- ---- marked places
+
+pub next_marked : (texts offsets places : List ℕ) (place marked : ℕ) → place < length places
+    → ((i : ℕ) → i < place → i < length places → IsMarked texts offsets i (get_or places i 0))
+    → IsMarked texts offsets place marked → (i : ℕ) → i < place + 1
+    → IsMarked texts offsets i (get_or (set places place marked) i 0)
+next_marked texts offsets places place marked inside known new i low = by (nat_eq i place) refl
+  where
+    by : (last : Bool) → nat_eq i place ≡ last
+        → IsMarked texts offsets i (get_or (set places place marked) i 0)
+    by true is =
+        let here : i ≡ place = grind (arith, nat_tests) in
+        rw (here, get_or-set_same places place marked 0 inside) new
+    by false is =
+        let before : i < place = grind (arith, nat_tests) in
+        rw (get_or-set_other places place i marked 0 (λ e. omega (arith, before, e)))
+        (known i before (omega (arith, before, inside)))

@@ -1,75 +1,76 @@
--- The sizes of a list's bounds, and the range that its results tell.
-use Rattle.std.proofs.Common.{◌≡◌, ◌∙◌, ◌≤◌, ◌<◌, ◌^◌, ℕ, List, Option, Some, None, IfSome, if◌then◌else◌, refl, take, length, ap, arith, sym}
-use Rattle.std.specs.Option.{is_some, option_map, unwrap_or}
-use Rattle.version_texts.specs.Bounds.{HaveRoom, held_range, rooms_of}
-use Rattle.version_texts.specs.declared.bounds.Held.{Held}
+-- The lengths of a list's bounds, and the range that its results tell.
+use Rattle.std.proofs.Common.{◌≡◌, ◌∙◌, ◌≤◌, ◌<◌, ◌^◌, ℕ, List, Option, Some, None, IfSome, nat_le, true, if◌then◌else◌, take, length, ap, arith, refl, sym}
+use Rattle.std.proofs.lemmas.Bool.Decides.{nat_tests}
+use Rattle.std.specs.Option.{is_some, option_map, option_map_or}
+use Rattle.version_rules.specs.Range.{PlainRange, range_of}
 use Rattle.version_rules.specs.Requirement.{PlainRequirement}
 use Rattle.version_rules.specs.Requirements.{requirements_of}
-use Rattle.versions_c.proofs.lemmas.Ranges.{enough_rooms}
+use Rattle.version_texts.specs.RangeRef.{bound_bytes, high_length, plain_range_ref}
+use Rattle.version_texts.specs.declared.range_ref.Bound.{Bound}
+use Rattle.version_texts.specs.declared.range_ref.RangeRef.{RangeRef}
+use Rattle.version_texts.specs.Sinks.{saturated}
+use Rattle.versions_c.proofs.lemmas.Ranges.{list_short}
 use Rattle.versions_c.specs.Keys.{room_for}
-use Rattle.versions_c.specs.Ranges.{AreSizes, range_with}
+use Rattle.versions_c.specs.Ranges.{range_status, range_with}
+use Rattle.versions_c.specs.declared.status.TheConstants.{OK}
 
--- the sizes that are told are those of the list
-pub are_sizes : (list : Option (List PlainRequirement)) (low high : ℕ)
-    → Some (low, high) ≡ option_map rooms_of list → IfSome list (AreSizes low high)
-are_sizes None low high e = cc e
-are_sizes (Some wanted) low high e =
-    let same : (low, high) ≡ rooms_of wanted = cc e in
-    record { of_low = ap (λ (p : ℕ × ℕ). p.0) same; of_high = ap (λ (p : ℕ × ℕ). p.1) same }
+-- buffers for the key of a text of the list's length are large enough
+pub fits_bound : (text : List ℕ) (wanted : List PlainRequirement) (range : PlainRange)
+    → Some range ≡ option_map range_of (requirements_of text) → requirements_of text ≡ Some wanted
+    → (length range.low ≤ room_for (length text)) × (high_length range ≤ room_for (length text))
+fits_bound text wanted range e read =
+    let short = list_short text wanted read in
+    let same : range ≡ range_of wanted = cc (e ∙ ap (option_map range_of) read) in
+    rw same (short.low, short.high)
 
--- buffers of these sizes are large enough for the list
-pub has_room : (list : Option (List PlainRequirement)) (low_size high_size low high : ℕ)
-    → Some (low_size, high_size) ≡ option_map rooms_of list
-    → low < 2 ^ 63 → high < 2 ^ 63 → low_size ≤ low → high_size ≤ high
-    → IfSome list (HaveRoom low high)
-has_room None low_size high_size low high e low_small high_small low_fits high_fits = tt
-has_room (Some wanted) low_size high_size low high e low_small high_small low_fits high_fits =
-    let sizes = are_sizes (Some wanted) low_size high_size e in
-    record {
-      of_low =
-          omega (arith, sizes.of_low, low_small, low_fits);
-      of_high =
-          omega (arith, sizes.of_high, high_small, high_fits);
-    }
-
--- and so are buffers for the key of a text of the list's length
-pub fits_bound : (text : List ℕ) (wanted : List PlainRequirement) (low_size high_size low high : ℕ)
-    → Some (low_size, high_size) ≡ option_map rooms_of (requirements_of text)
-    → requirements_of text ≡ Some wanted → room_for (length text) ≤ low
-    → room_for (length text) ≤ high → (low_size ≤ low) × (high_size ≤ high)
-fits_bound text wanted low_size high_size low high e read low_enough high_enough =
-    let sizes = are_sizes (Some wanted) low_size high_size (e ∙ ap (option_map rooms_of) read) in
-    let rooms = enough_rooms text wanted read in (
-      omega (arith, sizes.of_low, rooms.low, low_enough),
-      omega (arith, sizes.of_high, rooms.high, high_enough),
-    )
-
--- the range that the results tell is the one in the buffers
-pub told_range : (held : Held) (low high : List ℕ) (flags high_len : ℕ)
-    → high_len ≡ unwrap_or held.high_len 0
+-- the range that the results tell is the borrowed one
+pub told_range : (range : RangeRef) (low high : List ℕ) (flags : ℕ)
+    → low ≡ (plain_range_ref range).low
+    → IfSome (plain_range_ref range).high (λ bound. high ≡ bound)
     → ((l h : List ℕ)
     → range_with l h flags
     ≡ record {
       low =
           l;
-      high = if is_some held.high_len then Some h else None;
+      high = if is_some range.high then Some h else None;
       kinds =
-          held.kinds;
-      is_exact = held.is_exact;
+          range.kinds;
+      is_exact = range.is_exact;
     })
-    → held_range held low high ≡ range_with (take held.low_len low) (take high_len high) flags
-told_range held low high flags high_len is told =
+    → plain_range_ref range ≡ range_with low high flags
+told_range range low high flags low_is high_is told =
     (λ i. record {
       low =
-          take held.low_len low;
+          sym low_is i;
       high =
-          by held.high_len high_len is i;
-      kinds = held.kinds;
-      is_exact = held.is_exact;
+          by range.high high_is i;
+      kinds = range.kinds;
+      is_exact = range.is_exact;
     })
-    ∙ sym (told (take held.low_len low) (take high_len high))
+    ∙ sym (told low high)
   where
-    by : (o : Option ℕ) (n : ℕ) → n ≡ unwrap_or o 0
-        → option_map (λ len. take len high) o ≡ (if is_some o then Some (take n high) else None)
-    by None n e = refl
-    by (Some len) n e = ap (λ n. Some (take n high)) (sym e)
+    by : (o : Option Bound) → IfSome (option_map bound_bytes o) (λ bound. high ≡ bound)
+        → option_map bound_bytes o ≡ (if is_some o then Some high else None)
+    by None e = refl
+    by (Some bound) e = ap Some (sym e)
+
+-- a high bound that fits is written
+pub told_high : (high : Option (List ℕ)) (new : List ℕ) (n room : ℕ)
+    → n ≡ saturated (option_map_or length high 0) → n ≤ room → room < 2 ^ 63
+    → IfSome high (λ bound. length bound ≤ room → take (length bound) new ≡ bound)
+    → IfSome high (λ bound. take n new ≡ bound)
+told_high None new n room is fits small written = tt
+told_high (Some bound) new n room is fits small written =
+    let same : n ≡ length bound = omega (arith, is, fits, small) in
+    rw same (written (omega (arith, is, fits, small)))
+
+-- the status of bounds that fit
+pub fits_status : (spelled : Option (List PlainRequirement)) (range : PlainRange) (low high : ℕ)
+    → Some range ≡ option_map range_of spelled → length range.low ≤ low → high_length range ≤ high
+    → OK ≡ range_status spelled low high
+fits_status None range low high e low_fits high_fits = cc e
+fits_status (Some wanted) range low high e low_fits high_fits =
+    let same : range ≡ range_of wanted = cc e in
+    let first : nat_le (length range.low) low ≡ true = grind (arith, nat_tests, low_fits) in
+    let second : nat_le (high_length range) high ≡ true = grind (arith, nat_tests, high_fits) in
+    rw (← same, first, second) refl

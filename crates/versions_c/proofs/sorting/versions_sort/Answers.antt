@@ -1,8 +1,29 @@
 use Rattle.std.proofs.Common.{◌≤◌, length, arith}
 use Rattle.versions_c.specs.Keys.{keys_before}
 use Rattle.versions_c.specs.Offsets.{AreOffsets}
-use Rattle.versions_c.proofs.lemmas.Sorting.{in_order, key_lies}
+use Rattle.versions_c.proofs.lemmas.Sorting.{are_key_offsets, in_order, key_lies}
 use Rattle.versions_c.proofs.sorting.versions_sort.Goals as goal
+
+pub invariant_of-keys : goal.invariant_of-keys
+invariant_of-keys c =
+    let texts = c.args.texts.now in
+    let offsets = c.args.offsets.now in
+    let count = length c.args.order.now in
+    let are : AreOffsets offsets (length texts) count =
+    c.are_offsets.ensures.0 c.if-not-are_offsets.false in
+    let fits : length (keys_before texts offsets count) ≤ length c.args.keys.now =
+    c.put_places.ensures.room.0 c.if-not-put_places.false in
+    record {
+      fit = are_key_offsets texts offsets c.put_places.new.key_offsets
+          (length c.put_places.new.keys) count
+          (omega (
+            arith,
+            c.put_places.auto.key_offsets,
+            c.if-key_offsets-offsets.false,
+            are.one_more,
+          ))
+          (omega (arith, fits, c.put_places.auto.keys)) c.put_places.ensures.key_offsets;
+    }
 
 pub returns-clause-order : goal.returns-clause-order
 returns-clause-order c = λ ok.
@@ -12,9 +33,12 @@ returns-clause-order c = λ ok.
     let are : AreOffsets offsets (length texts) count =
     c.are_offsets.ensures.0 c.if-not-are_offsets.false in
     let fits : length (keys_before texts offsets count) ≤ length c.args.keys.now =
-    c.put_keys.ensures.room.0 c.if-not-put_keys.false in
-    let lies = key_lies texts offsets c.put_keys.new.keys c.put_keys.new.key_offsets _ count
-    (c.put_keys.ensures.keys c.if-not-put_keys.false)
-    (omega (arith, fits)) c.put_keys.ensures.key_offsets in
-    in_order texts offsets c.put_keys.new.keys c.put_keys.new.key_offsets c.sort.new.order count
-    are.one_more lies c.sort.ensures.places c.sort.ensures.sorted
+    c.put_places.ensures.room.0 c.if-not-put_places.false in
+    let lies = key_lies texts offsets c.put_places.new.keys c.put_places.new.key_offsets _ count
+    (c.put_places.ensures.keys c.if-not-put_places.false)
+    (omega (arith, fits)) c.put_places.ensures.key_offsets in
+    rw c.remove_marks.ensures
+    (in_order texts offsets c.put_places.new.keys c.put_places.new.key_offsets
+    c.put_places.new.order c.sort.new.order count are.one_more c.put_places.auto.order
+    (c.put_places.ensures.places c.if-not-put_places.false) lies c.sort.ensures.places
+    c.sort.ensures.sorted)

@@ -6,18 +6,18 @@ use Rattle.version_lines.specs.declared.sort.entry.Entry.{Entry}
 use Rattle.version_lines.proofs.lemmas.Entry.{tie_total}
 use Rattle.version_lines.proofs.lemmas.Sorting.Places.{in_order-by_place, placed_total}
 use Rattle.version_lines.proofs.lemmas.Entry.Tied.{in_order-one_line, in_order-strict}
-use Rattle.version_lines.proofs.sort.ties.settle.Goals.{then-are_one_line-via-then-are_one_line, then-are_one_line-via-else-are_one_line+then-are_strict}
+use Rattle.version_lines.proofs.sort.ties.settle.Goals.{then-are_strict-via-then-are_strict, then-are_strict-via-else-are_strict+then-are_one_line}
 use Rattle.version_lines.proofs.sort.ties.settle.Goals as goal
 
-pub returns-then-are_one_line : goal.returns-then-are_one_line
-returns-then-are_one_line c =
-    elim c.then-are_one_line.branch [
-      | then-are_one_line-via-then-are_one_line w ↦
-          let (line, all) =
-          w.if-are_one_line.ensures (search rules) in sym
-          (in_order-one_line line c.args.run.now all)
-      | then-are_one_line-via-else-are_one_line+then-are_strict w ↦
+pub returns-then-are_strict : goal.returns-then-are_strict
+returns-then-are_strict c =
+    elim c.then-are_strict.branch [
+      | then-are_strict-via-then-are_strict w ↦
           sym (in_order-strict c.args.run.now (w.if-are_strict.ensures (search rules)))
+      | then-are_strict-via-else-are_strict+then-are_one_line w ↦
+          let (tie, all) =
+          w.if-are_one_line.ensures (search rules) in sym
+          (in_order-one_line tie c.args.run.now all)
     ]
 
 pub returns : goal.returns

@@ -1,42 +1,97 @@
-use Rattle.std.proofs.Common.{◌∙◌, sym}
-use Rattle.version_rules.specs.ReleaseOrder.{chunk_cmp}
-use Rattle.version_texts.proofs.lemmas.Piece.{behind_number, chunk_of_number, chunk_of_text}
+use Rattle.std.proofs.Common.{◌≡◌, ◌∙◌, ℕ, true, false, List, Ordering, ap, refl, sym}
+use Rattle.std.proofs.lemmas.Cmp.{nat_cmp_total}
+use Rattle.std.specs.Ordering.{nat_cmp, ordering_reverse}
+use Rattle.std.specs.declared.cmp.Ordering.TheVariants.{Less, Equal, Greater}
+use Rattle.version_rules.specs.DigitRun.{run_value}
+use Rattle.version_rules.specs.laws.Release.{chunk_total}
+use Rattle.version_texts.proofs.lemmas.Piece.{behind_number, digits_alone}
+use Rattle.version_texts.proofs.lemmas.Piece.Chunks.{both_numbers, both_texts, not_tied, number_first, number_second}
+use Rattle.version_texts.specs.Piece.{first_piece}
+use Rattle.version_texts.specs.TextKey.{chunk_of}
 use Rattle.version_texts.proofs.order.release.compare_first_chunks.Goals as goal
+
+tie_reversed : (o : Ordering) → ordering_reverse o ≡ Equal → o ≡ Equal
+tie_reversed Less e = cc e
+tie_reversed Equal e = refl
+tie_reversed Greater e = cc e
+
+less_turned : (a b : List ℕ) → nat_cmp (run_value a) (run_value b) ≡ Less
+    → nat_cmp (run_value b) (run_value a) ≡ Greater
+less_turned a b less =
+    nat_cmp_total.antisymm (run_value b) (run_value a) ∙ ap ordering_reverse less
+
+pub returns-in-Greater-clause-rest : goal.returns-in-Greater-clause-rest
+returns-in-Greater-clause-rest c e =
+    absurd (not_tied c.args.a.now c.args.b.now
+    (sym c.compare_numbers-numbers.ensures.order ∙ c.in-Greater.is)
+    (sym c.compare_greater.ensures ∙ e))
+
+pub returns-in-Greater-clause-other_rest : goal.returns-in-Greater-clause-other_rest
+returns-in-Greater-clause-other_rest c e =
+    absurd (not_tied c.args.a.now c.args.b.now
+    (sym c.compare_numbers-numbers.ensures.order ∙ c.in-Greater.is)
+    (sym c.compare_greater.ensures ∙ e))
+
+pub returns-in-Less-clause-order : goal.returns-in-Less-clause-order
+returns-in-Less-clause-order c =
+    c.reverse.ensures ∙ ap ordering_reverse c.compare_greater-in-Less.ensures
+    ∙ sym (chunk_total.antisymm (chunk_of (first_piece c.args.a.now))
+    (chunk_of (first_piece c.args.b.now)))
+
+pub returns-in-Less-clause-rest : goal.returns-in-Less-clause-rest
+returns-in-Less-clause-rest c e =
+    absurd (not_tied c.args.b.now c.args.a.now (less_turned c.args.a.now c.args.b.now
+    (sym c.compare_numbers-numbers.ensures.order ∙ c.in-Less.is))
+    (sym c.compare_greater-in-Less.ensures ∙ tie_reversed _ (sym c.reverse.ensures ∙ e)))
+
+pub returns-in-Less-clause-other_rest : goal.returns-in-Less-clause-other_rest
+returns-in-Less-clause-other_rest c e =
+    absurd (not_tied c.args.b.now c.args.a.now (less_turned c.args.a.now c.args.b.now
+    (sym c.compare_numbers-numbers.ensures.order ∙ c.in-Less.is))
+    (sym c.compare_greater-in-Less.ensures ∙ tie_reversed _ (sym c.reverse.ensures ∙ e)))
 
 pub returns-in-true-true-clause-order : goal.returns-in-true-true-clause-order
 returns-in-true-true-clause-order c =
-    let number = chunk_of_number c.args.a.now _ c.split_digits.ensures.rest _
-    c.split_digits.ensures.run c.in-true-true.ensures in
-    let other = chunk_of_number c.args.b.now _ c.split_digits-2.ensures.rest _
-    c.split_digits-2.ensures.run c.in-true-true.ensures' in
-    c.compare_digits.ensures ∙ sym (λ i. chunk_cmp (number i) (other i))
+    let numbers = c.compare_numbers-numbers.ensures in
+    let first =
+    digits_alone c.args.a.now _ (numbers.rest c.in-Equal.is) true c.in-true-true.ensures in
+    let second =
+    digits_alone c.args.b.now _ (numbers.other_rest c.in-Equal.is) true c.in-true-true.ensures' in
+    numbers.order ∙ sym (both_numbers c.args.a.now c.args.b.now first second)
 
 pub returns-in-true-true-clause-rest : goal.returns-in-true-true-clause-rest
 returns-in-true-true-clause-rest c e =
-    behind_number c.args.a.now _ c.split_digits.ensures.rest c.in-true-true.ensures
+    behind_number c.args.a.now _ (c.compare_numbers-numbers.ensures.rest e) c.in-true-true.ensures
 
 pub returns-in-true-true-clause-other_rest : goal.returns-in-true-true-clause-other_rest
 returns-in-true-true-clause-other_rest c e =
-    behind_number c.args.b.now _ c.split_digits-2.ensures.rest c.in-true-true.ensures'
+    behind_number c.args.b.now _ (c.compare_numbers-numbers.ensures.other_rest e)
+    c.in-true-true.ensures'
 
 pub returns-in-true-false-clause-order : goal.returns-in-true-false-clause-order
 returns-in-true-false-clause-order c =
-    let number = chunk_of_number c.args.a.now _ c.split_digits.ensures.rest _
-    c.split_digits.ensures.run c.in-true-false.ensures in
-    let text = chunk_of_text c.args.b.now _ c.split_digits-2.ensures.rest
-    c.in-true-false.ensures' in
-    sym (λ i. chunk_cmp (number i) (text i))
+    let numbers = c.compare_numbers-numbers.ensures in
+    let first =
+    digits_alone c.args.a.now _ (numbers.rest c.in-Equal.is) true c.in-true-false.ensures in
+    let second =
+    digits_alone c.args.b.now _ (numbers.other_rest c.in-Equal.is) false c.in-true-false.ensures' in
+    sym (number_first c.args.a.now c.args.b.now first second)
 
 pub returns-in-false-true-clause-order : goal.returns-in-false-true-clause-order
 returns-in-false-true-clause-order c =
-    let text = chunk_of_text c.args.a.now _ c.split_digits.ensures.rest c.in-false-true.ensures in
-    let number = chunk_of_number c.args.b.now _ c.split_digits-2.ensures.rest _
-    c.split_digits-2.ensures.run c.in-false-true.ensures' in
-    sym (λ i. chunk_cmp (text i) (number i))
+    let numbers = c.compare_numbers-numbers.ensures in
+    let first =
+    digits_alone c.args.a.now _ (numbers.rest c.in-Equal.is) false c.in-false-true.ensures in
+    let second =
+    digits_alone c.args.b.now _ (numbers.other_rest c.in-Equal.is) true c.in-false-true.ensures' in
+    sym (number_second c.args.a.now c.args.b.now first second)
 
 pub returns-in-false-false-clause-order : goal.returns-in-false-false-clause-order
 returns-in-false-false-clause-order c =
-    let text = chunk_of_text c.args.a.now _ c.split_digits.ensures.rest c.in-false-false.ensures in
-    let other = chunk_of_text c.args.b.now _ c.split_digits-2.ensures.rest
+    let numbers = c.compare_numbers-numbers.ensures in
+    let first =
+    digits_alone c.args.a.now _ (numbers.rest c.in-Equal.is) false c.in-false-false.ensures in
+    let second =
+    digits_alone c.args.b.now _ (numbers.other_rest c.in-Equal.is) false
     c.in-false-false.ensures' in
-    c.compare_first_texts.ensures.order ∙ sym (λ i. chunk_cmp (text i) (other i))
+    c.compare_texts.ensures.order ∙ sym (both_texts c.args.a.now c.args.b.now first second)

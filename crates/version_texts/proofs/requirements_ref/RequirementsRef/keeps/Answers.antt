@@ -10,6 +10,6 @@ returns-then-not-starts_with c =
     let refused =
     not_kept (plain_requirement_ref list.first)
     (from_second list.second list.others) list.front.now
-    c.args.text.now c.self.invariant.1
+    c.args.text.now c.self.invariant
     (sym c.starts_with.ensures.value ∙ c.if-not-starts_with.true) in
     rw (← c.self.view_is) (λ yes. cc yes, λ kept. absurd (refused kept))

@@ -11,8 +11,8 @@ returns-then-matches c =
     (plain_requirement_ref list.first) (from_second list.second list.others)
     (c.matches.ensures.0 c.if-matches.true) in
     rw (← c.self.view_is) (
-      λ yes. all.0 (c.second_and_others_ask.ensures.0 yes),
-      λ asked. c.second_and_others_ask.ensures.1 (all.1 asked),
+      λ yes. all.0 (c.second_and_others_match.ensures.0 yes),
+      λ asked. c.second_and_others_match.ensures.1 (all.1 asked),
     )
 
 pub returns-else-matches : goal.returns-else-matches

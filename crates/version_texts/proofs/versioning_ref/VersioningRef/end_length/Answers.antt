@@ -1,8 +1,13 @@
-use Rattle.version_texts.proofs.lemmas.VersioningRef.{key-is, shape_fits}
+use Rattle.std.proofs.Common.{◌∙◌, ◌+◌, [], ℕ, List, ap, append-nil, length, zero-add}
+use Rattle.version_rules.specs.Ends.{end_bytes}
+use Rattle.version_rules.specs.Key.{key_of}
+use Rattle.version_texts.specs.Sinks.{saturated}
+use Rattle.version_texts.specs.VersioningRef.{plain_versioning_ref}
 use Rattle.version_texts.proofs.versioning_ref.VersioningRef.end_length.Goals as goal
 
-pub end_length-requires : goal.end_length-requires
-end_length-requires c = shape_fits _ _ c.args.self.now.read
-
 pub returns : goal.returns
-returns c = rw (key-is _ _ c.args.self.now.read) c.end_length.ensures
+returns c =
+    let bytes = end_bytes c.args.end (key_of (plain_versioning_ref c.args.self.now)) in
+    c.length.ensures ∙ c.put_end.ensures []
+    ∙ ap (λ (l : List ℕ). saturated (0 + length l)) (append-nil bytes)
+    ∙ ap saturated (zero-add (length bytes))

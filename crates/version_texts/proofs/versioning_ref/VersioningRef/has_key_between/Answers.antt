@@ -1,8 +1,14 @@
-use Rattle.version_texts.proofs.lemmas.VersioningRef.{key-is, shape_fits}
+use Rattle.std.proofs.Common.{◌∙◌, [], ℕ, List, ap, append-nil}
+use Rattle.version_rules.specs.Lists.{bytes_cmp}
+use Rattle.version_rules.specs.Key.{key_of}
+use Rattle.version_rules.specs.KeyBytes.{key_bytes}
+use Rattle.version_texts.specs.Sinks.{is_between}
+use Rattle.version_texts.specs.VersioningRef.{plain_versioning_ref}
 use Rattle.version_texts.proofs.versioning_ref.VersioningRef.has_key_between.Goals as goal
 
-pub key_between-requires : goal.key_between-requires
-key_between-requires c = shape_fits _ _ c.args.self.now.read
-
 pub returns : goal.returns
-returns c = rw (key-is _ _ c.args.self.now.read) c.key_between.ensures
+returns c =
+    let key = key_bytes (key_of (plain_versioning_ref c.args.self.now)) in
+    c.is_between.ensures ∙ c.put_key.ensures []
+    ∙ ap (λ (l : List ℕ). is_between (bytes_cmp l c.args.low.now) (bytes_cmp l c.args.high.now))
+    (append-nil key)

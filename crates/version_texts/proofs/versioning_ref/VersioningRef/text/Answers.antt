@@ -1,24 +1,8 @@
-use Rattle.std.proofs.Common.{◌≡◌, ◌∙◌, List, ℕ, Bor, Result, Ok, Err, refl, sym, ap}
-use Rattle.std.specs.Prelude.{MatchResult}
-use Rattle.std.specs.Result.{IsOk}
-use Rattle.std.specs.Str.{IsUtf8}
+use Rattle.std.proofs.Common.{◌∙◌, sym, ap}
+use Rattle.version_rules.proofs.lemmas.Utf8.{is_read, same_bytes}
 use Rattle.version_rules.specs.Versioning.{versioning_of}
 use Rattle.version_texts.proofs.lemmas.VersioningRef.{printed-is, utf8-is, spelled}
 use Rattle.version_texts.proofs.versioning_ref.VersioningRef.text.Goals as goal
-
-module _ {E : Type 0} (Fault : E → Type 0) (text : List ℕ) where
-  -- bytes that are UTF-8 are read
-  is_read : (r : Result (Bor (List ℕ)) E) → IsUtf8 text
-      → MatchResult r (λ s. (s.now ≡ text) × IsUtf8 text) (λ e. (¬ (IsUtf8 text)) × Fault e)
-      → IsOk r
-  is_read (Ok s) utf8 read = refl
-  is_read (Err e) utf8 read = absurd (read.0 utf8)
-
-  -- and read as themselves
-  same_bytes : (r : Result (Bor (List ℕ)) E) (s : Bor (List ℕ))
-      → MatchResult r (λ s. (s.now ≡ text) × IsUtf8 text) (λ e. (¬ (IsUtf8 text)) × Fault e)
-      → r ≡ Ok s → s.now ≡ text
-  same_bytes r s read e = (rw e at read).0
 
 pub unwrap-requires : goal.unwrap-requires
 unwrap-requires c =

@@ -1,25 +1,13 @@
-use Rattle.version_parts.proofs.lemmas.Reading.{clause_memory, clause_printed, clause_read, clause_spelled}
-use Rattle.version_rules.specs.Requirement.{RequirementOwns, SpellsRequirement, requirement_of, requirement_text}
-use Rattle.versions.specs.Requirement.{plain_requirement}
-use Rattle.version_rules.proofs.lemmas.Requirement.{requirement_of-Some, requirement_of-spells, requirement_printed}
+use Rattle.std.proofs.Common.{refl, sym}
+use Rattle.version_rules.specs.Versioning.{versioning_of}
+use Rattle.versions.proofs.lemmas.Errors.Answered.{on_err}
+use Rattle.version_rules.proofs.lemmas.Requirement.{requirement_owns}
 use Rattle.versions.proofs.requirement.Requirement.new.Goals as goal
 
-pub returns-clause-spelled : goal.returns-clause-spelled
-returns-clause-spelled c =
-    clause_spelled plain_requirement SpellsRequirement requirement_of requirement_of-spells
-    requirement_of-Some c.args.s.now _ c.read_whole.ensures.ok
-
-pub returns-clause-printed : goal.returns-clause-printed
-returns-clause-printed c =
-    clause_printed plain_requirement SpellsRequirement requirement_of requirement_of-spells
-    requirement_of-Some requirement_text requirement_printed c.args.s.now _ c.read_whole.ensures.ok
-
-pub returns-clause-read : goal.returns-clause-read
-returns-clause-read c =
-    clause_read plain_requirement SpellsRequirement requirement_of requirement_of-spells
-    requirement_of-Some c.args.s.now _ c.read_whole.ensures.ok
-
-pub returns-clause-memory : goal.returns-clause-memory
-returns-clause-memory c =
-    clause_memory plain_requirement SpellsRequirement requirement_of requirement_of-spells
-    requirement_of-Some RequirementOwns c.args.s.now _ c.read_whole.ensures.err
+pub returns-in_err-version-clause-memory : goal.returns-in_err-version-clause-memory
+returns-in_err-version-clause-memory c =
+    let front = rw c.in-Some.is at c.split_op.ensures in
+    on_err c.from_residual.result _
+    (requirement_owns c.args.s.now c.in-Some.rest.now c.in-Some.op
+    (versioning_of c.in-Some.rest.now) (sym front)
+    (λ wildcard. c.in_default-op.not-Wildcard wildcard) refl c.in_err-version.ensures.memory)

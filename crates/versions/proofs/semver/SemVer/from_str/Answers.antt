@@ -6,14 +6,14 @@ use Rattle.versions.specs.SemVer.{plain_semver}
 use Rattle.versions.proofs.lemmas.Errors.FromText.{reads_or, reads_or-refused}
 use Rattle.versions.proofs.semver.SemVer.from_str.Goals as goal
 
-pub returns-in_err-read_whole : goal.returns-in_err-read_whole
-returns-in_err-read_whole c =
+pub returns-in_err-new : goal.returns-in_err-new
+returns-in_err-new c =
     let p = err_from_is_err_and c.from_residual.result c.from_residual.ensures.1 in
     reads_or-refused plain_semver SemVerOwns (IllegalSemver c.args.s.now) _
-    (semver_of c.args.s.now) _ (rw p.2 at p.1) c.in_err-read_whole.ensures.err
+    (semver_of c.args.s.now) _ (rw p.2 at p.1) c.in_err-new.ensures.memory
 
 pub returns : goal.returns
 returns c =
     reads_or plain_semver SemVerOwns
-    (IllegalSemver c.args.s.now) _ _ _ c.in_ok-read_whole.ensures.ok c.or_illegal.ensures.some
+    (IllegalSemver c.args.s.now) _ _ _ c.in_ok-new.ensures.exact c.or_illegal.ensures.some
     (c.or_illegal.ensures.none (IllegalSemver c.args.s.now) (λ text error same made. search rules))

@@ -1,0 +1,16 @@
+use Rattle.std.proofs.Common.{◌∷◌, Decides, length}
+use Rattle.version_rules.proofs.lemmas.VersionMatch.{not_below_test}
+use Rattle.version_rules.specs.VersionMatch.{PartsNotBelow}
+use Rattle.version_rules.proofs.parts.no_part_is_below.Given as goal
+
+-- what is left decides
+abbrev pub invariant-parts : goal.invariant-parts
+invariant-parts g l =
+    let p = g.P.Parts in
+    Decides
+    (not_below_test (p.first l.wanted ∷ p.more l.wanted) (p.first l.parts ∷ p.more l.parts))
+    (PartsNotBelow (p.first l.fn.wanted ∷ p.more l.fn.wanted)
+    (p.first l.fn.parts ∷ p.more l.fn.parts))
+
+abbrev pub decreases-parts : goal.decreases-parts
+decreases-parts g l = length (g.P.Parts.more l.wanted)

@@ -1,0 +1,13 @@
+use Rattle.std.proofs.Common.{◌≡◌, length}
+use Rattle.version_rules.specs.Tail.{sections_cmp}
+use Rattle.version_texts.specs.TextKey.{lists_of}
+use Rattle.version_texts.proofs.order.list.compare_lists.Given as goal
+
+-- the parts so far are equal, and what is left decides
+abbrev pub invariant-parts : goal.invariant-parts
+invariant-parts l =
+    sections_cmp (lists_of l.ends l.a) (lists_of l.ends l.b)
+    ≡ sections_cmp (lists_of l.ends l.x) (lists_of l.ends l.y)
+
+abbrev pub decreases-parts : goal.decreases-parts
+decreases-parts l = length l.a

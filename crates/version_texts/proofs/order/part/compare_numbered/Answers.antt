@@ -1,0 +1,44 @@
+use Rattle.std.proofs.Common.{◌∙◌, ap, sym}
+use Rattle.std.specs.List.{before_first}
+use Rattle.version_rules.specs.Lists.{bytes_cmp}
+use Rattle.version_texts.proofs.lemmas.Piece.{digits_same}
+use Rattle.version_texts.proofs.lemmas.Piece.Ends.{digit_no_end}
+use Rattle.version_texts.proofs.lemmas.Piece.Order.{decides, leaves, numbered_compared, tied}
+use Rattle.version_texts.specs.Piece.{end_of, from_first}
+use Rattle.version_texts.proofs.order.part.compare_numbered.Goals as goal
+
+pub returns-then-ne-clause-order : goal.returns-then-ne-clause-order
+returns-then-ne-clause-order c =
+    let both =
+    numbered_compared (end_of c.args.ends) (digit_no_end c.args.ends) c.args.a.now c.args.b.now
+    (sym c.in-true-true.ensures)
+    (sym c.in-true-true.ensures') in
+    decides c.compare_numbers-numbers.result.order _ _ _ c.compare_numbers-numbers.ensures.order
+    both (sym c.if-ne.true ∙ c.ne.ensures)
+
+pub returns-else-ne-clause-order : goal.returns-else-ne-clause-order
+returns-else-ne-clause-order c =
+    let both =
+    numbered_compared (end_of c.args.ends) (digit_no_end c.args.ends) c.args.a.now c.args.b.now
+    (sym c.in-true-true.ensures)
+    (sym c.in-true-true.ensures') in
+    let numbers = c.compare_numbers-numbers.ensures in
+    let same = tied c.compare_numbers-numbers.result.order (sym c.if-ne.false ∙ c.ne.ensures) in
+    c.compare_texts.ensures.order
+    ∙ (λ i. bytes_cmp (before_first (end_of c.args.ends) (numbers.rest same i))
+    (before_first (end_of c.args.ends) (numbers.other_rest same i)))
+    ∙ leaves c.compare_numbers-numbers.result.order _ _ _ numbers.order both same
+
+pub returns-else-ne-clause-rest : goal.returns-else-ne-clause-rest
+returns-else-ne-clause-rest c e =
+    let same = tied c.compare_numbers-numbers.result.order (sym c.if-ne.false ∙ c.ne.ensures) in
+    c.compare_texts.ensures.rest e
+    ∙ ap (from_first (end_of c.args.ends)) (c.compare_numbers-numbers.ensures.rest same)
+    ∙ (digits_same (end_of c.args.ends) (digit_no_end c.args.ends) c.args.a.now).2
+
+pub returns-else-ne-clause-other_rest : goal.returns-else-ne-clause-other_rest
+returns-else-ne-clause-other_rest c e =
+    let same = tied c.compare_numbers-numbers.result.order (sym c.if-ne.false ∙ c.ne.ensures) in
+    c.compare_texts.ensures.other_rest e
+    ∙ ap (from_first (end_of c.args.ends)) (c.compare_numbers-numbers.ensures.other_rest same)
+    ∙ (digits_same (end_of c.args.ends) (digit_no_end c.args.ends) c.args.b.now).2

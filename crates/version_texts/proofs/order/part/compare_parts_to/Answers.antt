@@ -1,0 +1,63 @@
+use Rattle.std.proofs.Common.{◌∙◌, ap, sym}
+use Rattle.std.specs.List.{before_first}
+use Rattle.version_rules.specs.Lists.{none_last_cmp}
+use Rattle.version_rules.specs.PartKey.{suffix_of}
+use Rattle.version_rules.specs.Split.{split_cmp}
+use Rattle.version_texts.proofs.lemmas.Piece.{digits_same}
+use Rattle.version_texts.proofs.lemmas.Piece.Ends.{digit_no_end}
+use Rattle.version_texts.proofs.lemmas.Piece.Order.{decides, leaves, number_above_word, numbers_compared, tied, word_below_number, words_compared}
+use Rattle.version_texts.specs.Piece.{end_of, from_first}
+use Rattle.version_texts.proofs.order.part.compare_parts_to.Goals as goal
+
+pub returns-then-ne-clause-order : goal.returns-then-ne-clause-order
+returns-then-ne-clause-order c =
+    let both =
+    numbers_compared (end_of c.args.ends) (digit_no_end c.args.ends) c.args.a.now c.args.b.now
+    (sym c.in-true-true.ensures)
+    (sym c.in-true-true.ensures') in
+    decides c.compare_numbers-numbers.result.order _ _ _ c.compare_numbers-numbers.ensures.order
+    both (sym c.if-ne.true ∙ c.ne.ensures)
+
+pub returns-else-ne-clause-order : goal.returns-else-ne-clause-order
+returns-else-ne-clause-order c =
+    let both =
+    numbers_compared (end_of c.args.ends) (digit_no_end c.args.ends) c.args.a.now c.args.b.now
+    (sym c.in-true-true.ensures)
+    (sym c.in-true-true.ensures') in
+    let numbers = c.compare_numbers-numbers.ensures in
+    let same = tied c.compare_numbers-numbers.result.order (sym c.if-ne.false ∙ c.ne.ensures) in
+    c.compare_suffixes.ensures.order
+    ∙ (λ i. none_last_cmp split_cmp
+    (suffix_of (before_first (end_of c.args.ends) (numbers.rest same i)))
+    (suffix_of (before_first (end_of c.args.ends) (numbers.other_rest same i))))
+    ∙ leaves c.compare_numbers-numbers.result.order _ _ _ numbers.order both same
+
+pub returns-else-ne-clause-rest : goal.returns-else-ne-clause-rest
+returns-else-ne-clause-rest c e =
+    let same = tied c.compare_numbers-numbers.result.order (sym c.if-ne.false ∙ c.ne.ensures) in
+    c.compare_suffixes.ensures.rest e
+    ∙ ap (from_first (end_of c.args.ends)) (c.compare_numbers-numbers.ensures.rest same)
+    ∙ (digits_same (end_of c.args.ends) (digit_no_end c.args.ends) c.args.a.now).2
+
+pub returns-else-ne-clause-other_rest : goal.returns-else-ne-clause-other_rest
+returns-else-ne-clause-other_rest c e =
+    let same = tied c.compare_numbers-numbers.result.order (sym c.if-ne.false ∙ c.ne.ensures) in
+    c.compare_suffixes.ensures.other_rest e
+    ∙ ap (from_first (end_of c.args.ends)) (c.compare_numbers-numbers.ensures.other_rest same)
+    ∙ (digits_same (end_of c.args.ends) (digit_no_end c.args.ends) c.args.b.now).2
+
+pub returns-in-false-false-clause-order : goal.returns-in-false-false-clause-order
+returns-in-false-false-clause-order c =
+    c.compare_words.ensures.order
+    ∙ sym (words_compared (end_of c.args.ends) (digit_no_end c.args.ends) c.args.a.now c.args.b.now
+    (sym c.in-false-false.ensures) (sym c.in-false-false.ensures'))
+
+pub returns-in-true-false-clause-order : goal.returns-in-true-false-clause-order
+returns-in-true-false-clause-order c =
+    sym (number_above_word (end_of c.args.ends) (digit_no_end c.args.ends) c.args.a.now c.args.b.now
+    (sym c.in-true-false.ensures) (sym c.in-true-false.ensures'))
+
+pub returns-in-false-true-clause-order : goal.returns-in-false-true-clause-order
+returns-in-false-true-clause-order c =
+    sym (word_below_number (end_of c.args.ends) (digit_no_end c.args.ends) c.args.a.now c.args.b.now
+    (sym c.in-false-true.ensures) (sym c.in-false-true.ensures'))

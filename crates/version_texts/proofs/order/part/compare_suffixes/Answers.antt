@@ -1,0 +1,48 @@
+use Rattle.std.proofs.Common.{◌∙◌, sym}
+use Rattle.version_rules.specs.Lists.{none_last_cmp}
+use Rattle.version_rules.specs.Split.{split_cmp}
+use Rattle.version_texts.proofs.lemmas.Piece.Words.{no_bytes, no_suffix, some_suffix}
+use Rattle.version_texts.specs.Piece.{end_of}
+use Rattle.version_texts.proofs.order.part.compare_suffixes.Goals as goal
+
+pub returns-in-true-true-clause-order : goal.returns-in-true-true-clause-order
+returns-in-true-true-clause-order c =
+    let first = some_suffix (end_of c.args.ends) c.args.a.now
+    (sym c.in-true-true.ensures) in
+    let second = some_suffix (end_of c.args.ends) c.args.b.now
+    (sym c.in-true-true.ensures') in
+    c.compare_words.ensures.order ∙ sym (λ i. none_last_cmp split_cmp (first i) (second i))
+
+pub returns-in-true-false-clause-order : goal.returns-in-true-false-clause-order
+returns-in-true-false-clause-order c =
+    let first = some_suffix (end_of c.args.ends) c.args.a.now
+    (sym c.in-true-false.ensures) in
+    let second = no_suffix (end_of c.args.ends) c.args.b.now
+    (sym c.in-true-false.ensures') in
+    sym (λ i. none_last_cmp split_cmp (first i) (second i))
+
+pub returns-in-false-true-clause-order : goal.returns-in-false-true-clause-order
+returns-in-false-true-clause-order c =
+    let first = no_suffix (end_of c.args.ends) c.args.a.now
+    (sym c.in-false-true.ensures) in
+    let second = some_suffix (end_of c.args.ends) c.args.b.now
+    (sym c.in-false-true.ensures') in
+    sym (λ i. none_last_cmp split_cmp (first i) (second i))
+
+pub returns-in-false-false-clause-order : goal.returns-in-false-false-clause-order
+returns-in-false-false-clause-order c =
+    let first = no_suffix (end_of c.args.ends) c.args.a.now
+    (sym c.in-false-false.ensures) in
+    let second = no_suffix (end_of c.args.ends) c.args.b.now
+    (sym c.in-false-false.ensures') in
+    sym (λ i. none_last_cmp split_cmp (first i) (second i))
+
+pub returns-in-false-false-clause-rest : goal.returns-in-false-false-clause-rest
+returns-in-false-false-clause-rest c e =
+    sym (no_bytes (end_of c.args.ends) c.args.a.now
+    (sym c.in-false-false.ensures)).1
+
+pub returns-in-false-false-clause-other_rest : goal.returns-in-false-false-clause-other_rest
+returns-in-false-false-clause-other_rest c e =
+    sym (no_bytes (end_of c.args.ends) c.args.b.now
+    (sym c.in-false-false.ensures')).1

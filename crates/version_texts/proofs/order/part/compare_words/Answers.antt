@@ -1,0 +1,78 @@
+use Rattle.std.proofs.Common.{◌≡◌, ◌∙◌, ℕ, List, ap, drop, refl, sym}
+use Rattle.std.specs.List.{before_first, prefix_len, take_while}
+use Rattle.std.specs.Option.{option_cmp}
+use Rattle.std.specs.Ordering.{ordering_then}
+use Rattle.version_rules.proofs.lemmas.Front.Runs.{begins-drop}
+use Rattle.version_rules.specs.DigitRun.{number_front}
+use Rattle.version_rules.specs.Front.{begins}
+use Rattle.version_rules.specs.Lists.{bytes_cmp}
+use Rattle.version_rules.specs.Split.{numbered_cmp, split_cmp, split_of}
+use Rattle.version_texts.specs.declared.order.ends.Ends.{Ends}
+use Rattle.version_texts.specs.declared.order.ends.Run.TheVariants.{Word}
+use Rattle.version_texts.proofs.lemmas.Piece.Order.{decides, leaves, tied}
+use Rattle.version_texts.proofs.lemmas.Piece.Words.{run_is_word}
+use Rattle.version_texts.specs.Piece.{end_of, from_first, in_run}
+use Rattle.version_texts.proofs.order.part.compare_words.Goals as goal
+
+abbrev behind_word : Ends → List ℕ → List ℕ
+behind_word ends text = drop (prefix_len (in_run (Word ends)) text) text
+
+-- two words compare by the bytes before their first digits, and then by what follows these
+by_words : (ends : Ends) (a b : List ℕ)
+    → split_cmp (split_of (before_first (end_of ends) a)) (split_of (before_first (end_of ends) b))
+    ≡ ordering_then
+    (bytes_cmp (take_while (in_run (Word ends)) a) (take_while (in_run (Word ends)) b))
+    (option_cmp numbered_cmp (number_front (before_first (end_of ends) (behind_word ends a)))
+    (number_front (before_first (end_of ends) (behind_word ends b))))
+by_words ends a b =
+    let first = run_is_word (end_of ends) a in
+    let second = run_is_word (end_of ends) b in
+    rw (first.0, first.1, second.0, second.1) refl
+
+pub returns-then-ne-clause-order : goal.returns-then-ne-clause-order
+returns-then-ne-clause-order c =
+    decides c.compare_runs-words.result.order _ _ _
+    (c.compare_runs-words.ensures.order)
+    (by_words c.args.ends c.args.a.now c.args.b.now) (sym c.if-ne.true ∙ c.ne.ensures)
+
+pub compare_numbered-requires-clause-a : goal.compare_numbered-requires-clause-a
+compare_numbered-requires-clause-a c =
+    let same = tied c.compare_runs-words.result.order (sym c.if-ne.false ∙ c.ne.ensures) in
+    ap (begins (in_run (Word c.args.ends))) (c.compare_runs-words.ensures.rest same)
+    ∙ begins-drop (in_run (Word c.args.ends)) c.args.a.now
+
+pub compare_numbered-requires-clause-b : goal.compare_numbered-requires-clause-b
+compare_numbered-requires-clause-b c =
+    let same = tied c.compare_runs-words.result.order (sym c.if-ne.false ∙ c.ne.ensures) in
+    ap (begins (in_run (Word c.args.ends)))
+    (c.compare_runs-words.ensures.other_rest same)
+    ∙ begins-drop (in_run (Word c.args.ends)) c.args.b.now
+
+pub returns-clause-order : goal.returns-clause-order
+returns-clause-order c =
+    let ends = c.args.ends in
+    let same = tied c.compare_runs-words.result.order (sym c.if-ne.false ∙ c.ne.ensures) in
+    let rest = c.compare_runs-words.ensures.rest same in
+    let other_rest = c.compare_runs-words.ensures.other_rest same in
+    c.compare_numbered.ensures.order
+    ∙ (λ i. option_cmp numbered_cmp (number_front (before_first (end_of ends) (rest i)))
+    (number_front (before_first (end_of ends) (other_rest i))))
+    ∙ leaves c.compare_runs-words.result.order _ _ _
+    (c.compare_runs-words.ensures.order)
+    (by_words ends c.args.a.now c.args.b.now) same
+
+pub returns-clause-rest : goal.returns-clause-rest
+returns-clause-rest c e =
+    let same = tied c.compare_runs-words.result.order (sym c.if-ne.false ∙ c.ne.ensures) in
+    c.compare_numbered.ensures.rest e
+    ∙ ap (from_first (end_of c.args.ends))
+    (c.compare_runs-words.ensures.rest same)
+    ∙ (run_is_word (end_of c.args.ends) c.args.a.now).2
+
+pub returns-clause-other_rest : goal.returns-clause-other_rest
+returns-clause-other_rest c e =
+    let same = tied c.compare_runs-words.result.order (sym c.if-ne.false ∙ c.ne.ensures) in
+    c.compare_numbered.ensures.other_rest e
+    ∙ ap (from_first (end_of c.args.ends))
+    (c.compare_runs-words.ensures.other_rest same)
+    ∙ (run_is_word (end_of c.args.ends) c.args.b.now).2
