@@ -1,0 +1,11 @@
+//! Tests of what people ask of versions: tables, and texts of great length.
+#![tactic(auto)]
+
+#[cfg(test)]
+mod newest;
+#[cfg(test)]
+mod stabilities;
+#[cfg(test)]
+mod tags;
+#[cfg(test)]
+mod texts;

@@ -1,0 +1,4 @@
+pub mod Newest
+pub mod Stability
+pub mod Tag
+pub mod Worked

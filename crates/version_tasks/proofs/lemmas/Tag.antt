@@ -1,0 +1,214 @@
+-- The version in a tag, sign by sign.
+use Rattle.std.proofs.lemmas.Bool.{cases_Bool}
+use Rattle.std.proofs.Common.{◌≡◌, ◌<◌, ◌&&◌, ◌∙◌, if◌then◌else◌, ℕ, zero, suc, Bool, true, false, List, [], ◌∷◌, drop, length, take, Option, Some, None, refl, sym, ap, arith, inl, inr}
+use Rattle.std.specs.Char.{is_ascii_digit}
+use Rattle.std.specs.Option.{is_some, option_map, option_or, IfSome}
+use Rattle.std.specs.Str.{bytes_eq}
+use Rattle.version_rules.specs.Front.{◌>>=◌}
+use Rattle.version_rules.specs.Versioning.{versioning_of, versioning_text}
+use Rattle.version_rules.proofs.lemmas.Versioning.{versioning_of-spells, versioning_printed}
+use Rattle.version_texts.specs.VersioningRef.{plain_versioning_ref}
+use Rattle.version_texts.specs.declared.versioning_ref.VersioningRef.{VersioningRef}
+use Rattle.version_tasks.specs.AfterSign.{after_sign}
+use Rattle.version_tasks.specs.Tag.{after_prefix, first_below, is_point, is_sign, may_begin, place_in_tag, text_at_beginning, text_in_tag}
+
+-- ---- the first place that passes a test
+
+shifted : (o : Option ℕ) (b : Bool) (m : ℕ)
+    → option_or (option_map suc o) (if b then Some (suc m) else None)
+    ≡ option_map suc (option_or o (if b then Some m else None))
+shifted None true m = refl
+shifted None false m = refl
+shifted (Some n) b m = refl
+
+kept : (b : Bool) (o : Option ℕ) (c : Bool) (m : ℕ)
+    → option_or (if b then Some 0 else option_map suc o) (if c then Some (suc m) else None)
+    ≡ (if b then Some 0 else option_map suc (option_or o (if c then Some m else None)))
+kept true o c m = refl
+kept false o c m = shifted o c m
+
+first_below-suc : (test : ℕ → Bool) (n : ℕ)
+    → first_below test (suc n)
+    ≡ (if test 0 then Some 0 else option_map suc (first_below (λ place. test (suc place)) n))
+first_below-suc test zero = refl
+first_below-suc test (suc n) =
+    ap (λ o. option_or o (if test (suc n) then Some (suc n) else None)) (first_below-suc test n)
+    ∙ kept (test 0) (first_below (λ place. test (suc place)) n) (test (suc n)) n
+
+-- it is the first place of all if that passes, and else lies behind it
+at_first : (b : Bool) (o : Option ℕ) → b ≡ true → (if b then Some 0 else o) ≡ Some 0
+at_first b o h = rw h refl
+
+behind_first : (b : Bool) (o : Option ℕ) → b ≡ false → (if b then Some 0 else o) ≡ o
+behind_first b o h = rw h refl
+
+-- tests that agree have one first place
+first_below-same : (one other : ℕ → Bool) → ((place : ℕ) → one place ≡ other place) → (n : ℕ)
+    → first_below one n ≡ first_below other n
+first_below-same one other same zero = refl
+first_below-same one other same (suc n) =
+    rw (first_below-same one other same n, same n) refl
+
+-- ---- a text whose first byte may be open
+
+-- whether a version may begin at a place, if the beginning is open or not
+abbrev may_begin_from : Bool → List ℕ → ℕ → Bool
+may_begin_from open_first text zero = open_first && is_some (text_at_beginning text)
+may_begin_from open_first text (suc place) = may_begin text (suc place)
+
+-- the text of the version, by the first of these places
+abbrev unless_point : List ℕ → ℕ → Option ℕ
+unless_point text place = if is_some (first_below (is_point text) place) then None else Some place
+
+abbrev text_by : List ℕ → Option ℕ → Option (List ℕ)
+text_by text place = (place >>= unless_point text) >>= λ place. text_at_beginning (drop place text)
+
+abbrev text_from : Bool → List ℕ → Option (List ℕ)
+text_from open_first text =
+    text_by text (first_below (may_begin_from open_first text) (length text))
+
+-- what follows a first byte where no version may begin
+abbrev behind : Bool → Option (List ℕ) → Option (List ℕ)
+behind point rest = if point then None else rest
+
+none_behind : (point : Bool) → None ≡ behind point None
+none_behind true = refl
+none_behind false = refl
+
+unless_earlier : (b : ℕ) (text : List ℕ) (place : ℕ) (point : Bool) (earlier : Option ℕ)
+    → ((if is_some (if point then Some 0 else option_map suc earlier) then None
+    else Some (suc place)) >>= λ place. text_at_beginning (drop place (b ∷ text)))
+    ≡ behind point
+    ((if is_some earlier then None else Some place) >>= λ place.
+    text_at_beginning (drop place text))
+unless_earlier b text place true earlier = refl
+unless_earlier b text place false None = refl
+unless_earlier b text place false (Some n) = refl
+
+text_by-suc : (b : ℕ) (text : List ℕ) (o : Option ℕ)
+    → text_by (b ∷ text) (option_map suc o) ≡ behind (is_point (b ∷ text) 0) (text_by text o)
+text_by-suc b text None = none_behind (is_point (b ∷ text) 0)
+text_by-suc b text (Some place) =
+    let first : first_below (is_point (b ∷ text)) (suc place)
+    ≡ (if is_point (b ∷ text) 0 then Some 0
+    else option_map suc (first_below (is_point text) place)) =
+    first_below-suc (is_point (b ∷ text)) place in
+    ap (λ o. (if is_some o then None else Some (suc place)) >>= λ place.
+    text_at_beginning (drop place (b ∷ text))) first
+    ∙ unless_earlier b text place (is_point (b ∷ text) 0) (first_below (is_point text) place)
+
+open_places : (text : List ℕ) (place : ℕ) → may_begin_from true text place ≡ may_begin text place
+open_places text zero = refl
+open_places text (suc place) = refl
+
+same_places : (b : ℕ) (text : List ℕ) (place : ℕ)
+    → may_begin (b ∷ text) (suc place) ≡ may_begin_from (is_sign b) text place
+same_places b text zero = refl
+same_places b text (suc place) = refl
+
+-- where none may begin at the first byte, the rest decides
+missed_first : (open_first : Bool) (b : ℕ) (text : List ℕ)
+    → (open_first && is_some (text_at_beginning (b ∷ text))) ≡ false
+    → text_from open_first (b ∷ text)
+    ≡ behind (is_point (b ∷ text) 0) (text_from (is_sign b) text)
+missed_first open_first b text none =
+    let first : first_below (may_begin_from open_first (b ∷ text)) (suc (length text))
+    ≡ option_map suc
+    (first_below (λ place. may_begin (b ∷ text) (suc place)) (length text)) =
+    first_below-suc (may_begin_from open_first (b ∷ text)) (length text)
+    ∙ behind_first (open_first && is_some (text_at_beginning (b ∷ text))) _ none in
+    let same : (place : ℕ) → may_begin (b ∷ text) (suc place)
+    ≡ may_begin_from (is_sign b) text place =
+    same_places b text in
+    ap (text_by (b ∷ text)) (first ∙ ap (option_map suc)
+    (first_below-same (λ place. may_begin (b ∷ text) (suc place)) (may_begin_from (is_sign b) text)
+    same (length text)))
+    ∙ text_by-suc b text (first_below (may_begin_from (is_sign b) text) (length text))
+
+-- a tag is open at its beginning
+from_open : (text : List ℕ) → text_from true text ≡ text_in_tag text
+unfolding place_in_tag
+from_open text = ap (text_by text) (first_below-same (may_begin_from true text) (may_begin text)
+    (open_places text) (length text))
+
+-- a sign is no digit
+sign_no_digit : (b : ℕ) → is_sign b ≡ true → is_ascii_digit b ≡ false
+sign_no_digit b sign = elim (cases_Bool (is_ascii_digit b)) [ inl digit ↦ cc | inr other ↦ other ]
+
+sign_no_point : (b : ℕ) (text : List ℕ) → is_sign b ≡ true → is_point (b ∷ text) 0 ≡ false
+sign_no_point b text sign = rw (sign_no_digit b sign) refl
+
+-- a byte is passed, unless it is a sign or begins a point
+passed_byte : (sign point : Bool) → (sign ≡ true → point ≡ false) → (text : List ℕ)
+    → text_from false text ≡ (after_sign text >>= text_in_tag)
+    → behind point (text_from sign text)
+    ≡ ((if sign then Some text else (if point then None else after_sign text)) >>= text_in_tag)
+passed_byte true true apart text rest = cc (apart refl)
+passed_byte true false apart text rest = from_open text
+passed_byte false true apart text rest = refl
+passed_byte false false apart text rest = rest
+
+-- what is left decides, from the next sign on
+passed : (text : List ℕ) → text_from false text ≡ (after_sign text >>= text_in_tag)
+passed [] = refl
+passed (b ∷ text) =
+    missed_first false b text refl
+    ∙ passed_byte (is_sign b) (is_point (b ∷ text) 0) (sign_no_point b text) text (passed text)
+
+-- ---- how a tag is read
+
+-- the text at the beginning of a tag is that of the version, if a digit comes first
+pub begun : (tag : List ℕ) → is_some (text_at_beginning tag) ≡ true
+    → text_in_tag tag ≡ text_at_beginning tag
+unfolding place_in_tag
+begun [] h = refl
+begun (b ∷ tag) h =
+    ap (text_by (b ∷ tag)) (first_below-suc (may_begin (b ∷ tag)) (length tag)
+    ∙ at_first (is_some (text_at_beginning (b ∷ tag))) _ h)
+
+-- else what follows the next sign decides
+pub missed : (tag : List ℕ) → is_some (text_at_beginning tag) ≡ false
+    → text_in_tag tag ≡ (after_sign tag >>= text_in_tag)
+missed [] h = sym (from_open [])
+missed (b ∷ tag) h =
+    sym (from_open (b ∷ tag)) ∙ missed_first true b tag h ∙ sym (missed_first false b tag refl)
+    ∙ passed (b ∷ tag)
+
+shorter_byte : (sign point : Bool) (text rest : List ℕ)
+    → (after_sign text ≡ Some rest → length rest < length text)
+    → (if sign then Some text else (if point then None else after_sign text)) ≡ Some rest
+    → length rest < suc (length text)
+shorter_byte true point text rest shorter h =
+    let same : text ≡ rest = cc in
+    omega (arith, ap (λ (l : List ℕ). length l) same)
+shorter_byte false true text rest shorter h = cc
+shorter_byte false false text rest shorter h = omega (arith, shorter h)
+
+-- what follows a sign is shorter
+pub after_sign_shorter : (text rest : List ℕ) → after_sign text ≡ Some rest
+    → length rest < length text
+after_sign_shorter [] rest h = cc
+after_sign_shorter (b ∷ text) rest h =
+    shorter_byte (is_sign b) (is_point (b ∷ text) 0) text rest (after_sign_shorter text rest) h
+
+-- ---- what is read off the text of the version
+
+-- what parses prints the text
+pub prints_text : (whole : Option (List ℕ)) (text : List ℕ) (read : Option VersioningRef)
+    → Some text ≡ whole → option_map plain_versioning_ref read ≡ versioning_of text
+    → IfSome read (λ version. whole ≡ Some (versioning_text (plain_versioning_ref version)))
+prints_text whole text None is e = tt
+prints_text whole text (Some version) is e =
+    let v = plain_versioning_ref version in
+    sym is ∙ ap Some (sym (versioning_printed text v (versioning_of-spells text v (sym e))))
+
+-- ---- prefixes
+
+pub no_prefix : (prefix tag : List ℕ) → bytes_eq (take (length prefix) tag) prefix ≡ false
+    → after_prefix prefix tag ≡ None
+no_prefix prefix tag h = rw h refl
+
+pub with_prefix : (prefix tag rest : List ℕ)
+    → bytes_eq (take (length prefix) tag) prefix ≡ true → rest ≡ drop (length prefix) tag
+    → after_prefix prefix tag ≡ Some rest
+with_prefix prefix tag rest h is = rw (h, is) refl

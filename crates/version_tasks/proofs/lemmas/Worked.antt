@@ -1,0 +1,20 @@
+-- The worked rows, by computation.
+use Rattle.std.proofs.Common.{refl}
+use Rattle.std.specs.Fmt.{digits}
+use Rattle.version_rules.specs.Body.{body_front}
+use Rattle.version_rules.specs.Chunk.{chunk_front_of}
+use Rattle.version_rules.specs.Front.{dotted_front, optional, repeated, run_front}
+use Rattle.version_rules.specs.Last.{numbered_last}
+use Rattle.version_rules.specs.MChunk.{mchunk_front, variant_of}
+use Rattle.version_rules.specs.Mess.{further_front, mess_front, mess_of}
+use Rattle.version_rules.specs.Numeral.{unsigned_front}
+use Rattle.version_rules.specs.SemVer.{semver_front, semver_of}
+use Rattle.version_rules.specs.Version.{epoch_front, version_front, version_of}
+use Rattle.version_tasks.specs.Tag.{place_in_tag}
+use Rattle.version_tasks.specs.Worked.{WorkedRows}
+
+pub worked_rows : WorkedRows
+unfolding place_in_tag body_front chunk_front_of dotted_front optional repeated run_front
+    numbered_last mchunk_front variant_of further_front mess_front mess_of unsigned_front
+    semver_front semver_of epoch_front version_front version_of digits
+worked_rows = record { tags_are = refl; prefixes_are = refl; stabilities_are = refl }

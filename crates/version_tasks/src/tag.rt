@@ -1,0 +1,104 @@
+//! The version in a tag of git, such as `v1.2.3`, `release-1.2.3` or `pkg@1.2.3`. Nothing here allocates.
+
+ghost use Rattle.std.specs.Prelude.{◌≡◌, Some, IfSome};
+ghost use Rattle.std.specs.Option.{option_map};
+ghost use Rattle.version_rules.specs.Versioning.{versioning_text};
+ghost use Rattle.version_tasks.specs.Tag.{is_sign, text_after_prefix, text_at_beginning, text_in_tag, version_after_prefix, version_in_tag, without_v};
+ghost use Rattle.version_tasks.specs.AfterSign.{after_sign};
+ghost use Rattle.version_texts.specs.VersioningRef.{plain_versioning_ref};
+
+use crate::pieces::starts_with_digit;
+use version_texts::VersioningRef;
+
+/// Returns the version in a tag, or in another name of a release. It begins at the first digit that stands at the
+/// beginning of the tag, or after a sign, or after one `v` or `V` that stands so; it is the rest of the tag from that
+/// digit on. A sign is any byte that is neither a letter, a digit nor a dot; each byte past ASCII is one. Returns None
+/// if there is no such digit, if a dot between two digits stands before it, or if the rest is no version. Does not
+/// allocate.
+///
+/// | tag | version |
+/// |---|---|
+/// | `v1.2.3`, `release-1.2.3`, `pkg@1.2.3` | `1.2.3` |
+/// | `OpenSSL_1_1_1k` | `1_1_1k` |
+/// | `go1.20.3`: its digits follow a letter | none |
+/// | `x1.0-2`: a dot between two digits stands before the `2` | none |
+pub fn version_in_tag(tag: &[u8]) -> Option<VersioningRef<'_>>
+    ensures version { option_map plain_versioning_ref result ≡ version_in_tag tag.now }
+    ensures text { IfSome result (λ version. text_in_tag tag.now
+        ≡ Some (versioning_text (plain_versioning_ref version))) }
+{
+    VersioningRef::from_bytes(text_in_tag(tag)?)
+}
+
+/// Returns the version that follows a prefix in a tag: of `go1.20.3` with the prefix `go` it is `1.20.3`. It is the
+/// whole rest of the tag, without the one `v` or `V` that may stand before it. Returns None if the tag does not begin
+/// with the prefix, byte by byte, or if the rest is no version. Does not allocate.
+pub fn version_after_prefix<'a>(prefix: &[u8], tag: &'a [u8]) -> Option<VersioningRef<'a>>
+    ensures version { option_map plain_versioning_ref result
+        ≡ version_after_prefix prefix.now tag.now }
+    ensures text { IfSome result (λ version. text_after_prefix prefix.now tag.now
+        ≡ Some (versioning_text (plain_versioning_ref version))) }
+{
+    VersioningRef::from_bytes(text_at_beginning(tag.strip_prefix(prefix)?)?)
+}
+
+// The rest of a tag from the digit on where its version begins.
+fn text_in_tag(tag: &[u8]) -> Option<&[u8]>
+    ensures { option_map (λ text. text.now) result ≡ text_in_tag tag.now }
+{
+    let mut left = tag;
+    'words: loop {
+        let text = text_at_beginning(left);
+        if text.is_some() {
+            return text;
+        }
+        left = after_sign(left)?;
+    }
+}
+
+// A text without the one `v` or `V` that it may begin with, if it begins with a digit then.
+fn text_at_beginning(text: &[u8]) -> Option<&[u8]>
+    ensures { option_map (λ text. text.now) result ≡ text_at_beginning text.now }
+{
+    let text = without_v(text);
+    if starts_with_digit(text) {
+        Some(text)
+    } else {
+        None
+    }
+}
+
+// A text without the one `v` or `V` that it may begin with.
+fn without_v(text: &[u8]) -> &[u8]
+    ensures { result.now ≡ without_v text.now }
+{
+    match text {
+        [b'v' | b'V', rest @ ..] => rest,
+        _ => text,
+    }
+}
+
+// What follows the first sign of a text, or None if there is none, or if a dot between two digits stands before it.
+fn after_sign(text: &[u8]) -> Option<&[u8]>
+    ensures { option_map (λ rest. rest.now) result ≡ after_sign text.now }
+{
+    let mut left = text;
+    'bytes: loop {
+        match left {
+            [] | [b'0'..=b'9', b'.', b'0'..=b'9', ..] => return None,
+            [first, rest @ ..] => {
+                if is_sign(*first) {
+                    return Some(rest);
+                }
+                left = rest;
+            }
+        }
+    }
+}
+
+// Whether a byte is neither a letter, a digit nor a dot.
+fn is_sign(byte: u8) -> bool
+    ensures { result ≡ is_sign byte }
+{
+    !(byte.is_ascii_alphanumeric() || byte == b'.')
+}
