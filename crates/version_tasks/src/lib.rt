@@ -12,4 +12,4 @@ mod tag;
 
 pub use newest::{Candidates, Texts, Wanted, newest_of};
 pub use stability::{Stability, stability_of};
-pub use tag::{version_after_prefix, version_in_tag};
+pub use tag::{start_after_prefix, start_in_tag, version_after_prefix, version_in_tag};

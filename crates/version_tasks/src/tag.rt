@@ -1,6 +1,6 @@
 //! The version in a tag of git, such as `v1.2.3`, `release-1.2.3` or `pkg@1.2.3`. Nothing here allocates.
 
-ghost use Rattle.std.specs.Prelude.{◌≡◌, Some, IfSome};
+ghost use Rattle.std.specs.Prelude.{◌≡◌, ◌<◌, drop, length, Some, IfSome};
 ghost use Rattle.std.specs.Option.{option_map};
 ghost use Rattle.version_rules.specs.Versioning.{versioning_text};
 ghost use Rattle.version_tasks.specs.Tag.{is_sign, text_after_prefix, text_at_beginning, text_in_tag, version_after_prefix, version_in_tag, without_v};
@@ -40,6 +40,31 @@ pub fn version_after_prefix<'a>(prefix: &[u8], tag: &'a [u8]) -> Option<Versioni
         ≡ Some (versioning_text (plain_versioning_ref version))) }
 {
     VersioningRef::from_bytes(text_at_beginning(tag.strip_prefix(prefix)?)?)
+}
+
+/// Returns where the version in a tag begins, as `version_in_tag` finds it: at a place from which on the rest of the tag
+/// is the version. None if there is none. Does not allocate.
+pub fn start_in_tag(tag: &[u8]) -> Option<usize>
+    ensures version { option_map (λ start. drop start tag.now) result
+        ≡ option_map versioning_text (version_in_tag tag.now) }
+    ensures text { IfSome result (λ start. text_in_tag tag.now ≡ Some (drop start tag.now)) }
+    ensures within { IfSome result (λ start. start < length tag.now) }
+{
+    let version = version_in_tag(tag)?;
+    Some(tag.len() - version.text().len())
+}
+
+/// Returns where the version after a prefix of a tag begins, as `version_after_prefix` finds it. None if there is none.
+/// Does not allocate.
+pub fn start_after_prefix(prefix: &[u8], tag: &[u8]) -> Option<usize>
+    ensures version { option_map (λ start. drop start tag.now) result
+        ≡ option_map versioning_text (version_after_prefix prefix.now tag.now) }
+    ensures text { IfSome result (λ start. text_after_prefix prefix.now tag.now
+        ≡ Some (drop start tag.now)) }
+    ensures within { IfSome result (λ start. start < length tag.now) }
+{
+    let version = version_after_prefix(prefix, tag)?;
+    Some(tag.len() - version.text().len())
 }
 
 // The rest of a tag from the digit on where its version begins.

@@ -1,4 +1,5 @@
 -- The version in a tag, sign by sign.
+pub mod Starts
 use Rattle.std.proofs.lemmas.Bool.{cases_Bool}
 use Rattle.std.proofs.Common.{◌≡◌, ◌<◌, ◌&&◌, ◌∙◌, if◌then◌else◌, ℕ, zero, suc, Bool, true, false, List, [], ◌∷◌, drop, length, take, Option, Some, None, refl, sym, ap, arith, inl, inr}
 use Rattle.std.specs.Char.{is_ascii_digit}
