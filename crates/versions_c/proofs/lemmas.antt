@@ -1,4 +1,6 @@
 pub mod Keys
 pub mod Matching
+pub mod Newest
 pub mod Ranges
 pub mod Sorting
+pub mod Tags

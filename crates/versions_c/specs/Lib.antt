@@ -2,8 +2,11 @@ pub mod Fields
 pub mod Keys
 pub mod Kinds
 pub mod Matching
+pub mod Newest
 pub mod Numbers
 pub mod Offsets
 pub mod Order
 pub mod Ranges
 pub mod Sorting
+pub mod Stabilities
+pub mod Tags

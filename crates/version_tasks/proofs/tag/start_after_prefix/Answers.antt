@@ -19,7 +19,8 @@ pub returns-clause-text : goal.returns-clause-text
 returns-clause-text c =
     c.in_ok-version.ensures.text
     ∙ sym (rw c.text.ensures.printed
-    (ap Some (after_prefix_rest c.args.prefix.now c.args.tag.now _ c.in_ok-version.ensures.text).is))
+    (ap Some
+    (after_prefix_rest c.args.prefix.now c.args.tag.now _ c.in_ok-version.ensures.text).is))
 
 pub returns-clause-within : goal.returns-clause-within
 returns-clause-within c =
