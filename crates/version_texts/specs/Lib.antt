@@ -1,4 +1,5 @@
 pub mod Class
+pub mod Difference
 pub mod EndOrder
 pub mod Field
 pub mod KeyTies

@@ -1,4 +1,5 @@
 //! Laws of the definitions that contracts cite. Each is the contract of a function that does nothing.
 
+mod differences;
 mod keys;
 mod kinds;

@@ -5,6 +5,7 @@
 #![tactic(auto)]
 
 mod class;
+mod difference;
 mod end_order;
 mod field;
 mod key;
@@ -26,6 +27,7 @@ mod sink;
 mod sinks;
 mod versioning_ref;
 
+pub use difference::Difference;
 pub use field::Field;
 pub use key_ties::{compare_key_ties, mark_kind, marked_kind, marked_number};
 pub use range_ref::{Bound, RangeRef};

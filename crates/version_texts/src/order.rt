@@ -67,7 +67,7 @@ fn epoch(text: &[u8], shape: Shape) -> &[u8]
 
 // Compares two tails, by their ranks and then by what they hold.
 #[inline(always)]
-fn compare_tails(a: &[u8], a_shape: Shape, b: &[u8], b_shape: Shape) -> Ordering
+pub(crate) fn compare_tails(a: &[u8], a_shape: Shape, b: &[u8], b_shape: Shape) -> Ordering
     requires a_fits { Fits a.now a_shape }
     requires b_fits { Fits b.now b_shape }
     ensures { result

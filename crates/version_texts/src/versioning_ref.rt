@@ -9,6 +9,7 @@ ghost use Rattle.version_texts.specs.Sinks.{saturated};
 ghost use Rattle.version_rules.specs.Kind.{versioning_kind};
 ghost use Rattle.version_rules.specs.Versioning.{kind_rank, PlainVersioning};
 
+use crate::difference::{Difference, key_difference};
 use crate::end_order::compare_ends;
 use crate::field::Field;
 use crate::order::piece::through_dot;
@@ -43,6 +44,7 @@ impl<'a> VersioningRef<'a> {
     ghost use Rattle.version_rules.specs.KeyBytes.{key_bytes};
     ghost use Rattle.version_rules.specs.Range.{has_kind, AreBetween};
     ghost use Rattle.version_rules.specs.Versioning.{is_prerelease, versioning_nth, versioning_of, versioning_plain_cmp, versioning_text};
+    ghost use Rattle.version_texts.specs.Difference.{difference_of};
     ghost use Rattle.version_texts.specs.Field.{field_place};
     ghost use Rattle.version_texts.specs.Sinks.{is_between, put_at, saturated};
     ghost use Rattle.version_texts.specs.VersioningRef.{major_text, plain_versioning_ref};
@@ -149,6 +151,24 @@ impl<'a> VersioningRef<'a> {
             (key_of (plain_versioning_ref other.now)) }
     {
         order::compare(self.text, self.shape, other.text, other.shape)
+    }
+
+    /// Returns where two versions of any kind differ first, in what the order compares: in their epochs, in a part, or
+    /// in their tails. A version whose parts end differs there from one that has more, as `1.2` in part 2 from `1.2.0`.
+    /// `Same` and `Tie` come exactly where `precedence` is `Equal`: `Same` where `==` holds, otherwise `Tie`. Does not
+    /// allocate.
+    pub fn difference(&self, other: &VersioningRef<'_>) -> Difference
+        ensures { result ≡ difference_of (plain_versioning_ref self.now)
+            (plain_versioning_ref other.now) }
+    {
+        if let Some(difference) = key_difference(self.text, self.shape, other.text, other.shape) {
+            return difference;
+        }
+        if self == other {
+            Difference::Same
+        } else {
+            Difference::Tie
+        }
     }
 
     /// Appends the bytes of its key to a list. `Err` means allocation failure; the list then ends with a prefix of the

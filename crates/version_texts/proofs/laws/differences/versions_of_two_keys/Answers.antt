@@ -1,0 +1,5 @@
+use Rattle.version_texts.proofs.lemmas.Difference.Laws.{epoch_law, part_law, tail_law}
+use Rattle.version_texts.proofs.laws.differences.versions_of_two_keys.Goals as goal
+
+pub returns : goal.returns
+returns c = record { epoch = epoch_law; part = part_law; tail = tail_law }
