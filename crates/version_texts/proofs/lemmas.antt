@@ -1,6 +1,7 @@
 pub mod Class
 pub mod Difference
 pub mod EndOrder
+pub mod EpochAndParts
 pub mod Field
 pub mod General
 pub mod KeyTies

@@ -1,13 +1,14 @@
 -- The fields of a version that are pieces of its text, and where they lie in it.
-use Rattle.std.specs.Prelude.{◌+◌, ℕ, List, [], ◌∷◌, ◌++◌, length, Option, None}
+use Rattle.std.specs.Prelude.{◌+◌, ℕ, List, [], ◌∷◌, ◌++◌, length, Option, Some, None}
 use Rattle.std.specs.Fmt.{decimal}
 use Rattle.std.specs.Option.{option_map}
+use Rattle.version_rules.specs.Body.{body_text}
 use Rattle.version_rules.specs.Bytes.{hyphen, plus}
 use Rattle.version_rules.specs.Release.{release_text}
 use Rattle.version_rules.specs.Key.{mess_epoch}
 use Rattle.version_rules.specs.Mess.{joined_section}
 use Rattle.version_rules.specs.SemVer.{PlainSemVer, semver_text}
-use Rattle.version_rules.specs.Version.{PlainVersion, version_text}
+use Rattle.version_rules.specs.Version.{PlainVersion, epoch_text, version_text}
 use Rattle.version_rules.specs.Versioning.{PlainVersioning, Ideal, General, Complex}
 use Rattle.version_texts.specs.declared.field.Field.{Field}
 use Rattle.version_texts.specs.declared.field.Field.TheVariants.{Epoch, PreRelease, Release, Metadata}
@@ -55,3 +56,10 @@ place_behind before text = (length before, length before + length text)
 -- where a field lies in the text of a version, if the version has it
 abbrev pub field_place : Field → PlainVersioning → Option (ℕ × ℕ)
 field_place f v = option_map (place_behind (text_before f v)) (field_text f v)
+
+-- the text of the epoch with its colon, which is empty without an epoch, and that of the parts with
+-- dots between them; None of a messy version
+abbrev pub epoch_and_parts : PlainVersioning → Option (List ℕ × List ℕ)
+epoch_and_parts (Ideal v) = Some ([], semver_text (numbers_alone v))
+epoch_and_parts (General v) = Some (epoch_text v.epoch, body_text (v.chunks, v.last))
+epoch_and_parts (Complex m) = None

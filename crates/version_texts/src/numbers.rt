@@ -11,7 +11,7 @@ ghost use Rattle.version_texts.specs.VersioningRef.{version_in};
 
 use crate::class::{Class, split_run};
 use crate::key::body_at;
-use crate::numeral::{numeral, small_number};
+use crate::numeral::{numeral_value, small_number};
 use crate::order::piece::{behind_first, split_piece};
 use crate::order::section::split_section;
 use crate::shape::Shape;
@@ -49,8 +49,9 @@ fn chunk_number(section: &[u8], n: usize) -> Option<u32>
     small_number(chunk)
 }
 
-// The text from its piece at a place on, or None if it does not have so many pieces.
-fn from_piece(text: &[u8], n: usize) -> Option<&[u8]>
+/// Returns a text from its piece at a place on, counted from 0: dots divide it into pieces. None if it does not have so
+/// many. Does not allocate.
+pub fn from_piece(text: &[u8], n: usize) -> Option<&[u8]>
     ensures { pieces_left result ≡ drop n (pieces text.now) }
 {
     let mut left = text;
@@ -93,7 +94,7 @@ fn last_number(part: &[u8]) -> Option<u32>
     let (digits, rest) = split_run(part, Class::Digit);
     let (_, end) = split_run(rest, Class::Letter);
     if !end.is_empty() {
-        numeral(end)?;
+        numeral_value(end)?;
     }
-    numeral(digits)
+    numeral_value(digits)
 }

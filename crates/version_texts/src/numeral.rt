@@ -65,7 +65,7 @@ pub fn spells_numeral(text: &[u8]) -> bool
 }
 
 /// Returns the value of a numeral, and None for any other text.
-pub fn numeral(text: &[u8]) -> Option<u32>
+pub fn numeral_value(text: &[u8]) -> Option<u32>
     ensures { result ≡ numeral_value text.now }
 {
     if is_digits(text) && is_numeral(text) {

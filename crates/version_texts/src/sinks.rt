@@ -16,10 +16,10 @@ use crate::sink::Sink;
 use std::cmp::Ordering;
 use version_rules::End;
 
-// A count of bytes. Past the largest number it stays there.
+/// A count of bytes. Past the largest number it stays there.
 #[derive(Drop)]
-pub(crate) struct Count {
-    pub(crate) length: usize,
+pub struct Count {
+    pub length: usize,
 }
 
 impl Sink for Count {
@@ -41,20 +41,20 @@ impl Sink for Count {
 }
 
 impl Count {
-    // The count.
+    /// Returns the count. Does not allocate.
     #[inline(always)]
-    pub(crate) fn length(&self) -> usize
+    pub fn length(&self) -> usize
         ensures { result ≡ count_with self.now [] }
     {
         self.length
     }
 }
 
-// A buffer and the place after the bytes written. Bytes that do not fit are only counted.
+/// A buffer and the place after the bytes written. Bytes that do not fit are only counted.
 #[derive(Drop)]
-pub(crate) struct Room<'a> {
-    pub(crate) room: &'a mut [u8],
-    pub(crate) end: usize,
+pub struct Room<'a> {
+    pub room: &'a mut [u8],
+    pub end: usize,
 }
 
 impl<'a> Sink for Room<'a> {
@@ -81,9 +81,9 @@ impl<'a> Sink for Room<'a> {
 }
 
 impl<'a> Room<'a> {
-    // The place after the bytes written.
+    /// Returns the place after the bytes written. Does not allocate.
     #[inline(always)]
-    pub(crate) fn end(&self) -> usize
+    pub fn end(&self) -> usize
         ensures { result ≡ saturated self.now.end }
     {
         self.end

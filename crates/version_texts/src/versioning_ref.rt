@@ -45,7 +45,7 @@ impl<'a> VersioningRef<'a> {
     ghost use Rattle.version_rules.specs.Range.{has_kind, AreBetween};
     ghost use Rattle.version_rules.specs.Versioning.{is_prerelease, versioning_nth, versioning_of, versioning_plain_cmp, versioning_text};
     ghost use Rattle.version_texts.specs.Difference.{difference_of};
-    ghost use Rattle.version_texts.specs.Field.{field_place};
+    ghost use Rattle.version_texts.specs.Field.{epoch_and_parts, field_place};
     ghost use Rattle.version_texts.specs.Sinks.{is_between, put_at, saturated};
     ghost use Rattle.version_texts.specs.VersioningRef.{major_text, plain_versioning_ref};
 
@@ -141,6 +141,18 @@ impl<'a> VersioningRef<'a> {
             Field::Release if tail == TailKind::Release => Some((end + 1, tail_end)),
             Field::Metadata if tail_end < self.text.len() => Some((tail_end + 1, self.text.len())),
             _ => None,
+        }
+    }
+
+    /// Returns the text of its epoch with the colon, which is empty without an epoch, and the text of its parts with
+    /// dots between them. None of a messy version. Does not allocate.
+    pub fn epoch_and_parts(&self) -> Option<(&'a [u8], &'a [u8])>
+        ensures { option_map (λ texts. (texts.0.now, texts.1.now)) result
+            ≡ epoch_and_parts (plain_versioning_ref self.now) }
+    {
+        match self.shape.kind {
+            Kind::Complex => None,
+            _ => Some(self.text[..self.shape.end].split_at(self.shape.body)),
         }
     }
 

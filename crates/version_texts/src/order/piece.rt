@@ -17,9 +17,9 @@ pub(crate) fn piece_is_empty(text: &[u8]) -> bool
     }
 }
 
-// The first piece of a text, and what follows it.
+/// Returns the first piece of a text that dots divide, and what follows it. Does not allocate.
 #[inline(always)]
-pub(crate) fn split_piece(text: &[u8]) -> (&[u8], &[u8])
+pub fn split_piece(text: &[u8]) -> (&[u8], &[u8])
     ensures piece { result.0.now ≡ first_piece text.now }
     ensures rest { result.1.now ≡ behind_piece text.now }
 {

@@ -3,8 +3,8 @@ use Rattle.std.proofs.lemmas.Bool.{lt-ltb}
 use Rattle.std.specs.Str.Parse.{digits_value}
 use Rattle.version_texts.proofs.lemmas.TextKind.Chunks.{numeral_spells}
 use Rattle.version_texts.proofs.lemmas.TextKind.Numeral.{no_numeral}
-use Rattle.version_texts.proofs.numeral.numeral.Goals.{else-is_digits-via-then-is_digits+else-is_numeral, else-is_digits-via-else-is_digits}
-use Rattle.version_texts.proofs.numeral.numeral.Goals as goal
+use Rattle.version_texts.proofs.numeral.numeral_value.Goals.{else-is_digits-via-then-is_digits+else-is_numeral, else-is_digits-via-else-is_digits}
+use Rattle.version_texts.proofs.numeral.numeral_value.Goals as goal
 
 pub returns-then-is_numeral : goal.returns-then-is_numeral
 returns-then-is_numeral c =
