@@ -7,7 +7,7 @@ ghost use Rattle.version_rules.specs.Tail.{sections_cmp};
 ghost use Rattle.version_texts.specs.TextKey.{lists_of, parts_of, sections_of};
 
 use crate::class::{Class, begins_with};
-use crate::order::digits::compare_numbers;
+use crate::order::digits::compare_if_numbers;
 use crate::order::ends::Ends;
 use crate::order::part::compare_parts_to;
 use crate::order::piece::{after_dot, behind_first};
@@ -58,12 +58,9 @@ fn pass_common<'a>(x: &'a [u8], y: &'a [u8]) -> Option<(&'a [u8], &'a [u8])>
 fn compare_first_numbers(x: &[u8], y: &[u8]) -> Option<Ordering>
     ensures { IfSome result (λ order. order ≡ list_cmp (parts_of x.now) (parts_of y.now)) }
 {
-    if !begins_with(x, Class::Digit) || !begins_with(y, Class::Digit) {
-        return None;
-    }
-    let numbers = compare_numbers(x, y);
-    if numbers.order != Ordering::Equal {
-        return Some(numbers.order);
+    let order = compare_if_numbers(x, y)?;
+    if order != Ordering::Equal {
+        return Some(order);
     }
     None
 }

@@ -25,8 +25,6 @@ numbers_decide x y o is_number is_too is other =
 
 pub returns-then-ne : goal.returns-then-ne
 returns-then-ne c =
-    numbers_decide c.args.x.now c.args.y.now c.compare_numbers-numbers.result.order
-    (sym c.begins_with.ensures ∙ c.if-not-begins_with.false)
-    (sym c.begins_with-else-not-begins_with.ensures ∙ c.if-not-begins_with-2.false)
-    c.compare_numbers-numbers.ensures.order
+    let numbers = c.in_ok-order.ensures in
+    numbers_decide c.args.x.now c.args.y.now c.in_ok-order.order numbers.0 numbers.1 numbers.2
     (sym c.if-ne.true ∙ c.ne.ensures)
