@@ -18,6 +18,7 @@ pub(crate) mod run;
 pub(crate) mod section;
 pub(crate) mod ties;
 
+use crate::key::{body_at, epoch_at, tail_at};
 use crate::order::digits::compare_numbers;
 use crate::order::list::{compare_parts, compare_sections};
 use crate::order::release::compare_releases;
@@ -34,7 +35,7 @@ pub fn compare(a: &[u8], a_shape: Shape, b: &[u8], b_shape: Shape) -> Ordering
     if epochs != Ordering::Equal {
         return epochs;
     }
-    let bodies = compare_parts(&a[a_shape.body..a_shape.end], &b[b_shape.body..b_shape.end]);
+    let bodies = compare_parts(body_at(a, a_shape), body_at(b, b_shape));
     if bodies != Ordering::Equal {
         return bodies;
     }
@@ -53,16 +54,7 @@ pub(crate) fn compare_epochs(a: &[u8], a_shape: Shape, b: &[u8], b_shape: Shape)
     if a_shape.body == 0 && b_shape.body == 0 {
         return Ordering::Equal;
     }
-    compare_numbers(epoch(a, a_shape), epoch(b, b_shape)).order
-}
-
-// The digits of an epoch. None if there is no epoch.
-#[inline(always)]
-fn epoch(text: &[u8], shape: Shape) -> &[u8]
-    requires { Fits text.now shape }
-    ensures { result.now ≡ epoch_in text.now shape }
-{
-    &text[..shape.body.saturating_sub(1)]
+    compare_numbers(epoch_at(a, a_shape), epoch_at(b, b_shape)).order
 }
 
 // Compares two tails, by their ranks and then by what they hold.
@@ -77,21 +69,11 @@ pub(crate) fn compare_tails(a: &[u8], a_shape: Shape, b: &[u8], b_shape: Shape) 
     match (a_shape.tail, b_shape.tail) {
         (TailKind::Nothing, TailKind::Nothing) => Ordering::Equal,
         (TailKind::PreRelease, TailKind::PreRelease) | (TailKind::Release, TailKind::Release) => {
-            compare_releases(tail(a, a_shape), tail(b, b_shape))
+            compare_releases(tail_at(a, a_shape), tail_at(b, b_shape))
         }
         (TailKind::Sections, TailKind::Sections) => {
-            compare_sections(tail(a, a_shape), tail(b, b_shape))
+            compare_sections(tail_at(a, a_shape), tail_at(b, b_shape))
         }
         (kind, other) => kind.rank().cmp(&other.rank()),
     }
-}
-
-// The text of a tail.
-#[inline(always)]
-fn tail(text: &[u8], shape: Shape) -> &[u8]
-    requires fits { Fits text.now shape }
-    requires some { shape.end < shape.tail_end }
-    ensures { result.now ≡ tail_in text.now shape }
-{
-    &text[shape.end + 1..shape.tail_end]
 }

@@ -6,6 +6,7 @@ ghost use Rattle.version_texts.specs.TextKey.{pieces};
 ghost use Rattle.version_texts.specs.Ties.{byte_place, general_tie, is_lettered, is_numbered, last_tie, messy_tie, parts_tie};
 
 use crate::class::{Class, begins_with, split_run};
+use crate::key::body_at;
 use crate::numeral::spells_numeral;
 use crate::order::piece::{behind_first, split_piece};
 use crate::shape::Shape;
@@ -22,7 +23,7 @@ pub(crate) fn compare_general(a: &[u8], a_shape: Shape, b: &[u8], b_shape: Shape
     if epochs != Ordering::Equal {
         return epochs;
     }
-    let parts = compare_bodies(&a[a_shape.body..a_shape.end], &b[b_shape.body..b_shape.end]);
+    let parts = compare_bodies(body_at(a, a_shape), body_at(b, b_shape));
     if parts != Ordering::Equal {
         return parts;
     }

@@ -15,6 +15,6 @@ value_of_all digits text e all =
 
 pub returns : goal.returns
 returns c =
-    let first = value_of_all _ _ c.epoch.ensures c.requires.a_fits.epoch_is in
-    let second = value_of_all _ _ c.epoch-2.ensures c.requires.b_fits.epoch_is in
+    let first = value_of_all _ _ c.epoch_at.ensures c.requires.a_fits.epoch_is in
+    let second = value_of_all _ _ c.epoch_at-2.ensures c.requires.b_fits.epoch_is in
     c.compare_numbers.ensures.order ∙ (λ i. nat_cmp (first i) (second i))
