@@ -24,26 +24,14 @@ pub(crate) fn compare_numbers<'t>(x: &'t [u8], y: &'t [u8]) -> Compared<'t>
     let (mut a, mut b) = (without_zeros(x), without_zeros(y));
     'digits: loop {
         let Some((digit, rest)) = split_digit(a) else {
-            return Compared {
-                order: false.cmp(&begins_with(b, Class::Digit)),
-                rest: a,
-                other_rest: b,
-            };
+            return Compared::new(false.cmp(&begins_with(b, Class::Digit)), a, b);
         };
         let Some((other, other_rest)) = split_digit(b) else {
-            return Compared {
-                order: Ordering::Greater,
-                rest: a,
-                other_rest: b,
-            };
+            return Compared::new(Ordering::Greater, a, b);
         };
         if digit != other {
             let order = compare_lengths(rest, other_rest).then(digit.cmp(&other));
-            return Compared {
-                order,
-                rest: a,
-                other_rest: b,
-            };
+            return Compared::new(order, a, b);
         }
         a = rest;
         b = other_rest;

@@ -46,16 +46,8 @@ pub(crate) fn compare_parts_to<'a>(ends: Ends, a: &'a [u8], b: &'a [u8]) -> Comp
             }
             compare_suffixes(ends, numbers.rest, numbers.other_rest)
         }
-        (true, false) => Compared {
-            order: Ordering::Greater,
-            rest: a,
-            other_rest: b,
-        },
-        (false, true) => Compared {
-            order: Ordering::Less,
-            rest: a,
-            other_rest: b,
-        },
+        (true, false) => Compared::new(Ordering::Greater, a, b),
+        (false, true) => Compared::new(Ordering::Less, a, b),
         (false, false) => compare_words(ends, a, b),
     }
 }
@@ -72,21 +64,9 @@ fn compare_suffixes<'a>(ends: Ends, a: &'a [u8], b: &'a [u8]) -> Compared<'a>
 {
     match (Run::Part(ends).begins(a), Run::Part(ends).begins(b)) {
         (true, true) => compare_words(ends, a, b),
-        (true, false) => Compared {
-            order: Ordering::Less,
-            rest: a,
-            other_rest: b,
-        },
-        (false, true) => Compared {
-            order: Ordering::Greater,
-            rest: a,
-            other_rest: b,
-        },
-        (false, false) => Compared {
-            order: Ordering::Equal,
-            rest: a,
-            other_rest: b,
-        },
+        (true, false) => Compared::new(Ordering::Less, a, b),
+        (false, true) => Compared::new(Ordering::Greater, a, b),
+        (false, false) => Compared::new(Ordering::Equal, a, b),
     }
 }
 
@@ -128,21 +108,9 @@ fn compare_numbered<'a>(ends: Ends, a: &'a [u8], b: &'a [u8]) -> Compared<'a>
             }
             compare_texts(ends, numbers.rest, numbers.other_rest)
         }
-        (true, false) => Compared {
-            order: Ordering::Greater,
-            rest: a,
-            other_rest: b,
-        },
-        (false, true) => Compared {
-            order: Ordering::Less,
-            rest: a,
-            other_rest: b,
-        },
-        (false, false) => Compared {
-            order: Ordering::Equal,
-            rest: a,
-            other_rest: b,
-        },
+        (true, false) => Compared::new(Ordering::Greater, a, b),
+        (false, true) => Compared::new(Ordering::Less, a, b),
+        (false, false) => Compared::new(Ordering::Equal, a, b),
     }
 }
 

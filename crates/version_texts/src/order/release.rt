@@ -52,27 +52,15 @@ fn compare_first_chunks<'a>(a: &'a [u8], b: &'a [u8]) -> Compared<'a>
 {
     let numbers = compare_numbers(a, b);
     match numbers.order {
-        Ordering::Greater => Compared {
-            order: compare_greater(a, b),
-            ..numbers
-        },
-        Ordering::Less => Compared {
-            order: compare_greater(b, a).reverse(),
-            ..numbers
-        },
+        Ordering::Greater => Compared::new(compare_greater(a, b), a, b),
+        Ordering::Less => Compared::new(compare_greater(b, a).reverse(), a, b),
         Ordering::Equal => match (
             piece_is_empty(numbers.rest),
             piece_is_empty(numbers.other_rest),
         ) {
             (true, true) => numbers,
-            (true, false) => Compared {
-                order: Ordering::Less,
-                ..numbers
-            },
-            (false, true) => Compared {
-                order: Ordering::Greater,
-                ..numbers
-            },
+            (true, false) => Compared::new(Ordering::Less, a, b),
+            (false, true) => Compared::new(Ordering::Greater, a, b),
             (false, false) => compare_texts(Ends::Dots, a, b),
         },
     }

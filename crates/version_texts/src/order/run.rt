@@ -17,6 +17,22 @@ pub(crate) struct Compared<'t> {
     pub other_rest: &'t [u8],
 }
 
+impl<'t> Compared<'t> {
+    // An order, and what follows.
+    #[inline(always)]
+    pub(crate) fn new(order: Ordering, rest: &'t [u8], other_rest: &'t [u8]) -> Compared<'t>
+        ensures order { result.order ≡ order }
+        ensures rest { result.rest.now ≡ rest.now }
+        ensures other_rest { result.other_rest.now ≡ other_rest.now }
+    {
+        Compared {
+            order,
+            rest,
+            other_rest,
+        }
+    }
+}
+
 // Compares the runs at the starts of two texts by bytes. A prefix comes before the longer run.
 #[inline(always)]
 pub(crate) fn compare_runs<'t>(x: &'t [u8], y: &'t [u8], run: Run) -> Compared<'t>
@@ -37,25 +53,9 @@ pub(crate) fn compare_runs<'t>(x: &'t [u8], y: &'t [u8], run: Run) -> Compared<'
     }
     let (rest, other_rest) = (&x[place..], &y[place..]);
     match (run.begins(rest), run.begins(other_rest)) {
-        (true, true) => Compared {
-            order: x[place].cmp(&y[place]),
-            rest,
-            other_rest,
-        },
-        (true, false) => Compared {
-            order: Ordering::Greater,
-            rest,
-            other_rest,
-        },
-        (false, true) => Compared {
-            order: Ordering::Less,
-            rest,
-            other_rest,
-        },
-        (false, false) => Compared {
-            order: Ordering::Equal,
-            rest,
-            other_rest,
-        },
+        (true, true) => Compared::new(x[place].cmp(&y[place]), rest, other_rest),
+        (true, false) => Compared::new(Ordering::Greater, rest, other_rest),
+        (false, true) => Compared::new(Ordering::Less, rest, other_rest),
+        (false, false) => Compared::new(Ordering::Equal, rest, other_rest),
     }
 }

@@ -102,7 +102,7 @@ returns-then-digit-other-clause-order c =
     let v = c.in-Some-split_digit.other_rest.now in
     let decides = unequal_first (nat_cmp d e) (bytes_cmp (digits u) (digits v))
     (λ same. c.if-digit-other.true (exact_unsigned d e same)) in
-    c.then-order.ensures
+    c.new-then-digit-other.ensures.order ∙ c.then-order.ensures
     ∙ (λ i. ordering_then (c.compare_lengths.ensures i) (c.cmp-then-digit-other.ensures i))
     ∙ ap (ordering_then (nat_cmp (prefix_len is_ascii_digit u) (prefix_len is_ascii_digit v)))
     (sym decides)

@@ -54,10 +54,10 @@ returns-in-false-false-clause-order c =
 
 pub returns-in-true-false-clause-order : goal.returns-in-true-false-clause-order
 returns-in-true-false-clause-order c =
-    sym (number_above_word (end_of c.args.ends) (digit_no_end c.args.ends) c.args.a.now c.args.b.now
+    c.new.ensures.order ∙ sym (number_above_word (end_of c.args.ends) (digit_no_end c.args.ends) c.args.a.now c.args.b.now
     (sym c.in-true-false.ensures) (sym c.in-true-false.ensures'))
 
 pub returns-in-false-true-clause-order : goal.returns-in-false-true-clause-order
 returns-in-false-true-clause-order c =
-    sym (word_below_number (end_of c.args.ends) (digit_no_end c.args.ends) c.args.a.now c.args.b.now
+    c.new-in-false-true.ensures.order ∙ sym (word_below_number (end_of c.args.ends) (digit_no_end c.args.ends) c.args.a.now c.args.b.now
     (sym c.in-false-true.ensures) (sym c.in-false-true.ensures'))

@@ -19,7 +19,7 @@ returns-in-true-false-clause-order c =
     (sym c.in-true-false.ensures) in
     let second = no_suffix (end_of c.args.ends) c.args.b.now
     (sym c.in-true-false.ensures') in
-    sym (λ i. none_last_cmp split_cmp (first i) (second i))
+    c.new.ensures.order ∙ sym (λ i. none_last_cmp split_cmp (first i) (second i))
 
 pub returns-in-false-true-clause-order : goal.returns-in-false-true-clause-order
 returns-in-false-true-clause-order c =
@@ -27,7 +27,7 @@ returns-in-false-true-clause-order c =
     (sym c.in-false-true.ensures) in
     let second = some_suffix (end_of c.args.ends) c.args.b.now
     (sym c.in-false-true.ensures') in
-    sym (λ i. none_last_cmp split_cmp (first i) (second i))
+    c.new-in-false-true.ensures.order ∙ sym (λ i. none_last_cmp split_cmp (first i) (second i))
 
 pub returns-in-false-false-clause-order : goal.returns-in-false-false-clause-order
 returns-in-false-false-clause-order c =
@@ -35,14 +35,14 @@ returns-in-false-false-clause-order c =
     (sym c.in-false-false.ensures) in
     let second = no_suffix (end_of c.args.ends) c.args.b.now
     (sym c.in-false-false.ensures') in
-    sym (λ i. none_last_cmp split_cmp (first i) (second i))
+    c.new-in-false-false.ensures.order ∙ sym (λ i. none_last_cmp split_cmp (first i) (second i))
 
 pub returns-in-false-false-clause-rest : goal.returns-in-false-false-clause-rest
 returns-in-false-false-clause-rest c e =
-    sym (no_bytes (end_of c.args.ends) c.args.a.now
+    c.new-in-false-false.ensures.rest ∙ sym (no_bytes (end_of c.args.ends) c.args.a.now
     (sym c.in-false-false.ensures)).1
 
 pub returns-in-false-false-clause-other_rest : goal.returns-in-false-false-clause-other_rest
 returns-in-false-false-clause-other_rest c e =
-    sym (no_bytes (end_of c.args.ends) c.args.b.now
+    c.new-in-false-false.ensures.other_rest ∙ sym (no_bytes (end_of c.args.ends) c.args.b.now
     (sym c.in-false-false.ensures')).1

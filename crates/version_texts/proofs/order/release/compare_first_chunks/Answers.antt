@@ -24,17 +24,17 @@ pub returns-in-Greater-clause-rest : goal.returns-in-Greater-clause-rest
 returns-in-Greater-clause-rest c e =
     absurd (not_tied c.args.a.now c.args.b.now
     (sym c.compare_numbers-numbers.ensures.order ∙ c.in-Greater.is)
-    (sym c.compare_greater.ensures ∙ e))
+    (sym (c.new.ensures.order ∙ c.compare_greater.ensures) ∙ e))
 
 pub returns-in-Greater-clause-other_rest : goal.returns-in-Greater-clause-other_rest
 returns-in-Greater-clause-other_rest c e =
     absurd (not_tied c.args.a.now c.args.b.now
     (sym c.compare_numbers-numbers.ensures.order ∙ c.in-Greater.is)
-    (sym c.compare_greater.ensures ∙ e))
+    (sym (c.new.ensures.order ∙ c.compare_greater.ensures) ∙ e))
 
 pub returns-in-Less-clause-order : goal.returns-in-Less-clause-order
 returns-in-Less-clause-order c =
-    c.reverse.ensures ∙ ap ordering_reverse c.compare_greater-in-Less.ensures
+    c.new-in-Less.ensures.order ∙ c.reverse.ensures ∙ ap ordering_reverse c.compare_greater-in-Less.ensures
     ∙ sym (chunk_total.antisymm (chunk_of (first_piece c.args.a.now))
     (chunk_of (first_piece c.args.b.now)))
 
@@ -42,13 +42,13 @@ pub returns-in-Less-clause-rest : goal.returns-in-Less-clause-rest
 returns-in-Less-clause-rest c e =
     absurd (not_tied c.args.b.now c.args.a.now (less_turned c.args.a.now c.args.b.now
     (sym c.compare_numbers-numbers.ensures.order ∙ c.in-Less.is))
-    (sym c.compare_greater-in-Less.ensures ∙ tie_reversed _ (sym c.reverse.ensures ∙ e)))
+    (sym c.compare_greater-in-Less.ensures ∙ tie_reversed _ (sym (c.new-in-Less.ensures.order ∙ c.reverse.ensures) ∙ e)))
 
 pub returns-in-Less-clause-other_rest : goal.returns-in-Less-clause-other_rest
 returns-in-Less-clause-other_rest c e =
     absurd (not_tied c.args.b.now c.args.a.now (less_turned c.args.a.now c.args.b.now
     (sym c.compare_numbers-numbers.ensures.order ∙ c.in-Less.is))
-    (sym c.compare_greater-in-Less.ensures ∙ tie_reversed _ (sym c.reverse.ensures ∙ e)))
+    (sym c.compare_greater-in-Less.ensures ∙ tie_reversed _ (sym (c.new-in-Less.ensures.order ∙ c.reverse.ensures) ∙ e)))
 
 pub returns-in-true-true-clause-order : goal.returns-in-true-true-clause-order
 returns-in-true-true-clause-order c =
@@ -75,7 +75,7 @@ returns-in-true-false-clause-order c =
     digits_alone c.args.a.now _ (numbers.rest c.in-Equal.is) true c.in-true-false.ensures in
     let second =
     digits_alone c.args.b.now _ (numbers.other_rest c.in-Equal.is) false c.in-true-false.ensures' in
-    sym (number_first c.args.a.now c.args.b.now first second)
+    c.new-in-true-false.ensures.order ∙ sym (number_first c.args.a.now c.args.b.now first second)
 
 pub returns-in-false-true-clause-order : goal.returns-in-false-true-clause-order
 returns-in-false-true-clause-order c =
@@ -84,7 +84,7 @@ returns-in-false-true-clause-order c =
     digits_alone c.args.a.now _ (numbers.rest c.in-Equal.is) false c.in-false-true.ensures in
     let second =
     digits_alone c.args.b.now _ (numbers.other_rest c.in-Equal.is) true c.in-false-true.ensures' in
-    sym (number_second c.args.a.now c.args.b.now first second)
+    c.new-in-false-true.ensures.order ∙ sym (number_second c.args.a.now c.args.b.now first second)
 
 pub returns-in-false-false-clause-order : goal.returns-in-false-false-clause-order
 returns-in-false-false-clause-order c =

@@ -38,16 +38,16 @@ returns-in-true-true-clause-order c =
       | else-bytes-test w ↦
           absurd (omega (arith, begins_within test x c.bytes.place in_x, w.bytes-test.false))
     ] in
-    c.cmp.ensures ∙ sym (other_byte test x y c.bytes.place in_x in_y other) ∙ c.bytes.invariant.left
+    c.new.ensures.order ∙ c.cmp.ensures ∙ sym (other_byte test x y c.bytes.place in_x in_y other) ∙ c.bytes.invariant.left
 
 pub returns-in-true-false-clause-order : goal.returns-in-true-false-clause-order
 returns-in-true-false-clause-order c =
     let in_x = rw (slice_from c.args.x.now c.bytes.place) at (sym c.in-true-false.ensures) in
     let out_y = rw (slice_from c.args.y.now c.bytes.place) at (sym c.in-true-false.ensures') in
-    sym (longer (in_run c.args.run) _ _ in_x out_y).0 ∙ c.bytes.invariant.left
+    c.new-in-true-false.ensures.order ∙ sym (longer (in_run c.args.run) _ _ in_x out_y).0 ∙ c.bytes.invariant.left
 
 pub returns-in-false-true-clause-order : goal.returns-in-false-true-clause-order
 returns-in-false-true-clause-order c =
     let out_x = rw (slice_from c.args.x.now c.bytes.place) at (sym c.in-false-true.ensures) in
     let in_y = rw (slice_from c.args.y.now c.bytes.place) at (sym c.in-false-true.ensures') in
-    sym (longer (in_run c.args.run) _ _ in_y out_x).1 ∙ c.bytes.invariant.left
+    c.new-in-false-true.ensures.order ∙ sym (longer (in_run c.args.run) _ _ in_y out_x).1 ∙ c.bytes.invariant.left
