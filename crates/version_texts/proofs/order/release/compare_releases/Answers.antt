@@ -1,10 +1,28 @@
-use Rattle.std.proofs.Common.{◌∙◌, map, refl, sym}
+use Rattle.std.proofs.Common.{◌≡◌, ◌∙◌, ◌==◌, ℕ, false, List, Ordering, map, not, refl, sym}
+use Rattle.std.specs.Ordering.{ordering_index}
+use Rattle.std.specs.declared.cmp.Ordering.TheVariants.{Equal}
 use Rattle.version_rules.specs.ReleaseOrder.{chunk_cmp, release_cmp}
 use Rattle.version_texts.proofs.lemmas.TextKey.Lists.{further_of_more, further_of_none, above, below, compared, left}
 use Rattle.version_texts.proofs.lemmas.Piece.Order.{decided, tied}
-use Rattle.version_texts.specs.Piece.{behind_piece, is_dot}
-use Rattle.version_texts.specs.TextKey.{chunk_of}
+use Rattle.version_texts.specs.Piece.{behind_piece, first_piece, further_pieces, is_dot}
+use Rattle.version_texts.specs.TextKey.{chunk_of, chunks_of}
 use Rattle.version_texts.proofs.order.release.compare_releases.Goals as goal
+
+abbrev others_cmp : List ℕ → List ℕ → Ordering
+others_cmp rest other =
+    release_cmp (map chunk_of (further_pieces is_dot rest))
+    (map chunk_of (further_pieces is_dot other))
+
+-- where the first chunks are equal, what follows them decides
+goes_on : (a b rest other : List ℕ) (o whole : Ordering)
+    → o ≡ chunk_cmp (chunk_of (first_piece a)) (chunk_of (first_piece b))
+    → false ≡ not (ordering_index o == 1) → (o ≡ Equal → rest ≡ behind_piece a)
+    → (o ≡ Equal → other ≡ behind_piece b) → release_cmp (chunks_of a) (chunks_of b) ≡ whole
+    → others_cmp rest other ≡ whole
+goes_on a b rest other o whole e equal behind other_behind is =
+    let same = tied o equal in
+    sym (left is_dot chunk_of chunk_cmp release_cmp (λ x y xs ys. refl) a b rest other o e same
+    (behind same) (other_behind same)) ∙ is
 
 pub returns-then-ne : goal.returns-then-ne
 returns-then-ne c =
@@ -19,64 +37,38 @@ returns-then-ne c =
 
 pub returns-in-None-None : goal.returns-in-None-None
 returns-in-None-None c =
-    let same = tied c.compare_first_chunks-chunks.result.order (sym c.if-ne.false ∙ c.ne.ensures) in
-    let same_left =
-    left is_dot chunk_of chunk_cmp release_cmp
-    (λ x y xs ys. refl) c.chunks.a.now c.chunks.b.now c.compare_first_chunks-chunks.result.rest.now
-    c.compare_first_chunks-chunks.result.other_rest.now c.compare_first_chunks-chunks.result.order
-    c.compare_first_chunks-chunks.ensures.order same
-    (c.compare_first_chunks-chunks.ensures.rest same)
-    (c.compare_first_chunks-chunks.ensures.other_rest same) in
-    let first = further_of_none is_dot c.compare_first_chunks-chunks.result.rest.now
-    c.in-None-None.ensures.none in
-    let second = further_of_none is_dot c.compare_first_chunks-chunks.result.other_rest.now
-    c.in-None-None.ensures'.none in
-    sym (sym c.chunks.invariant ∙ same_left
-    ∙ (λ i. release_cmp (map chunk_of (first i)) (map chunk_of (second i))))
+    let chunks = c.compare_first_chunks-chunks in
+    let first = further_of_none is_dot _ c.in-None-None.ensures.none in
+    let second = further_of_none is_dot _ c.in-None-None.ensures'.none in
+    (λ i. release_cmp (map chunk_of (sym first i)) (map chunk_of (sym second i)))
+    ∙ goes_on c.chunks.a.now c.chunks.b.now _ _ _ _ chunks.ensures.order
+    (sym c.if-ne.false ∙ c.ne.ensures) chunks.ensures.rest chunks.ensures.other_rest
+    c.chunks.invariant
 
 pub returns-in-None-Some : goal.returns-in-None-Some
 returns-in-None-Some c =
-    let same = tied c.compare_first_chunks-chunks.result.order (sym c.if-ne.false ∙ c.ne.ensures) in
-    let same_left =
-    left is_dot chunk_of chunk_cmp release_cmp
-    (λ x y xs ys. refl) c.chunks.a.now c.chunks.b.now c.compare_first_chunks-chunks.result.rest.now
-    c.compare_first_chunks-chunks.result.other_rest.now c.compare_first_chunks-chunks.result.order
-    c.compare_first_chunks-chunks.ensures.order same
-    (c.compare_first_chunks-chunks.ensures.rest same)
-    (c.compare_first_chunks-chunks.ensures.other_rest same) in
-    sym (sym c.chunks.invariant ∙ same_left
-    ∙ below is_dot chunk_of chunk_cmp c.compare_first_chunks-chunks.result.rest.now
-    c.compare_first_chunks-chunks.result.other_rest.now _ c.in-None-Some.ensures.none
+    let chunks = c.compare_first_chunks-chunks in
+    sym (below is_dot chunk_of chunk_cmp _ _ _ c.in-None-Some.ensures.none
     c.in-None-Some.ensures'.some)
+    ∙ goes_on c.chunks.a.now c.chunks.b.now _ _ _ _ chunks.ensures.order
+    (sym c.if-ne.false ∙ c.ne.ensures) chunks.ensures.rest chunks.ensures.other_rest
+    c.chunks.invariant
 
 pub returns-in-Some-None : goal.returns-in-Some-None
 returns-in-Some-None c =
-    let same = tied c.compare_first_chunks-chunks.result.order (sym c.if-ne.false ∙ c.ne.ensures) in
-    let same_left =
-    left is_dot chunk_of chunk_cmp release_cmp
-    (λ x y xs ys. refl) c.chunks.a.now c.chunks.b.now c.compare_first_chunks-chunks.result.rest.now
-    c.compare_first_chunks-chunks.result.other_rest.now c.compare_first_chunks-chunks.result.order
-    c.compare_first_chunks-chunks.ensures.order same
-    (c.compare_first_chunks-chunks.ensures.rest same)
-    (c.compare_first_chunks-chunks.ensures.other_rest same) in
-    sym (sym c.chunks.invariant ∙ same_left
-    ∙ above is_dot chunk_of chunk_cmp c.compare_first_chunks-chunks.result.rest.now
-    c.compare_first_chunks-chunks.result.other_rest.now _ c.in-Some-None.ensures.some
+    let chunks = c.compare_first_chunks-chunks in
+    sym (above is_dot chunk_of chunk_cmp _ _ _ c.in-Some-None.ensures.some
     c.in-Some-None.ensures'.none)
+    ∙ goes_on c.chunks.a.now c.chunks.b.now _ _ _ _ chunks.ensures.order
+    (sym c.if-ne.false ∙ c.ne.ensures) chunks.ensures.rest chunks.ensures.other_rest
+    c.chunks.invariant
 
 pub chunks-preserved : goal.chunks-preserved
 chunks-preserved c =
-    let same = tied c.compare_first_chunks-chunks.result.order (sym c.if-ne.false ∙ c.ne.ensures) in
-    let same_left =
-    left is_dot chunk_of chunk_cmp release_cmp
-    (λ x y xs ys. refl) c.chunks.a.now c.chunks.b.now c.compare_first_chunks-chunks.result.rest.now
-    c.compare_first_chunks-chunks.result.other_rest.now c.compare_first_chunks-chunks.result.order
-    c.compare_first_chunks-chunks.ensures.order same
-    (c.compare_first_chunks-chunks.ensures.rest same)
-    (c.compare_first_chunks-chunks.ensures.other_rest same) in
-    let first = further_of_more is_dot c.compare_first_chunks-chunks.result.rest.now _
-    c.in-Some-Some.ensures.some in
-    let second = further_of_more is_dot c.compare_first_chunks-chunks.result.other_rest.now _
-    c.in-Some-Some.ensures'.some in
-    sym (sym c.chunks.invariant ∙ same_left
-    ∙ (λ i. release_cmp (map chunk_of (first i)) (map chunk_of (second i))))
+    let chunks = c.compare_first_chunks-chunks in
+    let first = further_of_more is_dot _ _ c.in-Some-Some.ensures.some in
+    let second = further_of_more is_dot _ _ c.in-Some-Some.ensures'.some in
+    (λ i. release_cmp (map chunk_of (sym first i)) (map chunk_of (sym second i)))
+    ∙ goes_on c.chunks.a.now c.chunks.b.now _ _ _ _ chunks.ensures.order
+    (sym c.if-ne.false ∙ c.ne.ensures) chunks.ensures.rest chunks.ensures.other_rest
+    c.chunks.invariant

@@ -1,8 +1,8 @@
 -- Two lists of sections, by their first parts and what follows these.
-use Rattle.std.proofs.Common.{◌≡◌, ◌∙◌, ℕ, Bool, true, false, List, [], ◌∷◌, map, None, Some, not, Ordering, refl, sym, ap, inl, inr}
+use Rattle.std.proofs.Common.{◌≡◌, ◌∙◌, ◌==◌, ℕ, Bool, true, false, List, [], ◌∷◌, map, None, Some, not, Ordering, refl, sym, ap, inl, inr}
 use Rattle.std.proofs.lemmas.Bool.{cases_Bool, eqb-true}
 use Rattle.std.specs.List.{before_first, slice_split}
-use Rattle.std.specs.Ordering.{ordering_reverse, ordering_then}
+use Rattle.std.specs.Ordering.{ordering_index, ordering_reverse, ordering_then}
 use Rattle.std.specs.declared.cmp.Ordering.TheVariants.{Less, Equal, Greater}
 use Rattle.version_rules.specs.Bytes.{dot}
 use Rattle.version_rules.specs.DigitRun.{starts_with_digit}
@@ -12,7 +12,7 @@ use Rattle.version_rules.specs.Tail.{sections_cmp}
 use Rattle.version_rules.proofs.lemmas.Front.Runs.{begins-drop}
 use Rattle.version_texts.specs.declared.order.ends.Ends.{Ends}
 use Rattle.version_texts.proofs.lemmas.Piece.Ends.{digit_no_end, dot_no_sign, dot_or_sign}
-use Rattle.version_texts.proofs.lemmas.Piece.Order.{leaves}
+use Rattle.version_texts.proofs.lemmas.Piece.Order.{leaves, tied}
 use Rattle.version_texts.proofs.lemmas.Piece.Words.{run_is_piece}
 use Rattle.version_texts.proofs.lemmas.General.Runs.{not_false}
 use Rattle.version_texts.proofs.lemmas.Piece.{part_of_number, part_of_word, piece_ends, piece_grows, pieces_are}
@@ -100,18 +100,26 @@ module _ (kind : Ends) where
       (list_cmp (other_parts (from_first ends a)) (other_parts (from_first ends b)))
       (sections_cmp (other_lists (from_first ends a)) (other_lists (from_first ends b)))
 
-  -- two lists whose first parts are equal compare as what follows these
-  pub first_equal : (a b rest more : List ℕ) (o : Ordering)
-      → o ≡ part_cmp (Some (part_key (before_first ends a))) (Some (part_key (before_first ends b)))
-      → o ≡ Equal → rest ≡ from_first ends a → more ≡ from_first ends b
-      → others_cmp rest more ≡ sections_cmp (lists a) (lists b)
-  first_equal a b rest more o e same here there =
-      (λ i. others_cmp (here i) (there i)) ∙ leaves o _ _ _ e (compared a b) same
-
   -- what follows a part is empty, or begins with an end
-  pub ended_there : (a rest : List ℕ) → rest ≡ from_first ends a → begins inside rest ≡ false
+  ended_there : (a rest : List ℕ) → rest ≡ from_first ends a → begins inside rest ≡ false
   ended_there a rest e =
       ap (begins inside) (e ∙ sym (run_is_piece ends a).1) ∙ begins-drop inside a
+
+  -- two lists whose first parts are equal compare as what follows these
+  pub first_equal : (a b rest more : List ℕ) (o whole : Ordering)
+      → o ≡ part_cmp (Some (part_key (before_first ends a))) (Some (part_key (before_first ends b)))
+      → false ≡ not (ordering_index o == 1) → (o ≡ Equal → rest ≡ from_first ends a)
+      → (o ≡ Equal → more ≡ from_first ends b) → sections_cmp (lists a) (lists b) ≡ whole
+      → (others_cmp rest more ≡ whole) × (begins inside rest ≡ false)
+      × (begins inside more ≡ false)
+  first_equal a b rest more o whole e equal behind other_behind is =
+      let same = tied o equal in
+      let here = behind same in
+      let there = other_behind same in (
+        (λ i. others_cmp (here i) (there i)) ∙ leaves o _ _ _ e (compared a b) same ∙ is,
+        ended_there a rest here,
+        ended_there b more there,
+      )
 
   -- ---- what follows equal parts
 
