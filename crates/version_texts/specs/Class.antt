@@ -4,7 +4,7 @@ use Rattle.std.specs.Char.{is_ascii_alphabetic, is_ascii_alphanumeric, is_ascii_
 use Rattle.version_rules.specs.Bytes.{colon, dot, hyphen, is_identifier_byte, is_metadata_byte, plus}
 use Rattle.version_rules.specs.Sep.{is_sep}
 use Rattle.version_texts.specs.declared.class.Class.{Class}
-use Rattle.version_texts.specs.declared.class.Class.TheVariants.{Digit, Letter, Alphanumeric, Identifier, Metadata, Mark, NotDot}
+use Rattle.version_texts.specs.declared.class.Class.TheVariants.{Digit, Letter, Alphanumeric, Identifier, Metadata, Mark, NotDot, NotSign}
 
 -- a dot or a sign
 abbrev pub is_mark : ℕ → Bool
@@ -36,3 +36,4 @@ contains Identifier b = is_identifier_byte b
 contains Metadata b = is_metadata_byte b
 contains Mark b = is_mark b
 contains NotDot b = not (b == dot)
+contains NotSign b = not (is_sep b)

@@ -4,6 +4,7 @@ ghost use Rattle.std.specs.Prelude.{◌≡◌, ◌+◌, ◌≤◌, ℕ, List, dr
 ghost use Rattle.std.specs.List.{prefix_len, take_while};
 ghost use Rattle.version_rules.specs.Bytes.{HasDigits};
 ghost use Rattle.version_rules.specs.Front.{begins};
+ghost use Rattle.version_rules.specs.Sep.{is_sep};
 ghost use Rattle.version_texts.specs.Class.{byte_rank, contains, first_rank};
 
 /// A class of bytes.
@@ -21,6 +22,8 @@ pub enum Class {
     Mark,
     /// All but dots.
     NotDot,
+    /// All but signs.
+    NotSign,
 }
 
 /// The ranks of a letter, a hyphen, a dot, a plus and a colon, and the rank where a text ends.
@@ -70,6 +73,7 @@ impl Class {
             Class::Metadata => rank(byte) < 4,
             Class::Mark => matches!(rank(byte), 2..=6),
             Class::NotDot => byte != b'.',
+            Class::NotSign => !is_sign(byte),
         }
     }
 
@@ -87,8 +91,17 @@ impl Class {
             Class::Metadata => rank <= DOT,
             Class::Mark => matches!(rank, 2..=6),
             Class::NotDot => rank != DOT && rank != END,
+            Class::NotSign => matches!(rank, 0 | 1 | 3 | 7),
         }
     }
+}
+
+// Whether a byte is a sign between sections.
+#[inline(always)]
+pub(crate) fn is_sign(byte: u8) -> bool
+    ensures { result ≡ is_sep byte }
+{
+    matches!(byte, b':' | b'-' | b'+' | b'_' | b'~')
 }
 
 /// Returns the rank of the byte at a place, or that of the end of the text.

@@ -21,7 +21,7 @@ ghost use Rattle.version_texts.specs.TextKey.{chunk_of, chunks_of, front_bytes, 
 
 use crate::class::{Class, begins_with, split_run};
 use crate::order::digits::without_zeros;
-use crate::order::piece::after_dot;
+use crate::order::piece::after_mark;
 use crate::shape::{Shape, TailKind};
 use crate::sink::{Sink, put_all};
 
@@ -109,7 +109,7 @@ fn put_parts<'t, S: Sink>(sink: &mut S, text: &'t [u8]) -> Option<&'t [u8]>
         if sink.is_decided() {
             return None;
         }
-        match after_dot(rest) {
+        match after_mark(b'.', rest) {
             Some(behind) => left = behind,
             None => return Some(rest),
         }

@@ -1,8 +1,6 @@
 //! The number at a place of a version, read off its text. Nothing here allocates.
 
 ghost use Rattle.std.specs.Prelude.{◌≡◌, ◌==◌, ◌∷◌, Some, drop, false, IfNone, IfSome};
-ghost use Rattle.version_rules.specs.Bytes.{colon};
-ghost use Rattle.version_rules.specs.Front.{begins};
 ghost use Rattle.version_rules.specs.Versioning.{versioning_nth};
 ghost use Rattle.version_texts.specs.Numbers.{body_number, chunk_number, last_number, pieces_left, section_in};
 ghost use Rattle.version_texts.specs.Shape.{shape_of};
@@ -12,8 +10,7 @@ ghost use Rattle.version_texts.specs.VersioningRef.{version_in};
 use crate::class::{Class, split_run};
 use crate::key::body_at;
 use crate::numeral::{numeral_value, small_number};
-use crate::order::piece::{behind_first, split_piece};
-use crate::order::section::split_section;
+use crate::order::piece::{after_mark, behind_first, split_piece};
 use crate::shape::Shape;
 use version_rules::Kind;
 
@@ -68,22 +65,11 @@ fn section(text: &[u8]) -> &[u8]
 {
     let mut left = text;
     'sections: loop {
-        let (section, rest) = split_section(left);
-        match after_colon(rest) {
+        let (section, rest) = split_run(left, Class::NotSign);
+        match after_mark(b':', rest) {
             Some(more) => left = more,
             None => return section,
         }
-    }
-}
-
-// What follows the colon that a text begins with, or None if it does not begin with one.
-fn after_colon(text: &[u8]) -> Option<&[u8]>
-    ensures some { IfSome result (λ more. text.now ≡ colon ∷ more.now) }
-    ensures none { IfNone result (begins (λ b. b == colon) text.now ≡ false) }
-{
-    match text {
-        [b':', more @ ..] => Some(more),
-        _ => None,
     }
 }
 

@@ -15,7 +15,6 @@ pub(crate) mod part;
 pub(crate) mod piece;
 mod release;
 pub(crate) mod run;
-pub(crate) mod section;
 pub(crate) mod ties;
 
 use crate::key::{body_at, epoch_at, tail_at};

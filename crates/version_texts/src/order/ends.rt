@@ -4,7 +4,7 @@ ghost use Rattle.std.specs.Prelude.{◌≡◌};
 ghost use Rattle.version_rules.specs.Front.{begins};
 ghost use Rattle.version_texts.specs.Piece.{end_of, in_run};
 
-use crate::order::section::is_sign;
+use crate::class::is_sign;
 
 /// What ends a part: a dot in a body, a dot or a sign in sections.
 #[derive(Clone, Copy)]

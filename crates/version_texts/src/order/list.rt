@@ -10,7 +10,7 @@ use crate::class::{Class, begins_with};
 use crate::order::digits::compare_if_numbers;
 use crate::order::ends::Ends;
 use crate::order::part::compare_parts_to;
-use crate::order::piece::{after_dot, behind_first};
+use crate::order::piece::{after_mark, behind_first};
 use std::cmp::Ordering;
 
 // Compares two lists of parts. The first place where they differ decides:
@@ -94,7 +94,7 @@ fn compare_lists(ends: Ends, x: &[u8], y: &[u8]) -> Ordering
             return parts.order;
         }
         let (rest, other_rest) = (parts.rest, parts.other_rest);
-        match (after_dot(rest), after_dot(other_rest)) {
+        match (after_mark(b'.', rest), after_mark(b'.', other_rest)) {
             (Some(more), Some(others)) => {
                 a = more;
                 b = others;

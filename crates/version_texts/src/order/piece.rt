@@ -2,7 +2,6 @@
 
 ghost use Rattle.std.specs.Prelude.{◌≡◌, ◌==◌, ◌≤◌, ◌∷◌, [], ℕ, length, suc, take, IfNone, IfSome, MatchOption, false};
 ghost use Rattle.std.specs.List.{position_or_len};
-ghost use Rattle.version_rules.specs.Bytes.{dot};
 ghost use Rattle.version_rules.specs.Front.{begins};
 ghost use Rattle.version_texts.specs.Piece.{behind_piece, first_piece, is_dot};
 
@@ -59,14 +58,14 @@ pub(crate) fn behind_first(text: &[u8]) -> Option<&[u8]>
     }
 }
 
-// The text after the dot that it begins with, or None if it begins with no dot.
+// The text after the mark that it begins with, or None if it begins with no such mark.
 #[inline(always)]
-pub(crate) fn after_dot(text: &[u8]) -> Option<&[u8]>
-    ensures { MatchOption result (begins (λ b. b == dot) text.now ≡ false)
-        (λ behind. text.now ≡ dot ∷ behind.now) }
+pub(crate) fn after_mark(mark: u8, text: &[u8]) -> Option<&[u8]>
+    ensures { MatchOption result (begins (λ b. b == mark) text.now ≡ false)
+        (λ behind. text.now ≡ mark ∷ behind.now) }
 {
     match text.split_first() {
-        Some((b'.', behind)) => Some(behind),
+        Some((first, behind)) if *first == mark => Some(behind),
         _ => None,
     }
 }
