@@ -38,18 +38,24 @@ pub(crate) fn compare_numbers<'t>(x: &'t [u8], y: &'t [u8]) -> Compared<'t>
     }
 }
 
-// Compares the numbers that two texts begin with, or returns None if one begins with no digit. Most numbers are one
-// digit, and compare as it does.
+// Compares the numbers that two texts begin with, or returns None if one begins with no digit. Mostly one of them is one
+// digit, which takes no loop.
 #[inline(always)]
 pub(crate) fn compare_if_numbers(x: &[u8], y: &[u8]) -> Option<Ordering>
-    ensures { IfSome result (λ order. (starts_with_digit x.now ≡ true) × (starts_with_digit y.now ≡ true)
-        × (order ≡ nat_cmp (run_value x.now) (run_value y.now))) }
+    ensures digits { IfSome result
+        (λ order. (starts_with_digit x.now ≡ true) × (starts_with_digit y.now ≡ true)) }
+    ensures order { IfSome result (λ order. order ≡ nat_cmp (run_value x.now) (run_value y.now)) }
 {
     let ((digit, rest), (other, other_rest)) = (split_digit(x)?, split_digit(y)?);
-    if begins_with(rest, Class::Digit) || begins_with(other_rest, Class::Digit) {
-        return Some(compare_numbers(x, y).order);
+    match (
+        begins_with(rest, Class::Digit),
+        begins_with(other_rest, Class::Digit),
+    ) {
+        (false, false) => Some(digit.cmp(&other)),
+        (true, false) if digit != b'0' => Some(Ordering::Greater),
+        (false, true) if other != b'0' => Some(Ordering::Less),
+        _ => Some(compare_numbers(x, y).order),
     }
-    Some(digit.cmp(&other))
 }
 
 // Compares the counts of the digits that two texts begin with.

@@ -26,5 +26,5 @@ numbers_decide x y o is_number is_too is other =
 pub returns-then-ne : goal.returns-then-ne
 returns-then-ne c =
     let numbers = c.in_ok-order.ensures in
-    numbers_decide c.args.x.now c.args.y.now c.in_ok-order.order numbers.0 numbers.1 numbers.2
-    (sym c.if-ne.true ∙ c.ne.ensures)
+    numbers_decide c.args.x.now c.args.y.now c.in_ok-order.order numbers.digits.0
+    numbers.digits.1 numbers.order (sym c.if-ne.true ∙ c.ne.ensures)
