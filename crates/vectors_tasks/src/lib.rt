@@ -9,3 +9,5 @@ mod stabilities;
 mod tags;
 #[cfg(test)]
 mod texts;
+#[cfg(test)]
+mod why;

@@ -3,6 +3,7 @@ pub mod Difference
 pub mod EndOrder
 pub mod EpochAndParts
 pub mod Field
+pub mod FirstFailing
 pub mod General
 pub mod KeyTies
 pub mod Matching

@@ -4,6 +4,7 @@ pub mod EndOrder
 pub mod Field
 pub mod KeyTies
 pub mod Matching
+pub mod MemberPlace
 pub mod Members
 pub mod Numbers
 pub mod Others
@@ -18,3 +19,4 @@ pub mod TextKey
 pub mod TextKind
 pub mod Ties
 pub mod VersioningRef
+pub mod Why

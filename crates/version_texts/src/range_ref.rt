@@ -84,7 +84,7 @@ impl<'a> RangeRef<'a> {
         ensures { option_map plain_range_ref result
             ≡ option_map range_of (requirements_of list.now) }
     {
-        let Some((front, behind)) = halves(list) else {
+        let Some((front, behind)) = halves(list, SHORT) else {
             return range_in_turn(list);
         };
         let range = RangeRef::from_bytes(front)?;
@@ -92,7 +92,7 @@ impl<'a> RangeRef<'a> {
     }
 
     // Returns the range that a member asks for.
-    fn of(member: RequirementRef<'a>) -> RangeRef<'a>
+    pub(crate) fn of(member: RequirementRef<'a>) -> RangeRef<'a>
         requires { IsParsed (plain_requirement_ref member) }
         ensures { plain_range_ref result
             ≡ requirement_range (plain_requirement_ref member.entry) }
@@ -243,11 +243,11 @@ fn earlier<'a>(high: Option<Bound<'a>>, other: Option<Bound<'a>>) -> Option<Boun
     }
 }
 
-// Returns what stands before and after a comma near the middle of a list that is long. None without a comma.
-fn halves(list: &[u8]) -> Option<(&[u8], &[u8])>
+// Returns what stands before and after a comma near the middle of a list that is not short. None without a comma.
+pub(crate) fn halves(list: &[u8], short: usize) -> Option<(&[u8], &[u8])>
     ensures { IfSome result (λ halves. list.now ≡ halves.0.now ++ comma ∷ halves.1.now) }
 {
-    if list.len() <= SHORT {
+    if list.len() <= short {
         return None;
     }
     let middle = list.len() / 2;
@@ -265,7 +265,7 @@ fn halves(list: &[u8]) -> Option<(&[u8], &[u8])>
 }
 
 // Returns whether the key of a version is not below a low bound.
-fn is_from(low: &Option<Bound<'_>>, version: &VersioningRef<'_>) -> bool
+pub(crate) fn is_from(low: &Option<Bound<'_>>, version: &VersioningRef<'_>) -> bool
     ensures { IsTrue result
         ↔ (¬ (bytes_cmp (bytes_of (plain_versioning_ref version.now)) (low_bytes low.now)
         ≡ Less)) }
@@ -277,7 +277,7 @@ fn is_from(low: &Option<Bound<'_>>, version: &VersioningRef<'_>) -> bool
 }
 
 // Returns whether the key of a version is below a high bound, if there is one.
-fn is_below(high: &Option<Bound<'_>>, version: &VersioningRef<'_>) -> bool
+pub(crate) fn is_below(high: &Option<Bound<'_>>, version: &VersioningRef<'_>) -> bool
     ensures { IsTrue result ↔ IfSome (option_map bound_bytes high.now)
         (λ bound. bytes_cmp (bytes_of (plain_versioning_ref version.now)) bound ≡ Less) }
 {

@@ -214,7 +214,7 @@ list_of-append (piece ∷ xs) ys =
 
 -- the ranges of the halves of a text, which may not parse, give that of the text
 module _ (text front behind : List ℕ) (halved : text ≡ front ++ comma ∷ behind) where
-  read_both : requirements_of text ≡ both (requirements_of front) (requirements_of behind)
+  pub read_both : requirements_of text ≡ both (requirements_of front) (requirements_of behind)
   read_both =
       ap requirements_of halved
       ∙ ap list_of (split-append (λ b. eqb b comma) front comma behind refl)

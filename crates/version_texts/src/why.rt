@@ -1,0 +1,88 @@
+//! Which member of a list of requirements does not match a version, and why.
+
+ghost use Rattle.std.specs.Prelude.{◌≡◌, ◌↔◌, is_some, IfSome, IsNone, IsSomeAnd};
+ghost use Rattle.version_rules.specs.Matching.{Matches, MatchesAll};
+ghost use Rattle.version_rules.specs.Requirements.{requirements_of};
+ghost use Rattle.version_texts.specs.RangeRef.{plain_range_ref};
+ghost use Rattle.version_texts.specs.VersioningRef.{plain_versioning_ref};
+ghost use Rattle.version_texts.specs.Why.{IsExcluded, IsWhy};
+
+use crate::first_failing::{ListTest, first_failing};
+use crate::range_ref::{RangeRef, is_below, is_from};
+use crate::requirement_ref::RequirementRef;
+use crate::requirements_ref::list_matches;
+use crate::versioning_ref::VersioningRef;
+
+/// Why a requirement does not match a version: the first of these that is so.
+#[derive(Clone, Copy, Debug, PartialEq, Eq)]
+pub enum Why {
+    /// The version's kind is not one of the kinds of the requirement's range.
+    Kind,
+    /// Its key is below the range.
+    Below,
+    /// Its key is not below the high end of the range.
+    Above,
+    /// None of these: parts or fields differ.
+    Parts,
+}
+
+/// The first member of a list that does not match a version.
+#[derive(Clone, Copy, Debug, PartialEq, Eq)]
+pub struct Excluded {
+    /// Where the member begins in the list.
+    pub start: usize,
+    /// Where it ends.
+    pub end: usize,
+    /// Why it does not match.
+    pub why: Why,
+}
+
+// Whether the members of a list match a version.
+#[derive(Clone, Copy)]
+struct Matching<'a> {
+    version: &'a VersioningRef<'a>,
+}
+
+impl<'a> ListTest for Matching<'a> {
+    ghost passes = { λ test r. Matches r (plain_versioning_ref test.version.now) };
+
+    fn each_passes(&self, list: &[u8]) -> bool {
+        list_matches(list, self.version).unwrap_or(false)
+    }
+}
+
+/// Returns where the first member of a list that does not match a version begins and ends, and why it does not. Some of
+/// None if each member matches; None if the bytes do not parse as a list, whatever the version is. Does not allocate.
+pub fn why_not(list: &[u8], version: &VersioningRef<'_>) -> Option<Option<Excluded>>
+    ensures parses { is_some result ≡ is_some (requirements_of list.now) }
+    ensures matches { IfSome result (λ found. IsNone found ↔ IsSomeAnd (requirements_of list.now)
+        (λ wanted. MatchesAll wanted (plain_versioning_ref version.now))) }
+    ensures why { IfSome result
+        (λ found. IfSome found (IsExcluded list.now (plain_versioning_ref version.now))) }
+{
+    if list_matches(list, version)? {
+        return Some(None);
+    }
+    let (start, member) = first_failing(list, &Matching { version });
+    let range = RangeRef::of(RequirementRef::from_bytes(member)?);
+    Some(Some(Excluded {
+        start,
+        end: start + member.len(),
+        why: why_outside(&range, version),
+    }))
+}
+
+// Returns why a requirement with a range does not match a version.
+fn why_outside(range: &RangeRef<'_>, version: &VersioningRef<'_>) -> Why
+    ensures { IsWhy (plain_range_ref range.now) (plain_versioning_ref version.now) result }
+{
+    if !range.kinds.has(version.kind()) {
+        Why::Kind
+    } else if !is_from(&range.low, version) {
+        Why::Below
+    } else if !is_below(&range.high, version) {
+        Why::Above
+    } else {
+        Why::Parts
+    }
+}
