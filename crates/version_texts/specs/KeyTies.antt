@@ -1,13 +1,10 @@
 -- What breaks the tie of the keys of two texts whose kinds are known.
 use Rattle.std.specs.Prelude.{◌==◌, ◌/◌, ◌%◌, ℕ, List, if◌then◌else◌}
-use Rattle.std.specs.Option.{option_cmp}
-use Rattle.std.specs.Ordering.{nat_cmp, on}
+use Rattle.std.specs.Ordering.{nat_cmp}
 use Rattle.std.specs.declared.cmp.Ordering.{Ordering}
-use Rattle.version_rules.specs.Orders.{versioning_cmp}
-use Rattle.version_rules.specs.Versioning.{versioning_of}
 use Rattle.version_rules.specs.declared.kind.Kind.{Kind}
 use Rattle.version_rules.specs.declared.kind.Kind.TheVariants.{Ideal, General, Complex}
-use Rattle.version_texts.specs.Ties.{messy_tie}
+use Rattle.version_texts.specs.Ties.{general_tie, messy_tie}
 
 -- the place of a kind among the three
 abbrev pub kind_place : Kind → ℕ
@@ -15,14 +12,10 @@ kind_place Ideal = 0
 kind_place General = 1
 kind_place Complex = 2
 
--- two general versions
-abbrev pub general_texts_tie : List ℕ → List ℕ → Ordering
-general_texts_tie = on versioning_of (option_cmp versioning_cmp)
-
 -- two kinds and texts whose keys tie: strict before general before messy; strict texts are alike,
 -- others compare field by field
 abbrev pub texts_tie : Kind × List ℕ → Kind × List ℕ → Ordering
-texts_tie (General, a) (General, b) = general_texts_tie a b
+texts_tie (General, a) (General, b) = general_tie a b
 texts_tie (Complex, a) (Complex, b) = messy_tie a b
 texts_tie (kind, a) (other, b) = nat_cmp (kind_place kind) (kind_place other)
 

@@ -1,20 +1,19 @@
 -- How two versions of one key compare field by field, by their texts.
-use Rattle.std.specs.Prelude.{◌==◌, ◌&&◌, ◌||◌, ℕ, Bool, List, ◌∷◌, drop, length, if◌then◌else◌}
+use Rattle.std.specs.Prelude.{◌==◌, ◌&&◌, ◌||◌, ℕ, Bool, List, drop, length, if◌then◌else◌}
 use Rattle.std.specs.Char.{is_ascii_alphabetic, is_ascii_digit}
 use Rattle.std.specs.Cmp.Lexicographic.{slice_cmp}
-use Rattle.std.specs.List.{take_while}
-use Rattle.std.specs.Option.{option_map_or}
-use Rattle.std.specs.Ordering.{nat_cmp, on, ordering_then}
+use Rattle.std.specs.List.{prefix_len, take_while}
+use Rattle.std.specs.Option.{option_cmp, option_map_or}
+use Rattle.std.specs.Ordering.{nat_cmp, on, then_cmp}
 use Rattle.std.specs.declared.cmp.Ordering.{Ordering}
 use Rattle.std.specs.declared.cmp.Ordering.TheVariants.{Less, Equal, Greater}
 use Rattle.version_rules.specs.Bytes.{dot}
 use Rattle.version_rules.specs.Front.{begins}
-use Rattle.version_rules.specs.Lists.{bytes_cmp}
+use Rattle.version_rules.specs.Lists.{bytes_cmp, split_last}
 use Rattle.version_rules.specs.Sep.{sep_of, sep_rank}
-use Rattle.version_texts.specs.declared.shape.Shape.{Shape}
 use Rattle.version_texts.specs.Numbers.{after_letters}
 use Rattle.version_texts.specs.Piece.{behind_digits}
-use Rattle.version_texts.specs.Shape.{body_in}
+use Rattle.version_texts.specs.Shape.{body_start, from_body, is_section_byte}
 use Rattle.version_texts.specs.TextKey.{pieces}
 use Rattle.version_texts.specs.TextKind.{is_numeral}
 
@@ -47,16 +46,20 @@ last_tie a b =
     if is_numbered a then (if is_numbered b then Equal else Less)
     else (if is_numbered b then Greater else bytes_cmp a b)
 
--- two lists of as many parts: by the first that differ, by bytes unless they are the last
+-- two lists of parts: by those before the last, a prefix first, then by the last
 abbrev pub parts_tie : List (List ℕ) → List (List ℕ) → Ordering
-parts_tie (a ∷ next ∷ more) (b ∷ other ∷ others) =
-    ordering_then (bytes_cmp a b) (parts_tie (next ∷ more) (other ∷ others))
-parts_tie (a ∷ more) (b ∷ others) = last_tie a b
-parts_tie _ _ = Equal
+parts_tie =
+    on split_last
+    (option_cmp
+    (then_cmp (on (λ (split : List (List ℕ) × List ℕ). split.0) (slice_cmp bytes_cmp))
+    (on (λ (split : List (List ℕ) × List ℕ). split.1) last_tie)))
 
--- two general versions: no epoch first, then their parts, then their metadata, none of it first
-abbrev pub general_tie : List ℕ → Shape → List ℕ → Shape → Ordering
-general_tie a s b t =
-    ordering_then (nat_cmp s.body t.body)
-    (ordering_then (parts_tie (pieces (body_in a s)) (pieces (body_in b t)))
-    (bytes_cmp (drop s.tail_end a) (drop t.tail_end b)))
+-- two texts that begin with a body: by its parts, then by what follows it
+abbrev pub bodies_tie : List ℕ → List ℕ → Ordering
+bodies_tie =
+    then_cmp (on (λ text. pieces (take_while is_section_byte text)) parts_tie)
+    (on (λ text. drop (prefix_len is_section_byte text) text) bytes_cmp)
+
+-- two general versions: no epoch first, then from the body on
+abbrev pub general_tie : List ℕ → List ℕ → Ordering
+general_tie = then_cmp (on body_start nat_cmp) (on from_body bodies_tie)

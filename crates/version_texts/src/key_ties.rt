@@ -6,15 +6,15 @@ ghost use Rattle.version_rules.specs.Key.{key_of, precedence};
 ghost use Rattle.version_rules.specs.KeyTies.{key_tie_cmp};
 ghost use Rattle.version_rules.specs.Kind.{versioning_kind};
 ghost use Rattle.version_rules.specs.Versioning.{PlainVersioning, versioning_of};
-ghost use Rattle.version_texts.specs.KeyTies.{general_texts_tie, kind_on, kind_place, marked_number, texts_tie};
+ghost use Rattle.version_texts.specs.KeyTies.{kind_on, kind_place, marked_number, texts_tie};
 
-use crate::order::ties::compare_messy;
-use crate::versioning_ref::VersioningRef;
+use crate::order::ties::{compare_general, compare_messy};
 use std::cmp::Ordering;
 use version_rules::Kind;
 
 /// Compares two texts whose keys tie, by their kinds, as a sort by keys has them. Strict versions of one key are all
-/// alike, and come first; others come as `Ord` has them. Only general texts that differ are scanned. Does not allocate.
+/// alike, and come first; others come as `Ord` has them. Reads two texts up to the part in which they differ. Does not
+/// allocate.
 pub fn compare_key_ties(kind: Kind, a: &[u8], other: Kind, b: &[u8]) -> Ordering
     ensures texts { result ≡ texts_tie (kind, a.now) (other, b.now) }
 
@@ -28,16 +28,6 @@ pub fn compare_key_ties(kind: Kind, a: &[u8], other: Kind, b: &[u8]) -> Ordering
         (Kind::Complex, Kind::Complex) => compare_messy(a, b),
         _ => kind_place(kind).cmp(&kind_place(other)),
     }
-}
-
-// Compares two texts of general versions.
-fn compare_general(a: &[u8], b: &[u8]) -> Ordering
-    ensures { result ≡ general_texts_tie a.now b.now }
-{
-    if a == b {
-        return Ordering::Equal;
-    }
-    VersioningRef::from_bytes(a).cmp(&VersioningRef::from_bytes(b))
 }
 
 // The place of a kind among the three.

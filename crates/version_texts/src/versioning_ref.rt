@@ -367,9 +367,7 @@ impl<'a> VersioningRef<'a> {
         }
         match self.shape.kind {
             Kind::Ideal => Ordering::Equal,
-            Kind::General => {
-                ties::compare_general(self.text, self.shape, other.text, other.shape)
-            }
+            Kind::General => ties::compare_general(self.text, other.text),
             Kind::Complex => ties::compare_messy(self.text, other.text),
         }
     }

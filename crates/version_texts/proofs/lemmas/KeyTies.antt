@@ -1,7 +1,7 @@
 -- Texts of known kinds have a total order, and compare as their versions do where their keys tie.
 use Rattle.std.proofs.Common.{◌≡◌, ◌∙◌, ℕ, List, Option, Some, None, refl, sym, subst}
 use Rattle.std.proofs.lemmas.Cmp.{lists_total, nat_cmp_total, on_total, then_total}
-use Rattle.std.specs.Cmp.{IsTotalOrder, tied_itself}
+use Rattle.std.specs.Cmp.{IsTotalOrder}
 use Rattle.std.specs.Cmp.Lexicographic.{options_total}
 use Rattle.std.specs.Option.{option_cmp}
 use Rattle.std.specs.Ordering.{nat_cmp, on, ordering_then, then_cmp}
@@ -11,25 +11,20 @@ use Rattle.version_rules.specs.Key.{key_of, precedence}
 use Rattle.version_rules.specs.KeyTies.{key_tie_cmp}
 use Rattle.version_rules.specs.Kind.{versioning_kind}
 use Rattle.version_rules.specs.Orders.{versioning_cmp}
-use Rattle.version_rules.specs.Versioning.{PlainVersioning, Ideal, General, Complex, versioning_of, versioning_plain_cmp}
+use Rattle.version_rules.specs.Versioning.{PlainVersioning, Ideal, General, Complex, versioning_of}
 use Rattle.version_rules.specs.declared.kind.Kind.{Kind}
 use Rattle.version_rules.specs.laws.Order.{then_equal}
-use Rattle.version_rules.specs.laws.Orders.{versioning_cmp_total}
+use Rattle.version_rules.proofs.lemmas.KeyLaws.{keys_same}
 use Rattle.version_rules.proofs.lemmas.KeyTies.{ties_alike}
 use Rattle.version_rules.proofs.lemmas.Versioning.{versioning_of-spells}
-use Rattle.version_texts.specs.KeyTies.{general_texts_tie, kind_place, texts_tie}
-use Rattle.version_texts.specs.Ties.{byte_place, messy_tie}
+use Rattle.version_texts.specs.KeyTies.{kind_place, texts_tie}
+use Rattle.version_texts.specs.Ties.{byte_place, general_tie, messy_tie}
+use Rattle.version_texts.proofs.lemmas.Ties.Fields.{general_decides}
 use Rattle.version_texts.proofs.lemmas.Ties.Messy.{messy_decides}
+use Rattle.version_texts.proofs.lemmas.Ties.Totals.{general_total}
 use Rattle.version_rules.specs.declared.kind.Kind.TheVariants as kind
 
 -- ---- the order of texts of known kinds is total
-
-general_total : IsTotalOrder general_texts_tie
-general_total = on_total versioning_of (options_total versioning_cmp_total)
-
--- identical texts tie
-pub same_generals : (a b : List ℕ) → a ≡ b → Equal ≡ general_texts_tie a b
-same_generals a b same = rw same (sym (tied_itself general_total b))
 
 messy_total : IsTotalOrder messy_tie
 messy_total = lists_total (on_total byte_place nat_cmp_total)
@@ -47,14 +42,14 @@ messy_part (kind.Complex, text) = Some text
 
 in_turn : (x y : Kind × List ℕ)
     → then_cmp (on (λ (t : Kind × List ℕ). kind_place t.0) nat_cmp)
-    (then_cmp (on general_part (option_cmp general_texts_tie))
+    (then_cmp (on general_part (option_cmp general_tie))
     (on messy_part (option_cmp messy_tie))) x y ≡ texts_tie x y
 unfolding general_part messy_part
 in_turn (kind.Ideal, a) (kind.Ideal, b) = refl
 in_turn (kind.Ideal, a) (kind.General, b) = refl
 in_turn (kind.Ideal, a) (kind.Complex, b) = refl
 in_turn (kind.General, a) (kind.Ideal, b) = refl
-in_turn (kind.General, a) (kind.General, b) = then_equal (general_texts_tie a b)
+in_turn (kind.General, a) (kind.General, b) = then_equal (general_tie a b)
 in_turn (kind.General, a) (kind.Complex, b) = refl
 in_turn (kind.Complex, a) (kind.Ideal, b) = refl
 in_turn (kind.Complex, a) (kind.General, b) = refl
@@ -69,11 +64,6 @@ texts_tie_total = subst IsTotalOrder (λ i x y. in_turn x y i)
 -- ---- it is that of their versions, if the keys of these tie
 
 module _ (a b : List ℕ) where
-  tied_generals : (v w : PlainVersioning) → versioning_of a ≡ Some v → versioning_of b ≡ Some w
-      → precedence (key_of v) (key_of w) ≡ Equal
-      → general_texts_tie a b ≡ versioning_plain_cmp v w
-  tied_generals v w here there tied = rw (here, there, tied) refl
-
   pub texts_tied : (v w : PlainVersioning) → versioning_of a ≡ Some v → versioning_of b ≡ Some w
       → precedence (key_of v) (key_of w) ≡ Equal
       → texts_tie (versioning_kind v, a) (versioning_kind w, b) ≡ key_tie_cmp v w
@@ -82,7 +72,8 @@ module _ (a b : List ℕ) where
   texts_tied (Ideal v) (Complex w) here there tied = refl
   texts_tied (General v) (Ideal w) here there tied = refl
   texts_tied (General v) (General w) here there tied =
-      tied_generals (General v) (General w) here there tied
+      general_decides a b v w (versioning_of-spells a (General v) here).0
+      (versioning_of-spells b (General w) there).0 (keys_same _ _ tied)
   texts_tied (General v) (Complex w) here there tied = refl
   texts_tied (Complex v) (Ideal w) here there tied = refl
   texts_tied (Complex v) (General w) here there tied = refl

@@ -3,6 +3,7 @@ pub mod Fields
 pub mod Lasts
 pub mod Messy
 pub mod Places
+pub mod Totals
 pub mod Variants
 pub mod Walks
 use Rattle.std.proofs.Common.{◌≡◌, ◌∙◌, ℕ, List, Some, sym}
@@ -12,19 +13,18 @@ use Rattle.version_rules.specs.Kind.{versioning_kind}
 use Rattle.version_rules.specs.Versioning.{PlainVersioning, Ideal, General, Complex, SpellsVersioning, versioning_plain_cmp}
 use Rattle.version_rules.proofs.lemmas.KeyLaws.{keys_same}
 use Rattle.version_texts.specs.declared.shape.Shape.{Shape}
-use Rattle.version_texts.specs.Shape.{shape_at, shape_of}
+use Rattle.version_texts.specs.Shape.{shape_of}
 use Rattle.version_texts.specs.Ties.{general_tie, messy_tie}
 use Rattle.version_texts.specs.VersioningRef.{version_in}
 use Rattle.version_texts.proofs.lemmas.Ties.Fields.{general_decides}
 use Rattle.version_texts.proofs.lemmas.Ties.Messy.{messy_decides}
-use Rattle.version_texts.proofs.lemmas.VersioningRef.{kind-is, spelled, spells-is}
+use Rattle.version_texts.proofs.lemmas.VersioningRef.{kind-is, spells-is}
 use Rattle.version_rules.specs.declared.kind.Kind.TheVariants as kind
 
 general_order : (text other : List ℕ) (a b : PlainVersioning) → SpellsVersioning text a
     → SpellsVersioning other b → kind.General ≡ versioning_kind a → kind.General ≡ versioning_kind b
     → precedence (key_of a) (key_of b) ≡ Equal
-    → general_tie text (shape_at (versioning_kind a) text) other
-    (shape_at (versioning_kind b) other) ≡ versioning_plain_cmp a b
+    → general_tie text other ≡ versioning_plain_cmp a b
 general_order text other (General a) (General b) s t k l tied =
     general_decides text other a b s.0 t.0 (keys_same _ _ tied)
 general_order text other (General a) (Ideal b) s t k l tied = cc l
@@ -47,10 +47,9 @@ module _ (text other : List ℕ) (s t : Shape) (e : shape_of text ≡ Some s)
     (f : shape_of other ≡ Some t)
     (tied : precedence (key_of (version_in text)) (key_of (version_in other)) ≡ Equal) where
   pub general_breaks : s.kind ≡ kind.General → t.kind ≡ kind.General
-      → general_tie text s other t ≡ versioning_plain_cmp (version_in text) (version_in other)
+      → general_tie text other ≡ versioning_plain_cmp (version_in text) (version_in other)
   general_breaks k l =
-      (λ i. general_tie text ((spelled text s e).1 i) other ((spelled other t f).1 i))
-      ∙ general_order text other (version_in text) (version_in other) (spells-is text s e)
+      general_order text other (version_in text) (version_in other) (spells-is text s e)
       (spells-is other t f) (sym k ∙ kind-is text s e) (sym l ∙ kind-is other t f) tied
 
   pub messy_breaks : s.kind ≡ kind.Complex → t.kind ≡ kind.Complex

@@ -1,43 +1,55 @@
 //! Versions of one key, compared field by field off their texts. Nothing here allocates.
 
-ghost use Rattle.std.specs.Prelude.{◌≡◌};
-ghost use Rattle.version_texts.specs.Shape.{Fits};
-ghost use Rattle.version_texts.specs.TextKey.{pieces};
-ghost use Rattle.version_texts.specs.Ties.{byte_place, general_tie, is_lettered, is_numbered, last_tie, messy_tie, parts_tie};
+ghost use Rattle.std.specs.Prelude.{◌≡◌, ◌≤◌, length};
+ghost use Rattle.std.specs.Ordering.{ordering_then};
+ghost use Rattle.version_rules.specs.Lists.{bytes_cmp};
+ghost use Rattle.version_texts.specs.Shape.{body_start};
+ghost use Rattle.version_texts.specs.Ties.{bodies_tie, byte_place, general_tie, is_lettered, is_numbered, last_tie, messy_tie};
 
-use crate::class::{Class, begins_with, split_run};
-use crate::key::body_at;
+use crate::class::{COLON, Class, begins_with, rank_at, run_end, split_run};
 use crate::numeral::spells_numeral;
-use crate::order::piece::{behind_first, split_piece};
-use crate::shape::Shape;
+use crate::order::piece::after_mark;
 use std::cmp::Ordering;
 
-// Compares two general versions: no epoch first, then their parts, then their metadata.
+// Compares two general versions: no epoch first, then their parts, then what follows these. Reads the texts up to the
+// part in which they differ.
 #[inline(never)]
-pub(crate) fn compare_general(a: &[u8], a_shape: Shape, b: &[u8], b_shape: Shape) -> Ordering
-    requires a_fits { Fits a.now a_shape }
-    requires b_fits { Fits b.now b_shape }
-    ensures { result ≡ general_tie a.now a_shape b.now b_shape }
+pub(crate) fn compare_general(a: &[u8], b: &[u8]) -> Ordering
+    ensures { result ≡ general_tie a.now b.now }
 {
-    let epochs = a_shape.body.cmp(&b_shape.body);
+    if a == b {
+        return Ordering::Equal;
+    }
+    let (start, other_start) = (body_start(a), body_start(b));
+    let epochs = start.cmp(&other_start);
     if epochs != Ordering::Equal {
         return epochs;
     }
-    let parts = compare_bodies(body_at(a, a_shape), body_at(b, b_shape));
-    if parts != Ordering::Equal {
-        return parts;
-    }
-    a[a_shape.tail_end..].cmp(&b[b_shape.tail_end..])
+    compare_bodies(&a[start..], &b[other_start..])
 }
 
-// Compares two lists of as many parts: by bytes, and the last ones as last parts.
+// Returns where the body of a text begins: after digits and a colon, if the text begins so.
+fn body_start(text: &[u8]) -> usize
+    ensures start { result ≡ body_start text.now }
+    ensures within { result ≤ length text.now }
+{
+    let end = run_end(text, 0, Class::Digit);
+    if begins_with(text, Class::Digit) && rank_at(text, end) == COLON {
+        end + 1
+    } else {
+        0
+    }
+}
+
+// Compares two texts that begin with a body: part by part by bytes, the last ones as last parts, then what follows.
 fn compare_bodies(x: &[u8], y: &[u8]) -> Ordering
-    ensures { result ≡ parts_tie (pieces x.now) (pieces y.now) }
+    ensures { result ≡ bodies_tie x.now y.now }
 {
     let (mut a, mut b) = (x, y);
     'parts: loop {
-        let ((part, rest), (other, other_rest)) = (split_piece(a), split_piece(b));
-        match (behind_first(rest), behind_first(other_rest)) {
+        let (part, rest) = split_run(a, Class::Alphanumeric);
+        let (other, other_rest) = split_run(b, Class::Alphanumeric);
+        match (after_mark(b'.', rest), after_mark(b'.', other_rest)) {
             (Some(more), Some(others)) => {
                 let order = part.cmp(other);
                 if order != Ordering::Equal {
@@ -46,9 +58,20 @@ fn compare_bodies(x: &[u8], y: &[u8]) -> Ordering
                 a = more;
                 b = others;
             }
-            (Some(_), None) => return compare_lasts(part, other),
-            (None, _) => return compare_lasts(part, other),
+            (Some(_), None) => return Ordering::Greater,
+            (None, Some(_)) => return Ordering::Less,
+            (None, None) => return compare_ends(part, rest, other, other_rest),
         }
+    }
+}
+
+// Compares two last parts, then what follows them.
+fn compare_ends(a: &[u8], rest: &[u8], b: &[u8], other_rest: &[u8]) -> Ordering
+    ensures { result ≡ ordering_then (last_tie a.now b.now) (bytes_cmp rest.now other_rest.now) }
+{
+    match compare_lasts(a, b) {
+        Ordering::Equal => rest.cmp(other_rest),
+        order => order,
     }
 }
 
@@ -56,6 +79,9 @@ fn compare_bodies(x: &[u8], y: &[u8]) -> Ordering
 fn compare_lasts(a: &[u8], b: &[u8]) -> Ordering
     ensures { result ≡ last_tie a.now b.now }
 {
+    if a == b {
+        return Ordering::Equal;
+    }
     match (is_numbered(a), is_numbered(b)) {
         (true, true) => Ordering::Equal,
         (true, false) => Ordering::Less,

@@ -47,6 +47,14 @@ other_dot b h k = rw (h, k) refl
 -- ---- lists of parts
 
 -- a part and a dot, and the parts after them
+pub next_part : (text rest behind : List ℕ)
+    → rest ≡ drop (prefix_len is_ascii_alphanumeric text) text → rest ≡ dot ∷ behind
+    → pieces (take_while is_section_byte text)
+    ≡ take_while is_ascii_alphanumeric text ∷ pieces (take_while is_section_byte behind)
+next_part text rest behind r d =
+    next_piece is_ascii_alphanumeric is_section_byte alphanumeric_section
+    (λ b. b == dot) alphanumeric_no_dot text dot behind (sym r ∙ d) refl refl
+
 pub part_and_more : (text rest behind : List ℕ)
     → rest ≡ drop (prefix_len is_ascii_alphanumeric text) text → rest ≡ dot ∷ behind
     → items_bytes part_bytes (parts_of (take_while is_section_byte text))
@@ -55,10 +63,8 @@ pub part_and_more : (text rest behind : List ℕ)
 part_and_more text rest behind r d =
     let run = take_while is_ascii_alphanumeric text in
     let left = take_while is_section_byte behind in
-    let cut : pieces (take_while is_section_byte text) ≡ run ∷ pieces left =
-    next_piece is_ascii_alphanumeric is_section_byte alphanumeric_section
-    (λ b. b == dot) alphanumeric_no_dot text dot behind (sym r ∙ d) refl refl in
-    ap (λ (l : List (List ℕ)). items_bytes part_bytes (map part_key l)) cut
+    ap (λ (l : List (List ℕ)). items_bytes part_bytes (map part_key l))
+    (next_part text rest behind r d)
     ∙ flat_map-cons part_bytes (Some (part_key run)) (map Some (parts_of left))
 
 pub rest_and_more : (text rest behind : List ℕ)
@@ -81,17 +87,22 @@ nothing_more text rest r other =
     by (b ∷ l) h k = other_dot b h k
 
 -- the last part
+pub only_part : (text rest : List ℕ) → rest ≡ drop (prefix_len is_ascii_alphanumeric text) text
+    → begins (λ b. b == dot) rest ≡ false
+    → pieces (take_while is_section_byte text) ≡ take_while is_ascii_alphanumeric text ∷ []
+only_part text rest r other =
+    last_piece is_ascii_alphanumeric is_section_byte alphanumeric_section
+    (λ b. b == dot) alphanumeric_no_dot text
+    (ap (begins is_section_byte) (sym r) ∙ nothing_more text rest r other)
+
 pub last_part : (text rest : List ℕ) → rest ≡ drop (prefix_len is_ascii_alphanumeric text) text
     → begins (λ b. b == dot) rest ≡ false
     → items_bytes part_bytes (parts_of (take_while is_section_byte text))
     ≡ part_bytes (Some (part_key (take_while is_ascii_alphanumeric text)))
 last_part text rest r other =
     let run = take_while is_ascii_alphanumeric text in
-    let cut : pieces (take_while is_section_byte text) ≡ run ∷ [] =
-    last_piece is_ascii_alphanumeric is_section_byte alphanumeric_section
-    (λ b. b == dot) alphanumeric_no_dot text
-    (ap (begins is_section_byte) (sym r) ∙ nothing_more text rest r other) in
-    ap (λ (l : List (List ℕ)). items_bytes part_bytes (map part_key l)) cut
+    ap (λ (l : List (List ℕ)). items_bytes part_bytes (map part_key l))
+    (only_part text rest r other)
     ∙ flat_map-cons part_bytes (Some (part_key run)) []
     ∙ append-nil (part_bytes (Some (part_key run)))
 

@@ -4,12 +4,13 @@ use Rattle.std.proofs.lemmas.Cmp.{nat_cmp_total, nat_list_cmp_total, tied_itself
 use Rattle.std.specs.Cmp.{nat_cmp_is}
 use Rattle.std.specs.Cmp.Lexicographic.{options_total}
 use Rattle.std.specs.Fmt.{decimal}
+use Rattle.std.specs.List.{prefix_len, take_while}
 use Rattle.std.specs.Option.{option_cmp, option_map_or, unwrap_or}
 use Rattle.std.specs.Ordering.{nat_cmp, ordering_then}
 use Rattle.std.specs.declared.cmp.Ordering.{Ordering}
 use Rattle.std.specs.declared.cmp.Ordering.TheVariants.{Less, Equal, Greater}
 use Rattle.version_rules.specs.Body.{PlainBody, SpellsBody}
-use Rattle.version_rules.specs.Bytes.{colon, plus}
+use Rattle.version_rules.specs.Bytes.{colon, hyphen, plus}
 use Rattle.version_rules.specs.Chunk.{Alphanum, Numeric, PlainChunk, SpellsPart, chunk_text}
 use Rattle.version_rules.specs.Grammar.{SpellsDotted, SpellsOptional}
 use Rattle.version_rules.specs.Last.{IsLastOf, PlainLast}
@@ -17,23 +18,25 @@ use Rattle.version_rules.specs.LastOrder.{last_plain_cmp}
 use Rattle.version_rules.specs.Lists.{bytes_cmp}
 use Rattle.version_rules.specs.Metadata.{SpellsMetadata}
 use Rattle.version_rules.specs.PartKey.{PartKey, part_key}
+use Rattle.version_rules.specs.Release.{SpellsRelease, release_text}
+use Rattle.version_rules.specs.SemVer.{optional_text}
 use Rattle.version_rules.specs.laws.Release.{release_total}
 use Rattle.version_rules.specs.ReleaseOrder.{chunk_cmp, release_cmp}
-use Rattle.version_rules.proofs.lemmas.Chunk.{part_printed}
+use Rattle.version_rules.proofs.lemmas.Chunk.{part_printed, release_printed}
+use Rattle.version_rules.proofs.lemmas.SemVer.{optional_printed}
 use Rattle.version_rules.proofs.lemmas.Orders.{then_assoc}
 use Rattle.version_rules.proofs.lemmas.Numeral.{numeral_printed}
 use Rattle.version_rules.specs.Key.{Key, key_of_version}
 use Rattle.version_rules.specs.Version.{PlainVersion, SpellsEpoch, SpellsVersion, epoch_text}
 use Rattle.version_rules.specs.VersionOrder.{version_plain_cmp}
-use Rattle.version_texts.specs.Shape.{body_end, body_start, shape_at}
+use Rattle.version_texts.specs.Shape.{body_start, from_body, is_section_byte}
 use Rattle.version_texts.specs.TextKey.{parts_of, pieces}
 use Rattle.version_texts.specs.Ties.{general_tie, parts_tie}
 use Rattle.version_texts.proofs.lemmas.Piece.Spelled.{body_parts, body_pieces}
-use Rattle.version_texts.proofs.lemmas.Shape.{body_taken, dashed_end, version_cut}
-use Rattle.version_texts.proofs.lemmas.Ties.Lasts.{number_apart, numbers_same, tied_lasts}
-use Rattle.version_texts.proofs.lemmas.VersioningRef.SameText.{meta_taken}
-use Rattle.std.specs.Prelude.{slice_range}
-use Rattle.version_rules.specs.declared.kind.Kind.TheVariants as kind
+use Rattle.version_texts.proofs.lemmas.Shape.{version_cut}
+use Rattle.version_texts.proofs.lemmas.Shape.Positions.{IsCut, from_body-is}
+use Rattle.version_texts.proofs.lemmas.Ties.Lasts.{number_apart, numbers_same, run_cut, tied_lasts}
+use Rattle.version_texts.proofs.lemmas.Ties.Walks.{IsNonempty, parts_then}
 use Rattle.version_rules.specs.Tail as tail
 
 -- ---- parts
@@ -73,20 +76,9 @@ texts = map chunk_text
 abbrev keys : List PlainChunk → List PartKey
 keys cs = map part_key (texts cs)
 
--- a list that is not empty
-abbrev IsNonempty : {X : Type 0} → List X → Type 0
-IsNonempty [] = ⊥
-IsNonempty (x ∷ xs) = Unit {0}
-
 one_more : (cs : List PlainChunk) (p : PlainChunk) → IsNonempty (texts (cs ++ p ∷ []))
 one_more [] p = tt
 one_more (c ∷ cs) p = tt
-
-parts_then : (a b : List ℕ) (more others : List (List ℕ)) → IsNonempty more → IsNonempty others
-    → parts_tie (a ∷ more) (b ∷ others) ≡ ordering_then (bytes_cmp a b) (parts_tie more others)
-parts_then a b [] others s t = absurd s
-parts_then a b (next ∷ more) [] s t = absurd t
-parts_then a b (next ∷ more) (other ∷ others) s t = refl
 
 no_key : (cs : List PlainChunk) (p : PlainChunk) → ¬ ([] ≡ keys (cs ++ p ∷ []))
 no_key [] p e = cc e
@@ -170,7 +162,25 @@ metas_decide text other None (Some y) s t = rw (s, t.1) refl
 metas_decide text other (Some x) None s t = rw (s.1, t) refl
 metas_decide text other (Some x) (Some y) s t = rw (s.1, t.1) (λ i. bytes_cmp (s.2.0 i) (t.2.0 i))
 
+-- texts that begin alike compare as what follows
+bytes_behind : (text a b : List ℕ) → bytes_cmp (text ++ a) (text ++ b) ≡ bytes_cmp a b
+bytes_behind [] a b = refl
+bytes_behind (x ∷ text) a b =
+    ap (λ o. ordering_then o (bytes_cmp (text ++ a) (text ++ b))) (tied_itself nat_cmp_total x)
+    ∙ bytes_behind text a b
+
 -- ---- versions
+
+-- the body of a text that is cut, and what follows it
+module _ (text epoch body rest : List ℕ) (cut : IsCut text epoch body rest) where
+  body_cut : (take_while is_section_byte (from_body text) ≡ body)
+      × (drop (prefix_len is_section_byte (from_body text)) (from_body text) ≡ rest)
+  body_cut =
+      let at_body = from_body-is text epoch body rest cut in
+      let run = run_cut is_section_byte body rest cut.bytes cut.ends in (
+        ap (take_while is_section_byte) at_body ∙ run.0,
+        ap (λ (l : List ℕ). drop (prefix_len is_section_byte l) l) at_body ∙ run.1,
+      )
 
 module _ (text other : List ℕ) (a b : PlainVersion) (s : SpellsVersion text a)
     (t : SpellsVersion other b) (e : key_of_version a ≡ key_of_version b) where
@@ -185,38 +195,48 @@ module _ (text other : List ℕ) (a b : PlainVersion) (s : SpellsVersion text a)
       (λ i. nat_cmp (here i) (there i))
       ∙ epochs_decide a.epoch b.epoch (ap (λ (k : Key). k.epoch) e)
 
-  bodies : parts_tie (pieces (slice_range text (body_start text) (body_end text)))
-      (pieces (slice_range other (body_start other) (body_end other)))
+  bodies : parts_tie (pieces s.body) (pieces t.body)
       ≡ ordering_then (release_cmp a.chunks b.chunks) (last_plain_cmp a.last b.last)
   bodies =
-      let here = body_taken text s.epoch s.body (s.release ++ s.meta) (version_cut text a s) in
-      let there = body_taken other t.epoch t.body (t.release ++ t.meta) (version_cut other b t) in
       let parts : parts_of s.body ≡ parts_of t.body =
       body_parts s.body (a.chunks, a.last) s.body_is ∙ ap (λ (k : Key). k.body) e
       ∙ sym (body_parts t.body (b.chunks, b.last) t.body_is) in
-      (λ i. parts_tie (pieces (here i)) (pieces (there i)))
-      ∙ bodies_decide s.body t.body (a.chunks, a.last) (b.chunks, b.last) s.body_is t.body_is parts
+      bodies_decide s.body t.body (a.chunks, a.last) (b.chunks, b.last) s.body_is t.body_is parts
 
-  metas : bytes_cmp (drop (dashed_end text) text) (drop (dashed_end other) other)
+  same_releases : a.release ≡ b.release
+  same_releases = releases_tied a.release b.release (ap (λ (k : Key). k.tail) e)
+
+  -- releases of one key have the same text
+  afters : bytes_cmp (s.release ++ s.meta) (t.release ++ t.meta)
       ≡ option_cmp bytes_cmp a.meta b.meta
-  metas =
-      (λ i. bytes_cmp (meta_taken text a s i) (meta_taken other b t i))
+  afters =
+      let printed = optional_printed hyphen SpellsRelease release_text release_printed in
+      let same : s.release ≡ t.release =
+      sym (printed s.release a.release s.release_is)
+      ∙ ap (optional_text hyphen release_text) same_releases
+      ∙ printed t.release b.release t.release_is in
+      ap (λ (l : List ℕ). bytes_cmp (l ++ s.meta) (t.release ++ t.meta)) same
+      ∙ bytes_behind t.release s.meta t.meta
       ∙ metas_decide s.meta t.meta a.meta b.meta s.meta_is t.meta_is
 
   releases : option_cmp release_cmp a.release b.release ≡ Equal
   releases =
-      ap (λ o. option_cmp release_cmp o b.release)
-      (releases_tied a.release b.release (ap (λ (k : Key). k.tail) e))
+      ap (λ o. option_cmp release_cmp o b.release) same_releases
       ∙ tied_itself (options_total release_total) b.release
 
   -- texts of general versions of one key compare as the versions do
-  pub general_decides : general_tie text (shape_at kind.General text) other
-      (shape_at kind.General other) ≡ version_plain_cmp a b
+  pub general_decides : general_tie text other ≡ version_plain_cmp a b
   general_decides =
       let chunks = release_cmp a.chunks b.chunks in
       let last = last_plain_cmp a.last b.last in
       let meta = option_cmp bytes_cmp a.meta b.meta in
-      (λ i. ordering_then (starts i) (ordering_then (bodies i) (metas i)))
+      let here = body_cut text s.epoch s.body (s.release ++ s.meta) (version_cut text a s) in
+      let there = body_cut other t.epoch t.body (t.release ++ t.meta) (version_cut other b t) in
+      (λ i. ordering_then (starts i)
+      (ordering_then (parts_tie (pieces (here.0 i)) (pieces (there.0 i)))
+      (bytes_cmp (here.1 i) (there.1 i))))
+      ∙ (λ i. ordering_then (option_cmp nat_cmp a.epoch b.epoch)
+      (ordering_then (bodies i) (afters i)))
       ∙ ap (ordering_then (option_cmp nat_cmp a.epoch b.epoch))
       (then_assoc chunks last meta
       ∙ ap (λ (o : Ordering). ordering_then chunks (ordering_then last (ordering_then o meta)))

@@ -82,7 +82,7 @@ post_key text a letters s =
 -- ---- a part is decomposed exactly if the test says so
 
 -- a run at the start of a text, and what follows it
-run_cut : (test : ℕ → Bool) (run rest : List ℕ) → list_all test run ≡ true
+pub run_cut : (test : ℕ → Bool) (run rest : List ℕ) → list_all test run ≡ true
     → begins test rest ≡ false
     → (take_while test (run ++ rest) ≡ run)
     × (drop (prefix_len test (run ++ rest)) (run ++ rest) ≡ rest)

@@ -1,62 +1,102 @@
 -- What a walk over two texts of one key knows at each step.
-use Rattle.std.proofs.Common.{◌≡◌, ◌∙◌, ◌+◌, ◌<◌, ◌≤◌, ◌⊎◌, ℕ, List, [], ◌∷◌, drop, length, refl, sym, ap, arith, inl, inr}
+use Rattle.std.proofs.Common.{◌≡◌, ◌==◌, ◌∙◌, ◌+◌, ◌<◌, ◌≤◌, ◌⊎◌, ℕ, false, List, [], ◌∷◌, drop, length, refl, sym, ap, subst, arith, inl, inr}
 use Rattle.std.proofs.lemmas.List.{drop_all, length-drop}
+use Rattle.std.specs.Char.{is_ascii_alphanumeric}
 use Rattle.std.specs.Cmp.{nat_cmp_is, ranks}
+use Rattle.std.specs.List.{prefix_len, take_while}
 use Rattle.std.specs.Ordering.{MatchOrdering, nat_cmp, ordering_then}
 use Rattle.std.specs.declared.cmp.Ordering.{Ordering}
 use Rattle.std.specs.declared.cmp.Ordering.TheVariants.{Less, Equal, Greater}
+use Rattle.version_rules.specs.Bytes.{dot}
+use Rattle.version_rules.specs.Front.{begins}
 use Rattle.version_rules.specs.Lists.{bytes_cmp}
-use Rattle.version_texts.specs.Piece.{behind_piece, first_piece, is_dot}
+use Rattle.version_rules.proofs.lemmas.Orders.{then_assoc}
+use Rattle.version_texts.specs.Piece.{is_dot}
+use Rattle.version_texts.specs.Shape.{is_section_byte}
 use Rattle.version_texts.specs.TextKey.{pieces}
-use Rattle.version_texts.specs.Ties.{last_tie, messy_tie, parts_tie}
+use Rattle.version_texts.specs.Ties.{bodies_tie, last_tie, messy_tie, parts_tie}
 use Rattle.version_texts.proofs.lemmas.Piece.{pieces_are}
-use Rattle.version_texts.proofs.lemmas.TextKey.Lists.{further_of_more, further_of_none}
+use Rattle.version_texts.proofs.lemmas.TextKey.DotPieces.{next_part, only_part, rest_and_more, rest_of_last}
 
 -- ---- parts
 
+-- a list that is not empty
+abbrev pub IsNonempty : {X : Type 0} → List X → Type 0
+IsNonempty [] = ⊥
+IsNonempty (x ∷ xs) = Unit {0}
+
 -- where more parts follow in both, the first ones compare by bytes, and then these
-pub parts_go_on : (a b part other rest other_rest more others : List ℕ) (o : Ordering)
-    → part ≡ first_piece a → other ≡ first_piece b → rest ≡ behind_piece a
-    → other_rest ≡ behind_piece b → (m : ℕ) × (rest ≡ m ∷ more)
-    → (n : ℕ) × (other_rest ≡ n ∷ others)
-    → o ≡ bytes_cmp part other
-    → parts_tie (pieces a) (pieces b) ≡ ordering_then o (parts_tie (pieces more) (pieces others))
-parts_go_on a b part other rest other_rest more others o e f r s p q order =
-    let here : pieces a ≡ part ∷ pieces more =
-    pieces_are is_dot a
-    ∙ (λ i. sym e i ∷ further_of_more is_dot (behind_piece a) more (p.0, sym r ∙ p.1) i) in
-    let there : pieces b ≡ other ∷ pieces others =
-    pieces_are is_dot b
-    ∙ (λ i. sym f i ∷ further_of_more is_dot (behind_piece b) others (q.0, sym s ∙ q.1) i) in
-    let both : parts_tie (part ∷ pieces more) (other ∷ pieces others)
-    ≡ ordering_then (bytes_cmp part other) (parts_tie (pieces more) (pieces others)) =
-    rw (pieces_are is_dot more, pieces_are is_dot others) refl in
-    (λ i. parts_tie (here i) (there i)) ∙ both
-    ∙ ap (λ o. ordering_then o (parts_tie (pieces more) (pieces others))) (sym order)
+pub parts_then : (a b : List ℕ) (more others : List (List ℕ)) → IsNonempty more → IsNonempty others
+    → parts_tie (a ∷ more) (b ∷ others) ≡ ordering_then (bytes_cmp a b) (parts_tie more others)
+parts_then a b [] others s t = absurd s
+parts_then a b (next ∷ more) [] s t = absurd t
+parts_then a b (next ∷ more) (other ∷ others) s t = then_assoc (bytes_cmp a b) _ _
 
--- where no part follows in one of them, the first ones are the last
-pub parts_end : (a b rest : List ℕ) → rest ≡ behind_piece a → rest ≡ []
-    → last_tie (first_piece a) (first_piece b) ≡ parts_tie (pieces a) (pieces b)
-parts_end a b rest r none =
-    let here : pieces a ≡ first_piece a ∷ [] =
-    pieces_are is_dot a
-    ∙ ap (λ (l : List (List ℕ)). first_piece a ∷ l)
-    (further_of_none is_dot (behind_piece a) (sym r ∙ none)) in
-    rw (here, pieces_are is_dot b) refl
+some_pieces : (text : List ℕ) → IsNonempty (pieces text)
+some_pieces text = subst IsNonempty (sym (pieces_are is_dot text)) tt
 
-pub others_end : (a b rest more other : List ℕ) → rest ≡ behind_piece a → other ≡ behind_piece b
-    → (m : ℕ) × (rest ≡ m ∷ more) → other ≡ []
-    → last_tie (first_piece a) (first_piece b) ≡ parts_tie (pieces a) (pieces b)
-others_end a b rest more other r s p none =
-    let there : pieces b ≡ first_piece b ∷ [] =
-    pieces_are is_dot b
-    ∙ ap (λ (l : List (List ℕ)). first_piece b ∷ l)
-    (further_of_none is_dot (behind_piece b) (sym s ∙ none)) in
-    let here : pieces a ≡ first_piece a ∷ pieces more =
-    pieces_are is_dot a
-    ∙ ap (λ (l : List (List ℕ)). first_piece a ∷ l)
-    (further_of_more is_dot (behind_piece a) more (p.0, sym r ∙ p.1)) in
-    rw (here, there, pieces_are is_dot more) refl
+-- the parts of a body, and what follows it
+abbrev parts : List ℕ → List (List ℕ)
+parts text = pieces (take_while is_section_byte text)
+
+abbrev after : List ℕ → List ℕ
+after text = drop (prefix_len is_section_byte text) text
+
+module _ (a b part other rest other_rest : List ℕ) (e : part ≡ take_while is_ascii_alphanumeric a)
+    (f : other ≡ take_while is_ascii_alphanumeric b)
+    (r : rest ≡ drop (prefix_len is_ascii_alphanumeric a) a)
+    (s : other_rest ≡ drop (prefix_len is_ascii_alphanumeric b) b) where
+  -- where both go on, their first parts compare, and then what is left
+  pub bodies_go_on : (more others : List ℕ) → rest ≡ dot ∷ more → other_rest ≡ dot ∷ others
+      → bodies_tie a b ≡ ordering_then (bytes_cmp part other) (bodies_tie more others)
+  bodies_go_on more others p q =
+      let here : parts a ≡ part ∷ parts more =
+      next_part a rest more r p ∙ ap (λ (l : List ℕ). l ∷ parts more) (sym e) in
+      let there : parts b ≡ other ∷ parts others =
+      next_part b other_rest others s q ∙ ap (λ (l : List ℕ). l ∷ parts others) (sym f) in
+      let of_parts : parts_tie (parts a) (parts b)
+      ≡ ordering_then (bytes_cmp part other) (parts_tie (parts more) (parts others)) =
+      (λ i. parts_tie (here i) (there i))
+      ∙ parts_then part other (parts more) (parts others)
+      (some_pieces (take_while is_section_byte more))
+      (some_pieces (take_while is_section_byte others)) in
+      let left : after a ≡ after more = sym (rest_and_more a rest more r p) in
+      let left_too : after b ≡ after others = sym (rest_and_more b other_rest others s q) in
+      (λ i. ordering_then (of_parts i) (bytes_cmp (left i) (left_too i)))
+      ∙ then_assoc (bytes_cmp part other) _ _
+
+  -- where one goes on and the other doesn't, it comes last
+  pub bodies_above : (more : List ℕ) → rest ≡ dot ∷ more → begins (λ b. b == dot) other_rest ≡ false
+      → Greater ≡ bodies_tie a b
+  bodies_above more p ends =
+      let here : parts a ≡ take_while is_ascii_alphanumeric a ∷ _ =
+      next_part a rest more r p
+      ∙ ap (λ (l : List (List ℕ)). take_while is_ascii_alphanumeric a ∷ l)
+      (pieces_are is_dot (take_while is_section_byte more)) in
+      let there = only_part b other_rest s ends in
+      sym (λ i. ordering_then (parts_tie (here i) (there i)) (bytes_cmp (after a) (after b)))
+
+  pub bodies_below : (others : List ℕ) → begins (λ b. b == dot) rest ≡ false
+      → other_rest ≡ dot ∷ others → Less ≡ bodies_tie a b
+  bodies_below others ends q =
+      let here = only_part a rest r ends in
+      let there : parts b ≡ take_while is_ascii_alphanumeric b ∷ _ =
+      next_part b other_rest others s q
+      ∙ ap (λ (l : List (List ℕ)). take_while is_ascii_alphanumeric b ∷ l)
+      (pieces_are is_dot (take_while is_section_byte others)) in
+      sym (λ i. ordering_then (parts_tie (here i) (there i)) (bytes_cmp (after a) (after b)))
+
+  -- where both end, the last parts compare, and then what follows them
+  pub bodies_end : begins (λ b. b == dot) rest ≡ false → begins (λ b. b == dot) other_rest ≡ false
+      → ordering_then (last_tie part other) (bytes_cmp rest other_rest) ≡ bodies_tie a b
+  bodies_end ends ends_too =
+      let here : parts a ≡ part ∷ [] =
+      only_part a rest r ends ∙ ap (λ (l : List ℕ). l ∷ []) (sym e) in
+      let there : parts b ≡ other ∷ [] =
+      only_part b other_rest s ends_too ∙ ap (λ (l : List ℕ). l ∷ []) (sym f) in
+      let left : after a ≡ rest = sym (rest_of_last a rest r ends) in
+      let left_too : after b ≡ other_rest = sym (rest_of_last b other_rest s ends_too) in
+      sym (λ i. ordering_then (parts_tie (here i) (there i)) (bytes_cmp (left i) (left_too i)))
 
 -- ---- bytes
 

@@ -1,7 +1,7 @@
 -- Two versions are the same exactly if their texts are, up to the metadata of strict ones.
-use Rattle.std.proofs.Common.{◌≡◌, ◌↔◌, ◌∙◌, ℕ, true, false, List, [], ◌++◌, length, drop, take, Option, Some, None, refl, sym, ap, subst, arith, inl, inr, nat_eq, append-nil, append_assoc, length-append}
+use Rattle.std.proofs.Common.{◌≡◌, ◌↔◌, ◌∙◌, ℕ, true, false, List, [], ◌++◌, length, take, Option, Some, None, refl, sym, ap, subst, arith, inl, inr, nat_eq, append-nil, append_assoc, length-append}
 use Rattle.std.proofs.lemmas.Bool.{cases_Bool}
-use Rattle.std.proofs.lemmas.List.{drop_at, take_at}
+use Rattle.std.proofs.lemmas.List.{take_at}
 use Rattle.std.specs.Cmp.{Equal-is}
 use Rattle.std.specs.Cmp.Lexicographic.{other_text, pointwise, same_text}
 use Rattle.std.specs.List.{list_all, prefix_len}
@@ -84,12 +84,6 @@ module _ (text : List ℕ) (v : PlainVersion) (s : SpellsVersion text v) where
   front_taken =
       ap (take (dashed_end text)) front_and_meta
       ∙ take_at (s.epoch ++ (s.body ++ s.release)) s.meta (dashed_end text) (sym front_len)
-
-  -- the rest is the metadata
-  pub meta_taken : drop (dashed_end text) text ≡ s.meta
-  meta_taken =
-      ap (drop (dashed_end text)) front_and_meta
-      ∙ drop_at (s.epoch ++ (s.body ++ s.release)) s.meta (dashed_end text) (sym front_len)
 
   -- the text before the metadata spells the version without its metadata
   front_spells : SpellsVersion (plain_front text) (without_metadata v)

@@ -1,42 +1,57 @@
-use Rattle.std.proofs.Common.{◌∙◌, ap, sym}
-use Rattle.std.specs.Ordering.{ordering_then}
-use Rattle.version_texts.specs.TextKey.{pieces}
-use Rattle.version_texts.specs.Ties.{last_tie, parts_tie}
-use Rattle.version_texts.proofs.lemmas.Piece.Order.{decided, tied}
-use Rattle.version_texts.proofs.lemmas.Ties.Walks.{others_end, parts_end, parts_go_on}
+use Rattle.std.proofs.Common.{◌∙◌, ℕ, List, ap, arith, length, sym}
+use Rattle.std.proofs.lemmas.List.{length-drop}
+use Rattle.std.specs.Char.{is_ascii_alphanumeric}
+use Rattle.std.specs.List.{prefix_len}
+use Rattle.version_texts.proofs.lemmas.Piece.Order.{decides, leaves, tied}
+use Rattle.version_texts.proofs.lemmas.Ties.Walks.{bodies_above, bodies_below, bodies_end, bodies_go_on}
 use Rattle.version_texts.proofs.order.ties.compare_bodies.Goals as goal
 
 pub returns-then-ne : goal.returns-then-ne
 returns-then-ne c =
-    let both = parts_go_on c.parts.a.now c.parts.b.now _ _ _ _ _ _ _
-    c.split_piece.ensures.piece c.split_piece-in-parts.ensures.piece c.split_piece.ensures.rest
-    c.split_piece-in-parts.ensures.rest c.in-Some-Some.ensures.some c.in-Some-Some.ensures'.some
-    c.cmp-order.ensures in
-    sym (sym c.parts.invariant ∙ both
-    ∙ decided c.cmp-order.result _ (sym c.if-ne.true ∙ c.ne.ensures))
+    let both = bodies_go_on c.parts.a.now c.parts.b.now _ _ _ _ c.split_run.ensures.run
+    c.split_run-in-parts.ensures.run c.split_run.ensures.rest c.split_run-in-parts.ensures.rest _ _
+    c.in-Some-Some.ensures c.in-Some-Some.ensures' in
+    decides c.cmp-order.result _ _ _ c.cmp-order.ensures both (sym c.if-ne.true ∙ c.ne.ensures)
+    ∙ c.parts.invariant
 
 pub parts-preserved : goal.parts-preserved
 parts-preserved c =
-    let both = parts_go_on c.parts.a.now c.parts.b.now _ _ _ _ _ _ _
-    c.split_piece.ensures.piece c.split_piece-in-parts.ensures.piece c.split_piece.ensures.rest
-    c.split_piece-in-parts.ensures.rest c.in-Some-Some.ensures.some c.in-Some-Some.ensures'.some
-    c.cmp-order.ensures in
-    let more = parts_tie (pieces c.in-Some-Some.more.now) (pieces c.in-Some-Some.others.now) in
-    let same = tied c.cmp-order.result (sym c.if-ne.false ∙ c.ne.ensures) in
-    sym (sym c.parts.invariant ∙ both ∙ ap (λ o. ordering_then o more) same)
+    let both = bodies_go_on c.parts.a.now c.parts.b.now _ _ _ _ c.split_run.ensures.run
+    c.split_run-in-parts.ensures.run c.split_run.ensures.rest c.split_run-in-parts.ensures.rest _ _
+    c.in-Some-Some.ensures c.in-Some-Some.ensures' in
+    leaves c.cmp-order.result _ _ _ c.cmp-order.ensures both
+    (tied c.cmp-order.result (sym c.if-ne.false ∙ c.ne.ensures))
+    ∙ c.parts.invariant
+
+pub parts-smaller : goal.parts-smaller
+parts-smaller c =
+    let whole = ap (λ (l : List ℕ). length l) c.in-Some-Some.ensures in
+    let short = ap (λ (l : List ℕ). length l) c.split_run.ensures.rest in
+    omega (
+      arith,
+      whole,
+      short,
+      length-drop (prefix_len is_ascii_alphanumeric c.parts.a.now) c.parts.a.now,
+    )
 
 pub returns-in-Some-None : goal.returns-in-Some-None
 returns-in-Some-None c =
-    c.compare_lasts.ensures
-    ∙ (λ i. last_tie (c.split_piece.ensures.piece i) (c.split_piece-in-parts.ensures.piece i))
-    ∙ others_end c.parts.a.now c.parts.b.now _ _ _ c.split_piece.ensures.rest
-    c.split_piece-in-parts.ensures.rest c.in-Some-None.ensures.some c.in-Some-None.ensures'.none
+    bodies_above c.parts.a.now c.parts.b.now _ _ _ _ c.split_run.ensures.run
+    c.split_run-in-parts.ensures.run c.split_run.ensures.rest c.split_run-in-parts.ensures.rest _
+    c.in-Some-None.ensures c.in-Some-None.ensures'
     ∙ c.parts.invariant
 
-pub returns-in-None-default : goal.returns-in-None-default
-returns-in-None-default c =
-    c.compare_lasts-in-None-default.ensures
-    ∙ (λ i. last_tie (c.split_piece.ensures.piece i) (c.split_piece-in-parts.ensures.piece i))
-    ∙ parts_end c.parts.a.now c.parts.b.now _ c.split_piece.ensures.rest
-    c.in-None-default.ensures.none
+pub returns-in-None-Some : goal.returns-in-None-Some
+returns-in-None-Some c =
+    bodies_below c.parts.a.now c.parts.b.now _ _ _ _ c.split_run.ensures.run
+    c.split_run-in-parts.ensures.run c.split_run.ensures.rest c.split_run-in-parts.ensures.rest _
+    c.in-None-Some.ensures c.in-None-Some.ensures'
+    ∙ c.parts.invariant
+
+pub returns-in-None-None : goal.returns-in-None-None
+returns-in-None-None c =
+    c.compare_ends.ensures
+    ∙ bodies_end c.parts.a.now c.parts.b.now _ _ _ _ c.split_run.ensures.run
+    c.split_run-in-parts.ensures.run c.split_run.ensures.rest c.split_run-in-parts.ensures.rest
+    c.in-None-None.ensures c.in-None-None.ensures'
     ∙ c.parts.invariant

@@ -1,7 +1,7 @@
 use Rattle.std.proofs.Common.{◌≡◌, ◌∙◌, rules, sym}
 use Rattle.std.specs.Ordering.{nat_cmp}
 use Rattle.version_texts.proofs.lemmas.Ties.{general_breaks, messy_breaks}
-use Rattle.version_texts.proofs.lemmas.VersioningRef.{kind-is, shape_fits}
+use Rattle.version_texts.proofs.lemmas.VersioningRef.{kind-is}
 use Rattle.version_texts.proofs.lemmas.VersioningRef.PlainOrder.{kinds_decide, strict_decides}
 use Rattle.version_texts.proofs.versioning_ref.VersioningRef.compare_tied.Goals as goal
 
@@ -20,12 +20,6 @@ returns-in-Ideal c =
     sym c.requires
     ∙ strict_decides _ _ _ _ c.args.self.now.read c.args.other.now.read c.in-Ideal.is
     (sym same ∙ c.in-Ideal.is)
-
-pub compare_general-requires-clause-a_fits : goal.compare_general-requires-clause-a_fits
-compare_general-requires-clause-a_fits c = shape_fits _ _ c.args.self.now.read
-
-pub compare_general-requires-clause-b_fits : goal.compare_general-requires-clause-b_fits
-compare_general-requires-clause-b_fits c = shape_fits _ _ c.args.other.now.read
 
 pub returns-in-General : goal.returns-in-General
 returns-in-General c =

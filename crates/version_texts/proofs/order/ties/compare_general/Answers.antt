@@ -1,7 +1,7 @@
 use Rattle.std.proofs.Common.{◌∙◌, sym}
 use Rattle.std.specs.Cmp.Lexicographic.{same_text}
-use Rattle.version_texts.proofs.lemmas.KeyTies.{same_generals}
-use Rattle.version_texts.proofs.key_ties.compare_general.Goals as goal
+use Rattle.version_texts.proofs.lemmas.Ties.Totals.{same_generals}
+use Rattle.version_texts.proofs.order.ties.compare_general.Goals as goal
 
 pub returns-then-eq : goal.returns-then-eq
 returns-then-eq c =
