@@ -97,10 +97,49 @@ int versions_is_prerelease(const char *text, size_t text_len, bool *is_prereleas
   return proved_versions_is_prerelease(from(text), text_len, is_prerelease);
 }
 
+int versions_in_tag(const char *tag, size_t tag_len, size_t *start) {
+  if (lacks(tag, tag_len) || start == NULL) return VERSIONS_NULL;
+  return proved_versions_in_tag(from(tag), tag_len, start);
+}
+
+int versions_after_prefix(const char *prefix, size_t prefix_len, const char *tag, size_t tag_len, size_t *start) {
+  if (lacks(prefix, prefix_len) || lacks(tag, tag_len) || start == NULL) return VERSIONS_NULL;
+  return proved_versions_after_prefix(from(prefix), prefix_len, from(tag), tag_len, start);
+}
+
+int versions_stability(const char *text, size_t text_len) {
+  if (lacks(text, text_len)) return -VERSIONS_NULL;
+  return proved_versions_stability(from(text), text_len);
+}
+
 int versions_kinds(const char *texts, size_t texts_len, const int64_t *offsets, size_t offsets_len, uint8_t *kinds,
                    size_t kinds_len) {
   if (lacks(texts, texts_len) || lacks(offsets, offsets_len) || lacks(kinds, kinds_len)) return VERSIONS_NULL;
   return proved_versions_kinds(from(texts), texts_len, from(offsets), offsets_len, to(kinds), kinds_len);
+}
+
+int versions_in_tags(const char *texts, size_t texts_len, const int64_t *offsets, size_t offsets_len, int64_t *starts,
+                     size_t starts_len) {
+  if (lacks(texts, texts_len) || lacks(offsets, offsets_len) || lacks(starts, starts_len)) return VERSIONS_NULL;
+  return proved_versions_in_tags(from(texts), texts_len, from(offsets), offsets_len, to(starts), starts_len);
+}
+
+int versions_stabilities(const char *texts, size_t texts_len, const int64_t *offsets, size_t offsets_len,
+                         uint8_t *stabilities, size_t stabilities_len) {
+  if (lacks(texts, texts_len) || lacks(offsets, offsets_len) || lacks(stabilities, stabilities_len)) {
+    return VERSIONS_NULL;
+  }
+  return proved_versions_stabilities(from(texts), texts_len, from(offsets), offsets_len, to(stabilities),
+                                     stabilities_len);
+}
+
+int versions_newest(const char *texts, size_t texts_len, const int64_t *offsets, size_t offsets_len, const char *list,
+                    size_t list_len, uint32_t least, uint32_t flags, size_t *place) {
+  if (lacks(texts, texts_len) || lacks(offsets, offsets_len) || lacks(list, list_len) || place == NULL) {
+    return VERSIONS_NULL;
+  }
+  return proved_versions_newest(from(texts), texts_len, from(offsets), offsets_len, from(list), list_len, least, flags,
+                                place);
 }
 
 int versions_sort_keys(const char *texts, size_t texts_len, const int64_t *offsets, size_t offsets_len, uint8_t *keys,

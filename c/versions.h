@@ -70,6 +70,13 @@ extern "C" {
 #define VERSIONS_GENERAL 2 /* such as 1:2.0rc1-3 */
 #define VERSIONS_COMPLEX 3 /* messy, such as 10.2+0.93+1-1 */
 
+/* The stabilities, in their order. */
+#define VERSIONS_DEV 1    /* work in progress: a snapshot, or a nightly build */
+#define VERSIONS_ALPHA 2  /* an early preview */
+#define VERSIONS_BETA 3   /* a later preview */
+#define VERSIONS_RC 4     /* a candidate for release */
+#define VERSIONS_STABLE 5 /* a release */
+
 /* The fields of a version, as pieces of its text. */
 #define VERSIONS_FIELD_EPOCH 1       /* the digits before the colon of a general or messy version: 1 of 1:2.0-3 */
 #define VERSIONS_FIELD_PRE_RELEASE 2 /* what follows the hyphen of a strict version: rc.1 of 1.2.3-rc.1+x86 */
@@ -82,6 +89,9 @@ extern "C" {
 #define VERSIONS_RANGE_COMPLEX 4 /* messy versions are in the range */
 #define VERSIONS_RANGE_HIGH 8    /* the range has a high bound */
 #define VERSIONS_RANGE_EXACT 16  /* the list matches every version in the range */
+
+/* The flags of versions_newest. */
+#define VERSIONS_NEWEST_TAGS 1 /* the version of a text is the one in it as in a tag */
 
 /*
  * Returns the kind of a text: VERSIONS_NONE, VERSIONS_IDEAL, VERSIONS_GENERAL or VERSIONS_COMPLEX.
@@ -260,6 +270,55 @@ int versions_field(const char *text, size_t text_len, uint32_t field, size_t *st
 int versions_is_prerelease(const char *text, size_t text_len, bool *is_prerelease);
 
 /*
+ * Finds the version in a tag of git, or in another name of a release: release-1.2.3 has 1.2.3.
+ *
+ * The version is the bytes of the tag from *start to its end. It begins at the first digit that stands at the beginning
+ * of the tag, or after a sign, or after one v or V that stands so. A sign is any byte that is neither an ASCII letter,
+ * an ASCII digit nor a dot. v1.2.3, refs/tags/v1.2.3 and pkg@1.2.3 have 1.2.3, and OpenSSL_1_1_1k has 1_1_1k.
+ *
+ * A tag has no version if it has no such digit, as go1.20.3; if a dot between two digits stands before the digit, as in
+ * x1.0-2; or if the rest of the tag from the digit on is not a version, as in name-v1..2.
+ *
+ * Returns VERSIONS_OK or VERSIONS_NO_VERSION.
+ */
+int versions_in_tag(const char *tag, size_t tag_len, size_t *start);
+
+/*
+ * Finds the version after a prefix of a tag: after go, go1.20.3 has 1.20.3.
+ *
+ * The version is the bytes of the tag from *start to its end. It is everything that follows the prefix, but for one v
+ * or V, and begins with a digit: after go-, go-v1.2 has 1.2. A tag that does not begin with the prefix, byte by byte,
+ * has no version.
+ *
+ * Returns VERSIONS_OK or VERSIONS_NO_VERSION.
+ */
+int versions_after_prefix(const char *prefix, size_t prefix_len, const char *tag, size_t tag_len, size_t *start);
+
+/*
+ * Returns how stable a version is, by the words in it: VERSIONS_DEV, VERSIONS_ALPHA, VERSIONS_BETA, VERSIONS_RC or
+ * VERSIONS_STABLE; or VERSIONS_NONE for a text that is not a version.
+ *
+ * This is a rule of habit, as Composer has it, and not of SemVer. The lowest stability that a word or a run names
+ * counts: 1.0-beta-dev is dev. A word is a whole run of ASCII letters, in upper or lower case:
+ *
+ *     VERSIONS_DEV    dev, devel, snapshot, nightly, canary
+ *     VERSIONS_ALPHA  alpha, pre, preview, prerelease, milestone, eap
+ *     VERSIONS_BETA   beta
+ *     VERSIONS_RC     rc, cr
+ *
+ * A whole run of letters and digits counts if it is one to three digits, a letter, and one or two digits: with a it is
+ * alpha, with b beta, and with c rc, as 1.0b2 is beta. One that is m and digits is alpha, as 2.0-M1. Metadata of strict
+ * and general versions does not count.
+ *
+ * A strict version with a pre-release and none of these is alpha if the first part of the pre-release begins with a
+ * letter or a hyphen, as 1.2.3-x.y, and isn't r and digits, as in 1.2.3-r0. Every other version is stable.
+ *
+ * This is not a status. If text is null and text_len is not 0, the call returns -VERSIONS_NULL, which is not a
+ * stability.
+ */
+int versions_stability(const char *text, size_t text_len);
+
+/*
  * Writes the kind of each of n texts, as versions_kind returns it.
  *
  * offsets_len is n + 1, and kinds_len is n.
@@ -268,6 +327,44 @@ int versions_is_prerelease(const char *text, size_t text_len, bool *is_prereleas
  */
 int versions_kinds(const char *texts, size_t texts_len, const int64_t *offsets, size_t offsets_len, uint8_t *kinds,
                    size_t kinds_len);
+
+/*
+ * Finds the version in each of n tags, as versions_in_tag does.
+ *
+ * Sets starts[i] to where the version in the tag at place i begins in `texts`; it ends where the tag does, at
+ * offsets[i + 1]. For a tag without a version starts[i] is offsets[i + 1] too, so that the text between is empty.
+ * offsets_len is n + 1, and starts_len is n.
+ *
+ * Returns VERSIONS_OK or VERSIONS_BAD_OFFSETS.
+ */
+int versions_in_tags(const char *texts, size_t texts_len, const int64_t *offsets, size_t offsets_len, int64_t *starts,
+                     size_t starts_len);
+
+/*
+ * Writes how stable each of n versions is, as versions_stability returns it.
+ *
+ * offsets_len is n + 1, and stabilities_len is n.
+ *
+ * Returns VERSIONS_OK or VERSIONS_BAD_OFFSETS.
+ */
+int versions_stabilities(const char *texts, size_t texts_len, const int64_t *offsets, size_t offsets_len,
+                         uint8_t *stabilities, size_t stabilities_len);
+
+/*
+ * Finds the newest of n texts: of those that are asked for, the first that no other comes after by precedence.
+ *
+ * A text is asked for if it is a version, if `list`, a list of requirements, matches the version, and if the version is
+ * at least as stable as `least`, one of VERSIONS_DEV to VERSIONS_STABLE. The list * matches every version, and every
+ * version is as stable as 0 and as VERSIONS_DEV; none is more than VERSIONS_STABLE. With VERSIONS_NEWEST_TAGS among the
+ * flags the version of a text is the one that versions_in_tag finds in it. Unknown flags mean nothing.
+ *
+ * Sets *place to the place of that text, from 0 on. Each text is read once. offsets_len is n + 1.
+ *
+ * Returns VERSIONS_OK, VERSIONS_NO_REQUIREMENTS, VERSIONS_NO_VERSION if no text is asked for, or VERSIONS_BAD_OFFSETS
+ * (whatever the list is).
+ */
+int versions_newest(const char *texts, size_t texts_len, const int64_t *offsets, size_t offsets_len, const char *list,
+                    size_t list_len, uint32_t least, uint32_t flags, size_t *place);
 
 /*
  * Writes the sort keys of n texts, one after another.
