@@ -231,11 +231,102 @@ static void check_prerelease(const char *text, size_t length, int kind) {
   CHECK(answer == (kind == VERSIONS_NONE ? !wanted : wanted));
 }
 
+static bool is_digit(char byte) { return byte >= '0' && byte <= '9'; }
+static bool is_letter(char byte) { return (byte >= 'a' && byte <= 'z') || (byte >= 'A' && byte <= 'Z'); }
+static bool is_sign(char byte) { return !is_digit(byte) && !is_letter(byte) && byte != '.'; }
+
+// Where the version of a tag may begin, by the rule of versions.h, or the length of the tag.
+static size_t start_of(const char *tag, size_t length) {
+  for (size_t i = 0; i < length; i++) {
+    if (!is_digit(tag[i])) continue;
+    size_t before = i > 0 && (tag[i - 1] == 'v' || tag[i - 1] == 'V') ? i - 1 : i;
+    if (i == 0 || before == 0 || is_sign(tag[before - 1])) return i;
+    if (i + 2 < length && tag[i + 1] == '.' && is_digit(tag[i + 2])) return length;
+  }
+  return length;
+}
+
+// Checks where the version of a tag begins, and that it is found there after what stands before it.
+static void check_tag(const char *tag, size_t length) {
+  size_t wanted = start_of(tag, length), start = 77;
+  int status = versions_in_tag(tag, length, &start);
+  if (versions_kind(tag + wanted, length - wanted) == VERSIONS_NONE) {
+    CHECK(status == VERSIONS_NO_VERSION && start == 77);
+    return;
+  }
+  CHECK(status == VERSIONS_OK && start == wanted);
+  start = 77;
+  CHECK(versions_after_prefix(tag, wanted, tag, length, &start) == VERSIONS_OK && start == wanted);
+  start = 77;
+  CHECK(versions_after_prefix(tag, length, tag, length, &start) == VERSIONS_NO_VERSION && start == 77);
+}
+
 // Checks what a text of this kind says of itself, by the text.
 static void check_values(const char *text, size_t length, int kind) {
   check_fields(text, length, kind);
   check_epoch(text, length, kind);
   check_prerelease(text, length, kind);
+  check_tag(text, length);
+  int stability = versions_stability(text, length);
+  CHECK(kind == VERSIONS_NONE ? stability == VERSIONS_NONE
+                              : VERSIONS_DEV <= stability && stability <= VERSIONS_STABLE);
+}
+
+// The place of the newest text that is asked for, by calls for one text each, or the number of texts.
+static size_t newest_of(const struct lines *lines, const char *list, size_t length, uint32_t least, uint32_t flags) {
+  size_t newest = lines->count, newest_length = 0;
+  const char *newest_text = NULL;
+  for (size_t line = 0; line < lines->count; line++) {
+    size_t start = 0, text_length = length_of(lines, line);
+    const char *text = text_of(lines, line);
+    int32_t order = 1;
+    bool matches = false;
+    if ((flags & VERSIONS_NEWEST_TAGS) && versions_in_tag(text, text_length, &start) != VERSIONS_OK) continue;
+    text += start;
+    text_length -= start;
+    if (versions_matches(list, length, text, text_length, &matches) != VERSIONS_OK || !matches) continue;
+    if ((uint32_t)versions_stability(text, text_length) < least) continue;
+    if (newest < lines->count) versions_compare(text, text_length, newest_text, newest_length, &order);
+    if (order != 1) continue;
+    newest = line;
+    newest_text = text;
+    newest_length = text_length;
+  }
+  return newest;
+}
+
+// Checks where the versions of tags begin, how stable they are, and the newest of them, by the calls for one text.
+static void check_many(const struct lines *lines) {
+  static const char *const lists[] = {"*", ">=1.2,<9", "^1.2.3", ">1.0.0,<0.9.9", "no list"};
+  static const uint32_t flags[] = {0, VERSIONS_NEWEST_TAGS, 2, UINT32_MAX};
+  size_t count = lines->count, start;
+  uint8_t *stabilities = (uint8_t *)block(count);
+  int64_t *starts = (int64_t *)block(count * sizeof(int64_t));
+  CHECK(versions_stabilities(lines->texts, lines->length, lines->offsets, count + 1, stabilities, count) ==
+        VERSIONS_OK);
+  CHECK(versions_in_tags(lines->texts, lines->length, lines->offsets, count + 1, starts, count) == VERSIONS_OK);
+  for (size_t line = 0; line < count; line++) {
+    CHECK(stabilities[line] == versions_stability(text_of(lines, line), length_of(lines, line)));
+    if (versions_in_tag(text_of(lines, line), length_of(lines, line), &start) != VERSIONS_OK) {
+      start = length_of(lines, line);
+    }
+    CHECK(starts[line] == lines->offsets[line] + (int64_t)start);
+  }
+  release(stabilities);
+  release(starts);
+  for (size_t i = 0; i < sizeof lists / sizeof *lists; i++) {
+    bool is_list = i + 1 < sizeof lists / sizeof *lists;
+    for (size_t j = 0; j < sizeof flags / sizeof *flags; j++) {
+      for (uint32_t least = 0; least <= VERSIONS_STABLE + 1; least++) {
+        size_t place = SIZE_MAX, length = strlen(lists[i]);
+        size_t wanted = newest_of(lines, lists[i], length, least, flags[j]);
+        int status = versions_newest(lines->texts, lines->length, lines->offsets, count + 1, lists[i], length, least,
+                                     flags[j], &place);
+        CHECK(status == (!is_list ? VERSIONS_NO_REQUIREMENTS : wanted == count ? VERSIONS_NO_VERSION : VERSIONS_OK));
+        CHECK(place == (wanted == count ? SIZE_MAX : wanted));
+      }
+    }
+  }
 }
 
 static void show(const struct lines *lines) {
@@ -295,6 +386,7 @@ static void show(const struct lines *lines) {
     release(text);
   }
   CHECK(key_end == all);
+  check_many(lines);
   release(kinds);
   release(keys);
   release(key_offsets);
@@ -558,7 +650,9 @@ static void *summed(void *argument) {
     sum = sum * 31 + (uint64_t)versions_parse(a, a_length, &kind, NULL, 0, &key_length);
     sum = sum * 31 + (uint64_t)versions_epoch(a, a_length, &epoch);
     sum = sum * 31 + (uint64_t)versions_field(a, a_length, 1 + (uint32_t)line % 4, &start, &end);
+    sum = sum * 31 + (uint64_t)versions_stability(a, a_length);
     sum = sum * 31 + epoch + 50 * start + 500 * end + kind;
+    sum = sum * 31 + (uint64_t)versions_in_tag(a, a_length, &start) + 50 * start;
     sum = sum * 31 + (uint64_t)versions_compare(a, a_length, b, b_length, &order);
     sum = sum * 31 + (uint64_t)versions_compare_total(a, a_length, b, b_length, &total);
     sum = sum * 31 + (uint64_t)versions_matches("^1.2,<9", 7, a, a_length, &matches);
@@ -591,6 +685,8 @@ static void refused_offsets(const int64_t *offsets, size_t offsets_length, size_
   memset(answers, 77, sizeof answers);
   memset(keys, 77, sizeof keys);
   CHECK(versions_kinds("1.2.31.2", 8, offsets, offsets_length, answers, count) == VERSIONS_BAD_OFFSETS);
+  CHECK(versions_stabilities("1.2.31.2", 8, offsets, offsets_length, answers, count) == VERSIONS_BAD_OFFSETS);
+  CHECK(versions_in_tags("1.2.31.2", 8, offsets, offsets_length, key_offsets, count) == VERSIONS_BAD_OFFSETS);
   CHECK(versions_in_range_all("1.2.31.2", 8, offsets, offsets_length, NULL, 0, NULL, 0, 7, answers, count) ==
         VERSIONS_BAD_OFFSETS);
   CHECK(versions_match_all("*", 1, "1.2.31.2", 8, offsets, offsets_length, answers, count) == VERSIONS_BAD_OFFSETS);
@@ -604,6 +700,14 @@ static void refused_offsets(const int64_t *offsets, size_t offsets_length, size_
   for (size_t i = 0; i < sizeof keys; i++) CHECK(keys[i] == 77);
   for (size_t i = 0; i < 5; i++) CHECK(key_offsets[i] == 77);
   for (size_t i = 0; i < 4; i++) CHECK(order[i] == 77);
+}
+
+// Offsets that are bad for any number of results have no newest text either, whatever the list is.
+static void refused_newest(const int64_t *offsets, size_t offsets_length) {
+  size_t place = 77;
+  CHECK(versions_newest("1.2.31.2", 8, offsets, offsets_length, "*", 1, 0, 0, &place) == VERSIONS_BAD_OFFSETS);
+  CHECK(versions_newest("1.2.31.2", 8, offsets, offsets_length, "no list", 7, 9, 1, &place) == VERSIONS_BAD_OFFSETS);
+  CHECK(place == 77);
 }
 
 // Sorts texts in one buffer, and compares with the expected places.
@@ -819,6 +923,183 @@ static void worked_prereleases(void) {
   CHECK(versions_is_prerelease("1.2.3-06", 8, &matches) == VERSIONS_OK && !matches);
 }
 
+// Tags and the versions in them, which end where the tags do. NULL stands for no version.
+static void worked_tags(void) {
+  static const struct {
+    const char *tag, *version;
+  } worked[] = {
+      {"v1.2.3", "1.2.3"},
+      {"V1.2.3", "1.2.3"},
+      {"1.2.3", "1.2.3"},
+      {"release-1.2.3", "1.2.3"},
+      {"refs/tags/v1.2.3", "1.2.3"},
+      {"pkg@1.2.3", "1.2.3"},
+      {"@a/b@1.2.3", "1.2.3"},
+      {"log4j-2.17.1", "2.17.1"},
+      {"k8s-v1.25", "1.25"},
+      {"OpenSSL_1_1_1k", "1_1_1k"},
+      {"wine-8.0-rc1", "8.0-rc1"},
+      {"jdk-17.0.2+8", "17.0.2+8"},
+      {"1:2.0-3", "1:2.0-3"},
+      {"v01.2.3", "01.2.3"},
+      {"release/2023.01.02", "2023.01.02"},
+      {"\xe7\x89\x88\xe6\x9c\xac" "1.2", "1.2"},
+      {"go1.20.3", NULL},
+      {"n6.0", NULL},
+      {"x1.0-2", NULL},
+      {"vv1.0", NULL},
+      {"v.1.2", NULL},
+      {"latest", NULL},
+      {"v", NULL},
+      {"name-v1..2", NULL},
+      {"jdk8u292-b10", NULL},
+      {"", NULL},
+  };
+  static const struct {
+    const char *prefix, *tag, *version;
+  } prefixed[] = {
+      {"go", "go1.20.3", "1.20.3"}, {"go-", "go-v1.2", "1.2"}, {"2ping-", "2ping-4.5", "4.5"},
+      {"", "v1.2.3", "1.2.3"},      {"go", "go-1.2", NULL},    {"go", "Go1.20", NULL},
+      {"go", "g", NULL},            {"go", "go", NULL},        {"", "", NULL},
+      {"x", "xa1", NULL},           {"x", "xvv1", NULL},       {"x", "x1..2", NULL},
+  };
+  for (size_t i = 0; i < sizeof worked / sizeof *worked; i++) {
+    size_t length = strlen(worked[i].tag), start = 77;
+    int status = versions_in_tag(worked[i].tag, length, &start);
+    CHECK(status == (worked[i].version != NULL ? VERSIONS_OK : VERSIONS_NO_VERSION));
+    CHECK(start == (worked[i].version != NULL ? length - strlen(worked[i].version) : 77));
+    CHECK(worked[i].version == NULL || strcmp(worked[i].tag + start, worked[i].version) == 0);
+    check_tag(worked[i].tag, length);
+  }
+  for (size_t i = 0; i < sizeof prefixed / sizeof *prefixed; i++) {
+    size_t length = strlen(prefixed[i].tag), start = 77;
+    int status = versions_after_prefix(prefixed[i].prefix, strlen(prefixed[i].prefix), prefixed[i].tag, length, &start);
+    CHECK(status == (prefixed[i].version != NULL ? VERSIONS_OK : VERSIONS_NO_VERSION));
+    CHECK(start == (prefixed[i].version != NULL ? length - strlen(prefixed[i].version) : 77));
+    CHECK(prefixed[i].version == NULL || strcmp(prefixed[i].tag + start, prefixed[i].version) == 0);
+  }
+  size_t start = 77;
+  CHECK(versions_in_tag(NULL, 0, &start) == VERSIONS_NO_VERSION);
+  CHECK(versions_in_tag("v1.2\0003", 6, &start) == VERSIONS_NO_VERSION);
+  CHECK(versions_in_tag("v1.2.\xff", 6, &start) == VERSIONS_NO_VERSION);
+  CHECK(versions_after_prefix(NULL, 0, NULL, 0, &start) == VERSIONS_NO_VERSION && start == 77);
+  CHECK(versions_after_prefix(NULL, 0, "v1", 2, &start) == VERSIONS_OK && start == 1);
+  CHECK(versions_in_tag("\000v1.2", 5, &start) == VERSIONS_OK && start == 2);
+
+  // Three tags, of which the middle one has no version, between other bytes.
+  const int64_t offsets[] = {3, 8, 11, 18};
+  int64_t starts[] = {77, 77, 77, 77};
+  CHECK(versions_in_tags("-9-a-1.2go1@a-v3.45", 19, offsets, 4, starts, 3) == VERSIONS_OK);
+  CHECK(starts[0] == 5 && starts[1] == 11 && starts[2] == 15 && starts[3] == 77);
+}
+
+static void worked_stabilities(void) {
+  static const struct {
+    const char *text;
+    int stability;
+  } worked[] = {
+      {"1.0", VERSIONS_STABLE},
+      {"1.1.1k", VERSIONS_STABLE},
+      {"1.0.Final", VERSIONS_STABLE},
+      {"1.0.post1", VERSIONS_STABLE},
+      {"1.2.3-5", VERSIONS_STABLE},
+      {"1.2.3-r0", VERSIONS_STABLE},
+      {"1.5.0-1ubuntu1", VERSIONS_STABLE},
+      {"1.2.3+rc1", VERSIONS_STABLE},
+      {"1.2-3+b1", VERSIONS_STABLE},
+      {"1.0-SNAPSHOT", VERSIONS_DEV},
+      {"1.0.dev3", VERSIONS_DEV},
+      {"v1.0-nightly", VERSIONS_DEV},
+      {"1.0-beta-dev", VERSIONS_DEV},
+      {"1.2.0~DEVEL+20220331-1", VERSIONS_DEV},
+      {"1.0rc1", VERSIONS_RC},
+      {"1.0.0-rc.1", VERSIONS_RC},
+      {"1.0c1", VERSIONS_RC},
+      {"1.0CR2", VERSIONS_RC},
+      {"1_0rc1+b1", VERSIONS_RC},
+      {"2.0.0-beta.1", VERSIONS_BETA},
+      {"1.0b2", VERSIONS_BETA},
+      {"3.0~beta1-2", VERSIONS_BETA},
+      {"1.0a1", VERSIONS_ALPHA},
+      {"2.0-M1", VERSIONS_ALPHA},
+      {"1.0preview3", VERSIONS_ALPHA},
+      {"1.0.0-alpha.beta", VERSIONS_ALPHA},
+      {"1.2.3-x.y", VERSIONS_ALPHA},
+      {"1.0.0--x", VERSIONS_ALPHA},
+      {"0.0~git20170716.74609b8-1.1", VERSIONS_STABLE},
+      {"0.1.1+git1-1", VERSIONS_STABLE},
+      {"1..2", VERSIONS_NONE},
+      {"1.2.3-rc.1\xff", VERSIONS_NONE},
+      {"", VERSIONS_NONE},
+  };
+  for (size_t i = 0; i < sizeof worked / sizeof *worked; i++) {
+    CHECK(versions_stability(worked[i].text, strlen(worked[i].text)) == worked[i].stability);
+  }
+  CHECK(versions_stability(NULL, 0) == VERSIONS_NONE);
+  CHECK(versions_stability("1.0rc1", 3) == VERSIONS_STABLE);
+
+  // Three texts, of which the middle one is no version, between other bytes.
+  const int64_t offsets[] = {3, 9, 9, 14};
+  uint8_t stabilities[] = {77, 77, 77, 77};
+  CHECK(versions_stabilities("dev1.0rc11.0b2dev", 17, offsets, 4, stabilities, 3) == VERSIONS_OK);
+  CHECK(stabilities[0] == VERSIONS_RC && stabilities[1] == VERSIONS_NONE);
+  CHECK(stabilities[2] == VERSIONS_BETA && stabilities[3] == 77);
+}
+
+// The newest of texts that are joined by commas. A place of 77 stands for a status.
+static void worked_newest(void) {
+  static const char tags[] = "v1.2.0,v2.0.0-beta.1,v1.10.0,V1.10.0+x,latest",
+                    strict[] = "1.0.0-rc.1,1.0.0,2.0.0-dev,1.0.0-beta.1", ties[] = "1.0.0+a,1.0.0,1.0.0+b,0.9";
+  static const struct {
+    const char *texts, *list;
+    uint32_t least, flags;
+    int status;
+    size_t place;
+  } worked[] = {
+      {tags, "*", 0, 1, VERSIONS_OK, 1},
+      {tags, "*", 0, 3, VERSIONS_OK, 1},
+      {tags, "*", VERSIONS_BETA, UINT32_MAX, VERSIONS_OK, 1},
+      {tags, "*", VERSIONS_RC, 1, VERSIONS_OK, 2},
+      {tags, "*", VERSIONS_STABLE, 1, VERSIONS_OK, 2},
+      {tags, ">=1.2.0,<1.5.0", VERSIONS_STABLE, 1, VERSIONS_OK, 0},
+      {tags, "<1.0.0", 0, 1, VERSIONS_NO_VERSION, 77},
+      {tags, "*", VERSIONS_STABLE + 1, 1, VERSIONS_NO_VERSION, 77},
+      {tags, "*", 257, 1, VERSIONS_NO_VERSION, 77},
+      {tags, "*", UINT32_MAX, 1, VERSIONS_NO_VERSION, 77},
+      {tags, "no list", 0, 1, VERSIONS_NO_REQUIREMENTS, 77},
+      {tags, "", UINT32_MAX, 1, VERSIONS_NO_REQUIREMENTS, 77},
+      {"v2.0.0,v2.0.0-beta.1", "*", 0, 0, VERSIONS_OK, 1},
+      {"v2.0.0,v2.0.0-beta.1", "*", 0, 2, VERSIONS_OK, 1},
+      {"v2.0.0,v2.0.0-beta.1", "*", 0, 1, VERSIONS_OK, 0},
+      {strict, "*", 0, 0, VERSIONS_OK, 2},
+      {strict, "*", VERSIONS_DEV, 0, VERSIONS_OK, 2},
+      {strict, "*", VERSIONS_ALPHA, 0, VERSIONS_OK, 1},
+      {strict, "*", VERSIONS_STABLE, 0, VERSIONS_OK, 1},
+      {strict, "<1.0.0", VERSIONS_ALPHA, 0, VERSIONS_OK, 0},
+      {strict, "<1.0.0", VERSIONS_RC, 0, VERSIONS_OK, 0},
+      {strict, "<1.0.0", VERSIONS_STABLE, 0, VERSIONS_NO_VERSION, 77},
+      {ties, "*", 0, 0, VERSIONS_OK, 0},
+      {ties, "<1.0.0", 0, 0, VERSIONS_OK, 3},
+      {"1.2.3", "*", 0, 0, VERSIONS_OK, 0},
+      {"none!", "*", 0, 0, VERSIONS_NO_VERSION, 77},
+      {"", "*", 0, 1, VERSIONS_NO_VERSION, 77},
+      {",,1", "*", 0, 0, VERSIONS_OK, 2},
+  };
+  for (size_t i = 0; i < sizeof worked / sizeof *worked; i++) {
+    char texts[64];
+    int64_t offsets[9] = {0};
+    size_t count = 0, used = 0, place = 77;
+    for (const char *byte = worked[i].texts; *byte != 0; byte++) {
+      if (*byte == ',') offsets[++count] = (int64_t)used;
+      else texts[used++] = *byte;
+    }
+    offsets[++count] = (int64_t)used;
+    CHECK(versions_newest(texts, used, offsets, count + 1, worked[i].list, strlen(worked[i].list), worked[i].least,
+                          worked[i].flags, &place) == worked[i].status);
+    CHECK(place == worked[i].place);
+  }
+}
+
 // The first member that is not a requirement, by the tables of docs/REQUIREMENTS.md. A place of 77 stands for none.
 static void worked_members(void) {
   static const struct {
@@ -855,6 +1136,29 @@ static void buffer_sizes(void) {
 
 static const int64_t one_offset[] = {0}, apart[] = {3, 8, 8, 11}, last[] = {8};
 
+// The same for tags, stabilities and the newest.
+static void few_tags(void) {
+  int64_t starts[4] = {77, 77, 77, 77};
+  uint8_t answers[4] = {77, 77, 77, 77};
+  size_t place = 77;
+  CHECK(versions_in_tags(NULL, 0, one_offset, 1, NULL, 0) == VERSIONS_OK);
+  CHECK(versions_in_tags("1.2.31.2", 8, last, 1, NULL, 0) == VERSIONS_OK);
+  CHECK(versions_in_tags(NULL, 0, NULL, 0, NULL, 0) == VERSIONS_BAD_OFFSETS);
+  CHECK(versions_in_tags("???1.2.31.2???", 14, apart, 4, starts, 3) == VERSIONS_OK);
+  CHECK(starts[0] == 3 && starts[1] == 8 && starts[2] == 8 && starts[3] == 77);
+  CHECK(versions_stabilities(NULL, 0, one_offset, 1, NULL, 0) == VERSIONS_OK);
+  CHECK(versions_stabilities("1.2.31.2", 8, last, 1, NULL, 0) == VERSIONS_OK);
+  CHECK(versions_stabilities(NULL, 0, NULL, 0, NULL, 0) == VERSIONS_BAD_OFFSETS);
+  CHECK(versions_stabilities("???1.2.31.2???", 14, apart, 4, answers, 3) == VERSIONS_OK);
+  CHECK(answers[0] == VERSIONS_STABLE && answers[1] == VERSIONS_NONE);
+  CHECK(answers[2] == VERSIONS_STABLE && answers[3] == 77);
+  CHECK(versions_newest(NULL, 0, one_offset, 1, "*", 1, 0, 0, &place) == VERSIONS_NO_VERSION);
+  CHECK(versions_newest("1.2.31.2", 8, last, 1, "*", 1, 0, 0, &place) == VERSIONS_NO_VERSION);
+  CHECK(versions_newest("1.2.31.2", 8, last, 1, NULL, 0, 0, 0, &place) == VERSIONS_NO_REQUIREMENTS && place == 77);
+  CHECK(versions_newest("???1.2.31.2???", 14, apart, 4, "*", 1, 0, 0, &place) == VERSIONS_OK && place == 0);
+  CHECK(versions_newest("???1.2.31.2???", 14, apart, 4, "<1.2.3", 6, 0, 0, &place) == VERSIONS_OK && place == 2);
+}
+
 // No texts, and texts that do not start at the beginning of the buffer.
 static void few_texts(void) {
   uint8_t answers[4] = {77, 77, 77, 77};
@@ -876,6 +1180,7 @@ static void few_texts(void) {
   CHECK(answers[0] == 1 && answers[1] == 2 && answers[2] == 0 && answers[3] == 77);
   CHECK(versions_match_all("<1.2.3", 6, "???1.2.31.2???", 14, apart, 4, answers, 3) == VERSIONS_OK);
   CHECK(answers[0] == 0 && answers[1] == 2 && answers[2] == 1 && answers[3] == 77);
+  few_tags();
 }
 
 // Sorted places of no text, of one text, and of texts that are not versions, which need no key buffer.
@@ -923,13 +1228,15 @@ static void refused_lengths(void) {
 static void bad_offsets(void) {
   const int64_t negative[] = {-1, 5, 8}, lowest[] = {INT64_MIN, 5, 8}, descending[] = {5, 0, 8}, past[] = {0, 5, 9},
                 largest[] = {0, 5, INT64_MAX}, negative_last[] = {0, 5, -1}, good[] = {0, 5, 8}, nothing[] = {-1};
-  refused_offsets(negative, 3, 2);
-  refused_offsets(lowest, 3, 2);
-  refused_offsets(descending, 3, 2);
-  refused_offsets(past, 3, 2);
-  refused_offsets(largest, 3, 2);
-  refused_offsets(negative_last, 3, 2);
+  const int64_t *const bad[] = {negative, lowest, descending, past, largest, negative_last};
+  for (size_t i = 0; i < sizeof bad / sizeof *bad; i++) {
+    refused_offsets(bad[i], 3, 2);
+    refused_newest(bad[i], 3);
+  }
   refused_offsets(nothing, 1, 0);
+  refused_newest(nothing, 1);
+  refused_newest(good, 0);
+  refused_newest(NULL, 0);
   refused_offsets(good, 3, 3);
   refused_offsets(good, 3, 1);
   refused_offsets(good, 3, 0);
@@ -1291,6 +1598,7 @@ static void without_memory(const struct lines *lines) {
     }
     check_values(text, length, answers[line]);
   }
+  check_many(lines);
   CHECK(versions_sort_keys(lines->texts, lines->length, lines->offsets, count + 1, keys, room, key_offsets,
                            count + 1) == VERSIONS_OK);
   for (size_t i = 0; i < sizeof lists / sizeof *lists; i++) {
@@ -1337,6 +1645,9 @@ int main(int count, char **words) {
     ties();
     worked_numbers();
     worked_prereleases();
+    worked_tags();
+    worked_stabilities();
+    worked_newest();
     worked_members();
     worked_fields();
     worked_epochs();
