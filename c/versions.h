@@ -295,20 +295,20 @@ int versions_in_tag(const char *tag, size_t tag_len, size_t *start);
 int versions_after_prefix(const char *prefix, size_t prefix_len, const char *tag, size_t tag_len, size_t *start);
 
 /*
- * Returns how stable a version is, by the words in it: VERSIONS_DEV, VERSIONS_ALPHA, VERSIONS_BETA, VERSIONS_RC or
- * VERSIONS_STABLE; or VERSIONS_NONE for a text that is not a version.
+ * Returns how stable a version is, by a rule of habit, as Composer has it, and not of SemVer: VERSIONS_DEV,
+ * VERSIONS_ALPHA, VERSIONS_BETA, VERSIONS_RC or VERSIONS_STABLE; or VERSIONS_NONE for a text that is not a version.
  *
- * This is a rule of habit, as Composer has it, and not of SemVer. The lowest stability that a word or a run names
- * counts: 1.0-beta-dev is dev. A word is a whole run of ASCII letters, in upper or lower case:
+ * The words in the version say how stable it is, and the lowest counts: 1.0-beta-dev is dev. A word is a whole run of
+ * ASCII letters, in upper or lower case:
  *
  *     VERSIONS_DEV    dev, devel, snapshot, nightly, canary
  *     VERSIONS_ALPHA  alpha, pre, preview, prerelease, milestone, eap
  *     VERSIONS_BETA   beta
  *     VERSIONS_RC     rc, cr
  *
- * A whole run of letters and digits counts if it is one to three digits, a letter, and one or two digits: with a it is
- * alpha, with b beta, and with c rc, as 1.0b2 is beta. One that is m and digits is alpha, as 2.0-M1. Metadata of strict
- * and general versions does not count.
+ * A whole run of letters and digits counts too if it is one to three digits, a, b or c, and one or two digits: it is
+ * alpha, beta or rc, as 1.0b2 is beta. One that is m and digits is alpha, as 2.0-M1. Metadata of strict and general
+ * versions does not count.
  *
  * A strict version with a pre-release and none of these is alpha if the first part of the pre-release begins with a
  * letter or a hyphen, as 1.2.3-x.y, and isn't r and digits, as in 1.2.3-r0. Every other version is stable.
