@@ -29,7 +29,7 @@ C_LIBRARY := c/out
 header := c/versions.h
 built := c/out/versions.pc
 c/out/versions.pc: crates.txt c/build c/pkg-config-file c/versions.c c/versions.h \
-  $(call sources,version_rules version_texts versions_c)
+  $(call sources,version_rules version_texts version_tasks versions_c)
 	c/build c/out
 else
 header := $$C_LIBRARY/versions.h
