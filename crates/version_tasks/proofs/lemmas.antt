@@ -1,4 +1,5 @@
 pub mod Newest
+pub mod Next
 pub mod Stability
 pub mod Tag
 pub mod Worked

@@ -1,5 +1,8 @@
 pub mod AfterSign
 pub mod Newest
+pub mod Next
+pub mod NextRef
+pub mod NextText
 pub mod Stability
 pub mod Tag
 pub mod Worked

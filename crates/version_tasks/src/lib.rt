@@ -1,15 +1,17 @@
 //! What people ask of versions beside their order. `version_in_tag` and `version_after_prefix` find the version in a
 //! tag of git, or in another name of a release; `stability_of` returns how stable a version is, by the words in it;
-//! `newest_of` finds the newest of several texts. Each answer is a definition of `specs/` on plain data. No call
-//! allocates, and each takes time at most linear in its texts.
+//! `newest_of` finds the newest of several texts. `next_of` returns the version that comes next at a place. Each answer
+//! is a definition of `specs/` on plain data. No call allocates, and each takes time at most linear in its texts.
 #![tactic(auto)]
 
 mod laws;
 mod newest;
+mod next;
 mod pieces;
 mod stability;
 mod tag;
 
 pub use newest::{Candidates, Texts, Wanted, newest_of};
+pub use next::{Next, next_of};
 pub use stability::{Stability, stability_of};
 pub use tag::{start_after_prefix, start_in_tag, version_after_prefix, version_in_tag};

@@ -1,0 +1,12 @@
+use Rattle.std.proofs.Common.{◌∙◌, ◌+◌, [], ℕ, List, ap, append-nil, length, zero-add}
+use Rattle.version_rules.specs.Versioning.{versioning_text}
+use Rattle.version_texts.specs.Sinks.{saturated}
+use Rattle.version_tasks.specs.NextRef.{plain_next}
+use Rattle.version_tasks.proofs.next.text.Next.length.Goals as goal
+
+pub returns : goal.returns
+returns c =
+    let bytes = versioning_text (plain_next c.args.self.now) in
+    c.length.ensures ∙ c.put.ensures []
+    ∙ ap (λ (l : List ℕ). saturated (0 + length l)) (append-nil bytes)
+    ∙ ap saturated (zero-add (length bytes))

@@ -1,0 +1,72 @@
+-- What comes next after a version at a place.
+use Rattle.std.specs.Prelude.{◌≡◌, ◌==◌, ◌^◌, ◌<◌, ℕ, suc, List, [], ◌∷◌, ◌++◌, drop, length, map, nat_lt, take, true, Option, Some, None}
+use Rattle.std.specs.List.{list_all}
+use Rattle.std.specs.Option.{option_map}
+use Rattle.std.specs.declared.cmp.Ordering.TheVariants.{Less, Greater}
+use Rattle.version_rules.specs.Chunk.{number_of}
+use Rattle.version_rules.specs.Key.{key_of, precedence, versioning_epoch}
+use Rattle.version_rules.specs.Kind.{versioning_kind}
+use Rattle.version_rules.specs.Last.{PlainLast, Numeric, Rc, Post, Alphanum}
+use Rattle.version_rules.specs.Versioning.{PlainVersioning, Ideal, General, Complex}
+
+-- all of these numbers, if none is missing
+abbrev pub all_of : List (Option ℕ) → Option (List ℕ)
+all_of [] = Some []
+all_of (None ∷ more) = None
+all_of (Some n ∷ more) = option_map (λ numbers. n ∷ numbers) (all_of more)
+
+-- the number that a last part is, if it is one
+abbrev pub last_number : PlainLast → Option ℕ
+last_number (Numeric n) = Some n
+last_number (Rc a letters b) = None
+last_number (Post a letters) = None
+last_number (Alphanum text) = None
+
+-- the numbers of a strict version, and the parts of a general one if all of them are numbers
+abbrev pub numbers_of : PlainVersioning → Option (List ℕ)
+numbers_of (Ideal v) = Some (v.major ∷ v.minor ∷ v.patch ∷ [])
+numbers_of (General v) = all_of (map number_of v.chunks ++ last_number v.last ∷ [])
+numbers_of (Complex m) = None
+
+-- neither a pre-release or a release nor metadata follows the parts
+abbrev pub IsBare : PlainVersioning → Type 0
+IsBare (Ideal v) = (v.pre_rel ≡ None) × (v.meta ≡ None)
+IsBare (General v) = (v.release ≡ None) × (v.meta ≡ None)
+IsBare (Complex m) = m.more ≡ []
+
+-- Numbers that may come next after others at a place: as many, the same before the place, zeros
+-- after it, and each below 2 ^ 32.
+pub record MayFollow (numbers : List ℕ) (place : ℕ) (next : List ℕ) : Type 0 where
+  pub within : place < length numbers
+  pub count : length next ≡ length numbers
+  pub before : take place next ≡ take place numbers
+  pub after : list_all (λ n. n == 0) (drop (suc place) next) ≡ true
+  pub fit : list_all (λ n. nat_lt n (2 ^ 32)) next ≡ true
+
+-- A version of the form of those that may come next after v at a place: of the same kind, with the
+-- same epoch as it is written, with such numbers, and bare.
+pub record IsOfForm (v : PlainVersioning) (place : ℕ) (w : PlainVersioning) : Type 0 where
+  pub kind_is : versioning_kind w ≡ versioning_kind v
+  pub epoch_is : versioning_epoch w ≡ versioning_epoch v
+  pub numbers : List ℕ
+  pub next : List ℕ
+  pub numbers_are : numbers_of v ≡ Some numbers
+  pub next_are : numbers_of w ≡ Some next
+  pub follow : MayFollow numbers place next
+  pub bare : IsBare w
+
+-- one version comes after another in the order
+abbrev pub IsAfter : PlainVersioning → PlainVersioning → Type 0
+IsAfter w v = precedence (key_of w) (key_of v) ≡ Greater
+
+-- The version w is what comes next after v at a place: it is of the form, it comes after v, and no
+-- version of the form that comes after v is before it.
+pub record IsNext (v : PlainVersioning) (place : ℕ) (w : PlainVersioning) : Type 0 where
+  pub form : IsOfForm v place w
+  pub after : IsAfter w v
+  pub least : (u : PlainVersioning) → IsOfForm v place u → IsAfter u v
+      → ¬ (precedence (key_of u) (key_of w) ≡ Less)
+
+-- no version of the form comes after v
+abbrev pub NoNext : PlainVersioning → ℕ → Type 0
+NoNext v place = (w : PlainVersioning) → IsOfForm v place w → ¬ (IsAfter w v)
