@@ -13,7 +13,8 @@ ghost use Rattle.version_texts.specs.TextKey.{parts_of, text_key};
 
 use crate::class::{Class, begins_with};
 use crate::key::body_at;
-use crate::order::part::compare_first_parts;
+use crate::order::ends::Ends;
+use crate::order::part::compare_parts_to;
 use crate::order::piece::behind_first;
 use crate::order::{compare, compare_epochs};
 use crate::range::kept_parts;
@@ -120,7 +121,7 @@ fn compare_fronts(x: Option<&[u8]>, x_mark: u8, y: Option<&[u8]>, y_mark: u8) ->
         let Some(second) = b else {
             return part_mark(first).cmp(&y_mark);
         };
-        let firsts = compare_first_parts(first, second);
+        let firsts = compare_parts_to(Ends::Dots, first, second);
         if firsts.order != Ordering::Equal {
             return firsts.order;
         }

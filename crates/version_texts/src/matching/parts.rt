@@ -5,8 +5,9 @@ ghost use Rattle.version_rules.specs.Key.{strict_body};
 ghost use Rattle.version_rules.specs.SemVerMatch.{MatchesCaret, Numbers};
 ghost use Rattle.version_texts.specs.Parts.{first_part, more_parts};
 
+use crate::order::ends::Ends;
 use crate::order::list::compare_parts;
-use crate::order::part::compare_first_parts;
+use crate::order::part::compare_parts_to;
 use crate::order::piece::{behind_first, split_piece};
 use std::cmp::Ordering;
 use version_rules::{Parts, parts_match_caret};
@@ -22,12 +23,12 @@ impl<'a> Parts for TextParts<'a> {
 
     #[inline(always)]
     fn compare_first(self, other: TextParts<'a>) -> Ordering {
-        compare_first_parts(self.0, other.0).order
+        compare_parts_to(Ends::Dots, self.0, other.0).order
     }
 
     #[inline(always)]
     fn begins_with_zero(self) -> bool {
-        compare_first_parts(self.0, b"0").order.is_eq()
+        compare_parts_to(Ends::Dots, self.0, b"0").order.is_eq()
     }
 
     #[inline(always)]

@@ -10,7 +10,7 @@ ghost use Rattle.version_rules.specs.Lists.{bytes_cmp, none_last_cmp};
 ghost use Rattle.version_rules.specs.PartKey.{part_cmp, part_key, suffix_of};
 ghost use Rattle.version_rules.specs.Split.{numbered_cmp, split_cmp, split_of};
 ghost use Rattle.version_texts.specs.declared.order.ends.Run.TheVariants.{Word};
-ghost use Rattle.version_texts.specs.Piece.{behind_piece, end_of, first_piece, from_first, in_run};
+ghost use Rattle.version_texts.specs.Piece.{end_of, from_first, in_run};
 
 use crate::class::{Class, begins_with};
 use crate::order::digits::compare_numbers;
@@ -18,18 +18,8 @@ use crate::order::ends::{Ends, Run};
 use crate::order::run::{Compared, compare_runs};
 use std::cmp::Ordering;
 
-// Compares two lists of parts by their first parts. If these are equal, returns what follows them.
-#[inline(always)]
-pub(crate) fn compare_first_parts<'a>(a: &'a [u8], b: &'a [u8]) -> Compared<'a>
-    ensures order { result.order
-        ≡ part_cmp (Some (part_key (first_piece a.now))) (Some (part_key (first_piece b.now))) }
-    ensures rest { result.order ≡ Equal → result.rest.now ≡ behind_piece a.now }
-    ensures other_rest { result.order ≡ Equal → result.other_rest.now ≡ behind_piece b.now }
-{
-    compare_parts_to(Ends::Dots, a, b)
-}
-
-// Compares two texts by their first parts, which go to the ends that are given.
+// Compares two texts by their first parts, which go to the ends that are given. If these are equal, returns what
+// follows them.
 #[inline(always)]
 pub(crate) fn compare_parts_to<'a>(ends: Ends, a: &'a [u8], b: &'a [u8]) -> Compared<'a>
     ensures order { result.order ≡ part_cmp (Some (part_key (before_first (end_of ends) a.now)))

@@ -22,19 +22,19 @@ returns-then-ne c = λ behind other begin begin_too same.
     let b = c.in-Some-b.second.now in
     let left = rw (c.in-Some.is, c.in-Some-b.is) at c.parts.invariant behind other in
     sym (sym left ∙ fronts_compare a b (behind_piece a) (behind_piece b) behind other
-    c.compare_first_parts-firsts.result.order c.compare_first_parts-firsts.ensures.order refl refl
-    ∙ decided c.compare_first_parts-firsts.result.order _ (sym c.if-ne.true ∙ c.ne.ensures))
+    c.compare_parts_to-firsts.result.order c.compare_parts_to-firsts.ensures.order refl refl
+    ∙ decided c.compare_parts_to-firsts.result.order _ (sym c.if-ne.true ∙ c.ne.ensures))
 
 pub parts-smaller : goal.parts-smaller
 parts-smaller c =
-    let same = tied c.compare_first_parts-firsts.result.order (sym c.if-ne.false ∙ c.ne.ensures) in
-    rw c.in-Some.is (left_is_shorter c.in-Some.first.now c.compare_first_parts-firsts.result.rest.now
-    c.behind_first-a.result (c.compare_first_parts-firsts.ensures.rest same)
+    let same = tied c.compare_parts_to-firsts.result.order (sym c.if-ne.false ∙ c.ne.ensures) in
+    rw c.in-Some.is (left_is_shorter c.in-Some.first.now c.compare_parts_to-firsts.result.rest.now
+    c.behind_first-a.result (c.compare_parts_to-firsts.ensures.rest same)
     c.behind_first-a.ensures.some)
 
 pub parts-preserved : goal.parts-preserved
 parts-preserved c = λ behind other.
-    let firsts = c.compare_first_parts-firsts in
+    let firsts = c.compare_parts_to-firsts in
     let rest = firsts.result.rest.now in
     let other_rest = firsts.result.other_rest.now in
     let same = tied firsts.result.order (sym c.if-ne.false ∙ c.ne.ensures) in

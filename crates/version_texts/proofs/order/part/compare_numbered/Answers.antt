@@ -11,8 +11,7 @@ pub returns-then-ne-clause-order : goal.returns-then-ne-clause-order
 returns-then-ne-clause-order c =
     let both =
     numbered_compared (end_of c.args.ends) (digit_no_end c.args.ends) c.args.a.now c.args.b.now
-    (sym c.in-true-true.ensures)
-    (sym c.in-true-true.ensures') in
+    (sym c.in-true-true.ensures) (sym c.in-true-true.ensures') in
     decides c.compare_numbers-numbers.result.order _ _ _ c.compare_numbers-numbers.ensures.order
     both (sym c.if-ne.true ∙ c.ne.ensures)
 
@@ -20,8 +19,7 @@ pub returns-else-ne-clause-order : goal.returns-else-ne-clause-order
 returns-else-ne-clause-order c =
     let both =
     numbered_compared (end_of c.args.ends) (digit_no_end c.args.ends) c.args.a.now c.args.b.now
-    (sym c.in-true-true.ensures)
-    (sym c.in-true-true.ensures') in
+    (sym c.in-true-true.ensures) (sym c.in-true-true.ensures') in
     let numbers = c.compare_numbers-numbers.ensures in
     let same = tied c.compare_numbers-numbers.result.order (sym c.if-ne.false ∙ c.ne.ensures) in
     c.compare_texts.ensures.order

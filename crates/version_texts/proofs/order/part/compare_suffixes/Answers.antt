@@ -7,34 +7,26 @@ use Rattle.version_texts.proofs.order.part.compare_suffixes.Goals as goal
 
 pub returns-in-true-true-clause-order : goal.returns-in-true-true-clause-order
 returns-in-true-true-clause-order c =
-    let first = some_suffix (end_of c.args.ends) c.args.a.now
-    (sym c.in-true-true.ensures) in
-    let second = some_suffix (end_of c.args.ends) c.args.b.now
-    (sym c.in-true-true.ensures') in
+    let first = some_suffix (end_of c.args.ends) c.args.a.now (sym c.in-true-true.ensures) in
+    let second = some_suffix (end_of c.args.ends) c.args.b.now (sym c.in-true-true.ensures') in
     c.compare_words.ensures.order ∙ sym (λ i. none_last_cmp split_cmp (first i) (second i))
 
 pub returns-in-true-false-clause-order : goal.returns-in-true-false-clause-order
 returns-in-true-false-clause-order c =
-    let first = some_suffix (end_of c.args.ends) c.args.a.now
-    (sym c.in-true-false.ensures) in
-    let second = no_suffix (end_of c.args.ends) c.args.b.now
-    (sym c.in-true-false.ensures') in
+    let first = some_suffix (end_of c.args.ends) c.args.a.now (sym c.in-true-false.ensures) in
+    let second = no_suffix (end_of c.args.ends) c.args.b.now (sym c.in-true-false.ensures') in
     c.new.ensures.order ∙ sym (λ i. none_last_cmp split_cmp (first i) (second i))
 
 pub returns-in-false-true-clause-order : goal.returns-in-false-true-clause-order
 returns-in-false-true-clause-order c =
-    let first = no_suffix (end_of c.args.ends) c.args.a.now
-    (sym c.in-false-true.ensures) in
-    let second = some_suffix (end_of c.args.ends) c.args.b.now
-    (sym c.in-false-true.ensures') in
+    let first = no_suffix (end_of c.args.ends) c.args.a.now (sym c.in-false-true.ensures) in
+    let second = some_suffix (end_of c.args.ends) c.args.b.now (sym c.in-false-true.ensures') in
     c.new-in-false-true.ensures.order ∙ sym (λ i. none_last_cmp split_cmp (first i) (second i))
 
 pub returns-in-false-false-clause-order : goal.returns-in-false-false-clause-order
 returns-in-false-false-clause-order c =
-    let first = no_suffix (end_of c.args.ends) c.args.a.now
-    (sym c.in-false-false.ensures) in
-    let second = no_suffix (end_of c.args.ends) c.args.b.now
-    (sym c.in-false-false.ensures') in
+    let first = no_suffix (end_of c.args.ends) c.args.a.now (sym c.in-false-false.ensures) in
+    let second = no_suffix (end_of c.args.ends) c.args.b.now (sym c.in-false-false.ensures') in
     c.new-in-false-false.ensures.order ∙ sym (λ i. none_last_cmp split_cmp (first i) (second i))
 
 pub returns-in-false-false-clause-rest : goal.returns-in-false-false-clause-rest

@@ -29,8 +29,7 @@ returns-then-ne c =
     let a = c.chunks.a.now in
     let b = c.chunks.b.now in
     let both = compared is_dot chunk_of chunk_cmp release_cmp (λ x y xs ys. refl) a b
-    (behind_piece a)
-    (behind_piece b) c.compare_first_chunks-chunks.result.order
+    (behind_piece a) (behind_piece b) c.compare_first_chunks-chunks.result.order
     c.compare_first_chunks-chunks.ensures.order refl refl in
     sym (sym c.chunks.invariant ∙ both
     ∙ decided c.compare_first_chunks-chunks.result.order _ (sym c.if-ne.true ∙ c.ne.ensures))

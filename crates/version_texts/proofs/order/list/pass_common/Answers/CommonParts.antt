@@ -42,8 +42,7 @@ dot_passed x y n in_x in_y same byte at_dot =
     rw same refl in
     let second : y ≡ take n x ++ (dot ∷ drop (n + 1) y) =
     seam y n in_y ∙ ap (λ (b : ℕ). take n y ++ (b ∷ drop (n + 1) y)) (sym byte ∙ at_dot) ∙ start in
-    sym
-    ((λ i. list_cmp (parts_of (first i)) (parts_of (second i)))
+    sym ((λ i. list_cmp (parts_of (first i)) (parts_of (second i)))
     ∙ parts_passed (take n x) (drop (n + 1) x) (drop (n + 1) y))
 
 -- two texts that are the same up to their ends hold the same parts
