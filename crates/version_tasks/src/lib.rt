@@ -7,7 +7,6 @@
 mod laws;
 mod newest;
 mod next;
-mod pieces;
 mod stability;
 mod tag;
 

@@ -10,8 +10,7 @@ ghost use Rattle.version_tasks.specs.Stability.{counted_text, is_early, is_miles
 ghost use Rattle.version_texts.specs.Piece.{first_piece};
 ghost use Rattle.version_texts.specs.VersioningRef.{plain_versioning_ref};
 
-use crate::pieces::{digits_end, first_piece, is_digits};
-use version_texts::{Field, VersioningRef};
+use version_texts::{Class, Field, VersioningRef, is_digits, split_piece, split_run};
 
 /// How stable a version is, from the least stable to the most.
 #[derive(Clone, Copy, Debug, PartialEq, Eq, PartialOrd, Ord)]
@@ -78,7 +77,7 @@ fn is_early(text: &[u8]) -> bool
     ensures { result ≡ is_early text.now }
 {
     match text {
-        [first, ..] => !first.is_ascii_digit() && !is_revision(first_piece(text)),
+        [first, ..] => !first.is_ascii_digit() && !is_revision(split_piece(text).0),
         [] => false,
     }
 }
@@ -155,7 +154,7 @@ fn of_run(run: &[u8]) -> Stability
     if is_milestone(run) {
         return Stability::Alpha;
     }
-    let (digits, rest) = run.split_at(digits_end(run));
+    let (digits, rest) = split_run(run, Class::Digit);
     if is_short(digits, 3) {
         of_lettered(rest)
     } else {

@@ -7,8 +7,7 @@ ghost use Rattle.version_tasks.specs.Tag.{is_sign, text_after_prefix, text_at_be
 ghost use Rattle.version_tasks.specs.AfterSign.{after_sign};
 ghost use Rattle.version_texts.specs.VersioningRef.{plain_versioning_ref};
 
-use crate::pieces::starts_with_digit;
-use version_texts::VersioningRef;
+use version_texts::{Class, VersioningRef, begins_with};
 
 /// Returns the version in a tag, or in another name of a release. It begins at the first digit that stands at the
 /// beginning of the tag, or after a sign, or after one `v` or `V` that stands so; it is the rest of the tag from that
@@ -86,7 +85,7 @@ fn text_at_beginning(text: &[u8]) -> Option<&[u8]>
     ensures { option_map (λ text. text.now) result ≡ text_at_beginning text.now }
 {
     let text = without_v(text);
-    if starts_with_digit(text) {
+    if begins_with(text, Class::Digit) {
         Some(text)
     } else {
         None

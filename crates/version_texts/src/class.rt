@@ -130,7 +130,7 @@ pub fn run_end(text: &[u8], start: usize, class: Class) -> usize
     end
 }
 
-/// Returns the longest run of a class at the start of a text, which may be empty, and the rest.
+/// Returns the longest run of a class at the start of a text, which may be empty, and the rest. Does not allocate.
 #[inline(always)]
 pub fn split_run(text: &[u8], class: Class) -> (&[u8], &[u8])
     ensures run { result.0.now ≡ take_while (contains class) text.now }
@@ -139,7 +139,7 @@ pub fn split_run(text: &[u8], class: Class) -> (&[u8], &[u8])
     text.split_at(run_end(text, 0, class))
 }
 
-/// Returns whether a text begins with a byte of a class.
+/// Returns whether a text begins with a byte of a class. Does not allocate.
 #[inline(always)]
 pub fn begins_with(text: &[u8], class: Class) -> bool
     ensures { result ≡ begins (contains class) text.now }

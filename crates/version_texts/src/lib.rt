@@ -29,11 +29,12 @@ mod sinks;
 mod versioning_ref;
 mod why;
 
+pub use class::{Class, begins_with, split_run};
 pub use difference::Difference;
 pub use field::Field;
 pub use key_ties::{compare_key_ties, mark_kind, marked_kind, marked_number};
 pub use numbers::from_piece;
-pub use numeral::{numeral_value, spells_numeral};
+pub use numeral::{is_digits, numeral_value, spells_numeral};
 pub use order::piece::split_piece;
 pub use range_ref::{Bound, RangeRef};
 pub use requirement_ref::RequirementRef;

@@ -75,8 +75,8 @@ pub fn numeral_value(text: &[u8]) -> Option<u32>
     }
 }
 
-// Returns whether a text is digits, one or more.
-fn is_digits(text: &[u8]) -> bool
+/// Returns whether a text is digits, one or more. Does not allocate.
+pub fn is_digits(text: &[u8]) -> bool
     ensures { result ≡ is_digits text.now }
 {
     let (_, rest) = split_run(text, Class::Digit);

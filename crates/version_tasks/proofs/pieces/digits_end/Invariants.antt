@@ -1,9 +1,0 @@
-use Rattle.std.proofs.Common.{◌≡◌, ◌+◌, drop}
-use Rattle.std.specs.Char.{is_ascii_digit}
-use Rattle.std.specs.List.{prefix_len}
-use Rattle.version_tasks.proofs.pieces.digits_end.Given as goal
-
--- all bytes so far are digits
-abbrev pub invariant-loop-place : goal.invariant-loop-place
-invariant-loop-place l =
-    l.place + prefix_len is_ascii_digit (drop l.place l.text) ≡ prefix_len is_ascii_digit l.text
