@@ -2,6 +2,8 @@
 #![tactic(auto)]
 
 #[cfg(test)]
+mod conflicts;
+#[cfg(test)]
 mod newest;
 #[cfg(test)]
 mod stabilities;

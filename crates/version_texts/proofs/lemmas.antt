@@ -1,5 +1,6 @@
 pub mod Class
 pub mod Difference
+pub mod Empty
 pub mod EndOrder
 pub mod EpochAndParts
 pub mod Field

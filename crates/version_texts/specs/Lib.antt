@@ -1,5 +1,7 @@
 pub mod Class
+pub mod Conflict
 pub mod Difference
+pub mod Empty
 pub mod EndOrder
 pub mod Field
 pub mod KeyTies

@@ -5,6 +5,7 @@
 #![tactic(auto)]
 
 mod class;
+mod conflict;
 mod difference;
 mod end_order;
 mod field;
@@ -30,6 +31,7 @@ mod versioning_ref;
 mod why;
 
 pub use class::{Class, begins_with, split_run};
+pub use conflict::{Conflict, Place, conflict_in};
 pub use difference::Difference;
 pub use field::Field;
 pub use key_ties::{compare_key_ties, mark_kind, marked_kind, marked_number};

@@ -8,6 +8,7 @@ ghost use Rattle.version_rules.specs.Key.{key_of};
 ghost use Rattle.version_rules.specs.Lists.{bytes_cmp};
 ghost use Rattle.version_rules.specs.Range.{bytes_of, common, earlier_high, later, range_of, requirement_range, IsIn};
 ghost use Rattle.version_rules.specs.Requirements.{comma, requirements_of};
+ghost use Rattle.version_texts.specs.Empty.{IsCrossed};
 ghost use Rattle.version_texts.specs.RangeRef.{bound_bytes, high_length, low_bytes, plain_range_ref, IsParsed};
 ghost use Rattle.version_texts.specs.RequirementRef.{plain_requirement_ref};
 ghost use Rattle.version_texts.specs.Sinks.{put_at, saturated};
@@ -137,6 +138,35 @@ impl<'a> RangeRef<'a> {
             && is_below(&self.high, version)
     }
 
+    // Returns whether it has a high end that its low end is not below.
+    pub(crate) fn is_crossed(&self) -> bool
+        ensures { IsTrue result ↔ IsCrossed (plain_range_ref self.now) }
+    {
+        match &self.high {
+            Some(high) => !self.begins_before(high),
+            None => false,
+        }
+    }
+
+    // Returns whether its low end is below a bound.
+    pub(crate) fn begins_before(&self, bound: &Bound<'_>) -> bool
+        ensures { IsTrue result
+            ↔ bytes_cmp (plain_range_ref self.now).low (bound_bytes bound.now) ≡ Less }
+    {
+        or_lowest(self.low, *bound).compare(bound) == Ordering::Less
+    }
+
+    // Returns whether a bound is below its high end, if it has one.
+    pub(crate) fn ends_after(&self, bound: &Bound<'_>) -> bool
+        ensures { IsTrue result ↔ IfSome (plain_range_ref self.now).high
+            (λ high. bytes_cmp (bound_bytes bound.now) high ≡ Less) }
+    {
+        match &self.high {
+            Some(high) => bound.compare(high) == Ordering::Less,
+            None => true,
+        }
+    }
+
     /// Returns how many bytes its low bound has. Does not allocate.
     pub fn low_length(&self) -> usize
         ensures { result ≡ saturated (length (plain_range_ref self.now).low) }
@@ -205,6 +235,19 @@ fn bound_at<'a>(version: VersioningRef<'a>, end: Option<End>) -> Option<Bound<'a
     match end {
         Some(end) => Some(Bound { version, end }),
         None => None,
+    }
+}
+
+// Returns a low bound, or one of no bytes if it is missing.
+pub(crate) fn or_lowest<'a>(low: Option<Bound<'a>>, other: Bound<'a>) -> Bound<'a>
+    ensures { bound_bytes result ≡ low_bytes low.entry }
+{
+    match low {
+        Some(bound) => bound,
+        None => Bound {
+            version: other.version,
+            end: End::Lowest,
+        },
     }
 }
 

@@ -34,15 +34,15 @@ use Rattle.version_rules.specs.declared.op.Op.TheVariants as op
 -- ---- comparisons of bytes
 
 -- bytes are not below others
-abbrev IsFrom : List ℕ → List ℕ → Type 0
+abbrev pub IsFrom : List ℕ → List ℕ → Type 0
 IsFrom low bytes = ¬ (bytes_cmp bytes low ≡ Less)
 
 -- bytes are below others
-abbrev IsBelow : List ℕ → List ℕ → Type 0
+abbrev pub IsBelow : List ℕ → List ℕ → Type 0
 IsBelow high bytes = bytes_cmp bytes high ≡ Less
 
 -- bytes that are not below others are not below what these are not below
-stays_from : (low other bytes : List ℕ) → IsFrom other low → IsFrom low bytes → IsFrom other bytes
+pub stays_from : (low other bytes : List ℕ) → IsFrom other low → IsFrom low bytes → IsFrom other bytes
 stays_from low other bytes h k =
     not_below_stays bytes_cmp nat_list_cmp_total other low bytes h
     (back bytes_cmp nat_list_cmp_total low bytes k)
@@ -87,35 +87,35 @@ below_earlier a b bytes = by (bytes_cmp b a) refl
         (λ below. (below, stays_below a b bytes (λ less. cc (e, less)) below), λ both. both.0)
 
 -- the same of high bounds, which may be missing
-abbrev IsBelowHigh : Option (List ℕ) → List ℕ → Type 0
+abbrev pub IsBelowHigh : Option (List ℕ) → List ℕ → Type 0
 IsBelowHigh high bytes = IfSome high (λ bound. IsBelow bound bytes)
 
-below_earlier_high : (a b : Option (List ℕ)) (bytes : List ℕ)
+pub below_earlier_high : (a b : Option (List ℕ)) (bytes : List ℕ)
     → IsBelowHigh (earlier_high a b) bytes ↔ (IsBelowHigh a bytes × IsBelowHigh b bytes)
 below_earlier_high None b bytes = (λ below. (tt, below), λ both. both.1)
 below_earlier_high (Some a) None bytes = (λ below. (below, tt), λ both. both.0)
 below_earlier_high (Some a) (Some b) bytes = below_earlier a b bytes
 
 -- no bytes are below the empty list
-from_empty : (bytes : List ℕ) → IsFrom [] bytes
+pub from_empty : (bytes : List ℕ) → IsFrom [] bytes
 from_empty [] less = cc less
 from_empty (b ∷ bytes) less = cc less
 
 -- ---- kinds
 
 -- a conjunction holds exactly if both sides do
-and_true : (s t : Bool) → IsTrue (s && t) ↔ (IsTrue s × IsTrue t)
+pub and_true : (s t : Bool) → IsTrue (s && t) ↔ (IsTrue s × IsTrue t)
 and_true s t = (λ h. (first_so s t h, second_so s t h), λ h. both_true h.0 h.1)
 
 -- a kind is in the common ones of two exactly if it is in both
-of_common_kinds : (a b : Kinds) (k : Kind)
+pub of_common_kinds : (a b : Kinds) (k : Kind)
     → IsTrue (has_kind (common_kinds a b) k) ↔ (IsTrue (has_kind a k) × IsTrue (has_kind b k))
 of_common_kinds a b kind.Ideal = and_true a.ideal b.ideal
 of_common_kinds a b kind.General = and_true a.general b.general
 of_common_kinds a b kind.Complex = and_true a.complex b.complex
 
 -- each kind is one of all
-of_all_kinds : (k : Kind) → IsTrue (has_kind all_kinds k)
+pub of_all_kinds : (k : Kind) → IsTrue (has_kind all_kinds k)
 of_all_kinds kind.Ideal = refl
 of_all_kinds kind.General = refl
 of_all_kinds kind.Complex = refl

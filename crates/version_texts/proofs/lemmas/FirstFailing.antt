@@ -17,7 +17,7 @@ use Rattle.std.specs.Prelude.{eqb}
 
 -- ---- pieces of texts
 
-some_pieces : (text : List ℕ) → 0 < length (cut_at_commas text)
+pub some_pieces : (text : List ℕ) → 0 < length (cut_at_commas text)
 some_pieces text = omega (arith, length-slice_split (λ b. eqb b comma) text)
 
 -- a text of a piece and those of another text has a comma between them
@@ -68,7 +68,7 @@ module _ (Passes : PlainRequirement → Type 0) where
   Passed piece = IsSomeAnd (requirement_of piece) Passes
 
   -- each piece of a list of which each member passes
-  first_and_others : (read : Option PlainRequirement) (others : Option (List PlainRequirement))
+  pub first_and_others : (read : Option PlainRequirement) (others : Option (List PlainRequirement))
       → IsSomeAnd (before_others read others) (All Passes)
       → IsSomeAnd read Passes × IsSomeAnd others (All Passes)
   first_and_others None others all = absurd all

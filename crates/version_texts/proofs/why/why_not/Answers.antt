@@ -15,6 +15,7 @@ returns-clause-why c =
       member = c.first_failing-start.result.1.now;
       first = found.1;
       end_is = refl;
-      why = subst (λ range. IsWhy range (plain_versioning_ref c.args.version.now) c.why_outside.result)
+      why = subst
+          (λ range. IsWhy range (plain_versioning_ref c.args.version.now) c.why_outside.result)
           (c.of-range.ensures ∙ ap requirement_range same) c.why_outside.ensures;
     }

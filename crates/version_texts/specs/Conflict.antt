@@ -1,0 +1,36 @@
+-- Two members of a list of requirements that exclude each other.
+use Rattle.std.specs.Prelude.{◌≡◌, ◌⊎◌, ℕ, ◌+◌, List, length}
+use Rattle.version_rules.specs.Range.{PlainRange, common, kind_alone, no_kinds, requirement_range}
+use Rattle.version_rules.specs.declared.kind.Kind.{Kind}
+use Rattle.version_rules.specs.declared.kinds.Kinds.{Kinds}
+use Rattle.version_rules.specs.Requirement.{PlainRequirement}
+use Rattle.version_texts.specs.Empty.{IsEmpty}
+use Rattle.version_texts.specs.MemberPlace.{IsMember}
+use Rattle.version_texts.specs.declared.conflict.Conflict.{Conflict}
+use Rattle.version_texts.specs.declared.conflict.Place.{Place}
+
+-- A member of the text begins and ends there, and parses as the requirement.
+pub record IsAt (text : List ℕ) (place : Place) (r : PlainRequirement) : Type 0 where
+  pub member : List ℕ
+  pub is : IsMember text place.start member r
+  pub end_is : place.end ≡ place.start + length member
+
+-- The members at the two places exclude each other: what their ranges have in common is empty.
+pub record ExcludeEachOther (text : List ℕ) (conflict : Conflict) : Type 0 where
+  pub one : PlainRequirement
+  pub other : PlainRequirement
+  pub one_is : IsAt text conflict.one one
+  pub other_is : IsAt text conflict.other other
+  pub empty : IsEmpty (common (requirement_range one) (requirement_range other))
+
+-- A member that fails a test lies there, and has this range.
+pub record IsFailing (Passes : PlainRequirement → Type 0) (text : List ℕ) (place : Place)
+    (range : PlainRange) : Type 0 where
+  pub requirement : PlainRequirement
+  pub is : IsAt text place requirement
+  pub range_is : range ≡ requirement_range requirement
+  pub fails : ¬ (Passes requirement)
+
+-- the kinds are none or one alone
+abbrev pub IsOneAtMost : Kinds → Type 0
+IsOneAtMost kinds = (kinds ≡ no_kinds) ⊎ ((kind : Kind) × (kinds ≡ kind_alone kind))

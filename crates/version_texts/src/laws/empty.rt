@@ -1,0 +1,21 @@
+//! Laws of empty ranges.
+
+ghost use Rattle.std.specs.Prelude.{◌≡◌, ℕ, List, Some};
+ghost use Rattle.version_rules.specs.Matching.{MatchesAll};
+ghost use Rattle.version_rules.specs.Range.{range_of, IsIn, PlainRange};
+ghost use Rattle.version_rules.specs.Requirement.{PlainRequirement};
+ghost use Rattle.version_rules.specs.Requirements.{requirements_of};
+ghost use Rattle.version_rules.specs.Versioning.{PlainVersioning};
+ghost use Rattle.version_texts.specs.Conflict.{ExcludeEachOther};
+ghost use Rattle.version_texts.specs.Empty.{IsEmpty};
+ghost use Rattle.version_texts.specs.declared.conflict.Conflict.{Conflict};
+
+// No version is in an empty range. So a list whose range is empty matches none, nor does a list two of whose members
+// exclude each other.
+fn empty_ranges()
+    ensures within { (range : PlainRange) (v : PlainVersioning) → IsEmpty range → ¬ (IsIn range v) }
+    ensures lists { (list : List PlainRequirement) (v : PlainVersioning) → IsEmpty (range_of list)
+        → ¬ (MatchesAll list v) }
+    ensures two { (text : List ℕ) (conflict : Conflict) (list : List PlainRequirement) (v : PlainVersioning)
+        → ExcludeEachOther text conflict → requirements_of text ≡ Some list → ¬ (MatchesAll list v) }
+{}
