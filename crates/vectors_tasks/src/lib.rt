@@ -4,6 +4,8 @@
 #[cfg(test)]
 mod conflicts;
 #[cfg(test)]
+mod differences;
+#[cfg(test)]
 mod newest;
 #[cfg(test)]
 mod stabilities;
