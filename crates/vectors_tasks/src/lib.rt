@@ -8,6 +8,8 @@ mod differences;
 #[cfg(test)]
 mod newest;
 #[cfg(test)]
+mod next;
+#[cfg(test)]
 mod stabilities;
 #[cfg(test)]
 mod tags;
