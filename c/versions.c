@@ -112,6 +112,11 @@ int versions_stability(const char *text, size_t text_len) {
   return proved_versions_stability(from(text), text_len);
 }
 
+int versions_difference(const char *a, size_t a_len, const char *b, size_t b_len, uint32_t *difference, size_t *part) {
+  if (lacks(a, a_len) || lacks(b, b_len) || difference == NULL || part == NULL) return VERSIONS_NULL;
+  return proved_versions_difference(from(a), a_len, from(b), b_len, difference, part);
+}
+
 int versions_kinds(const char *texts, size_t texts_len, const int64_t *offsets, size_t offsets_len, uint8_t *kinds,
                    size_t kinds_len) {
   if (lacks(texts, texts_len) || lacks(offsets, offsets_len) || lacks(kinds, kinds_len)) return VERSIONS_NULL;

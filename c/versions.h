@@ -83,6 +83,13 @@ extern "C" {
 #define VERSIONS_FIELD_RELEASE 3     /* what follows the hyphen of a general version: 3 of 1:2.0-3 */
 #define VERSIONS_FIELD_METADATA 4    /* what follows the plus of a strict or general version: x86 of 1.2.3-rc.1+x86 */
 
+/* Where two versions differ first. */
+#define VERSIONS_DIFFERENCE_NONE 0  /* nowhere: the same version, apart from the metadata of strict versions */
+#define VERSIONS_DIFFERENCE_TIE 1   /* in nothing that counts: they differ, but compare equal */
+#define VERSIONS_DIFFERENCE_EPOCH 2 /* in their epochs */
+#define VERSIONS_DIFFERENCE_PART 3  /* in one of the parts between the epoch and what follows the parts */
+#define VERSIONS_DIFFERENCE_TAIL 4  /* in what follows the parts, such as a pre-release */
+
 /* The flags of a range. */
 #define VERSIONS_RANGE_IDEAL 1   /* strict versions are in the range */
 #define VERSIONS_RANGE_GENERAL 2 /* general versions are in the range */
@@ -317,6 +324,21 @@ int versions_after_prefix(const char *prefix, size_t prefix_len, const char *tag
  * stability.
  */
 int versions_stability(const char *text, size_t text_len);
+
+/*
+ * Finds where two versions differ first, as their order looks at them: VERSIONS_DIFFERENCE_NONE to
+ * VERSIONS_DIFFERENCE_TAIL.
+ *
+ * Sets *difference, and *part to the number of the part, counted from 0, with VERSIONS_DIFFERENCE_PART, and otherwise
+ * to 0. 1.2.3 and 1.2.4 differ in part 2, and so do 1.2 and 1.2.0: a version whose parts end differs there from one
+ * that has more. An absent epoch is 0. Parts and what follows them differ where they compare unequal: 1.2 and 1.02 tie.
+ *
+ * versions_compare sets 0 with VERSIONS_DIFFERENCE_NONE and VERSIONS_DIFFERENCE_TIE alone, and versions_compare_total
+ * with VERSIONS_DIFFERENCE_NONE alone.
+ *
+ * Returns the statuses of versions_compare.
+ */
+int versions_difference(const char *a, size_t a_len, const char *b, size_t b_len, uint32_t *difference, size_t *part);
 
 /*
  * Writes the kind of each of n texts, as versions_kind returns it.

@@ -399,6 +399,24 @@ static int status_of(int a, int b) {
   return a ? VERSIONS_NO_VERSION_B : VERSIONS_NO_VERSION_AB;
 }
 
+// Checks where two texts differ first, by the status for them and by how they compare.
+static void check_difference(const char *a, size_t a_length, const char *b, size_t b_length, int wanted, int32_t order,
+                             int32_t total) {
+  uint32_t difference = 77, turned = 77;
+  size_t part = 77, turned_part = 77;
+  CHECK(versions_difference(a, a_length, b, b_length, &difference, &part) == wanted);
+  if (wanted != VERSIONS_OK) {
+    CHECK(difference == 77 && part == 77);
+    return;
+  }
+  CHECK(versions_difference(b, b_length, a, a_length, &turned, &turned_part) == VERSIONS_OK);
+  CHECK(turned == difference && turned_part == part);
+  CHECK((difference == VERSIONS_DIFFERENCE_NONE) == (total == 0));
+  CHECK((difference <= VERSIONS_DIFFERENCE_TIE) == (order == 0));
+  CHECK(difference <= VERSIONS_DIFFERENCE_TAIL);
+  CHECK(difference == VERSIONS_DIFFERENCE_PART || part == 0);
+}
+
 static void compare(const struct lines *lines) {
   for (size_t line = 0; line + 1 < lines->count; line++) {
     const char *a = text_of(lines, line), *b = text_of(lines, line + 1);
@@ -407,6 +425,7 @@ static void compare(const struct lines *lines) {
     int32_t order = 77, total = 77, turned = 77;
     CHECK(versions_compare(a, a_length, b, b_length, &order) == wanted);
     CHECK(versions_compare_total(a, a_length, b, b_length, &total) == wanted);
+    check_difference(a, a_length, b, b_length, wanted, order, total);
     if (wanted != VERSIONS_OK) {
       CHECK(order == 77 && total == 77);
       printf("%d\n", wanted);
@@ -895,6 +914,40 @@ static void ties(void) {
   }
 }
 
+// Where two versions differ first, by the rules of docs/ORDER.md.
+static void worked_differences(void) {
+  static const struct {
+    const char *first, *second;
+    uint32_t difference;
+    size_t part;
+  } worked[] = {
+      {"1:1.2", "1.2", VERSIONS_DIFFERENCE_EPOCH, 0},        {"2:1.2", "1:1.3", VERSIONS_DIFFERENCE_EPOCH, 0},
+      {"1.2.3", "1.2.4", VERSIONS_DIFFERENCE_PART, 2},       {"1.2", "1.2.0", VERSIONS_DIFFERENCE_PART, 2},
+      {"1.0a", "1.0b", VERSIONS_DIFFERENCE_PART, 1},         {"v1.2", "1.2", VERSIONS_DIFFERENCE_PART, 0},
+      {"1.2.3-rc.1", "1.2.4", VERSIONS_DIFFERENCE_PART, 2},  {"1:1.9", "1:1.10", VERSIONS_DIFFERENCE_PART, 1},
+      {"1.2.3", "1.2.3-rc.1", VERSIONS_DIFFERENCE_TAIL, 0},  {"1.2-1", "1.2-2", VERSIONS_DIFFERENCE_TAIL, 0},
+      {"1.2_3", "1.2_4", VERSIONS_DIFFERENCE_TAIL, 0},       {"1:2:3", "1:2:4", VERSIONS_DIFFERENCE_TAIL, 0},
+      {"1.2-3+a", "1.2-3+b", VERSIONS_DIFFERENCE_TIE, 0},    {"1.2", "0:1.2", VERSIONS_DIFFERENCE_TIE, 0},
+      {"1.2", "1.02", VERSIONS_DIFFERENCE_TIE, 0},           {"1.2_3", "1.2~3", VERSIONS_DIFFERENCE_TIE, 0},
+      {"1.2.3+a", "1.2.3+b", VERSIONS_DIFFERENCE_NONE, 0},   {"1.2.3", "1.2.3", VERSIONS_DIFFERENCE_NONE, 0},
+  };
+  uint32_t difference = 77;
+  size_t part = 77;
+  for (size_t i = 0; i < sizeof worked / sizeof *worked; i++) {
+    const char *a = worked[i].first, *b = worked[i].second;
+    CHECK(versions_difference(a, strlen(a), b, strlen(b), &difference, &part) == VERSIONS_OK);
+    CHECK(difference == worked[i].difference && part == worked[i].part);
+    CHECK(versions_difference(b, strlen(b), a, strlen(a), &difference, &part) == VERSIONS_OK);
+    CHECK(difference == worked[i].difference && part == worked[i].part);
+  }
+  difference = 77;
+  part = 77;
+  CHECK(versions_difference(NULL, 0, "1", 1, &difference, &part) == VERSIONS_NO_VERSION_A);
+  CHECK(versions_difference("1", 1, "\xff", 1, &difference, &part) == VERSIONS_NO_VERSION_B);
+  CHECK(versions_difference("1.", 2, NULL, 0, &difference, &part) == VERSIONS_NO_VERSION_AB);
+  CHECK(difference == 77 && part == 77);
+}
+
 // By the rows of docs/GRAMMAR.md.
 static void worked_numbers(void) {
   uint32_t number = 77;
@@ -1270,6 +1323,7 @@ static void long_text(const char *piece, size_t times, int kind, size_t key_leng
   int32_t order = 77, total = 77;
   CHECK(versions_compare(text, length, text, length, &order) == VERSIONS_OK && order == 0);
   CHECK(versions_compare_total(text, length, text, length, &total) == VERSIONS_OK && total == 0);
+  check_difference(text, length, text, length, VERSIONS_OK, order, total);
   CHECK(versions_sort_key(text, length, NULL, 0, &needed) == VERSIONS_NO_ROOM && needed == key_length);
   uint8_t *key = (uint8_t *)block(needed);
   CHECK(versions_sort_key(text, length, key, needed, &needed) == VERSIONS_OK && needed == key_length);
@@ -1591,6 +1645,7 @@ static void without_memory(const struct lines *lines) {
     int is_version = answers[line] != VERSIONS_NONE;
     CHECK(versions_compare_total(text, length, text, length, &order) == status_of(is_version, is_version));
     CHECK(order == (is_version ? 0 : 77));
+    check_difference(text, length, text, length, status_of(is_version, is_version), order, order);
     CHECK((versions_sort_key(text, length, keys, room, &key_length) == VERSIONS_OK) == is_version);
     check_parse(text, length, answers[line], is_version ? keys : NULL, key_length);
     for (size_t place = 0; place < 4; place++) {
@@ -1643,6 +1698,7 @@ int main(int count, char **words) {
   if (strcmp(word, "edges") == 0) {
     no_versions();
     ties();
+    worked_differences();
     worked_numbers();
     worked_prereleases();
     worked_tags();

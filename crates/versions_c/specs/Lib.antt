@@ -1,3 +1,4 @@
+pub mod Difference
 pub mod Fields
 pub mod Keys
 pub mod Kinds

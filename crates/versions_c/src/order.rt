@@ -50,7 +50,7 @@ pub extern "C" fn versions_compare_total(a: &[u8], b: &[u8], order: &mut i32) ->
 }
 
 // Returns the status for two texts, by whether each is a version.
-fn pair_status(a: bool, b: bool) -> i32
+pub(crate) fn pair_status(a: bool, b: bool) -> i32
     ensures { result ≡ pair_status a b }
 {
     match (a, b) {
