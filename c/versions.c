@@ -117,6 +117,11 @@ int versions_difference(const char *a, size_t a_len, const char *b, size_t b_len
   return proved_versions_difference(from(a), a_len, from(b), b_len, difference, part);
 }
 
+int versions_next(const char *text, size_t text_len, size_t place, char *next, size_t room, size_t *next_len) {
+  if (lacks(text, text_len) || lacks(next, room) || next_len == NULL) return VERSIONS_NULL;
+  return proved_versions_next(from(text), text_len, place, to(next), room, next_len);
+}
+
 int versions_kinds(const char *texts, size_t texts_len, const int64_t *offsets, size_t offsets_len, uint8_t *kinds,
                    size_t kinds_len) {
   if (lacks(texts, texts_len) || lacks(offsets, offsets_len) || lacks(kinds, kinds_len)) return VERSIONS_NULL;
@@ -196,7 +201,7 @@ const char *versions_status_text(int status) {
     case VERSIONS_NO_VERSION_AB: return "neither text is a version";
     case VERSIONS_NO_REQUIREMENTS: return "the list does not parse as a list of requirements";
     case VERSIONS_NO_NUMBER: return "the version has no number at that place, or no epoch";
-    case VERSIONS_NO_ROOM: return "a buffer for keys or for a bound is too small";
+    case VERSIONS_NO_ROOM: return "a buffer for keys, for a bound or for a text is too small";
     case VERSIONS_BAD_OFFSETS: return "an offset is bad, or the lengths of two arrays do not match";
     case VERSIONS_NO_MEMORY: return "memory allocation failed";
     case VERSIONS_NULL: return "a pointer is null, and what it should point to is not empty";
@@ -204,6 +209,7 @@ const char *versions_status_text(int status) {
     case VERSIONS_NO_WRONG_MEMBER: return "each member of the list is a requirement";
     case VERSIONS_LARGE_EPOCH: return "the epoch is above 9223372036854775807";
     case VERSIONS_UNKNOWN_FIELD: return "no field has that number";
+    case VERSIONS_NO_NEXT: return "the version has no next one at that place";
     default: return "not a status of this library";
   }
 }

@@ -55,7 +55,7 @@ extern "C" {
 #define VERSIONS_NO_VERSION_AB 4    /* neither of two texts is a version */
 #define VERSIONS_NO_REQUIREMENTS 5  /* the list does not parse as a list of requirements */
 #define VERSIONS_NO_NUMBER 6        /* the version has no number at that place, or no epoch */
-#define VERSIONS_NO_ROOM 7          /* a buffer for keys or for a bound is too small */
+#define VERSIONS_NO_ROOM 7          /* a buffer for keys, for a bound or for a text is too small */
 #define VERSIONS_BAD_OFFSETS 8      /* an offset is bad, or the lengths of two arrays do not match */
 #define VERSIONS_NO_MEMORY 9        /* reserved for an allocation failure; no call allocates, and none returns this */
 #define VERSIONS_NULL 10            /* a pointer is null, and what it should point to is not empty */
@@ -63,6 +63,7 @@ extern "C" {
 #define VERSIONS_NO_WRONG_MEMBER 12 /* each member of the list is a requirement */
 #define VERSIONS_LARGE_EPOCH 13     /* the epoch is above 9223372036854775807 */
 #define VERSIONS_UNKNOWN_FIELD 14   /* no field has that number */
+#define VERSIONS_NO_NEXT 17         /* the version has no next one at that place */
 
 /* The kinds. */
 #define VERSIONS_NONE 0    /* not a version */
@@ -339,6 +340,24 @@ int versions_stability(const char *text, size_t text_len);
  * Returns the statuses of versions_compare.
  */
 int versions_difference(const char *a, size_t a_len, const char *b, size_t b_len, uint32_t *difference, size_t *part);
+
+/*
+ * Writes the version that comes next after another at a place, as text. Places are counted from 0.
+ *
+ * It is the least version that comes after that one, of its kind, with its epoch and as many numbers: the same ones
+ * before the place, and zeros after it. It has no pre-release, release or metadata. After 1.2.3 comes 1.2.4 at place 2,
+ * 1.3.0 at place 1 and 2.0.0 at place 0. After 1.2.3-rc.1 comes 1.2.3 at place 2, and after 1:1.9-3 comes 1:1.10 at
+ * place 1.
+ *
+ * There is none where the version does not have so many parts, where its number would be past 4294967295, and after a
+ * messy version and one with a part that is not a number, such as 1.0rc1.
+ *
+ * Writes the text into the first bytes of `next`, which has `room` bytes, without a byte 0 after it, and its length to
+ * *next_len, also with VERSIONS_NO_ROOM. To get the length alone, pass room 0 and a null pointer.
+ *
+ * Returns VERSIONS_OK, VERSIONS_NO_VERSION, VERSIONS_NO_NEXT or VERSIONS_NO_ROOM.
+ */
+int versions_next(const char *text, size_t text_len, size_t place, char *next, size_t room, size_t *next_len);
 
 /*
  * Writes the kind of each of n texts, as versions_kind returns it.

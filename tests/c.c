@@ -1153,6 +1153,43 @@ static void worked_newest(void) {
   }
 }
 
+// What comes next after versions at places. No text stands for none.
+static void worked_next(void) {
+  static const struct {
+    const char *text;
+    size_t place;
+    const char *next;
+  } worked[] = {
+      {"1.2.3", 2, "1.2.4"},         {"1.2.3", 1, "1.3.0"},          {"1.2.3", 0, "2.0.0"},
+      {"1.2.3", 3, NULL},            {"1.2.3", SIZE_MAX, NULL},      {"1.2.3-rc.1", 2, "1.2.3"},
+      {"1.2.3-rc.1", 1, "1.3.0"},    {"1.2.0-rc.1", 1, "1.2.0"},     {"1.2.3+x", 2, "1.2.4"},
+      {"1:1.9", 1, "1:1.10"},        {"0:1.0", 0, "0:2.0"},          {"1.2-3", 1, "1.3"},
+      {"1.2.4294967295", 2, NULL},   {"1.2.4294967295", 1, "1.3.0"}, {"1.2.3.4", 1, "1.3.0.0"},
+      {"5", 0, "6"},                 {"2-1", 0, "3"},                {"2023.01.02", 0, NULL},
+      {"1.0rc1", 0, NULL},           {"1_2", 0, NULL},
+  };
+  for (size_t i = 0; i < sizeof worked / sizeof *worked; i++) {
+    const char *text = worked[i].text, *wanted = worked[i].next;
+    size_t place = worked[i].place, length = strlen(text), needed = 77;
+    char next[20];
+    memset(next, 77, sizeof next);
+    int status = versions_next(text, length, place, NULL, 0, &needed);
+    if (wanted == NULL) {
+      CHECK(status == VERSIONS_NO_NEXT && needed == 77);
+      CHECK(versions_next(text, length, place, next, sizeof next, &needed) == VERSIONS_NO_NEXT);
+      CHECK(needed == 77 && next[0] == 77);
+      continue;
+    }
+    CHECK(status == VERSIONS_NO_ROOM && needed == strlen(wanted));
+    CHECK(versions_next(text, length, place, next, needed - 1, &needed) == VERSIONS_NO_ROOM && next[0] == 77);
+    CHECK(versions_next(text, length, place, next, needed, &needed) == VERSIONS_OK && needed == strlen(wanted));
+    CHECK(memcmp(next, wanted, needed) == 0 && next[needed] == 77);
+  }
+  size_t needed = 77;
+  CHECK(versions_next(NULL, 0, 0, NULL, 0, &needed) == VERSIONS_NO_VERSION && needed == 77);
+  CHECK(versions_next("1.2.3-", 6, 0, NULL, 0, &needed) == VERSIONS_NO_VERSION && needed == 77);
+}
+
 // The first member that is not a requirement, by the tables of docs/REQUIREMENTS.md. A place of 77 stands for none.
 static void worked_members(void) {
   static const struct {
@@ -1298,7 +1335,7 @@ static void bad_offsets(void) {
 
 // Every status has its own text.
 static void statuses(void) {
-  for (int a = VERSIONS_OK; a <= VERSIONS_UNKNOWN_FIELD + 1; a++) {
+  for (int a = VERSIONS_OK; a <= VERSIONS_NO_NEXT + 1; a++) {
     CHECK(strlen(versions_status_text(a)) > 5);
     for (int b = VERSIONS_OK; b < a; b++) CHECK(strcmp(versions_status_text(a), versions_status_text(b)) != 0);
   }
@@ -1704,6 +1741,7 @@ int main(int count, char **words) {
     worked_tags();
     worked_stabilities();
     worked_newest();
+    worked_next();
     worked_members();
     worked_fields();
     worked_epochs();

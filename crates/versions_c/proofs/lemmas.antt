@@ -1,6 +1,7 @@
 pub mod Keys
 pub mod Matching
 pub mod Newest
+pub mod Next
 pub mod Ranges
 pub mod Sorting
 pub mod Tags

@@ -4,6 +4,7 @@ pub mod Keys
 pub mod Kinds
 pub mod Matching
 pub mod Newest
+pub mod Next
 pub mod Numbers
 pub mod Offsets
 pub mod Order

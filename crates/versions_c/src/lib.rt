@@ -9,6 +9,7 @@ mod kinds;
 mod laws;
 mod matching;
 mod newest;
+mod next;
 mod numbers;
 mod offsets;
 mod order;

@@ -26,3 +26,5 @@ pub const NO_WRONG_MEMBER: i32 = 12;
 pub const LARGE_EPOCH: i32 = 13;
 /// No field has that number.
 pub const UNKNOWN_FIELD: i32 = 14;
+/// The version has no next one at that place.
+pub const NO_NEXT: i32 = 17;
