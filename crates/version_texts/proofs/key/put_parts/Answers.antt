@@ -1,8 +1,7 @@
-use Rattle.std.proofs.Common.{ℕ, List, [], ◌++◌, ◌∙◌, ap, append_assoc, arith, length, refl, rules, sym}
-use Rattle.std.proofs.lemmas.List.{length-drop}
+use Rattle.std.proofs.Common.{ℕ, List, [], ◌++◌, ◌∙◌, ap, append_assoc, refl, rules, sym}
 use Rattle.std.specs.Char.{is_ascii_alphanumeric}
-use Rattle.std.specs.List.{prefix_len}
 use Rattle.version_texts.proofs.lemmas.TextKey.DotPieces.{first_part, last_part, part_and_more, rest_and_more, rest_of_last}
+use Rattle.version_texts.proofs.lemmas.TextKey.Lists.{behind_shorter}
 use Rattle.version_texts.proofs.lemmas.TextKey.Taking.{takes_same}
 use Rattle.version_texts.proofs.key.put_parts.Goals as goal
 
@@ -24,14 +23,7 @@ parts-preserved g c =
 
 pub parts-smaller : goal.parts-smaller
 parts-smaller g c =
-    let whole = ap (λ (l : List ℕ). length l) c.in-Some.ensures in
-    let short = ap (λ (l : List ℕ). length l) c.put_part-rest.ensures.rest in
-    omega (
-      arith,
-      whole,
-      short,
-      length-drop (prefix_len is_ascii_alphanumeric c.parts.left.now) c.parts.left.now,
-    )
+    behind_shorter is_ascii_alphanumeric _ _ _ _ c.put_part-rest.ensures.rest c.in-Some.ensures
 
 pub returns-then-is_decided-clause-bytes : goal.returns-then-is_decided-clause-bytes
 returns-then-is_decided-clause-bytes g c =

@@ -1,8 +1,9 @@
-use Rattle.std.proofs.Common.{ℕ, List, [], ◌∷◌, ◌++◌, ◌∙◌, ap, append_assoc, arith, length, refl, sym}
-use Rattle.std.proofs.lemmas.List.{length-drop, nil_from_length}
-use Rattle.std.specs.List.{list_all, prefix_len}
+use Rattle.std.proofs.Common.{ℕ, List, [], ◌∷◌, ◌++◌, ◌∙◌, ap, append_assoc, refl, sym}
+use Rattle.std.proofs.lemmas.List.{nil_from_length}
+use Rattle.std.specs.List.{list_all}
 use Rattle.version_rules.specs.Bytes.{is_identifier_byte}
 use Rattle.version_texts.proofs.lemmas.TextKey.DotPieces.{chunk_and_more, chunk_of_metadata, last_chunk, not_dot, rest_of_metadata}
+use Rattle.version_texts.proofs.lemmas.TextKey.Lists.{behind_shorter}
 use Rattle.version_texts.proofs.lemmas.TextKey.Taking.{takes_same}
 use Rattle.version_texts.proofs.key.put_release.Goals as goal
 
@@ -27,14 +28,7 @@ chunks-preserved g c =
 
 pub chunks-smaller : goal.chunks-smaller
 chunks-smaller g c =
-    let whole = ap (λ (l : List ℕ). length l) c.in-Some.ensures.cases.0 in
-    let short = ap (λ (l : List ℕ). length l) c.split_run.ensures.rest in
-    omega (
-      arith,
-      whole,
-      short,
-      length-drop (prefix_len not_dot c.chunks.left.now) c.chunks.left.now,
-    )
+    behind_shorter not_dot _ _ _ _ c.split_run.ensures.rest c.in-Some.ensures.cases.0
 
 pub put_chunk-requires : goal.put_chunk-requires
 put_chunk-requires g c =

@@ -1,8 +1,8 @@
-use Rattle.std.proofs.Common.{ℕ, List, [], ◌∷◌, ◌++◌, ◌∙◌, ap, append_assoc, arith, length, refl, sym}
-use Rattle.std.proofs.lemmas.List.{length-drop, nil_from_length}
-use Rattle.std.specs.List.{prefix_len}
+use Rattle.std.proofs.Common.{ℕ, List, [], ◌∷◌, ◌++◌, ◌∙◌, ap, append_assoc, refl, sym}
+use Rattle.std.proofs.lemmas.List.{nil_from_length}
 use Rattle.version_texts.specs.Shape.{is_section_byte}
 use Rattle.version_texts.proofs.lemmas.TextKey.SectionPieces.{behind_all, first_section, last_section, section_and_more}
+use Rattle.version_texts.proofs.lemmas.TextKey.Lists.{behind_shorter}
 use Rattle.version_texts.proofs.lemmas.TextKey.Taking.{takes_same}
 use Rattle.version_texts.proofs.key.put_sections.Goals as goal
 
@@ -26,14 +26,7 @@ sections-preserved g c =
 
 pub sections-smaller : goal.sections-smaller
 sections-smaller g c =
-    let whole = ap (λ (l : List ℕ). length l) c.in-Some-split_first.ensures.cases.0 in
-    let short = ap (λ (l : List ℕ). length l) c.in-Some.ensures.rest in
-    omega (
-      arith,
-      whole,
-      short,
-      length-drop (prefix_len is_section_byte c.sections.left.now) c.sections.left.now,
-    )
+    behind_shorter is_section_byte _ _ _ _ c.in-Some.ensures.rest c.in-Some-split_first.ensures.cases.0
 
 pub returns-in_default : goal.returns-in_default
 returns-in_default g c =

@@ -1,6 +1,7 @@
 -- Lists of parts, of chunks and of sections, compared by their first pieces and what follows these.
-use Rattle.std.proofs.Common.{refl, ◌≡◌, ◌∙◌, ℕ, Bool, List, [], ◌∷◌, map, ap, sym}
-use Rattle.std.specs.List.{before_first, slice_split}
+use Rattle.std.proofs.Common.{refl, ◌≡◌, ◌∙◌, ◌<◌, ℕ, Bool, List, [], ◌∷◌, drop, length, map, ap, arith, sym}
+use Rattle.std.proofs.lemmas.List.{length-drop}
+use Rattle.std.specs.List.{before_first, prefix_len, slice_split}
 use Rattle.std.specs.Cmp.Lexicographic.{slice_cmp}
 use Rattle.std.specs.Ordering.{ordering_then}
 use Rattle.std.specs.declared.cmp.Ordering.{Ordering}
@@ -18,6 +19,12 @@ further_of_more test rest more p = ap (further_pieces test) p.1
 
 pub further_of_none : (test : ℕ → Bool) (rest : List ℕ) → rest ≡ [] → further_pieces test rest ≡ []
 further_of_none test rest e = ap (further_pieces test) e
+
+-- what follows a run, and the byte behind it, is shorter than the text
+pub behind_shorter : (test : ℕ → Bool) (text rest more : List ℕ) (b : ℕ)
+    → rest ≡ drop (prefix_len test text) text → rest ≡ b ∷ more → length more < length text
+behind_shorter test text rest more b run byte =
+    omega (arith, ap length run, ap length byte, length-drop (prefix_len test text) text)
 
 -- two lists, by their first items and what follows these
 module _ {X : Type 0} (test : ℕ → Bool) (item : List ℕ → X) (first_cmp : X → X → Ordering)
