@@ -122,6 +122,22 @@ int versions_next(const char *text, size_t text_len, size_t place, char *next, s
   return proved_versions_next(from(text), text_len, place, to(next), room, next_len);
 }
 
+int versions_why_not(const char *list, size_t list_len, const char *text, size_t text_len, size_t *start, size_t *end,
+                     uint32_t *why) {
+  if (lacks(list, list_len) || lacks(text, text_len) || start == NULL || end == NULL || why == NULL) {
+    return VERSIONS_NULL;
+  }
+  return proved_versions_why_not(from(list), list_len, from(text), text_len, start, end, why);
+}
+
+int versions_conflict(const char *list, size_t list_len, size_t *start, size_t *end, size_t *other_start,
+                      size_t *other_end) {
+  if (lacks(list, list_len) || start == NULL || end == NULL || other_start == NULL || other_end == NULL) {
+    return VERSIONS_NULL;
+  }
+  return proved_versions_conflict(from(list), list_len, start, end, other_start, other_end);
+}
+
 int versions_kinds(const char *texts, size_t texts_len, const int64_t *offsets, size_t offsets_len, uint8_t *kinds,
                    size_t kinds_len) {
   if (lacks(texts, texts_len) || lacks(offsets, offsets_len) || lacks(kinds, kinds_len)) return VERSIONS_NULL;
@@ -209,6 +225,8 @@ const char *versions_status_text(int status) {
     case VERSIONS_NO_WRONG_MEMBER: return "each member of the list is a requirement";
     case VERSIONS_LARGE_EPOCH: return "the epoch is above 9223372036854775807";
     case VERSIONS_UNKNOWN_FIELD: return "no field has that number";
+    case VERSIONS_ALL_MATCH: return "each member of the list matches the version";
+    case VERSIONS_NO_CONFLICT: return "no two members of the list exclude each other";
     case VERSIONS_NO_NEXT: return "the version has no next one at that place";
     default: return "not a status of this library";
   }

@@ -63,6 +63,8 @@ extern "C" {
 #define VERSIONS_NO_WRONG_MEMBER 12 /* each member of the list is a requirement */
 #define VERSIONS_LARGE_EPOCH 13     /* the epoch is above 9223372036854775807 */
 #define VERSIONS_UNKNOWN_FIELD 14   /* no field has that number */
+#define VERSIONS_ALL_MATCH 15       /* each member of the list matches the version */
+#define VERSIONS_NO_CONFLICT 16     /* no two members of the list exclude each other */
 #define VERSIONS_NO_NEXT 17         /* the version has no next one at that place */
 
 /* The kinds. */
@@ -100,6 +102,12 @@ extern "C" {
 
 /* The flags of versions_newest. */
 #define VERSIONS_NEWEST_TAGS 1 /* the version of a text is the one in it as in a tag */
+
+/* Why a requirement does not match a version: the first of these that is so. */
+#define VERSIONS_WHY_KIND 1  /* the version's kind is not one of the kinds of the requirement's range */
+#define VERSIONS_WHY_BELOW 2 /* its key is below the range */
+#define VERSIONS_WHY_ABOVE 3 /* its key is not below the high bound of the range */
+#define VERSIONS_WHY_PARTS 4 /* none of these: parts or fields differ */
 
 /*
  * Returns the kind of a text: VERSIONS_NONE, VERSIONS_IDEAL, VERSIONS_GENERAL or VERSIONS_COMPLEX.
@@ -358,6 +366,34 @@ int versions_difference(const char *a, size_t a_len, const char *b, size_t b_len
  * Returns VERSIONS_OK, VERSIONS_NO_VERSION, VERSIONS_NO_NEXT or VERSIONS_NO_ROOM.
  */
 int versions_next(const char *text, size_t text_len, size_t place, char *next, size_t room, size_t *next_len);
+
+/*
+ * Finds the first member of a list of requirements that does not match a version, and why it does not.
+ *
+ * The member is the bytes of the list from *start up to, but without, *end. Sets *why to VERSIONS_WHY_KIND,
+ * VERSIONS_WHY_BELOW, VERSIONS_WHY_ABOVE or VERSIONS_WHY_PARTS. 1.4 is below >=1.5, and 2.0 is above <2.
+ *
+ * Returns VERSIONS_OK, VERSIONS_NO_REQUIREMENTS (whatever the text is), VERSIONS_NO_VERSION, or VERSIONS_ALL_MATCH if
+ * each member matches.
+ */
+int versions_why_not(const char *list, size_t list_len, const char *text, size_t text_len, size_t *start, size_t *end,
+                     uint32_t *why);
+
+/*
+ * Finds two members of a list of requirements that exclude each other, so that the list matches no version. The ranges
+ * of the two have no version in common, as those of >=2 and <1: they have no kind in common, or the greater of their low
+ * bounds is not below the lesser of their high bounds. If one member alone excludes every version, as ~1_2 does, it is
+ * given twice.
+ *
+ * The members are the bytes of the list from *start up to, but without, *end, and from *other_start up to, but without,
+ * *other_end. If bounds exclude each other, the first has the greatest low bound of the list, and the other has the
+ * least high bound.
+ *
+ * Returns VERSIONS_OK, VERSIONS_NO_REQUIREMENTS, or VERSIONS_NO_CONFLICT if the range of the list is not empty; the list
+ * can still match no version, as =1.0,=1.0+x does.
+ */
+int versions_conflict(const char *list, size_t list_len, size_t *start, size_t *end, size_t *other_start,
+                      size_t *other_end);
 
 /*
  * Writes the kind of each of n texts, as versions_kind returns it.

@@ -1213,6 +1213,62 @@ static void worked_members(void) {
   CHECK(versions_wrong_member("*,\0", 3, &start, &end) == VERSIONS_OK && start == 2 && end == 3);
 }
 
+// The first member that does not match, and why. A reason of 0 stands for a list that matches.
+static void worked_exclusions(void) {
+  static const struct {
+    const char *list, *text;
+    size_t start, end;
+    uint32_t why;
+  } worked[] = {
+      {">=1.5", "1.4", 0, 5, VERSIONS_WHY_BELOW},    {">=1,<2", "2.0", 4, 6, VERSIONS_WHY_ABOVE},
+      {">=1,<2", "0.9", 0, 3, VERSIONS_WHY_BELOW},   {">=1,<2", "1.5", 77, 77, 0},
+      {"=1.2", "1.2.3.4_x", 0, 4, VERSIONS_WHY_KIND}, {"=1.0.0", "1.0", 0, 6, VERSIONS_WHY_KIND},
+      {"=1.0", "0:1.0", 0, 4, VERSIONS_WHY_PARTS},   {"~1.2", "1.2.0.1", 0, 4, VERSIONS_WHY_PARTS},
+      {"~1.2.3", "1.3.0", 0, 6, VERSIONS_WHY_ABOVE}, {">0,~1_2", "1_2", 3, 7, VERSIONS_WHY_KIND},
+      {"*", "1_2", 77, 77, 0},                       {"=1.0.0", "1.0.0+x", 77, 77, 0},
+  };
+  for (size_t i = 0; i < sizeof worked / sizeof *worked; i++) {
+    const char *list = worked[i].list, *text = worked[i].text;
+    size_t start = 77, end = 77;
+    uint32_t why = 0;
+    int status = versions_why_not(list, strlen(list), text, strlen(text), &start, &end, &why);
+    CHECK(status == (worked[i].why == 0 ? VERSIONS_ALL_MATCH : VERSIONS_OK));
+    CHECK(start == worked[i].start && end == worked[i].end && why == worked[i].why);
+  }
+  size_t start = 77, end = 77;
+  uint32_t why = 77;
+  CHECK(versions_why_not(">2,", 3, "1", 1, &start, &end, &why) == VERSIONS_NO_REQUIREMENTS);
+  CHECK(versions_why_not("", 0, "1..2", 4, &start, &end, &why) == VERSIONS_NO_REQUIREMENTS);
+  CHECK(versions_why_not(">2", 2, "1..2", 4, &start, &end, &why) == VERSIONS_NO_VERSION);
+  CHECK(start == 77 && end == 77 && why == 77);
+}
+
+// Two members that exclude each other. A place of 77 stands for none.
+static void worked_conflicts(void) {
+  static const struct {
+    const char *list;
+    size_t start, end, other_start, other_end;
+  } worked[] = {
+      {">=2,<1", 0, 3, 4, 6},         {">1,<1", 0, 2, 3, 5},         {">=1,<2,>3", 7, 9, 4, 6},
+      {"^1.2.3,^1.2", 7, 11, 0, 6},   {"~1.0_2", 0, 6, 0, 6},        {">=1,~1.0_2", 4, 10, 4, 10},
+      {"=1.2.3,=1.2.3.4", 7, 15, 0, 6}, {">=1,<2", 77, 77, 77, 77},  {"*", 77, 77, 77, 77},
+      {">=1.0,<=1.0", 77, 77, 77, 77}, {"=1.0,=1.0+x", 77, 77, 77, 77},
+  };
+  size_t start, end, other_start, other_end;
+  for (size_t i = 0; i < sizeof worked / sizeof *worked; i++) {
+    start = end = other_start = other_end = 77;
+    int status =
+        versions_conflict(worked[i].list, strlen(worked[i].list), &start, &end, &other_start, &other_end);
+    CHECK(status == (worked[i].end == 77 ? VERSIONS_NO_CONFLICT : VERSIONS_OK));
+    CHECK(start == worked[i].start && end == worked[i].end);
+    CHECK(other_start == worked[i].other_start && other_end == worked[i].other_end);
+  }
+  start = end = other_start = other_end = 77;
+  CHECK(versions_conflict("", 0, &start, &end, &other_start, &other_end) == VERSIONS_NO_REQUIREMENTS);
+  CHECK(versions_conflict(">2,<1,", 6, &start, &end, &other_start, &other_end) == VERSIONS_NO_REQUIREMENTS);
+  CHECK(start == 77 && end == 77 && other_start == 77 && other_end == 77);
+}
+
 // Of the texts of three bytes, 1_1 has the longest key.
 static void buffer_sizes(void) {
   size_t length = 77;
@@ -1743,6 +1799,8 @@ int main(int count, char **words) {
     worked_newest();
     worked_next();
     worked_members();
+    worked_exclusions();
+    worked_conflicts();
     worked_fields();
     worked_epochs();
     buffer_sizes();

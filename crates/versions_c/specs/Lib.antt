@@ -12,3 +12,4 @@ pub mod Ranges
 pub mod Sorting
 pub mod Stabilities
 pub mod Tags
+pub mod Why

@@ -18,3 +18,4 @@ mod sorting;
 mod stabilities;
 mod status;
 mod tags;
+mod why;

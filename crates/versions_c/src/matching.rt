@@ -31,7 +31,7 @@ pub extern "C" fn versions_matches(list: &[u8], text: &[u8], matches: &mut u8) -
 }
 
 // Returns the status for a list and a text that is not a version.
-fn status_without_version(list: &[u8]) -> i32
+pub(crate) fn status_without_version(list: &[u8]) -> i32
     ensures { result ≡ match_status (requirements_of list.now) None }
 {
     match RequirementsRef::from_bytes(list) {

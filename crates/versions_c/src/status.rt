@@ -26,5 +26,9 @@ pub const NO_WRONG_MEMBER: i32 = 12;
 pub const LARGE_EPOCH: i32 = 13;
 /// No field has that number.
 pub const UNKNOWN_FIELD: i32 = 14;
+/// Each member of the list matches the version.
+pub const ALL_MATCH: i32 = 15;
+/// No two members of the list exclude each other.
+pub const NO_CONFLICT: i32 = 16;
 /// The version has no next one at that place.
 pub const NO_NEXT: i32 = 17;
