@@ -71,6 +71,11 @@ int versions_range(const char *list, size_t list_len, uint8_t *low, size_t low_r
   return proved_versions_range(from(list), list_len, to(low), low_room, low_len, to(high), high_room, high_len, flags);
 }
 
+int versions_inexact(const char *list, size_t list_len, char *members, size_t room, size_t *members_len) {
+  if (lacks(list, list_len) || lacks(members, room) || members_len == NULL) return VERSIONS_NULL;
+  return proved_versions_inexact(from(list), list_len, to(members), room, members_len);
+}
+
 int versions_in_range(const char *text, size_t text_len, const uint8_t *low, size_t low_len, const uint8_t *high,
                       size_t high_len, uint32_t flags, bool *is_in) {
   if (lacks(text, text_len) || lacks(low, low_len) || lacks(high, high_len) || is_in == NULL) return VERSIONS_NULL;

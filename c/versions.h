@@ -193,7 +193,8 @@ int versions_wrong_member(const char *list, size_t list_len, size_t *start, size
  * A version is in the range if its key is not below the low bound, is below the high bound, if there is one, and its
  * kind is one of the kinds. Bounds and keys compare by memcmp, the shorter first if it is a prefix of the other. Every
  * version that the list matches is in the range. With VERSIONS_RANGE_EXACT the list matches every version in it too;
- * without, ask versions_matches about each version in the range. A range can be empty.
+ * without, ask versions_matches about each version in the range, with the list or the part of it that versions_inexact
+ * writes. A range can be empty.
  *
  * The call writes the low bound to `low`, a buffer of low_room bytes, and its length to *low_len; the high bound to
  * `high`, a buffer of high_room bytes, and its length to *high_len; and the flags, VERSIONS_RANGE_IDEAL to
@@ -220,6 +221,22 @@ int versions_wrong_member(const char *list, size_t list_len, size_t *start, size
  */
 int versions_range(const char *list, size_t list_len, uint8_t *low, size_t low_room, size_t *low_len, uint8_t *high,
                    size_t high_room, size_t *high_len, uint32_t *flags);
+
+/*
+ * Writes the members of a list of requirements that the range of the list leaves open: those that need not match each
+ * version in their own range. Where a version is in the range of the list, the list matches it exactly if each of these
+ * members does. So of a long list that is asked about many versions, keep its range and these members.
+ *
+ * They are written with commas between them, and so are a list, or nothing, which is no list, if there are none: then
+ * the range has VERSIONS_RANGE_EXACT.
+ *
+ * `room` is the size of the buffer `members`. The call sets *members_len to the length of what it writes. It does so
+ * also if it returns VERSIONS_NO_ROOM, and then writes nothing to `members`; a buffer of *members_len bytes is large
+ * enough, and so is one of list_len bytes. To get only the length, pass room 0; `members` may then be null.
+ *
+ * Returns VERSIONS_OK, VERSIONS_NO_REQUIREMENTS or VERSIONS_NO_ROOM.
+ */
+int versions_inexact(const char *list, size_t list_len, char *members, size_t room, size_t *members_len);
 
 /*
  * Tests whether a version is in a range, without writing its key.

@@ -533,6 +533,32 @@ static int in_range(const char *text, size_t length, const struct range *range) 
   return wanted;
 }
 
+// In the range of a list the members that it leaves open decide, and it is exact if there are none. Checks that a
+// buffer that is too small stays unchanged.
+static void check_inexact(const struct lines *lines, const char *list, size_t length, const struct range *range,
+                          const uint8_t *matches) {
+  size_t room = 77, other = 77;
+  CHECK(versions_inexact(list, length, NULL, 0, &room) == (room == 0 ? VERSIONS_OK : VERSIONS_NO_ROOM));
+  CHECK(room <= length && (room == 0) == ((range->flags & VERSIONS_RANGE_EXACT) != 0));
+  char *members = (char *)block(room);
+  memset(members, 'x', room);
+  if (room > 0) {
+    CHECK(versions_inexact(list, length, members, room - 1, &other) == VERSIONS_NO_ROOM && other == room);
+    for (size_t i = 0; i < room; i++) CHECK(members[i] == 'x');
+  }
+  other = 77;
+  CHECK(versions_inexact(list, length, members, room, &other) == VERSIONS_OK && other == room);
+  for (size_t line = 0; line < lines->count; line++) {
+    const char *text = text_of(lines, line);
+    size_t text_length = length_of(lines, line);
+    bool decided = true;
+    if (in_range(text, text_length, range) != 1) continue;
+    CHECK(room == 0 || versions_matches(members, room, text, text_length, &decided) == VERSIONS_OK);
+    CHECK(decided == (matches[line] == 1));
+  }
+  release(members);
+}
+
 // Each text that a list matches is in its range, and the converse holds if the range is exact.
 static void check_range(const struct lines *lines, const char *list, size_t length, const uint8_t *matches) {
   struct range range;
@@ -551,6 +577,7 @@ static void check_range(const struct lines *lines, const char *list, size_t leng
     CHECK(matches[line] != 1 || answers[line] == 1);
     if (range.flags & VERSIONS_RANGE_EXACT) CHECK(answers[line] == matches[line]);
   }
+  check_inexact(lines, list, length, &range, matches);
   release(answers);
   free_range(&range);
 }
@@ -1565,6 +1592,33 @@ static void worked_ranges(void) {
   }
 }
 
+// The members that a range leaves open: `=` with a version that is not strict, and `~` and `^` with a general one.
+static void worked_inexact(void) {
+  static const struct {
+    const char *list, *members;
+  } worked[] = {
+      {"*", ""}, {">=1.2,<2", ""}, {"^1.2.3,~1.2.3,=1.2.3", ""}, {"~1_2,^1_2", ""}, {">0,~1.2", "~1.2"},
+      {"~1.2,<9,^1:1.1,*,=1.0,=1.0.0,=1_2,>=0.1", "~1.2,^1:1.1,=1.0,=1_2"}, {"^1.2", "^1.2"}, {"=1,=1,=1", "=1,=1,=1"},
+  };
+  static const char *const others[] = {"", ",", "~1.2,", ",~1.2", "~1.2,x", "1.2", "~"};
+  char members[64];
+  size_t length;
+  for (size_t i = 0; i < sizeof worked / sizeof *worked; i++) {
+    memset(members, 'x', sizeof members);
+    CHECK(versions_inexact(worked[i].list, strlen(worked[i].list), members, sizeof members, &length) == VERSIONS_OK);
+    CHECK(length == strlen(worked[i].members) && memcmp(members, worked[i].members, length) == 0);
+    for (size_t at = length; at < sizeof members; at++) CHECK(members[at] == 'x');
+  }
+  // What is no list has no members, and nothing is written: also if a first member could be one.
+  memset(members, 'x', sizeof members);
+  length = 77;
+  for (size_t i = 0; i < sizeof others / sizeof *others; i++) {
+    CHECK(versions_inexact(others[i], strlen(others[i]), members, sizeof members, &length) == VERSIONS_NO_REQUIREMENTS);
+  }
+  CHECK(versions_inexact(NULL, 0, NULL, 0, &length) == VERSIONS_NO_REQUIREMENTS && length == 77);
+  for (size_t at = 0; at < sizeof members; at++) CHECK(members[at] == 'x');
+}
+
 // The next of a row of numbers below a bound, the same in each run.
 static uint32_t random_below(uint32_t bound) {
   static uint64_t state = 1;
@@ -1604,17 +1658,27 @@ static size_t random_list(char *list) {
   return used - 1;
 }
 
-// Two hundred lists and five hundred texts: a hundred thousand pairs.
+// The same list, with a number of members more before and after it that every version matches.
+static size_t with_stars(char *starred, const char *list, size_t length, int stars) {
+  size_t used = 0;
+  for (int i = 0; i < stars; i++) used += (size_t)sprintf(starred + used, "*,");
+  memcpy(starred + used, list, length);
+  used += length;
+  for (int i = 0; i < stars; i++) used += (size_t)sprintf(starred + used, ",*");
+  return used;
+}
+
+// Two hundred lists and five hundred texts: a hundred thousand pairs. Each list also as a longer one.
 static void random_ranges(void) {
-  enum { LISTS = 200, TEXTS = 500 };
+  enum { LISTS = 200, TEXTS = 500, STARS = 40 };
   struct lines lines;
-  char list[256];
+  char list[256], starred[256 + 4 * STARS];
   size_t matched = 0, only_in_range = 0;
   lines.count = TEXTS;
   lines.length = 0;
   lines.texts = (char *)block(64 * TEXTS);
   lines.offsets = (int64_t *)block((TEXTS + 1) * sizeof(int64_t));
-  uint8_t *matches = (uint8_t *)block(TEXTS);
+  uint8_t *matches = (uint8_t *)block(TEXTS), *again = (uint8_t *)block(TEXTS);
   for (size_t i = 0; i < LISTS; i++) {
     lines.length = 0;
     lines.offsets[0] = 0;
@@ -1626,6 +1690,11 @@ static void random_ranges(void) {
     CHECK(versions_match_all(list, length, lines.texts, lines.length, lines.offsets, TEXTS + 1, matches, TEXTS) ==
           VERSIONS_OK);
     check_range(&lines, list, length, matches);
+    size_t starred_length = with_stars(starred, list, length, STARS);
+    CHECK(versions_match_all(starred, starred_length, lines.texts, lines.length, lines.offsets, TEXTS + 1, again,
+                             TEXTS) == VERSIONS_OK);
+    CHECK(memcmp(matches, again, TEXTS) == 0);
+    check_range(&lines, starred, starred_length, again);
     struct range range;
     range_of(list, length, &range);
     for (size_t line = 0; line < TEXTS; line++) {
@@ -1637,6 +1706,7 @@ static void random_ranges(void) {
   // Many match, and some are only in the range.
   CHECK(matched > 10000 && only_in_range > 50);
   release(matches);
+  release(again);
   free_lines(&lines);
 }
 
@@ -1677,6 +1747,7 @@ static void other_bounds(void) {
 
 static void ranges(void) {
   worked_ranges();
+  worked_inexact();
   random_ranges();
   other_bounds();
 

@@ -7,6 +7,7 @@ pub mod DigitRun
 pub mod Ends
 pub mod Front
 pub mod Grammar
+pub mod Inexact
 pub mod Key
 pub mod KeyBytes
 pub mod KeyTies

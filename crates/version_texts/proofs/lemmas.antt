@@ -5,6 +5,7 @@ pub mod EndOrder
 pub mod EpochAndParts
 pub mod Field
 pub mod FirstFailing
+pub mod Inexact
 pub mod General
 pub mod KeyTies
 pub mod Matching

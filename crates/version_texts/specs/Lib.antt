@@ -4,6 +4,7 @@ pub mod Difference
 pub mod Empty
 pub mod EndOrder
 pub mod Field
+pub mod Inexact
 pub mod KeyTies
 pub mod Matching
 pub mod MemberPlace

@@ -1,5 +1,7 @@
 -- Which texts a list of requirements matches.
-use Rattle.std.proofs.Common.{◌⊎◌, inl, inr, ℕ, ℤ, List, Option, Some, None}
+use Rattle.std.proofs.Common.{◌⊎◌, ◌↔◌, inl, inr, ℕ, ℤ, List, Option, Some, None}
+use Rattle.version_rules.specs.Matching.{MatchesAll}
+use Rattle.version_rules.specs.Range.{IsIn, PlainRange}
 use Rattle.version_rules.specs.laws.Matching.{matches_all_or_not}
 use Rattle.version_rules.specs.Requirement.{PlainRequirement}
 use Rattle.version_rules.specs.Versioning.{PlainVersioning}
@@ -30,3 +32,8 @@ list_status (Some wanted) = OK
 abbrev pub wrong_status : Option (List PlainRequirement) → ℤ
 wrong_status None = OK
 wrong_status (Some wanted) = NO_WRONG_MEMBER
+
+-- the versions that a list matches are those of a range that each of some members matches
+abbrev pub Decide : PlainRange → List PlainRequirement → List PlainRequirement → Type 0
+Decide range members list =
+    (v : PlainVersioning) → MatchesAll list v ↔ (IsIn range v × MatchesAll members v)

@@ -4,6 +4,7 @@
 
 mod difference;
 mod fields;
+mod inexact;
 mod keys;
 mod kinds;
 mod laws;

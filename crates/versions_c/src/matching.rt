@@ -1,15 +1,26 @@
 //! Which versions a list of requirements matches.
 
-ghost use Rattle.std.specs.Prelude.{◌≡◌, ◌≢◌, ◌<◌, ℕ, length, slice_index, IfSome, None, Some};
+ghost use Rattle.std.specs.Prelude.{◌≡◌, ◌≢◌, ◌↔◌, ◌<◌, ℕ, length, slice_index, IfSome, IsTrue, None, Some};
+ghost use Rattle.version_texts.specs.RangeRef.{plain_range_ref};
 ghost use Rattle.version_texts.specs.RequirementsRef.{wrong_member};
+ghost use Rattle.version_texts.specs.VersioningRef.{plain_versioning_ref};
+ghost use Rattle.version_rules.specs.Matching.{MatchesAll};
 ghost use Rattle.version_rules.specs.Requirements.{requirements_of};
 ghost use Rattle.version_rules.specs.Versioning.{versioning_of};
-ghost use Rattle.versions_c.specs.Matching.{list_status, match_code, match_status, wrong_status};
+ghost use Rattle.versions_c.specs.Matching.{list_status, match_code, match_status, wrong_status, Decide};
 ghost use Rattle.versions_c.specs.Offsets.{text_at, AreOffsets};
 
 use crate::offsets::{are_offsets, text_at};
 use crate::status::{BAD_OFFSETS, NO_REQUIREMENTS, NO_VERSION, NO_WRONG_MEMBER, OK};
-use version_texts::{RequirementsRef, VersioningRef, list_matches, wrong_member};
+use version_texts::{
+    RangeRef, RequirementsRef, VersioningRef, list_matches, write_inexact, wrong_member,
+};
+
+// The length of a list whose members are all kept as they are.
+const SHORT: usize = 64;
+
+// The most bytes of the members that a range leaves open, if they are kept alone.
+const ROOM: usize = 4096;
 
 /// Writes whether a list matches a version.
 #[unsafe(no_mangle)]
@@ -81,21 +92,75 @@ pub extern "C" fn versions_match_all(
     let Some(wanted) = RequirementsRef::from_bytes(list) else {
         return NO_REQUIREMENTS;
     };
+    let mut room = [0; ROOM];
+    let narrowed = narrow(list, &mut room);
     for (place, asked) in matches.iter_mut().enumerate() {
-        *asked = asked_for(&wanted, text_at(texts, offsets, count, place));
+        *asked = asked_for(&wanted, &narrowed, text_at(texts, offsets, count, place));
     }
     OK
+}
+
+// What decides about many versions in the place of a long list: its range, and the members that this leaves open.
+#[derive(Drop)]
+struct Narrowed<'a> {
+    range: RangeRef<'a>,
+    members: RequirementsRef<'a>,
+}
+
+// Returns these of a list, with the members in a room, if they are few and the list is long.
+// Not inlined: so a call for a short list has no cost of it.
+#[inline(never)]
+fn narrow<'a>(list: &'a [u8], room: &'a mut [u8]) -> Option<Narrowed<'a>>
+    ensures { IfSome result (λ n. IfSome (requirements_of list.now)
+        (Decide (plain_range_ref n.range) n.members)) }
+{
+    if list.len() <= SHORT {
+        return None;
+    }
+    let range = RangeRef::from_bytes(list)?;
+    if range.is_exact {
+        return None;
+    }
+    let length = write_inexact(list, room);
+    if length > room.len() {
+        return None;
+    }
+    let members = RequirementsRef::from_bytes(&room[..length])?;
+    Some(Narrowed { range, members })
 }
 
 // Returns the answer for a text: 1 if the list matches it, 0 if not, 2 if it is not a version.
 // Not inlined: else the compiler moves the list by a call of memcpy, which the library may not need.
 #[inline(never)]
 #[tactic(auto, using(crate::proofs::lemmas::Matching::coded))]
-fn asked_for(wanted: &RequirementsRef<'_>, text: &[u8]) -> u8
+fn asked_for(wanted: &RequirementsRef<'_>, narrowed: &Option<Narrowed<'_>>, text: &[u8]) -> u8
+    requires { IfSome narrowed.now
+        (λ n. Decide (plain_range_ref n.range) n.members wanted.now) }
     ensures { result ≡ match_code wanted.now (versioning_of text.now) }
 {
     let Some(version) = VersioningRef::from_bytes(text) else {
         return 2;
     };
-    if wanted.matches(&version) { 1 } else { 0 }
+    if is_matched(wanted, narrowed, &version) {
+        1
+    } else {
+        0
+    }
+}
+
+// Returns whether a list matches a version.
+#[inline(always)]
+fn is_matched(
+    wanted: &RequirementsRef<'_>,
+    narrowed: &Option<Narrowed<'_>>,
+    version: &VersioningRef<'_>,
+) -> bool
+    requires { IfSome narrowed.now
+        (λ n. Decide (plain_range_ref n.range) n.members wanted.now) }
+    ensures { IsTrue result ↔ MatchesAll wanted.now (plain_versioning_ref version.now) }
+{
+    match narrowed {
+        Some(narrowed) => narrowed.range.has(version) && narrowed.members.matches(version),
+        None => wanted.matches(version),
+    }
 }

@@ -33,7 +33,7 @@ every_read (text ∷ texts) [] z = absurd z
 every_read (text ∷ texts) (r ∷ list) z =
     rw (requirement_of-Some text r z.0, every_read texts list z.1) refl
 
-every_spells : (texts : List (List ℕ)) (list : List PlainRequirement)
+pub every_spells : (texts : List (List ℕ)) (list : List PlainRequirement)
     → every (map requirement_of texts) ≡ Some list → AllZip SpellsRequirement texts list
 every_spells [] [] e = tt
 every_spells [] (r ∷ list) e = cc e

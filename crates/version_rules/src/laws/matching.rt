@@ -1,6 +1,7 @@
 //! Laws of matching.
 
-ghost use Rattle.std.specs.Prelude.{◌⊎◌, IsTrue, List};
+ghost use Rattle.std.specs.Prelude.{◌⊎◌, ◌↔◌, IsTrue, List};
+ghost use Rattle.version_rules.specs.Inexact.{inexact_members};
 ghost use Rattle.version_rules.specs.Matching.{MatchesAll};
 ghost use Rattle.version_rules.specs.Range.{IsIn, range_of};
 ghost use Rattle.version_rules.specs.Requirement.{PlainRequirement};
@@ -14,12 +15,14 @@ fn requirements_told()
 {}
 
 // Each version that a list of requirements matches is in the range of the list. If the range is exact, the list
-// matches each version in it.
+// matches each version in it. Otherwise the members that need not match each version in their range decide.
 fn ranges()
     ensures within { (list : List PlainRequirement) (v : PlainVersioning)
         → MatchesAll list v → IsIn (range_of list) v }
     ensures exact { (list : List PlainRequirement) (v : PlainVersioning)
         → IsTrue (range_of list).is_exact → IsIn (range_of list) v → MatchesAll list v }
+    ensures inexact { (list : List PlainRequirement) (v : PlainVersioning)
+        → IsIn (range_of list) v → MatchesAll list v ↔ MatchesAll (inexact_members list) v }
 {}
 
 // The ranges of lists with every operator and kind, byte by byte.

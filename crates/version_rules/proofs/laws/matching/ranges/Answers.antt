@@ -1,3 +1,4 @@
+use Rattle.version_rules.proofs.lemmas.Inexact.{inexact_decide}
 use Rattle.version_rules.proofs.lemmas.Range.{list_exact, list_in}
 use Rattle.version_rules.proofs.laws.matching.ranges.Goals as goal
 
@@ -6,3 +7,6 @@ returns-clause-within c = list_in
 
 pub returns-clause-exact : goal.returns-clause-exact
 returns-clause-exact c = list_exact
+
+pub returns-clause-inexact : goal.returns-clause-inexact
+returns-clause-inexact c = inexact_decide
