@@ -208,11 +208,15 @@ static void give_no_requirement(sqlite3_context *context, struct text text, int 
   give_error(context, sqlite3_str_finish(message));
 }
 
-/* What a list of requirements asks for, as versions_range returns it. */
+/*
+ * What a list of requirements asks for, as versions_range returns it, and the members that decide in that range, which
+ * versions_inexact writes.
+ */
 struct range {
-  size_t low_len, high_len;
+  size_t low_len, high_len, members_len;
   uint32_t flags;
-  uint8_t *high; /* in the same allocation */
+  uint8_t *high; /* this and the members in the same allocation */
+  char *members;
   uint8_t low[];
 };
 
@@ -220,7 +224,7 @@ struct range {
 static struct range *range_of(sqlite3_context *context, sqlite3_value *value) {
   struct text list = text_of(value);
   struct range *range;
-  size_t low_room, high_room;
+  size_t low_room, high_room, members_room;
   uint32_t flags;
   if (sqlite3_value_type(value) == SQLITE_NULL) {
     sqlite3_result_null(context);
@@ -235,14 +239,17 @@ static struct range *range_of(sqlite3_context *context, sqlite3_value *value) {
     give_no_requirement(context, list, sqlite3_value_type(value));
     return NULL;
   }
-  range = sqlite3_malloc64(sizeof *range + low_room + high_room);
+  versions_inexact(list.bytes, list.len, NULL, 0, &members_room);
+  range = sqlite3_malloc64(sizeof *range + low_room + high_room + members_room);
   if (!range) {
     sqlite3_result_error_nomem(context);
     return NULL;
   }
   range->high = range->low + low_room;
+  range->members = (char *)range->high + high_room;
   versions_range(list.bytes, list.len, range->low, low_room, &range->low_len, range->high, high_room, &range->high_len,
                  &range->flags);
+  versions_inexact(list.bytes, list.len, range->members, members_room, &range->members_len);
   return range;
 }
 
@@ -288,17 +295,18 @@ static bool give_match(sqlite3_context *context, sqlite3_value *requirement, str
   }
 }
 
-/* The same by the range of the list. The list is read only where it need not match a version of its range. */
-static void give_match_by_range(sqlite3_context *context, const struct range *range, sqlite3_value *requirement,
-                                struct text text) {
-  bool is_in;
-  if (versions_in_range(text.bytes, text.len, range->low, range->low_len, range->high, range->high_len, range->flags,
-                        &is_in) != VERSIONS_OK) {
-    sqlite3_result_null(context);
-  } else if (is_in && !(range->flags & VERSIONS_RANGE_EXACT)) {
-    give_match(context, requirement, text);
+/* The same by the range of the list, and in the range by the members that decide. */
+static void give_match_by_range(sqlite3_context *context, const struct range *range, struct text text) {
+  bool matches;
+  int status = versions_in_range(text.bytes, text.len, range->low, range->low_len, range->high, range->high_len,
+                                 range->flags, &matches);
+  if (status == VERSIONS_OK && matches && range->members_len > 0) {
+    status = versions_matches(range->members, range->members_len, text.bytes, text.len, &matches);
+  }
+  if (status == VERSIONS_OK) {
+    sqlite3_result_int(context, matches);
   } else {
-    sqlite3_result_int(context, is_in);
+    sqlite3_result_null(context);
   }
 }
 
@@ -319,10 +327,10 @@ static void version_matches(sqlite3_context *context, int count, sqlite3_value *
   } else if (kept == &mark) {
     struct range *range = range_of(context, values[0]);
     if (!range) return;
-    give_match_by_range(context, range, values[0], text);
+    give_match_by_range(context, range, text);
     sqlite3_set_auxdata(context, 0, range, sqlite3_free);
   } else if (kept) {
-    give_match_by_range(context, kept, values[0], text);
+    give_match_by_range(context, kept, text);
   } else if (sqlite3_value_type(values[0]) == SQLITE_NULL) {
     sqlite3_result_null(context);
   } else if (give_match(context, values[0], text) && (*calls)++ % 16 == 0) {
