@@ -16,6 +16,7 @@
 #error "PostgreSQL 13 or later is needed"
 #endif
 
+#include "access/detoast.h"
 #include "access/stratnum.h"
 #include "catalog/pg_am.h"
 #include "catalog/pg_proc.h"
@@ -519,18 +520,22 @@ SQL_FUNCTION(version_sortsupport) {
 }
 
 /*
- * The type `requirement`: a list of requirements, with the range of keys that it asks for. Each version that the list
- * matches is in its range. The range is made once, by the input.
+ * The type `requirement`: a list of requirements, with the range of keys that it asks for, and the members that decide
+ * about a version of the range, a list as well, if the range is not exact. Each version that the list matches is in its
+ * range. Both are made once, by the input.
  */
 
-/* A value begins with this; then come the bytes of the low bound, those of the high one, and the list. */
+/*
+ * A value begins with this; then come the bytes of the low bound, those of the high one, the members that decide, and
+ * the list, which is left out if these are all its members. So the beginning of a long value is enough for a match.
+ */
 typedef struct {
-  uint32 flags, low_len, high_len;
+  uint32 flags, low_len, high_len, members_len;
 } RequirementHead;
 
 typedef struct {
   uint32 flags;
-  Span low, high, list;
+  Span low, high, members, list;
 } Requirement;
 
 enum {
@@ -538,30 +543,64 @@ enum {
   ALL_FLAGS = ALL_KINDS | VERSIONS_RANGE_HIGH | VERSIONS_RANGE_EXACT
 };
 
+/* The head of a value. */
+static RequirementHead head_of(const struct varlena *value) {
+  RequirementHead head;
+  if (VARSIZE_ANY_EXHDR(value) < sizeof head) report_damaged_requirement();
+  memcpy(&head, VARDATA_ANY(value), sizeof head);
+  return head;
+}
+
+/* How many bytes of a value are before its list. */
+static size_t len_before_list(RequirementHead head) {
+  return sizeof head + head.low_len + head.high_len + head.members_len;
+}
+
 static Requirement requirement_of(const struct varlena *value) {
-  const char *bytes = VARDATA_ANY(value);
-  size_t len = VARSIZE_ANY_EXHDR(value), of_range;
-  RequirementHead head = {0, 0, 0};
+  size_t len = VARSIZE_ANY_EXHDR(value), before_list;
+  RequirementHead head = head_of(value);
   Requirement requirement;
-  if (len >= sizeof head) memcpy(&head, bytes, sizeof head);
-  of_range = sizeof head + head.low_len + head.high_len;
-  if (len <= of_range || head.flags > ALL_FLAGS || (head.high_len && !(head.flags & VERSIONS_RANGE_HIGH))) {
+  before_list = len_before_list(head);
+  if (len < before_list || head.flags > ALL_FLAGS || (head.high_len && !(head.flags & VERSIONS_RANGE_HIGH)) ||
+      (head.flags & VERSIONS_RANGE_EXACT ? head.members_len || len == before_list : !head.members_len)) {
     report_damaged_requirement();
   }
   requirement.flags = head.flags;
-  requirement.low.bytes = bytes + sizeof head;
+  requirement.low.bytes = VARDATA_ANY(value) + sizeof head;
   requirement.low.len = head.low_len;
   requirement.high.bytes = requirement.low.bytes + head.low_len;
   requirement.high.len = head.high_len;
-  requirement.list.bytes = requirement.high.bytes + head.high_len;
-  requirement.list.len = len - of_range;
+  requirement.members.bytes = requirement.high.bytes + head.high_len;
+  requirement.members.len = head.members_len;
+  requirement.list.bytes = requirement.members.bytes + head.members_len;
+  requirement.list.len = len - before_list;
+  if (requirement.list.len == 0) requirement.list = requirement.members;
   return requirement;
+}
+
+/*
+ * What is before the list of a value, for a match or for bounds. No more is read of a long value that is compressed or
+ * stored out of line: the list may be cut short.
+ */
+static bytea *beginning_of(Datum value) {
+  const size_t first = 1024;
+  struct varlena *stored = (struct varlena *)DatumGetPointer(value);
+  bytea *beginning;
+  size_t len;
+  if (!VARATT_IS_COMPRESSED(stored) && !VARATT_IS_EXTERNAL(stored)) return DatumGetByteaPP(value);
+  beginning = DatumGetByteaPSlice(value, 0, first);
+  if (VARSIZE_ANY_EXHDR(beginning) < first) return beginning;
+  /* with a byte of the list: what has none is a value whose list is left out */
+  len = len_before_list(head_of(beginning)) + 1;
+  if (len <= first) return beginning;
+  pfree(beginning);
+  return DatumGetByteaPSlice(value, 0, Min(len, toast_raw_datum_size(value) - VARHDRSZ));
 }
 
 /* The value of a list that is not too long. NULL if that does not parse. */
 static bytea *requirement_from(Span list) {
   uint8_t low_room[256], high_room[256], *low = low_room, *high = high_room;
-  size_t low_len, high_len, len;
+  size_t low_len, high_len, members_len;
   uint32_t flags;
   RequirementHead head;
   bytea *value;
@@ -576,17 +615,20 @@ static bytea *requirement_from(Span list) {
   }
   if (status != VERSIONS_OK) return NULL;
   if (!(flags & VERSIONS_RANGE_HIGH)) high_len = 0;
+  value = palloc(VARHDRSZ + sizeof head + low_len + high_len + 2 * list.len);
+  end = VARDATA(value) + sizeof head;
+  end = (char *)memcpy(end, low, low_len) + low_len;
+  end = (char *)memcpy(end, high, high_len) + high_len;
+  versions_inexact(list.bytes, list.len, end, list.len, &members_len);
+  end += members_len;
+  /* members of the list's length are the list */
+  if (members_len < list.len) end = (char *)memcpy(end, list.bytes, list.len) + list.len;
   head.flags = flags;
   head.low_len = (uint32)low_len;
   head.high_len = (uint32)high_len;
-  len = VARHDRSZ + sizeof head + low_len + high_len + list.len;
-  value = palloc(len);
-  SET_VARSIZE(value, len);
-  end = VARDATA(value);
-  end = (char *)memcpy(end, &head, sizeof head) + sizeof head;
-  end = (char *)memcpy(end, low, low_len) + low_len;
-  end = (char *)memcpy(end, high, high_len) + high_len;
-  memcpy(end, list.bytes, list.len);
+  head.members_len = (uint32)members_len;
+  memcpy(VARDATA(value), &head, sizeof head);
+  SET_VARSIZE(value, end - (char *)value);
   if (low != low_room) pfree(low);
   if (high != high_room) pfree(high);
   return value;
@@ -669,18 +711,18 @@ SQL_FUNCTION(requirement_hash_extended) {
   return hash;
 }
 
-/* A version outside the range does not match. One inside is tested against the list only if the range is not exact. */
+/* A version outside the range does not match. One inside is tested only against the members that decide. */
 static Datum matches(Datum version, Datum list) {
   text *value = DatumGetTextPP(version);
-  bytea *requirements = DatumGetByteaPP(list);
+  bytea *requirements = beginning_of(list);
   Span span = span_of(value);
   Requirement requirement = requirement_of(requirements);
   bool matches = false;
   int status = versions_in_range(span.bytes, span.len, (const uint8_t *)requirement.low.bytes, requirement.low.len,
                                  (const uint8_t *)requirement.high.bytes, requirement.high.len, requirement.flags,
                                  &matches);
-  if (status == VERSIONS_OK && matches && !(requirement.flags & VERSIONS_RANGE_EXACT)) {
-    status = versions_matches(requirement.list.bytes, requirement.list.len, span.bytes, span.len, &matches);
+  if (status == VERSIONS_OK && matches && requirement.members.len > 0) {
+    status = versions_matches(requirement.members.bytes, requirement.members.len, span.bytes, span.len, &matches);
   }
   if (status == VERSIONS_NO_REQUIREMENTS) report_damaged_requirement();
   if (status != VERSIONS_OK) report_damage(span);
@@ -742,8 +784,8 @@ static Datum high_bound(Requirement requirement) {
   return bound_from(!(requirement.flags & VERSIONS_RANGE_HIGH), requirement.high);
 }
 
-SQL_FUNCTION(requirement_low) { return low_bound(requirement_of(PG_GETARG_BYTEA_PP(0))); }
-SQL_FUNCTION(requirement_high) { return high_bound(requirement_of(PG_GETARG_BYTEA_PP(0))); }
+SQL_FUNCTION(requirement_low) { return low_bound(requirement_of(beginning_of(PG_GETARG_DATUM(0)))); }
+SQL_FUNCTION(requirement_high) { return high_bound(requirement_of(beginning_of(PG_GETARG_DATUM(0)))); }
 
 /*
  * The bounds as bytes, for an index of the keys of texts. The one above every key is the byte 255, which is above the
@@ -769,8 +811,8 @@ static Requirement requirement_of_text(const text *value) {
   return requirement_of(made);
 }
 
-SQL_FUNCTION(version_low) { return low_bytes(requirement_of(PG_GETARG_BYTEA_PP(0))); }
-SQL_FUNCTION(version_high) { return high_bytes(requirement_of(PG_GETARG_BYTEA_PP(0))); }
+SQL_FUNCTION(version_low) { return low_bytes(requirement_of(beginning_of(PG_GETARG_DATUM(0)))); }
+SQL_FUNCTION(version_high) { return high_bytes(requirement_of(beginning_of(PG_GETARG_DATUM(0)))); }
 SQL_FUNCTION(version_low_text) { return low_bytes(requirement_of_text(PG_GETARG_TEXT_PP(0))); }
 SQL_FUNCTION(version_high_text) { return high_bytes(requirement_of_text(PG_GETARG_TEXT_PP(0))); }
 
