@@ -1,11 +1,13 @@
--- Tags and stabilities, worked out by hand.
+-- Tags, stabilities and what comes next, worked out by hand.
 use Rattle.std.specs.Prelude.{◌≡◌, ℕ, List, [], ◌∷◌, map, Option, Some, None, codes}
 use Rattle.std.specs.Option.{option_map}
 use Rattle.version_rules.specs.Versioning.{versioning_of, versioning_text}
+use Rattle.version_tasks.specs.Next.{IsNext, NoNext}
 use Rattle.version_tasks.specs.Stability.{stability_of}
 use Rattle.version_tasks.specs.Tag.{version_after_prefix, version_in_tag}
 use Rattle.version_tasks.specs.declared.stability.Stability.{Stability}
 use Rattle.version_tasks.specs.declared.stability.Stability.TheVariants.{Dev, Alpha, Beta, Rc, Stable}
+use Rattle.version_texts.specs.VersioningRef.{version_in}
 
 -- tags, and the texts of the versions in them
 abbrev pub tags : List (List ℕ × Option (List ℕ))
@@ -96,8 +98,47 @@ WorkedStabilities =
     map (λ row. option_map stability_of (versioning_of row.1)) stabilities
     ≡ map (λ row. Some row.0) stabilities
 
+-- versions, places, and what comes next there
+abbrev pub next_rows : List (List ℕ × ℕ × List ℕ)
+next_rows =
+    (codes "1.2.3", 2, codes "1.2.4")
+    ∷ (codes "1.2.3", 1, codes "1.3.0")
+    ∷ (codes "1.2.3", 0, codes "2.0.0")
+    ∷ (codes "1.2.3-rc.1", 2, codes "1.2.3")
+    ∷ (codes "1.2.3-rc.1", 1, codes "1.3.0")
+    ∷ (codes "1.2.0-rc.1", 1, codes "1.2.0")
+    ∷ (codes "1.2.3+x", 2, codes "1.2.4")
+    ∷ (codes "1:1.9", 1, codes "1:1.10")
+    ∷ (codes "0:1.0", 0, codes "0:2.0")
+    ∷ (codes "1.2-3", 1, codes "1.3")
+    ∷ (codes "1.2.4294967295", 1, codes "1.3.0")
+    ∷ (codes "1.2.3.4", 1, codes "1.3.0.0")
+    ∷ (codes "5", 0, codes "6")
+    ∷ (codes "2-1", 0, codes "3")
+    ∷ []
+
+abbrev pub AreNext : List (List ℕ × ℕ × List ℕ) → Type 0
+AreNext [] = Unit {0}
+AreNext (row ∷ rows) = IsNext (version_in row.0) row.1 (version_in row.2) × AreNext rows
+
+-- versions and places where none comes next
+abbrev pub no_next_rows : List (List ℕ × ℕ)
+no_next_rows =
+    (codes "1.2.4294967295", 2)
+    ∷ (codes "1.2.3", 3)
+    ∷ (codes "2023.01.02", 0)
+    ∷ (codes "1.0rc1", 0)
+    ∷ (codes "1_2", 0)
+    ∷ []
+
+abbrev pub HaveNoNext : List (List ℕ × ℕ) → Type 0
+HaveNoNext [] = Unit {0}
+HaveNoNext (row ∷ rows) = NoNext (version_in row.0) row.1 × HaveNoNext rows
+
 -- all of these rows
 pub record WorkedRows : Type 0 where
   pub tags_are : WorkedTags
   pub prefixes_are : WorkedPrefixes
   pub stabilities_are : WorkedStabilities
+  pub next_are : AreNext next_rows
+  pub no_next_are : HaveNoNext no_next_rows

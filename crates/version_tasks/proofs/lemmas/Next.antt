@@ -2,3 +2,4 @@
 pub mod Order
 pub mod Read
 pub mod Text
+pub mod Worked
