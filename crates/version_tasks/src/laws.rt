@@ -1,9 +1,18 @@
-//! The definitions, on rows that were worked out by hand.
+//! Laws of the definitions, and rows that were worked out by hand.
 
+ghost use Rattle.std.specs.Prelude.{◌≡◌, ℕ};
+ghost use Rattle.version_rules.specs.Versioning.{PlainVersioning};
+ghost use Rattle.version_tasks.specs.Next.{IsNext};
 ghost use Rattle.version_tasks.specs.Worked.{WorkedRows};
 
 /// The tables of tags, of tags with prefixes, of stabilities, and of what comes next.
 #[tactic(auto, using(crate::proofs::lemmas::Worked::worked_rows))]
 fn worked_rows()
     ensures { WorkedRows }
+{}
+
+/// At most one version comes next after another at a place.
+#[tactic(auto, using(crate::proofs::lemmas::Next::Order::one_next))]
+fn one_next()
+    ensures { (v w u : PlainVersioning) (place : ℕ) → IsNext v place w → IsNext v place u → w ≡ u }
 {}

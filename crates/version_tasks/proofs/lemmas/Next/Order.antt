@@ -10,6 +10,7 @@ use Rattle.std.specs.declared.cmp.Ordering.{Ordering}
 use Rattle.std.specs.declared.cmp.Ordering.TheVariants.{Less, Equal, Greater}
 use Rattle.version_rules.specs.Chunk.{PlainChunk, number_of}
 use Rattle.version_rules.specs.Key.{key_of, plain, precedence, versioning_epoch}
+use Rattle.version_rules.specs.Kind.{versioning_kind}
 use Rattle.version_rules.specs.Last.{PlainLast}
 use Rattle.version_rules.specs.PartKey.{PartKey, chunk_parts, list_cmp, part_key}
 use Rattle.version_rules.specs.Tail.{PreReleased, Bare, Released, tail_cmp}
@@ -347,15 +348,8 @@ comes_after k n true true tail bare is =
 comes_after k n false zeros tail bare is = rw (above k n (omega (arith, is))) refl
 comes_after k n true false tail bare is = rw (above k n (omega (arith, is))) refl
 
-module _ (v : PlainVersioning) (place : ℕ) (numbers : List ℕ) (are : numbers_of v ≡ Some numbers)
-    (fits : fit numbers ≡ true) where
-  abbrev pub zeros_after : Bool
-  zeros_after = are_zeros (drop (suc place) numbers)
-
-  -- the number at the place of the version that comes next
-  abbrev pub next_at : ℕ
-  next_at = next_number (is_prerelease v && zeros_after) (number_at place numbers)
-
+module _ (v : PlainVersioning) (place : ℕ) (numbers : List ℕ)
+    (are : numbers_of v ≡ Some numbers) where
   -- the numbers of a version of the form are raised at the place
   form_numbers : (w : PlainVersioning) → (f : IsOfForm v place w)
       → f.next ≡ raised place numbers (number_at place f.next)
@@ -379,23 +373,7 @@ module _ (v : PlainVersioning) (place : ℕ) (numbers : List ℕ) (are : numbers
       key_epoch w f.next f.next_are ∙ ap (λ (o : Option ℕ). unwrap_or o 0) f.epoch_is
       ∙ sym (key_epoch v numbers are)
 
-  -- how a version of the form compares with v
-  form_order : (w : PlainVersioning) → (f : IsOfForm v place w)
-      → precedence (key_of w) (key_of v)
-      ≡ from_number (number_at place f.next) (number_at place numbers) zeros_after
-      (tail_cmp Bare (key_of v).tail)
-  form_order w f =
-      let epochs : nat_cmp (key_of w).epoch (key_of v).epoch ≡ Equal =
-      ap (λ e. nat_cmp e (key_of v).epoch) (form_epoch w f) ∙ same (key_of v).epoch in
-      let bodies : list_cmp (key_of w).body (key_of v).body
-      ≡ ordering_then (nat_cmp (number_at place f.next) (number_at place numbers))
-      (below_unless zeros_after) =
-      (λ i. list_cmp (form_body w f i) (key_body v numbers are fits i))
-      ∙ raised_cmp place numbers (number_at place f.next) (form_within w f) in
-      λ i. ordering_then (epochs i)
-      (ordering_then (bodies i) (tail_cmp (bare_tail w f.next f.next_are f.bare i) (key_of v).tail))
-
-  -- and two of the form
+  -- how two versions of the form compare
   forms_order : (u w : PlainVersioning) → (f : IsOfForm v place u) → (g : IsOfForm v place w)
       → precedence (key_of u) (key_of w)
       ≡ nat_cmp (number_at place f.next) (number_at place g.next)
@@ -411,41 +389,126 @@ module _ (v : PlainVersioning) (place : ℕ) (numbers : List ℕ) (are : numbers
       (bare_tail w g.next g.next_are g.bare i))))
       ∙ then_equal (nat_cmp (number_at place f.next) (number_at place g.next))
 
-  pub at_least : (w : PlainVersioning) → (f : IsOfForm v place w) → IsAfter w v
-      → next_at ≤ number_at place f.next
-  at_least w f after =
-      is_at_least (number_at place f.next) (number_at place numbers) (is_prerelease v) zeros_after
-      (tail_cmp Bare (key_of v).tail) (not_after_bare v numbers are) (sym (form_order w f) ∙ after)
+  module _ (fits : fit numbers ≡ true) where
+    abbrev pub zeros_after : Bool
+    zeros_after = are_zeros (drop (suc place) numbers)
 
-  -- the version of the form with the next number is next
-  pub is_next : (w : PlainVersioning) → (f : IsOfForm v place w)
-      → next_at ≡ number_at place f.next → IsNext v place w
-  is_next w f is = record {
-    form = f;
-    after = form_order w f ∙ comes_after (number_at place f.next) (number_at place numbers)
-        (is_prerelease v) zeros_after (tail_cmp Bare (key_of v).tail) (after_bare v numbers are) is;
-    least = λ u g after below. not_before (number_at place g.next) (number_at place f.next)
-        (rw is at (at_least u g after)) (sym (forms_order u w g f) ∙ below);
-  }
-    where
-      not_before : (j k : ℕ) → k ≤ j → ¬ (nat_cmp j k ≡ Less)
-      not_before j k h less = elim (three_ways j k) [
-        | inl before ↦ absurd (omega (arith, h, before))
-        | inr (inl tied) ↦ cc (sym (nat_cmp_is j k Equal tied), less)
-        | inr (inr after) ↦ cc (above j k after, less)
-      ]
+    -- the number at the place of the version that comes next
+    abbrev pub next_at : ℕ
+    next_at = next_number (is_prerelease v && zeros_after) (number_at place numbers)
 
-  -- past the largest number there is none
-  pub none_past : 2 ^ 32 ≤ next_at → NoNext v place
-  none_past large w f after =
-      let fits = number_fits place f.next f.follow.fit in
-      let least = at_least w f after in
-      absurd (omega (arith, large, fits, least))
+    -- how a version of the form compares with v
+    form_order : (w : PlainVersioning) → (f : IsOfForm v place w)
+        → precedence (key_of w) (key_of v)
+        ≡ from_number (number_at place f.next) (number_at place numbers) zeros_after
+        (tail_cmp Bare (key_of v).tail)
+    form_order w f =
+        let epochs : nat_cmp (key_of w).epoch (key_of v).epoch ≡ Equal =
+        ap (λ e. nat_cmp e (key_of v).epoch) (form_epoch w f) ∙ same (key_of v).epoch in
+        let bodies : list_cmp (key_of w).body (key_of v).body
+        ≡ ordering_then (nat_cmp (number_at place f.next) (number_at place numbers))
+        (below_unless zeros_after) =
+        (λ i. list_cmp (form_body w f i) (key_body v numbers are fits i))
+        ∙ raised_cmp place numbers (number_at place f.next) (form_within w f) in
+        λ i. ordering_then (epochs i)
+        (ordering_then (bodies i)
+        (tail_cmp (bare_tail w f.next f.next_are f.bare i) (key_of v).tail))
 
-  -- and none beyond the parts
-  pub none_beyond : length numbers ≤ place → NoNext v place
-  none_beyond beyond w f after = absurd (omega (arith, beyond, form_within w f))
+    pub at_least : (w : PlainVersioning) → (f : IsOfForm v place w) → IsAfter w v
+        → next_at ≤ number_at place f.next
+    at_least w f after =
+        is_at_least (number_at place f.next) (number_at place numbers) (is_prerelease v) zeros_after
+        (tail_cmp Bare (key_of v).tail) (not_after_bare v numbers are)
+        (sym (form_order w f) ∙ after)
+
+    -- the version of the form with the next number is next
+    pub is_next : (w : PlainVersioning) → (f : IsOfForm v place w)
+        → next_at ≡ number_at place f.next → IsNext v place w
+    is_next w f is = record {
+      form = f;
+      after = form_order w f ∙ comes_after (number_at place f.next) (number_at place numbers)
+          (is_prerelease v) zeros_after (tail_cmp Bare (key_of v).tail)
+          (after_bare v numbers are) is;
+      least = λ u g after below. not_before (number_at place g.next) (number_at place f.next)
+          (rw is at (at_least u g after)) (sym (forms_order u w g f) ∙ below);
+    }
+      where
+        not_before : (j k : ℕ) → k ≤ j → ¬ (nat_cmp j k ≡ Less)
+        not_before j k h less = elim (three_ways j k) [
+          | inl before ↦ absurd (omega (arith, h, before))
+          | inr (inl tied) ↦ cc (sym (nat_cmp_is j k Equal tied), less)
+          | inr (inr after) ↦ cc (above j k after, less)
+        ]
+
+    -- past the largest number there is none
+    pub none_past : 2 ^ 32 ≤ next_at → NoNext v place
+    none_past large w f after =
+        let fits = number_fits place f.next f.follow.fit in
+        let least = at_least w f after in
+        absurd (omega (arith, large, fits, least))
+
+    -- and none beyond the parts
+    pub none_beyond : length numbers ≤ place → NoNext v place
+    none_beyond beyond w f after = absurd (omega (arith, beyond, form_within w f))
 
 -- nor of a version without numbers
 pub none_without : (v : PlainVersioning) (place : ℕ) → numbers_of v ≡ None → NoNext v place
 none_without v place none w f after = cc (f.numbers_are, none)
+
+-- ---- at most one version comes next
+
+-- two bare versions of one kind, one epoch and the same numbers are the same
+same_numbers : (w u : PlainVersioning) → versioning_kind w ≡ versioning_kind u
+    → versioning_epoch w ≡ versioning_epoch u → (ns : List ℕ) → numbers_of w ≡ Some ns
+    → numbers_of u ≡ Some ns → IsBare w → IsBare u → w ≡ u
+same_numbers (Ideal a) (Ideal b) kinds epochs ns e f bare other =
+    let all : a.major ∷ a.minor ∷ a.patch ∷ [] ≡ b.major ∷ b.minor ∷ b.patch ∷ [] =
+    cc (e ∙ sym f) in
+    let major : a.major ≡ b.major = cc all in
+    let minor : a.minor ≡ b.minor = cc all in
+    let patch : a.patch ≡ b.patch = cc all in
+    λ i. Ideal (record {
+      major = major i;
+      minor = minor i;
+      patch = patch i;
+      pre_rel = (bare.0 ∙ sym other.0) i;
+      meta = (bare.1 ∙ sym other.1) i;
+    })
+same_numbers (General a) (General b) kinds epochs ns e f bare other =
+    let bodies : (a.chunks, a.last) ≡ (b.chunks, b.last) =
+    body_is a.chunks a.last ns e ∙ sym (body_is b.chunks b.last ns f) in
+    λ i. General (record {
+      epoch = epochs i;
+      chunks = (bodies i).0;
+      last = (bodies i).1;
+      release = (bare.0 ∙ sym other.0) i;
+      meta = (bare.1 ∙ sym other.1) i;
+    })
+same_numbers (Complex a) u kinds epochs ns e f bare other = cc e
+same_numbers w (Complex b) kinds epochs ns e f bare other = cc f
+same_numbers (Ideal a) (General b) kinds epochs ns e f bare other = cc kinds
+same_numbers (General a) (Ideal b) kinds epochs ns e f bare other = cc kinds
+
+pub one_next : (v w u : PlainVersioning) (place : ℕ) → IsNext v place w → IsNext v place u → w ≡ u
+one_next v w u place first second =
+    let f = first.form in
+    let g = second.form in
+    let j = number_at place f.next in
+    let k = number_at place g.next in
+    let are = f.numbers_are in
+    let equal : j ≡ k = elim (three_ways j k) [
+      | inl less ↦
+          absurd
+          (second.least w f first.after
+          (forms_order v place f.numbers are w u f g ∙ below j k less))
+      | inr (inl same) ↦ same
+      | inr (inr more) ↦
+          absurd
+          (first.least u g second.after
+          (forms_order v place f.numbers are u w g f ∙ below k j more))
+    ] in
+    let numbers : g.next ≡ f.next =
+    form_numbers v place f.numbers are u g ∙ ap (raised place f.numbers) (sym equal)
+    ∙ sym (form_numbers v place f.numbers are w f) in
+    same_numbers w u (f.kind_is ∙ sym g.kind_is) (f.epoch_is ∙ sym g.epoch_is) f.next f.next_are
+    (g.next_are ∙ ap Some numbers) f.bare g.bare
