@@ -398,16 +398,15 @@ int versions_why_not(const char *list, size_t list_len, const char *text, size_t
 
 /*
  * Finds two members of a list of requirements that exclude each other, so that the list matches no version. The ranges
- * of the two have no version in common, as those of >=2 and <1: they have no kind in common, or the greater of their low
- * bounds is not below the lesser of their high bounds. If one member alone excludes every version, as ~1_2 does, it is
- * given twice.
+ * of the two have no version in common, as those of >=2 and <1: they have no kind in common, or the low bound of one is
+ * not below the high bound of the other. If one member alone excludes every version, as ~1_2 does, it is given twice.
  *
  * The members are the bytes of the list from *start up to, but without, *end, and from *other_start up to, but without,
  * *other_end. If bounds exclude each other, the first has the greatest low bound of the list, and the other has the
  * least high bound.
  *
- * Returns VERSIONS_OK, VERSIONS_NO_REQUIREMENTS, or VERSIONS_NO_CONFLICT if the range of the list is not empty; the list
- * can still match no version, as =1.0,=1.0+x does.
+ * Returns VERSIONS_OK, VERSIONS_NO_REQUIREMENTS, or VERSIONS_NO_CONFLICT if the range of the list is not empty. Then the
+ * list can still match no version, as =1.0,=1.0+x does.
  */
 int versions_conflict(const char *list, size_t list_len, size_t *start, size_t *end, size_t *other_start,
                       size_t *other_end);

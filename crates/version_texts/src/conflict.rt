@@ -6,7 +6,7 @@ ghost use Rattle.version_rules.specs.Lists.{bytes_cmp};
 ghost use Rattle.version_rules.specs.Range.{common_kinds, has_kind, no_kinds, range_of, requirement_range};
 ghost use Rattle.version_rules.specs.Requirements.{requirements_of};
 ghost use Rattle.std.specs.Option.{option_map};
-ghost use Rattle.version_texts.specs.Conflict.{ExcludeEachOther, IsFailing, IsOneAtMost};
+ghost use Rattle.version_texts.specs.Conflict.{ExcludeEachOther, IsByEnds, IsFailing, IsOneAtMost};
 ghost use Rattle.version_texts.specs.Empty.{IsCrossed, IsEmpty};
 ghost use Rattle.version_texts.specs.MemberPlace.{NotEach};
 ghost use Rattle.version_texts.specs.RangeRef.{bound_bytes, plain_range_ref};
@@ -43,6 +43,10 @@ pub fn conflict_in(list: &[u8]) -> Option<Option<Conflict>>
     ensures empty { IfSome result (λ found. IsSome found
         ↔ IsSomeAnd (requirements_of list.now) (λ wanted. IsEmpty (range_of wanted))) }
     ensures members { IfSome result (λ found. IfSome found (ExcludeEachOther list.now)) }
+
+    // If ends exclude each other, they are the greatest low end of the list and the least high one.
+    ensures ends { IfSome result (λ found. IfSome found (λ conflict. IfSome (requirements_of list.now)
+        (λ wanted. IsCrossed (range_of wanted) → IsByEnds list.now (range_of wanted) conflict))) }
 {
     let range = RangeRef::from_bytes(list)?;
     if range.is_crossed() {
@@ -130,7 +134,8 @@ fn failing<'a, T: ListTest>(list: &'a [u8], test: &T) -> Option<(Place, RangeRef
 fn crossed(list: &[u8], range: &RangeRef<'_>) -> Option<Conflict>
     requires range { option_map range_of (requirements_of list.now) ≡ Some (plain_range_ref range.now) }
     requires crossed { IsCrossed (plain_range_ref range.now) }
-    ensures { IsSomeAnd result (ExcludeEachOther list.now) }
+    ensures members { IsSomeAnd result (ExcludeEachOther list.now) }
+    ensures ends { IfSome result (IsByEnds list.now (plain_range_ref range.now)) }
 {
     let high = range.high?;
     let (other, least) = failing(list, &EndsAfter { bound: high })?;

@@ -1,9 +1,11 @@
 //! Which member of a list of requirements does not match a version, and which two members exclude each other.
 
 ghost use Rattle.std.specs.Prelude.{◌≡◌, ◌≢◌, IfSome};
+ghost use Rattle.version_rules.specs.Range.{range_of};
 ghost use Rattle.version_rules.specs.Requirements.{requirements_of};
 ghost use Rattle.version_rules.specs.Versioning.{versioning_of};
-ghost use Rattle.version_texts.specs.Conflict.{ExcludeEachOther};
+ghost use Rattle.version_texts.specs.Conflict.{ExcludeEachOther, IsByEnds};
+ghost use Rattle.version_texts.specs.Empty.{IsCrossed};
 ghost use Rattle.versions_c.specs.Why.{why_code, why_status, IsConflictStatus, IsExplained};
 
 use crate::matching::status_without_version;
@@ -78,6 +80,11 @@ pub extern "C" fn versions_conflict(
     }) }
     ensures kept_start { result ≢ OK → start.new ≡ start.old }
     ensures kept_end { result ≢ OK → end.new ≡ end.old }
+    ensures ends { result ≡ OK → IfSome (requirements_of list.now)
+        (λ wanted. IsCrossed (range_of wanted) → IsByEnds list.now (range_of wanted) (record {
+          one = record { start = start.new; end = end.new };
+          other = record { start = other_start.new; end = other_end.new };
+        })) }
     ensures kept_other_start { result ≢ OK → other_start.new ≡ other_start.old }
     ensures kept_other_end { result ≢ OK → other_end.new ≡ other_end.old }
 {

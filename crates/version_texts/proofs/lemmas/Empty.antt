@@ -20,7 +20,7 @@ use Rattle.version_rules.specs.RequirementsRef.{before_others}
 use Rattle.version_rules.specs.Versioning.{PlainVersioning, Ideal, General, Complex}
 use Rattle.version_texts.proofs.lemmas.FirstFailing.{first_and_others, some_pieces}
 use Rattle.version_texts.proofs.lemmas.RangeRef.{narrowed}
-use Rattle.version_texts.specs.Conflict.{ExcludeEachOther, IsAt, IsOneAtMost}
+use Rattle.version_texts.specs.Conflict.{ExcludeEachOther, IsAt, IsByEnds, IsOneAtMost}
 use Rattle.version_texts.specs.declared.conflict.Conflict.{Conflict}
 use Rattle.version_texts.specs.declared.conflict.Place.{Place}
 use Rattle.version_texts.specs.Empty.{IsCrossed, IsEmpty}
@@ -266,6 +266,16 @@ ends_crossed low high a b crossed begins = by b.high
     by (Some h) ends after =
         stays_from high h a.low ends (stays_from low high a.low crossed begins) after
 
+-- what does not end above the high end of a range ends no later
+pub ends_no_later : (end whole : Option (List ℕ)) (high : List ℕ) → whole ≡ Some high
+    → ¬ (IsBelowHigh end high)
+    → IfSome whole (λ least. IsSomeAnd end (λ h. ¬ (bytes_cmp least h ≡ Less)))
+ends_no_later end None high e ends = tt
+ends_no_later None (Some least) high e ends = absurd (ends tt)
+ends_no_later (Some h) (Some least) high e ends =
+    let same : high ≡ least = cc e in
+    subst (λ bytes. ¬ (bytes_cmp bytes h ≡ Less)) same ends
+
 -- ---- the kinds of a member
 
 -- a member without strict versions has no kind or one alone
@@ -322,6 +332,32 @@ module _ (spelled : Option (List PlainRequirement)) (range : PlainRange)
       by (Some list) e =
           let same : range ≡ range_of list = cc e in
           subst IsEmpty same empty
+
+  pub is_by_ends : (text : List ℕ) (conflict : Conflict) → IsByEnds text range conflict
+      → IfSome spelled (λ wanted. IsCrossed (range_of wanted)
+      → IsByEnds text (range_of wanted) conflict)
+  is_by_ends text conflict ends = by spelled read
+    where
+      by : (o : Option (List PlainRequirement)) → Some range ≡ option_map range_of o
+          → IfSome o (λ wanted. IsCrossed (range_of wanted)
+          → IsByEnds text (range_of wanted) conflict)
+      by None e = tt
+      by (Some list) e =
+          let same : range ≡ range_of list = cc e in
+          λ crossed. subst (λ q. IsByEnds text q conflict) same ends
+
+  pub is_not_by_ends : (text : List ℕ) (conflict : Conflict) → ¬ (IsCrossed range)
+      → IfSome spelled (λ wanted. IsCrossed (range_of wanted)
+      → IsByEnds text (range_of wanted) conflict)
+  is_not_by_ends text conflict whole = by spelled read
+    where
+      by : (o : Option (List PlainRequirement)) → Some range ≡ option_map range_of o
+          → IfSome o (λ wanted. IsCrossed (range_of wanted)
+          → IsByEnds text (range_of wanted) conflict)
+      by None e = tt
+      by (Some list) e =
+          let same : range ≡ range_of list = cc e in
+          λ crossed. absurd (whole (subst IsCrossed (sym same) crossed))
 
 -- ---- laws
 
