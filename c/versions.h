@@ -405,7 +405,7 @@ int versions_why_not(const char *list, size_t list_len, const char *text, size_t
  * *other_end. If bounds exclude each other, the first has the greatest low bound of the list, and the other has the
  * least high bound.
  *
- * Returns VERSIONS_OK, VERSIONS_NO_REQUIREMENTS, or VERSIONS_NO_CONFLICT if the range of the list is not empty. Then the
+ * Returns VERSIONS_OK, VERSIONS_NO_REQUIREMENTS, or VERSIONS_NO_CONFLICT if the range of the list is not empty. Such a
  * list can still match no version, as =1.0,=1.0+x does.
  */
 int versions_conflict(const char *list, size_t list_len, size_t *start, size_t *end, size_t *other_start,

@@ -14,7 +14,6 @@ ghost use Rattle.version_texts.specs.RangeRef.{bound_bytes, plain_range_ref};
 use crate::first_failing::{ListTest, first_failing};
 use crate::range_ref::{Bound, RangeRef, or_lowest};
 use crate::requirement_ref::RequirementRef;
-use std::cmp::Ordering;
 use version_rules::{Kind, Kinds};
 
 /// Where a member of a list lies.
