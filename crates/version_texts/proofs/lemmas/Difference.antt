@@ -1,14 +1,14 @@
 -- Where two versions differ first, by their keys, and two lists of parts, by their first parts and
 -- what follows these.
 pub mod Laws
-use Rattle.std.proofs.Common.{if◌then◌else◌, ◌≡◌, ◌∙◌, ◌+◌, ◌<◌, ◌≤◌, ℕ, suc, true, false, List, [], ◌∷◌, Option, Some, None, length, length-drop, refl, ap, arith}
+use Rattle.std.proofs.Common.{if◌then◌else◌, ◌≡◌, ◌∙◌, ◌+◌, ◌<◌, ℕ, suc, true, false, List, [], ◌∷◌, Option, Some, None, length, length-drop, refl, ap, arith}
 use Rattle.std.specs.List.{position_or_len}
 use Rattle.std.specs.Option.{option_map, unwrap_or}
 use Rattle.std.specs.Ordering.{is_eq, is_ne}
 use Rattle.std.specs.declared.cmp.Ordering.{Ordering}
 use Rattle.std.specs.declared.cmp.Ordering.TheVariants.{Less, Equal, Greater}
 use Rattle.version_rules.specs.Key.{Key, key_of}
-use Rattle.version_rules.specs.PartKey.{part_cmp, part_key}
+use Rattle.version_rules.specs.PartKey.{part_cmp}
 use Rattle.version_rules.specs.Versioning.{PlainVersioning, versioning_plain_cmp}
 use Rattle.version_texts.proofs.lemmas.EndOrder.{further, parts_are}
 use Rattle.version_texts.proofs.lemmas.Piece.{pieces_are}

@@ -9,25 +9,23 @@ use Rattle.std.specs.declared.cmp.Ordering.{Ordering}
 use Rattle.std.specs.declared.cmp.Ordering.TheVariants.{Less, Equal, Greater}
 use Rattle.version_rules.proofs.lemmas.Range.{IsBelow, IsBelowHigh, below_earlier_high, from_empty, list_in, of_all_kinds, of_common_kinds, requirement_in, common_in, stays_from}
 use Rattle.version_rules.specs.declared.kind.Kind.{Kind}
-use Rattle.version_rules.specs.declared.op.Op.{Op}
 use Rattle.version_rules.specs.Lists.{bytes_cmp}
 use Rattle.version_rules.specs.Kind.{versioning_kind}
 use Rattle.version_rules.specs.Matching.{Matches, MatchesAll}
-use Rattle.version_rules.specs.Range.{IsIn, PlainRange, bytes_of, common, earlier, earlier_high, everything, has_kind, later, no_kinds, op_range, range_of, requirement_range}
+use Rattle.version_rules.specs.Range.{IsIn, PlainRange, bytes_of, common, earlier, earlier_high, everything, has_kind, later, no_kinds, range_of, requirement_range}
 use Rattle.version_rules.specs.Requirement.{PlainRequirement, requirement_of}
 use Rattle.version_rules.specs.Requirements.{requirements_of}
 use Rattle.version_rules.specs.RequirementsRef.{before_others}
 use Rattle.version_rules.specs.Versioning.{PlainVersioning, Ideal, General, Complex}
 use Rattle.version_texts.proofs.lemmas.FirstFailing.{first_and_others, some_pieces}
 use Rattle.version_texts.proofs.lemmas.RangeRef.{narrowed}
-use Rattle.version_texts.specs.Conflict.{ExcludeEachOther, IsAt, IsByEnds, IsOneAtMost}
+use Rattle.version_texts.specs.Conflict.{ExcludeEachOther, IsAt, IsByEnds}
 use Rattle.version_texts.specs.declared.conflict.Conflict.{Conflict}
 use Rattle.version_texts.specs.declared.conflict.Place.{Place}
 use Rattle.version_texts.specs.Empty.{IsCrossed, IsEmpty}
 use Rattle.version_texts.specs.MemberPlace.{NotEach}
 use Rattle.version_texts.specs.Members.{cut_at_commas, list_of}
 use Rattle.version_rules.specs.declared.kind.Kind.TheVariants as kind
-use Rattle.version_rules.specs.declared.op.Op.TheVariants as op
 
 -- ---- comparisons of bytes
 
@@ -275,41 +273,6 @@ ends_no_later None (Some least) high e ends = absurd (ends tt)
 ends_no_later (Some h) (Some least) high e ends =
     let same : high ≡ least = cc e in
     subst (λ bytes. ¬ (bytes_cmp bytes h ≡ Less)) same ends
-
--- ---- the kinds of a member
-
--- a member without strict versions has no kind or one alone
-pub one_kind : (r : PlainRequirement) → ¬ (HasKind kind.Ideal (requirement_range r))
-    → IsOneAtMost (requirement_range r).kinds
-one_kind r = by r.op r.version
-  where
-    series : (o : Op) (v : PlainVersioning) → ¬ (HasKind kind.Ideal (op_range o v))
-        → IsOneAtMost (op_range o v).kinds
-    series op.Exact v lacks = inr (versioning_kind v, refl)
-    series op.Tilde (Ideal v) lacks = inr (kind.Ideal, refl)
-    series op.Tilde (General v) lacks = inr (kind.General, refl)
-    series op.Tilde (Complex v) lacks = inl refl
-    series op.Caret (Ideal v) lacks = inr (kind.Ideal, refl)
-    series op.Caret (General v) lacks = inr (kind.General, refl)
-    series op.Caret (Complex v) lacks = inl refl
-    series op.Greater v lacks = absurd (lacks refl)
-    series op.GreaterEq v lacks = absurd (lacks refl)
-    series op.Less v lacks = absurd (lacks refl)
-    series op.LessEq v lacks = absurd (lacks refl)
-    series op.Wildcard v lacks = absurd (lacks refl)
-
-    by : (o : Op) (version : Option PlainVersioning)
-        → ¬ (HasKind kind.Ideal (requirement_range (record { op = o; version = version })))
-        → IsOneAtMost (requirement_range (record { op = o; version = version })).kinds
-    by o (Some v) lacks = series o v lacks
-    by op.Wildcard None lacks = absurd (lacks refl)
-    by op.Exact None lacks = inl refl
-    by op.Greater None lacks = inl refl
-    by op.GreaterEq None lacks = inl refl
-    by op.Less None lacks = inl refl
-    by op.LessEq None lacks = inl refl
-    by op.Tilde None lacks = inl refl
-    by op.Caret None lacks = inl refl
 
 -- ---- the range of a text
 

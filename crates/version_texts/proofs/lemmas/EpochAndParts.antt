@@ -1,18 +1,16 @@
 -- The texts of the epoch and of the parts of a version, by the shape of its text.
-use Rattle.std.proofs.Common.{◌≡◌, ◌∙◌, ◌+◌, ◌≤◌, ℕ, List, [], ◌∷◌, ◌++◌, drop, length, take, Option, Some, None, refl, sym, ap, arith, append_assoc, append-nil, length-append}
+use Rattle.std.proofs.Common.{◌≡◌, ◌∙◌, ◌+◌, ◌≤◌, ℕ, List, [], ◌++◌, drop, length, take, Option, Some, None, refl, sym, ap, arith, append_assoc, append-nil, length-append}
 use Rattle.std.proofs.lemmas.List.{drop_at, take_at}
-use Rattle.std.specs.Fmt.{decimal}
 use Rattle.version_rules.specs.Body.{body_text}
 use Rattle.version_rules.specs.Conversions.{version_of_semver}
 use Rattle.version_rules.specs.Kind.{versioning_kind}
-use Rattle.version_rules.specs.SemVer.{PlainSemVer, SpellsSemVer, semver_text}
 use Rattle.version_rules.specs.Version.{PlainVersion, SpellsEpoch, SpellsVersion, epoch_text}
 use Rattle.version_rules.specs.Versioning.{PlainVersioning, Ideal, General, Complex, SpellsVersioning}
 use Rattle.version_rules.proofs.lemmas.Body.{body_printed}
 use Rattle.version_rules.proofs.lemmas.Conversions.{strict_is_general}
 use Rattle.version_rules.proofs.lemmas.Numeral.{numeral_printed}
-use Rattle.version_texts.specs.Field.{epoch_and_parts, numbers_alone}
-use Rattle.version_texts.specs.Shape.{TailFits, body_end, body_start, shape_at, shape_of}
+use Rattle.version_texts.specs.Field.{epoch_and_parts}
+use Rattle.version_texts.specs.Shape.{TailFits, body_end, body_start, shape_of}
 use Rattle.version_texts.specs.VersioningRef.{version_in}
 use Rattle.version_texts.specs.declared.shape.Shape.{Shape}
 use Rattle.version_texts.specs.declared.shape.TailKind.{TailKind}

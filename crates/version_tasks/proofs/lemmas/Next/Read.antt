@@ -315,9 +315,3 @@ module _ (text : List ℕ) (v : PlainVersioning) (s : SpellsVersioning text v)
               rw holds
               (is_next v place numbers are (values_fit ps all) (numbered v comes) form.0
               (next_is ∙ sym next ∙ sym at_place))
-
--- a version without parts
-pub no_parts : (v : PlainVersioning) (place : ℕ) → None ≡ epoch_and_parts v → NoNext v place
-no_parts (Ideal v) place none = cc none
-no_parts (General v) place none = cc none
-no_parts (Complex m) place none = none_without (Complex m) place refl

@@ -10,10 +10,10 @@ use Rattle.std.specs.List.{join_with_byte}
 use Rattle.std.specs.Str.{IsAscii, IsUtf8}
 use Rattle.version_rules.specs.Body.{PlainBody, SpellsBody}
 use Rattle.version_rules.specs.Bytes.{dot}
-use Rattle.version_rules.specs.Chunk.{PlainChunk, SpellsPart, number_of}
+use Rattle.version_rules.specs.Chunk.{PlainChunk, SpellsPart}
 use Rattle.version_rules.specs.Conversions.{version_of_semver}
 use Rattle.version_rules.specs.Grammar.{SpellsDotted, SpellsOptional}
-use Rattle.version_rules.specs.Last.{IsLastOf, PlainLast}
+use Rattle.version_rules.specs.Last.{IsLastOf}
 use Rattle.version_rules.specs.Numeral.{HasNoLeadingZero, SpellsNumeral}
 use Rattle.version_rules.specs.SemVer.{PlainSemVer, SpellsSemVer}
 use Rattle.version_rules.specs.Version.{PlainVersion, SpellsEpoch, SpellsVersion, epoch_text}
@@ -133,10 +133,6 @@ pub one_more_zero : (zeros : ℕ) → zeros_text zeros ++ dot ∷ 48 ∷ [] ≡ 
 one_more_zero zeros =
     let same : suc zeros ≡ zeros + 1 = omega arith in
     another_zero zeros ∙ ap zeros_text same
-
-count_decimals : (ns : List ℕ) → length (map decimal ns) ≡ length ns
-count_decimals [] = refl
-count_decimals (n ∷ ns) = ap suc (count_decimals ns)
 
 raised_some : (place : ℕ) (ns : List ℕ) (k : ℕ) → place < length ns
     → 0 < length (map decimal (raised place ns k))
