@@ -61,6 +61,11 @@ int versions_kinds(const char *texts, size_t texts_len, const int64_t *offsets, 
   return answer(kinds, kinds_len);
 }
 
+int versions_stabilities(const char *texts, size_t texts_len, const int64_t *offsets, size_t offsets_len,
+                         uint8_t *stabilities, size_t stabilities_len) {
+  return answer(stabilities, stabilities_len);
+}
+
 int versions_match_all(const char *list, size_t list_len, const char *texts, size_t texts_len, const int64_t *offsets,
                        size_t offsets_len, uint8_t *matches, size_t matches_len) {
   fake_asked = "list";

@@ -90,6 +90,10 @@ class Columns(unittest.TestCase):
                 self.assertEqual([key is None for key in versions.sort_keys(column)], [k is None for k in kinds])
                 self.assertEqual(versions.match_all("<1.9", column), [False, None, False, None, True])
                 self.assertEqual(versions.Requirement(">=1.9").filter(column), ["1.10", "1.9"])
+                self.assertEqual(versions.in_tags(column), ["1.10", None, "1.9", None, "1.2.3"])
+                stable = versions.Stability.STABLE
+                self.assertEqual(versions.stabilities(column), [stable, None, stable, None, stable])
+                self.assertEqual(versions.newest(column, "<1.10"), "1.9")
 
     def test_floats_of_numpy_and_times_that_are_missing(self):
         floats = numpy.float16, numpy.float32, numpy.float64, numpy.longdouble

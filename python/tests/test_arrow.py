@@ -14,7 +14,14 @@ from test_calls import KINDS, USUAL, WANTED, key_of
 
 CONTENT = [None if text is None else text.encode("utf-8", "surrogatepass") for text in USUAL]
 KEYS = [None if kind is None else key_of(text) for text, kind in zip(USUAL, KINDS)]
-CALLS = (versions.kinds, versions.sort_keys, lambda texts: versions.match_all(">=1.2,<1:0", texts))
+STABILITIES = [None if kind is None else versions.Version(text).stability for text, kind in zip(USUAL, KINDS)]
+# Each of them has itself as a tag.
+VERSIONS = [None if kind is None else text for text, kind in zip(USUAL, KINDS)]
+ANSWERS = KINDS, KEYS, WANTED, STABILITIES, VERSIONS
+CALLS = (
+    *(versions.kinds, versions.sort_keys, lambda texts: versions.match_all(">=1.2,<1:0", texts)),
+    *(versions.stabilities, versions.in_tags),
+)
 FORMATS = (b"u", b"U", b"z", b"Z")
 
 
@@ -28,7 +35,7 @@ class Arrow(unittest.TestCase):
         self.assertEqual(sorted(arrow.released), sorted(arrow.made))
 
     def assertAnswers(self, texts, among=slice(None)):
-        self.assertEqual([call(texts) for call in CALLS], [KINDS[among], KEYS[among], WANTED[among]])
+        self.assertEqual([call(texts) for call in CALLS], [answers[among] for answers in ANSWERS])
 
     def assertFails(self, error, words, texts):
         for call in CALLS:
@@ -316,8 +323,8 @@ class Arrow(unittest.TestCase):
         self.assertRaisesRegex(AttributeError, "mine", versions.kinds, Raising())
         self.assertRaisesRegex(OSError, "mine", versions.kinds, Refusing())
 
-    def test_sorted_and_filter_take_no_arrays(self):
-        for call in (versions.sorted, versions.Requirement("*").filter):
+    def test_sorted_newest_and_filter_take_no_arrays(self):
+        for call in (versions.sorted, versions.newest, versions.Requirement("*").filter):
             self.assertRaises(TypeError, call, arrow.Array([b"1.2"]))
 
 
@@ -328,6 +335,8 @@ class FromC(WithFolder):
         ["ideal", None, None, "general"],
         [key_of("1.2.3"), None, None, key_of("1.10")],
         [True, None, None, True],
+        [versions.Stability.STABLE, None, None, versions.Stability.STABLE],
+        ["1.2.3", None, None, "1.10"],
     ]
 
     @classmethod

@@ -565,6 +565,9 @@ class Threads(unittest.TestCase):
             "compare_total": lambda: versions.compare_total(long, long),
             "nth": lambda: version.nth(2_000_000),
             "epoch": lambda: version.epoch,
+            "from_tag": lambda: versions.Version.from_tag("-" * 3_000_000 + "1"),
+            "from_tag with a prefix": lambda: versions.Version.from_tag("-" * 3_000_000 + "1", "-" * 3_000_000),
+            "stability": lambda: version.stability,
             "metadata": lambda: version.metadata,
             "matches": lambda: wanted.matches(long),
             "matches by an exact range": lambda: strict.matches(long),
@@ -574,6 +577,9 @@ class Threads(unittest.TestCase):
             "kinds": lambda: versions.kinds(many),
             "sort_keys": lambda: versions.sort_keys(many),
             "match_all": lambda: versions.match_all(wanted, many),
+            "stabilities": lambda: versions.stabilities(many),
+            "in_tags": lambda: versions.in_tags(many),
+            "newest": lambda: versions.newest(many),
             "sorted": lambda: versions.sorted(many),
         }
         # Only letting the lock go passes it on: the interpreter takes it from no thread for as long as this.
@@ -594,7 +600,8 @@ class Package(unittest.TestCase):
             self.assertTrue(name in ("Kind", "__version__") or getattr(versions, name).__doc__, name)
 
     def test_functions_are_of_the_package(self):
-        for name in ("kind", "sort_key", "compare", "compare_total", "kinds", "sort_keys", "match_all", "sorted"):
+        one, many = ("kind", "sort_key", "compare", "compare_total"), ("kinds", "sort_keys", "match_all", "sorted")
+        for name in (*one, *many, "stabilities", "in_tags", "newest"):
             function = getattr(versions, name)
             self.assertEqual((function.__module__, function.__name__, function.__qualname__), ("versions", name, name))
             for protocol in range(pickle.HIGHEST_PROTOCOL + 1):
@@ -603,7 +610,7 @@ class Package(unittest.TestCase):
                 self.assertNotIn(b"_library", pickled)
         for name in ("kind", "sort_key", "compare", "compare_total", "match_all"):
             self.assertIsInstance(getattr(versions, name), types.BuiltinFunctionType)
-        for name in ("Version", "Requirement", "Range", "InvalidVersion", "InvalidRequirement"):
+        for name in ("Version", "Requirement", "Range", "Stability", "InvalidVersion", "InvalidRequirement"):
             self.assertEqual(getattr(versions, name).__module__, "versions")
 
     def test_version_is_that_of_the_header_and_of_the_distribution(self):

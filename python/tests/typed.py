@@ -5,7 +5,7 @@ from __future__ import annotations
 from typing import Optional, Union
 
 import versions
-from versions import InvalidRequirement, InvalidVersion, Kind, Requirement, Version
+from versions import InvalidRequirement, InvalidVersion, Kind, Requirement, Stability, Version
 
 version = Version("1.2.3")
 kind: Kind = version.kind
@@ -24,6 +24,15 @@ asked: bool = wanted.matches(version) or wanted.matches("1.2") or version in wan
 answers: list[Optional[bool]] = versions.match_all(wanted, ["1.2", version, None])
 parts: list[Optional[int]] = [version.epoch, version.major, version.minor, version.patch]
 prerelease: Optional[bool] = version.is_prerelease
+stability: Stability = version.stability
+is_less: bool = stability < Stability.RC
+stabilities: list[Optional[Stability]] = versions.stabilities(["1.2", version, None])
+from_tag: Version = Version.from_tag("v1.2", prefix=None)
+in_tags: list[Optional[str]] = versions.in_tags(["v1.2", version, None])
+newest_text: Optional[str] = versions.newest(["1.2", None], ">=1", Stability.RC, tags=True)
+newest_version: Optional[Version] = versions.newest([version, newest], requirement=wanted)
+mixed: list[Union[str, Version]] = ["1.2", version]
+newest_of_both: Union[str, Version, None] = versions.newest(mixed)
 sorted_texts: list[str] = versions.sorted(text for text in texts)
 sorted_versions: list[Version] = versions.sorted([version, newest])
 of_both: list[Union[str, Version]] = versions.sorted(["1.2", version])
@@ -45,6 +54,7 @@ class Mine(Version):
 
 
 mine: Mine = Mine("1.2")
+mine_of_tag: Mine = Mine.from_tag("v1.2")
 below: bool = mine < version
 
 # What is wrong at run time is an error of the type checker, too: each comment is one that it must need.
@@ -57,4 +67,6 @@ versions.sorted([("1.2",)])  # type: ignore[type-var]
 versions.sorted([1], key=lambda row: row)  # type: ignore[arg-type,return-value]
 versions.match_all(version, [])  # type: ignore[arg-type]
 versions.kinds([1.2])  # type: ignore[list-item]
+versions.newest([1.2])  # type: ignore[type-var]
+versions.newest(["1.2"], stability="beta")  # type: ignore[arg-type]
 version.key = b""  # type: ignore[misc]

@@ -13,10 +13,22 @@ threads of Python go on.
 """
 
 from ._errors import InvalidRequirement, InvalidVersion
-from ._library import __version__, compare, compare_total, kind, kinds, match_all, sort_key, sort_keys
+from ._library import (
+    __version__,
+    compare,
+    compare_total,
+    in_tags,
+    kind,
+    kinds,
+    match_all,
+    newest,
+    sort_key,
+    sort_keys,
+    stabilities,
+)
 from ._library import sorted as sorted
 from ._requirement import Range, Requirement
-from ._version import Kind, Version
+from ._version import Kind, Stability, Version
 
 # Without `sorted`, which would hide Python's own from `from versions import *`.
 __all__ = [
@@ -25,15 +37,19 @@ __all__ = [
     "Kind",
     "Range",
     "Requirement",
+    "Stability",
     "Version",
     "__version__",
     "compare",
     "compare_total",
+    "in_tags",
     "kind",
     "kinds",
     "match_all",
+    "newest",
     "sort_key",
     "sort_keys",
+    "stabilities",
 ]
 
 # They pickle and are shown under the name by which they are used.

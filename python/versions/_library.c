@@ -2,8 +2,8 @@
  * _library.c: the calls of versions.h as functions of Python, in the stable ABI of Python 3.9 and later.
  *
  * What a version is, how versions compare and what matches is asked of the library alone. This file passes it texts and
- * hands its answers on. The public functions `kind`, `sort_key`, `compare`, `compare_total`, `kinds`, `sort_keys` and
- * `sorted` are functions of this file; the types of which `Version` and `Requirement` are made are in _values.c.
+ * hands its answers on. The public functions are functions of this file; the types of which `Version` and `Requirement`
+ * are made are in _values.c.
  */
 #include "_library.h"
 
@@ -43,23 +43,35 @@ static PyObject *sort_key(PyObject *Py_UNUSED(module), PyObject *args, PyObject 
 
 typedef int comparison(const char *, size_t, const char *, size_t, int32_t *);
 
-static PyObject *compared(comparison *call, PyObject *first, PyObject *second) {
+/* Raises the error of a status that speaks of two texts, unless it is VERSIONS_OK. */
+static int check_two(int status, PyObject *first, PyObject *second) {
+  switch (status) {
+    case VERSIONS_OK: return 0;
+    case VERSIONS_NO_VERSION_A:
+    case VERSIONS_NO_VERSION_AB: raise_invalid("InvalidVersion", first); return -1;
+    case VERSIONS_NO_VERSION_B: raise_invalid("InvalidVersion", second); return -1;
+    default: raise_status(status); return -1;
+  }
+}
+
+/* Compares two texts, or those of Versions. */
+static int order_of_items(comparison *call, PyObject *first, PyObject *second, int32_t *order) {
   struct text a, b;
   PyThreadState *thread;
-  int32_t order = 0;
   int status;
 
-  if (read_item(first, &a) < 0 || read_item(second, &b) < 0) return NULL;
+  *order = 0;
+  if (read_item(first, &a) < 0 || read_item(second, &b) < 0) return -1;
   thread = let_go(a.size > b.size ? a.size : b.size);
-  status = call(a.bytes, a.size, b.bytes, b.size, &order);
+  status = call(a.bytes, a.size, b.bytes, b.size, order);
   take_again(thread);
-  switch (status) {
-    case VERSIONS_OK: return PyLong_FromLong(order);
-    case VERSIONS_NO_VERSION_A:
-    case VERSIONS_NO_VERSION_AB: return raise_invalid("InvalidVersion", first);
-    case VERSIONS_NO_VERSION_B: return raise_invalid("InvalidVersion", second);
-    default: return raise_status(status);
-  }
+  return check_two(status, first, second);
+}
+
+static PyObject *compared(comparison *call, PyObject *first, PyObject *second) {
+  int32_t order;
+
+  return order_of_items(call, first, second, &order) < 0 ? NULL : PyLong_FromLong(order);
 }
 
 static char *two_names[] = {"a", "b", NULL};
@@ -157,6 +169,39 @@ static PyObject *is_prerelease(PyObject *Py_UNUSED(module), PyObject *object) {
   return status == VERSIONS_OK ? PyBool_FromLong(answer) : none_or_raise(status, object);
 }
 
+/* in_tag(tag, prefix): the text of the version in a tag, after the prefix where that is not None */
+static PyObject *in_tag(PyObject *Py_UNUSED(module), PyObject *args) {
+  PyObject *object, *before;
+  PyThreadState *thread;
+  struct text tag, prefix = {NULL, 0};
+  size_t start = 0;
+  int status;
+
+  if (!PyArg_ParseTuple(args, "OO:in_tag", &object, &before) || read_item(object, &tag) < 0) return NULL;
+  if (before != Py_None && read_text(before, &prefix) < 0) return NULL;
+  thread = let_go(tag.size);
+  status = before == Py_None ? versions_in_tag(tag.bytes, tag.size, &start)
+                             : versions_after_prefix(prefix.bytes, prefix.size, tag.bytes, tag.size, &start);
+  take_again(thread);
+  if (status != VERSIONS_OK) return none_or_raise(status, text_of(object));
+  return PyUnicode_FromStringAndSize(tag.bytes + start, (Py_ssize_t)(tag.size - start));
+}
+
+/* stability(text): its number */
+static PyObject *stability(PyObject *Py_UNUSED(module), PyObject *object) {
+  PyThreadState *thread;
+  struct text text;
+  int number;
+
+  if (read_text(object, &text) < 0) return NULL;
+  thread = let_go(text.size);
+  number = versions_stability(text.bytes, text.size);
+  take_again(thread);
+  if (number == VERSIONS_NONE) return raise_invalid("InvalidVersion", object);
+  if (number < VERSIONS_DEV || number > VERSIONS_STABLE) return raise_status(number);
+  return PyLong_FromLong(number);
+}
+
 /* The first member of the bytes of a list that is not a requirement, as wrong_member returns it. */
 static PyObject *wrong_member_of(const char *bytes, size_t size) {
   PyThreadState *thread = let_go(size);
@@ -217,20 +262,70 @@ static int append_all(PyObject *answers, const struct texts *texts, const uint8_
   return 0;
 }
 
-static int ask_kinds(const struct call *call, const struct texts *texts, PyObject *answers) {
+typedef int numbering(const char *, size_t, const int64_t *, size_t, uint8_t *, size_t);
+
+/* Asks for a number of each text, and appends what the numbers mean. */
+static int ask_numbers(const struct call *call, numbering *library_call, uint8_t largest, const struct texts *texts,
+                       PyObject *answers) {
   uint8_t *numbers = allocated(texts->count, 1);
   PyThreadState *thread;
   int status, failed = -1;
 
   if (numbers == NULL) return -1;
   thread = let_go_of(texts);
-  status = versions_kinds(texts->bytes, texts->size, texts->offsets, texts->count + 1, numbers, texts->count);
+  status = library_call(texts->bytes, texts->size, texts->offsets, texts->count + 1, numbers, texts->count);
   take_again(thread);
   if (status == VERSIONS_OK)
-    failed = append_all(answers, texts, numbers, call->kinds, VERSIONS_COMPLEX);
+    failed = append_all(answers, texts, numbers, call->meanings, largest);
   else
     raise_status(status);
   PyMem_Free(numbers);
+  return failed;
+}
+
+static int ask_kinds(const struct call *call, const struct texts *texts, PyObject *answers) {
+  return ask_numbers(call, versions_kinds, VERSIONS_COMPLEX, texts, answers);
+}
+
+static int ask_stabilities(const struct call *call, const struct texts *texts, PyObject *answers) {
+  return ask_numbers(call, versions_stabilities, VERSIONS_STABLE, texts, answers);
+}
+
+/* The version in the tag at a place, which begins at `start`; None where that is the tag's end, and of a null. */
+static PyObject *version_at(const struct texts *texts, size_t place, int64_t start) {
+  int64_t end = texts->offsets[place + 1];
+
+  if (is_null(texts, place) || start == end) Py_RETURN_NONE;
+  return PyUnicode_FromStringAndSize(texts->bytes + start, (Py_ssize_t)(end - start));
+}
+
+static int append_versions(PyObject *answers, const struct texts *texts, const int64_t *starts) {
+  int failed = 0;
+  size_t place;
+
+  for (place = 0; failed == 0 && place < texts->count; place++) {
+    PyObject *version = version_at(texts, place, starts[place]);
+
+    failed = version == NULL ? -1 : PyList_Append(answers, version);
+    Py_XDECREF(version);
+  }
+  return failed;
+}
+
+static int ask_in_tags(const struct call *Py_UNUSED(call), const struct texts *texts, PyObject *answers) {
+  int64_t *starts = allocated(texts->count, sizeof *starts);
+  PyThreadState *thread;
+  int status, failed = -1;
+
+  if (starts == NULL) return -1;
+  thread = let_go_of(texts);
+  status = versions_in_tags(texts->bytes, texts->size, texts->offsets, texts->count + 1, starts, texts->count);
+  take_again(thread);
+  if (status == VERSIONS_OK)
+    failed = append_versions(answers, texts, starts);
+  else
+    raise_status(status);
+  PyMem_Free(starts);
   return failed;
 }
 
@@ -383,10 +478,35 @@ static char *texts_alone[] = {"texts", NULL};
 
 static PyObject *kinds(PyObject *module, PyObject *args, PyObject *named) {
   struct state *state = PyModule_GetState(module);
-  const struct call call = {.ask = ask_kinds, .kinds = state->kinds};
+  const struct call call = {.ask = ask_kinds, .meanings = state->kinds};
   PyObject *texts;
 
   return read_arguments(args, named, "O:kinds", texts_alone, &texts, NULL) < 0 ? NULL : answers_of(&call, texts);
+}
+
+static PyObject *stabilities(PyObject *Py_UNUSED(module), PyObject *args, PyObject *named) {
+  PyObject *meanings[VERSIONS_STABLE + 1], *texts, *module, *members, *answers = NULL;
+  const struct call call = {.ask = ask_stabilities, .meanings = meanings};
+  int number;
+
+  if (read_arguments(args, named, "O:stabilities", texts_alone, &texts, NULL) < 0) return NULL;
+  module = PyImport_ImportModule("versions._version");
+  members = module == NULL ? NULL : PyObject_GetAttrString(module, "STABILITIES");
+  if (members != NULL) {
+    for (number = VERSIONS_NONE; number <= VERSIONS_STABLE; number++)
+      meanings[number] = PyTuple_GetItem(members, number);
+    answers = answers_of(&call, texts);
+  }
+  Py_XDECREF(members);
+  Py_XDECREF(module);
+  return answers;
+}
+
+static PyObject *in_tags(PyObject *Py_UNUSED(module), PyObject *args, PyObject *named) {
+  const struct call call = {.ask = ask_in_tags};
+  PyObject *texts;
+
+  return read_arguments(args, named, "O:in_tags", texts_alone, &texts, NULL) < 0 ? NULL : answers_of(&call, texts);
 }
 
 static PyObject *sort_keys(PyObject *Py_UNUSED(module), PyObject *args, PyObject *named) {
@@ -546,6 +666,155 @@ static PyObject *sorted(PyObject *Py_UNUSED(module), PyObject *args, PyObject *n
 }
 
 /*
+ * newest. A Version is compared by its key where no more than its key and its kind is asked about. Of the other items
+ * the library finds the newest, and that of both is then the newest of all.
+ */
+
+/* What is searched, and for what. */
+struct search {
+  PyObject *items; /* a list that only this call knows */
+  struct range wanted;
+  uint32_t least; /* of the stabilities, or 0 */
+  uint32_t flags; /* of versions_newest */
+  PyTypeObject *keyed; /* the type of the last Version that was met, since is_keyed takes long */
+};
+
+static bool goes_by_key(struct search *search, PyObject *item) {
+  if (search->flags != 0 || search->least != 0) return false;
+  if (Py_TYPE(item) != search->keyed && !PyUnicode_Check(item) && is_keyed(item)) search->keyed = Py_TYPE(item);
+  return Py_TYPE(item) == search->keyed;
+}
+
+/* Finds the newest of the items that go by their keys. *newest stays -1 where there is none. */
+static int find_by_keys(struct search *search, Py_ssize_t *newest) {
+  Py_ssize_t place, count = PyList_Size(search->items);
+
+  for (place = 0; place < count; place++) {
+    PyObject *item = PyList_GetItem(search->items, place);
+    int answer;
+
+    if (!goes_by_key(search, item)) continue;
+    if (*newest >= 0 && order_of_keyed(item, PyList_GetItem(search->items, *newest)) <= 0) continue;
+    answer = match_one(&search->wanted, item);
+    if (answer < 0) return -1;
+    if (answer == 1) *newest = place;
+  }
+  return 0;
+}
+
+/* Gathers the texts of the other items. A missing value becomes a text of no version. */
+static int gather_others(struct search *search, struct gathered *gathered) {
+  Py_ssize_t place, count = PyList_Size(search->items);
+
+  for (place = 0; place < count; place++) {
+    PyObject *item = PyList_GetItem(search->items, place);
+    struct text text = {NOT_UTF8, sizeof NOT_UTF8 - 1};
+
+    if (goes_by_key(search, item)) continue;
+    if (read_item_or_none(item, &text) < 0 || add_text(gathered, &text) < 0) return -1;
+  }
+  return 0;
+}
+
+/* The place of the item whose text is gathered at a place. */
+static Py_ssize_t place_of_other(struct search *search, size_t gathered) {
+  Py_ssize_t place = 0, count = PyList_Size(search->items);
+
+  for (; place < count; place++)
+    if (!goes_by_key(search, PyList_GetItem(search->items, place)) && gathered-- == 0) break;
+  return place;
+}
+
+/* Finds the newest of the texts that are gathered. *newest stays -1 where there is none. */
+static int find_by_texts(struct search *search, const struct gathered *gathered, Py_ssize_t *newest) {
+  struct texts texts = texts_of(gathered);
+  const struct text *list = &search->wanted.list;
+  PyThreadState *thread = let_go_of(&texts);
+  size_t place = 0;
+  int status = versions_newest(texts.bytes, texts.size, texts.offsets, texts.count + 1, list->bytes, list->size,
+                               search->least, search->flags, &place);
+
+  take_again(thread);
+  if (status == VERSIONS_OK) *newest = place_of_other(search, place);
+  if (status == VERSIONS_OK || status == VERSIONS_NO_VERSION) return 0;
+  raise_status(status);
+  return -1;
+}
+
+/* The newer of two items, by their places; the first of two that tie. */
+static PyObject *newer_of(const struct search *search, Py_ssize_t a, Py_ssize_t b) {
+  PyObject *first = PyList_GetItem(search->items, a < b ? a : b);
+  PyObject *second = PyList_GetItem(search->items, a < b ? b : a);
+  int32_t order;
+
+  if (order_of_items(versions_compare, first, second, &order) < 0) return NULL;
+  return order < 0 ? second : first;
+}
+
+/* The newest item of all, which is borrowed; None where there is none. */
+static PyObject *newest_item(struct search *search) {
+  struct gathered gathered = {NULL, 0, 0, NULL, 0, 0};
+  Py_ssize_t by_keys = -1, by_texts = -1;
+  int failed = find_by_keys(search, &by_keys);
+
+  if (failed == 0) failed = gather_others(search, &gathered);
+  if (failed == 0 && gathered.count > 0) failed = find_by_texts(search, &gathered, &by_texts);
+  free_gathered(&gathered);
+  if (failed < 0) return NULL;
+  if (by_keys >= 0 && by_texts >= 0) return newer_of(search, by_keys, by_texts);
+  if (by_keys < 0 && by_texts < 0) return Py_None;
+  return PyList_GetItem(search->items, by_keys < 0 ? by_texts : by_keys);
+}
+
+/* Reads the requirement, which is `*` where none is given. */
+static int read_wanted(PyObject *requirement, struct range *wanted) {
+  PyObject *all;
+  int failed;
+
+  if (requirement != Py_None) return read_range(requirement, wanted);
+  all = PyUnicode_FromString("*");
+  if (all == NULL) return -1;
+  failed = read_range(all, wanted);
+  Py_DECREF(all);
+  return failed;
+}
+
+/* Reads a Stability, or 0 where it is None. */
+static int read_stability(PyObject *object, uint32_t *number) {
+  Py_ssize_t given = object == Py_None ? 0 : PyNumber_AsSsize_t(object, NULL);
+
+  *number = 0;
+  if (object == Py_None) return 0;
+  if (given == -1 && PyErr_Occurred()) return -1;
+  if (given < VERSIONS_DEV || given > VERSIONS_STABLE) {
+    fail(PyExc_ValueError, "stability is one of Stability, and this is %S", object);
+    return -1;
+  }
+  *number = (uint32_t)given;
+  return 0;
+}
+
+static PyObject *newest(PyObject *Py_UNUSED(module), PyObject *args, PyObject *named) {
+  static char *names[] = {"texts", "requirement", "stability", "tags", NULL};
+  PyObject *texts, *requirement = Py_None, *stability = Py_None, *item;
+  struct search search;
+  int tags = 0;
+
+  if (!PyArg_ParseTupleAndKeywords(args, named, "O|OOp:newest", names, &texts, &requirement, &stability, &tags) ||
+      read_stability(stability, &search.least) < 0 || refuse_one(texts) < 0 ||
+      read_wanted(requirement, &search.wanted) < 0)
+    return NULL;
+  search.flags = tags ? VERSIONS_NEWEST_TAGS : 0;
+  search.keyed = NULL;
+  search.items = PySequence_List(texts);
+  item = search.items == NULL ? NULL : newest_item(&search);
+  Py_XINCREF(item);
+  Py_XDECREF(search.items);
+  clear_range(&search.wanted);
+  return item;
+}
+
+/*
  * The module
  */
 
@@ -652,6 +921,46 @@ PyDoc_STRVAR(sorted_doc,
              ">>> versions.sorted([(\"a\", \"1.10\"), (\"b\", \"1.9\")], key=lambda item: item[1])\n"
              "[('b', '1.9'), ('a', '1.10')]\n");
 
+PyDoc_STRVAR(stabilities_doc,
+             "stabilities(texts)\n--\n\n"
+             "How stable each of many versions is, a `Stability`, and None for a text that is not a version.\n"
+             "\n"
+             "`texts` is what `kinds` takes.\n"
+             "\n"
+             ">>> [stable and stable.name for stable in stabilities([\"1.0\", \"1.0rc1\", \"1.0.dev3\", None])]\n"
+             "['STABLE', 'RC', 'DEV', None]\n");
+
+PyDoc_STRVAR(in_tags_doc,
+             "in_tags(texts)\n--\n\n"
+             "The text of the version in each of many tags, as `Version.from_tag` finds it, and None where there is "
+             "none.\n"
+             "\n"
+             "`texts` is what `kinds` takes.\n"
+             "\n"
+             ">>> in_tags([\"v1.2.3\", \"release-1.10\", \"1.9\", \"latest\", None])\n"
+             "['1.2.3', '1.10', '1.9', None, None]\n");
+
+PyDoc_STRVAR(newest_doc,
+             "newest(texts, requirement=None, stability=None, tags=False)\n--\n\n"
+             "The newest of many texts and `Version`s by precedence, the first of those that tie; None where none is "
+             "left.\n"
+             "\n"
+             "The item itself is returned. `texts` is an iterable, in which texts that are not versions and missing "
+             "values, as\n"
+             "`kinds` has them, are passed over. So are versions that the `requirement` doesn't match, a `Requirement` "
+             "or a text,\n"
+             "and versions that are less stable than a `stability`. With `tags`, a text has its version as "
+             "`Version.from_tag`\n"
+             "finds it, and the text of a `Version` counts as a tag too. `InvalidRequirement` where the text is not a "
+             "requirement.\n"
+             "\n"
+             ">>> newest([\"1.9\", \"1.10\", \"2.0rc1\", \"x y\", None])\n"
+             "'2.0rc1'\n"
+             ">>> newest([\"v1.10.0\", \"v2.0.0-beta.1\", \"v2.0.0\"], \"<2\", tags=True)\n"
+             "'v1.10.0'\n"
+             ">>> newest([\"1.9\", \"1.10\", \"2.0rc1\"], stability=Stability.STABLE)\n"
+             "'1.10'\n");
+
 static PyMethodDef functions[] = {
     {"kind", NAMED(kind), METH_VARARGS | METH_KEYWORDS, kind_doc},
     {"sort_key", NAMED(sort_key), METH_VARARGS | METH_KEYWORDS, sort_key_doc},
@@ -660,11 +969,16 @@ static PyMethodDef functions[] = {
     {"kinds", NAMED(kinds), METH_VARARGS | METH_KEYWORDS, kinds_doc},
     {"sort_keys", NAMED(sort_keys), METH_VARARGS | METH_KEYWORDS, sort_keys_doc},
     {"match_all", NAMED(match_all), METH_VARARGS | METH_KEYWORDS, match_all_doc},
+    {"stabilities", NAMED(stabilities), METH_VARARGS | METH_KEYWORDS, stabilities_doc},
+    {"in_tags", NAMED(in_tags), METH_VARARGS | METH_KEYWORDS, in_tags_doc},
+    {"newest", NAMED(newest), METH_VARARGS | METH_KEYWORDS, newest_doc},
     {"sorted", NAMED(sorted), METH_VARARGS | METH_KEYWORDS, sorted_doc},
     {"nth", nth, METH_VARARGS, NULL},
     {"epoch", epoch, METH_O, NULL},
     {"field", field, METH_VARARGS, NULL},
     {"is_prerelease", is_prerelease, METH_O, NULL},
+    {"in_tag", in_tag, METH_VARARGS, NULL},
+    {"stability", stability, METH_O, NULL},
     {"wrong_member", wrong_member, METH_O, NULL},
     {NULL, NULL, 0, NULL},
 };
@@ -676,7 +990,9 @@ static const struct {
     {"PRE_RELEASE", VERSIONS_FIELD_PRE_RELEASE}, {"RELEASE", VERSIONS_FIELD_RELEASE},
     {"METADATA", VERSIONS_FIELD_METADATA},       {"IDEAL", VERSIONS_RANGE_IDEAL},
     {"GENERAL", VERSIONS_RANGE_GENERAL},         {"COMPLEX", VERSIONS_RANGE_COMPLEX},
-    {"EXACT", VERSIONS_RANGE_EXACT},
+    {"EXACT", VERSIONS_RANGE_EXACT},             {"DEV", VERSIONS_DEV},
+    {"ALPHA", VERSIONS_ALPHA},                   {"BETA", VERSIONS_BETA},
+    {"RC", VERSIONS_RC},                         {"STABLE", VERSIONS_STABLE},
 };
 
 /* Adds a type of a specification, and gives its reference away. */

@@ -101,6 +101,9 @@ void *allocated(size_t count, size_t size);
 
 PyThreadState *let_go_of(const struct texts *texts);
 
+/* The text of a Version, and any other object as it is; borrowed. */
+PyObject *text_of(PyObject *object);
+
 /* Reads the text of a str or of a Version. */
 int read_item(PyObject *item, struct text *text);
 
@@ -149,12 +152,18 @@ PyObject *key_of(PyObject *object, uint8_t *kind);
 int read_range(PyObject *object, struct range *range);
 void clear_range(struct range *range);
 
+/* Whether a version matches, a Version or a text: 0 or 1; 2 for a text that is not a version. */
+int match_one(const struct range *range, PyObject *version);
+
 /* Writes for each of many texts whether it matches: 0, 1, or 2 if it is not a version. */
 int match_texts(const struct range *range, const struct texts *texts, uint8_t *answers);
 
 /* Whether an object is a Version, and the text of one, which is borrowed. */
 bool is_keyed(PyObject *object);
 PyObject *keyed_text(PyObject *keyed);
+
+/* Below, equal to or above 0 as the key of one Version is below, equal to or above that of another. */
+int order_of_keyed(PyObject *a, PyObject *b);
 
 /* The types Keyed and Ranged. */
 extern PyType_Spec keyed_spec, ranged_spec;
@@ -166,7 +175,7 @@ extern PyType_Spec keyed_spec, ranged_spec;
 /* A call on many texts: `ask` appends its answers about `texts` to `answers`. */
 struct call {
   int (*ask)(const struct call *call, const struct texts *texts, PyObject *answers);
-  PyObject *const *kinds;     /* the answers of kinds, by the number of a kind */
+  PyObject *const *meanings;  /* the answers of kinds and stabilities, by their numbers */
   const struct range *wanted; /* the requirement of match_all */
 };
 

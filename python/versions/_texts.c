@@ -179,9 +179,11 @@ static int is_missing(PyObject *item) {
   return answer == 1 ? is_nan(item) : answer;
 }
 
-int read_item(PyObject *item, struct text *text) {
-  return read_text(!PyUnicode_Check(item) && is_keyed(item) ? keyed_text(item) : item, text);
+PyObject *text_of(PyObject *object) {
+  return !PyUnicode_Check(object) && is_keyed(object) ? keyed_text(object) : object;
 }
+
+int read_item(PyObject *item, struct text *text) { return read_text(text_of(item), text); }
 
 int read_item_or_none(PyObject *item, struct text *text) {
   if (!PyUnicode_Check(item) && !is_keyed(item)) {

@@ -159,11 +159,13 @@ bool is_keyed(PyObject *object) { return is_made_by(object, keyed_dealloc); }
 
 PyObject *keyed_text(PyObject *keyed) { return ((struct keyed *)keyed)->text; }
 
+int order_of_keyed(PyObject *a, PyObject *b) { return order_of(&((struct keyed *)a)->key, &((struct keyed *)b)->key); }
+
 static PyObject *keyed_compare(PyObject *self, PyObject *other, int how) {
   int order;
 
   if (Py_TYPE(self) != Py_TYPE(other) && !is_keyed(other)) Py_RETURN_NOTIMPLEMENTED;
-  order = order_of(&((struct keyed *)self)->key, &((struct keyed *)other)->key);
+  order = order_of_keyed(self, other);
   Py_RETURN_RICHCOMPARE(order, 0, how);
 }
 
@@ -387,8 +389,7 @@ int read_range(PyObject *object, struct range *range) {
   return 0;
 }
 
-/* Whether a version matches, a Version or a text: 0 or 1; 2 for a text that is not a version. */
-static int match_one(const struct range *range, PyObject *version) {
+int match_one(const struct range *range, PyObject *version) {
   struct text text;
   bool answer = false;
   int status;

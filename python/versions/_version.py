@@ -2,12 +2,43 @@
 
 from __future__ import annotations
 
-from typing import Literal, Optional
+import enum
+from typing import TYPE_CHECKING, Literal, Optional, Union
 
 from . import _library
 from ._value import Value
 
+if TYPE_CHECKING:
+    from typing_extensions import Self
+
 Kind = Literal["ideal", "general", "complex"]
+
+
+class Stability(enum.IntEnum):
+    """How stable a version is, from DEV up to STABLE, by the words that stand in it: by habit, not by SemVer 2.0.
+
+    >>> Stability.DEV < Stability.ALPHA < Stability.BETA < Stability.RC < Stability.STABLE
+    True
+    >>> str(Stability.BETA)
+    'beta'
+    """
+
+    DEV = _library.DEV
+    ALPHA = _library.ALPHA
+    BETA = _library.BETA
+    RC = _library.RC
+    STABLE = _library.STABLE
+
+    def __str__(self) -> str:
+        return self.name.lower()
+
+    def __format__(self, spec: str) -> str:
+        # That of IntEnum formats the number in some versions of Python, and the name in others.
+        return format(str(self), spec)
+
+
+# What `_library.stabilities` answers, by the numbers of the library.
+STABILITIES = (None, *Stability)
 
 
 class Version(Value, _library.Keyed):
@@ -34,6 +65,26 @@ class Version(Value, _library.Keyed):
 
     __slots__ = ("__weakref__",)
 
+    @classmethod
+    def from_tag(cls, tag: Union[str, Version], prefix: Optional[str] = None) -> Self:
+        """The version in a tag of git, or in another name of a release. `InvalidVersion` where there is none.
+
+        It begins at the first digit that is at the beginning, or after a sign, or after one `v` or `V` that is at the
+        beginning or after a sign. A sign is a character that is neither a letter or digit of ASCII nor a dot. There is
+        none where a dot between two digits comes before that place.
+
+        With a `prefix`, the tag has to begin with it, and the version follows it, or one `v` or `V` after it.
+
+        >>> [str(Version.from_tag(tag)) for tag in ("v1.2.3", "release-1.2.3", "refs/tags/v1.2.3", "k8s-v1.25")]
+        ['1.2.3', '1.2.3', '1.2.3', '1.25']
+        >>> Version.from_tag("go1.20.3", prefix="go")
+        Version('1.20.3')
+        >>> Version.from_tag("go1.20.3")
+        Traceback (most recent call last):
+        versions.InvalidVersion: not a version: 'go1.20.3'
+        """
+        return cls(_library.in_tag(tag, prefix))
+
     @property
     def is_ideal(self) -> bool:
         """Whether it is strict, as SemVer 2.0 describes it: of the kind "ideal"."""
@@ -57,6 +108,19 @@ class Version(Value, _library.Keyed):
         (True, False, False)
         """
         return _library.is_prerelease(self._text)
+
+    @property
+    def stability(self) -> Stability:
+        """How stable it is, by the words that stand in it, as `snapshot`, `alpha` and `rc`. The lowest of them counts.
+
+        A word is a whole run of letters, upper or lower case. Metadata of strict and general versions doesn't count.
+
+        >>> Version("1.0-SNAPSHOT").stability.name, Version("2.0.0-beta.1").stability.name
+        ('DEV', 'BETA')
+        >>> Version("1.5.0-1ubuntu1").stability is Stability.STABLE, Version("1.0rc1").stability >= Stability.BETA
+        (True, True)
+        """
+        return Stability(_library.stability(self._text))
 
     @property
     def pre_release(self) -> Optional[str]:

@@ -1,0 +1,386 @@
+"""What people ask of versions beside their order: the version in a tag, how stable one is, and the newest of many."""
+
+import copy
+import inspect
+import pickle
+import random
+import unittest
+
+import arrow
+import versions
+from lists import LongLists
+from versions import InvalidRequirement, InvalidVersion, Requirement, Stability, Version
+
+# Tags, and the version in each.
+TAGS = {
+    **dict.fromkeys(("v1.2.3", "V1.2.3", "1.2.3", "release-1.2.3", "refs/tags/v1.2.3"), "1.2.3"),
+    **dict.fromkeys(("pkg@1.2.3", "@a/b@1.2.3"), "1.2.3"),
+    **{"log4j-2.17.1": "2.17.1", "k8s-v1.25": "1.25", "OpenSSL_1_1_1k": "1_1_1k", "wine-8.0-rc1": "8.0-rc1"},
+    **{"jdk-17.0.2+8": "17.0.2+8", "1:2.0-3": "1:2.0-3", "v01.2.3": "01.2.3", "release/2023.01.02": "2023.01.02"},
+    **{"版本1.2": "1.2", "é1.2": "1.2", "é-v1.2": "1.2", "\0v1.2": "1.2", "a b\n1.2": "1.2"},
+    **dict.fromkeys(("go1.20.3", "n6.0", "x1.0-2", "vv1.0", "v.1.2", "latest", "v", "name-v1..2", "jdk8u292-b10")),
+    **dict.fromkeys(("", ".1", "-", "-v", "x-1.2 ", "1.2\0", "v1.2é", "版本", "\ud800", "\ud8001.2", "v1.2\udcff")),
+}
+# Tags with a prefix, and the version in each.
+PREFIXED = {
+    **{("go1.20.3", "go"): "1.20.3", ("go-v1.2", "go-"): "1.2", ("2ping-4.5", "2ping-"): "4.5"},
+    **{("v1.2", ""): "1.2", ("1.2", ""): "1.2", ("vv1.2", "v"): "1.2", ("x1.0V2", "x1.0"): "2"},
+    **{("版本v1.2", "版本"): "1.2", ("a\x001.2", "a\0"): "1.2"},
+    **dict.fromkeys((("1.2", "go"), ("Go1.2", "go"), ("go", "go"), ("gov", "go"), ("go-1.2", "go"), ("r-1.2", ""))),
+    **dict.fromkeys((("govv1.2", "go"), ("g", "go"), ("", ""), ("", "go"), ("go1..2", "go"), ("x1.2", "\ud800"))),
+    **dict.fromkeys((("\ud800", "\ud800"), ("\ud8001.2", "\ud800"), ("1.2", "\udcff"), ("é1.2", "\xc3"))),
+}
+STABLE = "1.0 1.1.1k 1.0.Final 1.0.post1 1.2.3-5 1.2.3-r0 1.5.0-1ubuntu1 1.2.3+rc1 1.2-3+b1 0.1.1+git1-1"
+LESS_STABLE = {
+    Stability.DEV: "1.0-SNAPSHOT 1.0.dev3 v1.0-nightly 1.0-beta-dev 1.2.0~DEVEL+20220331-1",
+    Stability.ALPHA: "1.0a1 2.0-M1 1.0preview3 1.0.0-alpha.beta 1.2.3-x.y 1.0.0--x",
+    Stability.BETA: "2.0.0-beta.1 1.0b2 3.0~beta1-2",
+    Stability.RC: "1.0rc1 1.0.0-rc.1 1.0c1 1.0CR2 1_0rc1+b1",
+    Stability.STABLE: f"{STABLE} 0.0~git20170716.74609b8-1.1",
+}
+RATED = {text: stability for stability, texts in LESS_STABLE.items() for text in texts.split()}
+
+
+class Evil(str):
+    def answer(self, *_):
+        return b"9.9.9" * 1000
+
+    encode = __str__ = __repr__ = __format__ = __iter__ = __getitem__ = __hash__ = answer
+
+    def __len__(self):
+        return 10**6
+
+    def __eq__(self, other):
+        return True
+
+
+class Mine(Version):
+    """Whose attributes and texts are others."""
+
+    def __str__(self):
+        return "9.9"
+
+    __repr__ = __format__ = __str__
+    kind = key = _text = None
+
+
+class Tags(unittest.TestCase):
+    def assertNone(self, named, *given, **more):
+        with self.assertRaises(InvalidVersion) as raised:
+            Version.from_tag(*given, **more)
+        self.assertEqual((raised.exception.text, type(raised.exception.text)), (named, str))
+
+    def test_tags(self):
+        for tag, text in TAGS.items():
+            with self.subTest(tag=tag):
+                if text is None:
+                    self.assertNone(tag, tag)
+                    continue
+                for given in ((tag,), (tag, None)):
+                    version = Version.from_tag(*given)
+                    self.assertEqual((str(version), version.key), (text, versions.sort_key(text)))
+
+    def test_prefixes(self):
+        for (tag, prefix), text in PREFIXED.items():
+            with self.subTest(tag=tag, prefix=prefix):
+                if text is None:
+                    self.assertNone(tag, tag, prefix)
+                else:
+                    self.assertEqual(str(Version.from_tag(tag, prefix)), text)
+                    self.assertEqual(str(Version.from_tag(prefix=prefix, tag=tag)), text)
+
+    def test_a_subclass_has_its_versions(self):
+        class Named(Version):
+            def __new__(cls, text, name="x"):
+                return super().__new__(cls, text)
+
+        for of in (Named, Mine, Version):
+            version = of.from_tag("v1.2")
+            self.assertIs(type(version), of)
+            self.assertEqual(Version(version), Version("1.2"))
+            self.assertIs(type(of("1.0").from_tag("go1.2", "go")), of)
+
+    def test_a_version_is_taken_for_its_text(self):
+        for of in (Version, Mine):
+            self.assertEqual(str(Version.from_tag(of("v1.2"))), "1.2")
+            self.assertEqual(str(Version.from_tag(of("go1.2"), "go")), "1.2")
+            self.assertNone("go1.2", of("go1.2"))
+
+    def test_a_subclass_of_str_is_its_text(self):
+        self.assertEqual(str(Version.from_tag(Evil("v1.2"))), "1.2")
+        self.assertEqual(str(Version.from_tag(Evil("go1.2"), Evil("go"))), "1.2")
+        self.assertNone("go1.2", Evil("go1.2"))
+        self.assertNone("v1.2", Evil("v1.2"), Evil("go"))
+
+    def test_what_is_no_text(self):
+        for other in (None, 1.2, b"v1.2", Requirement("*"), float("nan"), ["v1.2"]):
+            named = f"a text is a str, and this is of type {type(other).__name__}"
+            self.assertRaisesRegex(TypeError, named, Version.from_tag, other)
+            if other is not None:
+                self.assertRaisesRegex(TypeError, named, Version.from_tag, "v1", other)
+        self.assertRaises(TypeError, Version.from_tag)
+        self.assertRaises(TypeError, Version.from_tag, "v1", Version("1"))
+
+    def test_long(self):
+        ten = 10_000_000
+        for front in ("-" * ten, "v" * ten + "-", "v-" * (ten // 2), "a.b-" * (ten // 4), "é" * ten):
+            self.assertEqual(str(Version.from_tag(front + "1.2")), "1.2")
+            self.assertEqual(str(Version.from_tag(front + "v1.2", front)), "1.2")
+            self.assertEqual(versions.in_tags([front + "1.2", front]), ["1.2", None])
+        for tag in ("-1" * (ten // 2) + " ", "a1.0-" * (ten // 5), "." * ten + "1", "1." * (ten // 2)):
+            self.assertEqual(versions.in_tags([tag]), [None])
+            self.assertRaises(InvalidVersion, Version.from_tag, tag)
+        long = "1." * 1_000_000 + "1"
+        self.assertEqual(str(Version.from_tag("v" + long)), long)
+        self.assertEqual(versions.in_tags(["x-" + long, "v" + long]), [long, long])
+
+
+class Stabilities(unittest.TestCase):
+    def test_stabilities(self):
+        for text, stability in RATED.items():
+            with self.subTest(text=text):
+                self.assertIs(Version(text).stability, stability)
+        self.assertEqual(versions.stabilities(RATED), list(RATED.values()))
+        self.assertEqual(versions.stabilities(map(Version, RATED)), list(RATED.values()))
+
+    def test_they_are_ordered(self):
+        members = list(Stability)
+        self.assertEqual([member.name for member in members], ["DEV", "ALPHA", "BETA", "RC", "STABLE"])
+        self.assertEqual(sorted(reversed(members)), members)
+        self.assertEqual([int(member) for member in members], [1, 2, 3, 4, 5])
+        self.assertTrue(Version("1.0rc1").stability >= Stability.BETA > Version("1.0a1").stability)
+        self.assertEqual([str(member) for member in members], ["dev", "alpha", "beta", "rc", "stable"])
+        self.assertEqual(f"{Stability.RC}|{Stability.RC:>4}|{Stability.RC!s}", "rc|  rc|rc")
+
+    def test_they_are_values(self):
+        self.assertEqual(Stability.__module__, "versions")
+        for member in Stability:
+            for protocol in range(pickle.HIGHEST_PROTOCOL + 1):
+                pickled = pickle.dumps(member, protocol)
+                self.assertIs(pickle.loads(pickled), member)
+                self.assertNotIn(b"_version", pickled)
+            self.assertIs(copy.deepcopy(member), member)
+            self.assertIs(Stability(int(member)), Stability[member.name])
+        self.assertRaises(AttributeError, setattr, Version("1.2"), "stability", Stability.DEV)
+
+    def test_long(self):
+        word, many = "a" * 10_000_000, 5_000_000
+        for text, stability in ((word, 5), ("1.0.0-" + word, 2), ("1_" * many + "dev", 1), ("b." * many + "rc1", 4)):
+            self.assertIs(Version(text).stability, Stability(stability))
+            self.assertEqual(versions.stabilities([text, text + " "]), [Stability(stability), None])
+
+
+class Columns(LongLists):
+    TEXTS = ["v1.2.3", None, "1.0rc1", "go1.2", float("nan"), "", "1..2", "\ud800", Version("v2.0-M1"), Evil("1_2dev")]
+    VERSIONS = ["1.2.3", None, "1.0rc1", None, None, None, None, None, "2.0-M1", "1_2dev"]
+    # `v1.2.3` and `go1.2` are versions too.
+    RATES = [5, None, 4, 5, None, None, None, None, 2, 1]
+
+    def test_of_every_kind_of_item(self):
+        for texts in (self.TEXTS, tuple(self.TEXTS), iter(self.TEXTS), (text for text in self.TEXTS)):
+            self.assertEqual(versions.in_tags(texts), self.VERSIONS)
+        for texts in (self.TEXTS, iter(self.TEXTS)):
+            found = versions.stabilities(texts)
+            self.assertEqual(found, self.RATES)
+            self.assertEqual({type(each) for each in found}, {Stability, type(None)})
+        self.assertEqual({type(each) for each in versions.in_tags(self.TEXTS)}, {str, type(None)})
+
+    def test_of_arrow(self):
+        texts = [text if text is None else text.encode("utf-8", "surrogatepass") for text in TAGS]
+        texts[3:3] = [None, b"\xff-v1.2", b"v1.2\xff", b""]
+        wanted = list(TAGS.values())
+        wanted[3:3] = [None, "1.2", None, None]
+        # The bytes of a lone surrogate are a sign to the library, as other bytes past ASCII are.
+        wanted = ["1.2" if text == b"\xed\xa0\x801.2" else version for text, version in zip(texts, wanted)]
+        rated = [*map(str.encode, RATED), None, b"", b"\xff"]
+        for of, format in ((arrow.Array, b"u"), (arrow.Array, b"Z"), (arrow.Views, b"vu"), (arrow.Views, b"vz")):
+            self.assertEqual(versions.in_tags(of(texts, format)), wanted)
+            for first in range(0, len(texts), 7):
+                chunks = of(texts, format, 0, first), of(texts, format, first)
+                self.assertEqual(versions.in_tags(arrow.Stream(*chunks, format=format)), wanted)
+            self.assertEqual(versions.stabilities(of(rated, format)), [*RATED.values(), None, None, None])
+        for call in (versions.in_tags, versions.stabilities):
+            self.assertEqual((call(arrow.Array([])), call(arrow.Stream())), ([], []))
+            self.assertRaisesRegex(TypeError, "format l", call, arrow.Array([b"1"], b"l"))
+
+    def test_no_texts_and_what_is_none(self):
+        for call in (versions.in_tags, versions.stabilities):
+            for empty in ([], (), iter(()), {}):
+                self.assertEqual(call(empty), [])
+            self.assertEqual(call([None, ""]), [None, None])
+            self.assertEqual(call(texts=[None]), [None])
+            for one in ("v1.2", b"v1.2"):
+                self.assertRaisesRegex(TypeError, "many texts are wanted", call, one)
+            for other in (5, None, Version("1"), Requirement("*")):
+                self.assertRaises(TypeError, call, other)
+                if other is not None and not isinstance(other, Version):
+                    self.assertRaises(TypeError, call, ["v1.2", other])
+            self.assertRaises(TypeError, call)
+            self.assertEqual(str(inspect.signature(call)), "(texts)")
+
+    def test_a_million(self):
+        texts = [f"v{n % 7}.{n}" + "rc1" * (n % 3 == 0) if n % 10 else "x" for n in range(1_000_000)]
+        self.assertAlike(versions.in_tags(texts), [text[1:] or None for text in texts])
+        rates = [Stability.RC if n % 10 and n % 3 == 0 else Stability.STABLE for n in range(1_000_000)]
+        self.assertAlike(versions.stabilities(texts), rates)
+
+
+# Of one key, and of increasing ones, by docs/ORDER.md.
+LEVEL = ["1.2", "01.2", "0:1.2", "1.2+x", "1.002"]
+INCREASING = "abc.0 0.0 1a.0 1.2.git 1.2 1.2.0-rc.1 1.2.0 1.2.3rc9 1.2.3rc10 1.2.3 1:0.1".split()
+
+
+def newest_by_model(items, requirement=None, stability=None, tags=False):
+    """By the calls on one version, and by comparisons of Python."""
+    newest = of_newest = None
+    for item in items:
+        text = item if isinstance(item, str) else Version(item) if isinstance(item, Version) else ""
+        try:
+            version = Version.from_tag(text) if tags else Version(text)
+        except InvalidVersion:
+            continue
+        if requirement is not None and version not in Requirement(str(requirement)):
+            continue
+        if stability is not None and version.stability < stability:
+            continue
+        if newest is None or version > of_newest:
+            newest, of_newest = item, version
+    return newest
+
+
+class Newest(LongLists):
+    def test_newest(self):
+        newest, tags = versions.newest, ["v1.9.0", "v1.10.0", "v2.0.0-beta.1", "latest", "v2.0.0", "v2.1.0-rc.1"]
+        self.assertEqual(newest(tags, tags=True), "v2.1.0-rc.1")
+        self.assertEqual(newest(tags, tags=True, stability=Stability.STABLE), "v2.0.0")
+        self.assertEqual(newest(tags, "<2", Stability.STABLE, True), "v1.10.0")
+        self.assertEqual(newest(tags, requirement="<2", tags=True), "v1.10.0")
+        self.assertEqual(newest(texts=tags, requirement=Requirement(">=3"), tags=True), None)
+        # As texts and not as tags, by docs/ORDER.md.
+        self.assertEqual(newest(["v2.0.0", "v2.0.0-beta.1", "v1.9.0"]), "v2.0.0-beta.1")
+        self.assertEqual(newest(["go1.2", "go1.3"], tags=True), None)
+        self.assertEqual(newest(["1.10", "1.9", "1.10rc1"]), "1.10")
+        self.assertEqual(newest(["1.10-SNAPSHOT", "1.9b1"], stability=Stability.BETA), "1.9b1")
+        self.assertEqual(newest(["1.10", "1.9"], None, None, False), "1.10")
+
+    def test_the_order_of_two(self):
+        for i, a in enumerate(INCREASING):
+            for j, b in enumerate(INCREASING):
+                for one, two in ((a, b), (Version(a), b), (a, Version(b)), (Version(a), Version(b))):
+                    self.assertIs(versions.newest([one, two]), one if i >= j else two, (one, two))
+
+    def test_the_first_of_those_that_tie(self):
+        chosen = random.Random(1)
+        for _ in range(500):
+            tied = chosen.choices(LEVEL, k=chosen.randrange(1, 6))
+            items = [chosen.choice((str, Version, Mine))(text) for text in tied]
+            more = [*map(chosen.choice((str, Version)), INCREASING[:4]), None, "x y"]
+            chosen.shuffle(more)
+            place = chosen.randrange(len(more) + 1)
+            for given in (items, more[:place] + items, [*more[:place], *items, *more[place:]]):
+                self.assertIs(versions.newest(iter(given)), items[0])
+                self.assertIs(versions.newest(given, ">=1.2"), items[0])
+
+    def test_none_is_left(self):
+        for texts in ([], (), iter(()), {}, [None], ["x y", ""], [float("nan")], ["\ud800", "1..2"]):
+            for more in ({}, {"tags": True}, {"requirement": "*"}, {"stability": Stability.DEV}):
+                self.assertIsNone(versions.newest(texts, **more))
+        for texts in (["1.2"], [Version("1.2")], ["1.2", Version("1.3")]):
+            self.assertIsNone(versions.newest(texts, ">2"))
+            self.assertIsNone(versions.newest(texts, "<1.3,>1.2.9", tags=True))
+            # No range is exact here.
+            self.assertIsNone(versions.newest(texts, "=0:1.2"))
+            self.assertIsNone(versions.newest(["1.2-dev", Version("1.2-rc")], stability=Stability.STABLE))
+
+    def test_requirements_whose_range_is_exact_and_others(self):
+        items = [make(text) for text in ("1.2", "1.2.3", "0:1.2", "1.5", "1.2.9", "2.0") for make in (Version, str)]
+        wanted = {"^1.2.3": "1.2.9", "~1.2": "1.5", "=1.2": "1.2", "=0:1.2": "0:1.2", "<1.5": "1.2.9", "*": "2.0"}
+        for requirement, text in wanted.items():
+            for of in (str, Requirement):
+                for given in (items, items[::-1], items[::2], items[1::2]):
+                    found = versions.newest(given, of(requirement))
+                    self.assertIs(found, next(item for item in given if str(item) == text), (requirement, given))
+
+    def test_beside_a_model(self):
+        chosen = random.Random(2)
+        tags = [tag for tag in TAGS if len(tag) < 20]
+        plain = [*INCREASING, *LEVEL, *RATED, "x y", "", "\ud800"]
+        nan = float("nan")
+        requirements = [None, None, "*", ">=1", "<1.2.3", "^1.2.0", "~1.2", "=1.2", "=0:1.2", ">=1.2,<1:0", "<0"]
+        found_some = 0
+        for n in range(6000):
+            texts = chosen.choices(tags if n % 2 else plain + tags, k=chosen.randrange(9))
+            items = [Version(t) if chosen.random() < 0.5 and versions.kind(t) else t for t in texts]
+            items[1:1] = chosen.choices([None, nan, "1.0"], k=chosen.randrange(2))
+            requirement = chosen.choice(requirements)
+            how = chosen.choice([None, None, None, *Stability]), chosen.random() < 0.4
+            wanted = newest_by_model(items, requirement, *how)
+            self.assertIs(versions.newest(items, requirement, *how), wanted, (items, requirement, how))
+            if requirement is not None:
+                self.assertIs(versions.newest(iter(items), Requirement(requirement), *how), wanted)
+            found_some += wanted is not None
+        self.assertGreater(found_some, 2000)
+
+    def test_items_of_subclasses(self):
+        evil, mine = Evil("v1.3"), Mine("1.2")
+        self.assertIs(versions.newest([evil, mine, Mine("1.1")]), mine)
+        self.assertIs(versions.newest([evil, mine], tags=True), evil)
+        self.assertIs(versions.newest([Evil("1.3"), mine], "<=1.2"), mine)
+        self.assertRaises(TypeError, versions.newest, evil)
+
+    def test_what_is_wrong(self):
+        for one in ("1.2", b"1.2"):
+            self.assertRaisesRegex(TypeError, "many texts are wanted", versions.newest, one)
+        for other in (5, None, Version("1"), Requirement("*"), arrow.Array([b"1.2"])):
+            self.assertRaises(TypeError, versions.newest, other)
+        for other in (5, 1.2, b"1", Requirement("*"), ["1"]):
+            for texts in ([other], ["1.2", other], [Version("9"), other], iter([None, other])):
+                self.assertRaises(TypeError, versions.newest, texts)
+        for wrong in ("1.2", "", ">= 1", "^\ud800"):
+            for texts in ([], ["1.2"], [5]):
+                with self.assertRaises(InvalidRequirement) as raised:
+                    versions.newest(texts, wrong)
+                self.assertEqual(raised.exception.text, wrong)
+        for wrong in (5, b"*", Version("1"), ["*"]):
+            self.assertRaises(TypeError, versions.newest, [], wrong)
+        for wrong in (0, 6, -1, 10**30, -(10**30)):
+            words = f"stability is one of Stability, and this is {wrong}$"
+            self.assertRaisesRegex(ValueError, words, versions.newest, [], None, wrong)
+        for wrong in ("beta", 1.0, b"", Version("1")):
+            self.assertRaises(TypeError, versions.newest, [], None, wrong)
+        for wrong in ((), ([], None, None, False, None)):
+            self.assertRaises(TypeError, versions.newest, *wrong)
+        self.assertRaises(TypeError, versions.newest, [], key=str)
+        signature = "(texts, requirement=None, stability=None, tags=False)"
+        self.assertEqual(str(inspect.signature(versions.newest)), signature)
+
+    def test_what_fails_midway(self):
+        def midway():
+            yield "1.2"
+            raise OSError("midway")
+
+        class NoTruth:
+            def __bool__(self):
+                raise OSError("mine")
+
+        self.assertRaisesRegex(OSError, "midway", versions.newest, midway())
+        self.assertRaisesRegex(OSError, "mine", versions.newest, ["1"], tags=NoTruth())
+
+    def test_a_million(self):
+        texts = [f"{n % 7}.{n % 1000}.{n}" if n % 10 else "1..2" for n in range(1_000_000)]
+        in_order = sorted((tuple(map(int, text.split("."))), text) for text in texts if text != "1..2")
+        wanted = in_order[-1][1]
+        self.assertEqual(versions.newest(texts), wanted)
+        self.assertEqual(versions.newest(["v" + text for text in texts], tags=True), "v" + wanted)
+        below = [text for numbers, text in in_order if numbers < (3,)]
+        self.assertEqual(versions.newest(texts, "<3"), below[-1])
+        some = [Version(text) for text in texts[1:200_000:3] if text != "1..2"]
+        self.assertIs(versions.newest(some), max(some))
+
+    def test_long(self):
+        long = "1_" * 500_000 + "1"
+        for texts in ([long, "x y", "1"], ["1", Version(long)], [Version("1"), long], ["\0" * 1_000_000, long]):
+            self.assertEqual(versions.newest(map(str, texts)), long)
+            self.assertEqual(str(versions.newest(texts)), long)
+            self.assertEqual(str(versions.newest(texts, f">={long}")), long)
+
