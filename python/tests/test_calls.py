@@ -568,6 +568,8 @@ class Threads(unittest.TestCase):
             "from_tag": lambda: versions.Version.from_tag("-" * 3_000_000 + "1"),
             "from_tag with a prefix": lambda: versions.Version.from_tag("-" * 3_000_000 + "1", "-" * 3_000_000),
             "stability": lambda: version.stability,
+            "difference": lambda: version.difference(long),
+            "next": lambda: version.next(3_000_000),
             "metadata": lambda: version.metadata,
             "matches": lambda: wanted.matches(long),
             "matches by an exact range": lambda: strict.matches(long),
@@ -610,7 +612,8 @@ class Package(unittest.TestCase):
                 self.assertNotIn(b"_library", pickled)
         for name in ("kind", "sort_key", "compare", "compare_total", "match_all"):
             self.assertIsInstance(getattr(versions, name), types.BuiltinFunctionType)
-        for name in ("Version", "Requirement", "Range", "Stability", "InvalidVersion", "InvalidRequirement"):
+        errors = "InvalidVersion", "InvalidRequirement"
+        for name in ("Version", "Requirement", "Range", "Stability", "Difference", "DifferenceKind", *errors):
             self.assertEqual(getattr(versions, name).__module__, "versions")
 
     def test_version_is_that_of_the_header_and_of_the_distribution(self):

@@ -80,6 +80,8 @@ class FakeLibrary(WithFolder):
             "in_tag": lambda: module.in_tag("1", None),
             "in_tag after a prefix": lambda: module.in_tag("1", "v"),
             "stability": lambda: module.stability("1"),
+            "difference": lambda: module.difference(version, "1"),
+            "next": lambda: module.next("1", 0),
             "Ranged": lambda: module.Ranged("*"),
             "matches": lambda: wanted.matches(version),
             "matches a text": lambda: wanted.matches("1.2"),
@@ -103,6 +105,7 @@ class FakeLibrary(WithFolder):
                     self.assertRaisesRegex(RuntimeError, f"returned status {status}$", call)
         self.set(status=7)
         self.assertRaisesRegex(RuntimeError, "returned status 7$", module.sort_key, "1")
+        self.assertRaisesRegex(RuntimeError, "returned status 7$", module.next, "1", 0)
         self.set(type=ctypes.c_size_t, bound_len=600)
         self.assertRaisesRegex(RuntimeError, "returned status 7$", module.Ranged, "*")
         self.set(status=0, number=9)
@@ -196,6 +199,14 @@ CALLS = {
     "in_tag after another prefix": partial(library.in_tag, versions.Version("go1.2"), "x"),
     "stability": partial(library.stability, "1.2.3-1"),
     "stability of no version": partial(library.stability, "1..3"),
+    "difference": partial(library.difference, PLAIN, "1.3"),
+    "difference of no version": partial(library.difference, PLAIN, "1..3"),
+    "difference of no text": partial(library.difference, PLAIN, 3),
+    "next": partial(library.next, "1.2.3", 1),
+    "next, long": partial(library.next, "1." * 2000 + "1", 0),
+    "next of none": partial(library.next, "1.2rc1", 0),
+    "next of no version": partial(library.next, "1..2", 0),
+    "next below 0": partial(library.next, "1.2", -1),
     "kind of a Version": partial(operator.attrgetter("kind"), PLAIN),
     "call of kind with a Version": partial(versions.kind, PLAIN),
     "sort_key of a Version": partial(versions.sort_key, PLAIN),
@@ -268,6 +279,7 @@ PYTHON_CALLS = {
     "parts": lambda: (EPOCH.epoch, EPOCH.major, EPOCH.is_prerelease, EPOCH.kind, EPOCH.release, repr(EPOCH)),
     "pickle": lambda: pickle.loads(pickle.dumps(MINE("1.2").__reduce__()[:2][1])),
     "pickle of slots": lambda: pickle.loads(pickle.dumps(SLOTTED)).place,
+    "what changed": lambda: (str(PLAIN.difference("1.3")), PLAIN.difference(EPOCH), PLAIN.next(0), PLAIN.next(9)),
     "tags": lambda: (versions.Version.from_tag("v1.2"), MINE.from_tag("go1.2", "go").stability),
     "range": lambda: (WANTED.range, pickle.loads(pickle.dumps(WANTED)).low, WANTED == STRICT, hash(WANTED)),
     "kinds of what fails": failing_midway,
@@ -384,6 +396,9 @@ class Allocations(WithFolder):
                 lambda: versions.kinds([*inputs, None]),
                 lambda: versions.sort_keys([*inputs, None]),
                 lambda: versions.match_all("*", [*inputs, None]),
+                lambda: (plain.difference(text), plain.difference(mine), plain.next(0), mine.next(0)),
+                lambda: plain.difference(wrong),
+                lambda: plain.next(9),
                 lambda: versions.stabilities([*inputs, None]),
                 lambda: versions.in_tags([*inputs, None]),
                 lambda: versions.newest([*inputs, None]),
@@ -426,6 +441,7 @@ class Allocations(WithFolder):
             lambda: versions.sort_keys([text, None, "1..2"]),
             lambda: versions.kinds([text]),
             lambda: versions.in_tags([text, None, "1..2"]),
+            lambda: versions.Version(text).next(1),
             lambda: versions.newest([text, None, versions.Version("1")]),
             lambda: versions.sorted([text, "1.2"]),
             lambda: versions.sorted([text, "1..2"]),

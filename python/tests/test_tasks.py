@@ -1,4 +1,6 @@
-"""What people ask of versions beside their order: the version in a tag, how stable one is, and the newest of many."""
+"""What people ask of versions beside their order: the version in a tag, how stable one is, the newest of many; what
+changed, and what comes next.
+"""
 
 import copy
 import inspect
@@ -9,7 +11,7 @@ import unittest
 import arrow
 import versions
 from lists import LongLists
-from versions import InvalidRequirement, InvalidVersion, Requirement, Stability, Version
+from versions import Difference, DifferenceKind, InvalidRequirement, InvalidVersion, Requirement, Stability, Version
 
 # Tags, and the version in each.
 TAGS = {
@@ -384,3 +386,150 @@ class Newest(LongLists):
             self.assertEqual(str(versions.newest(texts)), long)
             self.assertEqual(str(versions.newest(texts, f">={long}")), long)
 
+
+
+class Differences(unittest.TestCase):
+    # By docs/ORDER.md: where they differ first, and in which part; and pairs of versions that do.
+    ROWS = (
+        ("NONE", None, "1.2.3 1.2.3, 1.0.0+a 1.0.0+b, 1_2 1_2, 1.0.0-a+x 1.0.0-a"),
+        ("TIE", None, "1.2 0:1.2, 1.0 1.0+x, 1.2 1.002, 01.2.3 1.2.3"),
+        ("EPOCH", None, "1.2 1:1.2, 1:2 2:1, 9.9.9 1:0, 1:1_2 3:1_2"),
+        ("PART", 0, "1.2.3 2.2.3, 1.2 3.2-1, a.1 b.1, 1:1.0 1:2_0"),
+        ("PART", 1, "1.2.3 1.3.0, 1 1.0, 1.9 1.10, 1.3rc1 1.3, 2 2.git"),
+        ("PART", 2, "1.2.3 1.2.4, 1.2 1.2.0-rc.1, 1:0.1.2-3 1:0.1.3-3"),
+        ("TAIL", None, "1.2 1.2-1, 1.2.0-rc.1 1.2.0, 1.2_1 1.2, 1.2-1 1.2-2"),
+    )
+    PAIRS = [(name, part, *pair.split()) for name, part, pairs in ROWS for pair in pairs.split(", ")]
+    SENTENCES = {
+        "NONE": "they are the same version",
+        "TIE": "they compare equal, and are not the same version",
+        "EPOCH": "they differ first in the epoch",
+        "TAIL": "they differ first in what follows the parts",
+    }
+
+    def test_differences(self):
+        for name, part, a, b in self.PAIRS:
+            for one, two in ((a, b), (b, a)):
+                with self.subTest(a=one, b=two):
+                    found = Version(one).difference(two)
+                    self.assertEqual(found, (DifferenceKind[name], part))
+                    self.assertEqual((found.kind.name, found.part), (name, part))
+                    self.assertEqual(str(found), self.SENTENCES.get(name, f"they differ first in part {part}"))
+                    for other in (Version(two), Mine(two), Evil(two)):
+                        self.assertEqual(Mine(one).difference(other), found)
+
+    def test_they_are_values(self):
+        found = Version("1.2").difference(other="1.3")
+        self.assertIs(type(found), Difference)
+        self.assertEqual(found, Difference(kind=DifferenceKind.PART, part=1))
+        for protocol in range(pickle.HIGHEST_PROTOCOL + 1):
+            pickled = pickle.dumps(found, protocol)
+            back = pickle.loads(pickled)
+            self.assertEqual((back, type(back), str(back)), (found, Difference, str(found)))
+            self.assertNotIn(b"_version", pickled)
+        self.assertEqual(repr(found), f"Difference(kind={DifferenceKind.PART!r}, part=1)")
+        self.assertEqual([each.name for each in DifferenceKind], ["NONE", "TIE", "EPOCH", "PART", "TAIL"])
+
+    def test_what_is_no_version(self):
+        version = Version("1.2")
+        for text in ("1..2", "", "\ud800", Evil("x y")):
+            with self.assertRaises(InvalidVersion) as raised:
+                version.difference(text)
+            self.assertEqual((type(raised.exception.text), raised.exception.text), (str, str.__str__(text)))
+        for other in (None, 1.2, b"1.2", Requirement("*"), float("nan")):
+            self.assertRaisesRegex(TypeError, f"of type {type(other).__name__}", version.difference, other)
+
+    def test_beside_comparisons(self):
+        chosen = random.Random(3)
+        texts = [*INCREASING, *LEVEL, *RATED, *(text for row in self.PAIRS for text in row[2:])]
+        for _ in range(5000):
+            a, b = chosen.choices(texts, k=2)
+            x, y = Version(a), Version(b)
+            kind, part = x.difference(y)
+            self.assertEqual(kind in (DifferenceKind.NONE, DifferenceKind.TIE), x == y)
+            self.assertEqual(kind is DifferenceKind.NONE, versions.compare_total(a, b) == 0)
+            self.assertEqual(kind is DifferenceKind.EPOCH, (x.epoch or 0) != (y.epoch or 0))
+            self.assertEqual(kind is DifferenceKind.PART, part is not None)
+            self.assertEqual(y.difference(x), (kind, part))
+            if part is not None:
+                # Parts before it have the same numbers.
+                self.assertEqual([x.nth(n) for n in range(part)], [y.nth(n) for n in range(part)])
+
+    def test_long(self):
+        parts = "1." * 1_000_000
+        self.assertEqual(Version(parts + "1").difference(parts + "2"), (DifferenceKind.PART, 1_000_000))
+        self.assertEqual(Version(parts + "1").difference(parts + "1-1").kind, DifferenceKind.TAIL)
+        word = "a" * 10_000_000
+        self.assertEqual(Version(word).difference(word + "b"), (DifferenceKind.PART, 0))
+        self.assertEqual(Version(word).difference(word).kind, DifferenceKind.NONE)
+
+
+class Next(unittest.TestCase):
+    NEXT = {
+        **{("1.2.3", 2): "1.2.4", ("1.2.3", 1): "1.3.0", ("1.2.3", 0): "2.0.0", ("1.2.3-rc.1", 2): "1.2.3"},
+        **{("1.2.3-rc.1", 1): "1.3.0", ("1:1.9", 1): "1:1.10", ("1.2-3", 1): "1.3", ("1.2-3", 0): "2.0"},
+        **{("1.0.0-rc.1", 0): "1.0.0", ("1.0.0-rc.1", 1): "1.0.0", ("1.2.0-rc.1", 1): "1.2.0", ("0:1.2", 0): "0:2.0"},
+        **{("1.2.3+x", 2): "1.2.4", ("1.2+x", 1): "1.3", ("7", 0): "8", ("0", 0): "1", ("1.2.3.4", 1): "1.3.0.0"},
+        **{("1.4294967295", 0): "2.0", ("4294967294.0.0", 0): "4294967295.0.0", ("1.9.9", 2): "1.9.10"},
+        **dict.fromkeys((("4294967295.0.0", 0), ("1.4294967295", 1), ("1.2", 2), ("1.2.3", 3), ("1.2-3", 2), ("7", 1))),
+        **dict.fromkeys((("1.2rc1", 0), ("1.2rc1", 1), ("a.1", 1), ("1.a", 0), ("1_2", 0), ("01.2", 0), ("1.2_3", 0))),
+        **dict.fromkeys((("1.2.3", n) for n in (2**31, 2**32, 2**63 - 1, 2**63, 2**64, 2**64 + 1, 10**30))),
+    }
+
+    def test_next(self):
+        for (text, place), wanted in self.NEXT.items():
+            with self.subTest(text=text, place=place):
+                if wanted is not None:
+                    found = Version(text).next(place)
+                    self.assertEqual((str(found), type(found)), (wanted, Version))
+                    self.assertGreater(found, Version(text))
+                    continue
+                with self.assertRaises(ValueError) as raised:
+                    Version(text).next(place)
+                self.assertIs(type(raised.exception), ValueError)
+                self.assertEqual(str(raised.exception), f"{text} has no next version at place {place}")
+
+    def test_a_subclass_has_its_versions(self):
+        class Named(Version):
+            def __new__(cls, text, name="x"):
+                return super().__new__(cls, text)
+
+        self.assertIs(type(Named("1.2").next(place=0)), Named)
+
+    def test_places(self):
+        version = Version("1.2.3")
+        for place in (-1, -(2**63), -(10**30)):
+            self.assertRaisesRegex(ValueError, f"places are counted from 0: {place}$", version.next, place)
+        for place in (None, 1.0, "1", Version("1")):
+            self.assertRaises(TypeError, version.next, place)
+        self.assertEqual(str(version.next(True)), "1.3.0")
+
+    def test_it_is_the_least(self):
+        chosen = random.Random(4)
+        for _ in range(5000):
+            numbers = [chosen.choice((0, 1, 2, 9, 4294967295)) for _ in range(chosen.choice((1, 2, 3, 3, 5)))]
+            text = chosen.choice(("", "", "1:")) + ".".join(map(str, numbers)) + chosen.choice(("", "", "-1", "-rc.1"))
+            version = Version(text)
+            if version.is_complex:
+                continue
+            for place in range(len(numbers) + 1):
+                # With zeros after the place, and with one more at it.
+                zeros = [numbers[:place] + [numbers[place] + more] for more in (0, 1)] if place < len(numbers) else []
+                front = text[: text.find(":") + 1]
+                rest = [0] * (len(numbers) - place - 1)
+                made = [front + ".".join(map(str, each + rest)) for each in zeros if max(each) < 2**32]
+                wanted = next((each for each in made if Version(each) > version), None)
+                if wanted is None:
+                    self.assertRaisesRegex(ValueError, "has no next version", version.next, place)
+                else:
+                    self.assertEqual(str(version.next(place)), wanted, (text, place))
+
+    def test_long(self):
+        # Around the room on the stack, and long.
+        for count in (*range(120, 135), 5_000_000):
+            version = Version("9." * count + "9")
+            self.assertEqual(str(version.next(count)), "9." * count + "10")
+            self.assertEqual(str(version.next(0)), "10" + ".0" * count)
+            self.assertRaises(ValueError, version.next, count + 1)
+        self.assertEqual(str(Version("1.0.0-" + "a" * 10_000_000).next(2)), "1.0.0")
+        self.assertRaises(ValueError, Version("1_" * 5_000_000 + "1").next, 0)

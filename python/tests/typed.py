@@ -5,7 +5,8 @@ from __future__ import annotations
 from typing import Optional, Union
 
 import versions
-from versions import InvalidRequirement, InvalidVersion, Kind, Requirement, Stability, Version
+from versions import Difference, DifferenceKind, Stability
+from versions import InvalidRequirement, InvalidVersion, Kind, Requirement, Version
 
 version = Version("1.2.3")
 kind: Kind = version.kind
@@ -29,6 +30,9 @@ is_less: bool = stability < Stability.RC
 stabilities: list[Optional[Stability]] = versions.stabilities(["1.2", version, None])
 from_tag: Version = Version.from_tag("v1.2", prefix=None)
 in_tags: list[Optional[str]] = versions.in_tags(["v1.2", version, None])
+difference: Difference = version.difference("1.3")
+differs: tuple[DifferenceKind, Optional[int]] = version.difference(newest)
+following: Version = version.next(1)
 newest_text: Optional[str] = versions.newest(["1.2", None], ">=1", Stability.RC, tags=True)
 newest_version: Optional[Version] = versions.newest([version, newest], requirement=wanted)
 mixed: list[Union[str, Version]] = ["1.2", version]
@@ -54,6 +58,7 @@ class Mine(Version):
 
 
 mine: Mine = Mine("1.2")
+mine_following: Mine = mine.next(0)
 mine_of_tag: Mine = Mine.from_tag("v1.2")
 below: bool = mine < version
 
@@ -67,6 +72,7 @@ versions.sorted([("1.2",)])  # type: ignore[type-var]
 versions.sorted([1], key=lambda row: row)  # type: ignore[arg-type,return-value]
 versions.match_all(version, [])  # type: ignore[arg-type]
 versions.kinds([1.2])  # type: ignore[list-item]
+version.difference(1.2)  # type: ignore[arg-type]
 versions.newest([1.2])  # type: ignore[type-var]
 versions.newest(["1.2"], stability="beta")  # type: ignore[arg-type]
 version.key = b""  # type: ignore[misc]

@@ -28,10 +28,12 @@ from ._library import (
 )
 from ._library import sorted as sorted
 from ._requirement import Range, Requirement
-from ._version import Kind, Stability, Version
+from ._version import Difference, DifferenceKind, Kind, Stability, Version
 
 # Without `sorted`, which would hide Python's own from `from versions import *`.
 __all__ = [
+    "Difference",
+    "DifferenceKind",
     "InvalidRequirement",
     "InvalidVersion",
     "Kind",

@@ -90,18 +90,46 @@ static PyObject *compare_total(PyObject *Py_UNUSED(module), PyObject *args, PyOb
   return compared(versions_compare_total, a, b);
 }
 
+/* difference(a, b): the number of where two versions differ first, and that of the part */
+static PyObject *difference(PyObject *Py_UNUSED(module), PyObject *args) {
+  PyObject *first, *second;
+  PyThreadState *thread;
+  struct text a, b;
+  uint32_t number = 0;
+  size_t part = 0;
+  int status;
+
+  if (!PyArg_ParseTuple(args, "OO:difference", &first, &second)) return NULL;
+  if (read_item(first, &a) < 0 || read_item(second, &b) < 0) return NULL;
+  thread = let_go(a.size > b.size ? a.size : b.size);
+  status = versions_difference(a.bytes, a.size, b.bytes, b.size, &number, &part);
+  take_again(thread);
+  return check_two(status, first, second) < 0 ? NULL : Py_BuildValue("(In)", number, (Py_ssize_t)part);
+}
+
 /*
  * What a version has, for the attributes of Version
  */
 
-/* Answers a call without a number or a field: None if the version has none, else raises the error of the status. */
+/* Answers a call that finds nothing: None if the version has no such thing, else raises the error of the status. */
 static PyObject *none_or_raise(int status, PyObject *object) {
   switch (status) {
     case VERSIONS_NO_NUMBER:
+    case VERSIONS_NO_NEXT:
     case VERSIONS_NO_FIELD: Py_RETURN_NONE;
     case VERSIONS_NO_VERSION: return raise_invalid("InvalidVersion", object);
     default: return raise_status(status);
   }
+}
+
+/* Reads a place. One beyond the largest size is clipped to it. No text is so long that it has a part there. */
+static int read_place(PyObject *object, size_t *place) {
+  Py_ssize_t n = PyNumber_AsSsize_t(object, NULL);
+
+  if (n == -1 && PyErr_Occurred()) return -1;
+  if (n < 0) fail(PyExc_ValueError, "places are counted from 0: %S", object);
+  *place = (size_t)n;
+  return n < 0 ? -1 : 0;
 }
 
 static PyObject *nth(PyObject *Py_UNUSED(module), PyObject *args) {
@@ -109,17 +137,13 @@ static PyObject *nth(PyObject *Py_UNUSED(module), PyObject *args) {
   PyThreadState *thread;
   struct text text;
   uint32_t number = 0;
-  Py_ssize_t n;
+  size_t n;
   int status;
 
-  if (!PyArg_ParseTuple(args, "OO:nth", &object, &place)) return NULL;
-  /* A place beyond the largest size is clipped to it. No text is so long that it has a number there. */
-  n = PyNumber_AsSsize_t(place, NULL);
-  if (n == -1 && PyErr_Occurred()) return NULL;
-  if (n < 0) return fail(PyExc_ValueError, "places are counted from 0: %S", place);
+  if (!PyArg_ParseTuple(args, "OO:nth", &object, &place) || read_place(place, &n) < 0) return NULL;
   if (read_text(object, &text) < 0) return NULL;
   thread = let_go(text.size);
-  status = versions_nth(text.bytes, text.size, (size_t)n, &number);
+  status = versions_nth(text.bytes, text.size, n, &number);
   take_again(thread);
   return status == VERSIONS_OK ? PyLong_FromUnsignedLong(number) : none_or_raise(status, object);
 }
@@ -167,6 +191,41 @@ static PyObject *is_prerelease(PyObject *Py_UNUSED(module), PyObject *object) {
   status = versions_is_prerelease(text.bytes, text.size, &answer);
   take_again(thread);
   return status == VERSIONS_OK ? PyBool_FromLong(answer) : none_or_raise(status, object);
+}
+
+static int ask_next(const struct text *text, size_t place, char *room, size_t *size) {
+  PyThreadState *thread = let_go(text->size);
+  int status = versions_next(text->bytes, text->size, place, room, *size, size);
+
+  take_again(thread);
+  return status;
+}
+
+/* Asks again, with room for a text that is longer than the room on the stack. Returns its status. */
+static int ask_long_next(const struct text *text, size_t place, PyObject **next, size_t size) {
+  char *room = allocated(size, 1);
+  int status = room == NULL ? VERSIONS_NO_MEMORY : ask_next(text, place, room, &size);
+
+  if (status == VERSIONS_OK) *next = PyUnicode_FromStringAndSize(room, (Py_ssize_t)size);
+  PyMem_Free(room);
+  return status;
+}
+
+/* next(text, place): the text of the version that comes next at a place, and None where there is none */
+static PyObject *next(PyObject *Py_UNUSED(module), PyObject *args) {
+  PyObject *object, *at, *next = NULL;
+  struct text text;
+  char room[256];
+  size_t place, size = sizeof room;
+  int status;
+
+  if (!PyArg_ParseTuple(args, "OO:next", &object, &at) || read_place(at, &place) < 0) return NULL;
+  if (read_text(object, &text) < 0) return NULL;
+  status = ask_next(&text, place, room, &size);
+  if (status == VERSIONS_OK) return PyUnicode_FromStringAndSize(room, (Py_ssize_t)size);
+  if (status == VERSIONS_NO_ROOM) status = ask_long_next(&text, place, &next, size);
+  if (status == VERSIONS_OK || PyErr_Occurred()) return next;
+  return none_or_raise(status, object);
 }
 
 /* in_tag(tag, prefix): the text of the version in a tag, after the prefix where that is not None */
@@ -977,6 +1036,8 @@ static PyMethodDef functions[] = {
     {"epoch", epoch, METH_O, NULL},
     {"field", field, METH_VARARGS, NULL},
     {"is_prerelease", is_prerelease, METH_O, NULL},
+    {"difference", difference, METH_VARARGS, NULL},
+    {"next", next, METH_VARARGS, NULL},
     {"in_tag", in_tag, METH_VARARGS, NULL},
     {"stability", stability, METH_O, NULL},
     {"wrong_member", wrong_member, METH_O, NULL},
@@ -993,6 +1054,9 @@ static const struct {
     {"EXACT", VERSIONS_RANGE_EXACT},             {"DEV", VERSIONS_DEV},
     {"ALPHA", VERSIONS_ALPHA},                   {"BETA", VERSIONS_BETA},
     {"RC", VERSIONS_RC},                         {"STABLE", VERSIONS_STABLE},
+    {"NONE", VERSIONS_DIFFERENCE_NONE},          {"TIE", VERSIONS_DIFFERENCE_TIE},
+    {"EPOCH", VERSIONS_DIFFERENCE_EPOCH},        {"PART", VERSIONS_DIFFERENCE_PART},
+    {"TAIL", VERSIONS_DIFFERENCE_TAIL},
 };
 
 /* Adds a type of a specification, and gives its reference away. */

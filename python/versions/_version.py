@@ -3,7 +3,7 @@
 from __future__ import annotations
 
 import enum
-from typing import TYPE_CHECKING, Literal, Optional, Union
+from typing import TYPE_CHECKING, Literal, NamedTuple, Optional, Union
 
 from . import _library
 from ._value import Value
@@ -39,6 +39,41 @@ class Stability(enum.IntEnum):
 
 # What `_library.stabilities` answers, by the numbers of the library.
 STABILITIES = (None, *Stability)
+
+
+class DifferenceKind(enum.Enum):
+    """The places where two versions may differ first: what `kind` of a `Difference` is."""
+
+    NONE = _library.NONE
+    TIE = _library.TIE
+    EPOCH = _library.EPOCH
+    PART = _library.PART
+    TAIL = _library.TAIL
+
+
+class Difference(NamedTuple):
+    """Where two versions differ first, in the order of the rules of precedence. A sentence as its `str`.
+
+    `kind` is EPOCH, PART or TAIL, which is what follows the parts; TIE where the two compare equal, but aren't the same
+    version; and NONE where they are, up to the metadata of ideal ones. `part` is the number of the part, counted from
+    0, and None where they don't differ in a part first.
+    """
+
+    kind: DifferenceKind
+    part: Optional[int]
+
+    def __str__(self) -> str:
+        if self.kind is DifferenceKind.PART:
+            return f"they differ first in part {self.part}"
+        return _DIFFERENCES[self.kind]
+
+
+_DIFFERENCES = {
+    DifferenceKind.NONE: "they are the same version",
+    DifferenceKind.TIE: "they compare equal, and are not the same version",
+    DifferenceKind.EPOCH: "they differ first in the epoch",
+    DifferenceKind.TAIL: "they differ first in what follows the parts",
+}
 
 
 class Version(Value, _library.Keyed):
@@ -121,6 +156,37 @@ class Version(Value, _library.Keyed):
         (True, True)
         """
         return Stability(_library.stability(self._text))
+
+    def difference(self, other: Union[str, Version]) -> Difference:
+        """Where it first differs from another version, a `Version` or a text. `InvalidVersion` where that is none.
+
+        >>> Version("1.2.3").difference("1.3.0").part, str(Version("1.2.3").difference("1.3.0"))
+        (1, 'they differ first in part 1')
+        >>> [Version("1.2").difference(other).kind.name for other in ("1.2", "0:1.2", "1:1.2", "1.2-1")]
+        ['NONE', 'TIE', 'EPOCH', 'TAIL']
+        """
+        number, part = _library.difference(self, other)
+        kind = DifferenceKind(number)
+        return Difference(kind, part if kind is DifferenceKind.PART else None)
+
+    def next(self, place: int) -> Self:
+        """The least version after it that has zeros after a place, its epoch, as many parts, and nothing after them.
+
+        Places are counted from 0. `ValueError` where there is no such version: of a messy version, of a general one of
+        which a part is no number, beyond the parts, and past 4294967295.
+
+        >>> [str(Version("1.2.3").next(place)) for place in (0, 1, 2)]
+        ['2.0.0', '1.3.0', '1.2.4']
+        >>> str(Version("1.2.3-rc.1").next(2)), str(Version("1:1.9").next(1))
+        ('1.2.3', '1:1.10')
+        >>> Version("1.2rc1").next(0)
+        Traceback (most recent call last):
+        ValueError: 1.2rc1 has no next version at place 0
+        """
+        text = _library.next(self._text, place)
+        if text is None:
+            raise ValueError(f"{self._text} has no next version at place {place}")
+        return type(self)(text)
 
     @property
     def pre_release(self) -> Optional[str]:
