@@ -557,7 +557,7 @@ class Threads(unittest.TestCase):
     def test_others_go_on_while_the_library_works(self):
         long, many = "1." * 3_000_000 + "1", ["1.2.3-rc.1"] * 400_000
         wanted, strict = versions.Requirement("=1.2"), versions.Requirement("=1.2.3")
-        version = versions.Version(long)
+        version, longer = versions.Version(long), versions.Requirement(f">={long},<={long}")
         calls = {
             "kind": lambda: versions.kind(long),
             "sort_key": lambda: versions.sort_key(long),
@@ -568,6 +568,8 @@ class Threads(unittest.TestCase):
             "from_tag": lambda: versions.Version.from_tag("-" * 3_000_000 + "1"),
             "from_tag with a prefix": lambda: versions.Version.from_tag("-" * 3_000_000 + "1", "-" * 3_000_000),
             "stability": lambda: version.stability,
+            "why_not": lambda: longer.why_not("1"),
+            "conflict": lambda: longer.conflict,
             "difference": lambda: version.difference(long),
             "next": lambda: version.next(3_000_000),
             "metadata": lambda: version.metadata,
@@ -613,7 +615,8 @@ class Package(unittest.TestCase):
         for name in ("kind", "sort_key", "compare", "compare_total", "match_all"):
             self.assertIsInstance(getattr(versions, name), types.BuiltinFunctionType)
         errors = "InvalidVersion", "InvalidRequirement"
-        for name in ("Version", "Requirement", "Range", "Stability", "Difference", "DifferenceKind", *errors):
+        more = "Stability", "Difference", "DifferenceKind", "Mismatch", "Reason"
+        for name in ("Version", "Requirement", "Range", *more, *errors):
             self.assertEqual(getattr(versions, name).__module__, "versions")
 
     def test_version_is_that_of_the_header_and_of_the_distribution(self):

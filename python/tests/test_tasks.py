@@ -1,5 +1,5 @@
 """What people ask of versions beside their order: the version in a tag, how stable one is, the newest of many; what
-changed, and what comes next.
+changed, what comes next; why a version doesn't match, and which requirements exclude each other.
 """
 
 import copy
@@ -11,7 +11,8 @@ import unittest
 import arrow
 import versions
 from lists import LongLists
-from versions import Difference, DifferenceKind, InvalidRequirement, InvalidVersion, Requirement, Stability, Version
+from versions import Difference, DifferenceKind, Mismatch, Reason, Stability
+from versions import InvalidRequirement, InvalidVersion, Requirement, Version
 
 # Tags, and the version in each.
 TAGS = {
@@ -533,3 +534,140 @@ class Next(unittest.TestCase):
             self.assertRaises(ValueError, version.next, count + 1)
         self.assertEqual(str(Version("1.0.0-" + "a" * 10_000_000).next(2)), "1.0.0")
         self.assertRaises(ValueError, Version("1_" * 5_000_000 + "1").next, 0)
+
+
+class WhyNot(unittest.TestCase):
+    # By docs/REQUIREMENTS.md: a requirement, a version, the first member that doesn't match, and why.
+    ROWS = (
+        *(">=1.5 1.4 >=1.5 BELOW", "*,>=1.5 1.4 >=1.5 BELOW", ">1.5 1.5 >1.5 BELOW", "=1.0 0.9 =1.0 BELOW"),
+        *("<2 2.0 <2 ABOVE", "<2.0.0 2.0.0 <2.0.0 ABOVE", "<=1 1.0 <=1 ABOVE", "=1.0 1.1 =1.0 ABOVE"),
+        *("^1.2.3 1.2.2 ^1.2.3 BELOW", "^1.2.3 2.0.0 ^1.2.3 ABOVE", "~1.1.1 1.2.0 ~1.1.1 ABOVE"),
+        *("^1.2.3 1.5 ^1.2.3 KIND", "^1.2.3 1_2 ^1.2.3 KIND", "*,~1.2 1.2.0 ~1.2 KIND", "^1_2 1.2 ^1_2 KIND"),
+        *("=1.0 0:1.0 =1.0 PARTS", "=1.0 1.0+x =1.0 PARTS", "*,=1.0,<0 0:1.0 =1.0 PARTS"),
+        *("^1.1.1,<1.5.0 1.5.0 <1.5.0 ABOVE", ">=1,<2,<1 3 <2 ABOVE"),
+    )
+    MATCHED = (">=1.5 1.5", "* 1_2", "^1.2.3 1.9.0", "^1.1.1,<1.5.0 1.2.0", ">=1.0 0:1.0", "=1.0.0 1.0.0+x")
+    SENTENCES = {
+        "KIND": "{1} is not of a kind that {0} matches",
+        "BELOW": "{1} is below {0}",
+        "ABOVE": "{1} is above {0}",
+        "PARTS": "{1} is within the bounds of {0}, but its parts or fields differ",
+    }
+
+    def test_why_not(self):
+        for requirement, text, member, name in map(str.split, self.ROWS):
+            start = requirement.index(member)
+            for version in (text, Version(text), Mine(text), Evil(text)):
+                with self.subTest(requirement=requirement, text=text):
+                    found = Requirement(requirement).why_not(version)
+                    self.assertEqual(found, (text, member, start, start + len(member), Reason[name]))
+                    self.assertEqual((type(found), type(found.version), found.reason.name), (Mismatch, str, name))
+                    self.assertEqual(requirement[found.start:found.end], found.member)
+                    self.assertEqual(str(found), self.SENTENCES[name].format(member, text))
+
+    def test_what_matches(self):
+        for requirement, text in map(str.split, self.MATCHED):
+            for version in (text, Version(text), Mine(text), Evil(text)):
+                self.assertIsNone(Requirement(requirement).why_not(version), (requirement, text))
+
+    def test_they_are_values(self):
+        found = Requirement("*,<2").why_not(version="2.1")
+        self.assertEqual(found, Mismatch(version="2.1", member="<2", start=2, end=4, reason=Reason.ABOVE))
+        for protocol in range(pickle.HIGHEST_PROTOCOL + 1):
+            pickled = pickle.dumps(found, protocol)
+            back = pickle.loads(pickled)
+            self.assertEqual((back, type(back), str(back)), (found, Mismatch, "2.1 is above <2"))
+            self.assertNotIn(b"_requirement", pickled)
+        self.assertEqual([each.name for each in Reason], ["KIND", "BELOW", "ABOVE", "PARTS"])
+
+    def test_what_is_no_version(self):
+        for requirement in (Requirement("*"), Requirement("^1.2.3"), Requirement("=1.2,<0")):
+            for text in ("1..2", "", "\ud800", Evil("x y")):
+                with self.assertRaises(InvalidVersion) as raised:
+                    requirement.why_not(text)
+                self.assertEqual((type(raised.exception.text), raised.exception.text), (str, str.__str__(text)))
+            for other in (None, 1.2, b"1.2", requirement, float("nan")):
+                self.assertRaisesRegex(TypeError, f"of type {type(other).__name__}", requirement.why_not, other)
+
+    def test_beside_the_ranges_of_members(self):
+        chosen = random.Random(5)
+        operators, texts = "= > >= < <= ~ ^".split(), [*INCREASING, *LEVEL, *RATED, "1_2", "1:1_2", "1.5.0", "2.0.0"]
+        seen = set()
+        for _ in range(6000):
+            members = [chosen.choice(operators) + chosen.choice(texts) for _ in range(chosen.randrange(1, 5))]
+            requirement, text = Requirement(",".join(members)), chosen.choice(texts)
+            version = Version(text)
+            found = requirement.why_not(version)
+            self.assertEqual(requirement.why_not(text), found)
+            wrong = next((each for each in members if not Requirement(each).matches(version)), None)
+            if wrong is None:
+                self.assertIsNone(found)
+                continue
+            asked = Requirement(wrong).range
+            reason = (
+                Reason.KIND if version.kind not in asked.kinds
+                else Reason.BELOW if version.key < asked.low
+                else Reason.ABOVE if asked.high is not None and version.key >= asked.high
+                else Reason.PARTS
+            )
+            start = sum(len(each) + 1 for each in members[: members.index(wrong)])
+            self.assertEqual(found, (text, wrong, start, start + len(wrong), reason))
+            seen.add(reason)
+        self.assertEqual(seen, set(Reason))
+
+    def test_long(self):
+        long = "1." * 1_000_000 + "1"
+        found = Requirement("*," * 1_000_000 + f">{long}").why_not(long)
+        self.assertEqual((found.member, found.start, found.reason), (">" + long, 2_000_000, Reason.BELOW))
+        self.assertIsNone(Requirement("*," * 1_000_000 + "*").why_not("1" * 1_000_000))
+
+
+class Conflicts(unittest.TestCase):
+    def test_conflicts(self):
+        # By docs/REQUIREMENTS.md: a list, and two members that exclude each other. `^1_2` matches nothing.
+        for row in (
+            *(">=1.2,<1.0 >=1.2 <1.0", "<1.0,>=1.2 >=1.2 <1.0", "*,>=2,<9,<2 >=2 <2", "<1,>1,* <1 >1"),
+            *("^1.2.3,^2.0.0 ^1.2.3 ^2.0.0", "^1.2,^1.2.3 ^1.2 ^1.2.3", "=1.0,=1.1 =1.0 =1.1", "^1_2 ^1_2 ^1_2"),
+            *("*,~1_2 ~1_2 ~1_2", ">=3,>=1,<5,<=2 >=3 <=2"),
+        ):
+            text, *pair = row.split()
+            with self.subTest(text=text):
+                found = Requirement(text).conflict
+                self.assertEqual((type(found), sorted(found)), (tuple, sorted(pair)))
+        for text in ("*", ">=1.2,<2", "^1.2.3,<1.9.0", "=1.0", ">1,<1.0", ">=1,<=1", "*,*"):
+            self.assertIsNone(Requirement(text).conflict)
+
+    def test_it_is_an_attribute(self):
+        self.assertRaises(AttributeError, setattr, Requirement("*"), "conflict", None)
+        self.assertIsNone(type("Mine", (Requirement,), {})("*").conflict)
+        self.assertEqual(set(Requirement(Evil("<1,>2")).conflict), {"<1", ">2"})
+
+    def test_beside_the_ranges_of_members(self):
+        chosen = random.Random(6)
+        operators, texts = "= > >= < <= ~ ^".split(), [*INCREASING, *LEVEL, "1_2", "1:1_2", "1.5.0", "2.0.0"]
+        versions_of = [Version(text) for text in texts]
+
+        def is_empty(*members):
+            ranges = [Requirement(member).range for member in members]
+            highs = [each.high for each in ranges if each.high is not None]
+            kinds = set.intersection(*(set(each.kinds) for each in ranges))
+            return not kinds or (highs != [] and max(each.low for each in ranges) >= min(highs))
+
+        found_some = 0
+        for _ in range(3000):
+            members = [chosen.choice(operators) + chosen.choice(texts) for _ in range(chosen.randrange(1, 5))]
+            requirement = Requirement(",".join(members))
+            found = requirement.conflict
+            if found is None:
+                self.assertFalse(any(is_empty(a, b) for a in members for b in members), members)
+                continue
+            self.assertTrue(set(found) <= set(members) and is_empty(*found), (members, found))
+            self.assertEqual(requirement.filter(versions_of), [])
+            found_some += 1
+        self.assertTrue(500 < found_some < 2900, found_some)
+
+    def test_long(self):
+        long = "1." * 1_000_000 + "1"
+        self.assertIsNone(Requirement("*," * 1_000_000 + f">={long},<={long}").conflict)
+        found = Requirement(f">{long}," + "*," * 1_000_000 + f"<{long}").conflict
+        self.assertEqual(set(found), {">" + long, "<" + long})

@@ -5,7 +5,7 @@ from __future__ import annotations
 from typing import Optional, Union
 
 import versions
-from versions import Difference, DifferenceKind, Stability
+from versions import Difference, DifferenceKind, Mismatch, Reason, Stability
 from versions import InvalidRequirement, InvalidVersion, Kind, Requirement, Version
 
 version = Version("1.2.3")
@@ -32,6 +32,9 @@ from_tag: Version = Version.from_tag("v1.2", prefix=None)
 in_tags: list[Optional[str]] = versions.in_tags(["v1.2", version, None])
 difference: Difference = version.difference("1.3")
 differs: tuple[DifferenceKind, Optional[int]] = version.difference(newest)
+why_not: Optional[Mismatch] = wanted.why_not("1.2") or wanted.why_not(version)
+told: tuple[str, str, int, int, Reason] = why_not or ("1.4", ">=1.5", 0, 5, Reason.BELOW)
+conflict: Optional[tuple[str, str]] = wanted.conflict
 following: Version = version.next(1)
 newest_text: Optional[str] = versions.newest(["1.2", None], ">=1", Stability.RC, tags=True)
 newest_version: Optional[Version] = versions.newest([version, newest], requirement=wanted)
@@ -72,6 +75,7 @@ versions.sorted([("1.2",)])  # type: ignore[type-var]
 versions.sorted([1], key=lambda row: row)  # type: ignore[arg-type,return-value]
 versions.match_all(version, [])  # type: ignore[arg-type]
 versions.kinds([1.2])  # type: ignore[list-item]
+wanted.why_not(1.2)  # type: ignore[arg-type]
 version.difference(1.2)  # type: ignore[arg-type]
 versions.newest([1.2])  # type: ignore[type-var]
 versions.newest(["1.2"], stability="beta")  # type: ignore[arg-type]

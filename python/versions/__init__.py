@@ -27,7 +27,7 @@ from ._library import (
     stabilities,
 )
 from ._library import sorted as sorted
-from ._requirement import Range, Requirement
+from ._requirement import Mismatch, Range, Reason, Requirement
 from ._version import Difference, DifferenceKind, Kind, Stability, Version
 
 # Without `sorted`, which would hide Python's own from `from versions import *`.
@@ -37,7 +37,9 @@ __all__ = [
     "InvalidRequirement",
     "InvalidVersion",
     "Kind",
+    "Mismatch",
     "Range",
+    "Reason",
     "Requirement",
     "Stability",
     "Version",

@@ -294,6 +294,33 @@ static PyObject *wrong_member(PyObject *Py_UNUSED(module), PyObject *object) {
   return answer;
 }
 
+/* The two members, or NULL where either is. Their references are given away. */
+static PyObject *pair_of(PyObject *first, PyObject *second) {
+  PyObject *pair = first == NULL || second == NULL ? NULL : PyTuple_Pack(2, first, second);
+
+  Py_XDECREF(first);
+  Py_XDECREF(second);
+  return pair;
+}
+
+/* conflict(list): two members that exclude each other; None where there are none */
+static PyObject *conflict(PyObject *Py_UNUSED(module), PyObject *object) {
+  size_t start = 0, end = 0, other_start = 0, other_end = 0;
+  PyThreadState *thread;
+  struct text list;
+  int status;
+
+  if (read_text(object, &list) < 0) return NULL;
+  thread = let_go(list.size);
+  status = versions_conflict(list.bytes, list.size, &start, &end, &other_start, &other_end);
+  take_again(thread);
+  if (status == VERSIONS_NO_CONFLICT) Py_RETURN_NONE;
+  if (status == VERSIONS_NO_REQUIREMENTS) return raise_invalid("InvalidRequirement", object);
+  if (status != VERSIONS_OK) return raise_status(status);
+  return pair_of(PyUnicode_FromStringAndSize(list.bytes + start, (Py_ssize_t)(end - start)),
+                 PyUnicode_FromStringAndSize(list.bytes + other_start, (Py_ssize_t)(other_end - other_start)));
+}
+
 /*
  * Many texts
  */
@@ -1041,6 +1068,7 @@ static PyMethodDef functions[] = {
     {"in_tag", in_tag, METH_VARARGS, NULL},
     {"stability", stability, METH_O, NULL},
     {"wrong_member", wrong_member, METH_O, NULL},
+    {"conflict", conflict, METH_O, NULL},
     {NULL, NULL, 0, NULL},
 };
 
@@ -1056,7 +1084,9 @@ static const struct {
     {"RC", VERSIONS_RC},                         {"STABLE", VERSIONS_STABLE},
     {"NONE", VERSIONS_DIFFERENCE_NONE},          {"TIE", VERSIONS_DIFFERENCE_TIE},
     {"EPOCH", VERSIONS_DIFFERENCE_EPOCH},        {"PART", VERSIONS_DIFFERENCE_PART},
-    {"TAIL", VERSIONS_DIFFERENCE_TAIL},
+    {"TAIL", VERSIONS_DIFFERENCE_TAIL},          {"KIND", VERSIONS_WHY_KIND},
+    {"BELOW", VERSIONS_WHY_BELOW},               {"ABOVE", VERSIONS_WHY_ABOVE},
+    {"PARTS", VERSIONS_WHY_PARTS},
 };
 
 /* Adds a type of a specification, and gives its reference away. */

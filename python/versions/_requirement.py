@@ -2,11 +2,12 @@
 
 from __future__ import annotations
 
-from typing import NamedTuple, Optional
+import enum
+from typing import NamedTuple, Optional, Union
 
 from . import _library
 from ._value import Value
-from ._version import Kind
+from ._version import Kind, Version
 
 _KINDS: tuple[tuple[Kind, int], ...] = (
     ("ideal", _library.IDEAL),
@@ -26,6 +27,43 @@ class Range(NamedTuple):
     high: Optional[bytes]
     kinds: tuple[Kind, ...]
     exact: bool
+
+
+class Reason(enum.Enum):
+    """Why a member doesn't match a version: the first of these that is so.
+
+    The version's KIND is not one of those that the member asks for; it is BELOW what the member asks for; it is ABOVE
+    that; or none of these, and its PARTS or fields differ.
+    """
+
+    KIND = _library.KIND
+    BELOW = _library.BELOW
+    ABOVE = _library.ABOVE
+    PARTS = _library.PARTS
+
+
+class Mismatch(NamedTuple):
+    """Why a requirement doesn't match a version, with a sentence as its `str`.
+
+    `member` is the first member that doesn't match. It is the requirement's text from `start` up to `end`.
+    """
+
+    version: str
+    member: str
+    start: int
+    end: int
+    reason: Reason
+
+    def __str__(self) -> str:
+        return _SENTENCES[self.reason].format(self)
+
+
+_SENTENCES = {
+    Reason.KIND: "{0.version} is not of a kind that {0.member} matches",
+    Reason.BELOW: "{0.version} is below {0.member}",
+    Reason.ABOVE: "{0.version} is above {0.member}",
+    Reason.PARTS: "{0.version} is within the bounds of {0.member}, but its parts or fields differ",
+}
 
 
 class Requirement(Value, _library.Ranged):
@@ -59,6 +97,36 @@ class Requirement(Value, _library.Ranged):
         flags = self._flags
         kinds = tuple(kind for kind, flag in _KINDS if flags & flag)
         return Range(self.low, self.high, kinds, bool(flags & _library.EXACT))
+
+    @property
+    def conflict(self) -> Optional[tuple[str, str]]:
+        """Two members that exclude each other, so that nothing matches, or None.
+
+        The two are the same where one member excludes every version.
+
+        >>> Requirement(">=1.2,*,<1.0").conflict, Requirement(">=1.2,<2").conflict
+        (('>=1.2', '<1.0'), None)
+        """
+        return _library.conflict(self._text)
+
+    def why_not(self, version: Union[str, Version]) -> Optional[Mismatch]:
+        """Why it doesn't match a version, a `Version` or a text, and None where it does.
+
+        `InvalidVersion` for a text that is not a version.
+
+        >>> str(Requirement("*,>=1.5").why_not("1.4")), Requirement(">=1.5").why_not(Version("1.6"))
+        ('1.4 is below >=1.5', None)
+        >>> wanted = Requirement("^1.2.3,<1.9.0")
+        >>> [wanted.why_not(text).reason.name for text in ("1.5", "1.2.2", "1.9.1")]
+        ['KIND', 'BELOW', 'ABOVE']
+        >>> str(Requirement("=1.0").why_not("0:1.0"))
+        '0:1.0 is within the bounds of =1.0, but its parts or fields differ'
+        """
+        found = self._why_not(version)
+        if found is None:
+            return None
+        text, start, end, reason = found
+        return Mismatch(text, self._text[start:end], start, end, Reason(reason))
 
     def __eq__(self, other: object) -> bool:
         if not isinstance(other, Requirement):

@@ -420,6 +420,41 @@ static PyObject *ranged_matches(PyObject *self, PyObject *args, PyObject *named)
   return answer < 0 ? NULL : PyBool_FromLong(answer);
 }
 
+/* Of a member that doesn't match: the text of the version, where the member begins and ends, and why. */
+static PyObject *mismatch(PyObject *version, size_t start, size_t end, uint32_t why) {
+  /* The text of a subclass of str is copied, as it is and not as the subclass shows it. */
+  PyObject *exact = PyUnicode_FromObject(version);
+
+  return exact == NULL ? NULL : Py_BuildValue("(NnnI)", exact, (Py_ssize_t)start, (Py_ssize_t)end, why);
+}
+
+/* Asks the library why a version doesn't match. */
+static PyObject *why_not(const struct range *range, PyObject *version) {
+  struct text text;
+  size_t start = 0, end = 0;
+  PyThreadState *thread;
+  uint32_t why = 0;
+  int status;
+
+  if (read_text(version, &text) < 0) return NULL;
+  thread = let_go(text.size > range->list.size ? text.size : range->list.size);
+  status = versions_why_not(range->list.bytes, range->list.size, text.bytes, text.size, &start, &end, &why);
+  take_again(thread);
+  switch (status) {
+    case VERSIONS_OK: return mismatch(version, start, end, why);
+    case VERSIONS_ALL_MATCH: Py_RETURN_NONE;
+    case VERSIONS_NO_VERSION: return raise_invalid("InvalidVersion", version);
+    default: return raise_status(status);
+  }
+}
+
+static PyObject *ranged_why_not(PyObject *self, PyObject *version) {
+  const struct range *range = &((struct ranged *)self)->range;
+
+  if (is_exact(range) && is_keyed(version) && has(range, (struct keyed *)version)) Py_RETURN_NONE;
+  return why_not(range, text_of(version));
+}
+
 static int ranged_contains(PyObject *self, PyObject *version) {
   int answer = match_one(&((struct ranged *)self)->range, version);
 
@@ -537,9 +572,14 @@ PyDoc_STRVAR(filter_doc,
              ">>> Requirement(\"^1.2.0\").filter([\"1.1.0\", \"1.3.0\", \"x y\", None, \"2.0.0\", \"1.2.0\"])\n"
              "['1.3.0', '1.2.0']\n");
 
+PyDoc_STRVAR(why_not_doc,
+             "_why_not($self, version)\n--\n\n"
+             "None, or the text of the version, where the first member that doesn't match begins and ends, and why.");
+
 static PyMethodDef ranged_methods[] = {
     {"matches", NAMED(ranged_matches), METH_VARARGS | METH_KEYWORDS, matches_doc},
     {"filter", NAMED(ranged_filter), METH_VARARGS | METH_KEYWORDS, filter_doc},
+    {"_why_not", ranged_why_not, METH_O, why_not_doc},
     {NULL, NULL, 0, NULL},
 };
 
