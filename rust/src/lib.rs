@@ -73,15 +73,19 @@ mod range;
 mod requirement;
 #[cfg(feature = "serde")]
 mod serde;
+mod stability;
 mod text;
 mod versioning;
 
 pub use error::{InvalidRequirement, InvalidVersion};
 pub use key::Key;
 pub use kind::Kind;
-pub use many::{kinds, match_all, order, sort, sort_keys, SortKeys};
+pub use many::{
+    in_tags, kinds, match_all, newest, newest_tag, order, sort, sort_keys, stabilities, SortKeys,
+};
 pub use range::KeyRange;
 pub use requirement::{Filter, Requirement};
+pub use stability::Stability;
 pub use text::Text;
 pub use versioning::Versioning;
 

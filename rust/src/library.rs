@@ -9,7 +9,7 @@ use std::os::raw::{c_char, c_int};
 
 use crate::bytes::{Bytes, WITHIN};
 use crate::range::{KeyRange, Kinds};
-use crate::Kind;
+use crate::{Kind, Stability};
 
 const OK: c_int = 0;
 const NO_VERSION: c_int = 1;
@@ -24,6 +24,14 @@ const LARGE_EPOCH: c_int = 13;
 const IDEAL: c_int = 1;
 const GENERAL: c_int = 2;
 const COMPLEX: c_int = 3;
+
+const DEV: c_int = 1;
+const ALPHA: c_int = 2;
+const BETA: c_int = 3;
+const RC: c_int = 4;
+const STABLE: c_int = 5;
+
+const NEWEST_TAGS: u32 = 1;
 
 const FIELD_PRE_RELEASE: u32 = 2;
 const FIELD_RELEASE: u32 = 3;
@@ -126,6 +134,18 @@ extern "C" {
         is_prerelease: *mut u8,
     ) -> c_int;
 
+    fn versions_in_tag(tag: *const c_char, tag_len: usize, start: *mut usize) -> c_int;
+
+    fn versions_after_prefix(
+        prefix: *const c_char,
+        prefix_len: usize,
+        tag: *const c_char,
+        tag_len: usize,
+        start: *mut usize,
+    ) -> c_int;
+
+    fn versions_stability(text: *const c_char, text_len: usize) -> c_int;
+
     fn versions_kinds(
         texts: *const c_char,
         texts_len: usize,
@@ -133,6 +153,36 @@ extern "C" {
         offsets_len: usize,
         kinds: *mut u8,
         kinds_len: usize,
+    ) -> c_int;
+
+    fn versions_in_tags(
+        texts: *const c_char,
+        texts_len: usize,
+        offsets: *const i64,
+        offsets_len: usize,
+        starts: *mut i64,
+        starts_len: usize,
+    ) -> c_int;
+
+    fn versions_stabilities(
+        texts: *const c_char,
+        texts_len: usize,
+        offsets: *const i64,
+        offsets_len: usize,
+        stabilities: *mut u8,
+        stabilities_len: usize,
+    ) -> c_int;
+
+    fn versions_newest(
+        texts: *const c_char,
+        texts_len: usize,
+        offsets: *const i64,
+        offsets_len: usize,
+        list: *const c_char,
+        list_len: usize,
+        least: u32,
+        flags: u32,
+        place: *mut usize,
     ) -> c_int;
 
     fn versions_sort_keys(
@@ -487,6 +537,45 @@ pub fn is_prerelease(text: &str) -> bool {
     }
 }
 
+/// Where the version in a tag begins, which ends with the tag.
+pub fn in_tag(tag: &str) -> Option<usize> {
+    let mut from = 0;
+    // SAFETY: the pointer and the length are those of `tag`, which is only read; `from` is written.
+    let status = unsafe { versions_in_tag(start(tag), tag.len(), &mut from) };
+    beginning("versions_in_tag", status, tag, from)
+}
+
+/// Where the version begins that follows a prefix of a tag, and ends with the tag.
+pub fn after_prefix(prefix: &str, tag: &str) -> Option<usize> {
+    let mut from = 0;
+    // SAFETY: each pointer has the length of its text, which is only read; `from` is written.
+    let status = unsafe {
+        versions_after_prefix(
+            start(prefix),
+            prefix.len(),
+            start(tag),
+            tag.len(),
+            &mut from,
+        )
+    };
+    beginning("versions_after_prefix", status, tag, from)
+}
+
+fn beginning(call: &str, status: c_int, tag: &str, from: usize) -> Option<usize> {
+    match status {
+        OK if !tag.get(from..).unwrap_or_default().is_empty() => Some(from),
+        OK => unexpected(call, "place", from),
+        NO_VERSION => None,
+        _ => unexpected(call, "status", status),
+    }
+}
+
+/// How stable a version is; `None` where the text is not a version.
+pub fn stability(text: &str) -> Option<Stability> {
+    // SAFETY: the pointer and the length are those of `text`, which is only read.
+    stability_of(unsafe { versions_stability(start(text), text.len()) })
+}
+
 /// The kind of each text.
 pub fn kinds(texts: &Texts) -> Vec<Option<Kind>> {
     let Texts { bytes, offsets } = texts;
@@ -509,6 +598,87 @@ pub fn kinds(texts: &Texts) -> Vec<Option<Kind>> {
             .map(|number| kind_of(number.into()))
             .collect(),
         _ => unexpected("versions_kinds", "status", status),
+    }
+}
+
+/// Where in each text the version begins that is in it as in a tag. It ends with the text, and is
+/// empty where there is none.
+pub fn in_tags(texts: &Texts) -> Vec<usize> {
+    let Texts { bytes, offsets } = texts;
+    let mut starts = vec![0; texts.count()];
+    // SAFETY: each pointer has the length of its array. Texts and offsets are only read, and the
+    // library refuses offsets that leave the texts. `starts` is written, and overlaps with nothing.
+    let status = unsafe {
+        versions_in_tags(
+            start(bytes),
+            bytes.len(),
+            offsets.as_ptr(),
+            offsets.len(),
+            starts.as_mut_ptr(),
+            starts.len(),
+        )
+    };
+    match status {
+        OK => starts
+            .iter()
+            .zip(offsets)
+            .map(|(start, offset)| (start - offset) as usize)
+            .collect(),
+        _ => unexpected("versions_in_tags", "status", status),
+    }
+}
+
+/// How stable each version is; `None` for a text that is not a version.
+pub fn stabilities(texts: &Texts) -> Vec<Option<Stability>> {
+    let Texts { bytes, offsets } = texts;
+    let mut stabilities = vec![0; texts.count()];
+    // SAFETY: each pointer has the length of its array. Texts and offsets are only read, and the
+    // library refuses offsets that leave the texts. `stabilities` is written, and overlaps with
+    // nothing.
+    let status = unsafe {
+        versions_stabilities(
+            start(bytes),
+            bytes.len(),
+            offsets.as_ptr(),
+            offsets.len(),
+            stabilities.as_mut_ptr(),
+            stabilities.len(),
+        )
+    };
+    match status {
+        OK => stabilities
+            .into_iter()
+            .map(|number| stability_of(number.into()))
+            .collect(),
+        _ => unexpected("versions_stabilities", "status", status),
+    }
+}
+
+/// The place of the newest text that a list matches and that is at least so stable: of all, or of
+/// the versions in them as in tags. Panics where `list` is not a list of requirements.
+pub fn newest(texts: &Texts, list: &str, least: Stability, are_tags: bool) -> Option<usize> {
+    let Texts { bytes, offsets } = texts;
+    let mut place = 0;
+    // SAFETY: each pointer has the length of its array. Texts, offsets and the list are only read,
+    // and the library refuses offsets that leave the texts. `place` is written.
+    let status = unsafe {
+        versions_newest(
+            start(bytes),
+            bytes.len(),
+            offsets.as_ptr(),
+            offsets.len(),
+            start(list),
+            list.len(),
+            number_of_stability(least) as u32,
+            if are_tags { NEWEST_TAGS } else { 0 },
+            &mut place,
+        )
+    };
+    match status {
+        OK if place < texts.count() => Some(place),
+        OK => unexpected("versions_newest", "place", place),
+        NO_VERSION => None,
+        _ => unexpected("versions_newest", "status", status),
     }
 }
 
@@ -642,6 +812,29 @@ fn kind_of_number(number: c_int) -> Option<Kind> {
         GENERAL => Some(Kind::General),
         COMPLEX => Some(Kind::Complex),
         _ => None,
+    }
+}
+
+/// The stability of a number of `versions_stability`.
+fn stability_of(number: c_int) -> Option<Stability> {
+    match number {
+        0 => None,
+        DEV => Some(Stability::Dev),
+        ALPHA => Some(Stability::Alpha),
+        BETA => Some(Stability::Beta),
+        RC => Some(Stability::Rc),
+        STABLE => Some(Stability::Stable),
+        _ => unexpected("versions_stability", "stability", number),
+    }
+}
+
+fn number_of_stability(stability: Stability) -> c_int {
+    match stability {
+        Stability::Dev => DEV,
+        Stability::Alpha => ALPHA,
+        Stability::Beta => BETA,
+        Stability::Rc => RC,
+        Stability::Stable => STABLE,
     }
 }
 

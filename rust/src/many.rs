@@ -1,5 +1,5 @@
 use crate::library::{self, Texts};
-use crate::{Kind, Requirement};
+use crate::{Kind, Requirement, Stability};
 
 /// Returns the kind of each text, as [`kind`](crate::kind()) returns it, in one call of the library.
 ///
@@ -52,6 +52,87 @@ pub fn match_all<T: AsRef<str>>(requirement: &Requirement<'_>, texts: &[T]) -> V
     } else {
         library::match_all(requirement.as_str(), &texts)
     }
+}
+
+/// Returns how stable each version is, in one call of the library; `None` for a text that is not a
+/// version.
+///
+/// Allocates, beside the answers, all texts once more, and at most 9 bytes for each text.
+///
+/// ```
+/// use proved_versions::{stabilities, Stability};
+///
+/// let answers = stabilities(&["1.0", "1..2", "1.0rc1"]);
+/// assert_eq!(answers, [Some(Stability::Stable), None, Some(Stability::Rc)]);
+/// ```
+pub fn stabilities<T: AsRef<str>>(texts: &[T]) -> Vec<Option<Stability>> {
+    library::stabilities(&Texts::new(texts))
+}
+
+/// Returns the version in each tag, as [`Versioning::from_tag`](crate::Versioning::from_tag) finds it,
+/// in one call of the library: the end of the text, or `None` where there is no version.
+///
+/// Allocates, beside the answers, all texts once more, and at most 24 bytes for each text.
+///
+/// ```
+/// use proved_versions::in_tags;
+///
+/// let answers = in_tags(&["v1.2.3", "latest", "release-1.10"]);
+/// assert_eq!(answers, [Some("1.2.3"), None, Some("1.10")]);
+/// ```
+pub fn in_tags<T: AsRef<str>>(texts: &[T]) -> Vec<Option<&str>> {
+    let starts = library::in_tags(&Texts::new(texts));
+    let versions = texts.iter().zip(starts).map(|(text, start)| {
+        let version = &text.as_ref()[start..];
+        Some(version).filter(|version| !version.is_empty())
+    });
+    versions.collect()
+}
+
+/// Returns the newest text, in one call of the library: the first that no other comes after by
+/// precedence, among the versions that a requirement matches and that are at least so stable.
+/// `None` if no version is left.
+///
+/// `Requirement::default()` matches every version, and `Stability::Dev` is the lowest.
+///
+/// Allocates all texts once more, and 8 bytes for each text.
+///
+/// ```
+/// use proved_versions::{newest, Requirement, Stability};
+///
+/// let texts = ["1.10", "2.0rc1", "1.9", "not a version"];
+/// let any = Requirement::default();
+/// assert_eq!(newest(&texts, &any, Stability::Dev), Some(&"2.0rc1"));
+/// assert_eq!(newest(&texts, &any, Stability::Stable), Some(&"1.10"));
+/// assert_eq!(newest(&texts, &Requirement::new("<1.9")?, Stability::Dev), None);
+/// # Ok::<(), proved_versions::InvalidRequirement>(())
+/// ```
+pub fn newest<'t, T: AsRef<str>>(
+    texts: &'t [T],
+    requirement: &Requirement<'_>,
+    least: Stability,
+) -> Option<&'t T> {
+    let place = library::newest(&Texts::new(texts), requirement.as_str(), least, false)?;
+    Some(&texts[place])
+}
+
+/// Returns the newest tag, as [`newest`] does of texts, by the version in each tag, as
+/// [`Versioning::from_tag`](crate::Versioning::from_tag) finds it.
+///
+/// ```
+/// use proved_versions::{newest_tag, Requirement, Stability};
+///
+/// let tags = ["v1.10.0", "latest", "v2.0.0", "v2.0.0-beta.1"];
+/// let newest = newest_tag(&tags, &Requirement::default(), Stability::Stable);
+/// assert_eq!(newest, Some(&"v2.0.0"));
+/// ```
+pub fn newest_tag<'t, T: AsRef<str>>(
+    tags: &'t [T],
+    requirement: &Requirement<'_>,
+    least: Stability,
+) -> Option<&'t T> {
+    let place = library::newest(&Texts::new(tags), requirement.as_str(), least, true)?;
+    Some(&tags[place])
 }
 
 /// Returns the places of the texts in the order of their versions, the least version first.

@@ -6,7 +6,7 @@ use std::str::FromStr;
 
 use crate::library::{self, Field};
 use crate::text::into_cow;
-use crate::{InvalidVersion, Key, Kind, Text};
+use crate::{InvalidVersion, Key, Kind, Stability, Text};
 
 /// A version: its text, borrowed or owned, its [`Kind`] and its sort key.
 ///
@@ -73,6 +73,58 @@ impl<'a> Versioning<'a> {
                 kind,
             }),
             None => Err(InvalidVersion::new(text)),
+        }
+    }
+
+    /// Parses the version in a tag of git, or in another name of a release. Borrows the end of a `&str`,
+    /// and cuts what precedes the version off a `String`. Allocates what [`new`](Versioning::new) does.
+    ///
+    /// The version begins at the first digit that is at the beginning, or after a sign, or after one
+    /// `v` or `V` that is at the beginning or after a sign. A sign is a byte that is neither an ASCII
+    /// letter or digit nor a dot. There is none where a dot between two digits comes before that
+    /// place.
+    ///
+    /// # Errors
+    ///
+    /// [`InvalidVersion`], where there is no version. The error holds the whole tag.
+    ///
+    /// ```
+    /// use proved_versions::Versioning;
+    ///
+    /// for tag in ["v1.2.3", "release-1.2.3", "refs/tags/v1.2.3", "pkg@1.2.3"] {
+    ///     assert_eq!(Versioning::from_tag(tag)?.as_str(), "1.2.3");
+    /// }
+    /// assert_eq!(Versioning::from_tag("go1.20.3").unwrap_err().text(), "go1.20.3");
+    /// # Ok::<(), proved_versions::InvalidVersion>(())
+    /// ```
+    pub fn from_tag(tag: impl Text<'a>) -> Result<Self, InvalidVersion> {
+        let tag = into_cow(tag);
+        match library::in_tag(&tag) {
+            Some(start) => Versioning::parsed(cut(tag, start)),
+            None => Err(InvalidVersion::new(tag)),
+        }
+    }
+
+    /// Parses the version in a tag that begins with a prefix: it follows the prefix, or one `v` or `V`
+    /// after it. Otherwise as [`from_tag`](Versioning::from_tag).
+    ///
+    /// # Errors
+    ///
+    /// [`InvalidVersion`], also where the tag doesn't begin with the prefix. The error holds the
+    /// whole tag.
+    ///
+    /// ```
+    /// use proved_versions::Versioning;
+    ///
+    /// assert_eq!(Versioning::after_prefix("go", "go1.20.3")?.as_str(), "1.20.3");
+    /// assert!(Versioning::after_prefix("go", "1.20.3").is_err());
+    /// # Ok::<(), proved_versions::InvalidVersion>(())
+    /// ```
+    pub fn after_prefix(prefix: &str, tag: impl Text<'a>) -> Result<Self, InvalidVersion> {
+        let tag = into_cow(tag);
+        match library::after_prefix(prefix, &tag) {
+            Some(start) => Versioning::parsed(cut(tag, start)),
+            None => Err(InvalidVersion::new(tag)),
         }
     }
 
@@ -218,6 +270,23 @@ impl<'a> Versioning<'a> {
         library::is_prerelease(&self.text)
     }
 
+    /// Returns how stable the version is, by the words that stand in it. The lowest of them counts.
+    /// Allocates nothing.
+    ///
+    /// A word is a whole run of letters, upper or lower case. Metadata of strict and general versions
+    /// doesn't count.
+    ///
+    /// ```
+    /// use proved_versions::{Stability, Versioning};
+    ///
+    /// let versions = ["1.0-SNAPSHOT", "2.0.0-beta.1", "1.5.0-1"].map(|v| Versioning::new(v).unwrap());
+    /// let wanted = [Stability::Dev, Stability::Beta, Stability::Stable];
+    /// assert_eq!(versions.map(|version| version.stability()), wanted);
+    /// ```
+    pub fn stability(&self) -> Stability {
+        valid(library::stability(&self.text))
+    }
+
     /// Compares by precedence, the one order of all kinds. Allocates nothing.
     ///
     /// Different versions may tie, as `1.0` and `0:1.0`; [`Ord`] breaks these ties. The operators
@@ -309,6 +378,17 @@ impl<'a> Versioning<'a> {
             return Ordering::Equal;
         }
         valid(library::compare_total(&self.text, &other.text).ok())
+    }
+}
+
+/// The text from a place on, which of a borrowed text is borrowed too.
+fn cut(text: Cow<'_, str>, start: usize) -> Cow<'_, str> {
+    match text {
+        Cow::Borrowed(text) => Cow::Borrowed(&text[start..]),
+        Cow::Owned(mut text) => {
+            text.drain(..start);
+            Cow::Owned(text)
+        }
     }
 }
 

@@ -12,8 +12,8 @@ use std::hash::{Hash, Hasher};
 use std::mem::size_of;
 
 use proved_versions::{
-    compare, compare_total, kind, kinds, match_all, order, sort, sort_key, sort_keys, Key,
-    Requirement, Versioning,
+    compare, compare_total, in_tags, kind, kinds, match_all, newest, order, sort, sort_key,
+    sort_keys, stabilities, Key, Requirement, Stability, Versioning,
 };
 
 thread_local! {
@@ -84,6 +84,11 @@ fn calls_that_allocate_nothing() {
         assert_eq!(of(|| (x.epoch(), x.is_prerelease())), (0, 0));
         assert_eq!(of(|| x.pre_release()), (0, 0));
         assert_eq!(of(|| (x.release(), x.metadata())), (0, 0));
+        assert_eq!(of(|| x.stability()), (0, 0));
+        assert_eq!(of(|| Versioning::from_tag(a)) == (0, 0), is_short);
+        let made =
+            of(|| Versioning::after_prefix("1", &*format!("1{a}")).map(Versioning::into_owned));
+        assert!(made.0 > 0);
         assert_eq!(of(|| hash(&x)), (0, 0));
         assert_eq!(of(|| x.sort_key()), (0, 0));
         assert_eq!(of(|| (x.borrowed(), x.clone())) == (0, 0), is_short);
@@ -101,6 +106,9 @@ fn calls_that_allocate_nothing() {
         of(|| String::from(Versioning::new(owned).unwrap().into_owned())),
         (0, 0)
     );
+    let owned = (String::from("release-1.2.3"), String::from("go1.2.3"));
+    assert_eq!(of(|| Versioning::from_tag(owned.0)), (0, 0));
+    assert_eq!(of(|| Versioning::after_prefix("go", owned.1)), (0, 0));
 }
 
 /// A value is a text, a key of 40 bytes and a kind.
@@ -170,6 +178,8 @@ fn errors_hold_one_copy() {
     assert_eq!(of(|| sort_key(bad)), (1, 4));
     assert_eq!(of(|| compare("1", bad)), (1, 4));
     assert_eq!(of(|| Requirement::new(bad)), (1, 4));
+    assert_eq!(of(|| Versioning::from_tag("go1.2")), (1, 5));
+    assert_eq!(of(|| Versioning::after_prefix("x", "go1.2")), (1, 5));
 }
 
 #[test]
@@ -181,6 +191,18 @@ fn many_texts() {
     // The answers may lie where the library wrote its bytes, or beside them.
     let copied_and_answers = copied + 1000..=copied + 2000;
     assert!(copied_and_answers.contains(&of(|| kinds(&texts)).1));
+    assert!(copied_and_answers.contains(&of(|| stabilities(&texts)).1));
+    let any = Requirement::default();
+    assert_eq!(
+        of(|| newest(&texts, &any, Stability::Stable).is_some()),
+        (2, copied)
+    );
+    // The places, which may lie where the library wrote them, and the answers of 16 bytes.
+    let (_, size) = of(|| in_tags(&texts).len());
+    assert!(
+        (copied + 24 * 1000..=copied + 32 * 1000).contains(&size),
+        "{size}"
+    );
     for text in ["*", "=1.0"] {
         let requirement = Requirement::new(text).unwrap();
         assert!(copied_and_answers.contains(&of(|| match_all(&requirement, &texts)).1));

@@ -5,8 +5,8 @@ use std::collections::hash_map::DefaultHasher;
 use std::hash::Hash;
 
 use proved_versions::{
-    compare, compare_total, kind, kinds, match_all, order, sort, sort_key, sort_keys, Requirement,
-    Versioning,
+    compare, compare_total, in_tags, kind, kinds, match_all, newest, newest_tag, order, sort,
+    sort_key, sort_keys, stabilities, Requirement, Stability, Versioning,
 };
 
 const TEXTS: [&str; 15] = [
@@ -60,6 +60,15 @@ fn one_text_and_two() {
             assert!(version.release().is_none() || version.is_general());
             assert!(version.metadata().is_none() || !version.is_complex());
             assert_eq!(version, version.clone().into_owned());
+            assert!(version.stability() >= Stability::Dev);
+        }
+        for front in ["", "v", "é-v", "go"].map(exact) {
+            let tag = exact(&format!("{front}{a}"));
+            let version = Versioning::after_prefix(&front, &tag);
+            assert!(version.is_err() || tag.ends_with(version.unwrap().as_str()));
+            let version = Versioning::from_tag(&tag);
+            assert!(version.is_err() || tag.ends_with(version.unwrap().as_str()));
+            assert!(Versioning::after_prefix(&tag, a).is_err() || front.is_empty());
         }
     }
 }
@@ -94,6 +103,24 @@ fn many_texts() {
                 kinds(texts),
                 texts.iter().map(|text| kind(text)).collect::<Vec<_>>()
             );
+            let single = texts.iter().map(|text| Versioning::new(text).ok());
+            let single = single.map(|version| Some(version?.stability()));
+            assert_eq!(stabilities(texts), single.collect::<Vec<_>>());
+            let single = texts.iter().map(|text| Versioning::from_tag(text).ok());
+            let single = single.map(|version| Some(String::from(version?)));
+            assert!(in_tags(texts)
+                .into_iter()
+                .map(|v| v.map(String::from))
+                .eq(single));
+            for wanted in ["*", ">=1.2,<1:0", "^1.2.3"] {
+                let wanted = Requirement::new(wanted).unwrap();
+                for least in [Stability::Dev, Stability::Stable] {
+                    let found = newest(texts, &wanted, least);
+                    assert!(found.map_or(true, |text| wanted.matches_text(text).unwrap()));
+                    assert!(found <= found.and(texts.iter().max()));
+                    assert!(newest_tag(texts, &wanted, least).is_some() || found.is_none());
+                }
+            }
             let keys = sort_keys(texts);
             assert_eq!(keys.len(), texts.len());
             for (place, text) in texts.iter().enumerate() {

@@ -11,7 +11,7 @@ use std::sync::Arc;
 
 use proved_versions::{
     compare, compare_total, kind, sort_key, InvalidRequirement, InvalidVersion, Key, KeyRange,
-    Kind, Requirement, SortKeys, Versioning,
+    Kind, Requirement, SortKeys, Stability, Versioning,
 };
 
 // By docs/GRAMMAR.md.
@@ -701,6 +701,7 @@ fn every_type_is_send_and_sync() {
     holds::<Key>();
     holds::<KeyRange>();
     holds::<Kind>();
+    holds::<Stability>();
     holds::<InvalidVersion>();
     holds::<InvalidRequirement>();
     holds::<SortKeys>();

@@ -8,8 +8,8 @@
 use std::panic::{catch_unwind, AssertUnwindSafe};
 
 use proved_versions::{
-    compare, compare_total, kind, kinds, match_all, order, processor_suffices, sort, sort_key,
-    sort_keys, Requirement, Versioning,
+    compare, compare_total, in_tags, kind, kinds, match_all, newest, newest_tag, order,
+    processor_suffices, sort, sort_key, sort_keys, stabilities, Requirement, Stability, Versioning,
 };
 
 const FORGOTTEN: &str = "the library no longer takes the text of a Versioning for a version";
@@ -66,6 +66,24 @@ fn statuses() {
         ("versions_field", panic(|| general.release().is_some())),
         ("versions_field", panic(|| general.metadata().is_some())),
         ("versions_is_prerelease", panic(|| general.is_prerelease())),
+        (
+            "versions_in_tag",
+            panic(|| Versioning::from_tag("v99").is_ok()),
+        ),
+        (
+            "versions_after_prefix",
+            panic(|| Versioning::after_prefix("v99", "v99").is_ok()),
+        ),
+        ("versions_in_tags", panic(|| in_tags(&["v99"]).len())),
+        ("versions_stabilities", panic(|| stabilities(&["v99"]))),
+        (
+            "versions_newest",
+            panic(|| newest(&["v99"], &wanted, Stability::Dev).is_some()),
+        ),
+        (
+            "versions_newest",
+            panic(|| newest_tag(&["v99"], &exact, Stability::Dev).is_some()),
+        ),
         ("versions_matches", panic(|| wanted.matches(&general))),
         ("versions_matches", panic(|| wanted.matches_text("t0"))),
         ("versions_in_range", panic(|| wanted.matches_text("v99"))),
@@ -85,6 +103,11 @@ fn statuses() {
     for (text, what) in [("99", "kind 99"), ("-10", "kind -10")] {
         assert_eq!(panic(|| kind(text)), unexpected("versions_kind", what));
     }
+    for (text, what) in [("v99", "stability 99"), ("v-10", "stability -10")] {
+        let said = panic(|| version(text).stability());
+        assert_eq!(said, unexpected("versions_stability", what));
+    }
+    assert!(panic(|| version("v0").stability()).contains(FORGOTTEN));
 }
 
 #[test]
@@ -155,7 +178,28 @@ fn statuses_of_other_calls() {
             panic(|| order(&[text])),
             unexpected("versions_sort", status)
         );
+        assert_eq!(
+            panic(|| in_tags(&[text]).len()),
+            unexpected("versions_in_tags", status)
+        );
+        assert_eq!(
+            panic(|| stabilities(&[text])),
+            unexpected("versions_stabilities", status)
+        );
+        assert_eq!(
+            panic(|| newest(&[text], &exact, Stability::Rc).is_some()),
+            unexpected("versions_newest", status)
+        );
+        assert_eq!(
+            panic(|| Versioning::from_tag(text).is_ok()),
+            unexpected("versions_in_tag", status)
+        );
     }
+    let status = unexpected("versions_after_prefix", "status 5");
+    assert_eq!(
+        panic(|| Versioning::after_prefix("v5", "v0").is_ok()),
+        status
+    );
 }
 
 #[test]
@@ -191,7 +235,21 @@ fn answers() {
         panic(|| kinds(&["v0"])),
         unexpected("versions_kind", "kind 9")
     );
+    assert_eq!(
+        panic(|| stabilities(&["v0"])),
+        unexpected("versions_stability", "stability 9")
+    );
+    let place = unexpected("versions_newest", "place 1");
+    assert_eq!(
+        panic(|| newest(&["v0"], &wanted, Stability::Dev).is_some()),
+        place
+    );
+    assert_eq!(
+        panic(|| newest_tag(&["v0"], &exact, Stability::Dev).is_some()),
+        place
+    );
     // Offsets and places of no text.
+    panic(|| in_tags(&["v0", "v0"]).len());
     panic(|| sort_keys(&["v0"]).get(0).is_some());
     panic(|| sort(&mut ["v0", "v0"]));
 }
@@ -247,6 +305,25 @@ fn places_of_members() {
     for (text, place) in texts.into_iter().zip(places) {
         let wanted = unexpected("versions_wrong_member", &format!("place {place}"));
         assert_eq!(panic(|| Requirement::new(text).is_ok()), wanted);
+    }
+}
+
+#[test]
+#[ignore = "run by tests/rust of the repository, with a wrong library"]
+fn places_in_tags() {
+    // Past the tag, at its end, and within a letter.
+    let texts = ["v0a", "v0dx", "v0dé", "v0e"];
+    let places = ["4", "4", "4", "18446744073709551615"];
+    for (text, place) in texts.into_iter().zip(places) {
+        let place = format!("place {place}");
+        assert_eq!(
+            panic(|| Versioning::from_tag(text).is_ok()),
+            unexpected("versions_in_tag", &place)
+        );
+        assert_eq!(
+            panic(|| Versioning::after_prefix("v0", text).is_ok()),
+            unexpected("versions_after_prefix", &place)
+        );
     }
 }
 

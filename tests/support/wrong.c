@@ -110,9 +110,39 @@ int versions_is_prerelease(const char *text, size_t text_len, bool *is_prereleas
   return number(text, text_len);
 }
 
+/* The version begins where a field would end. */
+int versions_in_tag(const char *tag, size_t tag_len, size_t *start) {
+  size_t before;
+  place(tag, tag_len, &before, start);
+  return number(tag, tag_len);
+}
+
+int versions_after_prefix(const char *prefix, size_t prefix_len, const char *tag, size_t tag_len, size_t *start) {
+  versions_in_tag(tag, tag_len, start);
+  return number(prefix, prefix_len);
+}
+
 int versions_kinds(const char *texts, size_t texts_len, const int64_t *offsets, size_t offsets_len, uint8_t *kinds,
                    size_t kinds_len) {
   memset(kinds, 9, kinds_len);
+  return number_of_all(texts, texts_len, offsets, offsets_len);
+}
+
+int versions_in_tags(const char *texts, size_t texts_len, const int64_t *offsets, size_t offsets_len, int64_t *starts,
+                     size_t starts_len) {
+  for (size_t i = 0; i < starts_len; i++) starts[i] = -1 - (int64_t)i;
+  return number_of_all(texts, texts_len, offsets, offsets_len);
+}
+
+int versions_stabilities(const char *texts, size_t texts_len, const int64_t *offsets, size_t offsets_len,
+                         uint8_t *stabilities, size_t stabilities_len) {
+  memset(stabilities, 9, stabilities_len);
+  return number_of_all(texts, texts_len, offsets, offsets_len);
+}
+
+int versions_newest(const char *texts, size_t texts_len, const int64_t *offsets, size_t offsets_len, const char *list,
+                    size_t list_len, uint32_t least, uint32_t flags, size_t *place) {
+  *place = offsets_len - 1;
   return number_of_all(texts, texts_len, offsets, offsets_len);
 }
 

@@ -1,0 +1,272 @@
+//! What people ask of versions beside their order: the version in a tag, how stable a version is, and
+//! the newest of many.
+
+use std::borrow::Cow;
+
+use proved_versions::{
+    in_tags, newest, newest_tag, stabilities, Requirement, Stability, Versioning,
+};
+
+// Tags, and the version in each.
+const TAGS: [(&str, &str); 20] = [
+    ("v1.2.3", "1.2.3"),
+    ("V1.2.3", "1.2.3"),
+    ("1.2.3", "1.2.3"),
+    ("release-1.2.3", "1.2.3"),
+    ("refs/tags/v1.2.3", "1.2.3"),
+    ("pkg@1.2.3", "1.2.3"),
+    ("@a/b@1.2.3", "1.2.3"),
+    ("log4j-2.17.1", "2.17.1"),
+    ("k8s-v1.25", "1.25"),
+    ("OpenSSL_1_1_1k", "1_1_1k"),
+    ("wine-8.0-rc1", "8.0-rc1"),
+    ("jdk-17.0.2+8", "17.0.2+8"),
+    ("1:2.0-3", "1:2.0-3"),
+    ("v01.2.3", "01.2.3"),
+    ("release/2023.01.02", "2023.01.02"),
+    ("版本1.2", "1.2"),
+    ("é1.2", "1.2"),
+    ("é-v1.2", "1.2"),
+    ("\0v1.2", "1.2"),
+    ("a b\n1.2", "1.2"),
+];
+const WITHOUT: [&str; 18] = [
+    "go1.20.3",
+    "n6.0",
+    "x1.0-2",
+    "vv1.0",
+    "v.1.2",
+    "latest",
+    "v",
+    "name-v1..2",
+    "jdk8u292-b10",
+    "",
+    ".1",
+    "-",
+    "-v",
+    "x-1.2 ",
+    "1.2\0",
+    "v1.2é",
+    "版本",
+    "é",
+];
+// Tags, a prefix of theirs, and the version after it.
+const AFTER: [(&str, &str, &str); 9] = [
+    ("go1.20.3", "go", "1.20.3"),
+    ("go-v1.2", "go-", "1.2"),
+    ("2ping-4.5", "2ping-", "4.5"),
+    ("版本v1.2", "版本", "1.2"),
+    ("a\x001.2", "a\0", "1.2"),
+    ("vv1.2", "v", "1.2"),
+    ("x1.0V2", "x1.0", "2"),
+    ("v1.2", "", "1.2"),
+    ("1.2", "", "1.2"),
+];
+const NOT_AFTER: [(&str, &str); 13] = [
+    ("1.2", "go"),
+    ("Go1.2", "go"),
+    ("go", "go"),
+    ("gov", "go"),
+    ("go-1.2", "go"),
+    ("govv1.2", "go"),
+    ("g", "go"),
+    ("go1..2", "go"),
+    ("r-1.2", ""),
+    ("", ""),
+    ("", "go"),
+    ("é1.2", "Ã"),
+    ("1.2", "1.2"),
+];
+const STABILITIES: [(Stability, &str); 5] = [
+    (
+        Stability::Dev,
+        "1.0-SNAPSHOT 1.0.dev3 v1.0-nightly 1.0-beta-dev 1.2.0~DEVEL+20220331-1",
+    ),
+    (
+        Stability::Alpha,
+        "1.0a1 2.0-M1 1.0preview3 1.0.0-alpha.beta 1.2.3-x.y 1.0.0--x",
+    ),
+    (Stability::Beta, "2.0.0-beta.1 1.0b2 3.0~beta1-2"),
+    (Stability::Rc, "1.0rc1 1.0.0-rc.1 1.0c1 1.0CR2 1_0rc1+b1"),
+    (
+        Stability::Stable,
+        "1.0 1.1.1k 1.0.Final 1.0.post1 1.2.3-5 1.2.3-r0 1.5.0-1ubuntu1 1.2.3+rc1 1.2-3+b1 \
+         0.0~git20170716.74609b8-1.1 0.1.1+git1-1",
+    ),
+];
+// In increasing order, all of different keys, by docs/ORDER.md.
+const INCREASING: &str =
+    "abc.0 0.0 1a.0 1.2.git 1.2 1.2.0-rc.1 1.2.0 1.2.3rc9 1.2.3rc10 1.2.3 1:0.1";
+// Of one key.
+const LEVEL: [&str; 5] = ["1.2", "01.2", "0:1.2", "1.2+x", "1.002"];
+
+fn rated() -> impl Iterator<Item = (Stability, &'static str)> {
+    STABILITIES
+        .into_iter()
+        .flat_map(|(stability, texts)| texts.split_whitespace().map(move |text| (stability, text)))
+}
+
+fn requirement(text: &str) -> Requirement<'_> {
+    Requirement::new(text).unwrap()
+}
+
+#[test]
+fn versions_in_tags() {
+    for (tag, wanted) in TAGS {
+        let version = Versioning::from_tag(tag).unwrap();
+        assert_eq!(version.as_str(), wanted);
+        assert_eq!(version, Versioning::new(wanted).unwrap());
+        // It is the end of the tag that was lent.
+        let start = tag.len() - wanted.len();
+        assert_eq!(version.as_str().as_ptr(), tag[start..].as_ptr());
+        let owned: Versioning<'static> = Versioning::from_tag(tag.to_string()).unwrap();
+        assert_eq!(owned.as_str(), wanted);
+        let cow = Versioning::from_tag(Cow::Borrowed(tag)).unwrap();
+        assert_eq!(cow.as_str(), wanted);
+    }
+    for tag in WITHOUT {
+        assert_eq!(Versioning::from_tag(tag).unwrap_err().text(), tag);
+        let error = Versioning::from_tag(tag.to_string()).unwrap_err();
+        assert_eq!(error.into_text(), tag);
+    }
+    let tags: Vec<&str> = TAGS.iter().map(|row| row.0).chain(WITHOUT).collect();
+    let wanted = TAGS.iter().map(|row| Some(row.1));
+    let wanted: Vec<Option<&str>> = wanted.chain(WITHOUT.map(|_| None)).collect();
+    assert_eq!(in_tags(&tags), wanted);
+    let owned: Vec<String> = tags.iter().map(|tag| tag.to_string()).collect();
+    assert_eq!(in_tags(&owned), wanted);
+    assert!(in_tags::<&str>(&[]).is_empty());
+}
+
+#[test]
+fn versions_after_prefixes() {
+    for (tag, prefix, wanted) in AFTER {
+        let version = Versioning::after_prefix(prefix, tag).unwrap();
+        assert_eq!(version.as_str(), wanted);
+        let owned = Versioning::after_prefix(prefix, tag.to_string()).unwrap();
+        assert_eq!(owned.as_str(), wanted);
+    }
+    for (tag, prefix) in NOT_AFTER {
+        let error = Versioning::after_prefix(prefix, tag).unwrap_err();
+        assert_eq!(error.text(), tag, "{prefix}");
+    }
+}
+
+#[test]
+fn how_stable_versions_are() {
+    for (stability, text) in rated() {
+        let version = Versioning::new(text).unwrap();
+        assert_eq!(version.stability(), stability, "{text}");
+    }
+    let texts: Vec<&str> = rated().map(|row| row.1).chain(["", "1..2", "é"]).collect();
+    let wanted: Vec<Option<Stability>> = rated().map(|row| Some(row.0)).collect();
+    assert_eq!(stabilities(&texts), [&wanted[..], &[None; 3]].concat());
+    assert!(stabilities::<String>(&[]).is_empty());
+    let members = STABILITIES.map(|row| row.0);
+    assert!(members.windows(2).all(|pair| pair[0] < pair[1]));
+    let names = members.map(|member| format!("{member}|{member:>7}"));
+    assert_eq!(
+        names,
+        [
+            "dev|    dev",
+            "alpha|  alpha",
+            "beta|   beta",
+            "rc|     rc",
+            "stable| stable"
+        ]
+    );
+}
+
+#[test]
+fn the_newest() {
+    let any = Requirement::default();
+    let tags = [
+        "v1.9.0",
+        "v1.10.0",
+        "v2.0.0-beta.1",
+        "latest",
+        "v2.0.0",
+        "v2.1.0-rc.1",
+    ];
+    let found = |wanted, least| newest_tag(&tags, &requirement(wanted), least).copied();
+    assert_eq!(found("*", Stability::Dev), Some("v2.1.0-rc.1"));
+    assert_eq!(found("*", Stability::Stable), Some("v2.0.0"));
+    assert_eq!(found("<2", Stability::Stable), Some("v1.10.0"));
+    assert_eq!(
+        found("<2.0.0", Stability::Beta).unwrap().as_ptr(),
+        tags[2].as_ptr()
+    );
+    assert_eq!(found(">=3", Stability::Dev), None);
+    // As texts and not as tags, by docs/ORDER.md.
+    let texts = ["v2.0.0", "v2.0.0-beta.1", "v1.9.0"];
+    assert_eq!(newest(&texts, &any, Stability::Dev), Some(&texts[1]));
+    assert_eq!(
+        newest_tag(&["go1.2", "go1.3"], &any, Stability::Dev),
+        None::<&&str>
+    );
+    for texts in [&[][..], &["x y", ""], &["1..2"]] {
+        assert_eq!(newest(texts, &any, Stability::Dev), None);
+        assert_eq!(newest_tag(texts, &any, Stability::Dev), None);
+    }
+    // Of an exact range and of others, by docs/REQUIREMENTS.md.
+    let texts: Vec<String> = ["1.2", "1.2.3", "0:1.2", "1.5", "1.2.9", "2.0"]
+        .map(String::from)
+        .to_vec();
+    for (wanted, place) in [("^1.2.3", 4), ("~1.2", 3), ("=1.2", 0), ("=0:1.2", 2)] {
+        let found = newest(&texts, &requirement(wanted), Stability::Stable);
+        assert_eq!(found, Some(&texts[place]), "{wanted}");
+    }
+}
+
+#[test]
+fn the_first_of_those_that_tie() {
+    let any = Requirement::default();
+    let texts: Vec<&str> = INCREASING.split_whitespace().collect();
+    for (i, a) in texts.iter().enumerate() {
+        for (j, b) in texts.iter().enumerate() {
+            let wanted = if i >= j { a } else { b };
+            assert_eq!(newest(&[a, b], &any, Stability::Dev), Some(&wanted));
+        }
+    }
+    for turn in 0..LEVEL.len() {
+        let mut texts = LEVEL.to_vec();
+        texts.rotate_left(turn);
+        let first = texts[0];
+        texts.insert(turn % 2, "1..2");
+        texts.insert(turn % 3, "1.1");
+        let found = newest(&texts, &any, Stability::Dev);
+        assert_eq!(found.unwrap().as_ptr(), first.as_ptr(), "{texts:?}");
+    }
+}
+
+#[test]
+fn great_lengths() {
+    let ten = 10_000_000;
+    for front in [
+        "-".repeat(ten),
+        "v-".repeat(ten / 2),
+        "v".repeat(ten) + "-",
+        "é".repeat(ten / 2),
+    ] {
+        let tag = format!("{front}1.2");
+        assert_eq!(Versioning::from_tag(&tag).unwrap().as_str(), "1.2");
+        let version = Versioning::after_prefix(&front, &tag).unwrap();
+        assert_eq!(version.as_str(), "1.2");
+        assert_eq!(in_tags(&[&*tag, &front]), [Some("1.2"), None]);
+    }
+    for tag in ["a1.0-".repeat(ten / 5), "-1".repeat(ten / 2) + " "] {
+        assert!(Versioning::from_tag(&tag).is_err());
+    }
+    let word = "a".repeat(ten);
+    for (text, stability) in [
+        (word.clone(), Stability::Stable),
+        (format!("1.0.0-{word}"), Stability::Alpha),
+        (format!("{}dev", "1_".repeat(ten / 2)), Stability::Dev),
+    ] {
+        assert_eq!(Versioning::new(&text).unwrap().stability(), stability);
+        assert_eq!(stabilities(&[&text]), [Some(stability)]);
+        let (any, texts) = (Requirement::default(), [&*text, "1..2", &*text]);
+        let found = newest(&texts, &any, stability).unwrap();
+        assert_eq!(found.as_ptr(), text.as_ptr());
+    }
+}
