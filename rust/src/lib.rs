@@ -63,6 +63,7 @@ use std::cmp::Ordering;
 struct Readme;
 
 mod bytes;
+mod difference;
 mod error;
 mod key;
 mod kind;
@@ -77,6 +78,7 @@ mod stability;
 mod text;
 mod versioning;
 
+pub use difference::Difference;
 pub use error::{InvalidRequirement, InvalidVersion};
 pub use key::Key;
 pub use kind::Kind;

@@ -9,7 +9,7 @@ use std::os::raw::{c_char, c_int};
 
 use crate::bytes::{Bytes, WITHIN};
 use crate::range::{KeyRange, Kinds};
-use crate::{Kind, Stability};
+use crate::{Difference, Kind, Stability};
 
 const OK: c_int = 0;
 const NO_VERSION: c_int = 1;
@@ -18,8 +18,10 @@ const NO_VERSION_B: c_int = 3;
 const NO_VERSION_AB: c_int = 4;
 const NO_REQUIREMENTS: c_int = 5;
 const NO_NUMBER: c_int = 6;
+const NO_ROOM: c_int = 7;
 const NO_FIELD: c_int = 11;
 const LARGE_EPOCH: c_int = 13;
+const NO_NEXT: c_int = 17;
 
 const IDEAL: c_int = 1;
 const GENERAL: c_int = 2;
@@ -30,6 +32,12 @@ const ALPHA: c_int = 2;
 const BETA: c_int = 3;
 const RC: c_int = 4;
 const STABLE: c_int = 5;
+
+const DIFFERENCE_NONE: u32 = 0;
+const DIFFERENCE_TIE: u32 = 1;
+const DIFFERENCE_EPOCH: u32 = 2;
+const DIFFERENCE_PART: u32 = 3;
+const DIFFERENCE_TAIL: u32 = 4;
 
 const NEWEST_TAGS: u32 = 1;
 
@@ -145,6 +153,24 @@ extern "C" {
     ) -> c_int;
 
     fn versions_stability(text: *const c_char, text_len: usize) -> c_int;
+
+    fn versions_difference(
+        a: *const c_char,
+        a_len: usize,
+        b: *const c_char,
+        b_len: usize,
+        difference: *mut u32,
+        part: *mut usize,
+    ) -> c_int;
+
+    fn versions_next(
+        text: *const c_char,
+        text_len: usize,
+        place: usize,
+        next: *mut c_char,
+        room: usize,
+        next_len: *mut usize,
+    ) -> c_int;
 
     fn versions_kinds(
         texts: *const c_char,
@@ -574,6 +600,73 @@ fn beginning(call: &str, status: c_int, tag: &str, from: usize) -> Option<usize>
 pub fn stability(text: &str) -> Option<Stability> {
     // SAFETY: the pointer and the length are those of `text`, which is only read.
     stability_of(unsafe { versions_stability(start(text), text.len()) })
+}
+
+/// Where two versions differ first; `None` where one of the texts is not a version.
+pub fn difference(a: &str, b: &str) -> Option<Difference> {
+    let (mut difference, mut part) = (0, 0);
+    // SAFETY: each pointer has the length of its text, which is only read; `difference` and `part`
+    // are written.
+    let status = unsafe {
+        versions_difference(
+            start(a),
+            a.len(),
+            start(b),
+            b.len(),
+            &mut difference,
+            &mut part,
+        )
+    };
+    match (status, difference) {
+        (OK, DIFFERENCE_NONE) => Some(Difference::Same),
+        (OK, DIFFERENCE_TIE) => Some(Difference::Tie),
+        (OK, DIFFERENCE_EPOCH) => Some(Difference::Epoch),
+        (OK, DIFFERENCE_PART) => Some(Difference::Part(part)),
+        (OK, DIFFERENCE_TAIL) => Some(Difference::Tail),
+        (OK, _) => unexpected("versions_difference", "difference", difference),
+        (NO_VERSION_A | NO_VERSION_B | NO_VERSION_AB, _) => None,
+        _ => unexpected("versions_difference", "status", status),
+    }
+}
+
+/// The text of the version that comes next at a place. Panics where the text is not a version.
+pub fn next(text: &str, place: usize) -> Option<String> {
+    // For most there is room in this; the library says how much it takes if there isn't.
+    let mut room = vec![0; text.len() + 1];
+    let (mut status, mut length) = next_into(text, place, &mut room);
+    if status == NO_ROOM {
+        room.resize(length, 0);
+        (status, length) = next_into(text, place, &mut room);
+    }
+    match status {
+        OK => {
+            room.truncate(fitting("versions_next", length, room.len()));
+            match String::from_utf8(room) {
+                Ok(next) => Some(next),
+                Err(error) => unexpected("versions_next", "text", error),
+            }
+        }
+        NO_NEXT => None,
+        _ => unexpected("versions_next", "status", status),
+    }
+}
+
+/// Writes that text to the beginning of `room`, if it has the room. The status, and the text's length.
+fn next_into(text: &str, place: usize, room: &mut [u8]) -> (c_int, usize) {
+    let mut length = 0;
+    // SAFETY: the pointer and the length are those of `text`, which is only read. `room` and `length`
+    // are written, and overlap with nothing, as they are borrowed mutably.
+    let status = unsafe {
+        versions_next(
+            start(text),
+            text.len(),
+            place,
+            room.as_mut_ptr().cast(),
+            room.len(),
+            &mut length,
+        )
+    };
+    (status, length)
 }
 
 /// The kind of each text.

@@ -6,7 +6,7 @@ use std::str::FromStr;
 
 use crate::library::{self, Field};
 use crate::text::into_cow;
-use crate::{InvalidVersion, Key, Kind, Stability, Text};
+use crate::{Difference, InvalidVersion, Key, Kind, Stability, Text};
 
 /// A version: its text, borrowed or owned, its [`Kind`] and its sort key.
 ///
@@ -285,6 +285,42 @@ impl<'a> Versioning<'a> {
     /// ```
     pub fn stability(&self) -> Stability {
         valid(library::stability(&self.text))
+    }
+
+    /// Returns where this version and another one differ first. Allocates nothing.
+    ///
+    /// ```
+    /// use proved_versions::{Difference, Versioning};
+    ///
+    /// let version = Versioning::new("1.2").unwrap();
+    /// let others = ["1.2", "0:1.2", "1:1.2", "1.3", "1.2-1"].map(|text| Versioning::new(text).unwrap());
+    /// let differences = others.map(|other| version.difference(&other));
+    /// let [same, tie, epoch, part, tail] = differences;
+    /// assert_eq!((same, tie, epoch), (Difference::Same, Difference::Tie, Difference::Epoch));
+    /// assert_eq!((part, tail), (Difference::Part(1), Difference::Tail));
+    /// ```
+    pub fn difference(&self, other: &Versioning<'_>) -> Difference {
+        valid(library::difference(&self.text, &other.text))
+    }
+
+    /// Returns the version that comes next at a place, counted from 0: the least version after this
+    /// one that has zeros after the place, the same epoch, as many parts, and nothing after them.
+    ///
+    /// `None` for a messy version, for a general one of which a part is no number, beyond the parts,
+    /// and where a number would be above `u32::MAX`. Allocates the text, and what
+    /// [`new`](Versioning::new) does.
+    ///
+    /// ```
+    /// use proved_versions::Versioning;
+    ///
+    /// let version = Versioning::new("1.2.3-rc.1").unwrap();
+    /// let next = [0, 1, 2].map(|place| version.next(place).unwrap().to_string());
+    /// assert_eq!(next, ["2.0.0", "1.3.0", "1.2.3"]);
+    /// assert!(version.next(3).is_none());
+    /// ```
+    pub fn next(&self, place: usize) -> Option<Versioning<'static>> {
+        let next = library::next(&self.text, place)?;
+        Some(valid(Versioning::new(next).ok()))
     }
 
     /// Compares by precedence, the one order of all kinds. Allocates nothing.

@@ -85,6 +85,7 @@ fn calls_that_allocate_nothing() {
         assert_eq!(of(|| x.pre_release()), (0, 0));
         assert_eq!(of(|| (x.release(), x.metadata())), (0, 0));
         assert_eq!(of(|| x.stability()), (0, 0));
+        assert_eq!(of(|| (x.difference(&y), y.difference(&x))), (0, 0));
         assert_eq!(of(|| Versioning::from_tag(a)) == (0, 0), is_short);
         let made =
             of(|| Versioning::after_prefix("1", &*format!("1{a}")).map(Versioning::into_owned));
@@ -149,6 +150,9 @@ fn keys() {
     let text = format!("1.0.0+{}", "a".repeat(1000));
     assert_eq!(of(|| Versioning::new(&*text)), (1, 3 * 1006 + 5));
     assert_eq!(of(|| sort_key("1.2").unwrap().after()).0, 1);
+    // The text alone, which the version that comes next takes over.
+    let version = Versioning::new("1.9.9").unwrap();
+    assert_eq!(of(|| version.next(2)), (1, 6));
 }
 
 #[test]

@@ -61,6 +61,14 @@ fn one_text_and_two() {
             assert!(version.metadata().is_none() || !version.is_complex());
             assert_eq!(version, version.clone().into_owned());
             assert!(version.stability() >= Stability::Dev);
+            for place in [0, 1, 2, 199, usize::MAX] {
+                assert!(version.next(place).map_or(true, |next| next > version));
+            }
+            for b in &texts() {
+                let other = Versioning::new(b).ok();
+                let difference = other.map(|other| version.difference(&other));
+                assert_eq!(difference.is_some(), kind(b).is_some());
+            }
         }
         for front in ["", "v", "é-v", "go"].map(exact) {
             let tag = exact(&format!("{front}{a}"));

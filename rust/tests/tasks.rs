@@ -1,10 +1,11 @@
-//! What people ask of versions beside their order: the version in a tag, how stable a version is, and
-//! the newest of many.
+//! What people ask of versions beside their order: the version in a tag, how stable a version is, the
+//! newest of many; what changed, and what comes next.
 
 use std::borrow::Cow;
 
 use proved_versions::{
-    in_tags, newest, newest_tag, stabilities, Requirement, Stability, Versioning,
+    compare_total, in_tags, newest, newest_tag, stabilities, Difference, Requirement, Stability,
+    Versioning,
 };
 
 // Tags, and the version in each.
@@ -99,6 +100,79 @@ const INCREASING: &str =
     "abc.0 0.0 1a.0 1.2.git 1.2 1.2.0-rc.1 1.2.0 1.2.3rc9 1.2.3rc10 1.2.3 1:0.1";
 // Of one key.
 const LEVEL: [&str; 5] = ["1.2", "01.2", "0:1.2", "1.2+x", "1.002"];
+
+// Where pairs of versions differ first, by docs/ORDER.md.
+const DIFFERENCES: [(Difference, &str); 7] = [
+    (
+        Difference::Same,
+        "1.2.3 1.2.3, 1.0.0+a 1.0.0+b, 1_2 1_2, 1.0.0-a+x 1.0.0-a",
+    ),
+    (
+        Difference::Tie,
+        "1.2 0:1.2, 1.0 1.0+x, 1.2 1.002, 01.2.3 1.2.3",
+    ),
+    (
+        Difference::Epoch,
+        "1.2 1:1.2, 1:2 2:1, 9.9.9 1:0, 1:1_2 3:1_2",
+    ),
+    (
+        Difference::Part(0),
+        "1.2.3 2.2.3, 1.2 3.2-1, a.1 b.1, 1:1.0 1:2_0",
+    ),
+    (
+        Difference::Part(1),
+        "1.2.3 1.3.0, 1 1.0, 1.9 1.10, 1.3rc1 1.3, 2 2.git",
+    ),
+    (
+        Difference::Part(2),
+        "1.2.3 1.2.4, 1.2 1.2.0-rc.1, 1:0.1.2-3 1:0.1.3-3",
+    ),
+    (
+        Difference::Tail,
+        "1.2 1.2-1, 1.2.0-rc.1 1.2.0, 1.2_1 1.2, 1.2-1 1.2-2",
+    ),
+];
+// What comes next at a place.
+const NEXT: [(&str, usize, &str); 20] = [
+    ("1.2.3", 2, "1.2.4"),
+    ("1.2.3", 1, "1.3.0"),
+    ("1.2.3", 0, "2.0.0"),
+    ("1.2.3-rc.1", 2, "1.2.3"),
+    ("1.2.3-rc.1", 1, "1.3.0"),
+    ("1:1.9", 1, "1:1.10"),
+    ("1.2-3", 1, "1.3"),
+    ("1.2-3", 0, "2.0"),
+    ("1.0.0-rc.1", 0, "1.0.0"),
+    ("1.0.0-rc.1", 1, "1.0.0"),
+    ("1.2.0-rc.1", 1, "1.2.0"),
+    ("0:1.2", 0, "0:2.0"),
+    ("1.2.3+x", 2, "1.2.4"),
+    ("1.2+x", 1, "1.3"),
+    ("7", 0, "8"),
+    ("0", 0, "1"),
+    ("1.2.3.4", 1, "1.3.0.0"),
+    ("1.4294967295", 0, "2.0"),
+    ("4294967294.0.0", 0, "4294967295.0.0"),
+    ("1.9.9", 2, "1.9.10"),
+];
+const NO_NEXT: [(&str, usize); 16] = [
+    ("4294967295.0.0", 0),
+    ("1.4294967295", 1),
+    ("1.2", 2),
+    ("1.2.3", 3),
+    ("1.2-3", 2),
+    ("7", 1),
+    ("1.2rc1", 0),
+    ("1.2rc1", 1),
+    ("a.1", 1),
+    ("1.a", 0),
+    ("1_2", 0),
+    ("01.2", 0),
+    ("1.2_3", 0),
+    ("1.2.3", 4294967296),
+    ("1.2.3", usize::MAX / 2),
+    ("1.2.3", usize::MAX),
+];
 
 fn rated() -> impl Iterator<Item = (Stability, &'static str)> {
     STABILITIES
@@ -236,6 +310,72 @@ fn the_first_of_those_that_tie() {
         texts.insert(turn % 3, "1.1");
         let found = newest(&texts, &any, Stability::Dev);
         assert_eq!(found.unwrap().as_ptr(), first.as_ptr(), "{texts:?}");
+    }
+}
+
+#[test]
+fn where_versions_differ() {
+    for (wanted, pairs) in DIFFERENCES {
+        for pair in pairs.split(", ") {
+            let (a, b) = pair.split_once(' ').unwrap();
+            let [x, y] = [a, b].map(|text| Versioning::new(text).unwrap());
+            assert_eq!(x.difference(&y), wanted, "{pair}");
+            assert_eq!(y.difference(&x.into_owned()), wanted, "{pair}");
+        }
+    }
+    let sentences = DIFFERENCES.map(|row| row.0.to_string());
+    assert_eq!(
+        sentences,
+        [
+            "they are the same version",
+            "they compare equal, and are not the same version",
+            "they differ first in the epoch",
+            "they differ first in part 0",
+            "they differ first in part 1",
+            "they differ first in part 2",
+            "they differ first in what follows the parts",
+        ]
+    );
+    // Beside the comparisons.
+    let texts = INCREASING.split_whitespace().chain(LEVEL);
+    let texts: Vec<&str> = texts.chain(rated().map(|row| row.1)).collect();
+    for a in &texts {
+        for b in &texts {
+            let [x, y] = [a, b].map(|text| Versioning::new(text).unwrap());
+            let found = x.difference(&y);
+            let ties = found == Difference::Same || found == Difference::Tie;
+            assert_eq!(ties, x.precedence(&y).is_eq(), "{a} {b}");
+            assert_eq!(
+                found == Difference::Same,
+                compare_total(a, b).unwrap().is_eq()
+            );
+            let epochs = [&x, &y].map(|version| version.epoch().unwrap_or(0));
+            assert_eq!(found == Difference::Epoch, epochs[0] != epochs[1]);
+        }
+    }
+}
+
+#[test]
+fn what_comes_next() {
+    for (text, place, wanted) in NEXT {
+        let version = Versioning::new(text).unwrap();
+        let next: Versioning<'static> = version.next(place).unwrap();
+        assert_eq!(next.as_str(), wanted, "{text} {place}");
+        assert!(next > version);
+    }
+    for (text, place) in NO_NEXT {
+        let version = Versioning::new(text).unwrap();
+        assert!(version.next(place).is_none(), "{text} {place}");
+    }
+    for count in [1, 40, 41, 42, 126, 127, 128, 1000, 1_000_000] {
+        let version = Versioning::new("9.".repeat(count) + "9").unwrap();
+        let next = version.next(count).unwrap();
+        assert_eq!(next.as_str(), "9.".repeat(count) + "10");
+        let next = version.next(0).unwrap();
+        assert_eq!(next.as_str(), String::from("10") + &".0".repeat(count));
+        assert!(version.next(count + 1).is_none());
+        let other = Versioning::new("9.".repeat(count) + "8").unwrap();
+        assert_eq!(version.difference(&other), Difference::Part(count));
     }
 }
 

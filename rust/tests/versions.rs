@@ -10,8 +10,8 @@ use std::rc::Rc;
 use std::sync::Arc;
 
 use proved_versions::{
-    compare, compare_total, kind, sort_key, InvalidRequirement, InvalidVersion, Key, KeyRange,
-    Kind, Requirement, SortKeys, Stability, Versioning,
+    compare, compare_total, kind, sort_key, Difference, InvalidRequirement, InvalidVersion, Key,
+    KeyRange, Kind, Requirement, SortKeys, Stability, Versioning,
 };
 
 // By docs/GRAMMAR.md.
@@ -702,6 +702,7 @@ fn every_type_is_send_and_sync() {
     holds::<KeyRange>();
     holds::<Kind>();
     holds::<Stability>();
+    holds::<Difference>();
     holds::<InvalidVersion>();
     holds::<InvalidRequirement>();
     holds::<SortKeys>();

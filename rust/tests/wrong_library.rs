@@ -74,6 +74,11 @@ fn statuses() {
             "versions_after_prefix",
             panic(|| Versioning::after_prefix("v99", "v99").is_ok()),
         ),
+        (
+            "versions_difference",
+            panic(|| general.difference(&version("v0"))),
+        ),
+        ("versions_next", panic(|| general.next(0).is_some())),
         ("versions_in_tags", panic(|| in_tags(&["v99"]).len())),
         ("versions_stabilities", panic(|| stabilities(&["v99"]))),
         (
@@ -117,6 +122,7 @@ fn statuses_of_other_calls() {
     for text in ["v2", "v3", "v4"] {
         assert!(panic(|| version(text).cmp(&version("v0"))).contains(FORGOTTEN));
         assert!(panic(|| version(text) == version("v0")).contains(FORGOTTEN));
+        assert!(panic(|| version(text).difference(&version("v0"))).contains(FORGOTTEN));
     }
     for (text, status) in [("x5", "status 5"), ("x7", "status 7"), ("x10", "status 10")] {
         let said = panic(|| Versioning::new(text).is_ok());
@@ -138,6 +144,12 @@ fn statuses_of_other_calls() {
             unexpected("versions_epoch", status)
         );
     }
+    for (text, status) in [("v1", "status 1"), ("v7", "status 7"), ("v15", "status 15")] {
+        let said = panic(|| version(text).next(0).is_some());
+        assert_eq!(said, unexpected("versions_next", status));
+    }
+    let said = panic(|| version("v1").difference(&version("v0")));
+    assert_eq!(said, unexpected("versions_difference", "status 1"));
     for (text, status) in [("v1", "status 1"), ("v6", "status 6"), ("v10", "status 10")] {
         assert_eq!(
             panic(|| version(text).metadata().is_some()),
@@ -239,6 +251,14 @@ fn answers() {
         panic(|| stabilities(&["v0"])),
         unexpected("versions_stability", "stability 9")
     );
+    assert_eq!(
+        panic(|| general.difference(&general)),
+        unexpected("versions_difference", "difference 9")
+    );
+    let said = panic(|| general.next(0).is_some());
+    assert!(said.starts_with("versions_next gave the text invalid utf-8"));
+    let said = panic(|| version("v0a").next(0).is_some());
+    assert_eq!(said, unexpected("versions_next", "length 5"));
     let place = unexpected("versions_newest", "place 1");
     assert_eq!(
         panic(|| newest(&["v0"], &wanted, Stability::Dev).is_some()),

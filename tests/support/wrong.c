@@ -110,6 +110,19 @@ int versions_is_prerelease(const char *text, size_t text_len, bool *is_prereleas
   return number(text, text_len);
 }
 
+int versions_difference(const char *a, size_t a_len, const char *b, size_t b_len, uint32_t *difference, size_t *part) {
+  *difference = 9;
+  *part = 0;
+  return number(a, a_len);
+}
+
+/* A byte that is not UTF-8; of a text of more than two bytes, a length that is longer than the room. */
+int versions_next(const char *text, size_t text_len, size_t place, char *next, size_t room, size_t *next_len) {
+  *next_len = text_len > 2 && text[2] == 'a' ? room + 1 : 1;
+  next[0] = '\xff';
+  return number(text, text_len);
+}
+
 /* The version begins where a field would end. */
 int versions_in_tag(const char *tag, size_t tag_len, size_t *start) {
   size_t before;
