@@ -70,6 +70,7 @@ mod kind;
 #[allow(unsafe_code)]
 mod library;
 mod many;
+mod mismatch;
 mod range;
 mod requirement;
 #[cfg(feature = "serde")]
@@ -85,6 +86,7 @@ pub use kind::Kind;
 pub use many::{
     in_tags, kinds, match_all, newest, newest_tag, order, sort, sort_keys, stabilities, SortKeys,
 };
+pub use mismatch::{Mismatch, Reason};
 pub use range::KeyRange;
 pub use requirement::{Filter, Requirement};
 pub use stability::Stability;

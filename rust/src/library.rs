@@ -9,7 +9,7 @@ use std::os::raw::{c_char, c_int};
 
 use crate::bytes::{Bytes, WITHIN};
 use crate::range::{KeyRange, Kinds};
-use crate::{Difference, Kind, Stability};
+use crate::{Difference, Kind, Reason, Stability};
 
 const OK: c_int = 0;
 const NO_VERSION: c_int = 1;
@@ -21,6 +21,8 @@ const NO_NUMBER: c_int = 6;
 const NO_ROOM: c_int = 7;
 const NO_FIELD: c_int = 11;
 const LARGE_EPOCH: c_int = 13;
+const ALL_MATCH: c_int = 15;
+const NO_CONFLICT: c_int = 16;
 const NO_NEXT: c_int = 17;
 
 const IDEAL: c_int = 1;
@@ -38,6 +40,11 @@ const DIFFERENCE_TIE: u32 = 1;
 const DIFFERENCE_EPOCH: u32 = 2;
 const DIFFERENCE_PART: u32 = 3;
 const DIFFERENCE_TAIL: u32 = 4;
+
+const WHY_KIND: u32 = 1;
+const WHY_BELOW: u32 = 2;
+const WHY_ABOVE: u32 = 3;
+const WHY_PARTS: u32 = 4;
 
 const NEWEST_TAGS: u32 = 1;
 
@@ -170,6 +177,25 @@ extern "C" {
         next: *mut c_char,
         room: usize,
         next_len: *mut usize,
+    ) -> c_int;
+
+    fn versions_why_not(
+        list: *const c_char,
+        list_len: usize,
+        text: *const c_char,
+        text_len: usize,
+        start: *mut usize,
+        end: *mut usize,
+        why: *mut u32,
+    ) -> c_int;
+
+    fn versions_conflict(
+        list: *const c_char,
+        list_len: usize,
+        start: *mut usize,
+        end: *mut usize,
+        other_start: *mut usize,
+        other_end: *mut usize,
     ) -> c_int;
 
     fn versions_kinds(
@@ -667,6 +693,69 @@ fn next_into(text: &str, place: usize, room: &mut [u8]) -> (c_int, usize) {
         )
     };
     (status, length)
+}
+
+/// Where the first member of a list lies that does not match a version, and why it doesn't; `None`
+/// where each matches. Panics where `list` is not a list of requirements, or the text is not a
+/// version.
+pub fn why_not(list: &str, text: &str) -> Option<(Range<usize>, Reason)> {
+    let (mut from, mut to, mut why) = (0, 0, 0);
+    // SAFETY: each pointer has the length of its text, which is only read; the others are written.
+    let status = unsafe {
+        versions_why_not(
+            start(list),
+            list.len(),
+            start(text),
+            text.len(),
+            &mut from,
+            &mut to,
+            &mut why,
+        )
+    };
+    let reason = match (status, why) {
+        (OK, WHY_KIND) => Reason::Kind,
+        (OK, WHY_BELOW) => Reason::Below,
+        (OK, WHY_ABOVE) => Reason::Above,
+        (OK, WHY_PARTS) => Reason::Parts,
+        (OK, _) => unexpected("versions_why_not", "reason", why),
+        (ALL_MATCH, _) => return None,
+        _ => unexpected("versions_why_not", "status", status),
+    };
+    Some((member("versions_why_not", list, from, to), reason))
+}
+
+/// Where two members of a list lie that exclude each other; `None` where there are none. Panics where
+/// `list` is not a list of requirements.
+pub fn conflict(list: &str) -> Option<[Range<usize>; 2]> {
+    let (mut from, mut to, mut other_from, mut other_to) = (0, 0, 0, 0);
+    // SAFETY: the pointer and the length are those of `list`, which is only read; the others are
+    // written.
+    let status = unsafe {
+        versions_conflict(
+            start(list),
+            list.len(),
+            &mut from,
+            &mut to,
+            &mut other_from,
+            &mut other_to,
+        )
+    };
+    match status {
+        OK => Some([
+            member("versions_conflict", list, from, to),
+            member("versions_conflict", list, other_from, other_to),
+        ]),
+        NO_CONFLICT => None,
+        _ => unexpected("versions_conflict", "status", status),
+    }
+}
+
+/// The place of a member of a list.
+fn member(call: &str, list: &str, from: usize, to: usize) -> Range<usize> {
+    if list.get(from..to).is_none() {
+        unexpected(call, "place", format_args!("{from}..{to}"));
+    }
+    from..to
 }
 
 /// The kind of each text.

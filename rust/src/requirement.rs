@@ -5,7 +5,7 @@ use std::iter::FusedIterator;
 use std::str::FromStr;
 
 use crate::text::into_cow;
-use crate::{library, InvalidRequirement, InvalidVersion, KeyRange, Text, Versioning};
+use crate::{library, InvalidRequirement, InvalidVersion, KeyRange, Mismatch, Text, Versioning};
 
 /// A requirement, as `^1.2.3`, or a list of them with commas between, as `>=1.1.1,<2.0.0`.
 ///
@@ -107,6 +107,44 @@ impl<'a> Requirement<'a> {
             answer => answer,
         };
         answer.ok_or_else(|| InvalidVersion::new(text))
+    }
+
+    /// Returns why the requirement doesn't match a version, or `None` if it does. Allocates nothing.
+    ///
+    /// ```
+    /// use proved_versions::{Reason, Requirement, Versioning};
+    ///
+    /// let requirement = Requirement::new("^1.2.3,<1.9.0").unwrap();
+    /// let versions = ["1.5", "1.2.2", "1.9.1"].map(|text| Versioning::new(text).unwrap());
+    /// let reasons = [0, 1, 2].map(|n: usize| requirement.why_not(&versions[n]).unwrap().reason());
+    /// assert_eq!(reasons, [Reason::Kind, Reason::Below, Reason::Above]);
+    /// ```
+    pub fn why_not<'s>(&'s self, version: &'s Versioning<'_>) -> Option<Mismatch<'s>> {
+        if self.range.is_exact() && self.range.contains(version) {
+            return None;
+        }
+        let (list, version) = (self.as_str(), version.as_str());
+        library::why_not(list, version).map(|(place, reason)| Mismatch {
+            list,
+            version,
+            place,
+            reason,
+        })
+    }
+
+    /// Returns two members of the list that exclude each other, so that no version matches, or `None`.
+    /// Both are the same if one member excludes every version. Allocates nothing.
+    ///
+    /// ```
+    /// use proved_versions::Requirement;
+    ///
+    /// let requirement = Requirement::new(">=1.2,*,<1.0").unwrap();
+    /// assert_eq!(requirement.conflict(), Some((">=1.2", "<1.0")));
+    /// assert_eq!(Requirement::new(">=1.2,<2").unwrap().conflict(), None);
+    /// ```
+    pub fn conflict(&self) -> Option<(&str, &str)> {
+        let [first, second] = library::conflict(&self.text)?;
+        Some((&self.text[first], &self.text[second]))
     }
 
     /// Returns the versions that the requirement matches, in their order. The items may be [`Versioning`]s or

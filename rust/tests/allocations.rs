@@ -98,6 +98,11 @@ fn calls_that_allocate_nothing() {
         let requirement = Requirement::new(&text).unwrap();
         assert_eq!(of(|| requirement.matches(&x)), (0, 0));
         assert_eq!(of(|| requirement.matches_text(b)), (0, 0));
+        assert_eq!(
+            of(|| (requirement.why_not(&x), requirement.why_not(&y))),
+            (0, 0)
+        );
+        assert_eq!(of(|| requirement.conflict()), (0, 0));
         assert_eq!(of(|| requirement.filter([&x, &y]).count()), (0, 0));
     }
     let defaults = || (Versioning::default(), Requirement::default());

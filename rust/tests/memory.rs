@@ -87,6 +87,12 @@ fn requirements() {
         let answer = Requirement::new(&*wanted);
         assert_eq!(answer.is_err(), wanted.is_empty() || wanted.ends_with(','));
         if let Ok(requirement) = answer {
+            assert_eq!(requirement.conflict(), None);
+            for version in texts().iter().flat_map(Versioning::new) {
+                let mismatch = requirement.why_not(&version);
+                assert_eq!(mismatch.is_none(), requirement.matches(&version));
+                assert!(mismatch.map_or(true, |found| wanted[found.place()] == *found.member()));
+            }
             for text in &texts() {
                 let version = Versioning::new(text).ok();
                 let answer = version.map(|version| requirement.matches(&version));

@@ -1,11 +1,12 @@
 //! What people ask of versions beside their order: the version in a tag, how stable a version is, the
-//! newest of many; what changed, and what comes next.
+//! newest of many; what changed, what comes next; why a version doesn't match, and which requirements
+//! exclude each other.
 
 use std::borrow::Cow;
 
 use proved_versions::{
-    compare_total, in_tags, newest, newest_tag, stabilities, Difference, Requirement, Stability,
-    Versioning,
+    compare_total, in_tags, newest, newest_tag, stabilities, Difference, Reason, Requirement,
+    Stability, Versioning,
 };
 
 // Tags, and the version in each.
@@ -173,6 +174,28 @@ const NO_NEXT: [(&str, usize); 16] = [
     ("1.2.3", usize::MAX / 2),
     ("1.2.3", usize::MAX),
 ];
+
+// A requirement, a version, the first member that doesn't match, and why, by docs/REQUIREMENTS.md.
+const MISMATCHES: [(Reason, &str); 4] = [
+    (
+        Reason::Kind,
+        "^1.2.3 1.5 ^1.2.3; ^1.2.3 1_2 ^1.2.3; *,~1.2 1.2.0 ~1.2; ^1_2 1.2 ^1_2",
+    ),
+    (
+        Reason::Below,
+        ">=1.5 1.4 >=1.5; *,>=1.5 1.4 >=1.5; >1.5 1.5 >1.5; =1.0 0.9 =1.0; ^1.2.3 1.2.2 ^1.2.3",
+    ),
+    (
+        Reason::Above,
+        "<2 2.0 <2; <2.0.0 2.0.0 <2.0.0; <=1 1.0 <=1; =1.0 1.1 =1.0; ^1.2.3 2.0.0 ^1.2.3; \
+         ~1.1.1 1.2.0 ~1.1.1; ^1.1.1,<1.5.0 1.5.0 <1.5.0; >=1,<2,<1 3 <2",
+    ),
+    (
+        Reason::Parts,
+        "=1.0 0:1.0 =1.0; =1.0 1.0+x =1.0; *,=1.0,<0 0:1.0 =1.0",
+    ),
+];
+const MATCHED: &str = ">=1.5 1.5; * 1_2; ^1.2.3 1.9.0; ^1.1.1,<1.5.0 1.2.0; >=1.0 0:1.0";
 
 fn rated() -> impl Iterator<Item = (Stability, &'static str)> {
     STABILITIES
@@ -376,6 +399,110 @@ fn what_comes_next() {
         assert!(version.next(count + 1).is_none());
         let other = Versioning::new("9.".repeat(count) + "8").unwrap();
         assert_eq!(version.difference(&other), Difference::Part(count));
+    }
+}
+
+fn words<const N: usize>(row: &str) -> [&str; N] {
+    let words: Vec<&str> = row.split_whitespace().collect();
+    words.try_into().unwrap()
+}
+
+#[test]
+fn why_versions_do_not_match() {
+    for (reason, rows) in MISMATCHES {
+        for row in rows.split("; ") {
+            let [wanted, text, member] = words(row);
+            let (wanted, version) = (requirement(wanted), Versioning::new(text).unwrap());
+            let found = wanted.why_not(&version).unwrap();
+            let start = wanted.as_str().find(member).unwrap();
+            assert_eq!((found.member(), found.reason()), (member, reason), "{row}");
+            assert_eq!(found.place(), start..start + member.len(), "{row}");
+            assert_eq!(found.version(), text);
+            let sentence = match reason {
+                Reason::Kind => format!("{text} is not of a kind that {member} matches"),
+                Reason::Below => format!("{text} is below {member}"),
+                Reason::Above => format!("{text} is above {member}"),
+                Reason::Parts => {
+                    format!(
+                        "{text} is within the bounds of {member}, but its parts or fields differ"
+                    )
+                }
+            };
+            assert_eq!(found.to_string(), sentence);
+            assert_eq!(found.clone(), found);
+        }
+    }
+    for row in MATCHED.split("; ") {
+        let [wanted, text] = words(row);
+        let version = Versioning::new(text).unwrap();
+        assert_eq!(requirement(wanted).why_not(&version), None, "{row}");
+    }
+}
+
+#[test]
+fn why_not_beside_the_ranges_of_members() {
+    let texts: Vec<&str> = INCREASING.split_whitespace().chain(LEVEL).collect();
+    let mut members = vec!["*".to_string()];
+    for operator in ["=", ">", ">=", "<", "<=", "~", "^"] {
+        members.extend(texts.iter().map(|text| format!("{operator}{text}")));
+    }
+    let lists = members
+        .iter()
+        .zip(members.iter().rev())
+        .zip(members.iter().cycle().skip(17));
+    for ((a, b), c) in lists {
+        let list = format!("{a},{b},{c}");
+        let wanted = requirement(&list);
+        for version in texts.iter().map(|text| Versioning::new(*text).unwrap()) {
+            let first = [a, b, c]
+                .into_iter()
+                .map(|member| requirement(member))
+                .find(|member| !member.matches(&version));
+            let found = wanted.why_not(&version);
+            assert_eq!(found.is_none(), wanted.matches(&version));
+            assert_eq!(found.is_none(), first.is_none(), "{list} {version}");
+            if let (Some(found), Some(first)) = (found, first) {
+                let (range, key) = (first.range(), version.sort_key());
+                let reason = if !range.has_kind(version.kind()) {
+                    Reason::Kind
+                } else if key < range.low() {
+                    Reason::Below
+                } else if range.high().map_or(false, |high| key >= high) {
+                    Reason::Above
+                } else {
+                    Reason::Parts
+                };
+                assert_eq!(found.member(), first.as_str(), "{list} {version}");
+                assert_eq!(found.reason(), reason, "{list} {version}");
+            }
+        }
+    }
+}
+
+#[test]
+fn requirements_that_exclude_each_other() {
+    for row in [
+        ">=1.2,<1.0 <1.0 >=1.2",
+        "<1.0,>=1.2 <1.0 >=1.2",
+        "*,>=2,<9,<2 <2 >=2",
+        "<1,>1,* <1 >1",
+        "^1.2.3,^2.0.0 ^1.2.3 ^2.0.0",
+        "^1.2,^1.2.3 ^1.2 ^1.2.3",
+        "=1.0,=1.1 =1.0 =1.1",
+        ">=3,>=1,<5,<=2 <=2 >=3",
+        // `^` of a messy version matches nothing.
+        "^1_2 ^1_2 ^1_2",
+        "*,~1_2 ~1_2 ~1_2",
+    ] {
+        let [list, a, b] = words(row);
+        let list = requirement(list);
+        let (first, second) = list.conflict().unwrap();
+        let mut found = [first, second];
+        found.sort();
+        assert_eq!(found, [a, b], "{row}");
+    }
+    for text in ["*", ">=1.2,<2", "^1.2.3,<1.9.0", "=1.0", ">=1,<=1", "*,*"] {
+        assert_eq!(requirement(text).conflict(), None, "{text}");
     }
 }
 

@@ -703,6 +703,7 @@ fn every_type_is_send_and_sync() {
     holds::<Kind>();
     holds::<Stability>();
     holds::<Difference>();
+    holds::<proved_versions::Mismatch>();
     holds::<InvalidVersion>();
     holds::<InvalidRequirement>();
     holds::<SortKeys>();

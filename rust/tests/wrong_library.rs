@@ -79,6 +79,11 @@ fn statuses() {
             panic(|| general.difference(&version("v0"))),
         ),
         ("versions_next", panic(|| general.next(0).is_some())),
+        (
+            "versions_why_not",
+            panic(|| wanted.why_not(&general).is_some()),
+        ),
+        ("versions_conflict", panic(|| wanted.conflict().is_some())),
         ("versions_in_tags", panic(|| in_tags(&["v99"]).len())),
         ("versions_stabilities", panic(|| stabilities(&["v99"]))),
         (
@@ -165,6 +170,16 @@ fn statuses_of_other_calls() {
     assert_eq!(panic(|| wanted.matches(&version("v0"))), status);
     assert_eq!(panic(|| wanted.matches_text("t0")), status);
     assert!(panic(|| requirement("v1").matches(&version("v1"))).contains(FORGOTTEN));
+    for (text, status) in [("v1", "status 1"), ("v5", "status 5"), ("v12", "status 12")] {
+        assert_eq!(
+            panic(|| requirement(text).why_not(&version("v0")).is_some()),
+            unexpected("versions_why_not", status)
+        );
+        assert_eq!(
+            panic(|| requirement(text).conflict().is_some()),
+            unexpected("versions_conflict", status)
+        );
+    }
     let status = unexpected("versions_match_all", "status 5");
     assert_eq!(panic(|| match_all(&wanted, &["v5"])), status);
     for (text, status) in [("v5", "status 5"), ("v7", "status 7"), ("v10", "status 10")] {
@@ -259,6 +274,10 @@ fn answers() {
     assert!(said.starts_with("versions_next gave the text invalid utf-8"));
     let said = panic(|| version("v0a").next(0).is_some());
     assert_eq!(said, unexpected("versions_next", "length 5"));
+    assert_eq!(
+        panic(|| wanted.why_not(&general).is_some()),
+        unexpected("versions_why_not", "reason 9")
+    );
     let place = unexpected("versions_newest", "place 1");
     assert_eq!(
         panic(|| newest(&["v0"], &wanted, Stability::Dev).is_some()),
@@ -325,6 +344,24 @@ fn places_of_members() {
     for (text, place) in texts.into_iter().zip(places) {
         let wanted = unexpected("versions_wrong_member", &format!("place {place}"));
         assert_eq!(panic(|| Requirement::new(text).is_ok()), wanted);
+    }
+}
+
+#[test]
+#[ignore = "run by tests/rust of the repository, with a wrong library"]
+fn places_of_members_that_differ() {
+    let texts = ["v0a", "v0b", "v0dé", "v0e"];
+    let places = ["0..4", "2..1", "3..4", "0..18446744073709551615"];
+    for (text, place) in texts.into_iter().zip(places) {
+        let (place, version) = (format!("place {place}"), version("v1"));
+        assert_eq!(
+            panic(|| requirement(text).why_not(&version).is_some()),
+            unexpected("versions_why_not", &place)
+        );
+        assert_eq!(
+            panic(|| requirement(text).conflict().is_some()),
+            unexpected("versions_conflict", &place)
+        );
     }
 }
 

@@ -116,6 +116,23 @@ int versions_difference(const char *a, size_t a_len, const char *b, size_t b_len
   return number(a, a_len);
 }
 
+/* The number of the reason is 9, or that of the text. */
+int versions_why_not(const char *list, size_t list_len, const char *text, size_t text_len, size_t *start, size_t *end,
+                     uint32_t *why) {
+  int of_text = number(text, text_len);
+  place(list, list_len, start, end);
+  *why = of_text == 0 ? 9 : (uint32_t)of_text;
+  return number(list, list_len);
+}
+
+/* The second member is the one that is wrong. */
+int versions_conflict(const char *list, size_t list_len, size_t *start, size_t *end, size_t *other_start,
+                      size_t *other_end) {
+  *start = *end = 0;
+  place(list, list_len, other_start, other_end);
+  return number(list, list_len);
+}
+
 /* A byte that is not UTF-8; of a text of more than two bytes, a length that is longer than the room. */
 int versions_next(const char *text, size_t text_len, size_t place, char *next, size_t room, size_t *next_len) {
   *next_len = text_len > 2 && text[2] == 'a' ? room + 1 : 1;
