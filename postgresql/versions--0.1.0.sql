@@ -51,6 +51,25 @@ CREATE FUNCTION version_metadata(text) RETURNS text
 CREATE FUNCTION version_is_prerelease(text) RETURNS boolean
   AS 'MODULE_PATHNAME' LANGUAGE C IMMUTABLE STRICT PARALLEL SAFE COST 10;
 
+-- How stable a version is, by the words in it: a rule of habit, which changes no order.
+CREATE TYPE stability AS ENUM ('dev', 'alpha', 'beta', 'rc', 'stable');
+CREATE FUNCTION version_stability(text) RETURNS stability
+  AS 'MODULE_PATHNAME' LANGUAGE C IMMUTABLE STRICT PARALLEL SAFE COST 10;
+
+-- Where two versions differ first: 'epoch', 'part 0' and so on, 'tail', 'tie' if they differ but are equal in the
+-- order, or 'same'.
+CREATE FUNCTION version_difference(text, text) RETURNS text
+  AS 'MODULE_PATHNAME' LANGUAGE C IMMUTABLE STRICT PARALLEL SAFE COST 10;
+
+-- The version that comes next at a place, counted from 0; NULL if there is none.
+CREATE FUNCTION version_next(text, place integer) RETURNS text
+  AS 'MODULE_PATHNAME' LANGUAGE C IMMUTABLE STRICT PARALLEL SAFE COST 10;
+
+-- Why a version does not match a requirement or a list, in a sentence; NULL if it matches. Fails if the first does not
+-- parse.
+CREATE FUNCTION version_why_not(requirement text, version text) RETURNS text
+  AS 'MODULE_PATHNAME', 'version_why_not_text' LANGUAGE C IMMUTABLE STRICT PARALLEL SAFE COST 10;
+
 -- The version of the library that the extension contains.
 CREATE FUNCTION versions_version() RETURNS text
   AS 'MODULE_PATHNAME', 'version_of_library' LANGUAGE C STABLE STRICT PARALLEL SAFE;
@@ -88,6 +107,12 @@ CREATE CAST (version AS varchar) WITHOUT FUNCTION AS ASSIGNMENT;
 CREATE FUNCTION to_version(text) RETURNS version
   AS 'MODULE_PATHNAME' LANGUAGE C IMMUTABLE STRICT PARALLEL SAFE COST 10;
 
+-- The version in a tag, such as v1.2.3, also after a prefix; NULL if it has none.
+CREATE FUNCTION version_in(tag text) RETURNS version
+  AS 'MODULE_PATHNAME', 'version_in_tag' LANGUAGE C IMMUTABLE STRICT PARALLEL SAFE COST 10;
+CREATE FUNCTION version_in(tag text, prefix text) RETURNS version
+  AS 'MODULE_PATHNAME', 'version_after_prefix' LANGUAGE C IMMUTABLE STRICT PARALLEL SAFE COST 10;
+
 -- The functions on texts, for versions.
 
 CREATE FUNCTION version_key(version) RETURNS bytea
@@ -110,6 +135,13 @@ CREATE FUNCTION version_metadata(version) RETURNS text
   AS 'MODULE_PATHNAME', 'version_metadata_of_version' LANGUAGE C IMMUTABLE STRICT PARALLEL SAFE COST 10;
 CREATE FUNCTION version_is_prerelease(version) RETURNS boolean
   AS 'MODULE_PATHNAME', 'version_is_prerelease_of_version' LANGUAGE C IMMUTABLE STRICT PARALLEL SAFE COST 10;
+
+CREATE FUNCTION version_stability(version) RETURNS stability
+  AS 'MODULE_PATHNAME', 'version_stability_of_version' LANGUAGE C IMMUTABLE STRICT PARALLEL SAFE COST 10;
+CREATE FUNCTION version_difference(version, version) RETURNS text
+  AS 'MODULE_PATHNAME', 'version_difference_of_version' LANGUAGE C IMMUTABLE STRICT PARALLEL SAFE COST 10;
+CREATE FUNCTION version_next(version, place integer) RETURNS version
+  AS 'MODULE_PATHNAME', 'version_next_of_version' LANGUAGE C IMMUTABLE STRICT PARALLEL SAFE COST 10;
 
 -- The order of versions, by precedence. Versions that tie are equal, such as 1.0 and 0:1.0.
 
@@ -290,6 +322,10 @@ CREATE FUNCTION version_matches(requirement text, version version) RETURNS boole
   SUPPORT version_matches_support;
 CREATE FUNCTION version_matched_by(version version, requirement requirement) RETURNS boolean
   AS 'MODULE_PATHNAME' LANGUAGE C IMMUTABLE STRICT PARALLEL SAFE COST 10 SUPPORT version_matches_support;
+
+-- Why a version does not match, in a sentence; NULL if it matches.
+CREATE FUNCTION version_why_not(requirement requirement, version version) RETURNS text
+  AS 'MODULE_PATHNAME' LANGUAGE C IMMUTABLE STRICT PARALLEL SAFE COST 10;
 
 CREATE OPERATOR <@ (
   LEFTARG = version, RIGHTARG = requirement, FUNCTION = version_matched_by, COMMUTATOR = @>,

@@ -287,6 +287,88 @@ FUNCTIONS(version_is_prerelease) {
   PG_RETURN_BOOL(is_prerelease);
 }
 
+/* The rest of a tag from a start on, as a version. NULL where there is none, by the status of the call. */
+static Datum version_from(FunctionCallInfo fcinfo, int status, Span tag, size_t start) {
+  Span version = {tag.bytes + start, tag.len - start};
+  if (status != VERSIONS_OK) PG_RETURN_NULL();
+  fits(NULL, version, "version");
+  PG_RETURN_TEXT_P(cstring_to_text_with_len(version.bytes, (int)version.len));
+}
+
+SQL_FUNCTION(version_in_tag) {
+  Span tag = span_of(PG_GETARG_TEXT_PP(0));
+  size_t start = 0;
+  int status = versions_in_tag(tag.bytes, tag.len, &start);
+  return version_from(fcinfo, status, tag, start);
+}
+
+SQL_FUNCTION(version_after_prefix) {
+  Span tag = span_of(PG_GETARG_TEXT_PP(0)), prefix = span_of(PG_GETARG_TEXT_PP(1));
+  size_t start = 0;
+  int status = versions_after_prefix(prefix.bytes, prefix.len, tag.bytes, tag.len, &start);
+  return version_from(fcinfo, status, tag, start);
+}
+
+/* The result is of the enumeration that the function is declared with. */
+FUNCTIONS(version_stability) {
+  static char *const names[] = {NULL, "dev", "alpha", "beta", "rc", "stable"};
+  Span span = span_of(PG_GETARG_TEXT_PP(0));
+  char *name = names[versions_stability(span.bytes, span.len)];
+  if (!name) return no_result(fcinfo, typed, VERSIONS_NO_VERSION, span);
+  return DirectFunctionCall2(enum_in, CStringGetDatum(name),
+                             ObjectIdGetDatum(get_func_rettype(fcinfo->flinfo->fn_oid)));
+}
+
+FUNCTIONS(version_difference) {
+  static const char *const names[] = {"same", "tie", "epoch", "part", "tail"};
+  Span a = span_of(PG_GETARG_TEXT_PP(0)), b = span_of(PG_GETARG_TEXT_PP(1));
+  uint32_t difference;
+  size_t part;
+  int status = versions_difference(a.bytes, a.len, b.bytes, b.len, &difference, &part);
+  if (status != VERSIONS_OK) {
+    return no_result(fcinfo, typed, VERSIONS_NO_VERSION, status == VERSIONS_NO_VERSION_B ? b : a);
+  }
+  if (difference == VERSIONS_DIFFERENCE_PART) PG_RETURN_TEXT_P(cstring_to_text(psprintf("part %zu", part)));
+  PG_RETURN_TEXT_P(cstring_to_text(names[difference]));
+}
+
+/* A place below 0 is, as a size_t, above each place of a version. */
+FUNCTIONS(version_next) {
+  Span span = span_of(PG_GETARG_TEXT_PP(0));
+  size_t place = (size_t)PG_GETARG_INT32(1), len;
+  text *next;
+  int status = versions_next(span.bytes, span.len, place, NULL, 0, &len);
+  if (status != VERSIONS_NO_ROOM) return no_result(fcinfo, typed, status, span);
+  next = palloc(VARHDRSZ + len);
+  SET_VARSIZE(next, VARHDRSZ + len);
+  versions_next(span.bytes, span.len, place, VARDATA(next), len, &len);
+  PG_RETURN_TEXT_P(next);
+}
+
+/* Why a version does not match a list, in a sentence, by the first member that does not match; NULL if it matches. */
+static Datum reason(FunctionCallInfo fcinfo, int status, Span list, Span version, const size_t *member, uint32_t why) {
+  static const char *const middles[] = {NULL, " is not of a kind that ", " is below ", " is above ",
+                                        " is within the bounds of "};
+  static const char *const ends[] = {NULL, " matches", "", "", ", but its parts or fields differ"};
+  StringInfoData said;
+  if (status != VERSIONS_OK) PG_RETURN_NULL();
+  initStringInfo(&said);
+  appendBinaryStringInfo(&said, version.bytes, (int)version.len);
+  appendStringInfoString(&said, middles[why]);
+  appendBinaryStringInfo(&said, list.bytes + member[0], (int)(member[1] - member[0]));
+  appendStringInfoString(&said, ends[why]);
+  PG_RETURN_TEXT_P(cstring_to_text_with_len(said.data, said.len));
+}
+
+SQL_FUNCTION(version_why_not_text) {
+  Span list = span_of(PG_GETARG_TEXT_PP(0)), span = span_of(PG_GETARG_TEXT_PP(1));
+  size_t member[2] = {0, 0};
+  uint32_t why = 0;
+  int status = versions_why_not(list.bytes, list.len, span.bytes, span.len, &member[0], &member[1], &why);
+  if (status == VERSIONS_NO_REQUIREMENTS) report_no_requirement(list);
+  return reason(fcinfo, status, list, span, member, why);
+}
+
 SQL_FUNCTION(version_of_library) { PG_RETURN_TEXT_P(cstring_to_text(versions_version())); }
 
 /* The type `version`: its input from a C string, from a client in binary, and from a text. */
@@ -748,6 +830,16 @@ SQL_FUNCTION(version_matches_cast) {
 
 SQL_FUNCTION(version_matches) { return matches(PG_GETARG_DATUM(1), PG_GETARG_DATUM(0)); }
 SQL_FUNCTION(version_matched_by) { return matches(PG_GETARG_DATUM(0), PG_GETARG_DATUM(1)); }
+
+SQL_FUNCTION(version_why_not) {
+  Span list = requirement_of(PG_GETARG_BYTEA_PP(0)).list, span = span_of(PG_GETARG_TEXT_PP(1));
+  size_t member[2] = {0, 0};
+  uint32_t why = 0;
+  int status = versions_why_not(list.bytes, list.len, span.bytes, span.len, &member[0], &member[1], &why);
+  if (status == VERSIONS_NO_REQUIREMENTS) report_damaged_requirement();
+  if (status == VERSIONS_NO_VERSION) report_damage(span);
+  return reason(fcinfo, status, list, span, member, why);
+}
 
 /*
  * The type `version_bound`: a bound of a range. Its bytes compare with the key of a version. So versions and bounds are

@@ -16,6 +16,12 @@
  *   version_release(text)                the release of a general version, a TEXT
  *   version_metadata(text)               the metadata of a strict or general version, a TEXT
  *   version_is_prerelease(text)          1 or 0: whether a version is strict and has a pre-release
+ *   version_in(tag), version_in(tag, prefix)
+ *                                        the version in a tag, a TEXT, also after a prefix
+ *   version_stability(text)              'dev', 'alpha', 'beta', 'rc' or 'stable', by the words in a version
+ *   version_difference(a, b)             where two versions differ first: 'epoch', 'part 0', 'tail', 'tie' or 'same'
+ *   version_next(text, n)                the version that comes next at a place, an integer counted from 0
+ *   version_why_not(requirement, text)   why a version does not match, a sentence; NULL if it matches
  *   version_max(text)                    aggregate and window function: the greatest version of the rows
  *   version_min(text)                    the least version of the rows
  *   versions_version()                   the version of the library
@@ -24,7 +30,8 @@
  * Each function but is_version returns NULL if a value is not a version or lacks what is asked for. NULL, numbers,
  * BLOBs and texts that are not UTF-8 are not versions. A number is not converted to text, since 1.10 is already 1.1.
  * The aggregates skip values that are not versions. A function of a requirement returns NULL for NULL, and fails if the
- * requirement does not parse. version_nth returns NULL for NULL, and fails if the place is not an integer. All
+ * requirement does not parse. version_nth and version_next return NULL for NULL, and fail if the place is not an
+ * integer. All
  * functions are deterministic and have no side effects, so indexes and generated columns can use them.
  *
  * All memory is SQLite's: keys, bounds, fields, the range of a constant requirement, the texts that an aggregate keeps,
@@ -185,6 +192,15 @@ static const char *name_of(int type) {
   }
 }
 
+/* Gives a text of SQLite's memory, which SQLite frees. A null text is an allocation failure. */
+static void give_text(sqlite3_context *context, char *said) {
+  if (said) {
+    sqlite3_result_text(context, said, -1, sqlite3_free);
+  } else {
+    sqlite3_result_error_nomem(context);
+  }
+}
+
 /* Fails with a message of SQLite's memory, and frees it. A null message is an allocation failure. */
 static void give_error(sqlite3_context *context, char *said) {
   if (said) {
@@ -338,26 +354,89 @@ static void version_matches(sqlite3_context *context, int count, sqlite3_value *
   }
 }
 
+/* Gives why a version does not match, by the first member of the list that does not. */
+static void give_reason(sqlite3_context *context, struct text text, struct text member, uint32_t why) {
+  static const char *const middles[] = {NULL, " is not of a kind that ", " is below ", " is above ",
+                                        " is within the bounds of "};
+  static const char *const ends[] = {NULL, " matches", "", "", ", but its parts or fields differ"};
+  sqlite3_str *sentence = sqlite3_str_new(NULL);
+  sqlite3_str_append(sentence, text.bytes, (int)text.len);
+  sqlite3_str_appendall(sentence, middles[why]);
+  sqlite3_str_append(sentence, member.bytes, (int)member.len);
+  sqlite3_str_appendall(sentence, ends[why]);
+  give_text(context, sqlite3_str_finish(sentence));
+}
+
+static void version_why_not(sqlite3_context *context, int count, sqlite3_value **values) {
+  struct text list = text_of(values[0]), text = text_of(values[1]), member;
+  size_t start, end;
+  uint32_t why;
+  (void)count;
+  if (!list.bytes || !text.bytes) {
+    sqlite3_result_error_nomem(context);
+    return;
+  }
+  if (sqlite3_value_type(values[0]) == SQLITE_NULL) {
+    sqlite3_result_null(context);
+    return;
+  }
+  switch (versions_why_not(list.bytes, list.len, text.bytes, text.len, &start, &end, &why)) {
+    case VERSIONS_OK:
+      member.bytes = list.bytes + start;
+      member.len = end - start;
+      give_reason(context, text, member, why);
+      break;
+    case VERSIONS_NO_REQUIREMENTS: give_no_requirement(context, list, sqlite3_value_type(values[0])); break;
+    default: sqlite3_result_null(context);
+  }
+}
+
+/* The place that a value names. Returns false for NULL and for a negative one, and fails for another type. */
+static bool place_of(sqlite3_context *context, sqlite3_value *value, size_t *place) {
+  int type = sqlite3_value_type(value);
+  sqlite3_int64 number = type == SQLITE_INTEGER ? sqlite3_value_int64(value) : -1;
+  sqlite3_result_null(context);
+  if (type != SQLITE_INTEGER && type != SQLITE_NULL) {
+    give_error(context, sqlite3_mprintf("not a place: a value of type %s; a place is an integer, counted from 0",
+                                        name_of(type)));
+  }
+  *place = (size_t)number;
+  return number >= 0;
+}
+
 static void version_nth(sqlite3_context *context, int count, sqlite3_value **values) {
   struct text text = text_of(values[0]);
-  int type = sqlite3_value_type(values[1]);
-  sqlite3_int64 place;
+  size_t place;
   uint32_t number;
   (void)count;
   if (!text.bytes) {
     sqlite3_result_error_nomem(context);
-    return;
-  }
-  if (type != SQLITE_INTEGER && type != SQLITE_NULL) {
-    give_error(context, sqlite3_mprintf("not a place: a value of type %s; a place is an integer, counted from 0",
-                                        name_of(type)));
-    return;
-  }
-  place = type == SQLITE_NULL ? -1 : sqlite3_value_int64(values[1]);
-  if (place >= 0 && versions_nth(text.bytes, text.len, (size_t)place, &number) == VERSIONS_OK) {
+  } else if (place_of(context, values[1], &place) &&
+             versions_nth(text.bytes, text.len, place, &number) == VERSIONS_OK) {
     sqlite3_result_int64(context, number);
+  }
+}
+
+/* Gives the version that comes next, of a length that versions_next has told. */
+static void give_next(sqlite3_context *context, struct text text, size_t place, size_t len) {
+  char *next = sqlite3_malloc64(len);
+  if (next && versions_next(text.bytes, text.len, place, next, len, &len) == VERSIONS_OK) {
+    sqlite3_result_text64(context, next, len, sqlite3_free, SQLITE_UTF8);
   } else {
-    sqlite3_result_null(context);
+    sqlite3_free(next);
+    sqlite3_result_error_nomem(context);
+  }
+}
+
+static void version_next(sqlite3_context *context, int count, sqlite3_value **values) {
+  struct text text = text_of(values[0]);
+  size_t place, len;
+  (void)count;
+  if (!text.bytes) {
+    sqlite3_result_error_nomem(context);
+  } else if (place_of(context, values[1], &place) &&
+             versions_next(text.bytes, text.len, place, NULL, 0, &len) == VERSIONS_NO_ROOM) {
+    give_next(context, text, place, len);
   }
 }
 
@@ -415,6 +494,52 @@ static void version_is_prerelease(sqlite3_context *context, int count, sqlite3_v
     sqlite3_result_int(context, is_prerelease);
   } else {
     sqlite3_result_null(context);
+  }
+}
+
+/* The version in a tag: its text from the start that the library finds. */
+static void version_in(sqlite3_context *context, int count, sqlite3_value **values) {
+  struct text tag = text_of(values[0]), prefix = text_of(values[count - 1]);
+  size_t start;
+  int status;
+  if (!tag.bytes || !prefix.bytes) {
+    sqlite3_result_error_nomem(context);
+    return;
+  }
+  status = count == 1 ? versions_in_tag(tag.bytes, tag.len, &start)
+                      : versions_after_prefix(prefix.bytes, prefix.len, tag.bytes, tag.len, &start);
+  if (status == VERSIONS_OK) {
+    sqlite3_result_text64(context, tag.bytes + start, tag.len - start, SQLITE_TRANSIENT, SQLITE_UTF8);
+  } else {
+    sqlite3_result_null(context);
+  }
+}
+
+static void version_stability(sqlite3_context *context, int count, sqlite3_value **values) {
+  static const char *const names[] = {NULL, "dev", "alpha", "beta", "rc", "stable"};
+  struct text text = text_of(values[0]);
+  (void)count;
+  if (!text.bytes) {
+    sqlite3_result_error_nomem(context);
+  } else {
+    sqlite3_result_text(context, names[versions_stability(text.bytes, text.len)], -1, SQLITE_STATIC);
+  }
+}
+
+static void version_difference(sqlite3_context *context, int count, sqlite3_value **values) {
+  static const char *const names[] = {"same", "tie", "epoch", "part", "tail"};
+  struct text a = text_of(values[0]), b = text_of(values[1]);
+  uint32_t difference;
+  size_t part;
+  (void)count;
+  if (!a.bytes || !b.bytes) {
+    sqlite3_result_error_nomem(context);
+  } else if (versions_difference(a.bytes, a.len, b.bytes, b.len, &difference, &part) != VERSIONS_OK) {
+    sqlite3_result_null(context);
+  } else if (difference != VERSIONS_DIFFERENCE_PART) {
+    sqlite3_result_text(context, names[difference], -1, SQLITE_STATIC);
+  } else {
+    give_text(context, sqlite3_mprintf("part %lld", (sqlite3_int64)part));
   }
 }
 
@@ -583,6 +708,12 @@ static int define_functions(sqlite3 *db) {
       {"version_release", 1, version_release},
       {"version_metadata", 1, version_metadata},
       {"version_is_prerelease", 1, version_is_prerelease},
+      {"version_in", 1, version_in},
+      {"version_in", 2, version_in},
+      {"version_stability", 1, version_stability},
+      {"version_difference", 2, version_difference},
+      {"version_next", 2, version_next},
+      {"version_why_not", 2, version_why_not},
       {"versions_version", 0, give_library_version},
   };
   int status = SQLITE_OK;
