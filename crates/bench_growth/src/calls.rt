@@ -4,11 +4,12 @@ use std::hash::{DefaultHasher, Hash, Hasher};
 use std::io;
 use std::io::ErrorKind;
 use std::time::{CpuClock, Duration};
-use version_texts::VersioningRef;
+use version_tasks::{Stability, next_of, stability_of, version_in_tag};
+use version_texts::{Difference, VersioningRef};
 use versions::Versioning;
 
 /// How many calls are timed.
-pub const COUNT: usize = 10;
+pub const COUNT: usize = 14;
 
 /// The names of the calls, in the order of their times.
 pub const NAMES: [&str; COUNT] = [
@@ -21,6 +22,10 @@ pub const NAMES: [&str; COUNT] = [
     "precedence",
     "cmp",
     "hashed",
+    "in_tag",
+    "stability",
+    "difference",
+    "next",
     "dropped",
 ];
 
@@ -49,9 +54,20 @@ pub fn times(rt: &HostRuntime, text: &str) -> io::Result<[Duration; COUNT]> {
     let cmp = watch.lap(rt)?;
     let hash = hash_of(&version);
     let hashed = watch.lap(rt)?;
+    let tagged = version_in_tag(text.as_bytes());
+    let in_tag = watch.lap(rt)?;
+    let stable = stability_of(&spelled) == Stability::Stable;
+    let stability = watch.lap(rt)?;
+    let again = VersioningRef::new(text_again.as_str()).ok_or(ErrorKind::InvalidInput)?;
+    let unchanged = spelled.difference(&again) == Difference::Same;
+    let difference = watch.lap(rt)?;
+    let following = next_of(&spelled, 0);
+    let next = watch.lap(rt)?;
 
     let right = text_again.as_str() == text && from_text && block == key && tie && same;
-    if !right || hash != hash_of(&copy) {
+    let right_tag = tagged.is_none_or(|found| found == spelled);
+    let right_next = following.is_none_or(|found| found.length() > 0);
+    if !(right && right_tag && stable && unchanged && right_next) || hash != hash_of(&copy) {
         return Err(ErrorKind::InvalidData.into());
     }
 
@@ -68,6 +84,10 @@ pub fn times(rt: &HostRuntime, text: &str) -> io::Result<[Duration; COUNT]> {
         precedence,
         cmp,
         hashed,
+        in_tag,
+        stability,
+        difference,
+        next,
         dropped,
     ])
 }

@@ -6,13 +6,22 @@ use std::alloc::{AllocError, Global};
 use std::io;
 use std::io::ErrorKind;
 use std::time::Duration;
-use version_texts::{RangeRef, RequirementsRef, VersioningRef, list_matches};
+use version_texts::{
+    RangeRef, RequirementsRef, VersioningRef, conflict_in, list_matches, why_not,
+};
 
 /// How many calls are timed.
-pub const COUNT: usize = 4;
+pub const COUNT: usize = 6;
 
 /// The names of the calls, in the order of their times.
-pub const NAMES: [&str; COUNT] = ["list_read", "list_matches", "list_asked_once", "list_range"];
+pub const NAMES: [&str; COUNT] = [
+    "list_read",
+    "list_matches",
+    "list_asked_once",
+    "list_range",
+    "list_why_not",
+    "list_conflict",
+];
 
 /// The pieces of a list and of a version.
 #[derive(Clone, Copy)]
@@ -102,8 +111,16 @@ pub fn times(rt: &HostRuntime, text: &str, version: &str) -> io::Result<[Duratio
     let asked_once = watch.lap(rt)?;
     let range = RangeRef::from_bytes(text.as_bytes()).ok_or(ErrorKind::InvalidInput)?;
     let of_range = watch.lap(rt)?;
-    if !all || asked != Some(true) || !range.has(&version) {
+    // The last member excludes the version, and each other member.
+    let mut closed = String::from_str(rt.alloc(), text)?;
+    closed.push_str(",<0")?;
+    watch.lap(rt)?;
+    let is_excluded = matches!(why_not(closed.as_bytes(), &version), Some(Some(_)));
+    let of_why_not = watch.lap(rt)?;
+    let is_empty = matches!(conflict_in(closed.as_bytes()), Some(Some(_)));
+    let of_conflict = watch.lap(rt)?;
+    if !all || asked != Some(true) || !range.has(&version) || !is_excluded || !is_empty {
         return Err(ErrorKind::InvalidData.into());
     }
-    Ok([read, matches, asked_once, of_range])
+    Ok([read, matches, asked_once, of_range, of_why_not, of_conflict])
 }

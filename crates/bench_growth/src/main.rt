@@ -6,6 +6,7 @@
 mod calls;
 mod lists;
 mod shape;
+mod tags;
 
 use calls::{COUNT, NAMES, times};
 use lists::List;
@@ -16,7 +17,7 @@ use std::{env, io};
 
 const USAGE: &str =
     "usage: bench_growth SHAPE MEGABYTES, or bench_growth check; SHAPE is signs, letters, dots, \
-    metadata, or of a list zeros, digits, words, epochs";
+    metadata, or of a list zeros, digits, words, epochs, or signs_of_a_tag";
 
 const ROUNDS: u8 = 3;
 
@@ -46,6 +47,11 @@ fn main(rt: HostRuntime) -> io::Result<()> {
         let best = best_list_times(&rt, text.as_str(), version.as_str())?;
         return print(&rt, &lists::NAMES, &best, text.len());
     }
+    if name == tags::NAME {
+        let tag = tags::text(rt.alloc(), bytes)?;
+        let best = best_tag_times(&rt, tag.as_str())?;
+        return print(&rt, &tags::NAMES, &best, tag.len());
+    }
     println!(rt; "{USAGE}")
 }
 
@@ -69,7 +75,13 @@ fn check(rt: &HostRuntime) -> io::Result<()> {
         }
         println!(rt)?;
     }
-    Ok(())
+    let tag = tags::text(rt.alloc(), FEW)?;
+    tags::times(rt, tag.as_str())?;
+    print!(rt; "{} {tag}:", tags::NAME)?;
+    for call in tags::NAMES {
+        print!(rt; " {call}")?;
+    }
+    println!(rt)
 }
 
 // Returns the name of a shape and the length that the words are.
@@ -104,6 +116,18 @@ fn best_list_times(
     let mut best = [Duration::MAX; lists::COUNT];
     for _ in 0..ROUNDS {
         let taken = lists::times(rt, text, version)?;
+        for (least, time) in best.iter_mut().zip(taken.iter()) {
+            *least = (*least).min(*time);
+        }
+    }
+    Ok(best)
+}
+
+// The same for a tag.
+fn best_tag_times(rt: &HostRuntime, tag: &str) -> io::Result<[Duration; tags::COUNT]> {
+    let mut best = [Duration::MAX; tags::COUNT];
+    for _ in 0..ROUNDS {
+        let taken = tags::times(rt, tag)?;
         for (least, time) in best.iter_mut().zip(taken.iter()) {
             *least = (*least).min(*time);
         }
