@@ -1,4 +1,4 @@
-"""Runs the tests of the installed package, and the examples of its docstrings, of docs/PYTHON.md and of both README.md.
+"""Runs the tests of the installed package, and the examples of its docstrings, of docs/PYTHON.md, docs/COOKBOOK.md and both README.md.
 
     python/tests [MODULE ..]
 
@@ -14,7 +14,7 @@ import versions
 
 HERE = os.path.dirname(os.path.abspath(__file__))
 TOP = os.path.join(HERE, "..", "..")
-PAGES = [os.path.join(TOP, *names) for names in (["README.md"], ["docs", "PYTHON.md"], ["python", "README.md"])]
+PAGES = [os.path.join(TOP, name) for name in ("README.md", "docs/PYTHON.md", "docs/COOKBOOK.md", "python/README.md")]
 
 names = {name[: -len(".py")] for name in os.listdir(HERE) if name.startswith("test_") and name.endswith(".py")}
 tests = unittest.defaultTestLoader.loadTestsFromNames(sorted(names - set(sys.argv[1:])))

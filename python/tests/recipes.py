@@ -1,4 +1,4 @@
-"""The recipes of docs/PYTHON.md for pandas and for tables of pyarrow, run as they stand; and columns of pandas.
+"""The recipes of docs/COOKBOOK.md for pandas and of docs/PYTHON.md for pyarrow, run as they stand; and columns of pandas.
 
     recipes.py
 
@@ -23,7 +23,7 @@ try:
 except ImportError:
     pyarrow = None
 
-PAGE = os.path.join(os.path.dirname(os.path.abspath(__file__)), "..", "..", "docs", "PYTHON.md")
+DOCS = os.path.join(os.path.dirname(os.path.abspath(__file__)), "..", "..", "docs")
 TEXTS = ["1.10", None, "1.9", "x y", "1.2.3"]
 
 
@@ -48,27 +48,32 @@ class Table:
         return self.columns
 
 
-def recipe(word):
-    """The one block of the page that has the word."""
-    with open(PAGE, encoding="utf-8") as page:
-        (block,) = (b for b in re.findall(r"^```python\n(.*?)^```$", page.read(), re.M | re.S) if word in b)
+def recipe(page, word):
+    """The one block of a page that has the word."""
+    with open(os.path.join(DOCS, page), encoding="utf-8") as file:
+        (block,) = (b for b in re.findall(r"^```python\n(.*?)^```$", file.read(), re.M | re.S) if word in b)
     return block
 
 
 class Recipes(unittest.TestCase):
     def test_pandas(self):
         names = {}
-        exec(recipe("import pandas"), names)
+        exec(recipe("COOKBOOK.md", "sort_keys"), names)
         self.assertEqual(list(names["table"]["version"]), TEXTS)
         # What has no key comes last, in no order that pandas promises.
         self.assertEqual(list(names["in_order"]["version"])[:3], ["1.2.3", "1.9", "1.10"])
         self.assertEqual(set(names["in_order"]["version"][3:]), {None, "x y"})
         self.assertEqual(dict(names["matched"]["version"]), {0: "1.10", 2: "1.9"})
 
+    def test_groups_of_pandas(self):
+        names = {}
+        exec(recipe("COOKBOOK.md", "groupby"), names)
+        self.assertEqual(names["newest"].to_dict(), {"left": "1.10", "up": "2.0"})
+
     def test_pyarrow(self):
         table = pyarrow.table({"version": TEXTS}) if pyarrow else Table({"version": TEXTS})
         names = {"table": table, "versions": versions}
-        exec(recipe("append_column"), names)
+        exec(recipe("PYTHON.md", "append_column"), names)
         keys = [versions.sort_key(text) if text and text != "x y" else None for text in TEXTS]
         self.assertEqual(names["with_keys"].to_pydict(), {"version": TEXTS, "key": keys})
         self.assertEqual(names["matched"].to_pydict(), {"version": ["1.10", "1.9"]})
