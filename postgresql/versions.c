@@ -1082,13 +1082,92 @@ static List *index_conditions(SupportRequestIndexCondition *request, Oid caller)
 }
 
 /*
- * The share of a histogram's values that are below a bound. Between two of them it grows as the codes of keys do, or
- * the bound is in their middle, as for PostgreSQL's own operators.
+ * Of the keys between two values of a histogram, those below a bound are estimated by how the keys of the histogram go
+ * on: how often each byte follows the three bytes before it. The order of bytes alone tells little: between 2.5.999 and
+ * 2.6 there are most keys, but hardly a version.
  */
-static double share_below(const AttStatsSlot *histogram, Datum bound, bool by_codes) {
+enum { KEYS = 100, OF_KEY = 16, BEFORE = 3 };
+
+typedef struct {
+  uint8 before[BEFORE], byte;
+} Step;
+
+/* The steps of the keys' first bytes, grouped by the last byte before: where a group begins, and after 255 the end. */
+typedef struct {
+  int begins[257];
+  Step steps[KEYS * OF_KEY];
+} Steps;
+
+/* The byte of a key at a place, and those before it; before the first there are bytes 255. */
+static Step step_at(Span key, size_t at) {
+  Step step;
+  size_t back;
+  for (back = 1; back <= BEFORE; back++) step.before[BEFORE - back] = at < back ? 255 : (uint8)key.bytes[at - back];
+  step.byte = (uint8)key.bytes[at];
+  return step;
+}
+
+static Steps *steps_of(const AttStatsSlot *histogram) {
+  Steps *steps = palloc0(sizeof *steps);
+  Step all[KEYS * OF_KEY];
+  int keys = Min(histogram->nvalues, KEYS), count = 0, at;
+  for (at = 0; at < keys; at++) {
+    KeyRoom room;
+    bytea *key = key_of_value(histogram->values[(int64)at * (histogram->nvalues - 1) / (keys - 1)], &room);
+    size_t place;
+    for (place = 0; place < Min(span_of(key).len, OF_KEY); place++) all[count++] = step_at(span_of(key), place);
+    free_key(key, &room);
+  }
+  for (at = 0; at < count; at++) steps->begins[all[at].before[BEFORE - 1]]++;
+  for (at = 1; at < 257; at++) steps->begins[at] += steps->begins[at - 1];
+  for (at = 0; at < count; at++) steps->steps[--steps->begins[all[at].before[BEFORE - 1]]] = all[at];
+  return steps;
+}
+
+/*
+ * The shares of keys that go on with a lower byte, and with this one. Those after one byte stand for half a key among
+ * those after two, and so on; before them all each byte is as frequent.
+ */
+static void shares_of_step(const Steps *steps, Step step, double *lower, double *same) {
+  int all[BEFORE] = {0}, below[BEFORE] = {0}, equal[BEFORE] = {0};
+  int last = step.before[BEFORE - 1], at, known;
+  /* each is counted where it is alike in most, and then in less */
+  for (at = steps->begins[last]; at < steps->begins[last + 1]; at++) {
+    const Step *other = &steps->steps[at];
+    known = other->before[1] != step.before[1] ? 0 : other->before[0] != step.before[0] ? 1 : 2;
+    all[known]++;
+    below[known] += other->byte < step.byte;
+    equal[known] += other->byte == step.byte;
+  }
+  *lower = step.byte / 256.0;
+  *same = 1 / 256.0;
+  for (known = BEFORE - 2; known >= 0; known--) {
+    all[known] += all[known + 1];
+    below[known] += below[known + 1];
+    equal[known] += equal[known + 1];
+  }
+  for (known = 0; known < BEFORE; known++) {
+    *lower = (below[known] + *lower / 2) / (all[known] + 0.5);
+    *same = (equal[known] + *same / 2) / (all[known] + 0.5);
+  }
+}
+
+/* The share of keys below one, or below a bound, of those that have the same first bytes. */
+static double share_after(const Steps *steps, Span key, size_t first) {
+  double share = 0, alike = 1;
+  size_t at;
+  for (at = first; at < key.len && alike > 0.001; at++) {
+    double lower, same;
+    shares_of_step(steps, step_at(key, at), &lower, &same);
+    share += alike * lower;
+    alike *= same;
+  }
+  return share;
+}
+
+/* How many of a histogram's values are below a bound. */
+static int values_below(const AttStatsSlot *histogram, Datum bound) {
   int below = 0, end = histogram->nvalues;
-  double part = 0.5;
-  uint64 from, to;
   while (below < end) {
     int middle = below + (end - below) / 2;
     if (order_with_bound(histogram->values[middle], bound) < 0) {
@@ -1097,14 +1176,50 @@ static double share_below(const AttStatsSlot *histogram, Datum bound, bool by_co
       end = middle;
     }
   }
-  if (below == 0) return 0;
-  if (below == histogram->nvalues) return 1;
-  from = by_codes ? beginning_of_value(histogram->values[below - 1]) : 0;
-  to = by_codes ? beginning_of_value(histogram->values[below]) : 0;
-  if (from < to) {
-    part = (double)(beginning_of_code(bound_in(DatumGetByteaPP(bound)).bytes) - from) / (double)(to - from);
+  return below;
+}
+
+/* The gap between a value of a histogram and the one before: how many first bytes their keys share, and the shares. */
+typedef struct {
+  size_t first;
+  double low, high;
+} Gap;
+
+static Gap gap_before(const AttStatsSlot *histogram, const Steps *steps, int at) {
+  KeyRoom rooms[2];
+  bytea *keys[] = {key_of_value(histogram->values[at - 1], &rooms[0]), key_of_value(histogram->values[at], &rooms[1])};
+  Span low = span_of(keys[0]), high = span_of(keys[1]);
+  Gap gap = {0, 0, 0};
+  while (gap.first < Min(low.len, high.len) && low.bytes[gap.first] == high.bytes[gap.first]) gap.first++;
+  gap.low = share_after(steps, low, gap.first);
+  gap.high = share_after(steps, high, gap.first);
+  free_key(keys[0], &rooms[0]);
+  free_key(keys[1], &rooms[1]);
+  return gap;
+}
+
+/* Which part of a gap is below a bound in it. */
+static double part_of_gap(const Steps *steps, Gap gap, Span bound) {
+  if (gap.low >= gap.high) return 0.5;
+  return Min(Max((share_after(steps, bound, gap.first) - gap.low) / (gap.high - gap.low), 0), 1);
+}
+
+/*
+ * How many gaps of a histogram are between two bounds, by the numbers of the values that are below each. Of the gaps in
+ * which a bound is it is a part, which is estimated if few values are between the bounds, and else is a half.
+ */
+static double gaps_between(const AttStatsSlot *histogram, Requirement range, int from, int to) {
+  bool low_in = from > 0 && from < histogram->nvalues, high_in = to > 0 && to < histogram->nvalues;
+  double low_part = 0.5, high_part = 0.5;
+  if (to - from < 10 && (low_in || high_in)) {
+    Steps *steps = steps_of(histogram);
+    Gap gap = gap_before(histogram, steps, low_in ? from : to);
+    if (low_in) low_part = part_of_gap(steps, gap, range.low);
+    if (high_in && low_in && from != to) gap = gap_before(histogram, steps, to);
+    if (high_in) high_part = part_of_gap(steps, gap, range.high);
+    pfree(steps);
   }
-  return (below - 1 + part) / (histogram->nvalues - 1);
+  return (high_in ? to - 1 + high_part : to ? to - 1 : 0) - (low_in ? from - 1 + low_part : from ? from - 1 : 0);
 }
 
 /* Whether at most one key is between two bounds. */
@@ -1112,31 +1227,39 @@ static bool is_of_one_key(Span low, Span high) {
   return high.len == low.len + 1 && high.bytes[low.len] == 0 && memcmp(low.bytes, high.bytes, low.len) == 0;
 }
 
-/*
- * The share of a histogram's values that are in a range of more than one key: the larger of two estimates. By codes a
- * range seems empty if most codes near it are of no version, as those above 2.5.999 and below 2.6; too low an estimate
- * makes the worse plan.
- */
-static double share_between(const AttStatsSlot *histogram, Requirement range) {
-  Datum low = low_bound(range), high = high_bound(range);
-  double by_codes, by_middles;
-  if (is_of_one_key(range.low, range.high)) return 0;
-  by_codes = share_below(histogram, high, true) - share_below(histogram, low, true);
-  by_middles = share_below(histogram, high, false) - share_below(histogram, low, false);
-  return Max(by_codes, by_middles);
-}
-
-/* The share of the values of a histogram whose kinds a range has. */
-static double share_of_kinds(const AttStatsSlot *histogram, uint32 flags) {
+/* How many of some values of a histogram are of the kinds of a range. */
+static int of_kinds(const AttStatsSlot *histogram, uint32 flags, int from, int to) {
   int at, found = 0;
-  for (at = 0; at < histogram->nvalues; at++) {
+  for (at = from; at < to; at++) {
     text *version = DatumGetTextPP(histogram->values[at]);
     bool is_in = false;
     versions_in_range(VARDATA_ANY(version), VARSIZE_ANY_EXHDR(version), NULL, 0, NULL, 0,
                       flags & ~VERSIONS_RANGE_HIGH, &is_in);
     found += is_in;
   }
-  return (double)found / histogram->nvalues;
+  return found;
+}
+
+/*
+ * The share of a histogram's rows that are between the bounds of a range and of its kinds, and 0 for one key. The kinds
+ * are those of the values between the bounds and of two more on each side, with two of all of them.
+ */
+static double share_in(const AttStatsSlot *histogram, Requirement range) {
+  int from, to, all = histogram->nvalues;
+  double between, kinds;
+  if (is_of_one_key(range.low, range.high)) return 0;
+  from = values_below(histogram, low_bound(range));
+  to = values_below(histogram, high_bound(range));
+  between = gaps_between(histogram, range, from, to) / (all - 1);
+  kinds = 2.0 * of_kinds(histogram, range.flags, 0, all) / all;
+  from = Max(from - 2, 0);
+  to = Min(to + 2, all);
+  return between * (of_kinds(histogram, range.flags, from, to) + kinds) / (to - from + 2);
+}
+
+/* Whether no key is between the bounds of a range. */
+static bool is_empty(Requirement range) {
+  return range.flags & VERSIONS_RANGE_HIGH && order_of_bytes(range.low, range.high) >= 0;
 }
 
 /*
@@ -1155,11 +1278,10 @@ static double share_by_statistics(VariableStatData *column, Oid function, Const 
   others = 1 - common - ((Form_pg_statistic)GETSTRUCT(column->statsTuple))->stanullfrac;
   if (others > 0 && statistic_proc_security_check(column, function) &&
       get_attstatsslot(&histogram, column->statsTuple, STATISTIC_KIND_HISTOGRAM, InvalidOid, ATTSTATSSLOT_VALUES)) {
-    if (histogram.nvalues > 1) {
-      Requirement value = requirement_of(DatumGetByteaPP(requirement->constvalue));
-      double between = share_between(&histogram, value);
+    Requirement range = requirement_of(DatumGetByteaPP(requirement->constvalue));
+    if (histogram.nvalues > 1 && !is_empty(range)) {
       values = get_variable_numdistinct(column, &is_default);
-      share += others * Max(between * share_of_kinds(&histogram, value.flags), 1 / values);
+      share += others * Max(share_in(&histogram, range), 1 / values);
     }
     free_attstatsslot(&histogram);
   }
