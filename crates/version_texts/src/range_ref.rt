@@ -93,6 +93,7 @@ impl<'a> RangeRef<'a> {
     }
 
     // Returns the range that a member asks for.
+    #[inline(always)]
     pub(crate) fn of(member: RequirementRef<'a>) -> RangeRef<'a>
         requires { IsParsed (plain_requirement_ref member) }
         ensures { plain_range_ref result

@@ -108,6 +108,7 @@ impl<'a> RequirementsRef<'a> {
 
 /// Returns whether bytes are a list whose members each match the version, or None if they do not parse as a list. It
 /// stores no member, so it is faster than `from_bytes` and `matches` for one version. Does not allocate.
+#[inline(always)]
 pub fn list_matches(list: &[u8], version: &VersioningRef<'_>) -> Option<bool>
     ensures parses { is_some result ≡ is_some (requirements_of list.now) }
     ensures matches { IfSome result (λ all. IsTrue all ↔ IsSomeAnd (requirements_of list.now)
