@@ -6,9 +6,7 @@ use std::alloc::{AllocError, Global};
 use std::io;
 use std::io::ErrorKind;
 use std::time::Duration;
-use version_texts::{
-    RangeRef, RequirementsRef, VersioningRef, conflict_in, list_matches, why_not,
-};
+use version_texts::{RangeRef, RequirementsRef, VersioningRef, conflict_in, list_matches, why_not};
 
 /// How many calls are timed.
 pub const COUNT: usize = 6;
