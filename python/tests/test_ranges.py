@@ -121,7 +121,7 @@ class Ranges(unittest.TestCase):
 
 
 class Stores(unittest.TestCase):
-    """As docs/PYTHON.md shows it."""
+    """A sorted list and a table of keys, asked between the bounds of a requirement."""
 
     def setUp(self):
         self.sorted = sorted((versions.sort_key(text), text) for text in TEXTS)
