@@ -28,7 +28,7 @@ ifndef C_LIBRARY
 C_LIBRARY := c/out
 header := c/versions.h
 built := c/out/versions.pc
-c/out/versions.pc: crates.txt c/build c/pkg-config-file c/versions.c c/versions.h \
+c/out/versions.pc: crates.txt c/build c/target c/pkg-config-file c/versions.c c/versions.h \
   $(call sources,version_rules version_texts version_tasks versions_c)
 	c/build c/out
 else
@@ -36,11 +36,10 @@ header := $$C_LIBRARY/versions.h
 endif
 
 ifndef VERS
-VERS := crates/vers/out/vers
+VERS := c/out/vers
 built += $(VERS)
-$(VERS): crates.txt $(call sources,version_rules version_texts version_lines vers)
-	cd crates/vers && rt run </dev/null
-	touch $(VERS)
+$(VERS): crates.txt c/program c/target $(call sources,version_rules version_texts version_lines vers)
+	c/program vers $(VERS)
 endif
 
 # Two proofs cannot run in one crate at once.

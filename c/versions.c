@@ -4,8 +4,6 @@
  */
 #include "versions.h"
 
-#include <cpuid.h>
-
 /*
  * The proved functions. crates/versions_c exports them under the names of the functions below; c/build adds the prefix
  * proved_, and writes their prototypes. Their pointers are never null, because a slice in Rust is never null, even if
@@ -238,10 +236,3 @@ const char *versions_status_text(int status) {
 }
 
 const char *versions_version(void) { return VERSIONS_VERSION; }
-
-bool versions_processor_suffices(void) {
-  const unsigned level = bit_SSE3 | bit_SSSE3 | bit_CMPXCHG16B | bit_SSE4_1 | bit_SSE4_2 | bit_POPCNT;
-  unsigned eax, ebx, ecx, edx, extended;
-  return __get_cpuid(1, &eax, &ebx, &ecx, &edx) && (ecx & level) == level &&
-         __get_cpuid(0x80000001, &eax, &ebx, &extended, &edx) && (extended & bit_LAHF_LM) != 0;
-}

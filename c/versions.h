@@ -27,8 +27,6 @@
  * no other thread changes meanwhile.
  *
  * Other languages. Each call is a function, never a macro, so a foreign function interface can call it.
- *
- * Processor. The library needs an x86-64-v2 processor; versions_processor_suffices returns whether this is one.
  */
 #ifndef VERSIONS_H
 #define VERSIONS_H
@@ -524,15 +522,6 @@ const char *versions_status_text(int status);
  * Returns the version of the library that is loaded. VERSIONS_VERSION is the version of the header.
  */
 const char *versions_version(void);
-
-/*
- * Returns whether this processor has all instructions of x86-64-v2: SSE4.2 and what it implies, POPCNT, CMPXCHG16B and
- * LAHF.
- *
- * If it returns false, only this call, versions_status_text and versions_version may be made. A program that loads the
- * library at run time makes this call first.
- */
-bool versions_processor_suffices(void);
 
 #ifdef __cplusplus
 }

@@ -1352,10 +1352,4 @@ SQL_FUNCTION(version_matches_support) {
 PGDLLEXPORT void _PG_init(void);
 
 /* PostgreSQL calls this when it loads the file. If it fails, no function of the file can be called. */
-void _PG_init(void) {
-  if (!versions_processor_suffices()) {
-    ereport(ERROR, (errcode(ERRCODE_FEATURE_NOT_SUPPORTED),
-                    errmsg("the extension versions needs a processor of the level x86-64-v2")));
-  }
-  make_codes();
-}
+void _PG_init(void) { make_codes(); }

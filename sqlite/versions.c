@@ -739,9 +739,7 @@ static int define_aggregate(sqlite3 *db, const char *name, const int32_t *better
 
 /* A requirement of the extension that is not met here; null if all are met. */
 static const char *missing(void) {
-  if (sqlite3_libversion_number() < 3031000) return "SQLite 3.31 or later";
-  if (!versions_processor_suffices()) return "a processor of the level x86-64-v2";
-  return NULL;
+  return sqlite3_libversion_number() < 3031000 ? "SQLite 3.31 or later" : NULL;
 }
 
 EXPORTED int sqlite3_versions_init(sqlite3 *db, char **fault, const sqlite3_api_routines *routines) {

@@ -1424,13 +1424,12 @@ static void statuses(void) {
   }
 }
 
-// The version, and the processor, on which all other calls run.
+// The version.
 static void library(void) {
   char version[40];
   snprintf(version, sizeof version, "%d.%d.%d", VERSIONS_VERSION_MAJOR, VERSIONS_VERSION_MINOR, VERSIONS_VERSION_PATCH);
   CHECK(strcmp(version, VERSIONS_VERSION) == 0);
   CHECK(strcmp(versions_version(), VERSIONS_VERSION) == 0);
-  CHECK(versions_processor_suffices());
 }
 
 // Makes every call on a long text: a piece many times, and one more byte.

@@ -9,12 +9,9 @@
 
 int fake_status = VERSIONS_OK;
 int fake_number = 0; /* what each answer about many texts is */
-bool fake_suffices = true;
 const char *fake_asked;    /* by what it was asked last whether a version matches: "list" or "range" */
 size_t fake_bound_len = 4; /* of both bounds: zeros, and bytes 255 */
 uint32_t fake_flags = VERSIONS_RANGE_GENERAL | VERSIONS_RANGE_HIGH;
-
-bool versions_processor_suffices(void) { return fake_suffices; }
 
 const char *versions_version(void) { return "9.9.9"; }
 

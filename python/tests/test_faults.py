@@ -1,4 +1,4 @@
-"""What the extension does where an allocation fails, a processor lacks something or a status is none; and leaks.
+"""What the extension does where an allocation fails or a status is none; and leaks.
 
 `cc` compiles what these tests need beside the package: the extension over a library that returns what it is set to, and
 hooks of Python's allocators.
@@ -41,7 +41,6 @@ class FakeLibrary(WithFolder):
 
     def setUp(self):
         self.set(status=0, number=0)
-        self.set(type=ctypes.c_bool, suffices=True)
         self.set(type=ctypes.c_size_t, bound_len=4)
 
     def set(self, type=ctypes.c_int, **values):
@@ -54,13 +53,8 @@ class FakeLibrary(WithFolder):
         spec.loader.exec_module(module)
         return module
 
-    def test_a_processor_that_lacks_something(self):
+    def test_the_version_is_that_of_the_library(self):
         self.assertEqual(self.load().__version__, "9.9.9")
-        self.set(type=ctypes.c_bool, suffices=False)
-        words = "versions needs a processor of the level x86-64-v2, which has SSE4.2 and POPCNT"
-        with self.assertRaises(ImportError) as raised:
-            self.load()
-        self.assertEqual(str(raised.exception), words)
 
     def test_statuses_that_no_call_should_return(self):
         module = self.load()

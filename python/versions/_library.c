@@ -1111,10 +1111,6 @@ static int fill(PyObject *module) {
   struct state *state = PyModule_GetState(module);
   int number;
 
-  if (!versions_processor_suffices()) {
-    fail(PyExc_ImportError, "versions needs a processor of the level x86-64-v2, which has SSE4.2 and POPCNT");
-    return -1;
-  }
   Py_INCREF(Py_None);
   state->kinds[VERSIONS_NONE] = Py_None;
   for (number = VERSIONS_IDEAL; number <= VERSIONS_COMPLEX; number++) {

@@ -34,12 +34,6 @@
 //! where an allocation of more than `isize::MAX` bytes would be needed. An allocation failure
 //! ends the program, as elsewhere in Rust; the library itself allocates nothing.
 //!
-//! # Processors
-//!
-//! The library needs an x86-64 processor of the level x86-64-v2, which has SSE4.2 and POPCNT. On an
-//! older one, a call may end the program by the signal `SIGILL`. A program that may run there asks
-//! [`processor_suffices`] before it makes any other call.
-//!
 //! # Names
 //!
 //! The names are those of the crate `versions`, whose `Version` is its type of general versions
@@ -161,14 +155,4 @@ pub fn sort_key(text: &str) -> Result<Key, InvalidVersion> {
         Some((_, key)) => Ok(Key::new(key)),
         None => Err(InvalidVersion::new(text)),
     }
-}
-
-/// Returns whether the library runs on this processor, which must be of the level x86-64-v2. On any
-/// other processor, no other call may be made.
-///
-/// ```
-/// assert!(proved_versions::processor_suffices(), "this program needs a processor with SSE4.2");
-/// ```
-pub fn processor_suffices() -> bool {
-    library::processor_suffices()
 }

@@ -285,8 +285,6 @@ extern "C" {
         answers: *mut u8,
         answers_len: usize,
     ) -> c_int;
-
-    fn versions_processor_suffices() -> bool;
 }
 
 /// The fields that are pieces of the text.
@@ -326,12 +324,6 @@ impl Texts {
     fn key_room(&self) -> usize {
         3 * self.bytes.len() + 5 * self.count()
     }
-}
-
-/// Whether the library runs on this processor.
-pub fn processor_suffices() -> bool {
-    // SAFETY: the call takes nothing, and runs on every x86-64 processor.
-    unsafe { versions_processor_suffices() }
 }
 
 /// The kind of a text; `None` where it is not a version.

@@ -709,9 +709,3 @@ fn every_type_is_send_and_sync() {
     holds::<SortKeys>();
     holds::<proved_versions::Filter<'_, std::vec::IntoIter<Versioning>>>();
 }
-
-#[test]
-fn the_processor() {
-    // Every other test of this file has run on it.
-    assert!(proved_versions::processor_suffices());
-}

@@ -8,8 +8,8 @@
 use std::panic::{catch_unwind, AssertUnwindSafe};
 
 use proved_versions::{
-    compare, compare_total, in_tags, kind, kinds, match_all, newest, newest_tag, order,
-    processor_suffices, sort, sort_key, sort_keys, stabilities, Requirement, Stability, Versioning,
+    compare, compare_total, in_tags, kind, kinds, match_all, newest, newest_tag, order, sort,
+    sort_key, sort_keys, stabilities, Requirement, Stability, Versioning,
 };
 
 const FORGOTTEN: &str = "the library no longer takes the text of a Versioning for a version";
@@ -382,10 +382,4 @@ fn places_in_tags() {
             unexpected("versions_after_prefix", &place)
         );
     }
-}
-
-#[test]
-#[ignore = "run by tests/rust of the repository, with a wrong library"]
-fn an_old_processor() {
-    assert!(!processor_suffices());
 }

@@ -200,5 +200,3 @@ int versions_in_range_all(const char *texts, size_t texts_len, const int64_t *of
   memset(answers, 9, answers_len);
   return number_of_all(texts, texts_len, offsets, offsets_len);
 }
-
-bool versions_processor_suffices(void) { return false; }
