@@ -3,14 +3,18 @@
 #   make install                     does the same, and installs everything below PREFIX, by default /usr/local
 #   make uninstall                   removes the files that `make install` with the same settings installs
 # BINDIR, LIBDIR, INCLUDEDIR and MANDIR choose other folders than those below PREFIX. DESTDIR is prepended to each path,
-# and no installed file contains it. C_LIBRARY is a folder of c/build, and VERS the program; if set, they are installed
-# unchanged. EXTENSION is the file that the SQLite extension is built into. A release has all of these built, in a
-# folder `built` beside this file, and installs that.
+# and no installed file contains it. TARGET is what is built for, as c/target says. C_LIBRARY is a folder of c/build, and
+# VERS the program; if set, they are installed unchanged. EXTENSION is the file that the SQLite extension is built into.
+# A release has all of these built, in a folder `built` beside this file, and installs that.
 PREFIX ?= /usr/local
 BINDIR ?= $(PREFIX)/bin
 LIBDIR ?= $(PREFIX)/lib
 INCLUDEDIR ?= $(PREFIX)/include
 MANDIR ?= $(PREFIX)/share/man
+TARGET ?= x86_64-linux-gnu
+
+# What is built for another machine lies in a folder of its own.
+of_target := $(addprefix /,$(filter-out x86_64-linux-gnu,$(TARGET)))
 
 # sources CRATE ..: the files of crates
 sources = $(shell find $(addprefix crates/,$(1)) -name out -prune -o -type f -print)
@@ -20,26 +24,26 @@ C_LIBRARY ?= built
 VERS ?= built/vers
 EXTENSION ?= built/versions.so
 else
-EXTENSION ?= sqlite/out/versions.so
+EXTENSION ?= sqlite/out$(of_target)/versions.so
 compiled := extension
 endif
 
 ifndef C_LIBRARY
-C_LIBRARY := c/out
+C_LIBRARY := c/out$(of_target)
 header := c/versions.h
-built := c/out/versions.pc
-c/out/versions.pc: crates.txt c/build c/target c/pkg-config-file c/versions.c c/versions.h \
+built := $(C_LIBRARY)/versions.pc
+$(built): crates.txt c/build c/target c/pkg-config-file c/versions.c c/versions.h \
   $(call sources,version_rules version_texts version_tasks versions_c)
-	c/build c/out
+	c/build --target $(TARGET) $(C_LIBRARY)
 else
 header := $$C_LIBRARY/versions.h
 endif
 
 ifndef VERS
-VERS := c/out/vers
+VERS := c/out$(of_target)/vers
 built += $(VERS)
 $(VERS): crates.txt c/program c/target $(call sources,version_rules version_texts version_lines vers)
-	c/program vers $(VERS)
+	c/program --target $(TARGET) vers $(VERS)
 endif
 
 # Two proofs cannot run in one crate at once.
@@ -50,7 +54,7 @@ all: $(compiled)
 
 # It takes a second and contains the library, which may be another one each time: so it is built each time.
 extension: $(built)
-	C_LIBRARY="$$C_LIBRARY" sqlite/build "$$(dirname "$$EXTENSION")"
+	C_LIBRARY="$$C_LIBRARY" sqlite/build --target $(TARGET) "$$(dirname "$$EXTENSION")"
 
 # Folders reach the shell as variables, so that it takes each as it is.
 export PREFIX BINDIR LIBDIR INCLUDEDIR MANDIR DESTDIR C_LIBRARY VERS EXTENSION

@@ -15,6 +15,8 @@ from setuptools import Extension, setup
 from setuptools.command.build_ext import build_ext
 
 HERE = Path(__file__).resolve().parent
+# For which the extension is built: x86_64 or aarch64.
+MACHINE = sysconfig.get_platform().rpartition("-")[2]
 # The newest glibc whose symbols an object may import that is tagged manylinux2014.
 GLIBC = (2, 17)
 
@@ -65,8 +67,8 @@ def check(path):
     if not said:
         stop(f"readelf can't read {path} (Debian has readelf in the package binutils)")
     for needed in re.findall(r"\(NEEDED\).*\[(.*)\]", said):
-        if needed != "libc.so.6":
-            stop(f"the extension needs {needed}, and may need libc.so.6 alone")
+        if needed not in ("libc.so.6", "ld-linux-aarch64.so.1"):
+            stop(f"the extension needs {needed}, and may need libc.so.6 and glibc's loader alone")
     # As `12: 0000000000000000     0 FUNC    GLOBAL DEFAULT  UND memcpy@GLIBC_2.14 (2)`.
     for bound, section, symbol in re.findall(r"^ *\d+: \w+ +\w+ \w+ +(GLOBAL|WEAK) +\w+ +(\w+) (\S+)", said, re.M):
         name, _, version = symbol.partition("@")
@@ -117,5 +119,5 @@ setup(
         )
     ],
     cmdclass={"build_ext": Build},
-    options={"bdist_wheel": {"py_limited_api": "cp39", "plat_name": "manylinux2014_x86_64"}},
+    options={"bdist_wheel": {"py_limited_api": "cp39", "plat_name": f"manylinux2014_{MACHINE}"}},
 )

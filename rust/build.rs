@@ -38,8 +38,9 @@ fn main() {
 /// The folder that has `libversions.a`, or a sentence that says what to do.
 fn folder() -> Result<String, String> {
     let target = |part| env::var(format!("CARGO_CFG_TARGET_{part}")).unwrap_or_default();
-    if target("ARCH") != "x86_64" || target("OS") != "linux" {
-        let sentence = "build for x86-64 Linux, which is the only target that the library runs on";
+    let is_processor = ["x86_64", "aarch64"].contains(&target("ARCH").as_str());
+    if !is_processor || target("OS") != "linux" {
+        let sentence = "build for Linux on x86-64 or 64-bit ARM: the library runs nowhere else";
         return Err(sentence.to_string());
     }
     match env::var_os("VERSIONS_LIB_DIR") {

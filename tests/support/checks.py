@@ -24,7 +24,8 @@ def needs_tools(**packages):
             stop(f"there is no {tool.replace('_', '-')} here (Debian has it in the package {package})")
 
 
-def _built(*command):
+def built(*command):
+    """Runs a command that builds something, and returns what it says."""
     done = subprocess.run(command, stdout=subprocess.PIPE, text=True)
     if done.returncode != 0:
         stop(f"{Path(command[0]).name} failed")
@@ -33,7 +34,7 @@ def _built(*command):
 
 def needs_vers():
     """The path of the program, which VERS names, and which is proved and built first where it isn't set."""
-    return str(Path(os.environ.get("VERS") or _built(TOP / "tests/support/build")).resolve())
+    return str(Path(os.environ.get("VERS") or built(TOP / "tests/support/build")).resolve())
 
 
 def needs_library(work):
@@ -41,7 +42,7 @@ def needs_library(work):
     folder = os.environ.get("C_LIBRARY")
     if not folder:
         folder = os.path.join(work, "library")
-        _built(TOP / "c/build", folder)
+        built(TOP / "c/build", folder)
     return str(Path(folder).resolve())
 
 

@@ -1,0 +1,88 @@
+// Loads the extension for SQLite, calls its functions on the lines of standard input, and writes what they return:
+//   rows EXTENSION
+// tests/processors compares that on two processors.
+// This is not an extension: it calls SQLite directly.
+#define SQLITE_CORE 1
+#include <sqlite3ext.h>
+
+#include <stdio.h>
+#include <stdlib.h>
+#include <string.h>
+
+#define LONGEST 16384
+
+// ?1 is a line, ?2 the one before it, and ?3 a list of requirements.
+static const char *const of_each_line[] = {
+  "INSERT INTO lines VALUES (?1)",
+  "SELECT is_version(?1), version_key(?1), version_kind(?1), version_nth(?1, 0), version_nth(?1, 3), version_epoch(?1),"
+  " version_pre_release(?1), version_release(?1), version_metadata(?1), version_is_prerelease(?1), version_in(?1),"
+  " version_in(?1, 'v'), version_stability(?1), version_next(?1, 0), version_next(?1, 1)",
+  "SELECT version_compare(?2, ?1), version_compare_total(?2, ?1), version_difference(?2, ?1)",
+  "SELECT version_matches(?3, ?1), version_why_not(?3, ?1), version_low(?3), version_high(?3)",
+};
+static const char *const of_all_lines[] = {
+  "SELECT version_max(line), version_min(line), versions_version() FROM lines",
+  "SELECT rowid FROM lines ORDER BY version_key(line), rowid",
+  "SELECT rowid FROM lines ORDER BY line COLLATE VERSION, rowid",
+  "SELECT rowid FROM lines WHERE version_matches('>=1.2,<2', line)",
+};
+#define COUNT(list) (sizeof(list) / sizeof *(list))
+
+static void stop(sqlite3 *db) {
+  fprintf(stderr, "%s\n", sqlite3_errmsg(db));
+  exit(2);
+}
+
+static sqlite3_stmt *prepared(sqlite3 *db, const char *statement) {
+  sqlite3_stmt *made;
+  if (sqlite3_prepare_v2(db, statement, -1, &made, NULL) != SQLITE_OK) stop(db);
+  return made;
+}
+
+// Runs a statement, and writes the type, the length and the bytes of each value, or the error.
+static void run(sqlite3 *db, sqlite3_stmt *statement) {
+  int status;
+  while ((status = sqlite3_step(statement)) == SQLITE_ROW) {
+    for (int column = 0; column < sqlite3_column_count(statement); column++) {
+      int type = sqlite3_column_type(statement, column);
+      const void *bytes = sqlite3_column_blob(statement, column);
+      int length = sqlite3_column_bytes(statement, column);
+      printf("%d %d ", type, length);
+      if (length > 0) fwrite(bytes, 1, (size_t)length, stdout);
+    }
+    putchar('\n');
+  }
+  if (status != SQLITE_DONE) printf("%s\n", sqlite3_errmsg(db));
+  sqlite3_reset(statement);
+}
+
+int main(int count, char **words) {
+  static char line[LONGEST], before[LONGEST], list[LONGEST + 2];
+  static const char *const operators[] = {"=", ">", ">=", "<", "<=", "~", "^", ""};
+  sqlite3_stmt *each[COUNT(of_each_line)];
+  sqlite3 *db;
+  size_t lines = 0;
+  if (count != 2 || sqlite3_open(":memory:", &db) != SQLITE_OK) return 2;
+  if (sqlite3_enable_load_extension(db, 1) != SQLITE_OK) stop(db);
+  if (sqlite3_load_extension(db, words[1], NULL, NULL) != SQLITE_OK) stop(db);
+  if (sqlite3_exec(db, "CREATE TABLE lines (line TEXT)", NULL, NULL, NULL) != SQLITE_OK) stop(db);
+  for (size_t i = 0; i < COUNT(each); i++) each[i] = prepared(db, of_each_line[i]);
+  while (fgets(line, sizeof line, stdin) != NULL) {
+    line[strcspn(line, "\n")] = 0;
+    snprintf(list, sizeof list, "%s%s", operators[lines++ % 8], before);
+    for (size_t i = 0; i < COUNT(each); i++) {
+      sqlite3_bind_text(each[i], 1, line, -1, SQLITE_STATIC);
+      if (i > 1) sqlite3_bind_text(each[i], 2, before, -1, SQLITE_STATIC);
+      if (i > 2) sqlite3_bind_text(each[i], 3, list, -1, SQLITE_STATIC);
+      run(db, each[i]);
+    }
+    strcpy(before, line);
+  }
+  for (size_t i = 0; i < COUNT(each); i++) sqlite3_finalize(each[i]);
+  for (size_t i = 0; i < COUNT(of_all_lines); i++) {
+    sqlite3_stmt *statement = prepared(db, of_all_lines[i]);
+    run(db, statement);
+    sqlite3_finalize(statement);
+  }
+  return sqlite3_close(db) == SQLITE_OK && fflush(stdout) == 0 ? 0 : 1;
+}
