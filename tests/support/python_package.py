@@ -277,6 +277,7 @@ class Page(Case):
         self.assertEqual(len(blocks), 2)
         shutil.copytree(TOP / "python", self.work / "python", ignore=shutil.ignore_patterns("out", "__pycache__"))
         (self.work / "c").mkdir()
+        shutil.copy(TOP / "c/target", self.work / "c")
         (self.work / "c/out").symlink_to(LIBRARY)
         # python3 is the Python that builds.
         path = f"{Path(shutil.which(os.environ['PYTHON'])).parent}:{os.environ['PATH']}"
