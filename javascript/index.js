@@ -8,6 +8,8 @@ import {
   FIRST,
   SLOTS,
   START,
+  after,
+  big,
   binary,
   bytes,
   bytesOf,
@@ -36,6 +38,7 @@ const ALL_MATCH = 15;
 const [PRE_RELEASE, RELEASE, METADATA] = [2, 3, 4];
 const [HAS_HIGH, IS_EXACT] = [8, 16];
 const FROM = BigInt(FIRST);
+const LONE_SURROGATE = /\p{Surrogate}/u;
 
 export class InvalidVersion extends RangeError {
   constructor(text) {
@@ -76,77 +79,75 @@ const listOf = (value) => (typeof value === "string" ? value : (requirementText(
  * Calls about one text or two.
  */
 
-// Writes a text, with room for more after it, and returns the address after it. As in each call, the text's units need
-// at most three bytes each.
+// Writes a text, with room for more after it, and returns its length in bytes. As in each call, each unit of the text
+// needs at most three bytes.
 function write(text, more = 0) {
   reserve(FIRST + 3 * text.length + more);
-  return put(text, FIRST);
+  return put(text, FIRST) - FIRST;
 }
 
-const lengthTo = (end) => BigInt(end - FIRST);
-
-// Writes two texts, and returns the words that a call takes for them.
-function pair(one, other) {
-  reserve(FIRST + 3 * (one.length + other.length));
-  const middle = put(one, FIRST);
-  const end = put(other, middle);
-  return [FROM, lengthTo(middle), BigInt(middle), BigInt(end - middle)];
+// Writes two texts, one after the other, and sets their lengths.
+let one = 0;
+let two = 0;
+function writeTwo(a, b) {
+  reserve(FIRST + 3 * (a.length + b.length));
+  one = put(a, FIRST) - FIRST;
+  two = put(b, FIRST + one) - FIRST - one;
 }
 
-function refusePair(status, a, b) {
+function refuseTwo(status, a, b) {
   throw new InvalidVersion(status === NO_VERSION_B ? b : a);
 }
 
-function wrongMember(text) {
-  const end = write(text);
-  return call.versions_wrong_member(FROM, lengthTo(end), SLOTS[0], SLOTS[1]) === OK ? places(text) : [0, text.length];
-}
+// The places in a text, counted in its units, of what two slots hold as places of its bytes.
+const placesOf = (text, from = 0) => [placeOf(text, slot(from)), placeOf(text, slot(from + 1))];
+const between = (text, from = 0) => text.slice(...placesOf(text, from));
 
-// The places in a text, counted in its units, of what the slots hold as places of its bytes.
-const places = (text, from = 0) => [placeOf(text, slot(from)), placeOf(text, slot(from + 1))];
+function wrongMember(text) {
+  const length = write(text);
+  const status = call.versions_wrong_member(FROM, big(length), SLOTS[0], SLOTS[1]);
+  return status === OK ? placesOf(text) : [0, text.length];
+}
 
 // The kind and the key of a version, the key as a text of its bytes.
 function parse(text) {
-  const end = write(text, 9 * text.length + 8);
-  const room = BigInt(3 * (end - FIRST) + 5);
-  if (call.versions_parse(FROM, lengthTo(end), SLOTS[0], BigInt(end), room, SLOTS[1]) !== OK) {
-    throw new InvalidVersion(text);
-  }
-  return [KINDS[bytes[START]], binary(end, end + slot(1))];
+  const length = write(text, 9 * text.length + 8);
+  const key = FIRST + length;
+  const status = call.versions_parse(FROM, big(length), SLOTS[0], after(length), big(3 * length + 5), SLOTS[1]);
+  if (status !== OK) throw new InvalidVersion(text);
+  return [KINDS[bytes[START]], binary(key, key + slot(1))];
 }
 
 function asPlace(value) {
   if (typeof value !== "number") throw new TypeError(`a place is a number, and this is of type ${nameOf(value)}`);
   if (!Number.isSafeInteger(value) || value < 0) throw new RangeError(`a place is an integer from 0 on, and not ${value}`);
-  return BigInt(value);
+  return big(value);
 }
 
 function field(text, number) {
-  const end = write(text);
-  if (call.versions_field(FROM, lengthTo(end), number, SLOTS[0], SLOTS[1]) !== OK) return null;
-  return text.slice(...places(text));
+  const length = write(text);
+  return call.versions_field(FROM, big(length), number, SLOTS[0], SLOTS[1]) === OK ? between(text) : null;
 }
 
-export function kind(text) {
-  const its = textOf(text);
-  return KINDS[call.versions_kind(FROM, lengthTo(write(its)))];
-}
+export const kind = (text) => KINDS[call.versions_kind(FROM, big(write(textOf(text))))];
 
 export const sortKey = (text) => bytesOf(parse(textOf(text))[1]);
 
 export function compare(a, b) {
-  const one = textOf(a);
+  const its = textOf(a);
   const other = textOf(b);
-  const status = call.versions_compare(...pair(one, other), SLOTS[0]);
-  if (status !== OK) refusePair(status, one, other);
+  writeTwo(its, other);
+  const status = call.versions_compare(FROM, big(one), after(one), big(two), SLOTS[0]);
+  if (status !== OK) refuseTwo(status, its, other);
   return words[START / 4] | 0;
 }
 
 export function compareTotal(a, b) {
-  const one = textOf(a);
+  const its = textOf(a);
   const other = textOf(b);
-  const status = call.versions_compare_total(...pair(one, other), SLOTS[0]);
-  if (status !== OK) refusePair(status, one, other);
+  writeTwo(its, other);
+  const status = call.versions_compare_total(FROM, big(one), after(one), big(two), SLOTS[0]);
+  if (status !== OK) refuseTwo(status, its, other);
   return words[START / 4] | 0;
 }
 
@@ -167,98 +168,103 @@ function itemsOf(texts) {
 // The texts of items. A missing value has the empty text, which is not a version either.
 const textsOf = (items) => items.map((item) => (isMissing(item) ? "" : textOf(item)));
 
+// The same of tags. What a lone surrogate is written as is a sign to the library, so a tag with one is left out here.
+const tagsOf = (items) => textsOf(items).map((tag) => (LONE_SURROGATE.test(tag) ? "" : tag));
+
 /*
- * Writes texts and their offsets, and returns where they lie and the words that a call takes for them. Between the
- * offsets and the texts there is room for `each` bytes for each text and 8 more, at `results`.
+ * Writes texts and their offsets, and returns where they end, and the words that a call takes for them. Between the
+ * offsets and the texts there is room for `each` bytes for each text and 8 more, at `results`. Then there is room for
+ * `more` bytes after the texts.
  */
-function writeAll(texts, each) {
+function writeAll(texts, each, more = 0) {
   const count = texts.length;
   const results = FIRST + 8 * (count + 1);
   const from = results + 8 * Math.ceil((each * count) / 8 + 1);
   let units = 0;
-  for (const text of texts) units += text.length;
-  reserve(from + 3 * units);
+  for (let place = 0; place < count; place++) units += texts[place].length;
+  reserve(from + 3 * units + more);
   let end = from;
-  let at = FIRST / 4;
-  words[at] = words[at + 1] = 0;
-  for (const text of texts) {
-    end = put(text, end);
-    at += 2;
+  words[FIRST / 4] = words[FIRST / 4 + 1] = 0;
+  for (let place = 0, at = FIRST / 4 + 2; place < count; place++, at += 2) {
+    end = put(texts[place], end);
     words[at] = end - from;
     words[at + 1] = 0;
   }
-  const passed = [BigInt(from), BigInt(end - from), FROM, BigInt(count + 1)];
-  return { count, results, end, passed, size: end - from };
+  return { count, results, end, size: end - from, passed: [BigInt(from), BigInt(end - from), FROM, BigInt(count + 1)] };
+}
+
+// A list of what a function answers for each place.
+function forEach(count, answer) {
+  const answers = new Array(count);
+  for (let place = 0; place < count; place++) answers[place] = answer(place);
+  return answers;
 }
 
 // What a call writes for each text, one byte each, by a list of what the bytes mean.
-function answers(name, texts, meanings, list = null) {
-  const { count, results, end, passed } = writeAll(texts, 1);
-  const more = [];
-  if (list !== null) {
-    reserve(end + 3 * list.length);
-    more.push(BigInt(end), BigInt(put(list, end) - end));
-  }
-  const status = call[name](...more, ...passed, BigInt(results), BigInt(count));
-  if (status === NO_REQUIREMENTS) throw new InvalidRequirement(list);
-  return Array.from(bytes.subarray(results, results + count), (byte) => meanings[byte]);
+function answers(name, texts, meanings) {
+  const { count, results, passed } = writeAll(textsOf(itemsOf(texts)), 1);
+  call[name](...passed, BigInt(results), BigInt(count));
+  return forEach(count, (place) => meanings[bytes[results + place]]);
 }
 
-export const kinds = (texts) => answers("versions_kinds", textsOf(itemsOf(texts)), KINDS);
+export const kinds = (texts) => answers("versions_kinds", texts, KINDS);
 
-export const stabilities = (texts) =>
-  answers("versions_stabilities", textsOf(itemsOf(texts)), [null, ...STABILITIES]);
+export const stabilities = (texts) => answers("versions_stabilities", texts, [null, ...STABILITIES]);
 
 export function matchAll(requirement, texts) {
   const list = listOf(requirement);
-  return answers("versions_match_all", textsOf(itemsOf(texts)), [false, true, null], list);
+  const { count, results, end, passed } = writeAll(textsOf(itemsOf(texts)), 1, 3 * list.length);
+  const length = put(list, end) - end;
+  const status = call.versions_match_all(BigInt(end), big(length), ...passed, BigInt(results), BigInt(count));
+  if (status !== OK) throw new InvalidRequirement(list);
+  const meanings = [false, true, null];
+  return forEach(count, (place) => meanings[bytes[results + place]]);
 }
 
 export function inTags(texts) {
-  const tags = textsOf(itemsOf(texts));
+  const tags = tagsOf(itemsOf(texts));
   const { count, results, passed } = writeAll(tags, 8);
   call.versions_in_tags(...passed, BigInt(results), BigInt(count));
-  return tags.map((tag, place) => {
-    const begun = wordPair(FIRST + 8 * place);
+  return forEach(count, (place) => {
     const start = wordPair(results + 8 * place);
-    if (start === wordPair(FIRST + 8 * place + 8)) return null;
-    return tag.slice(placeOf(tag, start - begun));
+    if (start === wordPair(FIRST + 8 * (place + 1))) return null;
+    return tags[place].slice(placeOf(tags[place], start - wordPair(FIRST + 8 * place)));
   });
 }
 
-// Makes room for the keys of texts that are written, and returns how much is needed at most.
+// Makes room for the keys of texts that are written, and returns how much is always enough.
 function roomForKeys({ count, size, end }) {
   const room = 3 * size + 5 * count;
   reserve(end + room);
-  return room;
+  return BigInt(room);
 }
 
 export function sortKeys(texts) {
   const all = writeAll(textsOf(itemsOf(texts)), 8);
   const { count, results, end, passed } = all;
   const room = roomForKeys(all);
-  call.versions_sort_keys(...passed, BigInt(end), BigInt(room), BigInt(results), BigInt(count + 1));
-  return Array.from({ length: count }, (_, place) => {
+  call.versions_sort_keys(...passed, BigInt(end), room, BigInt(results), BigInt(count + 1));
+  return forEach(count, (place) => {
     const from = wordPair(results + 8 * place);
-    const behind = wordPair(results + 8 * place + 8);
-    return from === behind ? null : bytes.slice(end + from, end + behind);
+    const to = wordPair(results + 8 * (place + 1));
+    return from === to ? null : bytes.slice(end + from, end + to);
   });
 }
 
 // The places of texts in sorted order, and how many of them are versions: the others come last.
-function order(texts) {
+function placesInOrder(texts) {
   const all = writeAll(texts, 16);
   const { count, results, end, passed } = all;
   const room = roomForKeys(all);
   const sorted = results + 8 * (count + 1);
   call.versions_sort(
-    ...passed, BigInt(end), BigInt(room), BigInt(results), BigInt(count + 1), BigInt(sorted), BigInt(count),
+    ...passed, BigInt(end), room, BigInt(results), BigInt(count + 1), BigInt(sorted), BigInt(count),
   );
-  const order = Array.from({ length: count }, (_, place) => words[(sorted >>> 2) + 2 * place]);
-  const hasKey = (place) => wordPair(results + 8 * place) !== wordPair(results + 8 * place + 8);
+  const places = forEach(count, (at) => words[sorted / 4 + 2 * at]);
+  const hasKey = (place) => wordPair(results + 8 * place) !== wordPair(results + 8 * (place + 1));
   let good = count;
-  while (good > 0 && !hasKey(order[good - 1])) good--;
-  return [order, good];
+  while (good > 0 && !hasKey(places[good - 1])) good--;
+  return [places, good];
 }
 
 export function sort(texts, { key = null, reverse = false, invalid = "throw" } = {}) {
@@ -274,7 +280,7 @@ export function sort(texts, { key = null, reverse = false, invalid = "throw" } =
     keys.reverse();
   }
   const its = invalid === "last" ? textsOf(keys) : keys.map(textOf);
-  const [places, good] = order(its);
+  const [places, good] = placesInOrder(its);
   if (good < places.length && invalid === "throw") {
     throw new InvalidVersion(its[places[reverse ? places.length - 1 : good]]);
   }
@@ -287,17 +293,15 @@ export function sort(texts, { key = null, reverse = false, invalid = "throw" } =
   return versions.concat(others).map((place) => items[place]);
 }
 
-export function newest(texts, { requirement = "*", stability = "dev", tags = false } = {}) {
-  const list = listOf(requirement);
+export function newest(texts, { requirement = null, stability = null, tags = false } = {}) {
+  const list = listOf(requirement ?? "*");
   const least = STABILITIES.indexOf(stability) + 1;
-  if (least === 0) throw new RangeError(`no stability: ${JSON.stringify(stability)}`);
+  if (least === 0 && !isMissing(stability)) throw new RangeError(`no stability: ${JSON.stringify(stability)}`);
   const items = itemsOf(texts);
-  const { end, passed } = writeAll(textsOf(items), 0);
-  reserve(end + 3 * list.length);
-  const listEnd = put(list, end);
-  const status = call.versions_newest(
-    ...passed, BigInt(end), BigInt(listEnd - end), least, tags ? 1 : 0, SLOTS[0],
-  );
+  const its = tags ? tagsOf(items) : textsOf(items);
+  const { end, passed } = writeAll(its, 0, 3 * list.length);
+  const length = put(list, end) - end;
+  const status = call.versions_newest(...passed, BigInt(end), big(length), least, tags ? 1 : 0, SLOTS[0]);
   if (status === NO_REQUIREMENTS) throw new InvalidRequirement(list);
   return status === OK ? items[slot(0)] : null;
 }
@@ -361,11 +365,13 @@ export class Version {
 
   static fromTag(tag, prefix = null) {
     const its = textOf(tag);
+    if (LONE_SURROGATE.test(its)) throw new InvalidVersion(its);
     let status;
     if (prefix === null) {
-      status = call.versions_in_tag(FROM, lengthTo(write(its)), SLOTS[0]);
+      status = call.versions_in_tag(FROM, big(write(its)), SLOTS[0]);
     } else {
-      status = call.versions_after_prefix(...pair(asText(prefix), its), SLOTS[0]);
+      writeTwo(asText(prefix), its);
+      status = call.versions_after_prefix(FROM, big(one), after(one), big(two), SLOTS[0]);
     }
     if (status !== OK) throw new InvalidVersion(its);
     return new this(its.slice(placeOf(its, slot(0))));
@@ -396,12 +402,12 @@ export class Version {
   }
 
   get isPrerelease() {
-    call.versions_is_prerelease(FROM, lengthTo(write(this.#text)), SLOTS[0]);
+    call.versions_is_prerelease(FROM, big(write(this.#text)), SLOTS[0]);
     return bytes[START] === 1;
   }
 
   get stability() {
-    return STABILITIES[call.versions_stability(FROM, lengthTo(write(this.#text))) - 1];
+    return STABILITIES[call.versions_stability(FROM, big(write(this.#text))) - 1];
   }
 
   get major() {
@@ -418,7 +424,7 @@ export class Version {
 
   get epoch() {
     // A larger epoch than any number here has a call's status of its own, and the largest number.
-    const status = call.versions_epoch(FROM, lengthTo(write(this.#text)), SLOTS[0]);
+    const status = call.versions_epoch(FROM, big(write(this.#text)), SLOTS[0]);
     return status === NO_NUMBER ? null : Math.min(slot(0), Number.MAX_SAFE_INTEGER);
   }
 
@@ -435,22 +441,25 @@ export class Version {
   }
 
   nth(n) {
-    const status = call.versions_nth(FROM, lengthTo(write(this.#text)), asPlace(n), SLOTS[0]);
+    const status = call.versions_nth(FROM, big(write(this.#text)), asPlace(n), SLOTS[0]);
     return status === OK ? words[START / 4] : null;
   }
 
   next(place) {
-    const end = write(this.#text, 9 * this.#text.length + 64);
-    const room = BigInt(bytes.length - end);
-    const status = call.versions_next(FROM, lengthTo(end), asPlace(place), BigInt(end), room, SLOTS[0]);
+    const at = asPlace(place);
+    // What comes next has at most one digit more.
+    const room = 3 * this.#text.length + 8;
+    const length = write(this.#text, room);
+    const status = call.versions_next(FROM, big(length), at, after(length), big(room), SLOTS[0]);
     if (status !== OK) throw new RangeError(`${this.#text} has no next version at place ${place}`);
-    return new this.constructor(binary(end, end + slot(0)));
+    return new this.constructor(binary(FIRST + length, FIRST + length + slot(0)));
   }
 
   difference(other) {
     const its = textOf(other);
-    const status = call.versions_difference(...pair(this.#text, its), SLOTS[0], SLOTS[1]);
-    if (status !== OK) refusePair(status, this.#text, its);
+    writeTwo(this.#text, its);
+    const status = call.versions_difference(FROM, big(one), after(one), big(two), SLOTS[0], SLOTS[1]);
+    if (status !== OK) refuseTwo(status, this.#text, its);
     const kind = DIFFERENCES[words[START / 4]];
     return new Difference(kind, kind === "part" ? slot(1) : null);
   }
@@ -488,8 +497,7 @@ export class Requirement {
 
   constructor(text) {
     const its = listOf(text);
-    const end = write(its);
-    if (call.versions_wrong_member(FROM, lengthTo(end), SLOTS[0], SLOTS[1]) === OK) throw new InvalidRequirement(its);
+    if (call.versions_wrong_member(FROM, big(write(its)), SLOTS[0], SLOTS[1]) === OK) throw new InvalidRequirement(its);
     this.#text = its;
   }
 
@@ -499,13 +507,15 @@ export class Requirement {
 
   matches(version) {
     const its = textOf(version);
-    const status = call.versions_matches(...pair(this.#text, its), SLOTS[0]);
+    writeTwo(this.#text, its);
+    const status = call.versions_matches(FROM, big(one), after(one), big(two), SLOTS[0]);
     if (status !== OK) throw new InvalidVersion(its);
     return bytes[START] === 1;
   }
 
   has(version) {
-    const status = call.versions_matches(...pair(this.#text, textOf(version)), SLOTS[0]);
+    writeTwo(this.#text, textOf(version));
+    const status = call.versions_matches(FROM, big(one), after(one), big(two), SLOTS[0]);
     return status === OK && bytes[START] === 1;
   }
 
@@ -517,29 +527,30 @@ export class Requirement {
 
   whyNot(version) {
     const its = textOf(version);
-    const status = call.versions_why_not(...pair(this.#text, its), SLOTS[0], SLOTS[1], SLOTS[2]);
+    writeTwo(this.#text, its);
+    const status = call.versions_why_not(FROM, big(one), after(one), big(two), SLOTS[0], SLOTS[1], SLOTS[2]);
     if (status === ALL_MATCH) return null;
     if (status !== OK) throw new InvalidVersion(its);
-    const [start, end] = places(this.#text);
+    const [start, end] = placesOf(this.#text);
     return new Mismatch(its, this.#text.slice(start, end), start, end, REASONS[words[START / 4 + 4]]);
   }
 
   get conflict() {
-    const end = write(this.#text);
-    if (call.versions_conflict(FROM, lengthTo(end), ...SLOTS.slice(0, 4)) !== OK) return null;
-    return [this.#text.slice(...places(this.#text)), this.#text.slice(...places(this.#text, 2))];
+    const status = call.versions_conflict(FROM, big(write(this.#text)), ...SLOTS.slice(0, 4));
+    return status === OK ? [between(this.#text), between(this.#text, 2)] : null;
   }
 
   // The low bound, the high one and the flags, the bounds as texts of their bytes.
   #bounds() {
     if (this.#range === undefined) {
-      const end = write(this.#text, 18 * this.#text.length + 16);
-      const room = 3 * (end - FIRST) + 5;
-      const high = end + room;
+      const length = write(this.#text, 18 * this.#text.length + 16);
+      const room = 3 * length + 5;
+      const low = FIRST + length;
+      const high = low + room;
       call.versions_range(
-        FROM, lengthTo(end), BigInt(end), BigInt(room), SLOTS[0], BigInt(high), BigInt(room), SLOTS[1], SLOTS[2],
+        FROM, big(length), after(length), big(room), SLOTS[0], after(length + room), big(room), SLOTS[1], SLOTS[2],
       );
-      this.#range = [binary(end, end + slot(0)), binary(high, high + slot(1)), words[START / 4 + 4]];
+      this.#range = [binary(low, low + slot(0)), binary(high, high + slot(1)), words[START / 4 + 4]];
     }
     return this.#range;
   }

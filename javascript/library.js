@@ -56,6 +56,13 @@ export const SLOTS = Array.from({ length: 8 }, (_, place) => BigInt(START + 8 * 
 /** Where texts and lists begin. */
 export const FIRST = START + 64;
 
+// The module takes BigInts. Those of short lengths, and of the places after FIRST, are made once.
+const LENGTHS = Array.from({ length: 1024 }, (_, length) => BigInt(length));
+const PLACES = LENGTHS.map((length) => BigInt(FIRST) + length);
+export const big = (length) => (length < 1024 ? LENGTHS[length] : BigInt(length));
+/** The address so many bytes after FIRST. */
+export const after = (length) => (length < 1024 ? PLACES[length] : BigInt(FIRST + length));
+
 /** The number that a call has written into a slot. Of the numbers there none is above 2 ** 53 but for epochs. */
 export const slot = (place) => wordPair(START + 8 * place);
 /** The number of 64 bits at an address. */
