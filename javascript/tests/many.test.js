@@ -57,25 +57,24 @@ test("texts that change while they are read, and calls within calls", () => {
   const items = [3, 20, 1];
   assert.deepEqual(sort(items, { key: (item) => { sort(["2", "1"]); return String(item); } }), [1, 3, 20]);
   const odd = new Proxy(["1", "2"], { get: (of, name) => (name === "0" ? (of.pop(), "1") : of[name]) });
-  assert.deepEqual(sort(odd, { invalid: "last" }), ["1", undefined]);
+  assert.deepEqual(sort(odd), ["1"]);
 });
 
-test("a million", () => {
-  const texts = Array.from({ length: 1_000_000 }, (_, n) => (n % 10 ? `${n % 7}.${n % 1000}.${n}` : "1..2"));
+test("a hundred thousand", () => {
+  const count = 100_000;
+  const numbers = (n) => [n % 7, n % 1000, n];
+  const texts = Array.from({ length: count }, (_, n) => (n % 10 ? numbers(n).join(".") : "1..2"));
   const [of, matches, keys] = [kinds(texts), matchAll(">=3", texts), sortKeys(texts)];
-  for (let n = 0; n < texts.length; n++) {
+  for (let n = 0; n < count; n++) {
     assert.ok(of[n] === (n % 10 ? "ideal" : null) && matches[n] === (n % 10 ? n % 7 >= 3 : null), texts[n]);
-    if (n % 997 === 0) assert.deepEqual(keys[n], n % 10 ? sortKey(texts[n]) : null);
+    if (n % 97 === 0) assert.deepEqual(keys[n], n % 10 ? sortKey(texts[n]) : null);
   }
-  const numbers = (text) => text.split(".").map(Number);
-  const inOrder = texts.filter((text) => text !== "1..2").sort((a, b) => {
-    const [x, y] = [numbers(a), numbers(b)];
-    return x[0] - y[0] || x[1] - y[1] || x[2] - y[2];
-  });
+  const places = Array.from(texts.keys()).filter((n) => n % 10);
+  places.sort((a, b) => a % 7 - b % 7 || a % 1000 - b % 1000 || a - b);
   const sorted = sort(texts, { invalid: "last" });
-  for (let n = 0; n < texts.length; n++) assert.ok(sorted[n] === (inOrder[n] ?? "1..2"), `place ${n}`);
-  assert.equal(newest(texts), inOrder.at(-1));
-  assert.equal(newest(texts.map((text) => `v${text}`), { tags: true }), `v${inOrder.at(-1)}`);
+  for (let n = 0; n < count; n++) assert.ok(sorted[n] === (texts[places[n]] ?? "1..2"), `place ${n}`);
+  assert.equal(newest(texts), texts[places.at(-1)]);
+  assert.equal(newest(texts.map((text) => `v${text}`), { tags: true }), `v${texts[places.at(-1)]}`);
 });
 
 test("sort", () => {

@@ -297,12 +297,12 @@ test("the member that is wrong", () => {
 });
 
 test("long texts", () => {
-  for (const text of ["1.".repeat(1_000_000) + "1", "1_".repeat(1_000_000) + "1", "a".repeat(10_000_000), "9".repeat(10_000_000)]) {
+  for (const text of ["1.".repeat(100_000) + "1", "1_".repeat(100_000) + "1", "a".repeat(1_000_000), "9".repeat(1_000_000)]) {
     const version = new Version(text);
     assert.equal(String(version), text);
     assert.ok(version.equals(`0:${text}`) && new Version("1:0") > version);
   }
-  refusesVersion(() => new Version("1.".repeat(1_000_000)), "1.".repeat(1_000_000));
+  refusesVersion(() => new Version("1.".repeat(100_000)), "1.".repeat(100_000));
   // Around the lengths whose BigInts are made once, and those that grow the memory.
   for (const length of [1, 2, 1022, 1023, 1024, 1025, 4095, 4096, 4097, 5461, 65535, 65536, 65537, 200_000]) {
     for (const text of ["a".repeat(length), "1.".repeat(length / 2) + "1", `1.0.0-${"b".repeat(length)}`]) {

@@ -69,7 +69,7 @@ test("more tags", () => {
     refusesVersion(() => Version.fromTag(tag, prefix), tag);
   }
   for (const prefix of [5, {}, new Version("1")]) assert.throws(() => Version.fromTag("v1", prefix), TypeError);
-  const long = "1.".repeat(1_000_000) + "1";
+  const long = "1.".repeat(100_000) + "1";
   assert.deepEqual(inTags([`x-${long}`, `é-v${long}`]), [long, long]);
 });
 
@@ -149,7 +149,7 @@ test("next", () => {
       assert.throws(() => new Version(text).next(place), { name: "RangeError", message });
     }
   }
-  for (const count of [1, 130, 1_000_000]) {
+  for (const count of [1, 130, 100_000]) {
     const version = new Version("9.".repeat(count) + "9");
     assert.equal(String(version.next(count)), "9.".repeat(count) + "10");
     assert.equal(String(version.next(0)), "10" + ".0".repeat(count));
