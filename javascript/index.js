@@ -6,6 +6,7 @@
  */
 import {
   FIRST,
+  LONE_SURROGATE,
   SLOTS,
   START,
   after,
@@ -38,7 +39,6 @@ const ALL_MATCH = 15;
 const [PRE_RELEASE, RELEASE, METADATA] = [2, 3, 4];
 const [HAS_HIGH, IS_EXACT] = [8, 16];
 const FROM = BigInt(FIRST);
-const LONE_SURROGATE = /\p{Surrogate}/u;
 
 export class InvalidVersion extends RangeError {
   constructor(text) {

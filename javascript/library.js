@@ -102,6 +102,10 @@ export function reserve(end) {
   }
 }
 
+export const LONE_SURROGATE = /\p{Surrogate}/u;
+// Texts up to this length are written faster unit by unit.
+const SHORT = 128;
+const encoder = new TextEncoder();
 const width = (point) => (point < 0x80 ? 1 : point < 0x800 ? 2 : point < 0x10000 ? 3 : 4);
 
 /**
@@ -110,12 +114,15 @@ const width = (point) => (point < 0x80 ? 1 : point < 0x800 ? 2 : point < 0x10000
  * not a version.
  */
 export function put(text, at) {
-  for (let place = 0; place < text.length; place++) {
+  const { length } = text;
+  if (length > SHORT && !LONE_SURROGATE.test(text)) return at + encoder.encodeInto(text, bytes.subarray(at)).written;
+  const to = bytes;
+  for (let place = 0; place < length; place++) {
     const unit = text.charCodeAt(place);
-    if (unit >= 0x80) return putRest(text, place, at);
-    bytes[at++] = unit;
+    if (unit >= 0x80) return putRest(text, place, at + place);
+    to[at + place] = unit;
   }
-  return at;
+  return at + length;
 }
 
 function putRest(text, place, at) {

@@ -23,7 +23,7 @@ test("a thousand calls with texts of a megabyte grow nothing", async () => {
   ];
   for (const call of calls) call();
   const before = size();
-  // Most of them are refused at the first byte, which saves time, but are written first as the others are.
+  // Most of them are refused at the first byte, which saves time. They are written before, as the others are.
   const refused = ` ${long}`;
   for (let run = 0; run < 1000; run++) {
     if (run % 10 === 0) calls[(run / 10) % calls.length]();

@@ -313,3 +313,25 @@ test("long texts", () => {
     }
   }
 });
+
+test("texts past ASCII, short and long", () => {
+  const rest = ["é", "版本", "\u{1f600}", "\ud83d\ude00x", "\uffff", "\u07ff\u0800", "\u{10ffff}"];
+  for (const count of [0, 1, 126, 127, 128, 129, 5000]) {
+    for (const text of rest) {
+      // As UTF-8 the whole text is not a version, and the tag after it has one.
+      const front = "x".repeat(count) + text;
+      refusesVersion(() => new Version(`${front}1.2`), `${front}1.2`);
+      assert.equal(String(Version.fromTag(`${front}-v1.2`)), "1.2");
+      assert.deepEqual(versions.inTags([`${front}-v1.2`, `${front}1.2`, front]), ["1.2", text.endsWith("x") ? null : "1.2", null]);
+      refusesRequirement(() => new Requirement(`*,${front},1`), `*,${front},1`, 2, front);
+      // A lone surrogate after it, and one before it.
+      for (const lone of [`${front}\ud800`, `\udfff${front}`, `${front}\udc00\ud800`]) {
+        assert.equal(kind(lone), null);
+        refusesRequirement(() => new Requirement(`*,${lone}`), `*,${lone}`, 2, lone);
+        refusesVersion(() => Version.fromTag(`${lone}-v1.2`), `${lone}-v1.2`);
+        assert.deepEqual(versions.inTags([`${lone}-v1.2`]), [null]);
+        assert.equal(versions.newest([`${lone}-v1.2`, "v1.0"], { tags: true }), "v1.0");
+      }
+    }
+  }
+});
