@@ -31,6 +31,14 @@ for (const [page, count] of Object.entries(PAGES)) {
   });
 }
 
+test("the recipe of docs/REQUIREMENTS.md", () => {
+  const [, recipe] = read("docs/REQUIREMENTS.md").match(/^\| JavaScript \| `(.*)` \|$/m);
+  const texts = ["1.2.3", "1.9.0-rc.1", "1.9.0+a-b", "1.9rc1", "2.0.0-rc.1", "x y"];
+  const wanted = new versions.Requirement(">=1.2.3,<2");
+  const found = new Function("wanted", "texts", "Version", `return ${recipe}`)(wanted, texts, versions.Version);
+  assert.deepEqual(found, ["1.2.3", "1.9.0+a-b", "1.9rc1"]);
+});
+
 test("the page of HTML", () => {
   const [, code] = read("docs/JAVASCRIPT.md").match(/^```html\n<script type="module">\n(.*?)^<\/script>\n```$/ms);
   const document = { body: {} };
