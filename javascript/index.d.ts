@@ -1,8 +1,8 @@
 /**
  * Version numbers, parsed, ordered and matched by a library that is proved.
  *
- * A text is a string; a `Version` stands for its text in every call, and a `Requirement` for its own. Anything else is a
- * TypeError. A text with a lone surrogate is not a version, and a member with one is not a requirement.
+ * A text is a string; a `Version` stands for its text in every call, and a `Requirement` for its own. Anything else is
+ * a TypeError. A text with a lone surrogate is not a version, and a member with one is not a requirement.
  */
 
 /** strict, as SemVer 2.0 describes it, general, or messy */
@@ -116,8 +116,8 @@ export class Mismatch {
 }
 
 /**
- * The range of keys that a requirement asks for. What it matches has one of the kinds, and a key from `low` on and, unless
- * `high` is null, below `high`. If the range is exact, it matches every such version; otherwise ask it.
+ * The range of keys that a requirement asks for. What it matches has one of the kinds, and a key from `low` on and,
+ * unless `high` is null, below `high`. If the range is exact, it matches every such version; otherwise ask it.
  */
 export interface Range {
   readonly low: Uint8Array;

@@ -1,12 +1,11 @@
 /*
  * Version numbers, parsed, ordered and matched by a library that is proved. index.d.ts describes each call.
  *
- * Every answer is one of the module's calls, which c/versions.h describes, or a comparison of keys as bytes. Nothing here
- * knows a rule of versions or of requirements.
+ * Every answer is one of the module's calls, which c/versions.h describes, or a comparison of keys as bytes. Nothing
+ * here knows a rule of versions or of requirements.
  */
 import {
   FIRST,
-  LONE_SURROGATE,
   SLOTS,
   START,
   after,
@@ -39,6 +38,8 @@ const ALL_MATCH = 15;
 const [PRE_RELEASE, RELEASE, METADATA] = [2, 3, 4];
 const [HAS_HIGH, IS_EXACT] = [8, 16];
 const FROM = BigInt(FIRST);
+// A version has no lone surrogate, but what stands before it in a tag could.
+const LONE_SURROGATE = /\p{Surrogate}/u;
 
 export class InvalidVersion extends RangeError {
   constructor(text) {
@@ -120,7 +121,9 @@ function parse(text) {
 
 function asPlace(value) {
   if (typeof value !== "number") throw new TypeError(`a place is a number, and this is of type ${nameOf(value)}`);
-  if (!Number.isSafeInteger(value) || value < 0) throw new RangeError(`a place is an integer from 0 on, and not ${value}`);
+  if (!Number.isSafeInteger(value) || value < 0) {
+    throw new RangeError(`a place is an integer from 0 on, and not ${value}`);
+  }
   return big(value);
 }
 
@@ -168,7 +171,7 @@ function itemsOf(texts) {
 // The texts of items. A missing value has the empty text, which is not a version either.
 const textsOf = (items) => items.map((item) => (isMissing(item) ? "" : textOf(item)));
 
-// The same of tags. What a lone surrogate is written as is a sign to the library, so a tag with one is left out here.
+// The same of tags, but the empty text for a tag with a lone surrogate: such a text has no version.
 const tagsOf = (items) => textsOf(items).map((tag) => (LONE_SURROGATE.test(tag) ? "" : tag));
 
 /*
@@ -365,14 +368,13 @@ export class Version {
 
   static fromTag(tag, prefix = null) {
     const its = textOf(tag);
-    if (LONE_SURROGATE.test(its)) throw new InvalidVersion(its);
-    let status;
-    if (prefix === null) {
-      status = call.versions_in_tag(FROM, big(write(its)), SLOTS[0]);
-    } else {
-      writeTwo(asText(prefix), its);
-      status = call.versions_after_prefix(FROM, big(one), after(one), big(two), SLOTS[0]);
-    }
+    const front = prefix === null ? "" : asText(prefix);
+    if (LONE_SURROGATE.test(its) || LONE_SURROGATE.test(front)) throw new InvalidVersion(its);
+    writeTwo(front, its);
+    const status =
+      prefix === null
+        ? call.versions_in_tag(FROM, big(two), SLOTS[0])
+        : call.versions_after_prefix(FROM, big(one), after(one), big(two), SLOTS[0]);
     if (status !== OK) throw new InvalidVersion(its);
     return new this(its.slice(placeOf(its, slot(0))));
   }

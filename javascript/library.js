@@ -1,10 +1,10 @@
 /*
  * The proved library as a WebAssembly module, its memory, and how texts get there.
  *
- * The module imports nothing, and none of its calls allocates. So all memory past what it begins with is ours: each call
- * writes what it passes from `START` on, over what the call before it left there. The memory grows to what the largest
- * call needs. Where that is more than KEPT bytes, a new instance takes the place of the old one once the running code
- * has ended, since no memory of WebAssembly shrinks.
+ * The module imports nothing, and none of its calls allocates. So all memory past what it begins with is ours: each
+ * call writes what it passes from `START` on, over what the call before it left there. The memory grows to what the
+ * largest call needs. Where that is more than KEPT bytes, a new instance takes the place of the old one once the running
+ * code has ended, since no memory of WebAssembly shrinks.
  */
 
 const PAGE = 65536;
@@ -102,7 +102,6 @@ export function reserve(end) {
   }
 }
 
-export const LONE_SURROGATE = /\p{Surrogate}/u;
 // Texts up to this length are written faster unit by unit.
 const SHORT = 128;
 const encoder = new TextEncoder();
@@ -110,35 +109,21 @@ const width = (point) => (point < 0x80 ? 1 : point < 0x800 ? 2 : point < 0x10000
 
 /**
  * Writes a text from an address on, as UTF-8, and returns the address after it. It needs room for three bytes for each
- * unit of the text. A lone surrogate becomes the three bytes that it would be, which are no UTF-8: so a text with one is
- * not a version.
+ * unit of the text. A lone surrogate becomes U+FFFD, which takes as many bytes, and is in no version and no requirement.
  */
 export function put(text, at) {
   const { length } = text;
-  if (length > SHORT && !LONE_SURROGATE.test(text)) return at + encoder.encodeInto(text, bytes.subarray(at)).written;
   const to = bytes;
-  for (let place = 0; place < length; place++) {
-    const unit = text.charCodeAt(place);
-    if (unit >= 0x80) return putRest(text, place, at + place);
-    to[at + place] = unit;
-  }
-  return at + length;
-}
-
-function putRest(text, place, at) {
-  while (place < text.length) {
-    const point = text.codePointAt(place);
-    const size = width(point);
-    place += size === 4 ? 2 : 1;
-    if (size === 1) {
-      bytes[at] = point;
-    } else {
-      bytes[at] = ((0xf00 >> size) & 0xff) | (point >> (6 * (size - 1)));
-      for (let left = size - 2, to = at + 1; left >= 0; left--) bytes[to++] = 0x80 | ((point >> (6 * left)) & 0x3f);
+  let place = 0;
+  if (length <= SHORT) {
+    for (; place < length; place++) {
+      const unit = text.charCodeAt(place);
+      if (unit >= 0x80) break;
+      to[at + place] = unit;
     }
-    at += size;
+    if (place === length) return at + length;
   }
-  return at;
+  return at + encoder.encodeInto(text, to.subarray(at)).written;
 }
 
 /** The place in a text before which so many of its bytes lie, counted in its units. */

@@ -65,6 +65,7 @@ test("more tags", () => {
     ["1.2", "go"], ["Go1.2", "go"], ["go", "go"], ["gov", "go"], ["go-1.2", "go"], ["r-1.2", ""], ["govv1.2", "go"],
     ["g", "go"], ["", ""], ["", "go"], ["go1..2", "go"], ["x1.2", "\ud800"], ["\ud800", "\ud800"], ["\ud8001.2", "\ud800"],
     ["1.2", "\udcff"], ["é1.2", "\xc3"], ["😀1.2", "\ud83d"],
+    ["\ufffd1.2", "\ud800"], ["\ud8001.2", "\ufffd"], ["\ufffd1.2", "\udfff"],
   ]) {
     refusesVersion(() => Version.fromTag(tag, prefix), tag);
   }
