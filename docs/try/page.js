@@ -1,0 +1,455 @@
+/*
+ * The page: what is typed goes to the module, and what that answers is drawn. No rule of versions or of requirements is
+ * here. Of the list only the rows in sight are in the document.
+ */
+const EXAMPLE = `1.2.3
+1.10.0
+1.2.0-rc.1
+2.0.0
+2.0.0-rc.1
+1.9
+1.10rc1
+1.10
+1:0.1
+0:1.10
+20.0026.1_0-2+0.93
+1.0.0-SNAPSHOT
+v1.5.0
+1..2
+3.0~beta1-2
+1.4.0+build.7`;
+const ASKED = ">=1.2,<2";
+
+// How many bytes and characters are drawn of what may be long.
+const [KEY_IN_ROW, KEY_IN_TABLE, TEXT] = [64, 400, 300];
+const AROUND = 6; // rows that are drawn above and below those in sight
+const SLOW = 50; // milliseconds, from which on a reading waits until nothing more is typed
+const KINDS = { ideal: "strict, as in SemVer 2.0", general: "as most packages have it", complex: "messy" };
+const TAILS = { 1: "a pre-release", 2: "nothing", 3: "a release", 4: "further sections" };
+
+const at = (id) => document.getElementById(id);
+const [list, tags, wanted, rows, first, second] = ["list", "tags", "wanted", "rows", "first", "second"].map(at);
+
+let versions; // the module
+let items = []; // one for each line that isn't empty, in order; those that are no versions come last
+let count = 0; // how many items are versions
+let wantedNow = null; // the Requirement, or null
+let range = null; // the places of the first item of its range, and of the first after it
+let chosen = -1;
+
+/* Makes an element with a class, and with children, which are elements or texts. */
+function element(name, className, ...children) {
+  const made = document.createElement(name);
+  if (className) made.className = className;
+  made.append(...children);
+  return made;
+}
+
+const plural = (number, one, many = `${one}s`) => `${number.toLocaleString("en")} ${number === 1 ? one : many}`;
+const short = (text) => (text.length > TEXT ? `${text.slice(0, TEXT)}…` : text);
+const code = (text) => element("code", "", short(text));
+const hex = (bytes, most) =>
+  Array.from(bytes.subarray(0, most), (byte) => byte.toString(16).padStart(2, "0")).join("") +
+  (bytes.length > most ? "…" : "");
+
+/*
+ * The pieces of a sort key: the epoch, the parts, their end, and the tail, each with its bytes and with what they say. This
+ * walks over the bytes as docs/ORDER.md describes them, and decides nothing.
+ */
+function piecesOf(key) {
+  let place = 0;
+  let says = "";
+  const number = () => {
+    let length = 0;
+    for (; key[place] === 255; place++) length += 255;
+    length += key[place++];
+    says += length === 0 ? "0" : String.fromCharCode(...key.subarray(place, Math.min(place + length, place + TEXT)));
+    place += length;
+  };
+  const text = () => {
+    const from = place;
+    place = key.indexOf(0, from) + 1;
+    says += String.fromCharCode(...key.subarray(from, Math.min(place - 1, from + TEXT)));
+  };
+  const split = () => {
+    text();
+    if (key[place++] === 1) {
+      number();
+      text();
+    }
+  };
+  const part = () => {
+    if (key[place++] === 1) return split();
+    number();
+    if (key[place++] === 1) split();
+  };
+  const tail = () => {
+    says = TAILS[key[place]];
+    place = key.length;
+  };
+  const piece = (name, walk) => {
+    const from = place;
+    says = "";
+    walk();
+    return { name, says, bytes: key.subarray(from, place) };
+  };
+  const pieces = [piece("epoch", number)];
+  while (key[place] !== 2) pieces.push(piece("part", part));
+  pieces.push(piece("end", () => place++), piece("tail", tail));
+  return pieces;
+}
+
+/* A key as a row shows it: its pieces, up to so many bytes. */
+function drawKey(key) {
+  const drawn = element("span", "key");
+  let left = KEY_IN_ROW;
+  for (const { name, says, bytes } of piecesOf(key)) {
+    if (left <= 0) break;
+    const one = element("span", `piece ${name}`, hex(bytes, left));
+    one.title = name === "end" ? "the end of the parts" : `${name}: ${short(says)}`;
+    drawn.append(one);
+    left -= bytes.length;
+  }
+  return drawn;
+}
+
+/* Whether bytes come before others, as memcmp has it, a prefix first. */
+function isBefore(a, b) {
+  const differ = a.findIndex((byte, place) => byte !== b[place]);
+  return differ === -1 ? a.length < b.length : a[differ] < b[differ];
+}
+
+const keyOf = (item) => (item.key ??= versions.sortKey(item.version));
+
+/* The place of the first item with a key that isn't below a bound. */
+function placeOf(bound) {
+  let [low, high] = [0, count];
+  while (low < high) {
+    const middle = (low + high) >> 1;
+    if (isBefore(keyOf(items[middle]), bound)) low = middle + 1;
+    else high = middle;
+  }
+  return low;
+}
+
+/* Reads the list: which of its lines are versions, of which kind, how stable, and in which order. */
+function readList() {
+  items = list.value.split("\n").map((text, place) => ({ text, line: place + 1 })).filter(({ text }) => text !== "");
+  const texts = items.map(({ text }) => text);
+  const found = tags.checked ? versions.inTags(texts) : texts;
+  const kinds = versions.kinds(found);
+  const stabilities = versions.stabilities(found);
+  items.forEach((item, place) => {
+    item.version = kinds[place] === null ? null : found[place];
+    item.kind = kinds[place];
+    item.stability = stabilities[place];
+  });
+  items = versions.sort(items, { key: ({ version }) => version, invalid: "last" });
+  count = items.filter(({ kind }) => kind !== null).length;
+  chosen = -1;
+  ask();
+}
+
+/* Asks which items the requirements match, and where their range lies. */
+function ask() {
+  wantedNow = range = null;
+  let wrong = null;
+  try {
+    if (wanted.value !== "") wantedNow = new versions.Requirement(wanted.value);
+  } catch (error) {
+    if (!(error instanceof versions.InvalidRequirement)) throw error;
+    wrong = error;
+  }
+  if (wantedNow === null) {
+    items.forEach((item) => (item.matches = null));
+  } else {
+    const matches = versions.matchAll(wantedNow, items.map(({ version }) => version));
+    items.forEach((item, place) => (item.matches = matches[place]));
+    const { low, high } = wantedNow.range;
+    range = [placeOf(low), high === null ? count : placeOf(high)];
+  }
+  drawRange(wrong);
+  drawSummary();
+  drawStrip();
+  drawRows();
+}
+
+function drawRange(wrong) {
+  const said = [];
+  wanted.setAttribute("aria-invalid", wrong !== null);
+  if (wrong !== null) {
+    const { text, member, start } = wrong;
+    const marked = element("mark", "", short(member) || "∅");
+    const whole = element("code", "", text.slice(Math.max(0, start - TEXT), start), marked, short(text.slice(start + member.length)));
+    said.push(element("p", "wrong", "✗ This is not a list of requirements: ", whole, ". Such a list looks like ", code(ASKED), "."));
+  } else if (wantedNow !== null) {
+    const { low, high, kinds, exact } = wantedNow.range;
+    const conflict = wantedNow.conflict;
+    if (conflict) said.push(element("p", "wrong", "✗ Nothing matches: ", code(conflict[0]), " and ", code(conflict[1]), " exclude each other."));
+    const [from, to] = range;
+    const hits = items.filter(({ matches }) => matches).length;
+    said.push(
+      element("p", "", from < to
+        ? `Its range holds ${from + 1 === to ? `place ${to}` : `places ${from + 1} to ${to}`} of ${count}; ` +
+          (hits === to - from ? "it matches all of these." : `it matches ${hits} of these.`)
+        : `Its range holds none of the ${plural(count, "version")}.`),
+      element("p", "", "Keys from ", code(hex(low, 40) || "the first"), high === null ? " on" : " up to, but without, ", high === null ? "" : code(hex(high, 40)),
+        `; kinds: ${kinds.join(", ") || "none"}; ${exact ? "exact" : "not exact: each version in it is asked"}.`),
+    );
+    const newest = versions.newest(items.map(({ version }) => version), { requirement: wantedNow });
+    if (newest !== null) said.push(element("p", "", "The newest that matches: ", code(newest)));
+  }
+  at("range").replaceChildren(...said);
+}
+
+function drawSummary() {
+  const hits = items.filter(({ matches }) => matches).length;
+  const others = items.length - count;
+  const said = [plural(count, "version")];
+  if (wantedNow !== null) said.push(`, of which ${hits.toLocaleString("en")} ${hits === 1 ? "matches" : "match"}`);
+  if (others > 0) {
+    const button = element("button", "", plural(others, "line is no version", "lines are no versions"));
+    button.addEventListener("click", () => {
+      choose(count);
+      rows.focus();
+    });
+    said.push("; ", button);
+  }
+  at("summary").replaceChildren(...said, ".");
+}
+
+const shape = (name, y, height, x = 0, width = 10) => {
+  const made = document.createElementNS("http://www.w3.org/2000/svg", "rect");
+  const set = { class: name, x, y, width, height: Math.max(height, 0.4) };
+  for (const [key, value] of Object.entries(set)) made.setAttribute(key, value);
+  return made;
+};
+
+/* Draws the whole list as a strip: the range, the runs that match, in two hundred steps, and what is in sight. */
+function drawStrip() {
+  const strip = at("strip");
+  const steps = Math.min(200, items.length);
+  const drawn = [];
+  let from = -1;
+  for (let step = 0; step <= steps; step++) {
+    const [start, end] = [step, step + 1].map((one) => Math.floor((one * items.length) / steps));
+    const hit = step < steps && items.slice(start, end).some(({ matches }) => matches);
+    if (hit && from < 0) from = step;
+    if (!hit && from >= 0) {
+      drawn.push(shape("hit", (100 * from) / steps, (100 * (step - from)) / steps, 4, 6));
+      from = -1;
+    }
+  }
+  if (range !== null && range[0] < range[1]) {
+    const [low, high] = range.map((place) => (100 * place) / items.length);
+    drawn.push(shape("in", low, high - low, 1, 8));
+  }
+  drawn.push(shape("view", 0, 0));
+  strip.replaceChildren(...drawn);
+  strip.setAttribute("aria-label", range === null ? "No requirements" : at("range").querySelector("p:not(.wrong)").textContent);
+}
+
+function drawMatch(item) {
+  if (item.matches === null) return element("span", "match");
+  if (item.matches) return element("span", "match yes", "✓ matches");
+  const { member, reason } = wantedNow.whyNot(item.version);
+  const why = { kind: "not of a kind of", below: "below", above: "above", parts: "other parts than" }[reason];
+  return element("span", "match no", `✗ ${why} ${short(member)}`);
+}
+
+function drawRow(item, place) {
+  const { text, version, kind, stability, line } = item;
+  const row = element("div", "row");
+  row.id = `row-${place}`;
+  row.setAttribute("role", "option");
+  row.setAttribute("aria-posinset", place + 1);
+  row.setAttribute("aria-setsize", items.length);
+  row.setAttribute("aria-selected", place === chosen);
+  row.dataset.place = place;
+  row.append(element("span", "bar"));
+  if (version === null) {
+    row.classList.add("none");
+    const quoted = element("span", "text", short(JSON.stringify(text)));
+    row.append(element("span", "place", "✗"), quoted, element("span", "match no", `line ${line} is no version`));
+    return row;
+  }
+  const ties = place > 0 && versions.compare(items[place - 1].version, version) === 0;
+  const number = element("span", "place", `${ties ? "= " : ""}${place + 1}`);
+  if (ties) number.title = "It has the key of the line above.";
+  const around = text.slice(0, text.length - version.length);
+  const shown = element("span", "text", element("span", "around", short(around)), short(version));
+  shown.title = short(text);
+  const kindShown = element("span", "kind", kind);
+  kindShown.title = KINDS[kind];
+  row.append(number, shown, kindShown, element("span", "stability", stability), drawMatch(item), drawKey(keyOf(item)));
+  if (range !== null && range[0] <= place && place < range[1]) {
+    row.classList.add("within");
+    row.classList.toggle("matches", item.matches);
+    row.classList.toggle("opens", place === range[0]);
+    row.classList.toggle("closes", place === range[1] - 1);
+  }
+  return row;
+}
+
+/* The height of a row, which style.css sets in rem. */
+function heightOfRow() {
+  const root = getComputedStyle(document.documentElement);
+  return parseFloat(root.getPropertyValue("--row")) * parseFloat(root.fontSize);
+}
+
+/* Draws the rows in sight and a few around them. */
+function drawRows() {
+  const height = heightOfRow();
+  const from = Math.max(0, Math.floor(rows.scrollTop / height) - AROUND);
+  const to = Math.min(items.length, Math.ceil((rows.scrollTop + rows.clientHeight) / height) + AROUND);
+  at("space").style.height = `${items.length * height}px`;
+  at("seen").style.top = `${from * height}px`;
+  at("seen").replaceChildren(...items.slice(from, to).map((item, place) => drawRow(item, from + place)));
+  if (chosen >= from && chosen < to) rows.setAttribute("aria-activedescendant", `row-${chosen}`);
+  else rows.removeAttribute("aria-activedescendant");
+  const view = at("strip").querySelector(".view");
+  const whole = Math.max(items.length * height, rows.clientHeight);
+  view?.setAttribute("y", (100 * rows.scrollTop) / whole);
+  view?.setAttribute("height", (100 * rows.clientHeight) / whole);
+}
+
+/* Chooses a line, brings it into sight, and puts it beside the version before it. */
+function choose(place) {
+  if (items.length === 0) return;
+  chosen = Math.min(Math.max(place, 0), items.length - 1);
+  const height = heightOfRow();
+  const [top, bottom] = [chosen * height, (chosen + 1) * height];
+  if (rows.scrollTop > top) rows.scrollTop = top;
+  if (rows.scrollTop + rows.clientHeight < bottom) rows.scrollTop = bottom - rows.clientHeight;
+  drawRows();
+  if (chosen >= count) return;
+  const pair = chosen > 0 ? [chosen - 1, chosen] : [0, Math.min(1, count - 1)];
+  [first.value, second.value] = pair.map((one) => items[one].version);
+  drawPair();
+}
+
+function whyNotSentence(text) {
+  const why = wantedNow === null ? null : wantedNow.whyNot(text);
+  return why === null ? "" : ` ${short(String(why))}.`;
+}
+
+/* Draws two versions side by side, and which piece decides. */
+function drawPair() {
+  const texts = [first.value, second.value];
+  const kinds = versions.kinds(texts);
+  [first, second].forEach((input, place) => input.setAttribute("aria-invalid", kinds[place] === null));
+  const body = at("pieces").tBodies[0];
+  const none = texts.filter((_, place) => kinds[place] === null);
+  if (none.length > 0) {
+    const said = none.flatMap((text) => ["✗ ", code(JSON.stringify(text)), " is no version. "]);
+    at("verdict").replaceChildren(element("span", "wrong", ...said));
+    body.replaceChildren();
+    return;
+  }
+  const [one, other] = texts.map((text) => new versions.Version(text));
+  const difference = one.difference(other);
+  const order = { "-1": "comes before", 0: "ties with", 1: "comes after" }[one.compare(other)];
+  at("verdict").replaceChildren(
+    element("strong", "", code(texts[0]), ` ${order} `, code(texts[1])),
+    `: ${difference}.`, ...texts.map(whyNotSentence),
+  );
+  const pieces = [one, other].map((version) => piecesOf(version.key));
+  // The parts and their end by their numbers; the epoch stands before them and the tail after them.
+  const parts = Math.max(...pieces.map(({ length }) => length - 2));
+  const names = ["epoch", ...Array.from({ length: parts }, (_, number) => number), "tail"];
+  const lines = names.map((name) => {
+    const pair = pieces.map((its) => (name === "epoch" ? its[0] : name === "tail" ? its.at(-1) : its.slice(1, -1)[name]));
+    const decides = name === difference.kind || (difference.kind === "part" && name === difference.part);
+    const title = typeof name === "number" ? `part ${name}` : name;
+    const head = element("th", "", decides ? `${title} ◂ decides` : title);
+    head.scope = "row";
+    const cells = pair.map((its, place) => (its === undefined ? element("td") : drawPiece(its, [one, other][place])));
+    return element("tr", decides ? "decides" : "", head, ...cells);
+  });
+  // A version may have a million parts. So lines are left out, but never the one that decides.
+  const kept = lines.filter((line, place) => place < 40 || place > lines.length - 3 || line.className === "decides");
+  body.replaceChildren(...kept);
+}
+
+/* A piece in a cell of the table: what it says, and its bytes. */
+function drawPiece({ name, says, bytes }, version) {
+  const end = name === "end" ? "the end" : name === "tail" ? [says, version.preRelease ?? version.release ?? ""].join(" ") : says;
+  return element("td", "", element("b", "", short(end.trim())), element("span", `piece ${name}`, hex(bytes, KEY_IN_TABLE)));
+}
+
+/*
+ * Runs what answers an input, and says how long it took until the page was drawn. Where that is slow, the next one waits
+ * until nothing was typed for a while.
+ */
+let lasted = 0;
+let waiting;
+function onInput(input, answer) {
+  input.addEventListener("input", () => {
+    const began = performance.now();
+    clearTimeout(waiting);
+    const run = () => {
+      const start = performance.now();
+      answer();
+      lasted = performance.now() - start;
+      requestAnimationFrame(() => setTimeout(() => {
+        const spent = Math.round(performance.now() - began);
+        at("time").textContent = `${plural(items.length, "line")}: from the input to the drawn page ${spent} ms.`;
+        document.body.dataset.drawn = Number(document.body.dataset.drawn ?? 0) + 1;
+      }));
+    };
+    if (lasted > SLOW) waiting = setTimeout(run, 150);
+    else run();
+  });
+}
+
+function pageOf() {
+  return Math.max(1, Math.floor(rows.clientHeight / heightOfRow()) - 1);
+}
+const MOVES = {
+  ArrowDown: () => chosen + 1,
+  ArrowUp: () => (chosen < 0 ? 0 : chosen - 1),
+  PageDown: () => Math.max(chosen, 0) + pageOf(),
+  PageUp: () => chosen - pageOf(),
+  Home: () => 0,
+  End: () => items.length - 1,
+};
+
+function begin() {
+  at("state").textContent = "";
+  onInput(list, readList);
+  onInput(tags, readList);
+  onInput(wanted, ask);
+  onInput(first, drawPair);
+  onInput(second, drawPair);
+  rows.addEventListener("keydown", (event) => {
+    if (event.ctrlKey || event.altKey || event.metaKey || !(event.key in MOVES)) return;
+    event.preventDefault();
+    choose(MOVES[event.key]());
+  });
+  rows.addEventListener("click", (event) => {
+    const row = event.target.closest(".row");
+    if (row) choose(Number(row.dataset.place));
+  });
+  rows.addEventListener("scroll", () => requestAnimationFrame(drawRows));
+  at("strip").addEventListener("click", (event) => {
+    const { top, height } = at("strip").getBoundingClientRect();
+    rows.scrollTop = ((event.clientY - top) / height) * rows.scrollHeight - rows.clientHeight / 2;
+  });
+  addEventListener("resize", drawRows);
+  // A browser that goes back keeps what was typed.
+  list.value ||= EXAMPLE;
+  wanted.value ||= ASKED;
+  first.value ||= "1.10rc1";
+  second.value ||= "1.10";
+  readList();
+  drawPair();
+  document.body.dataset.drawn = 0;
+}
+
+try {
+  versions = await import("proved-versions");
+  begin();
+} catch (error) {
+  at("state").textContent = `The library can't run here: ${error.message}`;
+  throw error;
+}
