@@ -23,6 +23,7 @@ const ASKED = ">=1.2,<2";
 // How many bytes and characters are drawn of what may be long.
 const [KEY_IN_ROW, KEY_IN_TABLE, TEXT] = [64, 400, 300];
 const AROUND = 6; // rows that are drawn above and below those in sight
+const MANY = 1000; // lines, from which on the page says how long it took
 const SLOW = 50; // milliseconds, from which on a reading waits until nothing more is typed
 const KINDS = { ideal: "strict, as in SemVer 2.0", general: "as most packages have it", complex: "messy" };
 const TAILS = { 1: "a pre-release", 2: "nothing", 3: "a release", 4: "further sections" };
@@ -172,6 +173,7 @@ function ask() {
   drawSummary();
   drawStrip();
   drawRows();
+  drawPair();
 }
 
 function drawRange(wrong) {
@@ -302,6 +304,7 @@ function drawRows() {
   const height = heightOfRow();
   const from = Math.max(0, Math.floor(rows.scrollTop / height) - AROUND);
   const to = Math.min(items.length, Math.ceil((rows.scrollTop + rows.clientHeight) / height) + AROUND);
+  rows.style.setProperty("--digits", String(items.length).length + 2); // the width of the places, and of the sign of a tie
   at("space").style.height = `${items.length * height}px`;
   at("seen").style.top = `${from * height}px`;
   at("seen").replaceChildren(...items.slice(from, to).map((item, place) => drawRow(item, from + place)));
@@ -393,7 +396,8 @@ function onInput(input, answer) {
       lasted = performance.now() - start;
       requestAnimationFrame(() => setTimeout(() => {
         const spent = Math.round(performance.now() - began);
-        at("time").textContent = `${plural(items.length, "line")}: from the input to the drawn page ${spent} ms.`;
+        const told = items.length < MANY ? "" : `${plural(items.length, "line")}: from the input to the drawn page ${spent} ms.`;
+        at("time").textContent = told;
         document.body.dataset.drawn = Number(document.body.dataset.drawn ?? 0) + 1;
       }));
     };
@@ -442,7 +446,6 @@ function begin() {
   first.value ||= "1.10rc1";
   second.value ||= "1.10";
   readList();
-  drawPair();
   document.body.dataset.drawn = 0;
 }
 

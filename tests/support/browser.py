@@ -5,14 +5,38 @@ import os
 import re
 import select
 import shutil
+import struct
 import subprocess
 import tempfile
 import time
+import zlib
 
 SECONDS = 60
 # The keys that are pressed: their codes.
 KEYS = {"Tab": 9, "Enter": 13, " ": 32, "PageUp": 33, "PageDown": 34, "End": 35, "Home": 36, "ArrowUp": 38, "ArrowDown": 40}
 SHIFT = 8
+
+# The size of a picture, its 256 most frequent colours, and for each point the place of the nearest of these.
+PALETTE = """async (data) => {
+  const image = await createImageBitmap(await (await fetch(`data:image/png;base64,${data}`)).blob());
+  const { width, height } = image;
+  const context = new OffscreenCanvas(width, height).getContext("2d");
+  context.drawImage(image, 0, 0);
+  const points = new Uint32Array(context.getImageData(0, 0, width, height).data.buffer);
+  const counts = new Map();
+  for (const colour of points) counts.set(colour, (counts.get(colour) ?? 0) + 1);
+  const palette = [...counts].sort((a, b) => b[1] - a[1]).slice(0, 256).map(([colour]) => colour);
+  const far = (a, b) => [0, 8, 16].reduce((sum, bits) => sum + (((a >> bits) & 255) - ((b >> bits) & 255)) ** 2, 0);
+  const places = new Map();
+  for (const colour of counts.keys()) {
+    let best = 0;
+    palette.forEach((its, place) => { if (far(its, colour) < far(palette[best], colour)) best = place; });
+    places.set(colour, best);
+  }
+  let text = "";
+  for (const colour of points) text += String.fromCharCode(places.get(colour));
+  return [width, height, palette, btoa(text)];
+}"""
 
 
 class Browser:
@@ -23,7 +47,8 @@ class Browser:
         to_read, self._to = os.pipe()
         self._from, to_write = os.pipe()
         words = ["chromium", "--headless", "--remote-debugging-pipe", f"--user-data-dir={self.folder}", "--no-first-run"]
-        words += ["--disable-gpu", "--hide-scrollbars", "--force-color-profile=srgb", "--disable-background-networking"]
+        words += ["--disable-gpu", "--hide-scrollbars", "--force-color-profile=srgb", "--disable-lcd-text"]
+        words.append("--disable-background-networking")
         if os.geteuid() == 0:
             words.append("--no-sandbox")
         # The shell gives the pipes the numbers that the browser takes.
@@ -125,8 +150,16 @@ class Browser:
         self.call("Emulation.setEmulatedMedia", features=[{"name": "prefers-color-scheme", "value": scheme}])
 
     def picture(self, file):
-        """Writes what is in sight as a PNG."""
-        file.write_bytes(base64.b64decode(self.call("Page.captureScreenshot", format="png", optimizeForSpeed=False)["data"]))
+        """Writes what is in sight as a small PNG: of its colours the 256 most frequent are kept."""
+        data = self.call("Page.captureScreenshot", format="png")["data"]
+        width, height, palette, places = self.ask(f"({PALETTE})('{data}')")
+        places = base64.b64decode(places)
+        lines = b"".join(b"\0" + places[at : at + width] for at in range(0, len(places), width))
+        colours = b"".join(colour.to_bytes(4, "little")[:3] for colour in palette)
+        chunks = (b"IHDR", struct.pack(">IIBBBBB", width, height, 8, 3, 0, 0, 0)), (b"PLTE", colours)
+        chunks += (b"IDAT", zlib.compress(lines, 9)), (b"IEND", b"")
+        ended = (struct.pack(">I", len(its)) + name + its + struct.pack(">I", zlib.crc32(name + its)) for name, its in chunks)
+        file.write_bytes(b"\x89PNG\r\n\x1a\n" + b"".join(ended))
 
     def end(self):
         try:
