@@ -29,7 +29,8 @@ const KINDS = { ideal: "strict, as in SemVer 2.0", general: "as most packages ha
 const TAILS = { 1: "a pre-release", 2: "nothing", 3: "a release", 4: "further sections" };
 
 const at = (id) => document.getElementById(id);
-const [list, tags, wanted, rows, first, second] = ["list", "tags", "wanted", "rows", "first", "second"].map(at);
+const [page, list, tags, wanted, rows, first, second] =
+  ["page", "list", "tags", "wanted", "rows", "first", "second"].map(at);
 
 let versions; // the module
 let items = []; // one for each line that isn't empty, in order; those that are no versions come last
@@ -384,26 +385,32 @@ function drawPiece({ name, says, bytes }, version) {
  * Runs what answers an input, and says how long it took until the page was drawn. Where that is slow, the next one waits
  * until nothing was typed for a while.
  */
+let inputs = 0;
 let lasted = 0;
 let waiting;
 function onInput(input, answer) {
   input.addEventListener("input", () => {
     const began = performance.now();
-    clearTimeout(waiting);
+    const number = ++inputs;
     const run = () => {
       const start = performance.now();
       answer();
       lasted = performance.now() - start;
       requestAnimationFrame(() => setTimeout(() => {
-        const spent = Math.round(performance.now() - began);
-        const told = items.length < MANY ? "" : `${plural(items.length, "line")}: from the input to the drawn page ${spent} ms.`;
-        at("time").textContent = told;
-        document.body.dataset.drawn = Number(document.body.dataset.drawn ?? 0) + 1;
+        if (number === inputs) isDrawn(Math.round(performance.now() - began));
       }));
     };
+    clearTimeout(waiting);
+    page.ariaBusy = "true";
     if (lasted > SLOW) waiting = setTimeout(run, 150);
     else run();
   });
+}
+
+function isDrawn(spent) {
+  page.ariaBusy = "false";
+  const told = `${plural(items.length, "line")}: from the input to the drawn page ${spent} ms.`;
+  at("time").textContent = items.length < MANY ? "" : told;
 }
 
 function pageOf() {
@@ -446,7 +453,7 @@ function begin() {
   first.value ||= "1.10rc1";
   second.value ||= "1.10";
   readList();
-  document.body.dataset.drawn = 0;
+  page.ariaBusy = "false";
 }
 
 try {
