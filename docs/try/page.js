@@ -21,7 +21,8 @@ v1.5.0
 const ASKED = ">=1.2,<2";
 
 // How many bytes and characters are drawn of what may be long.
-const [KEY_IN_ROW, KEY_IN_TABLE, TEXT] = [64, 400, 300];
+const [KEY_IN_ROW, KEY_IN_TABLE, BOUND, TEXT] = [64, 400, 40, 300];
+const PARTS = 40; // parts that stand side by side
 const AROUND = 6; // rows that are drawn above and below those in sight
 const MANY = 1000; // lines, from which on the page says how long it took
 const SLOW = 50; // milliseconds, from which on a reading waits until nothing more is typed
@@ -37,6 +38,7 @@ let items = []; // one for each line that isn't empty, in order; those that are 
 let count = 0; // how many items are versions
 let wantedNow = null; // the Requirement, or null
 let range = null; // the places of the first item of its range, and of the first after it
+let hits = 0; // how many items it matches
 let chosen = -1;
 
 /* Makes an element with a class, and with children, which are elements or texts. */
@@ -55,10 +57,10 @@ const hex = (bytes, most) =>
   (bytes.length > most ? "…" : "");
 
 /*
- * The pieces of a sort key: the epoch, the parts, their end, and the tail, each with its bytes and with what they say. This
- * walks over the bytes as docs/ORDER.md describes them, and decides nothing.
+ * The pieces of a sort key: the epoch, the parts, their end, and the tail, each with its bytes and with what they say.
+ * This walks over the bytes as docs/ORDER.md describes them, and decides nothing.
  */
-function piecesOf(key) {
+function* piecesOf(key) {
   let place = 0;
   let says = "";
   const number = () => {
@@ -95,10 +97,10 @@ function piecesOf(key) {
     walk();
     return { name, says, bytes: key.subarray(from, place) };
   };
-  const pieces = [piece("epoch", number)];
-  while (key[place] !== 2) pieces.push(piece("part", part));
-  pieces.push(piece("end", () => place++), piece("tail", tail));
-  return pieces;
+  yield piece("epoch", number);
+  while (key[place] !== 2) yield piece("part", part);
+  yield piece("end", () => place++);
+  yield piece("tail", tail);
 }
 
 /* A key as a row shows it: its pieces, up to so many bytes. */
@@ -170,6 +172,7 @@ function ask() {
     const { low, high } = wantedNow.range;
     range = [placeOf(low), high === null ? count : placeOf(high)];
   }
+  hits = items.filter(({ matches }) => matches).length;
   drawRange(wrong);
   drawSummary();
   drawStrip();
@@ -177,28 +180,41 @@ function ask() {
   drawPair();
 }
 
+/* What is wrong with a list of requirements, with its first wrong member marked. */
+function sayWrong({ text, member, start }) {
+  const before = text.slice(Math.max(0, start - TEXT), start);
+  const marked = element("mark", "", short(member) || "∅");
+  const whole = element("code", "", before, marked, short(text.slice(start + member.length)));
+  const like = [". Such a list looks like ", code(ASKED), "."];
+  return element("p", "wrong", "✗ This is not a list of requirements: ", whole, ...like);
+}
+
+/* Where the range of the requirements lies in the list. */
+function sayPlaces([from, to]) {
+  if (from >= to) return `Its range holds none of the ${plural(count, "version")}.`;
+  const places = from + 1 === to ? `place ${to}` : `places ${from + 1} to ${to}`;
+  return `Its range holds ${places} of ${count}; it matches ${hits === to - from ? "all" : hits} of these.`;
+}
+
+/* The bounds of the range, and what else it says. */
+function sayBounds({ low, high, kinds, exact }) {
+  const end = high === null ? [" on"] : [" up to, but without, ", code(hex(high, BOUND))];
+  const rest = `; kinds: ${kinds.join(", ") || "none"}; ${exact ? "exact" : "not exact: each version in it is asked"}.`;
+  return element("p", "", "Keys from ", code(hex(low, BOUND) || "the first"), ...end, rest);
+}
+
 function drawRange(wrong) {
   const said = [];
-  wanted.setAttribute("aria-invalid", wrong !== null);
+  wanted.ariaInvalid = String(wrong !== null);
   if (wrong !== null) {
-    const { text, member, start } = wrong;
-    const marked = element("mark", "", short(member) || "∅");
-    const whole = element("code", "", text.slice(Math.max(0, start - TEXT), start), marked, short(text.slice(start + member.length)));
-    said.push(element("p", "wrong", "✗ This is not a list of requirements: ", whole, ". Such a list looks like ", code(ASKED), "."));
+    said.push(sayWrong(wrong));
   } else if (wantedNow !== null) {
-    const { low, high, kinds, exact } = wantedNow.range;
-    const conflict = wantedNow.conflict;
-    if (conflict) said.push(element("p", "wrong", "✗ Nothing matches: ", code(conflict[0]), " and ", code(conflict[1]), " exclude each other."));
-    const [from, to] = range;
-    const hits = items.filter(({ matches }) => matches).length;
-    said.push(
-      element("p", "", from < to
-        ? `Its range holds ${from + 1 === to ? `place ${to}` : `places ${from + 1} to ${to}`} of ${count}; ` +
-          (hits === to - from ? "it matches all of these." : `it matches ${hits} of these.`)
-        : `Its range holds none of the ${plural(count, "version")}.`),
-      element("p", "", "Keys from ", code(hex(low, 40) || "the first"), high === null ? " on" : " up to, but without, ", high === null ? "" : code(hex(high, 40)),
-        `; kinds: ${kinds.join(", ") || "none"}; ${exact ? "exact" : "not exact: each version in it is asked"}.`),
-    );
+    const { conflict } = wantedNow;
+    if (conflict !== null) {
+      const [one, other] = conflict.map(code);
+      said.push(element("p", "wrong", "✗ Nothing matches: ", one, " and ", other, " exclude each other."));
+    }
+    said.push(element("p", "places", sayPlaces(range)), sayBounds(wantedNow.range));
     const newest = versions.newest(items.map(({ version }) => version), { requirement: wantedNow });
     if (newest !== null) said.push(element("p", "", "The newest that matches: ", code(newest)));
   }
@@ -206,10 +222,9 @@ function drawRange(wrong) {
 }
 
 function drawSummary() {
-  const hits = items.filter(({ matches }) => matches).length;
   const others = items.length - count;
   const said = [plural(count, "version")];
-  if (wantedNow !== null) said.push(`, of which ${hits.toLocaleString("en")} ${hits === 1 ? "matches" : "match"}`);
+  if (wantedNow !== null) said.push(`, of which ${plural(hits, "matches", "match")}`);
   if (others > 0) {
     const button = element("button", "", plural(others, "line is no version", "lines are no versions"));
     button.addEventListener("click", () => {
@@ -249,7 +264,7 @@ function drawStrip() {
   }
   drawn.push(shape("view", 0, 0));
   strip.replaceChildren(...drawn);
-  strip.setAttribute("aria-label", range === null ? "No requirements" : at("range").querySelector("p:not(.wrong)").textContent);
+  strip.ariaLabel = range === null ? "There are no requirements." : sayPlaces(range);
 }
 
 function drawMatch(item) {
@@ -305,7 +320,7 @@ function drawRows() {
   const height = heightOfRow();
   const from = Math.max(0, Math.floor(rows.scrollTop / height) - AROUND);
   const to = Math.min(items.length, Math.ceil((rows.scrollTop + rows.clientHeight) / height) + AROUND);
-  rows.style.setProperty("--digits", String(items.length).length + 2); // the width of the places, and of the sign of a tie
+  rows.style.setProperty("--digits", String(items.length).length + 2); // of a place, with the sign of a tie before it
   at("space").style.height = `${items.length * height}px`;
   at("seen").style.top = `${from * height}px`;
   at("seen").replaceChildren(...items.slice(from, to).map((item, place) => drawRow(item, from + place)));
@@ -357,33 +372,48 @@ function drawPair() {
     element("strong", "", code(texts[0]), ` ${order} `, code(texts[1])),
     `: ${difference}.`, ...texts.map(whyNotSentence),
   );
-  const pieces = [one, other].map((version) => piecesOf(version.key));
-  // The parts and their end by their numbers; the epoch stands before them and the tail after them.
-  const parts = Math.max(...pieces.map(({ length }) => length - 2));
-  const names = ["epoch", ...Array.from({ length: parts }, (_, number) => number), "tail"];
-  const lines = names.map((name) => {
-    const pair = pieces.map((its) => (name === "epoch" ? its[0] : name === "tail" ? its.at(-1) : its.slice(1, -1)[name]));
-    const decides = name === difference.kind || (difference.kind === "part" && name === difference.part);
+  const pieces = [one, other].map((version) => [...piecesOf(version.key)]);
+  const lines = namesOf(pieces, difference.part).map((name) => {
+    const decides = name === difference.kind || name === difference.part;
     const title = typeof name === "number" ? `part ${name}` : name;
     const head = element("th", "", decides ? `${title} ◂ decides` : title);
     head.scope = "row";
-    const cells = pair.map((its, place) => (its === undefined ? element("td") : drawPiece(its, [one, other][place])));
+    const cells = pieces.map((its, place) => drawPiece(pieceOf(its, name), [one, other][place]));
     return element("tr", decides ? "decides" : "", head, ...cells);
   });
-  // A version may have a million parts. So lines are left out, but never the one that decides.
-  const kept = lines.filter((line, place) => place < 40 || place > lines.length - 3 || line.className === "decides");
-  body.replaceChildren(...kept);
-}
-
-/* A piece in a cell of the table: what it says, and its bytes. */
-function drawPiece({ name, says, bytes }, version) {
-  const end = name === "end" ? "the end" : name === "tail" ? [says, version.preRelease ?? version.release ?? ""].join(" ") : says;
-  return element("td", "", element("b", "", short(end.trim())), element("span", `piece ${name}`, hex(bytes, KEY_IN_TABLE)));
+  body.replaceChildren(...lines);
 }
 
 /*
- * Runs what answers an input, and says how long it took until the page was drawn. Where that is slow, the next one waits
- * until nothing was typed for a while.
+ * The rows of the table: the epoch, the parts and their end by their numbers, and the tail. A version may have a
+ * million parts, so the first ones are drawn, and the one that decides.
+ */
+function namesOf(pieces, deciding) {
+  const most = Math.max(...pieces.map(({ length }) => length - 2));
+  const numbers = Array.from({ length: Math.min(most, PARTS) }, (_, number) => number);
+  if (deciding !== null && deciding >= PARTS) numbers.push(deciding);
+  return ["epoch", ...numbers, "tail"];
+}
+
+/* The piece that stands in such a row, if there is one. */
+function pieceOf(pieces, name) {
+  if (name === "epoch") return pieces[0];
+  if (name === "tail") return pieces.at(-1);
+  return name + 1 < pieces.length - 1 ? pieces[name + 1] : null;
+}
+
+/* A piece in a cell of the table: what it says, and its bytes. */
+function drawPiece(piece, version) {
+  if (piece === null) return element("td");
+  const { name, says, bytes } = piece;
+  const field = name === "tail" ? ` ${version.preRelease ?? version.release ?? ""}` : "";
+  const words = name === "end" ? "the end" : short(`${says}${field}`.trim());
+  return element("td", "", element("b", "", words), element("span", `piece ${name}`, hex(bytes, KEY_IN_TABLE)));
+}
+
+/*
+ * Runs what answers an input, and says how long it took until the page was drawn. Where that is slow, the next one
+ * waits until nothing was typed for a while.
  */
 let inputs = 0;
 let lasted = 0;

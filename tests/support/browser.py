@@ -13,7 +13,8 @@ import zlib
 
 SECONDS = 60
 # The keys that are pressed: their codes.
-KEYS = {"Tab": 9, "Enter": 13, " ": 32, "PageUp": 33, "PageDown": 34, "End": 35, "Home": 36, "ArrowUp": 38, "ArrowDown": 40}
+KEYS = {"Tab": 9, "Enter": 13, " ": 32, "PageUp": 33, "PageDown": 34, "End": 35, "Home": 36}
+KEYS |= {"ArrowUp": 38, "ArrowDown": 40}
 SHIFT = 8
 
 # The size of a picture, its 256 most frequent colours, and for each point the place of the nearest of these.
@@ -26,7 +27,8 @@ PALETTE = """async (data) => {
   const counts = new Map();
   for (const colour of points) counts.set(colour, (counts.get(colour) ?? 0) + 1);
   const palette = [...counts].sort((a, b) => b[1] - a[1]).slice(0, 256).map(([colour]) => colour);
-  const far = (a, b) => [0, 8, 16].reduce((sum, bits) => sum + (((a >> bits) & 255) - ((b >> bits) & 255)) ** 2, 0);
+  const part = (colour, bits) => (colour >> bits) & 255;
+  const far = (a, b) => [0, 8, 16].reduce((sum, bits) => sum + (part(a, bits) - part(b, bits)) ** 2, 0);
   const places = new Map();
   for (const colour of counts.keys()) {
     let best = 0;
@@ -37,6 +39,10 @@ PALETTE = """async (data) => {
   for (const colour of points) text += String.fromCharCode(places.get(colour));
   return [width, height, palette, btoa(text)];
 }"""
+
+
+class Gone(Exception):
+    """The browser answers no more."""
 
 
 class Browser:
@@ -88,10 +94,10 @@ class Browser:
         pieces = [self._rest]
         while b"\0" not in pieces[-1]:
             if not select.select([self._from], [], [], SECONDS)[0]:
-                raise RuntimeError(f"the browser said nothing for {SECONDS} seconds")
+                raise Gone(f"the browser said nothing for {SECONDS} seconds")
             piece = os.read(self._from, 1 << 20)
             if not piece:
-                raise RuntimeError("the browser ended")
+                raise Gone("the browser ended")
             pieces.append(piece)
         message, _, self._rest = b"".join(pieces).partition(b"\0")
         return json.loads(message)
@@ -158,14 +164,16 @@ class Browser:
         colours = b"".join(colour.to_bytes(4, "little")[:3] for colour in palette)
         chunks = (b"IHDR", struct.pack(">IIBBBBB", width, height, 8, 3, 0, 0, 0)), (b"PLTE", colours)
         chunks += (b"IDAT", zlib.compress(lines, 9)), (b"IEND", b"")
-        ended = (struct.pack(">I", len(its)) + name + its + struct.pack(">I", zlib.crc32(name + its)) for name, its in chunks)
-        file.write_bytes(b"\x89PNG\r\n\x1a\n" + b"".join(ended))
+        data = b"\x89PNG\r\n\x1a\n"
+        for name, its in chunks:
+            data += struct.pack(">I", len(its)) + name + its + struct.pack(">I", zlib.crc32(name + its))
+        file.write_bytes(data)
 
     def end(self):
         try:
             self._session = None
             self.call("Browser.close")
-        except (RuntimeError, OSError):
+        except (Gone, RuntimeError, OSError):
             self._process.kill()
         self._process.wait(timeout=SECONDS)
         os.close(self._to)
