@@ -283,7 +283,6 @@ function drawRow(item, place) {
   row.setAttribute("aria-posinset", place + 1);
   row.setAttribute("aria-setsize", items.length);
   row.setAttribute("aria-selected", place === chosen);
-  row.dataset.place = place;
   row.append(element("span", "bar"));
   if (version === null) {
     row.classList.add("none");
@@ -467,9 +466,11 @@ function begin() {
     event.preventDefault();
     choose(MOVES[event.key]());
   });
+  // The rows may be drawn anew while one is clicked, so the place counts, and not what lies there.
   rows.addEventListener("click", (event) => {
-    const row = event.target.closest(".row");
-    if (row) choose(Number(row.dataset.place));
+    const below = event.clientY - rows.getBoundingClientRect().top + rows.scrollTop;
+    const place = Math.floor(below / heightOfRow());
+    if (place < items.length) choose(place);
   });
   rows.addEventListener("scroll", () => requestAnimationFrame(drawRows));
   at("strip").addEventListener("click", (event) => {
