@@ -466,8 +466,9 @@ function begin() {
     event.preventDefault();
     choose(MOVES[event.key]());
   });
-  // The rows may be drawn anew while one is clicked, so the place counts, and not what lies there.
-  rows.addEventListener("click", (event) => {
+  // The rows may be drawn anew while one is clicked, so this is no "click" of a row.
+  rows.addEventListener("mousedown", (event) => {
+    if (event.button !== 0) return;
     const below = event.clientY - rows.getBoundingClientRect().top + rows.scrollTop;
     const place = Math.floor(below / heightOfRow());
     if (place < items.length) choose(place);
