@@ -49,7 +49,8 @@ function element(name, className, ...children) {
   return made;
 }
 
-const plural = (number, one, many = `${one}s`) => `${number.toLocaleString("en")} ${number === 1 ? one : many}`;
+const told = (number) => number.toLocaleString("en");
+const plural = (number, one, many = `${one}s`) => `${told(number)} ${number === 1 ? one : many}`;
 const short = (text) => (text.length > TEXT ? `${text.slice(0, TEXT)}…` : text);
 const code = (text) => element("code", "", short(text));
 const hex = (bytes, most) =>
@@ -192,8 +193,8 @@ function sayWrong({ text, member, start }) {
 /* Where the range of the requirements lies in the list. */
 function sayPlaces([from, to]) {
   if (from >= to) return `Its range holds none of the ${plural(count, "version")}.`;
-  const places = from + 1 === to ? `place ${to}` : `places ${from + 1} to ${to}`;
-  return `Its range holds ${places} of ${count}; it matches ${hits === to - from ? "all" : hits} of these.`;
+  const places = from + 1 === to ? `place ${told(to)}` : `places ${told(from + 1)} to ${told(to)}`;
+  return `Its range holds ${places} of ${told(count)}; it matches ${hits === to - from ? "all" : told(hits)} of these.`;
 }
 
 /* The bounds of the range, and what else it says. */
@@ -411,9 +412,11 @@ function drawPiece(piece, version) {
 }
 
 /*
- * Runs what answers an input, and says how long it took until the page was drawn. Where that is slow, the next one
- * waits until nothing was typed for a while.
+ * Runs what answers an input, and says how long it took until the page was drawn. Where that is slow, it waits until
+ * nothing was typed for a while, and then answers all inputs at once.
  */
+const ANSWERS = [drawPair, ask, readList]; // each does what those before it do
+let pending = -1;
 let inputs = 0;
 let lasted = 0;
 let waiting;
@@ -423,13 +426,15 @@ function onInput(input, answer) {
     const number = ++inputs;
     const run = () => {
       const start = performance.now();
-      answer();
+      ANSWERS[pending]();
+      pending = -1;
       lasted = performance.now() - start;
       requestAnimationFrame(() => setTimeout(() => {
         if (number === inputs) isDrawn(Math.round(performance.now() - began));
       }));
     };
     clearTimeout(waiting);
+    pending = Math.max(pending, ANSWERS.indexOf(answer));
     page.ariaBusy = "true";
     if (lasted > SLOW) waiting = setTimeout(run, 150);
     else run();
@@ -438,8 +443,8 @@ function onInput(input, answer) {
 
 function isDrawn(spent) {
   page.ariaBusy = "false";
-  const told = `${plural(items.length, "line")}: from the input to the drawn page ${spent} ms.`;
-  at("time").textContent = items.length < MANY ? "" : told;
+  const sentence = `${plural(items.length, "line")}: from the input to the drawn page ${spent} ms.`;
+  at("time").textContent = items.length < MANY ? "" : sentence;
 }
 
 function pageOf() {
