@@ -42,7 +42,7 @@ PALETTE = """async (data) => {
 
 
 class Gone(Exception):
-    """The browser answers no more."""
+    """The browser answers no more, or shows no page."""
 
 
 class Browser:
