@@ -177,3 +177,11 @@ class Shapes:
         operators = (*OPERATORS, *OPERATORS, "*", "", "=>", "==", "!=", "> ")
         words = [line for line in self.random.sample(lines, len(lines) // 2) if line.isascii() and b"\0" not in line]
         return [(self.random.choice(operators), word) for word in words[:REQUIREMENT_TEXTS]] + [("*", b"")]
+
+
+def lines_and_lists(count):
+    """That many lines, and lists of requirements, right ones and wrong ones: always the same."""
+    shapes = Shapes("one")
+    lines = [shapes.line() for _ in range(count)]
+    members = [operator.encode() + word for operator, word in shapes.requirement_texts(lines)]
+    return lines, members + [b",".join(shapes.random.choices(members, k=shapes.random.randrange(2, 5))) for _ in range(300)]

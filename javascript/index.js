@@ -1,0 +1,625 @@
+/*
+ * Version numbers, parsed, ordered and matched by a library that is proved. index.d.ts describes each call.
+ *
+ * Every answer is one of the module's calls, which c/versions.h describes, or a comparison of keys as bytes. Nothing
+ * here knows a rule of versions or of requirements.
+ */
+import {
+  FIRST,
+  SLOTS,
+  START,
+  after,
+  big,
+  binary,
+  bytes,
+  bytesOf,
+  call,
+  placeOf,
+  put,
+  reserve,
+  slot,
+  wordPair,
+  words,
+} from "./library.js";
+
+export const version = "0.1.0";
+
+// The numbers of the library, by their places here.
+const KINDS = [null, "ideal", "general", "complex"];
+const DIFFERENCES = ["none", "tie", "epoch", "part", "tail"];
+const REASONS = [null, "kind", "below", "above", "parts"];
+export const STABILITIES = Object.freeze(["dev", "alpha", "beta", "rc", "stable"]);
+
+const OK = 0;
+const NO_VERSION_B = 3;
+const NO_REQUIREMENTS = 5;
+const NO_NUMBER = 6;
+const ALL_MATCH = 15;
+const [PRE_RELEASE, RELEASE, METADATA] = [2, 3, 4];
+const [HAS_HIGH, IS_EXACT] = [8, 16];
+const FROM = BigInt(FIRST);
+// A version has no lone surrogate, but what stands before it in a tag could.
+const LONE_SURROGATE = /\p{Surrogate}/u;
+
+export class InvalidVersion extends RangeError {
+  constructor(text) {
+    super(`not a version: ${JSON.stringify(text)}`);
+    this.text = text;
+  }
+}
+
+export class InvalidRequirement extends RangeError {
+  constructor(text) {
+    const [start, end] = wrongMember(text);
+    const member = text.slice(start, end);
+    const wrong = member === text ? "" : `; its member ${JSON.stringify(member)} at ${start} is wrong`;
+    super(`not a requirement: ${JSON.stringify(text)}${wrong}; a list looks like '>=1.2,<2'`);
+    Object.assign(this, { text, member, start });
+  }
+}
+InvalidVersion.prototype.name = "InvalidVersion";
+InvalidRequirement.prototype.name = "InvalidRequirement";
+
+const nameOf = (value) => (value === null ? "null" : typeof value);
+
+function asText(value) {
+  if (typeof value !== "string") throw new TypeError(`a text is a string, and this is of type ${nameOf(value)}`);
+  return value;
+}
+
+// What only the classes below can look at: the text of a Version or a Requirement, if it is one, and the key of a
+// version.
+let versionText, requirementText, keyOf;
+const isObject = (value) => typeof value === "object" && value !== null;
+
+// The text of a string or a Version, and of a string or a Requirement.
+const textOf = (value) => (typeof value === "string" ? value : (versionText(value) ?? asText(value)));
+const listOf = (value) => (typeof value === "string" ? value : (requirementText(value) ?? asText(value)));
+
+/*
+ * Calls about one text or two.
+ */
+
+// Writes a text, with room for more after it, and returns its length in bytes. As in each call, each unit of the text
+// needs at most three bytes.
+function write(text, more = 0) {
+  reserve(FIRST + 3 * text.length + more);
+  return put(text, FIRST) - FIRST;
+}
+
+// Writes two texts, one after the other, and sets their lengths.
+let one = 0;
+let two = 0;
+function writeTwo(a, b) {
+  reserve(FIRST + 3 * (a.length + b.length));
+  one = put(a, FIRST) - FIRST;
+  two = put(b, FIRST + one) - FIRST - one;
+}
+
+function refuseTwo(status, a, b) {
+  throw new InvalidVersion(status === NO_VERSION_B ? b : a);
+}
+
+// The places in a text, counted in its units, of what two slots hold as places of its bytes.
+const placesOf = (text, from = 0) => [placeOf(text, slot(from)), placeOf(text, slot(from + 1))];
+const between = (text, from = 0) => text.slice(...placesOf(text, from));
+
+function wrongMember(text) {
+  const length = write(text);
+  const status = call.versions_wrong_member(FROM, big(length), SLOTS[0], SLOTS[1]);
+  return status === OK ? placesOf(text) : [0, text.length];
+}
+
+// The kind and the key of a version, the key as a text of its bytes.
+function parse(text) {
+  const length = write(text, 9 * text.length + 8);
+  const key = FIRST + length;
+  const status = call.versions_parse(FROM, big(length), SLOTS[0], after(length), big(3 * length + 5), SLOTS[1]);
+  if (status !== OK) throw new InvalidVersion(text);
+  return [KINDS[bytes[START]], binary(key, key + slot(1))];
+}
+
+function asPlace(value) {
+  if (typeof value !== "number") throw new TypeError(`a place is a number, and this is of type ${nameOf(value)}`);
+  if (!Number.isSafeInteger(value) || value < 0) {
+    throw new RangeError(`a place is an integer from 0 on, and not ${value}`);
+  }
+  return big(value);
+}
+
+function field(text, number) {
+  const length = write(text);
+  return call.versions_field(FROM, big(length), number, SLOTS[0], SLOTS[1]) === OK ? between(text) : null;
+}
+
+export const kind = (text) => KINDS[call.versions_kind(FROM, big(write(textOf(text))))];
+
+export const sortKey = (text) => bytesOf(parse(textOf(text))[1]);
+
+export function compare(a, b) {
+  const its = textOf(a);
+  const other = textOf(b);
+  writeTwo(its, other);
+  const status = call.versions_compare(FROM, big(one), after(one), big(two), SLOTS[0]);
+  if (status !== OK) refuseTwo(status, its, other);
+  return words[START / 4] | 0;
+}
+
+export function compareTotal(a, b) {
+  const its = textOf(a);
+  const other = textOf(b);
+  writeTwo(its, other);
+  const status = call.versions_compare_total(FROM, big(one), after(one), big(two), SLOTS[0]);
+  if (status !== OK) refuseTwo(status, its, other);
+  return words[START / 4] | 0;
+}
+
+/*
+ * Calls about many texts.
+ */
+
+const isMissing = (value) => value === undefined || value === null || Number.isNaN(value);
+
+// The items of an iterable, in a list that no other code knows.
+function itemsOf(texts) {
+  if (typeof texts === "string" || typeof texts?.[Symbol.iterator] !== "function") {
+    throw new TypeError(`texts are an array or another iterable, and this is of type ${nameOf(texts)}`);
+  }
+  return Array.from(texts);
+}
+
+// The texts of items. A missing value has the empty text, which is not a version either.
+const textsOf = (items) => items.map((item) => (isMissing(item) ? "" : textOf(item)));
+
+// The same of tags, but the empty text for a tag with a lone surrogate: such a text has no version.
+const tagsOf = (items) => textsOf(items).map((tag) => (LONE_SURROGATE.test(tag) ? "" : tag));
+
+/*
+ * Writes texts and their offsets, and returns where they end, and the words that a call takes for them. Between the
+ * offsets and the texts there is room for `each` bytes for each text and 8 more, at `results`. Then there is room for
+ * `more` bytes after the texts.
+ */
+function writeAll(texts, each, more = 0) {
+  const count = texts.length;
+  const results = FIRST + 8 * (count + 1);
+  const from = results + 8 * Math.ceil((each * count) / 8 + 1);
+  let units = 0;
+  for (let place = 0; place < count; place++) units += texts[place].length;
+  reserve(from + 3 * units + more);
+  let end = from;
+  words[FIRST / 4] = words[FIRST / 4 + 1] = 0;
+  for (let place = 0, at = FIRST / 4 + 2; place < count; place++, at += 2) {
+    end = put(texts[place], end);
+    words[at] = end - from;
+    words[at + 1] = 0;
+  }
+  return { count, results, end, size: end - from, passed: [BigInt(from), BigInt(end - from), FROM, BigInt(count + 1)] };
+}
+
+// A list of what a function answers for each place.
+function forEach(count, answer) {
+  const answers = new Array(count);
+  for (let place = 0; place < count; place++) answers[place] = answer(place);
+  return answers;
+}
+
+// What a call writes for each text, one byte each, by a list of what the bytes mean.
+function answers(name, texts, meanings) {
+  const { count, results, passed } = writeAll(textsOf(itemsOf(texts)), 1);
+  call[name](...passed, BigInt(results), BigInt(count));
+  return forEach(count, (place) => meanings[bytes[results + place]]);
+}
+
+export const kinds = (texts) => answers("versions_kinds", texts, KINDS);
+
+export const stabilities = (texts) => answers("versions_stabilities", texts, [null, ...STABILITIES]);
+
+export function matchAll(requirement, texts) {
+  const list = listOf(requirement);
+  const { count, results, end, passed } = writeAll(textsOf(itemsOf(texts)), 1, 3 * list.length);
+  const length = put(list, end) - end;
+  const status = call.versions_match_all(BigInt(end), big(length), ...passed, BigInt(results), BigInt(count));
+  if (status !== OK) throw new InvalidRequirement(list);
+  const meanings = [false, true, null];
+  return forEach(count, (place) => meanings[bytes[results + place]]);
+}
+
+export function inTags(texts) {
+  const tags = tagsOf(itemsOf(texts));
+  const { count, results, passed } = writeAll(tags, 8);
+  call.versions_in_tags(...passed, BigInt(results), BigInt(count));
+  return forEach(count, (place) => {
+    const start = wordPair(results + 8 * place);
+    if (start === wordPair(FIRST + 8 * (place + 1))) return null;
+    return tags[place].slice(placeOf(tags[place], start - wordPair(FIRST + 8 * place)));
+  });
+}
+
+// Makes room for the keys of texts that are written, and returns how much is always enough.
+function roomForKeys({ count, size, end }) {
+  const room = 3 * size + 5 * count;
+  reserve(end + room);
+  return BigInt(room);
+}
+
+export function sortKeys(texts) {
+  const all = writeAll(textsOf(itemsOf(texts)), 8);
+  const { count, results, end, passed } = all;
+  const room = roomForKeys(all);
+  call.versions_sort_keys(...passed, BigInt(end), room, BigInt(results), BigInt(count + 1));
+  return forEach(count, (place) => {
+    const from = wordPair(results + 8 * place);
+    const to = wordPair(results + 8 * (place + 1));
+    return from === to ? null : bytes.slice(end + from, end + to);
+  });
+}
+
+// The places of texts in sorted order, and how many of them are versions: the others come last.
+function placesInOrder(texts) {
+  const all = writeAll(texts, 16);
+  const { count, results, end, passed } = all;
+  const room = roomForKeys(all);
+  const sorted = results + 8 * (count + 1);
+  call.versions_sort(
+    ...passed, BigInt(end), room, BigInt(results), BigInt(count + 1), BigInt(sorted), BigInt(count),
+  );
+  const places = forEach(count, (at) => words[sorted / 4 + 2 * at]);
+  const hasKey = (place) => wordPair(results + 8 * place) !== wordPair(results + 8 * (place + 1));
+  let good = count;
+  while (good > 0 && !hasKey(places[good - 1])) good--;
+  return [places, good];
+}
+
+export function sort(texts, { key = null, reverse = false, invalid = "throw" } = {}) {
+  if (invalid !== "throw" && invalid !== "last") {
+    throw new RangeError(`invalid is 'throw' or 'last', and this is ${JSON.stringify(invalid)}`);
+  }
+  const items = itemsOf(texts);
+  // In reverse, the items are sorted from the last to the first, and then taken from the last to the first: so those
+  // that tie keep their order.
+  const keys = key === null ? items.slice() : items.map((item) => key(item));
+  if (reverse) {
+    items.reverse();
+    keys.reverse();
+  }
+  const its = invalid === "last" ? textsOf(keys) : keys.map(textOf);
+  const [places, good] = placesInOrder(its);
+  if (good < places.length && invalid === "throw") {
+    throw new InvalidVersion(its[places[reverse ? places.length - 1 : good]]);
+  }
+  const versions = places.slice(0, good);
+  const others = places.slice(good);
+  if (reverse) {
+    versions.reverse();
+    others.reverse();
+  }
+  return versions.concat(others).map((place) => items[place]);
+}
+
+export function newest(texts, { requirement = null, stability = null, tags = false } = {}) {
+  const list = listOf(requirement ?? "*");
+  const least = STABILITIES.indexOf(stability) + 1;
+  if (least === 0 && !isMissing(stability)) throw new RangeError(`no stability: ${JSON.stringify(stability)}`);
+  const items = itemsOf(texts);
+  const its = tags ? tagsOf(items) : textsOf(items);
+  const { end, passed } = writeAll(its, 0, 3 * list.length);
+  const length = put(list, end) - end;
+  const status = call.versions_newest(...passed, BigInt(end), big(length), least, tags ? 1 : 0, SLOTS[0]);
+  if (status === NO_REQUIREMENTS) throw new InvalidRequirement(list);
+  return status === OK ? items[slot(0)] : null;
+}
+
+/*
+ * Values.
+ */
+
+export class Difference {
+  constructor(kind, part) {
+    this.kind = kind;
+    this.part = part;
+    Object.freeze(this);
+  }
+
+  toString() {
+    return {
+      none: "they are the same version",
+      tie: "they compare equal, and are not the same version",
+      epoch: "they differ first in the epoch",
+      part: `they differ first in part ${this.part}`,
+      tail: "they differ first in what follows the parts",
+    }[this.kind];
+  }
+}
+
+export class Mismatch {
+  constructor(version, member, start, end, reason) {
+    Object.assign(this, { version, member, start, end, reason });
+    Object.freeze(this);
+  }
+
+  toString() {
+    return {
+      kind: `${this.version} is not of a kind that ${this.member} matches`,
+      below: `${this.version} is below ${this.member}`,
+      above: `${this.version} is above ${this.member}`,
+      parts: `${this.version} is within the bounds of ${this.member}, but its parts or fields differ`,
+    }[this.reason];
+  }
+}
+
+// How node shows a value.
+const SHOWN = Symbol.for("nodejs.util.inspect.custom");
+
+export class Version {
+  #text;
+  #kind;
+  #key;
+
+  constructor(text) {
+    this.#text = textOf(text);
+    if (typeof text === "string") [this.#kind, this.#key] = parse(text);
+    else [this.#kind, this.#key] = [text.#kind, text.#key];
+  }
+
+  static {
+    versionText = (value) => (isObject(value) && #text in value ? value.#text : undefined);
+    keyOf = (value) => (isObject(value) && #key in value ? value.#key : parse(asText(value))[1]);
+  }
+
+  static fromTag(tag, prefix = null) {
+    const its = textOf(tag);
+    const front = prefix === null ? "" : asText(prefix);
+    if (LONE_SURROGATE.test(its) || LONE_SURROGATE.test(front)) throw new InvalidVersion(its);
+    writeTwo(front, its);
+    const status =
+      prefix === null
+        ? call.versions_in_tag(FROM, big(two), SLOTS[0])
+        : call.versions_after_prefix(FROM, big(one), after(one), big(two), SLOTS[0]);
+    if (status !== OK) throw new InvalidVersion(its);
+    return new this(its.slice(placeOf(its, slot(0))));
+  }
+
+  static compare(a, b) {
+    return compare(a, b);
+  }
+
+  get kind() {
+    return this.#kind;
+  }
+
+  get key() {
+    return bytesOf(this.#key);
+  }
+
+  get isIdeal() {
+    return this.#kind === "ideal";
+  }
+
+  get isGeneral() {
+    return this.#kind === "general";
+  }
+
+  get isComplex() {
+    return this.#kind === "complex";
+  }
+
+  get isPrerelease() {
+    call.versions_is_prerelease(FROM, big(write(this.#text)), SLOTS[0]);
+    return bytes[START] === 1;
+  }
+
+  get stability() {
+    return STABILITIES[call.versions_stability(FROM, big(write(this.#text))) - 1];
+  }
+
+  get major() {
+    return this.nth(0);
+  }
+
+  get minor() {
+    return this.nth(1);
+  }
+
+  get patch() {
+    return this.nth(2);
+  }
+
+  get epoch() {
+    // A larger epoch than any number here has a call's status of its own, and the largest number.
+    const status = call.versions_epoch(FROM, big(write(this.#text)), SLOTS[0]);
+    return status === NO_NUMBER ? null : Math.min(slot(0), Number.MAX_SAFE_INTEGER);
+  }
+
+  get preRelease() {
+    return field(this.#text, PRE_RELEASE);
+  }
+
+  get release() {
+    return field(this.#text, RELEASE);
+  }
+
+  get metadata() {
+    return field(this.#text, METADATA);
+  }
+
+  nth(n) {
+    const status = call.versions_nth(FROM, big(write(this.#text)), asPlace(n), SLOTS[0]);
+    return status === OK ? words[START / 4] : null;
+  }
+
+  next(place) {
+    const at = asPlace(place);
+    // What comes next has at most one digit more.
+    const room = 3 * this.#text.length + 8;
+    const length = write(this.#text, room);
+    const status = call.versions_next(FROM, big(length), at, after(length), big(room), SLOTS[0]);
+    if (status !== OK) throw new RangeError(`${this.#text} has no next version at place ${place}`);
+    return new this.constructor(binary(FIRST + length, FIRST + length + slot(0)));
+  }
+
+  difference(other) {
+    const its = textOf(other);
+    writeTwo(this.#text, its);
+    const status = call.versions_difference(FROM, big(one), after(one), big(two), SLOTS[0], SLOTS[1]);
+    if (status !== OK) refuseTwo(status, this.#text, its);
+    const kind = DIFFERENCES[words[START / 4]];
+    return new Difference(kind, kind === "part" ? slot(1) : null);
+  }
+
+  compare(other) {
+    const key = keyOf(other);
+    return this.#key < key ? -1 : this.#key > key ? 1 : 0;
+  }
+
+  equals(other) {
+    return this.#key === keyOf(other);
+  }
+
+  toString() {
+    return this.#text;
+  }
+
+  toJSON() {
+    return this.#text;
+  }
+
+  // So that < and > go by the keys, and all else by the text.
+  [Symbol.toPrimitive](hint) {
+    return hint === "number" ? this.#key : this.#text;
+  }
+
+  [SHOWN]() {
+    return `Version(${JSON.stringify(this.#text)})`;
+  }
+}
+
+export class Requirement {
+  #text;
+  #range;
+
+  constructor(text) {
+    const its = listOf(text);
+    if (call.versions_wrong_member(FROM, big(write(its)), SLOTS[0], SLOTS[1]) === OK) throw new InvalidRequirement(its);
+    this.#text = its;
+  }
+
+  static {
+    requirementText = (value) => (isObject(value) && #text in value ? value.#text : undefined);
+  }
+
+  matches(version) {
+    const its = textOf(version);
+    writeTwo(this.#text, its);
+    const status = call.versions_matches(FROM, big(one), after(one), big(two), SLOTS[0]);
+    if (status !== OK) throw new InvalidVersion(its);
+    return bytes[START] === 1;
+  }
+
+  has(version) {
+    writeTwo(this.#text, textOf(version));
+    const status = call.versions_matches(FROM, big(one), after(one), big(two), SLOTS[0]);
+    return status === OK && bytes[START] === 1;
+  }
+
+  filter(versions) {
+    const items = itemsOf(versions);
+    const matches = matchAll(this, items);
+    return items.filter((_, place) => matches[place] === true);
+  }
+
+  whyNot(version) {
+    const its = textOf(version);
+    writeTwo(this.#text, its);
+    const status = call.versions_why_not(FROM, big(one), after(one), big(two), SLOTS[0], SLOTS[1], SLOTS[2]);
+    if (status === ALL_MATCH) return null;
+    if (status !== OK) throw new InvalidVersion(its);
+    const [start, end] = placesOf(this.#text);
+    return new Mismatch(its, this.#text.slice(start, end), start, end, REASONS[words[START / 4 + 4]]);
+  }
+
+  get conflict() {
+    const status = call.versions_conflict(FROM, big(write(this.#text)), ...SLOTS.slice(0, 4));
+    return status === OK ? [between(this.#text), between(this.#text, 2)] : null;
+  }
+
+  // The low bound, the high one and the flags, the bounds as texts of their bytes.
+  #bounds() {
+    if (this.#range === undefined) {
+      const length = write(this.#text, 18 * this.#text.length + 16);
+      const room = 3 * length + 5;
+      const low = FIRST + length;
+      const high = low + room;
+      call.versions_range(
+        FROM, big(length), after(length), big(room), SLOTS[0], after(length + room), big(room), SLOTS[1], SLOTS[2],
+      );
+      this.#range = [binary(low, low + slot(0)), binary(high, high + slot(1)), words[START / 4 + 4]];
+    }
+    return this.#range;
+  }
+
+  get low() {
+    return bytesOf(this.#bounds()[0]);
+  }
+
+  get high() {
+    const [, high, flags] = this.#bounds();
+    return flags & HAS_HIGH ? bytesOf(high) : null;
+  }
+
+  get range() {
+    const flags = this.#bounds()[2];
+    const kinds = KINDS.filter((kind, number) => kind !== null && flags & (1 << (number - 1)));
+    return { low: this.low, high: this.high, kinds, exact: (flags & IS_EXACT) !== 0 };
+  }
+
+  toString() {
+    return this.#text;
+  }
+
+  toJSON() {
+    return this.#text;
+  }
+
+  [SHOWN]() {
+    return `Requirement(${JSON.stringify(this.#text)})`;
+  }
+}
+
+/*
+ * The names of npm's package semver, where they mean the same.
+ */
+
+export const gt = (a, b) => compare(a, b) > 0;
+export const gte = (a, b) => compare(a, b) >= 0;
+export const lt = (a, b) => compare(a, b) < 0;
+export const lte = (a, b) => compare(a, b) <= 0;
+export const eq = (a, b) => compare(a, b) === 0;
+export const neq = (a, b) => compare(a, b) !== 0;
+export const rcompare = (a, b) => compare(b, a);
+export const rsort = (texts, options = {}) => sort(texts, { ...options, reverse: true });
+export const major = (text) => new Version(text).major;
+export const minor = (text) => new Version(text).minor;
+export const patch = (text) => new Version(text).patch;
+
+// What a call returns, or another value where it is refused for what it was asked about.
+function orElse(other, ask) {
+  try {
+    return ask();
+  } catch (error) {
+    if (error instanceof InvalidVersion || error instanceof InvalidRequirement) return other;
+    throw error;
+  }
+}
+
+export const valid = (text) => (isMissing(text) || kind(text) === null ? null : textOf(text));
+export const validRange = (text) => (isMissing(text) ? null : orElse(null, () => new Requirement(text).toString()));
+export const satisfies = (text, requirement) => orElse(false, () => new Requirement(requirement).has(text));
+export const maxSatisfying = (texts, requirement) => orElse(null, () => newest(texts, { requirement }));
+
+export function minSatisfying(texts, requirement) {
+  return orElse(null, () => {
+    const items = new Requirement(requirement).filter(texts);
+    // The first of those that no other comes before.
+    return items.reduce((least, item) => (least !== null && compare(least, item) <= 0 ? least : item), null);
+  });
+}

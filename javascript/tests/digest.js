@@ -1,0 +1,154 @@
+/*
+ * What the module answers for lines and lists of requirements, as one number for each call, for node and for browsers.
+ * tests/digest.c makes the same numbers of the library for C. `library` is the module library.js of the package; lines
+ * and lists are arrays of Uint8Arrays.
+ */
+
+// FNV-1a of what a call returns and writes.
+class Digest {
+  constructor() {
+    this.state = 0x811c9dc5;
+  }
+
+  byte(byte) {
+    this.state = Math.imul(this.state ^ byte, 0x01000193);
+  }
+
+  number(number) {
+    for (let at = 0; at < 4; at++) this.byte((number >>> (8 * at)) & 0xff);
+  }
+
+  bytes(bytes, from, end) {
+    for (let at = from; at < end; at++) this.byte(bytes[at]);
+  }
+
+  toString() {
+    return (this.state >>> 0).toString(16).padStart(8, "0");
+  }
+}
+
+const PREFIX = 2;
+const ROOM = 64;
+
+export function digest(library, lines, lists) {
+  const { FIRST, SLOTS, START, reserve, slot } = library;
+  const digests = new Map();
+  const of = (name) => digests.get(name) ?? digests.set(name, new Digest()).get(name);
+  const write = (bytes, at) => {
+    reserve(at + bytes.length + 8);
+    library.bytes.set(bytes, at);
+    return [BigInt(at), BigInt(bytes.length)];
+  };
+  // Calls one, and digests its status and as many of the slots, or of the bytes of the first.
+  const ask = (name, passed, slots, width = 8) => {
+    for (let place = 0; place < 8; place++) library.words[START / 4 + 2 * place] = library.words[START / 4 + 2 * place + 1] = 0;
+    const status = library.call[`versions_${name}`](...passed);
+    const its = of(name);
+    its.number(Number(status));
+    for (let place = 0; place < slots; place++) its.bytes(library.bytes, START + 8 * place, START + 8 * place + width);
+    return Number(status);
+  };
+
+  lines.forEach((line, place) => {
+    const other = lines[(place + 1) % lines.length];
+    const list = lists[place % lists.length];
+    const longest = Math.max(line.length, list.length);
+    const out = FIRST + line.length + other.length + list.length;
+    const room = 3 * longest + 5;
+    reserve(out + 2 * room);
+    const a = write(line, FIRST);
+    const b = write(other, FIRST + line.length);
+    const wanted = write(list, FIRST + line.length + other.length);
+    const key = [BigInt(out), BigInt(room)];
+    const written = (name, status, length) => {
+      if (status === 0) of(name).bytes(library.bytes, out, out + length);
+    };
+    ask("kind", a, 0);
+    ask("stability", a, 0);
+    ask("compare", [...a, ...b, SLOTS[0]], 1);
+    ask("compare_total", [...a, ...b, SLOTS[0]], 1);
+    ask("difference", [...a, ...b, SLOTS[0], SLOTS[1]], 2);
+    written("sort_key", ask("sort_key", [...a, ...key, SLOTS[0]], 1), slot(0));
+    written("parse", ask("parse", [...a, SLOTS[0], ...key, SLOTS[1]], 2), slot(1));
+    // A short buffer, of the room that is needed at most.
+    ask("sort_key", [...a, BigInt(out), BigInt(Math.min(room, ROOM)), SLOTS[0]], 1);
+    ask("matches", [...wanted, ...a, SLOTS[0]], 1);
+    ask("wrong_member", [...wanted, SLOTS[0], SLOTS[1]], 2);
+    ask("wrong_member", [...a, SLOTS[0], SLOTS[1]], 2);
+    ask("why_not", [...wanted, ...a, SLOTS[0], SLOTS[1], SLOTS[2]], 3);
+    ask("conflict", [...wanted, SLOTS[0], SLOTS[1], SLOTS[2], SLOTS[3]], 4);
+    const high = [BigInt(out + room), BigInt(room)];
+    if (ask("range", [...wanted, ...key, SLOTS[0], ...high, SLOTS[1], SLOTS[2]], 3) === 0) {
+      const [low, length, flags] = [slot(0), slot(1), Number(slot(2))];
+      of("range").bytes(library.bytes, out, out + low);
+      of("range").bytes(library.bytes, out + room, out + room + length);
+      ask("in_range", [...a, key[0], BigInt(low), high[0], BigInt(length), flags, SLOTS[0]], 1, 1);
+    }
+    written("inexact", ask("inexact", [...wanted, ...key, SLOTS[0]], 1), slot(0));
+    for (let n = 0; n < 4; n++) {
+      ask("nth", [...a, BigInt(n), SLOTS[0]], 1);
+      ask("field", [...a, n + 1, SLOTS[0], SLOTS[1]], 2);
+      written("next", ask("next", [...a, BigInt(n), ...key, SLOTS[0]], 1), slot(0));
+    }
+    ask("epoch", [...a, SLOTS[0]], 1);
+    ask("is_prerelease", [...a, SLOTS[0]], 1, 1);
+    ask("in_tag", [...a, SLOTS[0]], 1);
+    ask("after_prefix", [a[0], BigInt(Math.min(PREFIX, line.length)), ...a, SLOTS[0]], 1);
+  });
+
+  // All lines at once.
+  const count = lines.length;
+  const size = lines.reduce((sum, line) => sum + line.length, 0);
+  const offsets = FIRST;
+  const keyOffsets = offsets + 8 * (count + 1);
+  const order = keyOffsets + 8 * (count + 1);
+  const from = order + 8 * count;
+  const room = 3 * size + 5 * count;
+  const keys = from + size;
+  const list = keys + room;
+  reserve(list + Math.max(...lists.map((each) => each.length)) + 8);
+  let end = from;
+  lines.forEach((line, place) => {
+    library.words[offsets / 4 + 2 * place] = end - from;
+    library.words[offsets / 4 + 2 * place + 1] = 0;
+    library.bytes.set(line, end);
+    end += line.length;
+  });
+  library.words[offsets / 4 + 2 * count] = end - from;
+  library.words[offsets / 4 + 2 * count + 1] = 0;
+  const texts = [BigInt(from), BigInt(size), BigInt(offsets), BigInt(count + 1)];
+  const answers = [BigInt(keys), BigInt(count)];
+  const digestAnswers = (name, at, bytes) => of(name).bytes(library.bytes, at, at + bytes);
+  for (const name of ["kinds", "stabilities"]) {
+    ask(name, [...texts, ...answers], 0);
+    digestAnswers(name, keys, count);
+  }
+  ask("in_tags", [...texts, BigInt(order), BigInt(count)], 0);
+  digestAnswers("in_tags", order, 8 * count);
+  ask("sort_keys", [...texts, BigInt(keys), BigInt(room), BigInt(keyOffsets), BigInt(count + 1)], 0);
+  digestAnswers("sort_keys", keyOffsets, 8 * (count + 1));
+  digestAnswers("sort_keys", keys, keys + library.wordPair(keyOffsets + 8 * count) - keys);
+  ask("sort", [...texts, BigInt(keys), BigInt(room), BigInt(keyOffsets), BigInt(count + 1), BigInt(order), BigInt(count)], 0);
+  digestAnswers("sort", order, 8 * count);
+  for (const each of lists.slice(0, 20)) {
+    const wanted = write(each, list);
+    for (let flags = 0; flags < 2; flags++) ask("newest", [...texts, ...wanted, 4 * flags, flags, SLOTS[0]], 1);
+    if (ask("match_all", [...wanted, ...texts, ...answers], 0) === 0) digestAnswers("match_all", keys, count);
+  }
+  const bounds = Uint8Array.of(0, 3, 1, 49, 2, 0, 3, 1, 50, 2);
+  const [bound] = write(bounds, list);
+  ask("in_range_all", [...texts, bound, 5n, bound + 5n, 5n, 15, ...answers], 0);
+  digestAnswers("in_range_all", keys, count);
+  return [...digests].map(([name, its]) => `${name} ${its}\n`).sort().join("");
+}
+
+/** The lines of a file, without what ends them. */
+export function linesOf(bytes) {
+  const lines = [];
+  for (let from = 0; from < bytes.length; ) {
+    const end = bytes.indexOf(10, from);
+    lines.push(bytes.subarray(from, end < 0 ? bytes.length : end));
+    from = end < 0 ? bytes.length : end + 1;
+  }
+  return lines;
+}

@@ -1,0 +1,53 @@
+// What the tests share. JAVASCRIPT is the folder of the package, as javascript/build makes it.
+import assert from "node:assert/strict";
+import { pathToFileURL } from "node:url";
+
+export const folder = process.env.JAVASCRIPT;
+export const versions = await import(pathToFileURL(`${folder}/index.js`));
+const { InvalidRequirement, InvalidVersion } = versions;
+
+/** Whether a call throws InvalidVersion with a text. */
+export function refusesVersion(call, text) {
+  assert.throws(call, (error) => {
+    assert.ok(error instanceof InvalidVersion && error instanceof RangeError, String(error));
+    assert.equal(error.text, text);
+    assert.equal(String(error), `InvalidVersion: not a version: ${JSON.stringify(text)}`);
+    return true;
+  });
+}
+
+/** Whether a call throws InvalidRequirement with a text, and its first wrong member. */
+export function refusesRequirement(call, text, start, member) {
+  assert.throws(call, (error) => {
+    assert.ok(error instanceof InvalidRequirement && error instanceof RangeError, String(error));
+    assert.deepEqual([error.text, error.start, error.member], [text, start, member]);
+    const wrong = member === text ? "" : `; its member ${JSON.stringify(member)} at ${start} is wrong`;
+    const said = `not a requirement: ${JSON.stringify(text)}${wrong}; a list looks like '>=1.2,<2'`;
+    assert.equal(error.message, said);
+    return true;
+  });
+}
+
+/** Whether a call throws a TypeError that names a type. */
+export function refusesType(call, type) {
+  assert.throws(call, (error) => {
+    assert.equal(error.constructor, TypeError, String(error));
+    assert.match(error.message, new RegExp(`of type ${type}$`));
+    return true;
+  });
+}
+
+/** Bytes of hexadecimal digits. */
+export const hex = (text) => Uint8Array.from(text.match(/[0-9a-f]{2}/g) ?? [], (byte) => parseInt(byte, 16));
+
+/** Numbers from 0 up to, but without, a bound, by a seed: those of MINSTD. */
+export function chooser(seed) {
+  let state = seed;
+  return (bound) => {
+    state = (state * 16807) % 2147483647;
+    return state % bound;
+  };
+}
+
+/** Whether bytes compare as memcmp does: less than 0, 0, or more. */
+export const compareBytes = (a, b) => Buffer.compare(a, b);

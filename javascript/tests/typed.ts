@@ -1,0 +1,55 @@
+// What the types of the package let through, and what they refuse. It is compiled and never run.
+import {
+  type Difference, type Kind, type Mismatch, type Range, type Stability, InvalidRequirement, InvalidVersion, Requirement,
+  STABILITIES, Version, compare, inTags, kind, kinds, major, matchAll, maxSatisfying, minSatisfying, newest, satisfies,
+  sort, sortKey, sortKeys, stabilities, valid,
+} from "./index.js";
+
+const version: Version = new Version("1.2.3");
+const again: Version = new Version(version);
+const wanted = new Requirement(">=1.2,<2");
+const of: Kind = version.kind;
+const key: Uint8Array = version.key;
+const number: number | null = version.epoch;
+const field: string | null = version.preRelease;
+const sign: -1 | 0 | 1 = compare(version, "1.2");
+const is: boolean = version < again && version > again && wanted.has(version) && satisfies("1", "*");
+const found: Difference = version.difference("1.3");
+const why: Mismatch | null = wanted.whyNot(version);
+const range: Range = wanted.range;
+const stable: Stability = STABILITIES[0] ?? version.stability;
+const tag: Version = Version.fromTag("v1.2", null);
+const all: (Kind | null)[] = kinds(new Set(["1.2", null, undefined, version]));
+const keys: (Uint8Array | null)[] = sortKeys(["1"]);
+const answers: (boolean | null)[] = matchAll(wanted, ["1"]);
+const texts: (string | null)[] = inTags(["v1"]);
+const rated: (Stability | null)[] = stabilities([version]);
+const sorted: string[] = sort(["1.2"]);
+const values: Version[] = sort([version], { reverse: true });
+const last: (string | null)[] = sort(["1.2", null], { invalid: "last" });
+const rows: { v: string }[] = sort([{ v: "1" }], { key: (row) => row.v });
+const filtered: Version[] = wanted.filter([version, null]);
+const best: string | null = newest(["1"], { requirement: wanted, stability: "beta", tags: true });
+const most: string | null = maxSatisfying(["1"], "*") ?? minSatisfying(["1"], wanted) ?? valid(null);
+const error: RangeError = new InvalidRequirement("x");
+const text: string = new InvalidVersion("x").text;
+
+// @ts-expect-error: a number is no text.
+kind(1.2);
+// @ts-expect-error: a requirement is no version.
+sortKey(wanted);
+// @ts-expect-error: one text is not many items that tie to it.
+sort([1, 2]);
+// @ts-expect-error: missing values only come last.
+sort(["1", null]);
+// @ts-expect-error: rows need a key.
+sort([{ v: "1" }]);
+// @ts-expect-error: there is no such stability.
+newest(["1"], { stability: "final" });
+// @ts-expect-error: it can't be changed.
+version.kind = "ideal";
+// @ts-expect-error: it may be null.
+major("1").toFixed();
+
+export { all, answers, best, error, field, filtered, found, is, key, keys, last, most, number, of, range, rated, rows };
+export { sign, sorted, stable, tag, text, texts, values, why };
