@@ -1,8 +1,9 @@
 pub mod Entry
 pub mod Head
-pub mod LineKey
+pub mod KeyBytes
 pub mod Lines
 pub mod Matching
 pub mod Output
 pub mod Run
+pub mod Sort
 pub mod Sorting

@@ -15,7 +15,7 @@ label_of Complex = codes "complex "
 -- what is written for a line with the word for its kind, for a line that is not a version, for a
 -- line that is kept, and for a line that is left out
 abbrev pub answer_text : Answer → List ℕ → List ℕ
-answer_text (OfKind kind) line = labelled_line (label_of kind) line
+answer_text (OfKind kind) line = labelled_line line_feed (label_of kind) line
 answer_text NoVersion line = codes "none" ++ line_feed ∷ []
-answer_text Whole line = whole_line line
+answer_text Whole line = whole_line line_feed line
 answer_text Nothing line = []

@@ -1,15 +1,14 @@
 -- A line as it is sorted, and the place of its key.
-use Rattle.std.specs.Prelude.{◌≡◌, ◌<◌, ◌≤◌, ◌+◌, ℕ, false, List, Some, drop, length, take}
+use Rattle.std.specs.Prelude.{◌≡◌, ◌<◌, ◌≤◌, ◌+◌, ℕ, List, Some, drop, length, take}
 use Rattle.std.specs.List.{All, AllPairs}
-use Rattle.std.specs.Option.{option_map}
 use Rattle.std.specs.Ordering.{nat_cmp, on, then_cmp}
 use Rattle.std.specs.declared.cmp.Ordering.{Ordering}
 use Rattle.version_lines.specs.Head.{behind_heads_cmp, head_number}
-use Rattle.version_lines.specs.Sort.{is_bad}
-use Rattle.version_lines.specs.LineKey.{line_key}
 use Rattle.version_lines.specs.declared.sort.entry.Entry.{Entry}
+use Rattle.version_rules.specs.Key.{key_of}
+use Rattle.version_rules.specs.KeyBytes.{key_bytes}
 use Rattle.version_rules.specs.Kind.{versioning_kind}
-use Rattle.version_rules.specs.Versioning.{versioning_of}
+use Rattle.version_rules.specs.Versioning.{PlainVersioning, versioning_of}
 use Rattle.version_rules.specs.declared.kind.Kind.{Kind}
 use Rattle.version_rules.specs.declared.kind.Kind.TheVariants.{Ideal}
 use Rattle.version_texts.specs.KeyTies.{kind_on, marked_number, texts_tie}
@@ -29,16 +28,21 @@ key_length entry = marked_number entry.length
 abbrev pub entry_key : List ℕ → Entry → List ℕ
 entry_key keys entry = take (key_length entry) (drop entry.start keys)
 
--- the line is a version of its kind, its key lies at its place, and its two numbers are those of
+-- it has the kind of a version, the key of this lies at its place, and its two numbers are those of
 -- the key's first bytes
-pub record IsRead (keys : List ℕ) (entry : Entry) : Type 0 where
-  pub good : is_bad (entry_line entry) ≡ false
-  pub kind : option_map versioning_kind (versioning_of (entry_line entry)) ≡ Some (entry_kind entry)
+pub record HoldsKey (keys : List ℕ) (v : PlainVersioning) (entry : Entry) : Type 0 where
+  pub kind : entry_kind entry ≡ versioning_kind v
   pub within : entry.start + key_length entry ≤ length keys
-  pub key : entry_key keys entry ≡ line_key (entry_line entry)
-  pub bytes : All (λ byte. byte < 256) (line_key (entry_line entry))
-  pub first : entry.first ≡ head_number (line_key (entry_line entry))
-  pub second : entry.second ≡ head_number (drop 8 (line_key (entry_line entry)))
+  pub key : entry_key keys entry ≡ key_bytes (key_of v)
+  pub bytes : All (λ byte. byte < 256) (key_bytes (key_of v))
+  pub first : entry.first ≡ head_number (key_bytes (key_of v))
+  pub second : entry.second ≡ head_number (drop 8 (key_bytes (key_of v)))
+
+-- the text in its line is a version, whose kind and key it has
+abbrev pub IsRead : (List ℕ → List ℕ) → List ℕ → Entry → Type 0
+IsRead text_of keys entry =
+    (v : PlainVersioning) × (versioning_of (text_of (entry_line entry)) ≡ Some v)
+    × HoldsKey keys v entry
 
 -- by the second number, then by the bytes after those of the two numbers
 abbrev pub behind_cmp : List ℕ → Entry → Entry → Ordering
@@ -61,10 +65,14 @@ turn_cmp = on (λ (entry : Entry). entry.start) nat_cmp
 abbrev pub AreInTurn : List Entry → Type 0
 AreInTurn = AllPairs (λ (a b : Entry). a.start < b.start)
 
--- what breaks the tie of its key: its kind and its line
+-- its kind and its line
 abbrev pub entry_tie : Entry → Kind × List ℕ
 entry_tie entry = (entry_kind entry, entry_line entry)
 
+-- what breaks the tie of its key: its kind and the text in its line
+abbrev pub text_tie : (List ℕ → List ℕ) → Kind × List ℕ → Kind × List ℕ
+text_tie text_of tie = (tie.0, text_of tie.1)
+
 -- by what breaks ties of keys
-abbrev pub tie_cmp : Entry → Entry → Ordering
-tie_cmp = on entry_tie texts_tie
+abbrev pub tie_cmp : (List ℕ → List ℕ) → Entry → Entry → Ordering
+tie_cmp text_of = on (λ (entry : Entry). text_tie text_of (entry_tie entry)) texts_tie

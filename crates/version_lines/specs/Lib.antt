@@ -4,7 +4,8 @@ pub mod Comparison
 pub mod Entry
 pub mod Fault
 pub mod Head
-pub mod LineKey
+pub mod Input
+pub mod KeyedLines
 pub mod Lines
 pub mod Matching
 pub mod Output

@@ -2,7 +2,7 @@
 use Rattle.std.specs.Prelude.{ℕ, List, [], ◌∷◌, ◌++◌, if◌then◌else◌, ◌==◌}
 use Rattle.std.specs.List.{flat_map}
 
--- the byte that ends a line
+-- the byte that ends the lines of `vers`
 abbrev pub line_feed : ℕ
 line_feed = 10
 
@@ -11,25 +11,25 @@ abbrev pub before_lines : ℕ → List (List ℕ) → List (List ℕ)
 before_lines byte [] = (byte ∷ []) ∷ []
 before_lines byte (line ∷ lines) = (byte ∷ line) ∷ lines
 
--- the lines of some bytes: a line feed ends a line and is no part of it, and bytes after the last
--- one are a line too
-abbrev pub lines_of : List ℕ → List (List ℕ)
-lines_of [] = []
-lines_of (byte ∷ bytes) =
-    if byte == line_feed then [] ∷ lines_of bytes else before_lines byte (lines_of bytes)
+-- the lines of some bytes, by the byte that ends a line: it is no part of the line, and bytes after
+-- the last one are a line too
+abbrev pub lines_of : ℕ → List ℕ → List (List ℕ)
+lines_of end [] = []
+lines_of end (byte ∷ bytes) =
+    if byte == end then [] ∷ lines_of end bytes else before_lines byte (lines_of end bytes)
 
--- a line with the line feed that ends it
-abbrev pub whole_line : List ℕ → List ℕ
-whole_line line = line ++ line_feed ∷ []
+-- a line with the byte that ends it
+abbrev pub whole_line : ℕ → List ℕ → List ℕ
+whole_line end line = line ++ end ∷ []
 
--- a label, a line, and the line feed that ends it
-abbrev pub labelled_line : List ℕ → List ℕ → List ℕ
-labelled_line label line = label ++ whole_line line
+-- a label, a line, and the byte that ends it
+abbrev pub labelled_line : ℕ → List ℕ → List ℕ → List ℕ
+labelled_line end label line = label ++ whole_line end line
 
 -- what a command writes for some lines, by what it writes for one
 abbrev pub lines_output : (List ℕ → List ℕ) → List (List ℕ) → List ℕ
 lines_output line_output lines = flat_map line_output lines
 
 -- the same for the lines of some bytes
-abbrev pub output_by : (List ℕ → List ℕ) → List ℕ → List ℕ
-output_by line_output input = lines_output line_output (lines_of input)
+abbrev pub output_by : ℕ → (List ℕ → List ℕ) → List ℕ → List ℕ
+output_by end line_output input = lines_output line_output (lines_of end input)

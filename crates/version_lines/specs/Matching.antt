@@ -2,7 +2,7 @@
 use Rattle.std.proofs.Common.{◌⊎◌, inl, inr, ℕ, List, [], Option, None, Some}
 use Rattle.std.specs.Option.{option_map_or}
 use Rattle.version_lines.specs.Answer.{answer_text}
-use Rattle.version_lines.specs.Lines.{output_by}
+use Rattle.version_lines.specs.Lines.{line_feed, output_by}
 use Rattle.version_lines.specs.declared.answer.Answer.{Answer}
 use Rattle.version_lines.specs.declared.answer.Answer.TheVariants.{Whole, Nothing}
 use Rattle.version_rules.specs.laws.Matching.{matches_all_or_not}
@@ -26,7 +26,7 @@ match_line wanted line = answer_text (match_answer wanted (versioning_of line)) 
 
 -- what `match` writes for requirements and an input
 abbrev pub matching_lines : List PlainRequirement → List ℕ → List ℕ
-matching_lines wanted input = output_by (match_line wanted) input
+matching_lines wanted input = output_by line_feed (match_line wanted) input
 
 -- the same for a word, and nothing if the word is not a list of requirements
 abbrev pub match_output : List ℕ → List ℕ → List ℕ

@@ -4,7 +4,7 @@ use Rattle.std.specs.Option.{option_and_then, option_map}
 use Rattle.version_lines.specs.Answer.{answer_text}
 use Rattle.version_lines.specs.Command.{PlainCommand, Cmp, Ideal, Key, Match, Show, Sort, command_of}
 use Rattle.version_lines.specs.Comparison.{cmp_output, key_output}
-use Rattle.version_lines.specs.Lines.{output_by}
+use Rattle.version_lines.specs.Lines.{line_feed, output_by}
 use Rattle.version_lines.specs.Matching.{match_output}
 use Rattle.version_lines.specs.Sort.{sort_output}
 use Rattle.version_lines.specs.declared.answer.Answer.{Answer}
@@ -30,8 +30,8 @@ show_line line = answer_text (show_answer (versioning_of line)) line
 
 -- what a command writes, if the input is known or is not read
 abbrev pub command_output : Option (List ℕ) → PlainCommand → Option (List ℕ)
-command_output input Ideal = option_map (output_by ideal_line) input
-command_output input Show = option_map (output_by show_line) input
+command_output input Ideal = option_map (output_by line_feed ideal_line) input
+command_output input Show = option_map (output_by line_feed show_line) input
 command_output input Sort = option_map sort_output input
 command_output input (Match word) = option_map (match_output word) input
 command_output input (Cmp a b) = Some (cmp_output a b)

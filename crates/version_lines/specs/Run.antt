@@ -3,7 +3,7 @@ use Rattle.std.specs.Prelude.{◌≡◌, ⊤, ℕ, Bool, false, List, Option, No
 use Rattle.std.specs.Option.{IsSomeAnd, option_map_or, option_or}
 use Rattle.std.specs.Io.KnownBytes.{Keeps}
 use Rattle.version_lines.specs.Command.{PlainCommand, Cmp, Key, Match, Sort, command_of, reads_input}
-use Rattle.version_lines.specs.Lines.{lines_of}
+use Rattle.version_lines.specs.Lines.{line_feed, lines_of}
 use Rattle.version_lines.specs.Output.{AppendsProperBeginning}
 use Rattle.version_lines.specs.Sort.{bad_line}
 use Rattle.version_lines.specs.declared.faults.Fault.{Fault}
@@ -32,7 +32,7 @@ bad_requirements command = None
 
 -- the number of the first line that should be a version but is not; only `sort` requires versions
 abbrev pub bad_line_for : PlainCommand → List ℕ → Option ℕ
-bad_line_for Sort input = bad_line (lines_of input)
+bad_line_for Sort input = bad_line (lines_of line_feed input)
 bad_line_for command input = None
 
 -- each word that should be a version or a list of requirements is one, and so is each line of a

@@ -1,9 +1,17 @@
--- A list in order.
+-- A list in order, and orders in reverse.
 use Rattle.std.specs.List.{All, prefix_len}
-use Rattle.std.specs.Prelude.{◌≡◌, ⊤, ℕ, ◌+◌, ◌<◌, List, [], ◌∷◌, if◌then◌else◌, not}
-use Rattle.std.specs.Ordering.{is_lt}
+use Rattle.std.specs.Prelude.{◌≡◌, ⊤, ℕ, Bool, ◌+◌, ◌<◌, List, [], ◌∷◌, if◌then◌else◌, not}
+use Rattle.std.specs.Ordering.{is_lt, ordering_reverse}
 use Rattle.std.specs.declared.cmp.Ordering.{Ordering}
 use Rattle.std.specs.declared.cmp.Ordering.TheVariants.{Equal}
+
+-- an answer of an order, or of the reverse of it
+abbrev pub turn : Bool → Ordering → Ordering
+turn reversed order = if reversed then ordering_reverse order else order
+
+-- an order, or the reverse of it; elements that are Equal are so in both
+abbrev pub turned : {X : Type 0} → Bool → (X → X → Ordering) → X → X → Ordering
+turned reversed cmp a b = turn reversed (cmp a b)
 
 -- an element put before the first element that is not below it
 abbrev pub put_in_order : {X : Type 0} → (X → X → Ordering) → X → List X → List X

@@ -2,6 +2,7 @@
 ghost use Rattle.std.specs.Prelude.{◌≡◌, vec_len, OnOk, IfOk, IfErr};
 ghost use Rattle.std.specs.Io.KnownBytes.{Consumes, IsAtEnd};
 ghost use Rattle.version_lines.specs.Fault.{ComesOfReading};
+ghost use Rattle.version_lines.specs.Input.{AddsRest};
 
 use crate::faults::Fault;
 use std::alloc::{AllocError, Global};
@@ -24,14 +25,25 @@ pub fn read_all<R: Read>(alloc: Global, reader: &mut R) -> Result<Vec<u8>, Fault
     ensures end { OnOk result (IsAtEnd (R.remaining reader.new)) }
     ensures faults { IfErr result ComesOfReading }
 {
-    let mut piece = zeros(alloc, PIECE)?;
     let mut input = Vec::new(alloc);
+    read_onto(alloc, reader, &mut input)?;
+    Ok(input)
+}
+
+/// Reads to the end of the reader, and adds what it reads after the input so far. It stops as `read_all` does.
+pub fn read_onto<R: Read>(alloc: Global, reader: &mut R, input: &mut Vec<u8>) -> Result<(), Fault>
+    ensures bytes { OnOk result
+        (AddsRest (R.remaining reader.old) (R.remaining reader.new) input.old.items input.new.items) }
+    ensures end { OnOk result (IsAtEnd (R.remaining reader.new)) }
+    ensures faults { IfErr result ComesOfReading }
+{
+    let mut piece = zeros(alloc, PIECE)?;
     for _ in 0..u64::MAX {
         let Ok(given) = reader.read(piece.as_mut_slice()) else {
             return Err(Fault::Read);
         };
         if given == 0 {
-            return Ok(input);
+            return Ok(());
         }
         input.extend_from_slice(&piece[..given])?;
     }

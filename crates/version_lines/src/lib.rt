@@ -1,5 +1,6 @@
 //! The program `vers` over any reader and any writer: `run` reads lines, and writes a command's output.
-//! docs/PROGRAM.md has its rules.
+//! docs/PROGRAM.md has its rules. What it is made of serves other programs for lines too: reading and splitting lines,
+//! putting them in the order of their versions, and writing them.
 #![tactic(auto)]
 
 mod answer;
@@ -10,7 +11,6 @@ mod ideal;
 mod input;
 mod key;
 mod laws;
-mod line_key;
 mod lines;
 mod matching;
 mod output;
@@ -20,4 +20,9 @@ mod sort;
 mod words;
 
 pub use faults::Fault;
+pub use input::{read_all, read_onto};
+pub use lines::split_line;
+pub use output::{make_buffer, put, put_line, write_whole};
 pub use program::run;
+pub use sort::by::{SortBy, WholeLines};
+pub use sort::keyed_lines::KeyedLines;

@@ -3,7 +3,7 @@ ghost use Rattle.std.specs.Prelude.{◌≡◌, ℕ, ◌<◌, List, ◌∷◌, �
 ghost use Rattle.std.specs.Io.KnownBytes.{Appends, Keeps};
 ghost use Rattle.version_lines.specs.Answer.{answer_text};
 ghost use Rattle.version_lines.specs.Fault.{ComesOfWriting};
-ghost use Rattle.version_lines.specs.Lines.{lines_of, lines_output};
+ghost use Rattle.version_lines.specs.Lines.{line_feed, lines_of, lines_output};
 ghost use Rattle.version_lines.specs.Output.{AppendsProperBeginning, AppendsUpTo};
 
 use crate::answer::{Answer, label};
@@ -31,18 +31,18 @@ pub fn write_lines<C: LineCommand, W: Write>(
     writer: &mut W,
 ) -> Result<(), Fault>
     ensures ok { OnOk result (Appends (W.contents writer.old) (W.contents writer.new)
-        (lines_output (C.line_output command.now) (lines_of input.now))) }
+        (lines_output (C.line_output command.now) (lines_of line_feed input.now))) }
     ensures memory { IsErrOf result Fault.Memory →
         Keeps (W.contents writer.old) (W.contents writer.new) }
     ensures write { IsErrOf result Fault.Write →
         AppendsProperBeginning (W.contents writer.old) (W.contents writer.new)
-        (lines_output (C.line_output command.now) (lines_of input.now)) }
+        (lines_output (C.line_output command.now) (lines_of line_feed input.now)) }
     ensures faults { IfErr result ComesOfWriting }
 {
     let mut buffer = make_buffer(alloc)?;
     let mut rest = input;
     while !rest.is_empty() {
-        let (line, after) = split_line(rest);
+        let (line, after) = split_line(b'\n', rest);
         let answer = command.answer(line);
         put_answer(answer, line, writer, &mut buffer)?;
         rest = after;
@@ -50,14 +50,14 @@ pub fn write_lines<C: LineCommand, W: Write>(
     write_whole(writer, buffer.as_slice())
 }
 
-/// Splits off the first line and its line feed, and returns the line and the rest.
-pub fn split_line(text: &[u8]) -> (&[u8], &[u8])
+/// Splits off the first line and the byte that ends it, and returns the line and the rest.
+pub fn split_line(end: u8, text: &[u8]) -> (&[u8], &[u8])
     requires { 0 < length text.now }
-    ensures lines { lines_of text.now ≡ result.0.now ∷ lines_of result.1.now }
+    ensures lines { lines_of end text.now ≡ result.0.now ∷ lines_of end result.1.now }
     ensures shorter { length result.1.now < length text.now }
 {
-    match memchr(b'\n', text) {
-        Some(end) => (&text[..end], &text[end + 1..]),
+    match memchr(end, text) {
+        Some(place) => (&text[..place], &text[place + 1..]),
         None => (text, &[]),
     }
 }
@@ -76,9 +76,9 @@ fn put_answer<W: Write>(
     ensures fault { IfErr result (λ fault. fault ≡ Fault.Write) }
 {
     match answer {
-        Answer::OfKind(kind) => put_line(writer, buffer, label(kind), line),
+        Answer::OfKind(kind) => put_line(writer, buffer, b'\n', label(kind), line),
         Answer::NoVersion => put(writer, buffer, b"none\n"),
-        Answer::Whole => put_line(writer, buffer, b"", line),
+        Answer::Whole => put_line(writer, buffer, b'\n', b"", line),
         Answer::Nothing => Ok(()),
     }
 }

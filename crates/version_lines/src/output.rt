@@ -58,38 +58,39 @@ pub fn put<W: Write>(writer: &mut W, buffer: &mut Vec<u8>, bytes: &[u8]) -> Resu
     Ok(())
 }
 
-/// Adds a label, a line and a line feed to the buffer.
+/// Adds a label, a line and the byte that ends it to the buffer.
 pub fn put_line<W: Write>(
     writer: &mut W,
     buffer: &mut Vec<u8>,
+    end: u8,
     label: &[u8],
     line: &[u8],
 ) -> Result<(), Fault>
     ensures ok { OnOk result (AppendsUpTo (W.contents writer.old) (W.contents writer.new)
-        buffer.new.items (buffer.old.items ++ labelled_line label.now line.now)) }
+        buffer.new.items (buffer.old.items ++ labelled_line end label.now line.now)) }
     ensures err { OnErr result (AppendsProperBeginning (W.contents writer.old)
-        (W.contents writer.new) (buffer.old.items ++ labelled_line label.now line.now)) }
+        (W.contents writer.new) (buffer.old.items ++ labelled_line end label.now line.now)) }
     ensures fault { IfErr result (λ fault. fault ≡ Fault.Write) }
 {
     let room = buffer.capacity() - buffer.len();
     if line.len() < room && label.len() < room - line.len() {
-        add_line(buffer, label, line);
+        add_line(buffer, end, label, line);
         return Ok(());
     }
     put(writer, buffer, label)?;
     put(writer, buffer, line)?;
-    put(writer, buffer, b"\n")
+    put(writer, buffer, &[end])
 }
 
-// Adds a label, a line and a line feed, which have to fit.
+// Adds a label, a line and the byte that ends it, which have to fit.
 #[inline(always)]
-fn add_line(buffer: &mut Vec<u8>, label: &[u8], line: &[u8])
+fn add_line(buffer: &mut Vec<u8>, end: u8, label: &[u8], line: &[u8])
     requires { vec_len buffer.old + length label.now + length line.now < vec_capacity buffer.old }
-    ensures { buffer.new.items ≡ buffer.old.items ++ labelled_line label.now line.now }
+    ensures { buffer.new.items ≡ buffer.old.items ++ labelled_line end label.now line.now }
 {
     if !label.is_empty() {
         buffer.extend_from_slice(label).unwrap();
     }
     buffer.extend_from_slice(line).unwrap();
-    buffer.push_reserved(b'\n');
+    buffer.push_reserved(end);
 }

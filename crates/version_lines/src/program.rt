@@ -4,7 +4,7 @@ ghost use Rattle.std.specs.Option.{option_map};
 ghost use Rattle.std.specs.Io.KnownBytes.{Appends, IsAtEnd, Keeps};
 ghost use Rattle.version_lines.specs.Command.{command_of, plain_command, reads_input};
 ghost use Rattle.version_lines.specs.Fault.{ComesOfAnswering};
-ghost use Rattle.version_lines.specs.Lines.{output_by};
+ghost use Rattle.version_lines.specs.Lines.{line_feed, output_by};
 ghost use Rattle.version_lines.specs.Program.{command_output, output_of};
 ghost use Rattle.version_lines.specs.Run.{ask_for_input, ComesOf, ComesOfCommand, GrowsAt, IsServable, IsServed};
 
@@ -122,11 +122,11 @@ fn answer_lines<C: LineCommand, R: Read, W: Write>(
 ) -> Result<(), Fault>
     ensures read { OnOk result (IsAtEnd (R.remaining reader.new)) }
     ensures written { OnOk result (IfSome
-        (option_map (output_by (C.line_output command.now)) (R.remaining reader.old))
+        (option_map (output_by line_feed (C.line_output command.now)) (R.remaining reader.old))
         (Appends (W.contents writer.old) (W.contents writer.new))) }
     ensures reads_first { Keeps (W.contents writer.old) (W.contents writer.new) ⊎ IsAtEnd (R.remaining reader.new) }
     ensures at_fault { IfErr result (GrowsAt (W.contents writer.old) (W.contents writer.new)
-        (option_map (output_by (C.line_output command.now)) (R.remaining reader.old))) }
+        (option_map (output_by line_feed (C.line_output command.now)) (R.remaining reader.old))) }
     ensures faults { IfErr result ComesOfAnswering }
 {
     let input = read_all(alloc, reader)?;

@@ -4,7 +4,7 @@ use Rattle.std.proofs.KnownBytes.{Keeps-refl}
 use Rattle.std.proofs.lemmas.Result.{IfErr-weaker}
 use Rattle.version_lines.specs.Command.{PlainCommand, Sort}
 use Rattle.version_lines.specs.Fault.{ComesOfLines, ComesOfReading, ComesOfRequirements, ComesOfWords, ComesOfWriting}
-use Rattle.version_lines.specs.Lines.{lines_of}
+use Rattle.version_lines.specs.Lines.{line_feed, lines_of}
 use Rattle.version_lines.specs.Output.{AppendsProperBeginning}
 use Rattle.version_lines.specs.Run.{ComesOfCommand, GrowsAt, IsServable}
 use Rattle.version_lines.specs.Sort.{bad_line}
@@ -63,7 +63,7 @@ OnErr-always (Err e) P p = p
 
 -- a failed check of lines or a failed write is a fault of the command
 pub ComesOfCommand-lines : (input : List ℕ) (fault : Fault)
-    → ComesOfLines (bad_line (lines_of input)) fault
+    → ComesOfLines (bad_line (lines_of line_feed input)) fault
     → ComesOfCommand (Some input) Sort fault
 ComesOfCommand-lines input Usage comes = comes
 ComesOfCommand-lines input (NotVersion text) comes = absurd comes

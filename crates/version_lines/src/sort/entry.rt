@@ -1,18 +1,21 @@
 //! A line as it is sorted.
-ghost use Rattle.std.specs.Prelude.{◌≡◌, ◌++◌, drop, length, IfOk, IfSome, IsTrue, MatchOption, OnOk};
+ghost use Rattle.std.specs.Prelude.{◌≡◌, ◌++◌, drop, length, IfOk, IsTrue, OnOk};
 ghost use Rattle.std.specs.Ordering.{then_cmp};
 ghost use Rattle.version_lines.specs.Head.{behind_heads_cmp};
-ghost use Rattle.version_lines.specs.LineKey.{line_key};
+ghost use Rattle.version_lines.specs.Sorting.{turned};
+ghost use Rattle.version_rules.specs.Key.{key_of};
+ghost use Rattle.version_rules.specs.KeyBytes.{key_bytes};
+ghost use Rattle.version_texts.specs.VersioningRef.{plain_versioning_ref};
 
-use crate::line_key::add_key;
+use crate::sort::by::{SortBy, turn};
 use crate::sort::head::head;
 use std::alloc::AllocError;
 use std::cmp::Ordering;
 use version_rules::Kind;
-use version_texts::{compare_key_ties, mark_kind, marked_kind, marked_number};
+use version_texts::{VersioningRef, compare_key_ties, mark_kind, marked_kind, marked_number};
 
-/// A line that is a version, the place of its key in the one list of all keys, the key's length with the kind marked on
-/// it, and the key's first bytes, by which most lines differ.
+/// A line that has a version, the place of the key of this in the one list of all keys, the key's length with the kind
+/// marked on it, and the key's first bytes, by which most lines differ.
 #[derive(Clone, Copy)]
 pub struct Entry<'a> {
     first: u64,
@@ -26,33 +29,35 @@ pub struct Entry<'a> {
 const LENGTH_LIMIT: u64 = 1 << 62;
 
 impl<'a> Entry<'a> {
-    ghost use Rattle.version_lines.specs.Entry.{behind_cmp, entry_cmp, entry_key, entry_kind, entry_line, entry_tie, tie_cmp, turn_cmp, IsRead, IsStrict};
-    ghost use Rattle.version_lines.specs.Sort.{is_bad};
+    ghost use Rattle.version_lines.specs.Entry.{behind_cmp, entry_cmp, entry_key, entry_kind, entry_line, entry_tie, tie_cmp, turn_cmp, HoldsKey, IsStrict};
 
-    /// Returns an entry for the line, or None if it is not a version. Its key is added to `keys`. Fails if the key
+    /// Returns an entry for the line, whose version was parsed. The key of this is added to `keys`. Fails if the key
     /// cannot be allocated.
-    pub fn read(keys: &mut Vec<u8>, line: &'a [u8]) -> Result<Option<Entry<'a>>, AllocError>
-        ensures key { OnOk result (keys.new.items ≡ keys.old.items ++ line_key line.now) }
-        ensures read { IfOk result (λ read. MatchOption read (IsTrue (is_bad line.now))
-            (λ e. (entry_line e ≡ line.now) × IsRead keys.new.items e)) }
-        ensures last { IfOk result (λ read. IfSome read (λ e. e.start ≡ length keys.old.items)) }
+    pub fn read(
+        keys: &mut Vec<u8>,
+        version: &VersioningRef<'_>,
+        line: &'a [u8],
+    ) -> Result<Entry<'a>, AllocError>
+        ensures keys { OnOk result (keys.new.items
+            ≡ keys.old.items ++ key_bytes (key_of (plain_versioning_ref version.now))) }
+        ensures line { IfOk result (λ e. entry_line e ≡ line.now) }
+        ensures key { IfOk result (HoldsKey keys.new.items (plain_versioning_ref version.now)) }
+        ensures last { IfOk result (λ e. e.start ≡ length keys.old.items) }
     {
         let start = keys.len();
-        let Some(kind) = add_key(keys, line)? else {
-            return Ok(None);
-        };
+        version.append_key(keys)?;
         let key = &keys.as_slice()[start..];
         let length = key.len() as u64;
         if length >= LENGTH_LIMIT {
             return Err(AllocError);
         }
-        Ok(Some(Entry {
+        Ok(Entry {
             first: head(key),
-            second: head(key.get(8..).unwrap_or(&[])),
+            second: head(behind_head(key)),
             line,
             start,
-            length: mark_kind(length, kind),
-        }))
+            length: mark_kind(length, version.kind()),
+        })
     }
 
     /// Compares by the keys, their first bytes first.
@@ -66,21 +71,33 @@ impl<'a> Entry<'a> {
         }
     }
 
-    /// Compares by the keys, then by the places of the keys: of two lines that tie, the line that was read first comes
-    /// first.
+    /// Compares by the keys, as they count for the sort, then by the places of the keys: of two lines that tie, the
+    /// line that was read first comes first.
     #[inline(always)]
-    pub fn compare_in_turn(&self, other: &Entry<'_>, keys: &[u8]) -> Ordering
-        ensures { result ≡ then_cmp (entry_cmp keys.now) turn_cmp self.now other.now }
+    pub fn compare_in_turn<B: SortBy>(&self, other: &Entry<'_>, by: &B, keys: &[u8]) -> Ordering
+        ensures { result ≡ then_cmp (turned (B.is_reversed by.now) (entry_cmp keys.now)) turn_cmp
+            self.now other.now }
     {
-        self.compare(other, keys).then(self.start.cmp(&other.start))
+        turn(by, self.compare(other, keys)).then(self.start.cmp(&other.start))
     }
 
-    /// Compares by what breaks the ties of keys, then by the places of the keys.
-    pub fn compare_ties_in_turn(&self, other: &Entry<'_>) -> Ordering
-        ensures { result ≡ then_cmp tie_cmp turn_cmp self.now other.now }
+    /// Compares by what breaks the ties of keys, as it counts for the sort, then by the places of the keys.
+    pub fn compare_ties_in_turn<B: SortBy>(&self, other: &Entry<'_>, by: &B) -> Ordering
+        ensures { result ≡ then_cmp (turned (B.is_reversed by.now) (tie_cmp (B.text_of by.now)))
+            turn_cmp self.now other.now }
     {
-        compare_key_ties(self.kind(), self.line, other.kind(), other.line).then(
-            self.start.cmp(&other.start),
+        turn(by, self.compare_ties(other, by)).then(self.start.cmp(&other.start))
+    }
+
+    // Compares by what breaks the ties of keys: the kinds and the texts.
+    fn compare_ties<B: SortBy>(&self, other: &Entry<'_>, by: &B) -> Ordering
+        ensures { result ≡ tie_cmp (B.text_of by.now) self.now other.now }
+    {
+        compare_key_ties(
+            self.kind(),
+            by.text(self.line),
+            other.kind(),
+            by.text(other.line),
         )
     }
 
@@ -157,6 +174,13 @@ fn compare_behind_heads(a: &[u8], b: &[u8]) -> Ordering
         Ordering::Equal => a.len().cmp(&b.len()),
         order => order,
     }
+}
+
+// Returns a key without its first eight bytes.
+fn behind_head(key: &[u8]) -> &[u8]
+    ensures { result.now ≡ drop 8 key.now }
+{
+    key.get(8..).unwrap_or(&[])
 }
 
 // Returns a key without its first sixteen bytes.

@@ -1,6 +1,5 @@
 use Rattle.std.proofs.Common.{◌∷◌, ◌++◌, []}
 use Rattle.std.proofs.lemmas.Result.{on_ok_weaker, on_err_weaker, err_from_is_err_and}
-use Rattle.version_lines.specs.Lines.{line_feed}
 use Rattle.version_lines.proofs.lemmas.Output.{AppendsUpTo-then, AppendsProperBeginning-then, AppendsProperBeginning-with_more}
 use Rattle.version_lines.proofs.output.put_line.Goals as goal
 
@@ -8,7 +7,7 @@ pub returns-in_err-put-clause-err : goal.returns-in_err-put-clause-err
 returns-in_err-put-clause-err g c =
     let p = err_from_is_err_and c.from_residual.result c.from_residual.ensures.1 in
     rw p.1 (AppendsProperBeginning-with_more _ _ c.args.buffer.now.items c.args.label.now
-    (c.args.line.now ++ line_feed ∷ []) c.in_err-put.ensures.err)
+    (c.args.line.now ++ c.args.end ∷ []) c.in_err-put.ensures.err)
 
 pub returns-in_err-put-2-clause-err : goal.returns-in_err-put-2-clause-err
 returns-in_err-put-2-clause-err g c =
@@ -17,18 +16,18 @@ returns-in_err-put-2-clause-err g c =
     c.from_residual-in_err-put-2.ensures.1 in
     rw p.1
     (AppendsProperBeginning-then _ _ _ c.args.buffer.now.items c.args.label.now labelled
-    (c.args.line.now ++ line_feed ∷ []) c.in_ok-put.ensures.ok
+    (c.args.line.now ++ c.args.end ∷ []) c.in_ok-put.ensures.ok
     (AppendsProperBeginning-with_more _ _ labelled c.args.line.now
-    (line_feed ∷ []) c.in_err-put-2.ensures.err))
+    (c.args.end ∷ []) c.in_err-put-2.ensures.err))
 
 pub returns-clause-ok : goal.returns-clause-ok
 returns-clause-ok g c =
     let labelled = c.put.new.buffer.items in
     on_ok_weaker c.put-3.result
     (λ last. AppendsUpTo-then _ _ _ c.args.buffer.now.items c.args.label.now labelled
-    (c.args.line.now ++ line_feed ∷ []) _ c.in_ok-put.ensures.ok
+    (c.args.line.now ++ c.args.end ∷ []) _ c.in_ok-put.ensures.ok
     (AppendsUpTo-then _ _ _ labelled c.args.line.now c.put-2.new.buffer.items
-    (line_feed ∷ []) _ c.in_ok-put-2.ensures.ok last))
+    (c.args.end ∷ []) _ c.in_ok-put-2.ensures.ok last))
     c.put-3.ensures.ok
 
 pub returns-clause-err : goal.returns-clause-err
@@ -36,7 +35,7 @@ returns-clause-err g c =
     let labelled = c.put.new.buffer.items in
     on_err_weaker c.put-3.result
     (λ last. AppendsProperBeginning-then _ _ _ c.args.buffer.now.items c.args.label.now labelled
-    (c.args.line.now ++ line_feed ∷ []) c.in_ok-put.ensures.ok
+    (c.args.line.now ++ c.args.end ∷ []) c.in_ok-put.ensures.ok
     (AppendsProperBeginning-then _ _ _ labelled c.args.line.now c.put-2.new.buffer.items
-    (line_feed ∷ []) c.in_ok-put-2.ensures.ok last))
+    (c.args.end ∷ []) c.in_ok-put-2.ensures.ok last))
     c.put-3.ensures.err

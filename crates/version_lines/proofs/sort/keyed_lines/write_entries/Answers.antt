@@ -3,15 +3,15 @@ use Rattle.std.proofs.lemmas.Result.{on_err_weaker}
 use Rattle.version_lines.proofs.lemmas.Entry.{lines_output-entries}
 use Rattle.version_lines.proofs.lemmas.Output.{AppendsUpTo-step, AppendsProperBeginning-step, AppendsProperBeginning-after}
 use Rattle.version_lines.proofs.lemmas.Run.{GrowsAt-memory, GrowsAt-write, OnErr-always}
-use Rattle.version_lines.proofs.sort.write_entries.Goals as goal
+use Rattle.version_lines.proofs.sort.keyed_lines.write_entries.Goals as goal
 
 pub returns-in_err-buffer-clause-at_fault : goal.returns-in_err-buffer-clause-at_fault
 returns-in_err-buffer-clause-at_fault g c = GrowsAt-memory c.from_residual.result _ _ (search rules)
 
 pub returns-in_err-put_line-clause-at_fault : goal.returns-in_err-put_line-clause-at_fault
 returns-in_err-put_line-clause-at_fault g c =
-    let next = lines_output-entries c.args.entries.now c.loop-entry.entry-index _ c.line.result.now
-    (search rules) c.line.ensures in
+    let next = lines_output-entries c.args.end c.args.entries.now c.loop-entry.entry-index _
+    c.line.result.now (search rules) c.line.ensures in
     GrowsAt-write c.from_residual-in_err-put_line.result _ _ _ (search rules)
     (OnErr-always _ _
     (AppendsProperBeginning-step _ _ _ c.loop-entry.buffer.items _ _ _ _ c.loop-entry.invariant
@@ -19,8 +19,8 @@ returns-in_err-put_line-clause-at_fault g c =
 
 pub loop-entry-preserved : goal.loop-entry-preserved
 loop-entry-preserved g c =
-    let next = lines_output-entries c.args.entries.now c.loop-entry.entry-index _ c.line.result.now
-    (search rules) c.line.ensures in
+    let next = lines_output-entries c.args.end c.args.entries.now c.loop-entry.entry-index _
+    c.line.result.now (search rules) c.line.ensures in
     AppendsUpTo-step _ _ _ c.loop-entry.buffer.items _ _ _ _ _ c.loop-entry.invariant next
     c.in_ok-put_line.ensures.ok
 

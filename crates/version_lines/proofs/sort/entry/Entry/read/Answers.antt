@@ -1,0 +1,25 @@
+use Rattle.std.proofs.Common.{◌≡◌, ◌∙◌, ◌-◌, ◌<◌, ap, drop, length, rules, subst, take}
+use Rattle.std.specs.List.{All}
+use Rattle.version_lines.specs.Head.{head_number}
+use Rattle.version_lines.proofs.lemmas.Entry.{holds-last, key-part}
+use Rattle.version_rules.specs.Key.{key_of}
+use Rattle.version_rules.specs.KeyBytes.{key_bytes}
+use Rattle.version_texts.specs.VersioningRef.{plain_versioning_ref}
+use Rattle.version_lines.proofs.sort.entry.Entry.read.Goals as goal
+
+pub returns-clause-key : goal.returns-clause-key
+returns-clause-key c =
+    let v = plain_versioning_ref c.args.version.now in
+    let key = key_bytes (key_of v) in
+    let keys = c.args.keys.now.items in
+    let kept = c.append_key.new.list.items in
+    let added = c.in_ok-append_key.ensures.ok in
+    let last : c.len-start.result ≡ length keys = search rules in
+    let all = c.as_slice.result.now in
+    let whole : take (length all - c.len-start.result) (drop c.len-start.result all) ≡ key =
+    key-part keys all key c.len-start.result (c.as_slice.ensures.value ∙ added) last in
+    holds-last keys kept v _ added last (c.mark_kind.ensures.number ∙ ap length whole)
+    (c.mark_kind.ensures.kind ∙ c.kind.ensures)
+    (subst (All (λ byte. byte < 256)) whole c.head.ensures.bytes)
+    (c.head.ensures.value ∙ ap head_number whole)
+    (c.head-2.ensures.value ∙ ap head_number (c.behind_head.ensures ∙ ap (drop 8) whole))

@@ -1,0 +1,15 @@
+use Rattle.std.proofs.Common.{ℕ, List, subst, sym}
+use Rattle.std.specs.List.{All}
+use Rattle.version_lines.specs.Entry.{IsRead}
+use Rattle.version_lines.proofs.lemmas.Entry.{lines-ordered}
+use Rattle.version_lines.proofs.sort.keyed_lines.KeyedLines.put_in_order.Goals as goal
+
+pub returns-clause-lines : goal.returns-clause-lines
+returns-clause-lines g c =
+    let lines = c.args.self.now in
+    let text_of = g.B.SortBy.text_of lines.by in
+    lines-ordered (g.B.SortBy.is_reversed lines.by) text_of c.as_slice.result.now
+    lines.entries.items _
+    (subst (λ (ks : List ℕ). All (IsRead text_of ks) lines.entries.items)
+    (sym c.as_slice.ensures.value) c.requires.read)
+    c.put_in_order.ensures

@@ -1,0 +1,21 @@
+use Rattle.std.proofs.Common.{rules}
+use Rattle.std.proofs.lemmas.Fn.{always_returns_same}
+use Rattle.std.proofs.lemmas.List.Sorted.{ranks_by}
+use Rattle.version_lines.specs.Entry.{entry_cmp}
+use Rattle.version_lines.specs.Sorting.{turned}
+use Rattle.version_lines.specs.declared.sort.entry.Entry.{Entry}
+use Rattle.version_lines.proofs.lemmas.Entry.{keys_total}
+use Rattle.version_lines.proofs.lemmas.Sorting.Places.{in_order-by_place, placed_total}
+use Rattle.version_lines.proofs.sort.keyed_lines.sort_by_keys.Goals as goal
+
+pub returns : goal.returns
+returns g c =
+    let reversed = g.B.SortBy.is_reversed c.args.by.now in
+    let R = turned reversed (entry_cmp c.args.keys.now) in
+    let total = keys_total reversed c.args.keys.now in
+    let ranks = ranks_by (placed_total R (λ (entry : Entry). entry.start) total)
+    (λ (entry : Entry). entry) in
+    in_order-by_place R (λ (entry : Entry). entry.start) total _ _ c.requires
+    c.sort_unstable_by.ensures.permutation
+    (c.sort_unstable_by.ensures.sorted _ ranks
+    (always_returns_same _ _ _ (λ a r f2 called. search rules)))

@@ -1,0 +1,56 @@
+//! What lines are sorted by.
+ghost use Rattle.std.specs.Prelude.{◌≡◌, ℕ, Bool, List};
+ghost use Rattle.version_lines.specs.Sorting.{turn};
+
+use std::cmp::Ordering;
+
+/// What lines are sorted by: which text in a line is its version, and whether the order is reversed.
+pub trait SortBy: Drop {
+    // The text in a line that is to be its version: empty where it has none, since no version is empty.
+    ghost text_of: { Self → List ℕ → List ℕ };
+
+    // Whether the highest version comes first.
+    ghost is_reversed: { Self → Bool };
+
+    /// Returns the text in a line that is to be its version.
+    fn text<'a>(&self, line: &'a [u8]) -> &'a [u8]
+        ensures { result.now ≡ text_of self.now line.now };
+
+    /// Returns whether the highest version comes first.
+    fn is_reversed(&self) -> bool
+        ensures { result ≡ is_reversed self.now };
+}
+
+/// A line is its version, and the lowest comes first.
+#[derive(Clone, Copy)]
+pub struct WholeLines;
+
+impl SortBy for WholeLines {
+    ghost use Rattle.std.specs.Prelude.{false};
+
+    ghost text_of = { λ _ line. line };
+
+    ghost is_reversed = { λ _. false };
+
+    #[inline(always)]
+    fn text<'a>(&self, line: &'a [u8]) -> &'a [u8] {
+        line
+    }
+
+    #[inline(always)]
+    fn is_reversed(&self) -> bool {
+        false
+    }
+}
+
+/// Returns an answer of an order as it counts for the sort.
+#[inline(always)]
+pub fn turn<B: SortBy>(by: &B, order: Ordering) -> Ordering
+    ensures { result ≡ turn (B.is_reversed by.now) order }
+{
+    if by.is_reversed() {
+        order.reverse()
+    } else {
+        order
+    }
+}
