@@ -1,8 +1,11 @@
 pub mod Entry
+pub mod FirstOfEach
+pub mod Grouped
 pub mod Head
 pub mod KeyBytes
 pub mod Lines
 pub mod Matching
+pub mod Newest
 pub mod Output
 pub mod Run
 pub mod Sort

@@ -3,11 +3,13 @@ pub mod Command
 pub mod Comparison
 pub mod Entry
 pub mod Fault
+pub mod Grouped
 pub mod Head
 pub mod Input
 pub mod KeyedLines
 pub mod Lines
 pub mod Matching
+pub mod Newest
 pub mod Output
 pub mod Program
 pub mod Run

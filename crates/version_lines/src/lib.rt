@@ -25,4 +25,5 @@ pub use lines::split_line;
 pub use output::{make_buffer, put, put_line, write_whole};
 pub use program::run;
 pub use sort::by::{SortBy, WholeLines};
+pub use sort::grouped::GroupBy;
 pub use sort::keyed_lines::KeyedLines;

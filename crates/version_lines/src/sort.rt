@@ -10,8 +10,11 @@ ghost use Rattle.version_lines.specs.Sort.{bad_line, sort_output};
 
 pub mod by;
 mod entry;
+mod first_of_each;
+pub mod grouped;
 mod head;
 pub mod keyed_lines;
+mod newest;
 mod ties;
 
 use crate::faults::Fault;

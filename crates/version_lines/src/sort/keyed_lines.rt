@@ -1,12 +1,13 @@
 //! Lines with the sort keys of their versions.
-ghost use Rattle.std.specs.Prelude.{[], ◌≡◌, ◌<◌, ◌++◌, ◌∷◌, get_or, length, map, IfErr, IfOk, IsTrue, OnOk, Some};
+ghost use Rattle.std.specs.Prelude.{[], ◌≡◌, ◌<◌, ◌++◌, ◌∷◌, get_or, length, map, IfErr, IfOk, IsTrue, OnErr, OnOk, Some};
 ghost use Rattle.std.specs.Io.KnownBytes.{Appends};
 ghost use Rattle.std.specs.List.{All};
-ghost use Rattle.std.specs.Ordering.{then_cmp};
+ghost use Rattle.std.specs.Ordering.{eq_by_cmp, then_cmp};
 ghost use Rattle.version_lines.specs.Entry.{entry_cmp, entry_line, tie_cmp, AreInTurn, IsStrict};
 ghost use Rattle.version_lines.specs.Fault.{ComesOfWriting};
 ghost use Rattle.version_lines.specs.KeyedLines.{lines_in, AreRead};
 ghost use Rattle.version_lines.specs.Lines.{lines_output, whole_line};
+ghost use Rattle.version_lines.specs.Newest.{first_of_each, first_of_ties, newest};
 ghost use Rattle.version_lines.specs.Run.{GrowsAt};
 ghost use Rattle.version_lines.specs.Sort.{lines_cmp};
 ghost use Rattle.version_lines.specs.Sorting.{in_order, turned};
@@ -17,6 +18,9 @@ use crate::faults::Fault;
 use crate::output::{make_buffer, put_line, write_whole};
 use crate::sort::by::SortBy;
 use crate::sort::entry::Entry;
+use crate::sort::first_of_each::keep_first_of_each;
+use crate::sort::grouped::GroupBy;
+use crate::sort::newest::{ByKey, keep_newest};
 use crate::sort::ties::break_ties;
 use std::alloc::{AllocError, Global};
 use std::io::Write;
@@ -80,6 +84,40 @@ impl<'a, B: SortBy> KeyedLines<'a, B> {
         );
     }
 
+    /// Puts the lines in the order of the precedence of their versions, or in the reverse of it, and of lines that tie
+    /// keeps the first alone. The lines have to stand as they were added. Does not allocate.
+    pub fn put_first_of_ties(&mut self)
+        requires { AreRead B.text_of self.old }
+        ensures lines { lines_in self.new
+            ≡ first_of_ties (B.is_reversed self.old.by) (B.text_of self.old.by) (lines_in self.old) }
+        ensures by { self.new.by ≡ self.old.by }
+    {
+        put_first_of_ties(&self.by, self.keys.as_slice(), &mut self.entries);
+    }
+
+    /// Keeps so many lines of each group, the newest, in the order in which the groups first appear. If memory is
+    /// refused, the lines stay as they are.
+    pub fn keep_newest<G: GroupBy>(
+        &mut self,
+        alloc: Global,
+        count: usize,
+        groups: &G,
+    ) -> Result<(), AllocError>
+        requires { AreRead B.text_of self.old }
+        ensures kept { OnOk result (lines_in self.new
+            ≡ newest count (G.group_of groups.now) (B.text_of self.old.by) (lines_in self.old)) }
+        ensures stays { OnErr result (lines_in self.new ≡ lines_in self.old) }
+        ensures by { self.new.by ≡ self.old.by }
+    {
+        keep_newest(
+            alloc,
+            self.keys.as_slice(),
+            groups,
+            count,
+            &mut self.entries,
+        )
+    }
+
     /// Returns how many lines they are.
     pub fn count(&self) -> usize
         ensures { result ≡ length (lines_in self.now) }
@@ -140,6 +178,19 @@ fn sort_by_keys<B: SortBy>(by: &B, keys: &[u8], entries: &mut Vec<Entry<'_>>)
         ≡ in_order (turned (B.is_reversed by.now) (entry_cmp keys.now)) entries.old.items }
 {
     entries.sort_unstable_by(|a, b| a.compare_in_turn(b, by, keys));
+}
+
+// Puts lines that stand as they were added in the order of their keys, and of lines whose keys tie keeps the first
+// alone. Does not allocate.
+fn put_first_of_ties<B: SortBy>(by: &B, keys: &[u8], entries: &mut Vec<Entry<'_>>)
+    requires { AreInTurn entries.old.items }
+    ensures { entries.new.items
+        ≡ first_of_each 1 (eq_by_cmp (turned (B.is_reversed by.now) (entry_cmp keys.now)))
+        (in_order (turned (B.is_reversed by.now) (entry_cmp keys.now)) entries.old.items) }
+{
+    sort_by_keys(by, keys, entries);
+    let reversed = by.is_reversed();
+    keep_first_of_each(&ByKey { keys, reversed }, 1, entries);
 }
 
 // Writes the lines in their present order.
