@@ -2,6 +2,7 @@ pub mod Entry
 pub mod FirstOfEach
 pub mod Grouped
 pub mod Head
+pub mod Kept
 pub mod KeyBytes
 pub mod Lines
 pub mod Matching

@@ -63,7 +63,7 @@ ties_tested Less = refl
 ties_tested Equal = refl
 ties_tested Greater = refl
 
-ties-test : {X : Type 0} (R : X → X → Ordering) → IsTotalOrder R → (x y : X)
+pub ties-test : {X : Type 0} (R : X → X → Ordering) → IsTotalOrder R → (x y : X)
     → ties (below R) x y ≡ eq_by_cmp R x y
 ties-test R total x y = rw (total.antisymm y x) (ties_tested (R x y))
 

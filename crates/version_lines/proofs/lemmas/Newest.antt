@@ -49,7 +49,7 @@ turned_keys_alike : (reversed : Bool) (text_of : List ℕ → List ℕ) (keys : 
 turned_keys_alike reversed text_of keys a b a_read b_read =
     ap (turn reversed) (keys_alike text_of keys a b a_read b_read)
 
-turn-tie : (reversed : Bool) (o : Ordering) → is_eq (turn reversed o) ≡ is_eq o
+pub turn-tie : (reversed : Bool) (o : Ordering) → is_eq (turn reversed o) ≡ is_eq o
 turn-tie false o = refl
 turn-tie true Less = refl
 turn-tie true Equal = refl

@@ -93,7 +93,7 @@ in_order-append cmp (x ∷ xs) ys (least, others) =
     ∙ put-front cmp x (in_order cmp xs) (in_order cmp ys) (at_least-in_order cmp x ys least)
 
 -- among elements that tie in the first order, the second order decides
-in_order-tied : {X : Type 0} (R S : X → X → Ordering) → IsTotalOrder R → (x : X) (run : List X)
+pub in_order-tied : {X : Type 0} (R S : X → X → Ordering) → IsTotalOrder R → (x : X) (run : List X)
     → All (λ y. R x y ≡ Equal) run → in_order (then_cmp R S) run ≡ in_order S run
 in_order-tied {X} R S total x run tied =
     let alike = λ (y z : X) (y_tied : R x y ≡ Equal) (z_tied : R x z ≡ Equal).

@@ -1,0 +1,171 @@
+-- What is kept of the elements that are the same: the first of them, in their order.
+use Rattle.std.proofs.Common.{◌≡◌, ℕ, suc, ◌-◌, Bool, true, false, cond, nat_lt, List, [], ◌∷◌, length, take, refl, sym, ap, ◌∙◌, arith}
+use Rattle.std.specs.Cmp.{IsEquivalence, IsTotalOrder}
+use Rattle.std.specs.List.{All, filter, position_or_len}
+use Rattle.std.specs.Ordering.{eq_by_cmp, nat_cmp, on}
+use Rattle.std.specs.Str.{bytes_eq}
+use Rattle.std.specs.declared.cmp.Ordering.{Ordering}
+use Rattle.std.specs.declared.cmp.Ordering.TheVariants.{Equal}
+use Rattle.std.specs.Cmp.Lexicographic.{options_total}
+use Rattle.std.proofs.lemmas.Bool.{ltb-false, ltb-true}
+use Rattle.std.proofs.lemmas.Cmp.{eq_by_cmp_equiv, nat_cmp_total, nat_list_eq_equiv, on_equiv, on_total, then_total, tied_itself}
+use Rattle.std.proofs.lemmas.List.{take_all}
+use Rattle.std.proofs.lemmas.List.Elements.{filter_passes}
+use Rattle.std.proofs.lemmas.List.Sorted.{ranks_by}
+use Rattle.std.proofs.lemmas.Slice.Eq.{bytes_eq-Decides}
+use Rattle.version_lines.specs.Newest.{are_of_one_group, first_after, first_of_each, first_of_ties, group_place, newest, newest_cmp}
+use Rattle.version_lines.specs.Sort.{lines_precedence}
+use Rattle.version_lines.specs.Sorting.{in_order, put_in_order, turned}
+use Rattle.version_lines.proofs.lemmas.Grouped.{ties-test}
+use Rattle.version_lines.proofs.lemmas.Newest.{turn-tie}
+use Rattle.version_lines.proofs.lemmas.Sorting.{AtLeast, Rises, below, by_test, in_order-rises, in_order-stable}
+use Rattle.version_lines.proofs.lemmas.Sorting.Ties.{in_order-tied}
+use Rattle.version_lines.proofs.lemmas.Sorting.Turned.{turned_total}
+use Rattle.version_rules.specs.laws.Key.{precedence_total}
+use Rattle.version_rules.specs.Key.{key_of}
+use Rattle.version_rules.specs.Versioning.{versioning_of}
+
+-- of the elements that are the same as z, the first
+
+kept-next : {X : Type 0} (E : X → X → Bool) → IsEquivalence E → (count : ℕ) (z x : X)
+    (before xs : List X) → E z x ≡ true
+    → filter (E z) (first_after count E (x ∷ before) xs)
+    ≡ take (count - suc (length (filter (E z) before))) (filter (E z) xs)
+    → filter (E z) (first_after count E before (x ∷ xs))
+    ≡ take (count - length (filter (E z) before)) (x ∷ filter (E z) xs)
+kept-next E equiv count z x before xs same more =
+    let many = length (filter (E z) before) in
+    let alike : length (filter (E x) before) ≡ many =
+    λ i. length (filter (λ y. sym (equiv.congr z x y same) i) before) in
+    by_test (nat_lt (length (filter (E x) before)) count)
+    (λ few. let left : count - many ≡ suc (count - suc many) =
+    omega (arith, ltb-true _ _ few, alike) in
+    rw (few, same, left) (ap (λ l. x ∷ l) more))
+    (λ enough. let none : count - many ≡ 0 = omega (arith, ltb-false _ _ enough, alike) in
+    let rest : count - suc many ≡ 0 = omega (arith, none) in
+    rw (enough, none) (rw rest at more))
+
+pub kept-first : {X : Type 0} (E : X → X → Bool) → IsEquivalence E → (count : ℕ) (z : X)
+    (before xs : List X)
+    → filter (E z) (first_after count E before xs)
+    ≡ take (count - length (filter (E z) before)) (filter (E z) xs)
+kept-first E equiv count z before [] = sym (take_all _ [] (omega arith))
+kept-first E equiv count z before (x ∷ xs) =
+    let more = kept-first E equiv count z (x ∷ before) xs in
+    by_test (E z x)
+    (λ same. rw same (kept-next E equiv count z x before xs same (rw same at more)))
+    (λ apart. by_test (nat_lt (length (filter (E x) before)) count)
+    (λ few. rw (few, apart) (rw apart at more)) (λ enough. rw (enough, apart) (rw apart at more)))
+
+pub first_of_each-first : {X : Type 0} (E : X → X → Bool) → IsEquivalence E → (count : ℕ) (z : X)
+    (xs : List X) → filter (E z) (first_of_each count E xs) ≡ take count (filter (E z) xs)
+first_of_each-first E equiv count z xs =
+    kept-first E equiv count z [] xs
+    ∙ ap (λ (n : ℕ). take n (filter (E z) xs)) (omega arith)
+
+-- sorting what passes a test
+
+put-before : {X : Type 0} (R : X → X → Ordering) (x : X) (xs : List X) → AtLeast (below R) x xs
+    → put_in_order R x xs ≡ x ∷ xs
+put-before R x [] least = refl
+put-before R x (y ∷ ys) (first, least) = rw first refl
+
+at_least-filter : {X : Type 0} (lt : X → X → Bool) (p : X → Bool) (x : X) (xs : List X)
+    → AtLeast lt x xs → AtLeast lt x (filter p xs)
+at_least-filter lt p x [] least = tt
+at_least-filter lt p x (y ∷ ys) (first, least) =
+    by_test (p y)
+    (λ passes. rw passes (first, at_least-filter lt p x ys least))
+    (λ fails. rw fails (at_least-filter lt p x ys least))
+
+at_least-after : {X : Type 0} (R : X → X → Ordering) → IsTotalOrder R → (x y : X) (ys : List X)
+    → below R y x ≡ false → AtLeast (below R) y ys → AtLeast (below R) x ys
+at_least-after R total x y [] first least = tt
+at_least-after R total x y (z ∷ zs) first (next, least) =
+    ((ranks_by total (λ w. w)).chain z y x next first, at_least-after R total x y zs first least)
+
+put-filter : {X : Type 0} (R : X → X → Ordering) → IsTotalOrder R → (p : X → Bool) (x : X)
+    (xs : List X) → Rises (below R) xs
+    → filter p (put_in_order R x xs) ≡ cond (p x) (put_in_order R x (filter p xs)) (filter p xs)
+put-filter R total p x [] up = refl
+put-filter {X} R total p x (y ∷ ys) (least, up) =
+    let more = put-filter R total p x ys up in
+    by_test (below R y x)
+    (λ before. by_test (p x)
+    (λ kept. by_test (p y)
+    (λ passes. rw (before, passes, kept, before) (ap (λ (l : List X). y ∷ l) (rw kept at more)))
+    (λ fails. rw (before, fails, kept) (rw kept at more)))
+    (λ left. by_test (p y)
+    (λ passes. rw (before, passes, left) (ap (λ (l : List X). y ∷ l) (rw left at more)))
+    (λ fails. rw (before, fails, left) (rw left at more))))
+    (λ other. let first : AtLeast (below R) x (filter p (y ∷ ys)) =
+    at_least-filter (below R) p x (y ∷ ys) (other, at_least-after R total x y ys other least) in
+    rw other (ap (λ (l : List X). cond (p x) l (filter p (y ∷ ys)))
+    (sym (put-before R x (filter p (y ∷ ys)) first))))
+
+pub in_order-filter : {X : Type 0} (R : X → X → Ordering) → IsTotalOrder R → (p : X → Bool)
+    (xs : List X) → filter p (in_order R xs) ≡ in_order R (filter p xs)
+in_order-filter R total p [] = refl
+in_order-filter R total p (x ∷ xs) =
+    let more = in_order-filter R total p xs in
+    put-filter R total p x (in_order R xs) (in_order-rises R (ranks_by total (λ w. w)) xs)
+    ∙ by_test (p x)
+    (λ passes. rw passes (ap (put_in_order R x) more))
+    (λ fails. rw fails more)
+
+-- the lines that are kept
+
+precedences_total : (text_of : List ℕ → List ℕ) → IsTotalOrder (lines_precedence text_of)
+precedences_total text_of =
+    on_total (λ line. versioning_of (text_of line)) (options_total (on_total key_of precedence_total))
+
+-- of the lines that tie with a line, the first
+pub first_of_ties-first : (reversed : Bool) (text_of : List ℕ → List ℕ) (lines : List (List ℕ))
+    (line : List ℕ)
+    → filter (eq_by_cmp (lines_precedence text_of) line) (first_of_ties reversed text_of lines)
+    ≡ take 1 (filter (eq_by_cmp (lines_precedence text_of) line) lines)
+first_of_ties-first reversed text_of lines line =
+    let cmp = lines_precedence text_of in
+    let R = turned reversed cmp in
+    let total : IsTotalOrder R = turned_total reversed cmp (precedences_total text_of) in
+    let alike = λ (other : List ℕ). sym (turn-tie reversed (cmp line other))
+    ∙ sym (ties-test R total line other) in
+    first_of_each-first (eq_by_cmp cmp) (eq_by_cmp_equiv (precedences_total text_of)) 1 line
+    (in_order R lines)
+    ∙ ap (take 1)
+    (ap (λ (p : List ℕ → Bool). filter p (in_order R lines)) (λ i other. alike other i)
+    ∙ in_order-stable R (ranks_by total (λ w. w)) lines line
+    ∙ ap (λ (p : List ℕ → Bool). filter p lines) (λ i other. sym (alike other) i))
+
+-- lines of one group have one place
+one_place : (group_of : List ℕ → List ℕ) (lines : List (List ℕ)) (line other : List ℕ)
+    → are_of_one_group group_of line other ≡ true
+    → on (group_place group_of lines) nat_cmp line other ≡ Equal
+one_place group_of lines line other same =
+    let place = group_place group_of lines line in
+    let there : group_place group_of lines other ≡ place =
+    ap (λ (group : List ℕ). position_or_len (λ l. bytes_eq group (group_of l)) lines)
+    (sym ((bytes_eq-Decides (group_of line) (group_of other)).0 same)) in
+    ap (nat_cmp place) there ∙ tied_itself nat_cmp_total place
+
+-- of the lines of a group, the newest
+pub newest-first : (count : ℕ) (group_of text_of : List ℕ → List ℕ) (lines : List (List ℕ))
+    (line : List ℕ)
+    → filter (are_of_one_group group_of line) (newest count group_of text_of lines)
+    ≡ take count (in_order (turned true (lines_precedence text_of))
+    (filter (are_of_one_group group_of line) lines))
+newest-first count group_of text_of lines line =
+    let same = are_of_one_group group_of line in
+    let places = on (group_place group_of lines) nat_cmp in
+    let newer = turned true (lines_precedence text_of) in
+    let R = newest_cmp group_of text_of lines in
+    let places_total : IsTotalOrder places = on_total (group_place group_of lines) nat_cmp_total in
+    let total : IsTotalOrder R =
+    then_total places_total (turned_total true _ (precedences_total text_of)) in
+    let tied : All (λ other. places line other ≡ Equal) (filter same lines) =
+    λ k d inside. one_place group_of lines line _ (filter_passes same lines k d inside) in
+    first_of_each-first (are_of_one_group group_of) (on_equiv group_of nat_list_eq_equiv) count line
+    (in_order R lines)
+    ∙ ap (take count)
+    (in_order-filter R total same lines
+    ∙ in_order-tied places newer places_total line (filter same lines) tied)
