@@ -4,6 +4,7 @@
 mod any;
 mod general;
 mod json;
+mod lines;
 mod messy;
 mod parts;
 mod program;
@@ -23,5 +24,6 @@ pub fn make_all(table: &mut Table<'_>) -> io::Result<()> {
     any::make_all(table)?;
     requirements::make_all(table)?;
     json::make_all(table)?;
+    lines::make_all(table)?;
     program::make_all(table)
 }

@@ -34,9 +34,6 @@ pub grouped_total : (keys : List ℕ) → IsTotalOrder (grouped_cmp keys)
 grouped_total keys =
     then_total place_total (turned_total true _ (on_total grouped_entry (entry_total keys)))
 
-pub grouped_turn_total : IsTotalOrder grouped_turn_cmp
-grouped_turn_total = on_total (λ (line : Grouped). line.turn) nat_cmp_total
-
 group_ranks : IsStrictWeakOrder (below group_cmp)
 group_ranks = ranks_by group_total (λ (line : Grouped). line)
 
