@@ -1,16 +1,20 @@
-# Builds and installs the program, the C library, the SQLite extension and the manual pages:
+# Builds and installs the programs, the C library, the SQLite extension, the manual pages and completions of shells:
 #   make                             proves and builds what is missing or older than its sources
 #   make install                     does the same, and installs everything below PREFIX, by default /usr/local
 #   make uninstall                   removes the files that `make install` with the same settings installs
-# BINDIR, LIBDIR, INCLUDEDIR and MANDIR choose other folders than those below PREFIX. DESTDIR is prepended to each path,
-# and no installed file contains it. TARGET is what is built for, as c/target says. C_LIBRARY is a folder of c/build, and
-# VERS the program; if set, they are installed unchanged. EXTENSION is the file that the SQLite extension is built into.
-# A release has all of these built, in a folder `built` beside this file, and installs that.
+# BINDIR, LIBDIR, INCLUDEDIR, MANDIR, DATADIR and ZSHDIR choose other folders than those below PREFIX. DESTDIR is
+# prepended to each path, and no installed file contains it. TARGET is what is built for, as c/target says. C_LIBRARY is
+# a folder of c/build, and VERS and VERSIONS are the programs; if set, they are installed unchanged. EXTENSION is the
+# file that the SQLite extension is built into. A release has all of these built, in a folder `built` beside this file,
+# and installs that.
 PREFIX ?= /usr/local
 BINDIR ?= $(PREFIX)/bin
 LIBDIR ?= $(PREFIX)/lib
 INCLUDEDIR ?= $(PREFIX)/include
 MANDIR ?= $(PREFIX)/share/man
+# For completions: bash and fish find them below DATADIR, zsh in ZSHDIR.
+DATADIR ?= $(PREFIX)/share
+ZSHDIR ?= $(DATADIR)/zsh/site-functions
 TARGET ?= x86_64-linux-gnu
 
 # What is built for another machine lies in a folder of its own.
@@ -22,6 +26,7 @@ sources = $(shell find $(addprefix crates/,$(1)) -name out -prune -o -type f -pr
 ifneq ($(wildcard built/vers),)
 C_LIBRARY ?= built
 VERS ?= built/vers
+VERSIONS ?= built/versions
 EXTENSION ?= built/versions.so
 else
 EXTENSION ?= sqlite/out$(of_target)/versions.so
@@ -46,6 +51,15 @@ $(VERS): crates.txt c/program c/target $(call sources,version_rules version_text
 	c/program --target $(TARGET) vers $(VERS)
 endif
 
+# The program for people.
+ifndef VERSIONS
+VERSIONS := c/out$(of_target)/versions
+built += $(VERSIONS)
+$(VERSIONS): crates.txt c/program c/target $(call sources,version_rules version_texts version_tasks version_lines \
+  version_commands versions_program)
+	c/program --target $(TARGET) versions_program $(VERSIONS)
+endif
+
 # Two proofs cannot run in one crate at once.
 .NOTPARALLEL:
 .DEFAULT_GOAL := all
@@ -57,11 +71,15 @@ extension: $(built)
 	C_LIBRARY="$$C_LIBRARY" sqlite/build --target $(TARGET) "$$(dirname "$$EXTENSION")"
 
 # Folders reach the shell as variables, so that it takes each as it is.
-export PREFIX BINDIR LIBDIR INCLUDEDIR MANDIR DESTDIR C_LIBRARY VERS EXTENSION
+export PREFIX BINDIR LIBDIR INCLUDEDIR MANDIR DATADIR ZSHDIR DESTDIR C_LIBRARY VERS VERSIONS EXTENSION
 bin := "$$DESTDIR$$BINDIR"
 lib := "$$DESTDIR$$LIBDIR"
 include := "$$DESTDIR$$INCLUDEDIR"
 man := "$$DESTDIR$$MANDIR"
+data := "$$DESTDIR$$DATADIR"
+zsh := "$$DESTDIR$$ZSHDIR"
+completed := $(data)/bash-completion/completions/versions $(data)/fish/vendor_completions.d/versions.fish \
+  $(zsh)/_versions
 pc := c/pkg-config-file "$(header)" "$$LIBDIR/pkgconfig" "$$PREFIX" "$$LIBDIR" "$$INCLUDEDIR"
 library := "libversions.so.$$(sed -n 's/^\#define VERSIONS_VERSION "\(.*\)"$$/\1/p' "$(header)")"
 
@@ -81,7 +99,14 @@ install: folders all
 	install -m 644 "$$EXTENSION" $(lib)/sqlite3/versions.so
 	install -m 644 docs/man/vers.1 $(man)/man1/vers.1
 	install -m 644 docs/man/versions.3 $(man)/man3/versions.3
+	install -m 755 "$$VERSIONS" $(bin)/versions
+	install -m 644 docs/man/versions.1 $(man)/man1/versions.1
+	install -d $(data)/bash-completion/completions $(data)/fish/vendor_completions.d $(zsh)
+	install -m 644 completions/versions.bash $(data)/bash-completion/completions/versions
+	install -m 644 completions/versions.fish $(data)/fish/vendor_completions.d/versions.fish
+	install -m 644 completions/_versions $(zsh)/_versions
 
 uninstall:
 	rm -f $(bin)/vers $(include)/versions.h $(lib)/libversions.a $(lib)/libversions.so $(lib)/libversions.so.0 \
-	  $(lib)/$(library) $(lib)/pkgconfig/versions.pc $(lib)/sqlite3/versions.so $(man)/man1/vers.1 $(man)/man3/versions.3
+	  $(lib)/$(library) $(lib)/pkgconfig/versions.pc $(lib)/sqlite3/versions.so $(man)/man1/vers.1 $(man)/man3/versions.3 \
+	  $(bin)/versions $(man)/man1/versions.1 $(completed)

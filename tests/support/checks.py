@@ -32,9 +32,14 @@ def built(*command):
     return done.stdout.strip()
 
 
+def needs_program(name, crate):
+    """The path of a crate's program, which a variable names, and which is proved and built first where it isn't set."""
+    return str(Path(os.environ.get(name) or built(TOP / "tests/support/build", crate)).resolve())
+
+
 def needs_vers():
-    """The path of the program, which VERS names, and which is proved and built first where it isn't set."""
-    return str(Path(os.environ.get("VERS") or built(TOP / "tests/support/build")).resolve())
+    """The path of the program `vers`."""
+    return needs_program("VERS", "vers")
 
 
 def needs_library(work):

@@ -1,0 +1,11 @@
+use Rattle.std.proofs.Common.{◌≡◌, ◌-◌, [], ◌∷◌}
+use Rattle.std.specs.List.{slice_get}
+use Rattle.std.specs.Option.{option_map_or}
+use Rattle.version_commands.proofs.column.piece.Given as goal
+use Rattle.version_commands.proofs.lemmas.Column.{pieces}
+
+-- the piece is so many further on
+abbrev pub invariant-loop : goal.invariant-loop
+invariant-loop l =
+    slice_get (l.first ∷ option_map_or (λ rest. pieces l.separator rest.now) l.rest [])
+    (l.number - l.counter) ≡ slice_get (pieces l.separator l.line) l.number

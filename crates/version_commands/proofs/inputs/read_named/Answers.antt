@@ -1,0 +1,23 @@
+use Rattle.std.proofs.Common.{◌<◌, ◌++◌, ◌∷◌, ℕ, List, [], length, map, take, get_or, rules, sym, subst, Bor}
+use Rattle.version_commands.specs.Inputs.{AreInputs}
+use Rattle.version_commands.proofs.lemmas.Inputs.{inputs-push, joined-next, names-next}
+use Rattle.version_commands.proofs.inputs.read_named.Goals as goal
+
+pub loop-name-preserved : goal.loop-name-preserved
+loop-name-preserved g c =
+    let (texts, read, same) = c.loop-name.invariant in
+    let (text, is, added) = c.in_ok-add_input.ensures.text in
+    let names = c.args.names.now in
+    let i = c.loop-name.name-index in
+    let d : Bor (List ℕ) = record { ref_ptr = (0, 0); now = [] } in
+    let inside : i < length names = search rules in
+    let holds = g.F.Files.holds c.args.files.now in
+    let old = g.R.Read.remaining c.args.reader.now in
+    let new = g.R.Read.remaining c.add_input.new.reader in
+    let next = names-next (λ (n : Bor (List ℕ)). n.now) names i d inside in (
+      texts ++ text ∷ [],
+      subst (λ (n : List (List ℕ)). AreInputs holds old new n (texts ++ text ∷ [])) (sym next)
+          (inputs-push holds old _ new (map (λ (n : Bor (List ℕ)). n.now) (take i names)) texts
+          (get_or names i d).now text read is),
+      joined-next c.args.end texts text _ _ same added,
+    )

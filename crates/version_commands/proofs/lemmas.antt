@@ -1,0 +1,13 @@
+pub mod Changes
+pub mod Column
+pub mod Each
+pub mod Fault
+pub mod Fields
+pub mod Inputs
+pub mod Lists
+pub mod Members
+pub mod Ordered
+pub mod Picked
+pub mod Pieces
+pub mod Place
+pub mod Rows

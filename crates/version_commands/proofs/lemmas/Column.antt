@@ -1,0 +1,154 @@
+-- The columns of a line, cut off one after another.
+use Rattle.std.proofs.Common.{◌≡◌, ◌==◌, ◌<◌, ◌≤◌, ◌+◌, ◌-◌, ◌∙◌, ℕ, zero, suc, Bool, true, false, List, [], ◌∷◌, drop, get_or, length, not, take, add-one, ap, arith, inl, inr, refl, sym}
+use Rattle.std.proofs.lemmas.Bool.{cases_Bool, false_from_ne_true}
+use Rattle.std.proofs.lemmas.List.{drop-drop, take_rest}
+use Rattle.std.proofs.lemmas.List.Splits.{slice_split-cons_no, slice_split-cons_yes}
+use Rattle.std.specs.List.{filter, onto_first, prefix_len, slice_split}
+use Rattle.version_commands.specs.Column.{has_bytes, is_blank, words_of}
+
+-- ---- between separators
+
+-- the byte at a place is the separator
+abbrev pub IsSeparatorAt : ℕ → List ℕ → ℕ → Type 0
+IsSeparatorAt separator text k = (get_or text k 0 == separator) ≡ true
+
+-- the pieces between separators
+abbrev pub pieces : ℕ → List ℕ → List (List ℕ)
+pieces separator = slice_split (λ b. b == separator)
+
+-- what stands before the first separator is the first piece
+pieces-before : (separator : ℕ) (text : List ℕ) (k : ℕ) → k < length text
+    → IsSeparatorAt separator text k → ((j : ℕ) → j < k → ¬ (IsSeparatorAt separator text j))
+    → pieces separator text ≡ take k text ∷ pieces separator (drop (suc k) text)
+pieces-before separator [] k inside here before = absurd (omega arith)
+pieces-before separator (byte ∷ bytes) zero inside here before = rw here
+pieces-before separator (byte ∷ bytes) (suc k) inside here before =
+    slice_split-cons_no (λ b. b == separator) byte bytes
+    (false_from_ne_true _ (before 0 (omega arith)))
+    ∙ ap (onto_first byte)
+    (pieces-before separator bytes k (omega arith) here (λ j below. before (suc j) (omega arith)))
+
+-- the same, if the rest is cut out by its length
+pub pieces-cut : (separator : ℕ) (text : List ℕ) (k : ℕ) → k < length text
+    → IsSeparatorAt separator text k
+    → ((j : ℕ) → 0 ≤ j → j < k → ¬ (IsSeparatorAt separator text j))
+    → pieces separator text
+    ≡ take k text ∷ pieces separator (take (length text - (k + 1)) (drop (k + 1) text))
+pieces-cut separator text k inside here before =
+    rw (take_rest text (k + 1), add-one)
+    (pieces-before separator text k inside here (λ j below. before j (omega arith) below))
+
+-- a text without a separator is one piece
+pub pieces-last : (separator : ℕ) (text : List ℕ)
+    → ((j : ℕ) → 0 ≤ j → j < length text → ¬ (IsSeparatorAt separator text j))
+    → pieces separator text ≡ text ∷ []
+pieces-last separator [] none = refl
+pieces-last separator (byte ∷ bytes) none =
+    slice_split-cons_no (λ b. b == separator) byte bytes
+    (false_from_ne_true _ (none 0 (omega arith) (omega arith)))
+    ∙ ap (onto_first byte)
+    (pieces-last separator bytes (λ j least below. none (suc j) (omega arith) (omega arith)))
+
+-- ---- between blanks
+
+abbrev pub no_blank : ℕ → Bool
+no_blank b = not (is_blank b)
+
+-- a run is one longer if the byte before it passes too, and ends there if it does not
+longer : (test : ℕ → Bool) (byte : ℕ) (bytes : List ℕ) → test byte ≡ true
+    → prefix_len test (byte ∷ bytes) ≡ suc (prefix_len test bytes)
+longer test byte bytes passes = rw passes (omega arith)
+
+ended : (test : ℕ → Bool) (byte : ℕ) (bytes : List ℕ) → test byte ≡ false
+    → prefix_len test (byte ∷ bytes) ≡ 0
+ended test byte bytes fails = rw fails refl
+
+-- what follows the first piece, if a blank ends it
+abbrev further : List ℕ → List (List ℕ)
+further [] = []
+further (blank ∷ text) = slice_split is_blank text
+
+pieces-first : (text : List ℕ)
+    → slice_split is_blank text
+    ≡ take (prefix_len no_blank text) text ∷ further (drop (prefix_len no_blank text) text)
+pieces-first [] = refl
+pieces-first (byte ∷ bytes) =
+    elim (cases_Bool (is_blank byte)) [
+      | inl blank ↦
+          rw (ended no_blank byte bytes (ap not blank)) (slice_split-cons_yes is_blank byte bytes blank)
+      | inr other ↦
+          rw (longer no_blank byte bytes (ap not other))
+          (slice_split-cons_no is_blank byte bytes other ∙ ap (onto_first byte) (pieces-first bytes))
+    ]
+
+further-words : (text : List ℕ)
+    → filter has_bytes (further (drop (prefix_len no_blank text) text))
+    ≡ words_of (drop (prefix_len no_blank text) text)
+further-words [] = refl
+further-words (byte ∷ bytes) =
+    elim (cases_Bool (is_blank byte)) [
+      | inl blank ↦
+          rw (ended no_blank byte bytes (ap not blank))
+          (sym (ap (filter has_bytes) (slice_split-cons_yes is_blank byte bytes blank)))
+      | inr other ↦ rw (longer no_blank byte bytes (ap not other)) (further-words bytes)
+    ]
+
+-- a text that begins with no blank begins with its first word
+words-first : (byte : ℕ) (bytes : List ℕ) → is_blank byte ≡ false
+    → words_of (byte ∷ bytes)
+    ≡ take (prefix_len no_blank (byte ∷ bytes)) (byte ∷ bytes)
+    ∷ words_of (drop (prefix_len no_blank (byte ∷ bytes)) (byte ∷ bytes))
+words-first byte bytes other =
+    ap (filter has_bytes) (pieces-first (byte ∷ bytes))
+    ∙ rw (longer no_blank byte bytes (ap not other))
+    (ap (λ (l : List (List ℕ)). (byte ∷ take (prefix_len no_blank bytes) bytes) ∷ l)
+    (further-words bytes))
+
+-- the first word lies after the blanks at the beginning
+words-cut : (text : List ℕ) → prefix_len is_blank text < length text
+    → words_of text
+    ≡ take (prefix_len no_blank (drop (prefix_len is_blank text) text))
+    (drop (prefix_len is_blank text) text)
+    ∷ words_of (drop (prefix_len no_blank (drop (prefix_len is_blank text) text))
+    (drop (prefix_len is_blank text) text))
+words-cut [] some = absurd (omega (arith, some))
+words-cut (byte ∷ bytes) some =
+    elim (cases_Bool (is_blank byte)) [
+      | inl blank ↦
+          let more : prefix_len is_blank bytes < length bytes =
+          omega (arith, some, longer is_blank byte bytes blank) in
+          rw (longer is_blank byte bytes blank)
+          (ap (filter has_bytes) (slice_split-cons_yes is_blank byte bytes blank)
+          ∙ words-cut bytes more)
+      | inr other ↦
+          rw (ended is_blank byte bytes other) (words-first byte bytes other)
+    ]
+
+-- the same, by where the first word begins and ends
+pub words-between : (text : List ℕ) (start end : ℕ) → start ≡ 0 + prefix_len is_blank text
+    → start < length text → end ≡ start + prefix_len no_blank (drop start text)
+    → words_of text
+    ≡ take (end - start) (drop start text) ∷ words_of (take (length text - end) (drop end text))
+words-between text start end begins some ends =
+    let starts : start ≡ prefix_len is_blank text = omega (arith, begins) in
+    let less : prefix_len is_blank text < length text = omega (arith, starts, some) in
+    let length_is : end - start ≡ prefix_len no_blank (drop start text) = omega (arith, ends) in
+    let cut : words_of text
+    ≡ take (prefix_len no_blank (drop start text)) (drop start text)
+    ∷ words_of (drop (prefix_len no_blank (drop start text)) (drop start text)) =
+    rw starts (words-cut text less) in
+    cut
+    ∙ rw (take_rest text end, length_is, drop-drop (prefix_len no_blank (drop start text)) start text)
+    (ap (λ (n : ℕ). take (prefix_len no_blank (drop start text)) (drop start text)
+    ∷ words_of (drop n text)) (sym ends))
+
+-- a text of blanks has no word
+pub words-none : (text : List ℕ) → 0 + prefix_len is_blank text ≡ length text → words_of text ≡ []
+words-none [] all = refl
+words-none (byte ∷ bytes) all =
+    elim (cases_Bool (is_blank byte)) [
+      | inl blank ↦
+          ap (filter has_bytes) (slice_split-cons_yes is_blank byte bytes blank)
+          ∙ words-none bytes (omega (arith, all, longer is_blank byte bytes blank))
+      | inr other ↦ absurd (omega (arith, all, ended is_blank byte bytes other))
+    ]

@@ -1,0 +1,138 @@
+-- Answers that follow one another, and the texts that are asked.
+use Rattle.std.proofs.Common.{◌≡◌, ◌+◌, ◌<◌, ◌≤◌, ℕ, Bool, true, false, Bor, List, [], ◌∷◌, ◌++◌, length, take, get_or, map, None, Some, IsSome, refl, sym, subst, ap, ◌∙◌, arith, append-nil, append_assoc}
+use Rattle.std.specs.List.{All}
+use Rattle.std.proofs.lemmas.List.{map-append, map_push, take_more}
+use Rattle.std.proofs.lemmas.List.Elements.{All-push}
+use Rattle.version_commands.specs.Each.{AreAnswered, IsAnswer}
+use Rattle.version_commands.specs.Picked.{AreBadOf}
+use Rattle.version_commands.specs.Pieces.{Adds}
+use Rattle.version_commands.specs.Place.{line_text}
+use Rattle.version_commands.specs.declared.options.Question.{Question}
+use Rattle.version_commands.specs.declared.pick.BadLines.{BadLines}
+use Rattle.version_lines.specs.Lines.{lines_of}
+use Rattle.version_lines.specs.Sort.{is_bad}
+use Rattle.version_rules.specs.Versioning.{PlainVersioning, versioning_of}
+use Rattle.version_commands.proofs.lemmas.Picked.{IsPicked, all-kept, picked-bad, picked-end, picked-kept, picked-start}
+
+-- one more answer after the others
+pub answered-push : (question : Question) (end : ℕ) (texts : List (List ℕ)) (text : List ℕ)
+    (v : PlainVersioning) (answers answer : List ℕ) → AreAnswered question end texts answers
+    → versioning_of text ≡ Some v → IsAnswer question end v true answer
+    → AreAnswered question end (texts ++ text ∷ []) (answers ++ answer)
+answered-push question end [] text v answers answer none some is =
+    (v, answer, [], some, is, refl, ap (λ (a : List ℕ). a ++ answer) none ∙ sym (append-nil answer))
+answered-push question end (t ∷ texts) text v answers answer
+    (w, first, rest, some_first, is_first, more, whole) some is = (
+      w,
+      first,
+      rest ++ answer,
+      some_first,
+      is_first,
+      answered-push question end texts text v rest answer more some is,
+      ap (λ (a : List ℕ). a ++ answer) whole ∙ append_assoc first rest answer,
+    )
+
+-- the texts up to the next
+pub texts-next : {X : Type 0} (f : X → List ℕ) (texts : List X) (i : ℕ) (d : X)
+    → i < length texts
+    → map f (take (i + 1) texts) ≡ map f (take i texts) ++ f (get_or texts i d) ∷ []
+texts-next f texts i d inside =
+    ap (map f) (take_more texts i d inside) ∙ map-append f (take i texts) (get_or texts i d ∷ [])
+
+-- the next text is answered
+pub answers-next : (question : Question) (end : ℕ) (old between new : List ℕ)
+    (texts : List (Bor (List ℕ))) (i : ℕ) (d : Bor (List ℕ)) (v : PlainVersioning) (found : Bool)
+    → i < length texts
+    → Adds (AreAnswered question end (map (λ text. text.now) (take i texts))) old between
+    → versioning_of (get_or texts i d).now ≡ Some v → found ≡ true
+    → Adds (IsAnswer question end v found) between new
+    → Adds (AreAnswered question end (map (λ text. text.now) (take (i + 1) texts))) old new
+answers-next question end old between new texts i d v found inside (body, are, whole) some found_is
+    (answer, is, more) =
+    let more_are : AreAnswered question end
+    (map (λ (t : Bor (List ℕ)). t.now) (take i texts) ++ (get_or texts i d).now ∷ [])
+    (body ++ answer) =
+    answered-push question end (map (λ (t : Bor (List ℕ)). t.now) (take i texts))
+    (get_or texts i d).now v body answer are some
+    (subst (λ (f : Bool). IsAnswer question end v f answer) found_is is) in (
+      body ++ answer,
+      subst (λ (ts : List (List ℕ)). AreAnswered question end ts (body ++ answer))
+          (sym (texts-next (λ (t : Bor (List ℕ)). t.now) texts i d inside)) more_are,
+      more ∙ ap (λ (l : List ℕ). l ++ answer) whole ∙ append_assoc old body answer,
+    )
+
+-- the texts of the lines before a place that have a version
+pub record AreTextsUpTo (crlf : Bool) (end : ℕ) (input rest : List ℕ)
+    (texts : List (Bor (List ℕ))) (bad : BadLines) : Type 0 where
+  pub kept : List (List ℕ)
+  pub picked : IsPicked (line_text crlf) (λ v. true) end input rest kept bad
+  pub texts_are : map (λ text. text.now) texts ≡ map (line_text crlf) kept
+  pub versions : All (λ text. IsSome (versioning_of text.now)) texts
+
+-- of none
+pub texts-start : (crlf : Bool) (end : ℕ) (input : List ℕ) (texts : List (Bor (List ℕ)))
+    (bad : BadLines) → texts ≡ [] → AreBadOf (line_text crlf) [] bad
+    → AreTextsUpTo crlf end input input texts bad
+texts-start crlf end input texts bad none bad_are = record {
+  kept = [];
+  picked = picked-start (line_text crlf) (λ v. true) end input [] bad refl bad_are;
+  texts_are = ap (map (λ (t : Bor (List ℕ)). t.now)) none;
+  versions = subst (All (λ (t : Bor (List ℕ)). IsSome (versioning_of t.now))) (sym none)
+      (λ k d inside. absurd (omega (arith, inside)));
+}
+
+-- of one line more that has none
+pub texts-bad : (crlf : Bool) (end : ℕ) (input rest after line : List ℕ)
+    (texts : List (Bor (List ℕ))) (bad now : BadLines)
+    → AreTextsUpTo crlf end input rest texts bad
+    → lines_of end rest ≡ line ∷ lines_of end after → length after < length rest
+    → versioning_of (line_text crlf line) ≡ None
+    → ((of : List ℕ → List ℕ) → (lines : List (List ℕ)) → is_bad (of line) ≡ true
+    → AreBadOf of lines bad → AreBadOf of (lines ++ line ∷ []) now)
+    → now.before ≡ bad.before → AreTextsUpTo crlf end input after texts now
+texts-bad crlf end input rest after line texts bad now so_far first shorter none added step = record {
+  kept = so_far.kept;
+  picked = picked-bad (line_text crlf) (λ v. true) end input rest after line so_far.kept bad now
+      so_far.picked first shorter none added step;
+  texts_are = so_far.texts_are;
+  versions = so_far.versions;
+}
+
+-- of one line more that has one
+pub texts-kept : (crlf : Bool) (end : ℕ) (input rest after line : List ℕ) (text : Bor (List ℕ))
+    (texts longer : List (Bor (List ℕ))) (bad now : BadLines) (v : PlainVersioning)
+    → AreTextsUpTo crlf end input rest texts bad
+    → lines_of end rest ≡ line ∷ lines_of end after → length after < length rest
+    → text.now ≡ line_text crlf line → versioning_of text.now ≡ Some v
+    → longer ≡ texts ++ text ∷ []
+    → ((of : List ℕ → List ℕ) → (lines : List (List ℕ)) → (l : List ℕ) → is_bad (of l) ≡ false
+    → AreBadOf of lines bad → AreBadOf of (lines ++ l ∷ []) now)
+    → now.before ≤ bad.before + 1 → AreTextsUpTo crlf end input after longer now
+texts-kept crlf end input rest after line text texts longer bad now v so_far first shorter is some
+    added passed step = record {
+      kept = so_far.kept ++ line ∷ [];
+      picked = picked-kept (line_text crlf) (λ v. true) end input rest after line so_far.kept
+          (so_far.kept ++ line ∷ []) bad now v so_far.picked first shorter
+          (ap versioning_of (sym is) ∙ some) refl refl passed step;
+      texts_are = ap (map (λ (t : Bor (List ℕ)). t.now)) added
+          ∙ map_push (λ (t : Bor (List ℕ)). t.now) texts text
+          ∙ ap (λ (l : List (List ℕ)). l ++ text.now ∷ []) so_far.texts_are
+          ∙ ap (λ (t : List ℕ). map (line_text crlf) so_far.kept ++ t ∷ []) is
+          ∙ sym (map_push (line_text crlf) so_far.kept line);
+      versions = subst (All (λ (t : Bor (List ℕ)). IsSome (versioning_of t.now))) (sym added)
+          (All-push (λ (t : Bor (List ℕ)). IsSome (versioning_of t.now)) texts text so_far.versions
+          (rw some refl));
+    }
+
+-- of all, where none is without one
+pub texts-end : (crlf : Bool) (end : ℕ) (input rest : List ℕ) (texts : List (Bor (List ℕ)))
+    (bad : BadLines) → AreTextsUpTo crlf end input rest texts bad → rest ≡ []
+    → bad.lines.items ≡ []
+    → map (λ text. text.now) texts ≡ map (line_text crlf) (lines_of end input)
+texts-end crlf end input rest texts bad so_far nothing none =
+    let (kept_are, bad_are) = picked-end (line_text crlf) (λ v. true) end input rest so_far.kept bad
+    so_far.picked nothing in
+    so_far.texts_are
+    ∙ ap (map (line_text crlf))
+    (kept_are ∙ all-kept (line_text crlf) (lines_of end input)
+    (sym bad_are.0 ∙ ap (map (λ (t : Bor (List ℕ)). t.now)) none))

@@ -1,0 +1,49 @@
+-- Inputs that were read in turn.
+use Rattle.std.proofs.Common.{◌≡◌, ◌==◌, ◌<◌, ◌-◌, ◌+◌, ℕ, suc, true, List, [], ◌∷◌, ◌++◌, length, take, get_or, map, Option, refl, sym, subst, ap, ◌∙◌, arith, append-nil, add-one}
+use Rattle.std.specs.List.{slice_get}
+use Rattle.std.specs.Option.{option_map_or}
+use Rattle.std.proofs.Math.Seq.{take-suc}
+use Rattle.std.proofs.lemmas.Grind.{flat_map-append}
+use Rattle.std.proofs.lemmas.List.{map-append}
+use Rattle.version_commands.specs.Inputs.{ended, ends_line, joined, AreInputs, IsInput}
+
+-- one more input was read after the others
+pub inputs-push : (holds : List ℕ → Option (List ℕ)) (old now new : Option (List ℕ))
+    (names texts : List (List ℕ)) (name text : List ℕ) → AreInputs holds old now names texts
+    → IsInput holds now new name text
+    → AreInputs holds old new (names ++ name ∷ []) (texts ++ text ∷ [])
+inputs-push holds old now new [] [] name text none read =
+    (new, subst (λ (o : Option (List ℕ)). IsInput holds o new name text) none read, refl)
+inputs-push holds old now new [] (t ∷ texts) name text none read = absurd none
+inputs-push holds old now new (n ∷ names) [] name text none read = absurd none
+inputs-push holds old now new (n ∷ names) (t ∷ texts) name text (between, here, more) read =
+    (between, here, inputs-push holds between now new names texts name text more read)
+
+-- the names up to the next
+pub names-next : {X : Type 0} (f : X → List ℕ) (names : List X) (i : ℕ) (d : X)
+    → i < length names
+    → map f (take (i + 1) names) ≡ map f (take i names) ++ f (get_or names i d) ∷ []
+names-next f names i d inside =
+    rw (add-one i)
+    (ap (map f) (take-suc names i d inside)
+    ∙ map-append f (take i names) (get_or names i d ∷ []))
+
+-- and their texts as one
+pub joined-next : (end : ℕ) (texts : List (List ℕ)) (text input longer : List ℕ)
+    → input ≡ joined end texts → longer ≡ input ++ ended end text
+    → longer ≡ joined end (texts ++ text ∷ [])
+joined-next end texts text input longer so_far added =
+    added ∙ ap (λ (i : List ℕ). i ++ ended end text) so_far
+    ∙ ap (λ (e : List ℕ). joined end texts ++ e) (sym (append-nil (ended end text)))
+    ∙ sym (flat_map-append (ended end) texts (text ∷ []))
+
+-- the last byte decides whether some bytes end where a line ends
+pub ends_line-last : (end : ℕ) (bytes : List ℕ) → ends_line end bytes
+    ≡ option_map_or (λ byte. byte == end) (slice_get bytes (length bytes - 1)) true
+ends_line-last end [] = refl
+ends_line-last end (byte ∷ []) = refl
+ends_line-last end (byte ∷ next ∷ bytes) =
+    let place : length (byte ∷ next ∷ bytes) - 1 ≡ suc (length (next ∷ bytes) - 1) = omega arith in
+    ends_line-last end (next ∷ bytes)
+    ∙ ap (λ (i : ℕ). option_map_or (λ b. b == end) (slice_get (byte ∷ next ∷ bytes) i) true)
+    (sym place)

@@ -1,0 +1,235 @@
+-- The first row of each name, one row after another.
+use Rattle.std.proofs.Common.{◌≡◌, ◌∙◌, ℕ, Bool, true, false, List, [], ◌∷◌, ◌++◌, ◌⊎◌, ◌≤◌, ◌<◌, ◌+◌, arith, subst, drop, length, map, Option, Some, None, append_assoc, append-nil, if◌then◌else◌, is_some, refl, sym, ap, inl, inr}
+use Rattle.std.proofs.lemmas.Bool.{cases_Bool}
+use Rattle.std.proofs.lemmas.List.{drop_all, map-append}
+use Rattle.std.proofs.lemmas.List.Folds.{flat_map-map}
+use Rattle.std.proofs.lemmas.Slice.Eq.{bytes_eq-Decides}
+use Rattle.std.specs.BTreeMap.{get_by}
+use Rattle.std.specs.Cmp.Lexicographic.{slice_cmp}
+use Rattle.std.specs.List.{flat_map}
+use Rattle.std.specs.Map.{update}
+use Rattle.std.specs.Option.{option_map, option_or}
+use Rattle.std.specs.Ordering.{nat_cmp}
+use Rattle.std.specs.Str.{bytes_eq}
+use Rattle.version_commands.specs.Lists.{AreNames, Row, first_after, first_rows, lines_against, plain_row, rows_of_line, version_of}
+use Rattle.version_commands.specs.Picked.{AreBadOf}
+use Rattle.version_commands.specs.Place.{text_of}
+use Rattle.version_commands.specs.declared.options.Lists.{Lists}
+use Rattle.version_commands.specs.declared.pick.BadLines.{BadLines}
+use Rattle.version_lines.specs.Lines.{lines_of}
+use Rattle.std.proofs.lemmas.Grind.{flat_map-append}
+use Rattle.version_commands.specs.declared.lists.Named.{Named}
+use Rattle.version_commands.specs.declared.lists.Names.{Names}
+use Rattle.version_rules.specs.Versioning.{PlainVersioning}
+use Rattle.version_texts.specs.VersioningRef.{plain_versioning_ref}
+use Rattle.version_texts.specs.declared.versioning_ref.VersioningRef.{VersioningRef}
+
+-- the version of a name, if a row has it
+abbrev pub version_at : Row → List ℕ → Option PlainVersioning
+version_at row name = if bytes_eq row.0 name then Some row.1 else None
+
+chosen : (test : Bool) (v : PlainVersioning) (o other : Option PlainVersioning)
+    → (if test then Some v else option_or o other)
+    ≡ option_or (if test then Some v else o) other
+chosen true v o other = refl
+chosen false v o other = refl
+
+-- one row more counts for a name that no row before it has
+pub version_of-more : (rows : List Row) (row : Row) (name : List ℕ)
+    → version_of (rows ++ row ∷ []) name ≡ option_or (version_of rows name) (version_at row name)
+version_of-more [] row name = refl
+version_of-more (first ∷ rows) row name =
+    ap (λ (o : Option PlainVersioning). if bytes_eq first.0 name then Some first.1 else o)
+    (version_of-more rows row name)
+    ∙ chosen (bytes_eq first.0 name) first.1 (version_of rows name) (version_at row name)
+
+-- and it is a first row if none has it
+abbrev pub first_at : List Row → Row → List Row
+first_at before row = if is_some (version_of before row.0) then [] else row ∷ []
+
+first_after-more : (before rows : List Row) (row : Row)
+    → first_after before (rows ++ row ∷ [])
+    ≡ first_after before rows ++ first_at (before ++ rows) row
+first_after-more before [] row = rw (append-nil before) (by (is_some (version_of before row.0)))
+  where
+    by : (test : Bool) → (if test then [] else row ∷ []) ≡ (if test then [] else row ∷ [])
+    by test = refl
+first_after-more before (first ∷ rows) row =
+    rw (first_after-more (before ++ first ∷ []) rows row)
+    (rw (append_assoc before (first ∷ []) rows) (by (is_some (version_of before first.0))))
+  where
+    by : (test : Bool)
+        → (if test
+        then first_after (before ++ first ∷ []) rows ++ first_at (before ++ first ∷ rows) row
+        else first ∷ (first_after (before ++ first ∷ []) rows
+        ++ first_at (before ++ first ∷ rows) row))
+        ≡ (if test
+        then first_after (before ++ first ∷ []) rows
+        else first ∷ first_after (before ++ first ∷ []) rows)
+        ++ first_at (before ++ first ∷ rows) row
+    by true = refl
+    by false = refl
+
+pub first_rows-more : (rows : List Row) (row : Row)
+    → first_after [] (rows ++ row ∷ []) ≡ first_after [] rows ++ first_at rows row
+first_rows-more rows row = first_after-more [] rows row
+
+-- ---- as they are held
+
+or_kept : (o other : Option PlainVersioning) → is_some o ≡ true → option_or o other ≡ o
+or_kept None other some = cc some
+or_kept (Some v) other some = refl
+
+or_none : (o : Option PlainVersioning) → option_or o None ≡ o
+or_none None = refl
+or_none (Some v) = refl
+
+-- what a map has for a name
+abbrev pub held : Names → List ℕ → Option VersioningRef
+held names name = get_by (λ key. slice_cmp nat_cmp name key.now) names.versions
+
+is_some-mapped : (o : Option VersioningRef)
+    → is_some (option_map plain_versioning_ref o) ≡ is_some o
+is_some-mapped None = refl
+is_some-mapped (Some v) = refl
+
+none_held : (o : Option PlainVersioning) → is_some o ≡ false → o ≡ None
+none_held None none = refl
+none_held (Some v) none = cc none
+
+-- whether a row has a name
+has_name : (row : Row) (name : List ℕ)
+    → ((row.0 ≡ name) × (version_at row name ≡ Some row.1)) ⊎ (version_at row name ≡ None)
+has_name row name =
+    elim (cases_Bool (bytes_eq row.0 name)) [
+      | inl same ↦ inl ((bytes_eq-Decides row.0 name).0 same, rw same refl)
+      | inr other ↦ inr (rw other refl)
+    ]
+
+-- a row whose name is held changes nothing
+pub names_kept : (rows : List Row) (row : Row) (names : Names) → AreNames rows names
+    → is_some (held names row.0) ≡ true → AreNames (rows ++ row ∷ []) names
+names_kept rows row names are has =
+    let stands : is_some (version_of rows row.0) ≡ true =
+    ap is_some (sym (are.versions row.0)) ∙ is_some-mapped (held names row.0) ∙ has in
+    record {
+      order =
+          are.order ∙ sym (first_rows-more rows row ∙ rw stands (append-nil (first_after [] rows)));
+      versions = λ name.
+          are.versions name ∙ sym (version_of-more rows row name ∙ elim (has_name row name) [
+            | inl same ↦
+                or_kept (version_of rows name) (version_at row name)
+                (ap (λ (n : List ℕ). is_some (version_of rows n)) (sym same.0) ∙ stands)
+            | inr other ↦
+                ap (option_or (version_of rows name)) other ∙ or_none (version_of rows name)
+          ]);
+    }
+
+-- a row whose name is not held is added
+pub names_added : (rows : List Row) (named : Named) (names more : Names) → AreNames rows names
+    → is_some (held names named.name.now) ≡ false
+    → more.rows.items ≡ names.rows.items ++ named ∷ []
+    → ((name : List ℕ)
+    → held more name
+    ≡ update bytes_eq (held names) named.name.now (Some named.version) name)
+    → AreNames (rows ++ plain_row named ∷ []) more
+names_added rows named names more are lacks items put =
+    let row : Row = plain_row named in
+    let missing : is_some (version_of rows row.0) ≡ false =
+    ap is_some (sym (are.versions row.0)) ∙ is_some-mapped (held names row.0) ∙ lacks in
+    record {
+      order =
+          ap (map plain_row) items ∙ map-append plain_row names.rows.items (named ∷ [])
+          ∙ ap (λ (l : List Row). l ++ row ∷ []) are.order
+          ∙ sym (first_rows-more rows row ∙ rw missing refl);
+      versions = λ name.
+          ap (option_map plain_versioning_ref) (put name)
+          ∙ elim (cases_Bool (bytes_eq row.0 name)) [
+            | inl same ↦
+                let is : row.0 ≡ name = (bytes_eq-Decides row.0 name).0 same in
+                let none : version_of rows name ≡ None =
+                ap (version_of rows) (sym is) ∙ none_held (version_of rows row.0) missing in
+                let at : version_at row name ≡ Some row.1 = rw same refl in
+                let here : option_map plain_versioning_ref
+                (update bytes_eq (held names) named.name.now (Some named.version) name)
+                ≡ Some row.1 =
+                rw same refl in
+                let counts : option_or (version_of rows name) (version_at row name) ≡ Some row.1 =
+                rw none at in
+                here ∙ sym (version_of-more rows row name ∙ counts)
+            | inr other ↦
+                let at : version_at row name ≡ None = rw other refl in
+                let here : option_map plain_versioning_ref
+                (update bytes_eq (held names) named.name.now (Some named.version) name)
+                ≡ option_map plain_versioning_ref (held names name) =
+                rw other refl in
+                here ∙ are.versions name
+                ∙ sym (version_of-more rows row name ∙ ap (option_or (version_of rows name)) at
+                ∙ or_none (version_of rows name))
+          ];
+    }
+
+-- ---- line by line
+
+-- the line for a name as it is held
+abbrev pub named_line : (Row → Option PlainVersioning → List ℕ) → List Row → Named → List ℕ
+named_line line others named = line (plain_row named) (version_of others named.name.now)
+
+-- once none is left, the lines for all names were added
+pub all_lines : (line : Row → Option PlainVersioning → List ℕ) (others rows : List Row)
+    → (names : Names) (i : ℕ) (before now : List ℕ) → AreNames rows names
+    → length names.rows.items ≤ i
+    → now ++ flat_map (named_line line others) (drop i names.rows.items)
+    ≡ before ++ flat_map (named_line line others) names.rows.items
+    → now ≡ before ++ lines_against line others (first_rows rows)
+all_lines line others rows names i before now are end whole =
+    let nothing : flat_map (named_line line others) (drop i names.rows.items) ≡ [] =
+    ap (flat_map (named_line line others)) (drop_all i names.rows.items end) in
+    sym (append-nil now) ∙ sym (ap (λ (l : List ℕ). now ++ l) nothing) ∙ whole
+    ∙ ap (λ (l : List ℕ). before ++ l)
+    (sym (flat_map-map (λ (row : Row). line row (version_of others row.0)) plain_row
+    names.rows.items) ∙ ap (lines_against line others) are.order)
+
+-- ---- a list, read line by line
+
+-- the lines before a place are read, the lines after it are not yet
+pub record AreReadUpTo (lists : Lists) (input rest : List ℕ) (names : Names) (bad : BadLines) :
+    Type 0 where
+  pub done : List (List ℕ)
+  pub lines : lines_of lists.end input ≡ done ++ lines_of lists.end rest
+  pub named : AreNames (flat_map (rows_of_line lists) done) names
+  pub unnamed : AreBadOf (text_of lists.place) done bad
+  pub fits : bad.before + length rest ≤ length input
+
+pub read-start : (lists : Lists) (input : List ℕ) (names : Names) (bad : BadLines)
+    → AreNames [] names → AreBadOf (text_of lists.place) [] bad
+    → AreReadUpTo lists input input names bad
+read-start lists input names bad named unnamed = record {
+  done = [];
+  lines = refl;
+  named = named;
+  unnamed = unnamed;
+  fits = omega (arith, unnamed.1);
+}
+
+pub read-next : (lists : Lists) (input rest line after : List ℕ) (names more_names : Names)
+    (bad more_bad : BadLines) → AreReadUpTo lists input rest names bad
+    → lines_of lists.end rest ≡ line ∷ lines_of lists.end after → length after < length rest
+    → ((rows : List Row) → AreNames rows names
+    → AreNames (rows ++ rows_of_line lists line) more_names)
+    → ((lines : List (List ℕ)) → AreBadOf (text_of lists.place) lines bad
+    → AreBadOf (text_of lists.place) (lines ++ line ∷ []) more_bad)
+    → more_bad.before ≤ bad.before + 1 → AreReadUpTo lists input after more_names more_bad
+read-next lists input rest line after names more_names bad more_bad so_far first shorter name leave
+    step = record {
+      done = so_far.done ++ line ∷ [];
+      lines = so_far.lines ∙ ap (λ (l : List (List ℕ)). so_far.done ++ l) first
+          ∙ sym (append_assoc so_far.done (line ∷ []) (lines_of lists.end after));
+      named = subst (λ (rows : List Row). AreNames rows more_names)
+          (ap (λ (l : List Row). flat_map (rows_of_line lists) so_far.done ++ l)
+          (sym (append-nil (rows_of_line lists line)))
+          ∙ sym (flat_map-append (rows_of_line lists) so_far.done (line ∷ [])))
+          (name (flat_map (rows_of_line lists) so_far.done) so_far.named);
+      unnamed = leave so_far.done so_far.unnamed;
+      fits = omega (arith, so_far.fits, shorter, step);
+    }

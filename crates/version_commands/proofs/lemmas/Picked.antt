@@ -1,0 +1,175 @@
+-- Lines without a version, counted one by one.
+use Rattle.std.proofs.Common.{◌≡◌, ◌+◌, ◌<◌, ◌≤◌, ℕ, Bool, true, false, not, List, [], ◌∷◌, ◌++◌, length, Option, None, Some, refl, sym, subst, ap, ◌∙◌, arith, append-nil, append_assoc}
+use Rattle.std.specs.List.{filter, prefix_len}
+use Rattle.std.proofs.lemmas.List.Elements.{filter-append}
+use Rattle.version_commands.specs.Picked.{AreBadOf, bad_lines, kept_lines, has}
+use Rattle.version_commands.specs.declared.pick.BadLines.{BadLines}
+use Rattle.version_lines.specs.Lines.{lines_of}
+use Rattle.version_lines.proofs.lemmas.Sorting.{by_test}
+use Rattle.version_lines.specs.Sort.{is_bad}
+use Rattle.version_rules.specs.Versioning.{PlainVersioning, versioning_of}
+
+-- an element that passes a test, and one that does not, after others
+pub filter-pass : {X : Type 0} (p : X → Bool) (xs : List X) (x : X) → p x ≡ true
+    → filter p (xs ++ x ∷ []) ≡ filter p xs ++ x ∷ []
+filter-pass p xs x passes = filter-append p xs (x ∷ []) ∙ rw passes refl
+
+pub filter-fail : {X : Type 0} (p : X → Bool) (xs : List X) (x : X) → p x ≡ false
+    → filter p (xs ++ x ∷ []) ≡ filter p xs
+filter-fail p xs x fails = filter-append p xs (x ∷ []) ∙ rw fails (append-nil (filter p xs))
+
+-- how many elements come before the first that a test names, if one more follows
+pub before-bad : {X : Type 0} (bad : X → Bool) (xs : List X) (x : X) → bad x ≡ true
+    → prefix_len (λ y. not (bad y)) (xs ++ x ∷ []) ≡ prefix_len (λ y. not (bad y)) xs
+before-bad bad [] x is = rw is refl
+before-bad bad (y ∷ ys) x is =
+    by_test (bad y)
+    (λ here. rw here refl)
+    (λ other. rw other (ap (λ (n : ℕ). 1 + n) (before-bad bad ys x is)))
+
+pub before-good : {X : Type 0} (bad : X → Bool) (xs : List X) (x : X) → bad x ≡ false
+    → filter bad xs ≡ []
+    → prefix_len (λ y. not (bad y)) (xs ++ x ∷ []) ≡ prefix_len (λ y. not (bad y)) xs + 1
+before-good bad [] x good none = rw good (omega arith)
+before-good bad (y ∷ ys) x good none =
+    by_test (bad y)
+    (λ here. absurd (some_not_none here none))
+    (λ other. let rest : filter bad ys ≡ [] = rw other at none in
+    rw other (ap (λ (n : ℕ). 1 + n) (before-good bad ys x good rest) ∙ omega arith))
+  where
+    some_not_none : bad y ≡ true → filter bad (y ∷ ys) ≡ [] → ⊥
+    some_not_none here none = let e : y ∷ filter bad ys ≡ [] = rw here at none in cc
+
+pub before-stays : {X : Type 0} (bad : X → Bool) (xs : List X) (x : X)
+    → ¬ (filter bad xs ≡ [])
+    → prefix_len (λ y. not (bad y)) (xs ++ x ∷ []) ≡ prefix_len (λ y. not (bad y)) xs
+before-stays bad [] x some = absurd (some refl)
+before-stays bad (y ∷ ys) x some =
+    by_test (bad y)
+    (λ here. rw here refl)
+    (λ other. let rest : ¬ (filter bad ys ≡ []) = λ none. some (rw other none) in
+    rw other (ap (λ (n : ℕ). 1 + n) (before-stays bad ys x rest)))
+
+-- the lines before a place are picked, the lines after it are not yet
+pub record IsPicked (text_of : List ℕ → List ℕ) (keeps : PlainVersioning → Bool) (end : ℕ)
+    (input rest : List ℕ) (kept : List (List ℕ)) (bad : BadLines) : Type 0 where
+  pub done : List (List ℕ)
+  pub lines : lines_of end input ≡ done ++ lines_of end rest
+  pub kept_are : kept ≡ kept_lines text_of keeps done
+  pub bad_are : AreBadOf text_of done bad
+  pub fits : bad.before + length rest ≤ length input
+
+-- none is picked
+pub picked-start : (text_of : List ℕ → List ℕ) (keeps : PlainVersioning → Bool) (end : ℕ)
+    (input : List ℕ) (kept : List (List ℕ)) (bad : BadLines) → kept ≡ []
+    → AreBadOf text_of [] bad → IsPicked text_of keeps end input input kept bad
+picked-start text_of keeps end input kept bad none bad_are = record {
+  done = [];
+  lines = refl;
+  kept_are = none;
+  bad_are = bad_are;
+  fits = omega (arith, bad_are.1);
+}
+
+-- one line more
+picked-next : (text_of : List ℕ → List ℕ) (keeps : PlainVersioning → Bool) (end : ℕ)
+    (input rest after line : List ℕ) (kept longer : List (List ℕ)) (bad now : BadLines)
+    (so_far : IsPicked text_of keeps end input rest kept bad)
+    → lines_of end rest ≡ line ∷ lines_of end after → length after < length rest
+    → longer ≡ kept_lines text_of keeps (so_far.done ++ line ∷ [])
+    → AreBadOf text_of (so_far.done ++ line ∷ []) now → now.before ≤ bad.before + 1
+    → IsPicked text_of keeps end input after longer now
+picked-next text_of keeps end input rest after line kept longer bad now so_far first shorter
+    kept_now bad_now step = record {
+      done = so_far.done ++ line ∷ [];
+      lines = so_far.lines ∙ ap (λ (l : List (List ℕ)). so_far.done ++ l) first
+          ∙ sym (append_assoc so_far.done (line ∷ []) (lines_of end after));
+      kept_are = kept_now;
+      bad_are = bad_now;
+      fits = omega (arith, so_far.fits, shorter, step);
+    }
+
+-- one without a version
+pub picked-bad : (text_of : List ℕ → List ℕ) (keeps : PlainVersioning → Bool) (end : ℕ)
+    (input rest after line : List ℕ) (kept : List (List ℕ)) (bad now : BadLines)
+    → IsPicked text_of keeps end input rest kept bad
+    → lines_of end rest ≡ line ∷ lines_of end after → length after < length rest
+    → versioning_of (text_of line) ≡ None
+    → ((of : List ℕ → List ℕ) → (lines : List (List ℕ)) → is_bad (of line) ≡ true
+    → AreBadOf of lines bad → AreBadOf of (lines ++ line ∷ []) now)
+    → now.before ≡ bad.before → IsPicked text_of keeps end input after kept now
+picked-bad text_of keeps end input rest after line kept bad now so_far first shorter none added step =
+    let is : is_bad (text_of line) ≡ true = rw none refl in
+    let left : has keeps (text_of line) ≡ false = rw none refl in
+    picked-next text_of keeps end input rest after line kept kept bad now so_far first shorter
+    (so_far.kept_are
+    ∙ sym (filter-fail (λ l. has keeps (text_of l)) so_far.done line left))
+    (added text_of so_far.done is so_far.bad_are) (omega (arith, step))
+
+-- one that is left out
+pub picked-left : (text_of : List ℕ → List ℕ) (keeps : PlainVersioning → Bool) (end : ℕ)
+    (input rest after line : List ℕ) (kept : List (List ℕ)) (bad now : BadLines)
+    (v : PlainVersioning) → IsPicked text_of keeps end input rest kept bad
+    → lines_of end rest ≡ line ∷ lines_of end after → length after < length rest
+    → versioning_of (text_of line) ≡ Some v → keeps v ≡ false
+    → ((of : List ℕ → List ℕ) → (lines : List (List ℕ)) → (l : List ℕ) → is_bad (of l) ≡ false
+    → AreBadOf of lines bad → AreBadOf of (lines ++ l ∷ []) now)
+    → now.before ≤ bad.before + 1 → IsPicked text_of keeps end input after kept now
+picked-left text_of keeps end input rest after line kept bad now v so_far first shorter some out
+    passed step =
+    let good : is_bad (text_of line) ≡ false = rw some refl in
+    let left : has keeps (text_of line) ≡ false = rw some out in
+    picked-next text_of keeps end input rest after line kept kept bad now so_far first shorter
+    (so_far.kept_are
+    ∙ sym (filter-fail (λ l. has keeps (text_of l)) so_far.done line left))
+    (passed text_of so_far.done line good so_far.bad_are) step
+
+-- one that is kept
+pub picked-kept : (text_of : List ℕ → List ℕ) (keeps : PlainVersioning → Bool) (end : ℕ)
+    (input rest after line : List ℕ) (kept longer : List (List ℕ)) (bad now : BadLines)
+    (v : PlainVersioning) → IsPicked text_of keeps end input rest kept bad
+    → lines_of end rest ≡ line ∷ lines_of end after → length after < length rest
+    → versioning_of (text_of line) ≡ Some v → keeps v ≡ true → longer ≡ kept ++ line ∷ []
+    → ((of : List ℕ → List ℕ) → (lines : List (List ℕ)) → (l : List ℕ) → is_bad (of l) ≡ false
+    → AreBadOf of lines bad → AreBadOf of (lines ++ l ∷ []) now)
+    → now.before ≤ bad.before + 1 → IsPicked text_of keeps end input after longer now
+picked-kept text_of keeps end input rest after line kept longer bad now v so_far first shorter some
+    stays added passed step =
+    let good : is_bad (text_of line) ≡ false = rw some refl in
+    let here : has keeps (text_of line) ≡ true = rw some stays in
+    picked-next text_of keeps end input rest after line kept longer bad now so_far first shorter
+    (added ∙ ap (λ (l : List (List ℕ)). l ++ line ∷ []) so_far.kept_are
+    ∙ sym (filter-pass (λ l. has keeps (text_of l)) so_far.done line here))
+    (passed text_of so_far.done line good so_far.bad_are) step
+
+-- all are picked
+pub picked-end : (text_of : List ℕ → List ℕ) (keeps : PlainVersioning → Bool) (end : ℕ)
+    (input rest : List ℕ) (kept : List (List ℕ)) (bad : BadLines)
+    → IsPicked text_of keeps end input rest kept bad → rest ≡ []
+    → (kept ≡ kept_lines text_of keeps (lines_of end input))
+    × AreBadOf text_of (lines_of end input) bad
+picked-end text_of keeps end input rest kept bad so_far nothing =
+    let all : so_far.done ≡ lines_of end input =
+    sym (so_far.lines ∙ ap (λ (r : List ℕ). so_far.done ++ lines_of end r) nothing
+    ∙ append-nil so_far.done) in (
+      so_far.kept_are ∙ ap (kept_lines text_of keeps) all,
+      subst (λ (lines : List (List ℕ)). AreBadOf text_of lines bad) all so_far.bad_are,
+    )
+
+-- where no line is bad, each has a version
+kept-first : (text_of : List ℕ → List ℕ) (line : List ℕ) (lines : List (List ℕ))
+    (v : Option PlainVersioning) → versioning_of (text_of line) ≡ v
+    → bad_lines text_of (line ∷ lines) ≡ []
+    → (bad_lines text_of lines ≡ [] → kept_lines text_of (λ w. true) lines ≡ lines)
+    → kept_lines text_of (λ w. true) (line ∷ lines) ≡ line ∷ lines
+kept-first text_of line lines None is none rest =
+    let bad : line ∷ bad_lines text_of lines ≡ [] = rw is at none in cc
+kept-first text_of line lines (Some v) is none rest =
+    let others : bad_lines text_of lines ≡ [] = rw is at none in
+    rw is (ap (λ (l : List (List ℕ)). line ∷ l) (rest others))
+
+pub all-kept : (text_of : List ℕ → List ℕ) (lines : List (List ℕ)) → bad_lines text_of lines ≡ []
+    → kept_lines text_of (λ w. true) lines ≡ lines
+all-kept text_of [] none = refl
+all-kept text_of (line ∷ lines) none =
+    kept-first text_of line lines (versioning_of (text_of line)) refl none (all-kept text_of lines)

@@ -1,0 +1,29 @@
+-- Texts that are added to others, one after another.
+use Rattle.std.proofs.Common.{◌≡◌, ◌+◌, ◌<◌, ◌∙◌, ap, ℕ, Bor, List, [], ◌++◌, append_assoc, append-nil, get_or, length, sym, take}
+use Rattle.std.proofs.lemmas.List.{flat_map_more, take_more}
+use Rattle.std.specs.List.{flat_map}
+
+-- a text added to a list, and then more
+pub then : (old : List ℕ) {between new text same : List ℕ} (more : List ℕ) → between ≡ old ++ text → text ≡ same
+    → new ≡ between ++ more → new ≡ old ++ (same ++ more)
+then old {between} {new} {text} {same} more first is second =
+    second ∙ ap (λ (l : List ℕ). l ++ more) (first ∙ ap (λ (l : List ℕ). old ++ l) is)
+    ∙ append_assoc old same more
+
+-- the last one
+pub last : (old : List ℕ) {new text same : List ℕ} → new ≡ old ++ text → text ≡ same
+    → new ≡ old ++ (same ++ [])
+last old {new} {text} {same} first is =
+    first ∙ ap (λ (l : List ℕ). old ++ l) (is ∙ sym (append-nil same))
+
+-- one piece more of those that are added
+pub one_more : (old : List ℕ) {between new : List ℕ} (pieces : List (Bor (List ℕ))) (place : ℕ)
+    (d : Bor (List ℕ)) → place < length pieces
+    → between ≡ old ++ flat_map (λ piece. piece.now) (take place pieces)
+    → new ≡ between ++ (get_or pieces place d).now
+    → new ≡ old ++ flat_map (λ piece. piece.now) (take (place + 1) pieces)
+one_more old {between} {new} pieces place d within so_far is =
+    is ∙ ap (λ (l : List ℕ). l ++ (get_or pieces place d).now) so_far
+    ∙ flat_map_more (λ (piece : Bor (List ℕ)). piece.now) old (take place pieces) (get_or pieces place d)
+    ∙ ap (λ (some : List (Bor (List ℕ))). old ++ flat_map (λ piece. piece.now) some)
+    (sym (take_more pieces place d within))

@@ -1,0 +1,35 @@
+-- The lines that are written, in their order.
+use Rattle.std.specs.Prelude.{ℕ, false, true, List, ◌++◌, Option, None, Some}
+use Rattle.version_commands.specs.declared.options.Arrangement.{Arrangement}
+use Rattle.version_commands.specs.declared.options.Arrangement.TheVariants.{Sort, Newest, Filter}
+use Rattle.version_commands.specs.declared.options.Column.{Column}
+use Rattle.version_commands.specs.declared.options.Invalid.{Invalid}
+use Rattle.version_commands.specs.declared.options.Invalid.TheVariants.{Fail, Skip, First, Last}
+use Rattle.version_commands.specs.declared.options.LineOptions.{LineOptions}
+use Rattle.version_lines.specs.Newest.{first_of_ties, newest}
+use Rattle.version_lines.specs.Sort.{lines_cmp}
+use Rattle.version_lines.specs.Sorting.{in_order, turned}
+
+-- what is written of the lines that are kept, in its order
+abbrev pub arranged : (List ℕ → List ℕ) → (Option Column → List ℕ → List ℕ) → Arrangement
+    → List (List ℕ) → List (List ℕ)
+arranged text_of group_of (Sort reverse false) lines =
+    in_order (turned reverse (lines_cmp text_of)) lines
+arranged text_of group_of (Sort reverse true) lines = first_of_ties reverse text_of lines
+arranged text_of group_of (Newest count group) lines =
+    newest count (group_of group) text_of lines
+arranged text_of group_of (Filter list inverted) lines = lines
+
+-- what becomes of lines without a version: they are left out of the output where a file takes them
+abbrev pub policy : LineOptions → Invalid
+policy options = policy_with options.invalid_to options.invalid where
+  policy_with : {X : Type 0} → Option X → Invalid → Invalid
+  policy_with None invalid = invalid
+  policy_with (Some name) invalid = Skip
+
+-- the lines with those that have no version, before or after all others
+abbrev pub placed : Invalid → List (List ℕ) → List (List ℕ) → List (List ℕ)
+placed First bad lines = bad ++ lines
+placed Last bad lines = lines ++ bad
+placed Skip bad lines = lines
+placed Fail bad lines = lines

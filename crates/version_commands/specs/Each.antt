@@ -1,0 +1,74 @@
+-- What `show`, `key`, `why` and `next` write.
+use Rattle.std.specs.Prelude.{◌≡◌, ⊤, ℕ, Bool, true, List, [], ◌∷◌, ◌++◌, map, Option, Some, IsSome}
+use Rattle.std.specs.Io.KnownBytes.{Consumes, IsAtEnd}
+use Rattle.version_commands.specs.Json.{json_line}
+use Rattle.version_commands.specs.Key.{key_line}
+use Rattle.version_commands.specs.Next.{WritesNext}
+use Rattle.version_commands.specs.Place.{line_text}
+use Rattle.version_commands.specs.Show.{show_text}
+use Rattle.version_commands.specs.Why.{IsConflictText, IsWhyLine}
+use Rattle.version_commands.specs.declared.options.EachOptions.{EachOptions}
+use Rattle.version_commands.specs.declared.options.Question.{Question}
+use Rattle.version_commands.specs.declared.options.Question.TheVariants.{Show, Json, Key, Why, Next}
+use Rattle.version_lines.specs.Lines.{lines_of}
+use Rattle.version_rules.specs.Requirements.{requirements_of}
+use Rattle.version_rules.specs.Versioning.{PlainVersioning, versioning_of}
+
+-- what is written for a version, and whether there is an answer: only `next` may have none
+abbrev pub IsAnswer : Question → ℕ → PlainVersioning → Bool → List ℕ → Type 0
+IsAnswer Show end v found answer = (found ≡ true) × (answer ≡ show_text end v)
+IsAnswer Json end v found answer = (found ≡ true) × (answer ≡ json_line end v)
+IsAnswer Key end v found answer = (found ≡ true) × (answer ≡ key_line end v)
+IsAnswer (Why list) end v found answer = (found ≡ true) × IsWhyLine end list.now v answer
+IsAnswer (Next place) end v found answer = WritesNext end v place found answer
+
+-- the list of `why` is one
+abbrev pub HasList : Question → Type 0
+HasList (Why list) = IsSome (requirements_of list.now)
+HasList Show = ⊤
+HasList Json = ⊤
+HasList Key = ⊤
+HasList (Next place) = ⊤
+
+-- each text is a version, and the answers to them follow one another
+abbrev pub AreAnswered : Question → ℕ → List (List ℕ) → List ℕ → Type 0
+AreAnswered question end [] output = output ≡ []
+AreAnswered question end (text ∷ texts) output =
+    (v : PlainVersioning) × (answer : List ℕ) × (rest : List ℕ) × (versioning_of text ≡ Some v)
+    × IsAnswer question end v true answer × AreAnswered question end texts rest
+    × (output ≡ answer ++ rest)
+
+-- what stands before the answers: of `why`, which two members of the list exclude each other
+abbrev pub IsHead : Question → ℕ → List ℕ → Type 0
+IsHead (Why list) end head = IsConflictText end list.now head
+IsHead Show end head = head ≡ []
+IsHead Json end head = head ≡ []
+IsHead Key end head = head ≡ []
+IsHead (Next place) end head = head ≡ []
+
+-- the texts that are asked: those of the lines of standard input
+abbrev pub AreLineTexts : EachOptions → Option (List ℕ) → Option (List ℕ) → List (List ℕ) → Type 0
+AreLineTexts options old new texts =
+    (input : List ℕ) × Consumes old new input × IsAtEnd new
+    × (texts ≡ map (line_text options.crlf) (lines_of options.end input))
+
+-- those of the words; or without any those of the lines
+abbrev pub AreTextsOf : EachOptions → Option (List ℕ) → Option (List ℕ) → List (List ℕ)
+    → List (List ℕ) → Type 0
+AreTextsOf options old new texts [] = AreLineTexts options old new texts
+AreTextsOf options old new texts (word ∷ words) = (new ≡ old) × (texts ≡ word ∷ words)
+
+abbrev pub AreTexts : EachOptions → Option (List ℕ) → Option (List ℕ) → List (List ℕ) → Type 0
+AreTexts options old new texts =
+    AreTextsOf options old new texts (map (λ word. word.now) options.versions.items)
+
+-- the whole output
+pub record IsAnswered (question : Question) (options : EachOptions) (old new : Option (List ℕ))
+    (output : List ℕ) : Type 0 where
+  pub texts : List (List ℕ)
+  pub head : List ℕ
+  pub answers : List ℕ
+  pub texts_are : AreTexts options old new texts
+  pub head_is : IsHead question options.end head
+  pub answers_are : AreAnswered question options.end texts answers
+  pub output_is : output ≡ head ++ answers

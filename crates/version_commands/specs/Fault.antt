@@ -1,0 +1,90 @@
+-- The faults of a run.
+use Rattle.std.specs.Prelude.{◌≡◌, ◌⊎◌, ◌+◌, ◌-◌, ◌^◌, min, ⊤, ℕ, List, Option, None, Some, Bool, false, Result, Ok, Err, length, string_bytes}
+use Rattle.std.specs.Io.KnownBytes.{Keeps}
+use Rattle.version_commands.specs.declared.options.Invalid.{Invalid}
+use Rattle.version_commands.specs.declared.options.Invalid.TheVariants as invalid
+use Rattle.version_commands.specs.declared.pick.BadLines.{BadLines}
+use Rattle.version_commands.specs.declared.test.WrongWord.{WrongWord}
+use Rattle.version_commands.specs.declared.test.WrongWord.TheVariants as wrong
+use Rattle.version_rules.specs.Versioning.{versioning_of}
+use Rattle.version_lines.specs.Output.{AppendsProperBeginning}
+use Rattle.version_commands.specs.declared.faults.Fault.{Fault}
+use Rattle.version_commands.specs.declared.faults.Fault.TheVariants.{Usage, NotVersion, NotRequirement, NotTested, BadLine, NoNext, Untrue, Memory, Read, Write}
+
+-- the status that a fault ends the program with
+abbrev pub status_of : Fault → ℕ
+status_of (Usage text) = 2
+status_of (NotVersion text) = 1
+status_of (NotRequirement text) = 1
+status_of (NotTested text) = 2
+status_of (BadLine number text ends more) = 1
+status_of (NoNext text) = 1
+status_of Untrue = 1
+status_of Memory = 3
+status_of (Read name) = 3
+status_of (Write name) = 3
+
+-- the faults that reading can end in
+abbrev pub ComesOfReading : Fault → Type 0
+ComesOfReading Memory = ⊤
+ComesOfReading (Read name) = ⊤
+ComesOfReading fault = ⊥
+
+-- the faults that lines without a version can end in: the first of them, by its number, and how many
+-- more there are
+abbrev pub ComesOfBad : Invalid → BadLines → Fault → Type 0
+ComesOfBad policy bad Memory = ⊤
+ComesOfBad policy bad (BadLine number text ends more) =
+    (policy ≡ invalid.Fail) × (number ≡ min (bad.before + 1) (2 ^ 64 - 1)) × (more + 1 ≡ length bad.lines.items)
+ComesOfBad policy bad fault = ⊥
+
+-- the faults that writing can end in
+abbrev pub ComesOfWriting : Fault → Type 0
+ComesOfWriting Memory = ⊤
+ComesOfWriting (Write name) = ⊤
+ComesOfWriting fault = ⊥
+
+-- the faults that the file for lines without a version can end in
+abbrev pub ComesOfFiles : Fault → Type 0
+ComesOfFiles Memory = ⊤
+ComesOfFiles (Write (Some name)) = ⊤
+ComesOfFiles fault = ⊥
+
+-- known bytes grow by what is written at a fault: a proper beginning of the output where it could
+-- not be written to its end, and else nothing
+abbrev pub GrowsAt : Option (List ℕ) → Option (List ℕ) → List ℕ → Fault → Type 0
+GrowsAt old new output (Write None) = AppendsProperBeginning old new output
+GrowsAt old new output fault = Keeps old new
+
+-- the faults that reading lists of requirements can end in, if this is the first word that is none
+abbrev pub ComesOfLists : Option (List ℕ) → Fault → Type 0
+ComesOfLists wrong Memory = ⊤
+ComesOfLists wrong (NotRequirement text) = wrong ≡ Some (string_bytes text)
+ComesOfLists wrong fault = ⊥
+
+-- what was written at a fault: a proper beginning of an output, where it could not be written to its
+-- end, and else nothing
+abbrev pub FailsAt : (List ℕ → Type 0) → Option (List ℕ) → Option (List ℕ) → Fault → Type 0
+FailsAt IsOutput old new (Write None) =
+    (output : List ℕ) × IsOutput output × AppendsProperBeginning old new output
+FailsAt IsOutput old new fault = Keeps old new
+
+-- the faults that words which should be versions can end in
+abbrev pub ComesOfWords : Fault → Type 0
+ComesOfWords Memory = ⊤
+ComesOfWords (NotVersion text) = versioning_of (string_bytes text) ≡ None
+ComesOfWords fault = ⊥
+
+-- the faults that `test` can end in: that the answer is no, and the word that is wrong
+abbrev pub ComesOfTest : Result Bool WrongWord → List ℕ → List ℕ → Fault → Type 0
+ComesOfTest answer first second Memory = ⊤
+ComesOfTest answer first second Untrue = answer ≡ Ok false
+ComesOfTest answer first second (NotTested text) =
+    ((answer ≡ Err wrong.First) × (string_bytes text ≡ first))
+    ⊎ ((answer ≡ Err wrong.Second) × (string_bytes text ≡ second))
+ComesOfTest answer first second fault = ⊥
+
+-- any fault but that standard output takes no more
+abbrev pub NotOfWriting : Fault → Type 0
+NotOfWriting (Write None) = ⊥
+NotOfWriting fault = ⊤

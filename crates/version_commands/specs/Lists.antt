@@ -1,0 +1,98 @@
+-- What differs between two lists of names with versions.
+use Rattle.std.specs.Prelude.{◌≡◌, ℕ, List, [], ◌∷◌, ◌++◌, map, codes, Option, Some, None, is_some, if◌then◌else◌}
+use Rattle.std.specs.BTreeMap.{get_by}
+use Rattle.std.specs.Cmp.Lexicographic.{slice_cmp}
+use Rattle.std.specs.List.{flat_map}
+use Rattle.std.specs.Option.{option_map, option_map_or}
+use Rattle.std.specs.Ordering.{nat_cmp}
+use Rattle.std.specs.Str.{bytes_eq}
+use Rattle.std.specs.declared.cmp.Ordering.{Ordering}
+use Rattle.std.specs.declared.cmp.Ordering.TheVariants.{Less, Equal, Greater}
+use Rattle.version_commands.specs.Place.{column_text, line_text, version_in}
+use Rattle.version_commands.specs.declared.lists.Named.{Named}
+use Rattle.version_commands.specs.declared.lists.Names.{Names}
+use Rattle.version_commands.specs.declared.options.Lists.{Lists}
+use Rattle.version_lines.specs.Lines.{lines_of, whole_line}
+use Rattle.version_rules.specs.Key.{key_of, precedence}
+use Rattle.version_rules.specs.Versioning.{PlainVersioning, versioning_text}
+use Rattle.version_texts.specs.VersioningRef.{plain_versioning_ref}
+
+-- a name, and the version beside it
+abbrev pub Row : Type 0
+Row = List ℕ × PlainVersioning
+
+-- what a line names, if it has a version
+abbrev pub row_of : Lists → List ℕ → Option Row
+row_of lists line =
+    option_map (λ v. (column_text (Some lists.name) (line_text lists.place.crlf line), v))
+    (version_in lists.place line)
+
+-- as a list of one row or none
+abbrev pub rows_of_line : Lists → List ℕ → List Row
+rows_of_line lists line = option_map_or (λ row. row ∷ []) (row_of lists line) []
+
+-- what the lines of an input name
+abbrev pub rows_of : Lists → List ℕ → List Row
+rows_of lists input = flat_map (rows_of_line lists) (lines_of lists.end input)
+
+-- the version of a name: that of its first row
+abbrev pub version_of : List Row → List ℕ → Option PlainVersioning
+version_of [] name = None
+version_of (row ∷ rows) name = if bytes_eq row.0 name then Some row.1 else version_of rows name
+
+-- of some rows after others, each whose name no row before it has
+abbrev pub first_after : List Row → List Row → List Row
+first_after before [] = []
+first_after before (row ∷ rows) =
+    if is_some (version_of before row.0)
+    then first_after (before ++ row ∷ []) rows
+    else row ∷ first_after (before ++ row ∷ []) rows
+
+-- the first row of each name
+abbrev pub first_rows : List Row → List Row
+first_rows rows = first_after [] rows
+
+-- a word, a name and a version, with spaces between
+abbrev pub row_text : List ℕ → Row → List ℕ
+row_text word row = word ++ (row.0 ++ 32 ∷ versioning_text row.1)
+
+-- the line for a name that has another version in the new list, by how the old one compares
+abbrev pub change_line : ℕ → Row → PlainVersioning → Ordering → List ℕ
+change_line end row v Less = whole_line end (row_text (codes "raised ") row ++ 32 ∷ versioning_text v)
+change_line end row v Greater =
+    whole_line end (row_text (codes "lowered ") row ++ 32 ∷ versioning_text v)
+change_line end row v Equal = []
+
+-- the line for a name of the old list, by its version in the new list
+abbrev pub old_line : ℕ → Row → Option PlainVersioning → List ℕ
+old_line end row None = whole_line end (row_text (codes "removed ") row)
+old_line end row (Some v) = change_line end row v (precedence (key_of row.1) (key_of v))
+
+-- the line for a name of the new list, by its version in the old list
+abbrev pub new_line : ℕ → Row → Option PlainVersioning → List ℕ
+new_line end row None = whole_line end (row_text (codes "added ") row)
+new_line end row (Some v) = []
+
+-- the lines for the names of a list, by the rows of the other list
+abbrev pub lines_against : (Row → Option PlainVersioning → List ℕ) → List Row → List Row → List ℕ
+lines_against line others rows = flat_map (λ row. line row (version_of others row.0)) rows
+
+-- what `diff --lists` writes for two lists
+abbrev pub difference_text : ℕ → List Row → List Row → List ℕ
+difference_text end old new =
+    lines_against (old_line end) new (first_rows old)
+    ++ lines_against (new_line end) old (first_rows new)
+
+-- ---- as they are held
+
+-- the row that a value holds
+abbrev pub plain_row : Named → Row
+plain_row named = (named.name.now, plain_versioning_ref named.version)
+
+-- the names of some rows: their first rows in order, and the version of each name
+pub record AreNames (rows : List Row) (names : Names) : Type 0 where
+  pub order : map plain_row names.rows.items ≡ first_rows rows
+  pub versions : (name : List ℕ)
+      → option_map plain_versioning_ref
+      (get_by (λ key. slice_cmp nat_cmp name key.now) names.versions)
+      ≡ version_of rows name

@@ -1,0 +1,57 @@
+-- What single words of a run name.
+use Rattle.std.specs.Prelude.{ℕ, Bool, true, false, List, [], ◌∷◌, Option, None, Some, codes, unwrap_or, ◌||◌, if◌then◌else◌}
+use Rattle.std.specs.Str.{bytes_eq}
+use Rattle.version_commands.specs.declared.options.Invalid.{Invalid}
+use Rattle.version_commands.specs.declared.options.Operator.{Operator}
+use Rattle.version_commands.specs.declared.options.Invalid.TheVariants as invalid
+use Rattle.version_commands.specs.declared.options.Operator.TheVariants as operator
+use Rattle.version_tasks.specs.declared.stability.Stability.{Stability}
+use Rattle.version_tasks.specs.declared.stability.Stability.TheVariants as stability
+
+-- what a word of `--invalid` names
+abbrev pub invalid_named : List ℕ → Option Invalid
+invalid_named word =
+    if bytes_eq word (codes "fail") then Some invalid.Fail
+    else (if bytes_eq word (codes "skip") then Some invalid.Skip
+    else (if bytes_eq word (codes "first") then Some invalid.First
+    else (if bytes_eq word (codes "last") then Some invalid.Last else None)))
+
+-- what becomes of lines without a version: what is asked, or else the command's own choice. Those
+-- that go to a file are left out, and to ask anything else of them is wrong
+abbrev pub invalid_asked : Option Invalid → (to_file : Bool) → (by_default : Invalid) → Option Invalid
+invalid_asked asked false by_default = Some (unwrap_or asked by_default)
+invalid_asked None true by_default = Some invalid.Skip
+invalid_asked (Some invalid.Skip) true by_default = Some invalid.Skip
+invalid_asked (Some other) true by_default = None
+
+-- what a word of `--min-stability` names; all others name the least stable
+abbrev pub stability_named : List ℕ → Stability
+stability_named word =
+    if bytes_eq word (codes "alpha") then stability.Alpha
+    else (if bytes_eq word (codes "beta") then stability.Beta
+    else (if bytes_eq word (codes "rc") then stability.Rc
+    else (if bytes_eq word (codes "stable") then stability.Stable else stability.Dev)))
+
+-- the operator that a word of `test` names, by its sign or by its two letters
+abbrev pub operator_named : List ℕ → Option Operator
+operator_named word =
+    if bytes_eq word (codes "<") || bytes_eq word (codes "lt") then Some operator.Less
+    else (if bytes_eq word (codes "<=") || bytes_eq word (codes "le") then Some operator.LessOrEqual
+    else (if bytes_eq word (codes "=") || bytes_eq word (codes "eq") then Some operator.Equal
+    else (if bytes_eq word (codes ">=") || bytes_eq word (codes "ge") then Some operator.GreaterOrEqual
+    else (if bytes_eq word (codes ">") || bytes_eq word (codes "gt") then Some operator.Greater
+    else None))))
+
+-- the byte that a word of `-t` names: itself, a tab by `\t` and NUL by `\0`
+abbrev pub separator_named : List ℕ → Option ℕ
+separator_named (byte ∷ []) = Some byte
+separator_named word =
+    if bytes_eq word (codes "\\t") then Some 9
+    else (if bytes_eq word (codes "\\0") then Some 0 else None)
+
+-- the place of a number that a name stands for in `next`
+abbrev pub name_place : List ℕ → Option ℕ
+name_place word =
+    if bytes_eq word (codes "major") then Some 0
+    else (if bytes_eq word (codes "minor") then Some 1
+    else (if bytes_eq word (codes "patch") then Some 2 else None))

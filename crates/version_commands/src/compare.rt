@@ -1,0 +1,66 @@
+//! The command `compare`: how two versions compare, and where they differ first.
+
+ghost use Rattle.std.specs.Prelude.{◌≡◌, ◌++◌, OnOk};
+ghost use Rattle.version_commands.specs.Compare.{comparison_line, explanation};
+ghost use Rattle.version_lines.specs.Comparison.{sign_text};
+ghost use Rattle.version_texts.specs.VersioningRef.{plain_versioning_ref};
+
+use crate::pieces::add_pieces;
+use itoa::Buffer;
+use std::alloc::AllocError;
+use std::cmp::Ordering;
+use version_texts::{Difference, VersioningRef};
+
+/// Adds the line for two versions: the sign between them, and with `explain` a sentence that says where they differ
+/// first.
+pub(crate) fn add_comparison(
+    first: &VersioningRef<'_>,
+    second: &VersioningRef<'_>,
+    explain: bool,
+    end: u8,
+    output: &mut Vec<u8>,
+) -> Result<(), AllocError>
+    ensures { OnOk result (output.new.items ≡ output.old.items ++ comparison_line explain end
+        (plain_versioning_ref first.now) (plain_versioning_ref second.now)) }
+{
+    add_pieces(output, &[sign(first.precedence(second))])?;
+    if explain {
+        add_explanation(first.difference(second), output)?;
+    }
+    output.push(end)?;
+    Ok(())
+}
+
+// Returns the sign of an ordering.
+fn sign(order: Ordering) -> &'static [u8]
+    ensures { result.now ≡ sign_text order }
+{
+    match order {
+        Ordering::Less => b"<",
+        Ordering::Equal => b"=",
+        Ordering::Greater => b">",
+    }
+}
+
+// Adds a space and the sentence that says where two versions differ first.
+fn add_explanation(difference: Difference, output: &mut Vec<u8>) -> Result<(), AllocError>
+    ensures { OnOk result (output.new.items ≡ output.old.items ++ explanation difference) }
+{
+    let sentence: &[u8] = match difference {
+        Difference::Epoch => b" they differ first in the epoch",
+        Difference::Part(number) => {
+            let mut digits = Buffer::new();
+            return add_pieces(
+                output,
+                &[
+                    b" they differ first in part ",
+                    digits.format(number).as_bytes(),
+                ],
+            );
+        }
+        Difference::Tail => b" they differ first in what follows the parts",
+        Difference::Tie => b" they compare equal, and are not the same version",
+        Difference::Same => b" they are the same version",
+    };
+    output.extend_from_slice(sentence)
+}

@@ -1,0 +1,44 @@
+//! The files of a run, and what it tells while it works.
+
+ghost use Rattle.std.specs.Prelude.{◌≡◌, ℕ, ◌⊎◌, List, Option, ◌++◌, IfErr, IfSome, OnOk};
+
+/// Why a file could not be read or written.
+#[derive(Clone, Copy, Debug, PartialEq, Eq)]
+pub enum Trouble {
+    /// An allocation failed.
+    Memory,
+    /// The system refused.
+    System,
+}
+
+/// How far a run is.
+#[derive(Clone, Copy, Debug, PartialEq, Eq)]
+pub enum Stage {
+    /// So many bytes were read.
+    Read(usize),
+    /// So many lines were checked.
+    Checked(usize),
+    /// So many lines stand in order.
+    Ordered(usize),
+}
+
+/// The files that a run may read and write by their names.
+pub trait Files {
+    // What a file holds, by its name, if that is known.
+    ghost holds: { Self → List ℕ → Option (List ℕ) };
+
+    // Between the two states the bytes were written to the file of this name, in place of what it held.
+    ghost puts: { Self → Self → List ℕ → List ℕ → Type 0 };
+
+    /// Adds what the file holds to the input. After an error, part of it may have been added.
+    fn read_onto(&self, name: &str, input: &mut Vec<u8>) -> Result<(), Trouble>
+        ensures { OnOk result ((text : List ℕ) × (input.new.items ≡ input.old.items ++ text)
+            × IfSome (holds self.now name.now) (λ held. text ≡ held)) };
+
+    /// Writes the bytes to the file, in place of what it holds.
+    fn put(&mut self, name: &str, bytes: &[u8]) -> Result<(), Trouble>
+        ensures { OnOk result (puts self.old self.new name.now bytes.now) };
+
+    /// Tells how far the run is. Only `--progress` asks for it.
+    fn tell(&mut self, stage: Stage);
+}

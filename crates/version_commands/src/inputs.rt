@@ -1,0 +1,117 @@
+//! Reading the inputs in turn.
+ghost use Rattle.std.specs.Prelude.{◌≡◌, ◌++◌, ◌∷◌, [], ℕ, List, map, IfErr, IfOk, OnOk};
+ghost use Rattle.version_commands.specs.Fault.{ComesOfReading};
+ghost use Rattle.version_commands.specs.Inputs.{ended, ends_line, joined, names_read, AreInputs, IsInput};
+
+use crate::faults::Fault;
+use crate::files::{Files, Trouble};
+use std::alloc::{AllocError, Global};
+use std::io::Read;
+use version_lines::read_onto;
+
+/// Reads the files in turn, each to its end; `-` is the reader, and so is no name at all. An input that does not end
+/// where a line ends gets the byte that ends one.
+pub fn read_inputs<F: Files, R: Read>(
+    alloc: Global,
+    names: &[&str],
+    end: u8,
+    files: &F,
+    reader: &mut R,
+) -> Result<Vec<u8>, Fault>
+    ensures input { IfOk result (λ input. (texts : List (List ℕ))
+        × AreInputs (F.holds files.now) (R.remaining reader.old) (R.remaining reader.new)
+        (names_read (map (λ name. name.now) names.now)) texts × (input.items ≡ joined end texts)) }
+    ensures faults { IfErr result ComesOfReading }
+{
+    if names.is_empty() {
+        return read_named(alloc, &["-"], end, files, reader);
+    }
+    read_named(alloc, names, end, files, reader)
+}
+
+// Reads the inputs of these names in turn.
+fn read_named<F: Files, R: Read>(
+    alloc: Global,
+    names: &[&str],
+    end: u8,
+    files: &F,
+    reader: &mut R,
+) -> Result<Vec<u8>, Fault>
+    ensures input { IfOk result (λ input. (texts : List (List ℕ))
+        × AreInputs (F.holds files.now) (R.remaining reader.old) (R.remaining reader.new)
+        (map (λ name. name.now) names.now) texts × (input.items ≡ joined end texts)) }
+    ensures faults { IfErr result ComesOfReading }
+{
+    let mut input = Vec::new(alloc);
+    for name in names {
+        add_input(alloc, name, files, reader, &mut input, end)?;
+    }
+    Ok(input)
+}
+
+// Adds an input, and the byte that ends a line if it does not end where one ends.
+fn add_input<F: Files, R: Read>(
+    alloc: Global,
+    name: &str,
+    files: &F,
+    reader: &mut R,
+    input: &mut Vec<u8>,
+    end: u8,
+) -> Result<(), Fault>
+    ensures text { OnOk result ((text : List ℕ)
+        × IsInput (F.holds files.now) (R.remaining reader.old) (R.remaining reader.new) name.now text
+        × (input.new.items ≡ input.old.items ++ ended end text)) }
+    ensures faults { IfErr result ComesOfReading }
+{
+    let start = input.len();
+    add_text(alloc, name, files, reader, input)?;
+    if !ends_line(end, &input.as_slice()[start..]) {
+        add_end(input, end)?;
+    }
+    Ok(())
+}
+
+// Adds the byte that ends a line.
+fn add_end(input: &mut Vec<u8>, end: u8) -> Result<(), AllocError>
+    ensures { OnOk result (input.new.items ≡ input.old.items ++ end ∷ []) }
+{
+    input.push(end)?;
+    Ok(())
+}
+
+// Adds what an input holds.
+fn add_text<F: Files, R: Read>(
+    alloc: Global,
+    name: &str,
+    files: &F,
+    reader: &mut R,
+    input: &mut Vec<u8>,
+) -> Result<(), Fault>
+    ensures text { OnOk result ((text : List ℕ)
+        × IsInput (F.holds files.now) (R.remaining reader.old) (R.remaining reader.new) name.now text
+        × (input.new.items ≡ input.old.items ++ text)) }
+    ensures faults { IfErr result ComesOfReading }
+{
+    if name == "-" {
+        return match read_onto(alloc, reader, input) {
+            Ok(()) => Ok(()),
+            Err(version_lines::Fault::Memory) => Err(Fault::Memory),
+            Err(_) => Err(Fault::Read(String::from_str(alloc, name)?)),
+        };
+    }
+    match files.read_onto(name, input) {
+        Ok(()) => Ok(()),
+        Err(Trouble::Memory) => Err(Fault::Memory),
+        Err(Trouble::System) => Err(Fault::Read(String::from_str(alloc, name)?)),
+    }
+}
+
+// Whether some bytes end where a line ends: they are none, or the last of them ends a line.
+fn ends_line(end: u8, bytes: &[u8]) -> bool
+    ensures { result ≡ ends_line end bytes.now }
+{
+    match bytes.last() {
+        Some(last) => *last == end,
+        None => true,
+    }
+}

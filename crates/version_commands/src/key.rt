@@ -1,0 +1,25 @@
+//! The command `key`: the sort keys of versions.
+
+ghost use Rattle.std.specs.Prelude.{◌≡◌, ◌++◌, OnOk};
+ghost use Rattle.version_commands.specs.Key.{key_line};
+ghost use Rattle.version_texts.specs.VersioningRef.{plain_versioning_ref};
+
+use crate::pieces::add_pieces;
+use std::alloc::{AllocError, Global};
+use version_texts::VersioningRef;
+
+/// Adds the line with the sort key of a version, in hexadecimal.
+pub(crate) fn add_key_line(
+    alloc: Global,
+    version: &VersioningRef<'_>,
+    end: u8,
+    output: &mut Vec<u8>,
+) -> Result<(), AllocError>
+    ensures { OnOk result (output.new.items
+        ≡ output.old.items ++ key_line end (plain_versioning_ref version.now)) }
+{
+    let mut key = Vec::new(alloc);
+    version.append_key(&mut key)?;
+    let digits = hex::encode(alloc, key.as_slice())?;
+    add_pieces(output, &[digits.as_bytes(), &[end]])
+}

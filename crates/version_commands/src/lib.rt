@@ -1,0 +1,38 @@
+//! The program `versions` over any files, reader and writer: `run` reads the words of a command and its lines, and writes
+//! what the command answers. docs/VERSIONS.md has its rules.
+#![tactic(auto)]
+
+mod arrange;
+mod bad;
+mod choice;
+mod column;
+mod compare;
+mod difference;
+mod each;
+mod faults;
+mod files;
+mod inputs;
+mod json;
+mod key;
+mod lists;
+mod next;
+mod options;
+mod pick;
+mod pieces;
+mod place;
+mod program;
+mod rows;
+mod show;
+mod test;
+mod why;
+mod words;
+mod write;
+
+pub use faults::Fault;
+pub use files::{Files, Stage, Trouble};
+pub use options::{
+    Arrangement, Choice, Column, EachOptions, Invalid, LineOptions, Lists, Naming, Operator,
+    Question, Task, VersionPlace,
+};
+pub use program::{run, serve};
+pub use words::read_words;

@@ -1,0 +1,232 @@
+//! What differs between two lists of names with versions.
+ghost use Rattle.std.specs.Prelude.{◌≡◌, ◌<◌, ◌≤◌, ◌+◌, ◌^◌, ℕ, ◌∷◌, ◌++◌, [], List, IfOk, OnOk};
+ghost use Rattle.std.specs.Option.{option_map};
+ghost use Rattle.version_commands.specs.Lists.{difference_text, first_rows, lines_against, new_line, old_line, plain_row, row_text, rows_of, rows_of_line, version_of, AreNames, Row};
+ghost use Rattle.version_commands.specs.Picked.{AreBadOf};
+ghost use Rattle.version_commands.specs.Place.{text_of};
+ghost use Rattle.version_lines.specs.Lines.{lines_of, whole_line};
+ghost use Rattle.version_rules.specs.Versioning.{versioning_text};
+ghost use Rattle.version_texts.specs.VersioningRef.{plain_versioning_ref};
+
+use crate::options::Lists;
+use crate::pick::BadLines;
+use crate::place::{column_text, line_text};
+use std::alloc::{AllocError, Global};
+use std::cmp::Ordering;
+use std::collections::BTreeMap;
+use version_lines::split_line;
+use version_texts::VersioningRef;
+
+/// A name, and the version beside it.
+#[derive(Clone, Copy)]
+pub struct Named<'a> {
+    name: &'a [u8],
+    version: VersioningRef<'a>,
+}
+
+/// The names of a list, each with the version of its first line.
+#[derive(Drop)]
+pub struct Names<'a> {
+    // In the order of their first lines.
+    rows: Vec<Named<'a>>,
+    versions: BTreeMap<&'a [u8], VersioningRef<'a>>,
+}
+
+impl<'a> Names<'a> {
+    // None yet.
+    fn new(alloc: Global) -> Names<'a>
+        ensures { AreNames [] result }
+    {
+        Names {
+            rows: Vec::new(alloc),
+            versions: BTreeMap::new(alloc),
+        }
+    }
+
+    // Adds a name with the version of its line, unless an earlier line has the name.
+    fn add(&mut self, name: &'a [u8], version: VersioningRef<'a>) -> Result<(), AllocError>
+        ensures { OnOk result ((rows : List Row) → AreNames rows self.old
+            → AreNames (rows ++ (name.now, plain_versioning_ref version.entry) ∷ []) self.new) }
+    {
+        if self.versions.contains_key(name) {
+            return Ok(());
+        }
+        self.versions.insert(name, version)?;
+        self.rows.push(Named { name, version })?;
+        Ok(())
+    }
+
+    // Returns the version of a name.
+    fn version(&self, name: &[u8]) -> Option<&VersioningRef<'a>>
+        ensures { (rows : List Row) → AreNames rows self.now
+            → option_map (λ version. plain_versioning_ref version.now) result
+            ≡ version_of rows name.now }
+    {
+        self.versions.get(name)
+    }
+}
+
+/// Returns the names of a list, and its lines without a version, which have none.
+pub fn read_names<'a>(
+    alloc: Global,
+    lists: &Lists<'_>,
+    input: &'a [u8],
+) -> Result<(Names<'a>, BadLines<'a>), AllocError>
+    ensures names { IfOk result (λ read. AreNames (rows_of lists.now input.now) read.0) }
+    ensures bad { IfOk result (λ read.
+        AreBadOf (text_of lists.now.place) (lines_of lists.now.end input.now) read.1) }
+{
+    let mut names = Names::new(alloc);
+    let mut bad = BadLines::new(alloc);
+    let mut rest = input;
+    while !rest.is_empty() {
+        let (line, after) = split_line(lists.end, rest);
+        add_line(lists, line, &mut names, &mut bad)?;
+        rest = after;
+    }
+    Ok((names, bad))
+}
+
+// Adds the name of a line, or the line if it has no version.
+fn add_line<'a>(
+    lists: &Lists<'_>,
+    line: &'a [u8],
+    names: &mut Names<'a>,
+    bad: &mut BadLines<'a>,
+) -> Result<(), AllocError>
+    requires { bad.old.before + 1 < 2 ^ 64 }
+    ensures names { OnOk result ((rows : List Row) → AreNames rows names.old
+        → AreNames (rows ++ rows_of_line lists.now line.now) names.new) }
+    ensures bad { OnOk result ((lines : List (List ℕ))
+        → AreBadOf (text_of lists.now.place) lines bad.old
+        → AreBadOf (text_of lists.now.place) (lines ++ line.now ∷ []) bad.new) }
+    ensures before { OnOk result (bad.new.before ≤ bad.old.before + 1) }
+{
+    let text = lists.place.text(line);
+    match VersioningRef::from_bytes(text) {
+        Some(version) => {
+            bad.pass();
+            let name = column_text(Some(lists.name), line_text(lists.place.crlf, line));
+            names.add(name, version)
+        }
+        None => bad.add(line),
+    }
+}
+
+/// Adds what differs between two lists of names.
+pub fn add_lists(
+    old: &Names<'_>,
+    new: &Names<'_>,
+    end: u8,
+    output: &mut Vec<u8>,
+) -> Result<(), AllocError>
+    ensures { (before after : List Row) → AreNames before old.now → AreNames after new.now
+        → OnOk result (output.new.items ≡ output.old.items ++ difference_text end before after) }
+{
+    add_olds(old, new, end, output)?;
+    add_news(old, new, end, output)
+}
+
+// Adds the lines for the names of the old list.
+fn add_olds(
+    old: &Names<'_>,
+    new: &Names<'_>,
+    end: u8,
+    output: &mut Vec<u8>,
+) -> Result<(), AllocError>
+    ensures { (before after : List Row) → AreNames before old.now → AreNames after new.now
+        → OnOk result (output.new.items
+        ≡ output.old.items ++ lines_against (old_line end) after (first_rows before)) }
+{
+    for row in &old.rows {
+        add_old(row, new.version(row.name), end, output)?;
+    }
+    Ok(())
+}
+
+// Adds the lines for the names of the new list.
+fn add_news(
+    old: &Names<'_>,
+    new: &Names<'_>,
+    end: u8,
+    output: &mut Vec<u8>,
+) -> Result<(), AllocError>
+    ensures { (before after : List Row) → AreNames before old.now → AreNames after new.now
+        → OnOk result (output.new.items
+        ≡ output.old.items ++ lines_against (new_line end) before (first_rows after)) }
+{
+    for row in &new.rows {
+        add_new(row, old.version(row.name), end, output)?;
+    }
+    Ok(())
+}
+
+// Adds the line for a name of the old list, by its version in the new list.
+fn add_old(
+    row: &Named<'_>,
+    new: Option<&VersioningRef<'_>>,
+    end: u8,
+    output: &mut Vec<u8>,
+) -> Result<(), AllocError>
+    ensures { OnOk result (output.new.items ≡ output.old.items ++ old_line end (plain_row row.now)
+        (option_map (λ version. plain_versioning_ref version.now) new.entry)) }
+{
+    let Some(new) = new else {
+        add_row(b"removed ", row, output)?;
+        output.push(end)?;
+        return Ok(());
+    };
+    match row.version.precedence(new) {
+        Ordering::Less => add_change(b"raised ", row, new, end, output),
+        Ordering::Greater => add_change(b"lowered ", row, new, end, output),
+        Ordering::Equal => Ok(()),
+    }
+}
+
+// Adds the line for a name of the new list, by its version in the old list.
+fn add_new(
+    row: &Named<'_>,
+    old: Option<&VersioningRef<'_>>,
+    end: u8,
+    output: &mut Vec<u8>,
+) -> Result<(), AllocError>
+    ensures { OnOk result (output.new.items ≡ output.old.items ++ new_line end (plain_row row.now)
+        (option_map (λ version. plain_versioning_ref version.now) old.entry)) }
+{
+    if old.is_some() {
+        return Ok(());
+    }
+    add_row(b"added ", row, output)?;
+    output.push(end)?;
+    Ok(())
+}
+
+// Adds the line for a name whose version changed.
+fn add_change(
+    word: &[u8],
+    row: &Named<'_>,
+    new: &VersioningRef<'_>,
+    end: u8,
+    output: &mut Vec<u8>,
+) -> Result<(), AllocError>
+    ensures { OnOk result (output.new.items ≡ output.old.items
+        ++ whole_line end (row_text word.now (plain_row row.now)
+        ++ 32 ∷ versioning_text (plain_versioning_ref new.now))) }
+{
+    add_row(word, row, output)?;
+    output.push(b' ')?;
+    output.extend_from_slice(new.text().as_bytes())?;
+    output.push(end)?;
+    Ok(())
+}
+
+// Adds a word, a name and its version, with spaces between.
+fn add_row(word: &[u8], row: &Named<'_>, output: &mut Vec<u8>) -> Result<(), AllocError>
+    ensures { OnOk result (output.new.items
+        ≡ output.old.items ++ row_text word.now (plain_row row.now)) }
+{
+    output.extend_from_slice(word)?;
+    output.extend_from_slice(row.name)?;
+    output.push(b' ')?;
+    output.extend_from_slice(row.version.text().as_bytes())
+}

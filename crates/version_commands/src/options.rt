@@ -1,0 +1,170 @@
+//! What a command is asked to do: the words of a run, read.
+
+use version_tasks::Stability;
+
+/// A column of a line.
+#[derive(Clone, Copy, Debug, PartialEq, Eq)]
+pub struct Column {
+    /// Its number, counted from 0. Words count from 1.
+    pub number: usize,
+    /// The byte between two columns. Without one, runs of spaces and tabs are between them, and those at the line's
+    /// beginning are left out.
+    pub separator: Option<u8>,
+}
+
+/// How a version stands in its column, or in the whole line.
+#[derive(Clone, Copy, Debug, PartialEq, Eq)]
+pub enum Naming<'w> {
+    /// It is the whole text.
+    Bare,
+    /// It is the version in a tag.
+    Tag,
+    /// It is the version after this prefix.
+    Prefix(&'w str),
+}
+
+/// Where the version of a line stands.
+#[derive(Clone, Copy, Debug, PartialEq, Eq)]
+pub struct VersionPlace<'w> {
+    /// Whether a carriage return at the end of a line belongs to the line's end.
+    pub crlf: bool,
+    /// The column, or None for the whole line.
+    pub column: Option<Column>,
+    pub naming: Naming<'w>,
+}
+
+/// Which lines that have a version are left out before all else.
+#[derive(Clone, Copy, Debug, PartialEq, Eq)]
+pub struct Choice<'w> {
+    /// Those whose version is less stable.
+    pub least: Stability,
+    /// Those whose version this list of requirements does not match.
+    pub wanted: Option<&'w str>,
+}
+
+/// What becomes of the lines that have no version.
+#[derive(Clone, Copy, Debug, PartialEq, Eq)]
+pub enum Invalid {
+    /// The first of them is a fault.
+    Fail,
+    /// They are left out.
+    Skip,
+    /// They stand before all others, in the order of the input.
+    First,
+    /// They stand after all others, in the order of the input.
+    Last,
+}
+
+/// What is written of the lines that have a version and are not left out.
+#[derive(Clone, Copy, Debug, PartialEq, Eq)]
+pub enum Arrangement<'w> {
+    /// All of them in the order of their versions.
+    Sort {
+        /// From the last to the first. Lines that compare equal keep their order.
+        reverse: bool,
+        /// Of lines whose versions tie in precedence, the first of the input alone.
+        unique: bool,
+    },
+    /// The newest, the newest first; of each group, in the order in which groups first appear.
+    Newest {
+        /// How many.
+        count: usize,
+        /// The column whose text is the group of a line. Without one, all lines are of one group.
+        group: Option<Column>,
+    },
+    /// Those whose versions a list of requirements matches, or does not match, in the order of the input.
+    Filter {
+        list: &'w str,
+        inverted: bool,
+    },
+}
+
+/// What `sort`, `newest` and `filter` are asked beside their arrangement.
+#[derive(Debug, Drop)]
+pub struct LineOptions<'w> {
+    /// The byte that ends a line.
+    pub end: u8,
+    pub place: VersionPlace<'w>,
+    pub choice: Choice<'w>,
+    pub invalid: Invalid,
+    /// The file that lines without a version are written to, in place of the output.
+    pub invalid_to: Option<&'w str>,
+    pub progress: bool,
+    /// The files that are read in turn; `-` is standard input. Without any, standard input is read.
+    pub files: Vec<&'w str>,
+}
+
+/// What is asked of each of several versions.
+#[derive(Clone, Copy, Debug, PartialEq, Eq)]
+pub enum Question<'w> {
+    /// Its kind, numbers and other fields, in lines.
+    Show,
+    /// The same as a JSON object.
+    Json,
+    /// Its sort key, in hexadecimal.
+    Key,
+    /// Which member of a list of requirements does not match it, and why.
+    Why(&'w str),
+    /// Which version comes next at a place, counted from 0.
+    Next(usize),
+}
+
+/// Which versions are asked: those of the words, or without any those of the lines of standard input.
+#[derive(Debug, Drop)]
+pub struct EachOptions<'w> {
+    pub versions: Vec<&'w str>,
+    /// The byte that ends a line.
+    pub end: u8,
+    /// Whether a carriage return at the end of a line belongs to the line's end.
+    pub crlf: bool,
+}
+
+/// How two versions are asked to compare by precedence.
+#[derive(Clone, Copy, Debug, PartialEq, Eq)]
+pub enum Operator {
+    Less,
+    LessOrEqual,
+    Equal,
+    GreaterOrEqual,
+    Greater,
+}
+
+/// Two lists of names with versions.
+#[derive(Clone, Copy, Debug, PartialEq, Eq)]
+pub struct Lists<'w> {
+    /// The files; `-` is standard input.
+    pub old: &'w str,
+    pub new: &'w str,
+    /// The byte that ends a line.
+    pub end: u8,
+    /// The column of the name.
+    pub name: Column,
+    /// Where the version stands.
+    pub place: VersionPlace<'w>,
+    pub invalid: Invalid,
+}
+
+/// What a run is asked to do.
+#[derive(Debug, Drop)]
+pub enum Task<'w> {
+    /// `sort`, `newest` and `filter`.
+    Lines(Arrangement<'w>, LineOptions<'w>),
+    /// `show`, `key`, `why` and `next`.
+    Each(Question<'w>, EachOptions<'w>),
+    /// `test A OP B`.
+    TestTwo(&'w str, Operator, &'w str),
+    /// `test VERSION LIST`.
+    TestList(&'w str, &'w str),
+    /// `compare A B`, with `--explain` or without.
+    Compare {
+        first: &'w str,
+        second: &'w str,
+        explain: bool,
+    },
+    /// `diff A B`.
+    Difference(&'w str, &'w str),
+    /// `diff --lists OLD NEW`.
+    Lists(Lists<'w>),
+    /// `--help` and `--version`: the text that is written.
+    Say(String),
+}

@@ -1,0 +1,113 @@
+//! Where the version of a line stands.
+ghost use Rattle.std.specs.Prelude.{◌≡◌, ◌<◌, [], drop, length};
+ghost use Rattle.std.specs.Option.{option_map_or, IfSome};
+ghost use Rattle.version_commands.specs.Place.{column_text, line_text, named_text, named_version, place_text, text_of};
+ghost use Rattle.version_rules.specs.Versioning.{versioning_of};
+
+use crate::options::{Column, Naming, VersionPlace};
+use version_lines::{GroupBy, SortBy};
+use version_tasks::{start_after_prefix, start_in_tag};
+
+impl VersionPlace<'_> {
+    /// Returns the text in a line that is to be its version. It is empty where the line has no such column, and where
+    /// there is no version in the tag. Does not allocate.
+    pub fn text<'a>(&self, line: &'a [u8]) -> &'a [u8]
+        ensures text { result.now ≡ text_of self.now line.now }
+        ensures version { versioning_of result.now
+            ≡ named_version self.now.naming (place_text self.now line.now) }
+    {
+        self.naming
+            .text(column_text(self.column, line_text(self.crlf, line)))
+    }
+}
+
+impl Naming<'_> {
+    // Returns the text of the version in a text.
+    fn text<'a>(&self, text: &'a [u8]) -> &'a [u8]
+        ensures text { result.now ≡ named_text self.now text.now }
+        ensures version { versioning_of result.now ≡ named_version self.now text.now }
+    {
+        match self {
+            Naming::Bare => text,
+            Naming::Tag => rest_from(text, start_in_tag(text)),
+            Naming::Prefix(prefix) => rest_from(text, start_after_prefix(prefix.as_bytes(), text)),
+        }
+    }
+}
+
+/// What lines are sorted by: the version that stands at a place in each of them.
+#[derive(Clone, Copy, Debug, PartialEq, Eq)]
+pub struct ByVersion<'w> {
+    pub place: VersionPlace<'w>,
+    /// Whether the highest version comes first.
+    pub reverse: bool,
+}
+
+impl SortBy for ByVersion<'_> {
+    ghost use Rattle.version_commands.specs.Place.{text_of};
+
+    ghost text_of = { λ by. text_of by.place };
+
+    ghost is_reversed = { λ by. by.reverse };
+
+    fn text<'a>(&self, line: &'a [u8]) -> &'a [u8] {
+        self.place.text(line)
+    }
+
+    fn is_reversed(&self) -> bool {
+        self.reverse
+    }
+}
+
+/// The group of a line: the text of a column, or all lines are of one group.
+#[derive(Clone, Copy, Debug, PartialEq, Eq)]
+pub struct ByColumn {
+    /// Whether a carriage return at the end of a line belongs to the line's end.
+    pub crlf: bool,
+    /// The column. Lines without it are of the group of the empty text.
+    pub column: Option<Column>,
+}
+
+impl GroupBy for ByColumn {
+    ghost use Rattle.version_commands.specs.Place.{group_text};
+
+    ghost group_of = { λ by. group_text by.crlf by.column };
+
+    fn group<'a>(&self, line: &'a [u8]) -> &'a [u8] {
+        match self.column {
+            Some(column) => column_text(Some(column), line_text(self.crlf, line)),
+            None => &[],
+        }
+    }
+}
+
+// Returns the rest of a text from a place on, and nothing without one.
+fn rest_from(text: &[u8], start: Option<usize>) -> &[u8]
+    requires { IfSome start (λ place. place < length text.now) }
+    ensures { result.now ≡ option_map_or (λ place. drop place text.now) start [] }
+{
+    match start {
+        Some(start) => &text[start..],
+        None => &[],
+    }
+}
+
+/// Returns the text of a column of a line, or of the whole line. It is empty where the line has no such column.
+pub fn column_text(column: Option<Column>, line: &[u8]) -> &[u8]
+    ensures { result.now ≡ column_text column line.now }
+{
+    match column {
+        Some(column) => column.of(line).unwrap_or(&[]),
+        None => line,
+    }
+}
+
+/// Returns a line without the carriage return that it may end in, if that belongs to its end.
+pub fn line_text(crlf: bool, line: &[u8]) -> &[u8]
+    ensures { result.now ≡ line_text crlf line.now }
+{
+    match line {
+        [front @ .., b'\r'] if crlf => front,
+        _ => line,
+    }
+}

@@ -1,0 +1,171 @@
+//! A run of the program over any files, reader and writer.
+ghost use Rattle.std.specs.Prelude.{◌≡◌, ℕ, List, true, Ok, Some, IfErr, IfOk, OnOk};
+ghost use Rattle.std.specs.Io.KnownBytes.{Appends};
+ghost use Rattle.version_commands.specs.Compare.{comparison_line};
+ghost use Rattle.version_commands.specs.Difference.{difference_line};
+ghost use Rattle.version_commands.specs.Fault.{ComesOfTest, ComesOfWords, FailsAt, NotOfWriting};
+ghost use Rattle.version_commands.specs.Output.{AreChanges, HasWhatItNeeds, IsLineOfTwo, IsOutput};
+ghost use Rattle.version_lines.specs.Lines.{line_feed};
+ghost use Rattle.version_rules.specs.Versioning.{versioning_of};
+ghost use Rattle.version_texts.specs.VersioningRef.{plain_versioning_ref};
+
+use crate::arrange::serve_lines;
+use crate::bad::refuse_first;
+use crate::compare::add_comparison;
+use crate::difference::add_difference;
+use crate::each::answer_each;
+use crate::faults::Fault;
+use crate::files::Files;
+use crate::inputs::read_inputs;
+use crate::lists::{add_lists, read_names};
+use crate::options::{Invalid, Lists, Task};
+use crate::test::{WrongWord, test_list, test_two};
+use crate::words::read_words;
+use crate::write::write_answer;
+use std::alloc::Global;
+use std::io::{Read, Write};
+use version_texts::VersioningRef;
+
+/// Does what the words ask for. docs/VERSIONS.md has the commands.
+///
+/// The words are read first, and each that should be a version or a list of requirements is checked before anything is
+/// read. The inputs are read to their ends and checked before anything is written, and all memory is taken before.
+pub fn run<F: Files, R: Read, W: Write>(
+    alloc: Global,
+    words: &[String],
+    files: &mut F,
+    reader: &mut R,
+    writer: &mut W,
+) -> Result<(), Fault> {
+    let task = read_words(alloc, words)?;
+    serve(alloc, &task, files, reader, writer)
+}
+
+/// Does a task. What it writes is `IsOutput` of the task and of what the files and the reader hold. At a fault nothing
+/// was written, but for standard output that takes no more.
+pub fn serve<F: Files, R: Read, W: Write>(
+    alloc: Global,
+    task: &Task<'_>,
+    files: &mut F,
+    reader: &mut R,
+    writer: &mut W,
+) -> Result<(), Fault>
+    ensures written { OnOk result ((output : List ℕ) × IsOutput task.now (F.holds files.old)
+        (R.remaining reader.old) (R.remaining reader.new) output
+        × Appends (W.contents writer.old) (W.contents writer.new) output) }
+    ensures good { OnOk result (HasWhatItNeeds task.now (F.holds files.old)
+        (R.remaining reader.old) (R.remaining reader.new)) }
+    ensures at_fault { IfErr result (FailsAt (IsOutput task.now (F.holds files.old)
+        (R.remaining reader.old) (R.remaining reader.new))
+        (W.contents writer.old) (W.contents writer.new)) }
+{
+    match task {
+        Task::Lines(arrangement, options) => {
+            serve_lines(alloc, *arrangement, options, files, reader, writer)
+        }
+        Task::Each(question, options) => {
+            let output = answer_each(alloc, *question, options, reader)?;
+            write_answer(writer, output.as_slice())
+        }
+        Task::TestTwo(first, operator, second) => {
+            settle(alloc, test_two(first, *operator, second), first, second)
+        }
+        Task::TestList(version, list) => settle(alloc, test_list(version, list), version, list),
+        Task::Compare {
+            first,
+            second,
+            explain,
+        } => {
+            let output = comparison(alloc, first, second, *explain)?;
+            write_answer(writer, output.as_slice())
+        }
+        Task::Difference(first, second) => {
+            let output = difference(alloc, first, second)?;
+            write_answer(writer, output.as_slice())
+        }
+        Task::Lists(lists) => {
+            let output = changes(alloc, lists, files, reader)?;
+            write_answer(writer, output.as_slice())
+        }
+        Task::Say(text) => write_answer(writer, text.as_bytes()),
+    }
+}
+
+// Ends `test` by its answer, or with the word that is wrong.
+fn settle(
+    alloc: Global,
+    answer: Result<bool, WrongWord>,
+    first: &str,
+    second: &str,
+) -> Result<(), Fault>
+    ensures yes { OnOk result (answer ≡ Ok true) }
+    ensures faults { IfErr result (ComesOfTest answer first.now second.now) }
+{
+    match answer {
+        Ok(true) => Ok(()),
+        Ok(false) => Err(Fault::Untrue),
+        Err(WrongWord::First) => Err(Fault::NotTested(String::from_str(alloc, first)?)),
+        Err(WrongWord::Second) => Err(Fault::NotTested(String::from_str(alloc, second)?)),
+    }
+}
+
+// Parses a word as a version. Otherwise the fault holds a copy of the word.
+fn version_of_word(alloc: Global, word: &str) -> Result<VersioningRef<'_>, Fault>
+    ensures ok { IfOk result (λ v. versioning_of word.now ≡ Some (plain_versioning_ref v)) }
+    ensures faults { IfErr result ComesOfWords }
+{
+    match VersioningRef::new(word) {
+        Some(version) => Ok(version),
+        None => Err(Fault::NotVersion(String::from_str(alloc, word)?)),
+    }
+}
+
+// Returns the line of `compare`.
+fn comparison(alloc: Global, first: &str, second: &str, explain: bool) -> Result<Vec<u8>, Fault>
+    ensures output { IfOk result (λ output.
+        IsLineOfTwo (comparison_line explain line_feed) first.now second.now output.items) }
+    ensures faults { IfErr result ComesOfWords }
+{
+    let first = version_of_word(alloc, first)?;
+    let second = version_of_word(alloc, second)?;
+    let mut output = Vec::new(alloc);
+    add_comparison(&first, &second, explain, b'\n', &mut output)?;
+    Ok(output)
+}
+
+// Returns the line of `diff`.
+fn difference(alloc: Global, first: &str, second: &str) -> Result<Vec<u8>, Fault>
+    ensures output { IfOk result (λ output.
+        IsLineOfTwo (difference_line line_feed) first.now second.now output.items) }
+    ensures faults { IfErr result ComesOfWords }
+{
+    let first = version_of_word(alloc, first)?;
+    let second = version_of_word(alloc, second)?;
+    let mut output = Vec::new(alloc);
+    add_difference(&first, &second, b'\n', &mut output)?;
+    Ok(output)
+}
+
+// Returns the lines of `diff --lists`.
+fn changes<F: Files, R: Read>(
+    alloc: Global,
+    lists: &Lists<'_>,
+    files: &F,
+    reader: &mut R,
+) -> Result<Vec<u8>, Fault>
+    ensures output { IfOk result (λ output. AreChanges lists.now (F.holds files.now)
+        (R.remaining reader.old) (R.remaining reader.new) output.items) }
+    ensures faults { IfErr result NotOfWriting }
+{
+    let old = read_inputs(alloc, &[lists.old], lists.end, files, reader)?;
+    let new = read_inputs(alloc, &[lists.new], lists.end, files, reader)?;
+    let (old_names, old_bad) = read_names(alloc, lists, old.as_slice())?;
+    let (new_names, new_bad) = read_names(alloc, lists, new.as_slice())?;
+    if lists.invalid == Invalid::Fail {
+        refuse_first(alloc, lists.place.crlf, &old_bad)?;
+        refuse_first(alloc, lists.place.crlf, &new_bad)?;
+    }
+    let mut output = Vec::new(alloc);
+    add_lists(&old_names, &new_names, lists.end, &mut output)?;
+    Ok(output)
+}

@@ -1,0 +1,71 @@
+//! Writing lines that stand in their order.
+ghost use Rattle.std.specs.Prelude.{◌≡◌, ◌<◌, ◌++◌, ℕ, List, [], get_or, length, IfErr, OnErr, OnOk};
+ghost use Rattle.version_lines.specs.Lines.{lines_output, whole_line};
+ghost use Rattle.version_lines.specs.Output.{AppendsProperBeginning, AppendsUpTo};
+
+use std::io::Write;
+use version_lines::{Fault, KeyedLines, SortBy, put_line};
+
+/// Lines in an order.
+pub trait Rows {
+    // The lines.
+    ghost lines: { Self → List (List ℕ) };
+
+    /// Returns how many they are.
+    fn count(&self) -> usize
+        ensures { result ≡ length (lines self.now) };
+
+    /// Returns the line at a place, counted from 0.
+    fn row(&self, place: usize) -> &[u8]
+        requires { place < length (lines self.now) }
+        ensures { result.now ≡ get_or (lines self.now) place [] };
+}
+
+impl<B: SortBy> Rows for KeyedLines<'_, B> {
+    ghost use Rattle.version_lines.specs.KeyedLines.{lines_in};
+
+    ghost lines = { λ rows. lines_in rows };
+
+    fn count(&self) -> usize {
+        KeyedLines::count(self)
+    }
+
+    fn row(&self, place: usize) -> &[u8] {
+        self.line(place)
+    }
+}
+
+impl Rows for Vec<&[u8]> {
+    ghost use Rattle.std.specs.Prelude.{map};
+
+    ghost lines = { λ rows. map (λ row. row.now) rows.items };
+
+    fn count(&self) -> usize {
+        self.len()
+    }
+
+    fn row(&self, place: usize) -> &[u8] {
+        self[place]
+    }
+}
+
+/// Adds lines to the buffer, each with the byte that ends it.
+pub fn put_rows<L: Rows, W: Write>(
+    writer: &mut W,
+    buffer: &mut Vec<u8>,
+    end: u8,
+    rows: &L,
+) -> Result<(), Fault>
+    ensures ok { OnOk result (AppendsUpTo (W.contents writer.old) (W.contents writer.new)
+        buffer.new.items
+        (buffer.old.items ++ lines_output (whole_line end) (L.lines rows.now))) }
+    ensures err { OnErr result (AppendsProperBeginning (W.contents writer.old)
+        (W.contents writer.new)
+        (buffer.old.items ++ lines_output (whole_line end) (L.lines rows.now))) }
+    ensures fault { IfErr result (λ fault. fault ≡ Fault.Write) }
+{
+    for place in 0..rows.count() {
+        put_line(writer, buffer, end, b"", rows.row(place))?;
+    }
+    Ok(())
+}

@@ -1,0 +1,158 @@
+//! Writing what a command answers.
+ghost use Rattle.std.specs.Prelude.{◌≡◌, ◌++◌, [], None, map, IfErr, IfOk, IfSome, OnErr, OnOk};
+ghost use Rattle.std.specs.Io.KnownBytes.{Appends};
+ghost use Rattle.version_commands.specs.Arranged.{placed, policy};
+ghost use Rattle.version_commands.specs.Fault.{ComesOfFiles, ComesOfWriting, GrowsAt};
+ghost use Rattle.version_lines.specs.Lines.{lines_output, whole_line};
+ghost use Rattle.version_lines.specs.Output.{AppendsProperBeginning, AppendsUpTo};
+
+use crate::bad::policy;
+use crate::faults::Fault;
+use crate::files::{Files, Trouble};
+use crate::options::{Invalid, LineOptions};
+use crate::pick::BadLines;
+use crate::rows::{Rows, put_rows};
+use std::alloc::{AllocError, Global};
+use std::io::Write;
+use version_lines::{make_buffer, write_whole};
+
+/// Writes the lines in their order, with those that have no version before or after them, or into the file for these.
+/// All memory is taken before anything is written.
+pub fn write_lines<L: Rows, F: Files, W: Write>(
+    alloc: Global,
+    options: &LineOptions<'_>,
+    bad: &BadLines<'_>,
+    rows: &L,
+    files: &mut F,
+    writer: &mut W,
+) -> Result<(), Fault>
+    ensures written { OnOk result (Appends (W.contents writer.old) (W.contents writer.new)
+        (lines_output (whole_line options.now.end) (placed (policy options.now)
+        (map (λ line. line.now) bad.now.lines.items) (L.lines rows.now)))) }
+    ensures put { OnOk result (IfSome options.now.invalid_to (λ name. (before : F)
+        × F.puts before files.new name.now (lines_output (whole_line options.now.end)
+        (map (λ line. line.now) bad.now.lines.items)))) }
+    ensures at_fault { IfErr result (GrowsAt (W.contents writer.old) (W.contents writer.new)
+        (lines_output (whole_line options.now.end) (placed (policy options.now)
+        (map (λ line. line.now) bad.now.lines.items) (L.lines rows.now)))) }
+    ensures faults { IfErr result ComesOfWriting }
+{
+    let mut buffer = make_buffer(alloc)?;
+    put_bad(alloc, options, bad, files)?;
+    match write_placed(policy(options), options.end, bad, rows, writer, &mut buffer) {
+        Ok(()) => Ok(()),
+        Err(_) => Err(Fault::Write(None)),
+    }
+}
+
+// Writes the lines in their order, through an empty buffer.
+fn write_placed<L: Rows, W: Write>(
+    invalid: Invalid,
+    end: u8,
+    bad: &BadLines<'_>,
+    rows: &L,
+    writer: &mut W,
+    buffer: &mut Vec<u8>,
+) -> Result<(), version_lines::Fault>
+    requires { buffer.old.items ≡ [] }
+    ensures ok { OnOk result (Appends (W.contents writer.old) (W.contents writer.new)
+        (lines_output (whole_line end) (placed invalid
+        (map (λ line. line.now) bad.now.lines.items) (L.lines rows.now)))) }
+    ensures err { OnErr result (AppendsProperBeginning (W.contents writer.old)
+        (W.contents writer.new) (lines_output (whole_line end) (placed invalid
+        (map (λ line. line.now) bad.now.lines.items) (L.lines rows.now)))) }
+{
+    put_placed(invalid, end, bad, rows, writer, buffer)?;
+    write_whole(writer, buffer.as_slice())
+}
+
+// Adds the lines in their order to the buffer.
+fn put_placed<L: Rows, W: Write>(
+    invalid: Invalid,
+    end: u8,
+    bad: &BadLines<'_>,
+    rows: &L,
+    writer: &mut W,
+    buffer: &mut Vec<u8>,
+) -> Result<(), version_lines::Fault>
+    ensures ok { OnOk result (AppendsUpTo (W.contents writer.old) (W.contents writer.new)
+        buffer.new.items (buffer.old.items ++ lines_output (whole_line end) (placed invalid
+        (map (λ line. line.now) bad.now.lines.items) (L.lines rows.now)))) }
+    ensures err { OnErr result (AppendsProperBeginning (W.contents writer.old)
+        (W.contents writer.new) (buffer.old.items ++ lines_output (whole_line end) (placed invalid
+        (map (λ line. line.now) bad.now.lines.items) (L.lines rows.now)))) }
+{
+    match invalid {
+        Invalid::First => put_both(end, &bad.lines, rows, writer, buffer),
+        Invalid::Last => put_both(end, rows, &bad.lines, writer, buffer),
+        Invalid::Fail | Invalid::Skip => put_rows(writer, buffer, end, rows),
+    }
+}
+
+// Adds lines and then others to the buffer.
+fn put_both<A: Rows, B: Rows, W: Write>(
+    end: u8,
+    first: &A,
+    second: &B,
+    writer: &mut W,
+    buffer: &mut Vec<u8>,
+) -> Result<(), version_lines::Fault>
+    ensures ok { OnOk result (AppendsUpTo (W.contents writer.old) (W.contents writer.new)
+        buffer.new.items (buffer.old.items
+        ++ lines_output (whole_line end) (A.lines first.now ++ B.lines second.now))) }
+    ensures err { OnErr result (AppendsProperBeginning (W.contents writer.old)
+        (W.contents writer.new) (buffer.old.items
+        ++ lines_output (whole_line end) (A.lines first.now ++ B.lines second.now))) }
+{
+    put_rows(writer, buffer, end, first)?;
+    put_rows(writer, buffer, end, second)
+}
+
+// Writes the lines that have no version into the file for these, if there is one.
+fn put_bad<F: Files>(
+    alloc: Global,
+    options: &LineOptions<'_>,
+    bad: &BadLines<'_>,
+    files: &mut F,
+) -> Result<(), Fault>
+    ensures put { OnOk result (IfSome options.now.invalid_to (λ name. (before : F)
+        × F.puts before files.new name.now (lines_output (whole_line options.now.end)
+        (map (λ line. line.now) bad.now.lines.items)))) }
+    ensures faults { IfErr result ComesOfFiles }
+{
+    let Some(name) = options.invalid_to else {
+        return Ok(());
+    };
+    let bytes = joined_lines(alloc, options.end, bad.lines.as_slice())?;
+    match files.put(name, bytes.as_slice()) {
+        Ok(()) => Ok(()),
+        Err(Trouble::Memory) => Err(Fault::Memory),
+        Err(Trouble::System) => Err(Fault::Write(Some(String::from_str(alloc, name)?))),
+    }
+}
+
+// Returns the lines, each with the byte that ends it.
+fn joined_lines(alloc: Global, end: u8, lines: &[&[u8]]) -> Result<Vec<u8>, AllocError>
+    ensures { IfOk result (λ bytes. bytes.items
+        ≡ lines_output (whole_line end) (map (λ line. line.now) lines.now)) }
+{
+    let mut bytes = Vec::new(alloc);
+    for line in lines {
+        bytes.extend_from_slice(line)?;
+        bytes.push(end)?;
+    }
+    Ok(bytes)
+}
+
+/// Writes an answer that was gathered.
+pub fn write_answer<W: Write>(writer: &mut W, answer: &[u8]) -> Result<(), Fault>
+    ensures written { OnOk result (Appends (W.contents writer.old) (W.contents writer.new) answer.now) }
+    ensures at_fault { IfErr result
+        (GrowsAt (W.contents writer.old) (W.contents writer.new) answer.now) }
+    ensures faults { IfErr result (λ fault. fault ≡ Fault.Write None) }
+{
+    match write_whole(writer, answer) {
+        Ok(()) => Ok(()),
+        Err(_) => Err(Fault::Write(None)),
+    }
+}

@@ -1,0 +1,48 @@
+//! The files of the system, as the program reads and writes them.
+
+use std::fs;
+use version_commands::{Files, Stage, Trouble};
+use version_lines::{Fault, read_onto, write_whole};
+
+/// The files of the system. What they hold is not known to any contract.
+#[derive(Drop)]
+pub struct SystemFiles<'r> {
+    pub rt: &'r HostRuntime,
+}
+
+impl Files for SystemFiles<'_> {
+    ghost use Rattle.std.specs.Prelude.{⊤, None};
+
+    ghost holds = { λ _ _. None };
+
+    ghost puts = { λ _ _ _ _. ⊤ };
+
+    fn read_onto(&self, name: &str, input: &mut Vec<u8>) -> Result<(), Trouble> {
+        let Ok(mut file) = fs::File::open(self.rt, name) else {
+            return Err(Trouble::System);
+        };
+        match read_onto(self.rt.alloc(), &mut file, input) {
+            Ok(()) => Ok(()),
+            Err(Fault::Memory) => Err(Trouble::Memory),
+            Err(_) => Err(Trouble::System),
+        }
+    }
+
+    fn put(&mut self, name: &str, bytes: &[u8]) -> Result<(), Trouble> {
+        let Ok(mut file) = fs::File::create(self.rt, name) else {
+            return Err(Trouble::System);
+        };
+        match write_whole(&mut file, bytes) {
+            Ok(()) => Ok(()),
+            Err(_) => Err(Trouble::System),
+        }
+    }
+
+    fn tell(&mut self, stage: Stage) {
+        let _ = match stage {
+            Stage::Read(bytes) => eprintln!(self.rt; "versions: {bytes} bytes read"),
+            Stage::Checked(lines) => eprintln!(self.rt; "versions: {lines} lines checked"),
+            Stage::Ordered(lines) => eprintln!(self.rt; "versions: {lines} lines in order"),
+        };
+    }
+}

@@ -1,0 +1,78 @@
+//! The program `versions`: sorts lines by the versions in them, picks the newest, and answers questions about versions.
+//! docs/VERSIONS.md has its rules.
+#![tactic(auto)]
+
+ghost use Rattle.std.specs.Prelude.{◌≡◌, MatchResult};
+ghost use Rattle.std.specs.Process.{exit_status};
+ghost use Rattle.version_commands.specs.Fault.{status_of};
+
+mod files;
+mod output;
+
+use files::SystemFiles;
+use output::Output;
+use std::alloc::Global;
+use std::env;
+use std::env::Env;
+use std::process::ExitCode;
+use version_commands::{Fault, run};
+
+// The status that a shell gives for a program whose reader has gone: that of the signal SIGPIPE.
+const READER_GONE: u8 = 141;
+
+fn main(rt: HostRuntime) -> ExitCode {
+    let mut output = Output::new(rt.stdout());
+    let outcome = match words(&rt) {
+        Some(words) => run(
+            rt.alloc(),
+            words.as_slice(),
+            &mut SystemFiles { rt: &rt },
+            &mut rt.stdin(),
+            &mut output,
+        ),
+        None => Err(not_text(rt.alloc())),
+    };
+    if output.has_no_reader() {
+        return ExitCode::from(READER_GONE);
+    }
+    ending(&rt, outcome)
+}
+
+// Returns the words after the program's name, or None if the system does not provide them.
+fn words<R: Env + AllocGlobal>(rt: &R) -> Option<Vec<String>> {
+    env::args(rt).ok()?.skip(1).collect(rt.alloc()).ok()
+}
+
+// Returns the fault of words that the system does not provide as text.
+fn not_text(alloc: Global) -> Fault {
+    match String::from_str(
+        alloc,
+        "error: the words are not UTF-8, or too many for the memory\n",
+    ) {
+        Ok(text) => Fault::Usage(text),
+        Err(_) => Fault::Memory,
+    }
+}
+
+// Returns the exit code: a fault is printed, and sets its status, even if it cannot be printed.
+fn ending(rt: &impl Eprint, outcome: Result<(), Fault>) -> ExitCode
+    ensures { MatchResult outcome
+        (λ _. exit_status result ≡ 0) (λ fault. exit_status result ≡ status_of fault) }
+{
+    match outcome {
+        Ok(()) => ExitCode::SUCCESS,
+        Err(fault) => {
+            tell(rt, &fault);
+            ExitCode::from(fault.status())
+        }
+    }
+}
+
+// Prints a fault. What `test` answers is told by its status alone, and what is wrong with words says itself whose it is.
+fn tell(rt: &impl Eprint, fault: &Fault) {
+    let _ = match fault {
+        Fault::Untrue => Ok(()),
+        Fault::Usage(text) => eprint!(rt; "{text}"),
+        fault => eprintln!(rt; "versions: {fault}"),
+    };
+}

@@ -1,0 +1,390 @@
+"""The program `versions` a second time: what a run writes, and how it ends.
+
+The Python package answers what is a version, which of two comes first, what matches and the like. Words, lines, columns,
+options, orders and faults are this file's.
+"""
+import json
+import re
+from functools import cmp_to_key
+
+import versions
+
+STABILITIES = ["dev", "alpha", "beta", "rc", "stable"]
+SIGNS = {"<": "lt", "<=": "le", "=": "eq", ">=": "ge", ">": "gt"}
+HOLDS = {"lt": (-1,), "le": (-1, 0), "eq": (0,), "ge": (0, 1), "gt": (1,)}
+PLACES = ["major", "minor", "patch"]
+SHOWN = 60
+
+SHORT = {"r": "reverse", "u": "unique", "k": "key", "t": "field-separator", "z": "zero-terminated", "n": "count"}
+SHORT.update(g="group", v="invert-match")
+ENDS = {"zero-terminated", "crlf"}
+PLACE = {"key", "field-separator", "tags", "prefix"} | ENDS
+LINES = {"min-stability", "match", "invalid", "invalid-to", "progress"} | PLACE
+VALUED = {"key", "field-separator", "prefix", "min-stability", "match", "invalid", "invalid-to", "count", "group"}
+# The options of each command, and how many words it takes.
+COMMANDS = {
+    "sort": ({"reverse", "unique"} | LINES, 0, None),
+    "newest": ({"count", "group"} | LINES, 0, None),
+    "filter": ({"invert-match"} | LINES, 1, None),
+    "show": ({"json"} | ENDS, 0, None),
+    "key": (ENDS, 0, None),
+    "test": (set(), 2, 3),
+    "compare": ({"explain"}, 2, 2),
+    "why": (ENDS, 1, None),
+    "diff": ({"lists", "group", "invalid"} | PLACE, 2, 2),
+    "next": (ENDS, 1, None),
+}
+
+
+class Ended(Exception):
+    """A run that fails: its status, and what it writes to standard error. None is any text about wrong words."""
+
+    def __init__(self, status, text=None):
+        self.status, self.text = status, text
+
+
+WRONG = Ended(2)
+
+
+class Run:
+    """A run of the program. `read` returns what a file holds, or None where it can't be read."""
+
+    def __init__(self, words, given, read):
+        self.given, self.read, self.written, self.output = given, read, {}, b""
+        self.status, self.error = 0, b""
+        try:
+            self.output = self.answer([*words])
+        except Ended as ended:
+            self.status, self.error = ended.status, ended.text
+            if self.error:
+                self.error = b"versions: " + self.error + b"\n"
+
+    def answer(self, words):
+        if not words or words[0] not in COMMANDS:
+            raise WRONG
+        command = words.pop(0)
+        self.options, rest = parsed(command, words)
+        return getattr(self, command)(*rest)
+
+    # Lines.
+
+    def end(self):
+        return b"\0" if "zero-terminated" in self.options else b"\n"
+
+    def input(self, names):
+        texts = []
+        for name in names or ["-"]:
+            if name == "-":
+                text, self.given = self.given, b""
+            else:
+                text = self.read(name)
+            if text is None:
+                raise Ended(3, b"cannot be read: " + name.encode())
+            texts.append(text if not text or text.endswith(self.end()) else text + self.end())
+        return b"".join(texts).split(self.end())[:-1]
+
+    def column(self, line, number):
+        """The text of a column, counted from 1, or None."""
+        if "crlf" in self.options and line.endswith(b"\r"):
+            line = line[:-1]
+        if number is None:
+            return line
+        separator = self.options.get("field-separator")
+        if separator is not None:
+            columns = line.split({"\\t": b"\t", "\\0": b"\0"}.get(separator) or separator.encode())
+        else:
+            columns = re.split(rb"[ \t]+", line.strip(b" \t")) if line.strip(b" \t") else []
+        return columns[number - 1] if number <= len(columns) else None
+
+    def texts(self, lines, number):
+        """The version of each line, or None."""
+        columns = [self.column(line, number) for line in lines]
+        found = [readable(column) for column in columns]
+        if "tags" in self.options:
+            # The name before a version may be of any bytes.
+            found = versions.in_tags([(column or b"").decode(errors="replace") for column in columns])
+        elif "prefix" in self.options:
+            found = [in_tag(text, readable(self.options["prefix"].encode())) for text in found]
+        return [text if kind else None for text, kind in zip(found, versions.kinds(found))]
+
+    def bad(self, lines, texts, asked):
+        """The lines without a version, unless they are a fault."""
+        bad = [place for place, text in enumerate(texts) if text is None]
+        if bad and asked == "fail":
+            line = lines[bad[0]]
+            text = b"line %d is not a version: %s" % (bad[0] + 1, shown(line))
+            if "crlf" not in self.options and line.endswith(b"\r"):
+                text = b"line %d ends in a carriage return: --crlf" % (bad[0] + 1)
+            raise Ended(1, text + (b" (and %d more)" % (len(bad) - 1) if len(bad) > 1 else b""))
+        return [lines[place] for place in bad]
+
+    def lines(self, files, default, arrange):
+        """What `sort`, `newest` and `filter` write of their input."""
+        requirement(self.options.get("match", "*"))
+        asked = self.options.get("invalid", "skip" if "invalid-to" in self.options else default)
+        lines = self.input(files)
+        texts = self.texts(lines, number(self.options.get("key")))
+        bad = self.bad(lines, texts, asked)
+        rows = [(line, text) for line, text in zip(lines, texts) if text is not None]
+        least = STABILITIES.index(self.options.get("min-stability", "dev"))
+        levels = versions.stabilities([text for _, text in rows])
+        rows = [row for row, level in zip(rows, levels) if STABILITIES.index(str(level)) >= least]
+        if "match" in self.options:
+            rows = matching(rows, self.options["match"], True)
+        good = [line for line, _ in arrange(rows)]
+        if "invalid-to" in self.options:
+            self.written[self.options["invalid-to"]] = b"".join(line + self.end() for line in bad)
+        kept = {"first": bad + good, "last": good + bad}.get(asked, good)
+        return b"".join(line + self.end() for line in kept)
+
+    def sort(self, *files):
+        reverse = "reverse" in self.options
+
+        def arrange(rows):
+            keyed = [(versions.sort_key(text), line, text) for line, text in rows]
+            if "unique" in self.options:
+                first = {}
+                for row in keyed:
+                    first.setdefault(row[0], row)
+                keyed = sorted(first.values(), key=lambda row: row[0], reverse=reverse)
+            else:
+                keyed.sort(key=lambda row: (row[0], TOTAL(row[2])), reverse=reverse)
+            return [row[1:] for row in keyed]
+
+        return self.lines(files, "fail", arrange)
+
+    def newest(self, *files):
+        def arrange(rows):
+            groups = {}
+            for line, text in rows:
+                name = self.column(line, number(self.options["group"])) or b"" if "group" in self.options else b""
+                groups.setdefault(name, []).append((line, text))
+            for group in groups.values():
+                newest = sorted(group, key=lambda row: versions.sort_key(row[1]), reverse=True)
+                yield from newest[: number(self.options.get("count", "1"))]
+
+        return self.lines(files, "fail", arrange)
+
+    def filter(self, wanted, *files):
+        requirement(wanted)
+        keeps = "invert-match" not in self.options
+        return self.lines(files, "skip", lambda rows: matching(rows, wanted, keeps))
+
+    # One version or two.
+
+    def each(self, words, answer):
+        """The answers of the versions that words or lines name."""
+        if words and words != ("-",):
+            for word in words:
+                version(word)
+        else:
+            lines = self.input([])
+            words = self.texts(lines, None)
+            self.bad(lines, words, "fail")
+        return b"".join(answer(versions.Version(word)) for word in words).replace(b"\n", self.end())
+
+    def show(self, *words):
+        return self.each(words, as_json if "json" in self.options else as_lines)
+
+    def key(self, *words):
+        return self.each(words, lambda one: one.key.hex().encode() + b"\n")
+
+    def why(self, wanted, *words):
+        wanted = requirement(wanted)
+        head = ""
+        if wanted.conflict:
+            one, other = wanted.conflict
+            head = f"{one} excludes every version\n" if one == other else f"{one} and {other} exclude each other\n"
+        return head.encode().replace(b"\n", self.end()) + self.each(
+            words, lambda one: f"{wanted.why_not(one) or f'{one} matches'}\n".encode()
+        )
+
+    def next(self, place, *words):
+        if place not in PLACES and not (re.fullmatch("[0-9]+", place) and int(place) < 2**64):
+            raise WRONG
+        place = PLACES.index(place) if place in PLACES else int(place)
+
+        def answer(one):
+            try:
+                return f"{one.next(place)}\n".encode()
+            except (ValueError, OverflowError):
+                raise Ended(1, f"no version comes next at that place: {one}".encode()) from None
+
+        return self.each(words, answer)
+
+    def test(self, *words):
+        if len(words) == 3 and SIGNS.get(words[1], words[1]) not in HOLDS:
+            raise WRONG
+        try:
+            if len(words) == 2:
+                holds = requirement(words[1]).matches(version(words[0]))
+            else:
+                first, second = version(words[0]), version(words[2])
+                holds = versions.compare(first, second) in HOLDS[SIGNS.get(words[1], words[1])]
+        except Ended as ended:
+            word = ended.text.split(b": ", 1)[1]
+            raise Ended(2, b"neither a version nor a requirement: " + word) from None
+        if not holds:
+            raise Ended(1, b"")
+        return b""
+
+    def compare(self, first, second):
+        first, second = version(first), version(second)
+        sign = "<=>"[versions.compare(first, second) + 1]
+        return (f"{sign} {first.difference(second)}\n" if "explain" in self.options else f"{sign}\n").encode()
+
+    def diff(self, first, second):
+        if "lists" in self.options:
+            return self.changes(first, second)
+        found = version(first).difference(version(second))
+        name = {"NONE": "same", "PART": f"part {found.part}"}.get(found.kind.name, found.kind.name.lower())
+        return f"{name}\n".encode()
+
+    def changes(self, *files):
+        asked = self.options.get("invalid", "fail")
+        both = [self.input([name]) for name in files]
+        texts = [self.texts(lines, number(self.options.get("key", "2"))) for lines in both]
+        for lines, found in zip(both, texts):
+            self.bad(lines, found, asked)
+        old, new, end = {}, {}, self.end()
+        for names, lines, found in zip((old, new), both, texts):
+            for line, text in zip(lines, found):
+                if text is not None:
+                    names.setdefault(self.column(line, number(self.options.get("group", "1"))) or b"", text)
+        answer = b""
+        for name, text in old.items():
+            order = versions.compare(text, new[name]) if name in new else 0
+            if name not in new:
+                answer += b"removed %s %s" % (name, text.encode()) + end
+            elif order != 0:
+                what = b"raised" if order < 0 else b"lowered"
+                answer += b"%s %s %s %s" % (what, name, text.encode(), new[name].encode()) + end
+        added = [name for name in new if name not in old]
+        answer += b"".join(b"added %s %s" % (name, new[name].encode()) + end for name in added)
+        return answer
+
+
+TOTAL = cmp_to_key(versions.compare_total)
+
+
+def number(word):
+    return None if word is None else int(word)
+
+
+def parsed(command, words):
+    """The options of a command's words, and the words that are none."""
+    names, least, most = COMMANDS[command]
+    options, rest = {}, []
+
+    def value():
+        if not words or (words[0].startswith("-") and words[0] != "-"):
+            raise WRONG
+        return words.pop(0)
+
+    def put(name, attached):
+        if name not in names or name in options or (attached is not None and name not in VALUED):
+            raise WRONG
+        options[name] = value() if name in VALUED and attached is None else attached
+
+    while words:
+        word = words.pop(0)
+        if word == "--":
+            rest += words
+            break
+        if word == "-" or not word.startswith("-"):
+            rest.append(word)
+        elif word.startswith("--"):
+            name, equals, attached = word[2:].partition("=")
+            put(name, attached if equals else None)
+        else:
+            letters = word[1:]
+            while letters:
+                name, letters = SHORT.get(letters[0]), letters[1:]
+                attached = letters.removeprefix("=") if name in VALUED and letters else None
+                put(name, attached)
+                letters = "" if attached is not None else letters
+    if not least <= len(rest) <= (len(rest) if most is None else most) or not are_right(command, options):
+        raise WRONG
+    return options, rest
+
+
+def are_right(command, options):
+    numbers = [options[name] for name in ("key", "count", "group") if name in options]
+    separator = options.get("field-separator", ",")
+    invalid = ["fail", "skip"] if command in ("newest", "diff") else ["fail", "skip", "first", "last"]
+    return (
+        all(re.fullmatch("[0-9]+", text) and 0 < int(text) < 2**64 for text in numbers)
+        and (separator in ("\\t", "\\0") or len(separator.encode()) == 1)
+        and options.get("min-stability", "dev") in STABILITIES
+        and options.get("invalid", "fail") in invalid
+        and not ("invalid-to" in options and options.get("invalid", "skip") != "skip")
+        and not ("tags" in options and "prefix" in options)
+        and (command != "diff" or "lists" in options or not options)
+    )
+
+
+def readable(text):
+    """Each byte as a character: one past ASCII is in no version, and in a tag a sign, also where it is not UTF-8."""
+    return None if text is None else text.decode("latin-1")
+
+
+def in_tag(text, prefix):
+    try:
+        return None if text is None else str(versions.Version.from_tag(text, prefix))
+    except versions.InvalidVersion:
+        return None
+
+
+def version(word):
+    try:
+        return versions.Version(word)
+    except versions.InvalidVersion:
+        raise Ended(1, b"not a version: " + word.encode()) from None
+
+
+def requirement(word):
+    try:
+        return versions.Requirement(word)
+    except versions.InvalidRequirement:
+        raise Ended(1, b"not a requirement: " + word.encode()) from None
+
+
+def matching(rows, wanted, keeps):
+    found = versions.match_all(wanted, [text for _, text in rows])
+    return [row for row, matches in zip(rows, found) if matches is keeps]
+
+
+def shown(line):
+    """The beginning of a line as a fault shows it: up to the first byte that is no UTF-8, with Rust's escapes."""
+    cut = line[:SHOWN]
+    try:
+        text = cut.decode()
+    except UnicodeDecodeError as error:
+        text = cut[: error.start].decode()
+    escapes = {"\t": "\\t", "\n": "\\n", "\r": "\\r"}
+    return "".join(
+        escapes.get(c, f"\\u{{{ord(c):x}}}") if ord(c) < 32 or 127 <= ord(c) < 160 else c for c in text
+    ).encode()
+
+
+def fields(one):
+    return {
+        "kind": one.kind,
+        "epoch": one.epoch,
+        "major": one.major,
+        "minor": one.minor,
+        "patch": one.patch,
+        "pre_release": one.pre_release,
+        "release": one.release,
+        "metadata": one.metadata,
+        "stability": str(one.stability),
+    }
+
+
+def as_json(one):
+    return json.dumps({"version": str(one), **fields(one)}, separators=(",", ":")).encode() + b"\n"
+
+
+def as_lines(one):
+    lines = [f"  {name.replace('_', '-')}: {value}\n" for name, value in fields(one).items() if value is not None]
+    return f"{one}\n{''.join(lines)}".encode()
