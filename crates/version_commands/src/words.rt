@@ -1,10 +1,11 @@
 //! Reads the words of a run.
-ghost use Rattle.std.specs.Prelude.{◌≡◌, false, None};
+ghost use Rattle.std.specs.Prelude.{◌≡◌, false};
 ghost use Rattle.version_rules.specs.DigitRun.{is_digits};
 ghost use Rattle.version_commands.specs.Words.{invalid_asked, invalid_named, operator_named, separator_named, stability_named, name_place};
 
 mod grammar;
 mod near;
+mod table;
 
 use crate::faults::Fault;
 use crate::options::{
@@ -16,6 +17,9 @@ use clap::{ArgMatches, Error};
 use std::alloc::{AllocError, Global};
 use version_tasks::Stability;
 use version_texts::is_digits;
+
+// How the text of wrong words ends.
+const MORE: &str = "\n\nFor more information, try '--help'.\n";
 
 /// Reads the words after the program's name: a task, or what is wrong with them and how they are used.
 pub fn read_words<'w>(alloc: Global, words: &'w [String]) -> Result<Task<'w>, Fault> {
@@ -38,50 +42,32 @@ fn answer_to<'w>(alloc: Global, error: &Error, words: &[String]) -> Result<Task<
     }
 }
 
-// Adds to a fault which command was meant, if `clap` finds none.
+// Adds to a fault which command was meant.
 fn meant_command(alloc: Global, text: String, words: &[String]) -> Result<String, AllocError> {
-    if text.as_str().contains("  tip: ") {
+    let [word, ..] = words else {
         return Ok(text);
-    }
-    match words {
-        [word, ..] => match near::similar(alloc, word.as_str(), &grammar::COMMANDS)? {
-            Some(name) => near::with_tip(alloc, text.as_str(), "\n\nUsage:", "subcommand", name),
-            None => Ok(text),
-        },
-        [] => Ok(text),
-    }
+    };
+    let names: Vec<&str> = table::COMMANDS.iter().map(|row| row.0).collect(alloc)?;
+    let name = near::similar(alloc, word.as_str(), names.as_slice())?;
+    near::with_tip(alloc, text, "\n\nUsage:", "subcommand", name)
 }
 
 // The same of the value of `--min-stability`, whose words are short.
 fn meant_value(alloc: Global, text: String) -> Result<String, AllocError> {
-    let word = match text.as_str().split_once("invalid value '") {
-        Some((_, rest)) => match rest.split_once("' for '--min-stability") {
-            Some((word, _)) => word,
-            None => return Ok(text),
-        },
-        None => return Ok(text),
-    };
-    if text.as_str().contains("  tip: ") {
+    let Some((before, _)) = text.as_str().split_once("' for '--min-stability") else {
         return Ok(text);
-    }
-    match near::similar(alloc, word, &grammar::STABILITIES)? {
-        Some(name) => near::with_tip(alloc, text.as_str(), "\n\nFor more", "value", name),
-        None => Ok(text),
-    }
+    };
+    let Some((_, word)) = before.split_once("invalid value '") else {
+        return Ok(text);
+    };
+    let name = near::similar(alloc, word, table::STABILITIES)?;
+    near::with_tip(alloc, text, MORE, "value", name)
 }
 
 // Returns the task that the words parse as.
 fn task_of<'w>(alloc: Global, matches: &ArgMatches<'w>) -> Result<Task<'w>, Fault> {
     match matches.subcommand() {
-        Some(("sort", options)) => sort_task(alloc, options),
-        Some(("newest", options)) => newest_task(alloc, options),
-        Some(("filter", options)) => filter_task(alloc, options),
-        Some(("show", options)) => each_task(alloc, options, show_question(options)),
-        Some(("key", options)) => each_task(alloc, options, Question::Key),
-        Some(("why", options)) => {
-            each_task(alloc, options, Question::Why(word_of(options, "LIST")))
-        }
-        Some(("next", options)) => next_task(alloc, options),
+        Some((name @ ("sort" | "newest" | "filter"), options)) => lines_task(alloc, name, options),
         Some(("test", options)) => test_task(alloc, options),
         Some(("compare", options)) => Ok(Task::Compare {
             first: word_of(options, "A"),
@@ -89,44 +75,19 @@ fn task_of<'w>(alloc: Global, matches: &ArgMatches<'w>) -> Result<Task<'w>, Faul
             explain: options.get_flag("explain"),
         }),
         Some(("diff", options)) => diff_task(alloc, options),
-        _ => Err(wrong(alloc, "a command is missing")),
+        Some((name, options)) => each_task(alloc, name, options),
+        None => Err(wrong(alloc, "a command is missing")),
     }
 }
 
-fn sort_task<'w>(alloc: Global, options: &ArgMatches<'w>) -> Result<Task<'w>, Fault> {
-    let arrangement = Arrangement::Sort {
-        reverse: options.get_flag("reverse"),
-        unique: options.get_flag("unique"),
-    };
-    lines_task(alloc, options, arrangement, Invalid::Fail)
-}
-
-fn newest_task<'w>(alloc: Global, options: &ArgMatches<'w>) -> Result<Task<'w>, Fault> {
-    let separator = separator_of(alloc, options)?;
-    let arrangement = Arrangement::Newest {
-        count: options.get_one::<usize>("count").unwrap_or(1),
-        group: column_of(options, "group", separator),
-    };
-    lines_task(alloc, options, arrangement, Invalid::Fail)
-}
-
-fn filter_task<'w>(alloc: Global, options: &ArgMatches<'w>) -> Result<Task<'w>, Fault> {
-    let arrangement = Arrangement::Filter {
-        list: word_of(options, "LIST"),
-        inverted: options.get_flag("invert-match"),
-    };
-    lines_task(alloc, options, arrangement, Invalid::Skip)
-}
-
 // Returns the task of a command that answers with lines of its input.
-fn lines_task<'w>(
-    alloc: Global,
-    options: &ArgMatches<'w>,
-    arrangement: Arrangement<'w>,
-    by_default: Invalid,
-) -> Result<Task<'w>, Fault> {
+fn lines_task<'w>(alloc: Global, name: &str, options: &ArgMatches<'w>) -> Result<Task<'w>, Fault> {
     let separator = separator_of(alloc, options)?;
-    let column = column_of(options, "key", separator);
+    let arrangement = arrangement_of(name, options, separator);
+    let by_default = match arrangement {
+        Arrangement::Filter { .. } => Invalid::Skip,
+        _ => Invalid::Fail,
+    };
     let invalid_to = options.get_str("invalid-to");
     let Some(invalid) = invalid_asked(invalid_of(options), invalid_to.is_some(), by_default) else {
         return Err(wrong(
@@ -139,7 +100,7 @@ fn lines_task<'w>(
         arrangement,
         LineOptions {
             end: end_of(options),
-            place: place_of(options, column),
+            place: place_of(options, column_of(options, "key", separator)),
             choice: choice_of(options),
             invalid,
             invalid_to,
@@ -149,28 +110,30 @@ fn lines_task<'w>(
     ))
 }
 
-fn show_question<'w>(options: &ArgMatches<'w>) -> Question<'w> {
-    if options.get_flag("json") {
-        Question::Json
-    } else {
-        Question::Show
-    }
-}
-
-fn next_task<'w>(alloc: Global, options: &ArgMatches<'w>) -> Result<Task<'w>, Fault> {
-    let word = word_of(options, "PLACE");
-    match place_named(word) {
-        Some(place) => each_task(alloc, options, Question::Next(place)),
-        None => Err(wrong_place(alloc, word)?),
+fn arrangement_of<'w>(
+    name: &str,
+    options: &ArgMatches<'w>,
+    separator: Option<u8>,
+) -> Arrangement<'w> {
+    match name {
+        "sort" => Arrangement::Sort {
+            reverse: options.get_flag("reverse"),
+            unique: options.get_flag("unique"),
+        },
+        "newest" => Arrangement::Newest {
+            count: options.get_one::<usize>("count").unwrap_or(1),
+            group: column_of(options, "group", separator),
+        },
+        _ => Arrangement::Filter {
+            list: word_of(options, "LIST"),
+            inverted: options.get_flag("invert-match"),
+        },
     }
 }
 
 // Returns the task of a command that answers of each version.
-fn each_task<'w>(
-    alloc: Global,
-    options: &ArgMatches<'w>,
-    question: Question<'w>,
-) -> Result<Task<'w>, Fault> {
+fn each_task<'w>(alloc: Global, name: &str, options: &ArgMatches<'w>) -> Result<Task<'w>, Fault> {
+    let question = question_of(alloc, name, options)?;
     let words = words_of(alloc, options)?;
     let versions = match words.as_slice() {
         ["-"] => Vec::new(alloc),
@@ -184,6 +147,26 @@ fn each_task<'w>(
             crlf: options.get_flag("crlf"),
         },
     ))
+}
+
+fn question_of<'w>(
+    alloc: Global,
+    name: &str,
+    options: &ArgMatches<'w>,
+) -> Result<Question<'w>, Fault> {
+    match name {
+        "key" => Ok(Question::Key),
+        "why" => Ok(Question::Why(word_of(options, "LIST"))),
+        "next" => {
+            let word = word_of(options, "PLACE");
+            match place_named(word) {
+                Some(place) => Ok(Question::Next(place)),
+                None => Err(wrong_place(alloc, word)?),
+            }
+        }
+        _ if options.get_flag("json") => Ok(Question::Json),
+        _ => Ok(Question::Show),
+    }
 }
 
 fn test_task<'w>(alloc: Global, options: &ArgMatches<'w>) -> Result<Task<'w>, Fault> {
@@ -204,20 +187,14 @@ fn diff_task<'w>(alloc: Global, options: &ArgMatches<'w>) -> Result<Task<'w>, Fa
         return Ok(Task::Difference(old, new));
     }
     let separator = separator_of(alloc, options)?;
-    let name = column_of(options, "group", separator).unwrap_or(Column {
-        number: 0,
-        separator,
-    });
-    let version = column_of(options, "key", separator).unwrap_or(Column {
-        number: 1,
-        separator,
-    });
+    let name = options.get_one::<usize>("group").unwrap_or(1);
+    let version = options.get_one::<usize>("key").unwrap_or(2);
     Ok(Task::Lists(Lists {
         old,
         new,
         end: end_of(options),
-        name,
-        place: place_of(options, Some(version)),
+        name: column(name, separator),
+        place: place_of(options, Some(column(version, separator))),
         invalid: invalid_of(options).unwrap_or(Invalid::Fail),
     }))
 }
@@ -229,13 +206,7 @@ fn word_of<'w>(options: &ArgMatches<'w>, id: &str) -> &'w str {
 
 // Returns the files or the versions.
 fn words_of<'w>(alloc: Global, options: &ArgMatches<'w>) -> Result<Vec<&'w str>, AllocError> {
-    let mut words = Vec::new(alloc);
-    if let Some(values) = options.get_strs("WORDS") {
-        for value in values {
-            words.push(*value)?;
-        }
-    }
-    Ok(words)
+    Vec::from_slice(alloc, options.get_strs("WORDS").unwrap_or(&[]))
 }
 
 // Returns the byte that ends lines.
@@ -249,11 +220,15 @@ fn end_of(options: &ArgMatches<'_>) -> u8 {
 
 // Returns the column that an option names.
 fn column_of(options: &ArgMatches<'_>, id: &str, separator: Option<u8>) -> Option<Column> {
-    let number = options.get_one::<usize>(id)?;
-    Some(Column {
+    Some(column(options.get_one::<usize>(id)?, separator))
+}
+
+// Returns the column of a number that counts from 1.
+fn column(number: usize, separator: Option<u8>) -> Column {
+    Column {
         number: number.saturating_sub(1),
         separator,
-    })
+    }
 }
 
 // Returns the byte between columns, if it is asked for.
@@ -263,7 +238,12 @@ fn separator_of(alloc: Global, options: &ArgMatches<'_>) -> Result<Option<u8>, F
     };
     match separator_named(word) {
         Some(separator) => Ok(Some(separator)),
-        None => Err(wrong_separator(alloc, word)?),
+        None => Err(wrong_value(
+            alloc,
+            word,
+            "--field-separator <SEP>': it is one byte, \\t or \\0",
+            None,
+        )?),
     }
 }
 
@@ -281,12 +261,8 @@ fn place_of<'w>(options: &ArgMatches<'w>, column: Option<Column>) -> VersionPlac
 }
 
 fn choice_of<'w>(options: &ArgMatches<'w>) -> Choice<'w> {
-    let least = match options.get_str("min-stability") {
-        Some(word) => stability_named(word),
-        None => Stability::Dev,
-    };
     Choice {
-        least,
+        least: stability_named(options.get_str("min-stability").unwrap_or("dev")),
         wanted: options.get_str("match"),
     }
 }
@@ -362,75 +338,52 @@ fn separator_named(word: &str) -> Option<u8>
 }
 
 // Returns the place of a number that a word of `next` names, counted from 0: by its name, or by digits.
-fn place_named(word: &str) -> Option<usize> {
-    match name_place(word) {
-        Some(place) => Some(place),
-        None => number_place(word),
-    }
-}
-
-// Returns the place that a name stands for.
-fn name_place(word: &str) -> Option<usize>
-    ensures { result ≡ name_place word.now }
+fn place_named(word: &str) -> Option<usize>
+    ensures { is_digits word.now ≡ false → result ≡ name_place word.now }
 {
     match word {
         "major" => Some(0),
         "minor" => Some(1),
         "patch" => Some(2),
+        _ if is_digits(word.as_bytes()) => word.parse::<usize>().ok(),
         _ => None,
-    }
-}
-
-// Returns the place that digits stand for, if it is one.
-fn number_place(word: &str) -> Option<usize>
-    ensures { is_digits word.now ≡ false → result ≡ None }
-{
-    if is_digits(word.as_bytes()) {
-        word.parse::<usize>().ok()
-    } else {
-        None
     }
 }
 
 // Returns the fault of words that `clap` lets through.
 fn wrong(alloc: Global, what: &str) -> Fault {
-    match format!(in alloc; "error: {what}\n\nFor more information, try '--help'.\n") {
+    match format!(in alloc; "error: {what}{MORE}") {
         Ok(text) => Fault::Usage(text),
         Err(_) => Fault::Memory,
     }
 }
 
-fn wrong_separator(alloc: Global, word: &str) -> Result<Fault, AllocError> {
-    let what = format!(in alloc;
-        "invalid value '{word}' for '--field-separator <SEP>': it is one byte, \\t or \\0"
-    )?;
-    Ok(wrong(alloc, what.as_str()))
+// Returns the fault of a word that is no value of an argument, with the value that may be meant.
+fn wrong_value(
+    alloc: Global,
+    word: &str,
+    argument: &str,
+    meant: Option<&str>,
+) -> Result<Fault, AllocError> {
+    let text = format!(in alloc; "error: invalid value '{word}' for '{argument}{MORE}")?;
+    Ok(Fault::Usage(near::with_tip(alloc, text, MORE, "value", meant)?))
 }
 
 fn wrong_operator(alloc: Global, word: &str) -> Result<Fault, AllocError> {
-    let tip = match word {
-        "==" | "===" => "\n\n  tip: a similar value exists: '='",
-        "=<" => "\n\n  tip: a similar value exists: '<='",
-        "=>" => "\n\n  tip: a similar value exists: '>='",
-        "lte" => "\n\n  tip: a similar value exists: 'le'",
-        "gte" => "\n\n  tip: a similar value exists: 'ge'",
-        _ => "",
+    let meant = match word {
+        "==" | "===" => Some("="),
+        "=<" => Some("<="),
+        "=>" => Some(">="),
+        "lte" => Some("le"),
+        "gte" => Some("ge"),
+        _ => None,
     };
-    let what = format!(in alloc;
-        "invalid value '{word}' for '<OP>'\n  [possible values: <, <=, =, >=, >, lt, le, eq, ge, gt]{tip}"
-    )?;
-    Ok(wrong(alloc, what.as_str()))
+    let argument = "<OP>'\n  [possible values: <, <=, =, >=, >, lt, le, eq, ge, gt]";
+    wrong_value(alloc, word, argument, meant)
 }
 
 fn wrong_place(alloc: Global, word: &str) -> Result<Fault, AllocError> {
-    let what = format!(in alloc;
-        "invalid value '{word}' for '<PLACE>'\n  [possible values: major, minor, patch, a number from 0]"
-    )?;
-    match near::similar(alloc, word, &["major", "minor", "patch"])? {
-        Some(name) => {
-            let what = format!(in alloc; "{what}\n\n  tip: a similar value exists: '{name}'")?;
-            Ok(wrong(alloc, what.as_str()))
-        }
-        None => Ok(wrong(alloc, what.as_str())),
-    }
+    let meant = near::similar(alloc, word, &["major", "minor", "patch"])?;
+    let argument = "<PLACE>'\n  [possible values: major, minor, patch, a number from 0]";
+    wrong_value(alloc, word, argument, meant)
 }

@@ -3,6 +3,23 @@
 use std::alloc::{AllocError, Global};
 use strsim::osa_distance;
 
+/// Adds to the text of a fault the name that a word may stand for, if it has none yet: before its last part, which begins
+/// with `end`.
+pub fn with_tip(
+    alloc: Global,
+    text: String,
+    end: &str,
+    what: &str,
+    name: Option<&str>,
+) -> Result<String, AllocError> {
+    match (text.as_str().split_once(end), name) {
+        (Some((before, after)), Some(name)) if !before.contains("  tip: ") => format!(in alloc;
+            "{before}\n\n  tip: a similar {what} exists: '{name}'{end}{after}"
+        ),
+        _ => Ok(text),
+    }
+}
+
 /// Returns the first name that the word becomes if one letter is put in, left out or changed, or two beside each other
 /// change places.
 pub fn similar<'n>(
@@ -16,20 +33,4 @@ pub fn similar<'n>(
         }
     }
     Ok(None)
-}
-
-/// Adds a tip to the text of a fault, before the last paragraph that begins with `end`.
-pub fn with_tip(
-    alloc: Global,
-    text: &str,
-    end: &str,
-    what: &str,
-    name: &str,
-) -> Result<String, AllocError> {
-    match text.split_once(end) {
-        Some((before, after)) => format!(in alloc;
-            "{before}\n\n  tip: a similar {what} exists: '{name}'{end}{after}"
-        ),
-        None => String::from_str(alloc, text),
-    }
 }
