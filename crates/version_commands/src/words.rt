@@ -76,7 +76,7 @@ fn task_of<'w>(alloc: Global, matches: &ArgMatches<'w>) -> Result<Task<'w>, Faul
         }),
         Some(("diff", options)) => diff_task(alloc, options),
         Some((name, options)) => each_task(alloc, name, options),
-        None => Err(wrong(alloc, "a command is missing")),
+        None => Err(wrong(alloc, "a command is missing")?),
     }
 }
 
@@ -90,10 +90,8 @@ fn lines_task<'w>(alloc: Global, name: &str, options: &ArgMatches<'w>) -> Result
     };
     let invalid_to = options.get_str("invalid-to");
     let Some(invalid) = invalid_asked(invalid_of(options), invalid_to.is_some(), by_default) else {
-        return Err(wrong(
-            alloc,
-            "the argument '--invalid-to <FILE>' takes '--invalid skip' alone",
-        ));
+        let what = "the argument '--invalid-to <FILE>' takes '--invalid skip' alone";
+        return Err(wrong(alloc, what)?);
     };
     let files = words_of(alloc, options)?;
     Ok(Task::Lines(
@@ -101,7 +99,10 @@ fn lines_task<'w>(alloc: Global, name: &str, options: &ArgMatches<'w>) -> Result
         LineOptions {
             end: end_of(options),
             place: place_of(options, column_of(options, "key", separator)),
-            choice: choice_of(options),
+            choice: Choice {
+                least: stability_named(options.get_str("min-stability").unwrap_or("dev")),
+                wanted: options.get_str("match"),
+            },
             invalid,
             invalid_to,
             progress: options.get_flag("progress"),
@@ -176,7 +177,7 @@ fn test_task<'w>(alloc: Global, options: &ArgMatches<'w>) -> Result<Task<'w>, Fa
             Some(operator) => Ok(Task::TestTwo(first, operator, second)),
             None => Err(wrong_operator(alloc, word)?),
         },
-        _ => Err(wrong(alloc, "two or three words are needed")),
+        _ => Err(wrong(alloc, "two or three words are needed")?),
     }
 }
 
@@ -238,12 +239,10 @@ fn separator_of(alloc: Global, options: &ArgMatches<'_>) -> Result<Option<u8>, F
     };
     match separator_named(word) {
         Some(separator) => Ok(Some(separator)),
-        None => Err(wrong_value(
-            alloc,
-            word,
-            "--field-separator <SEP>': it is one byte, \\t or \\0",
-            None,
-        )?),
+        None => {
+            let argument = "'--field-separator <SEP>': it is one byte, \\t or \\0";
+            Err(wrong_value(alloc, word, argument, None)?)
+        }
     }
 }
 
@@ -257,13 +256,6 @@ fn place_of<'w>(options: &ArgMatches<'w>, column: Option<Column>) -> VersionPlac
         crlf: options.get_flag("crlf"),
         column,
         naming,
-    }
-}
-
-fn choice_of<'w>(options: &ArgMatches<'w>) -> Choice<'w> {
-    Choice {
-        least: stability_named(options.get_str("min-stability").unwrap_or("dev")),
-        wanted: options.get_str("match"),
     }
 }
 
@@ -351,39 +343,42 @@ fn place_named(word: &str) -> Option<usize>
 }
 
 // Returns the fault of words that `clap` lets through.
-fn wrong(alloc: Global, what: &str) -> Fault {
-    match format!(in alloc; "error: {what}{MORE}") {
-        Ok(text) => Fault::Usage(text),
-        Err(_) => Fault::Memory,
-    }
+fn wrong(alloc: Global, what: &str) -> Result<Fault, AllocError> {
+    let text = format!(in alloc; "error: {what}{MORE}")?;
+    Ok(Fault::Usage(text))
 }
 
-// Returns the fault of a word that is no value of an argument, with the value that may be meant.
+// Returns the fault of a word that an argument can't take: its name and values are given, and which of them may be meant.
 fn wrong_value(
     alloc: Global,
     word: &str,
     argument: &str,
-    meant: Option<&str>,
+    meant: Option<&'static str>,
 ) -> Result<Fault, AllocError> {
-    let text = format!(in alloc; "error: invalid value '{word}' for '{argument}{MORE}")?;
-    Ok(Fault::Usage(near::with_tip(alloc, text, MORE, "value", meant)?))
+    let text = format!(in alloc; "error: invalid value '{word}' for {argument}{MORE}")?;
+    let text = near::with_tip(alloc, text, MORE, "value", meant)?;
+    Ok(Fault::Usage(text))
 }
 
 fn wrong_operator(alloc: Global, word: &str) -> Result<Fault, AllocError> {
-    let meant = match word {
+    let argument = "'<OP>'\n  [possible values: <, <=, =, >=, >, lt, le, eq, ge, gt]";
+    wrong_value(alloc, word, argument, operator_meant(word))
+}
+
+// Returns the operator that a word of another language stands for.
+fn operator_meant(word: &str) -> Option<&'static str> {
+    match word {
         "==" | "===" => Some("="),
         "=<" => Some("<="),
         "=>" => Some(">="),
         "lte" => Some("le"),
         "gte" => Some("ge"),
         _ => None,
-    };
-    let argument = "<OP>'\n  [possible values: <, <=, =, >=, >, lt, le, eq, ge, gt]";
-    wrong_value(alloc, word, argument, meant)
+    }
 }
 
 fn wrong_place(alloc: Global, word: &str) -> Result<Fault, AllocError> {
     let meant = near::similar(alloc, word, &["major", "minor", "patch"])?;
-    let argument = "<PLACE>'\n  [possible values: major, minor, patch, a number from 0]";
+    let argument = "'<PLACE>'\n  [possible values: major, minor, patch, a number from 0]";
     wrong_value(alloc, word, argument, meant)
 }

@@ -44,7 +44,10 @@ fn argument_of<'a>(alloc: Global, command: &str, row: &ArgumentRow) -> Result<Ar
     let argument = match form {
         Form::Word(name) => word(alloc, name),
         Form::TwoOrThree(name) => word(alloc, name).num_args(2..=3),
-        Form::Words(name) => words(alloc, name),
+        Form::Words(name) => Arg::new(alloc, "WORDS")
+            .value_name(name)
+            .num_args(0..)
+            .action(ArgAction::Append),
         Form::Flag(letter, name) => {
             option(alloc, command, letter, name)?.action(ArgAction::SetTrue)
         }
@@ -59,14 +62,6 @@ fn argument_of<'a>(alloc: Global, command: &str, row: &ArgumentRow) -> Result<Ar
 // Returns a word that has to be there.
 fn word<'a>(alloc: Global, name: &'static str) -> Arg<'a> {
     Arg::new(alloc, name).required(true).action(ArgAction::Set)
-}
-
-// Returns as many words as there are; their id is not the name of one that has to be there.
-fn words<'a>(alloc: Global, name: &'static str) -> Arg<'a> {
-    Arg::new(alloc, "WORDS")
-        .value_name(name)
-        .num_args(0..)
-        .action(ArgAction::Append)
 }
 
 // Returns an option. Those of `diff` may stand with `--lists` alone.

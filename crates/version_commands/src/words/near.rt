@@ -10,7 +10,7 @@ pub fn with_tip(
     text: String,
     end: &str,
     what: &str,
-    name: Option<&str>,
+    name: Option<&'static str>,
 ) -> Result<String, AllocError> {
     match (text.as_str().split_once(end), name) {
         (Some((before, after)), Some(name)) if !before.contains("  tip: ") => format!(in alloc;

@@ -20,6 +20,7 @@ pub const USE_OF_TEST: &str = "versions test A OP B
 /// A command: its name, what help says of it, and an example of its use.
 pub struct CommandRow(pub &'static str, pub &'static str, pub &'static str);
 
+/// The commands, in the order in which help has them.
 pub static COMMANDS: [CommandRow; 10] = [
     CommandRow(
         "sort",
@@ -112,7 +113,7 @@ pub enum Form {
     Word(&'static str),
     /// Two or three words.
     TwoOrThree(&'static str),
-    /// Any number of words.
+    /// Any number of words. Their id is not the name of a word that has to be there.
     Words(&'static str),
     /// An option that takes nothing: its letter and its name.
     Flag(Option<char>, &'static str),
@@ -136,8 +137,6 @@ const PLACED: &[&str] = &["sort", "newest", "filter", "diff"];
 const READING: &[&str] = &[
     "sort", "newest", "filter", "show", "key", "why", "diff", "next",
 ];
-
-const TEXT: ValueParser<'static> = ValueParser::String;
 
 // From 1 on.
 const NUMBER: ValueParser<'static> = ValueParser::Unsigned(1, u64::MAX);
@@ -264,7 +263,7 @@ pub static ARGUMENTS: [ArgumentRow; 34] = [
     ),
     ArgumentRow(
         LINES,
-        Form::Valued(None, "invalid-to", "FILE", TEXT),
+        Form::Valued(None, "invalid-to", "FILE", ValueParser::String),
         "Write lines without a version to this file, and leave them out",
     ),
     ArgumentRow(
@@ -274,7 +273,7 @@ pub static ARGUMENTS: [ArgumentRow; 34] = [
     ),
     ArgumentRow(
         PLACED,
-        Form::Valued(Some('t'), "field-separator", "SEP", TEXT),
+        Form::Valued(Some('t'), "field-separator", "SEP", ValueParser::String),
         "The byte between columns, \\t or \\0 too; runs of spaces and tabs unless it is given",
     ),
     ArgumentRow(
@@ -284,7 +283,7 @@ pub static ARGUMENTS: [ArgumentRow; 34] = [
     ),
     ArgumentRow(
         PLACED,
-        Form::Valued(None, "prefix", "P", TEXT),
+        Form::Valued(None, "prefix", "P", ValueParser::String),
         "The version is what follows the prefix P",
     ),
     ArgumentRow(
@@ -299,7 +298,7 @@ pub static ARGUMENTS: [ArgumentRow; 34] = [
     ),
     ArgumentRow(
         LINES,
-        Form::Valued(None, "match", "LIST", TEXT),
+        Form::Valued(None, "match", "LIST", ValueParser::String),
         "Leave out versions that this list of requirements doesn't match",
     ),
     ArgumentRow(
