@@ -1,5 +1,5 @@
 -- The lines that are written, in their order.
-use Rattle.std.specs.Prelude.{ℕ, false, true, List, ◌++◌, Option, None, Some}
+use Rattle.std.specs.Prelude.{ℕ, Bool, false, true, List, ◌++◌, Option, None, Some}
 use Rattle.version_commands.specs.declared.options.Arrangement.{Arrangement}
 use Rattle.version_commands.specs.declared.options.Arrangement.TheVariants.{Sort, Newest, Filter}
 use Rattle.version_commands.specs.declared.options.Column.{Column}
@@ -19,6 +19,12 @@ arranged text_of group_of (Sort reverse true) lines = first_of_ties reverse text
 arranged text_of group_of (Newest count group) lines =
     newest count (group_of group) text_of lines
 arranged text_of group_of (Filter list inverted) lines = lines
+
+-- whether lines are arranged from the last to the first
+abbrev pub is_reversed : Arrangement → Bool
+is_reversed (Sort reverse unique) = reverse
+is_reversed (Newest count group) = false
+is_reversed (Filter list inverted) = false
 
 -- what becomes of lines without a version: they are left out of the output where a file takes them
 abbrev pub policy : LineOptions → Invalid

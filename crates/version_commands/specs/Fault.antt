@@ -6,6 +6,7 @@ use Rattle.version_commands.specs.declared.options.Invalid.TheVariants as invali
 use Rattle.version_commands.specs.declared.pick.BadLines.{BadLines}
 use Rattle.version_commands.specs.declared.test.WrongWord.{WrongWord}
 use Rattle.version_commands.specs.declared.test.WrongWord.TheVariants as wrong
+use Rattle.version_commands.specs.Picked.{bad_lines, good_before}
 use Rattle.version_rules.specs.Versioning.{versioning_of}
 use Rattle.version_lines.specs.Output.{AppendsProperBeginning}
 use Rattle.version_commands.specs.declared.faults.Fault.{Fault}
@@ -37,6 +38,19 @@ ComesOfBad policy bad Memory = ⊤
 ComesOfBad policy bad (BadLine number text ends more) =
     (policy ≡ invalid.Fail) × (number ≡ min (bad.before + 1) (2 ^ 64 - 1)) × (more + 1 ≡ length bad.lines.items)
 ComesOfBad policy bad fault = ⊥
+
+-- the same, by the lines themselves
+abbrev pub ComesOfLines : Invalid → (List ℕ → List ℕ) → List (List ℕ) → Fault → Type 0
+ComesOfLines policy text_of lines Memory = ⊤
+ComesOfLines policy text_of lines (BadLine number text ends more) =
+    (policy ≡ invalid.Fail) × (number ≡ min (good_before text_of lines + 1) (2 ^ 64 - 1))
+    × (more + 1 ≡ length (bad_lines text_of lines))
+ComesOfLines policy text_of lines fault = ⊥
+
+-- the faults that lines can end in which are arranged and written
+abbrev pub ComesOfArranged : Invalid → (List ℕ → List ℕ) → List (List ℕ) → Fault → Type 0
+ComesOfArranged policy text_of lines (Write name) = ⊤
+ComesOfArranged policy text_of lines fault = ComesOfLines policy text_of lines fault
 
 -- the faults that writing can end in
 abbrev pub ComesOfWriting : Fault → Type 0

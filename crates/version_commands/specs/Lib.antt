@@ -1,4 +1,5 @@
 pub mod Arranged
+pub mod Cause
 pub mod Choice
 pub mod Column
 pub mod Compare

@@ -11,6 +11,8 @@ use Rattle.std.specs.declared.cmp.Ordering.TheVariants.{Less, Equal, Greater}
 use Rattle.version_commands.specs.Place.{column_text, line_text, version_in}
 use Rattle.version_commands.specs.declared.lists.Named.{Named}
 use Rattle.version_commands.specs.declared.lists.Names.{Names}
+use Rattle.version_commands.specs.declared.lists.Side.{Side}
+use Rattle.version_commands.specs.declared.lists.Side.TheVariants.{Old, New}
 use Rattle.version_commands.specs.declared.options.Lists.{Lists}
 use Rattle.version_lines.specs.Lines.{lines_of, whole_line}
 use Rattle.version_rules.specs.Key.{key_of, precedence}
@@ -63,15 +65,12 @@ change_line end row v Greater =
     whole_line end (row_text (codes "lowered ") row ++ 32 ∷ versioning_text v)
 change_line end row v Equal = []
 
--- the line for a name of the old list, by its version in the new list
-abbrev pub old_line : ℕ → Row → Option PlainVersioning → List ℕ
-old_line end row None = whole_line end (row_text (codes "removed ") row)
-old_line end row (Some v) = change_line end row v (precedence (key_of row.1) (key_of v))
-
--- the line for a name of the new list, by its version in the old list
-abbrev pub new_line : ℕ → Row → Option PlainVersioning → List ℕ
-new_line end row None = whole_line end (row_text (codes "added ") row)
-new_line end row (Some v) = []
+-- the line for a name of one of the lists, by its version in the other
+abbrev pub name_line : Side → ℕ → Row → Option PlainVersioning → List ℕ
+name_line Old end row None = whole_line end (row_text (codes "removed ") row)
+name_line Old end row (Some v) = change_line end row v (precedence (key_of row.1) (key_of v))
+name_line New end row None = whole_line end (row_text (codes "added ") row)
+name_line New end row (Some v) = []
 
 -- the lines for the names of a list, by the rows of the other list
 abbrev pub lines_against : (Row → Option PlainVersioning → List ℕ) → List Row → List Row → List ℕ
@@ -80,8 +79,8 @@ lines_against line others rows = flat_map (λ row. line row (version_of others r
 -- what `diff --lists` writes for two lists
 abbrev pub difference_text : ℕ → List Row → List Row → List ℕ
 difference_text end old new =
-    lines_against (old_line end) new (first_rows old)
-    ++ lines_against (new_line end) old (first_rows new)
+    lines_against (name_line Old end) new (first_rows old)
+    ++ lines_against (name_line New end) old (first_rows new)
 
 -- ---- as they are held
 

@@ -1,5 +1,5 @@
 -- What `sort`, `newest` and `filter` write.
-use Rattle.std.specs.Prelude.{◌≡◌, ℕ, List, [], map, Option, Some}
+use Rattle.std.specs.Prelude.{◌≡◌, ℕ, Bool, List, [], map, Option, Some}
 use Rattle.version_commands.specs.Arranged.{arranged, placed, policy}
 use Rattle.version_commands.specs.Choice.{chooser_of, is_kept}
 use Rattle.version_commands.specs.Inputs.{joined, names_read, AreInputs}
@@ -10,13 +10,30 @@ use Rattle.version_commands.specs.declared.options.Arrangement.{Arrangement}
 use Rattle.version_commands.specs.declared.options.Invalid.TheVariants.{Fail}
 use Rattle.version_commands.specs.declared.options.LineOptions.{LineOptions}
 use Rattle.version_lines.specs.Lines.{lines_of, lines_output, whole_line}
+use Rattle.version_rules.specs.Versioning.{PlainVersioning}
 
--- the lines that are written: those with a version that are kept, arranged, and those without
-abbrev pub ordered : Chooser → Arrangement → LineOptions → List (List ℕ) → List (List ℕ)
-ordered chooser arrangement options lines =
-    placed (policy options) (bad_lines (text_of options.place) lines)
-    (arranged (text_of options.place) (group_text options.place.crlf) arrangement
-    (kept_lines (text_of options.place) (is_kept chooser) lines))
+-- the output for some lines of an input: these, and all of its lines that have no version
+abbrev pub output_with : (List ℕ → List ℕ) → LineOptions → List ℕ → List (List ℕ) → List ℕ
+output_with text_of options input lines =
+    lines_output (whole_line options.end)
+    (placed (policy options) (bad_lines text_of (lines_of options.end input)) lines)
+
+-- the lines of an input that are kept
+abbrev pub kept_in : (List ℕ → List ℕ) → (PlainVersioning → Bool) → LineOptions → List ℕ
+    → List (List ℕ)
+kept_in text_of keeps options input = kept_lines text_of keeps (lines_of options.end input)
+
+-- the output for an input: its lines that are kept, arranged, and those without a version
+abbrev pub ordered_output : (List ℕ → List ℕ) → (PlainVersioning → Bool) → Arrangement → LineOptions
+    → List ℕ → List ℕ
+ordered_output text_of keeps arrangement options input =
+    output_with text_of options input
+    (arranged text_of (group_text options.place.crlf) arrangement (kept_in text_of keeps options input))
+
+-- each line of an input has a version, if the options ask for that
+abbrev pub IsGood : (List ℕ → List ℕ) → LineOptions → List ℕ → Type 0
+IsGood text_of options input =
+    policy options ≡ Fail → bad_lines text_of (lines_of options.end input) ≡ []
 
 -- the output of a run over lines, whose inputs were read in turn
 pub record IsOrdered (arrangement : Arrangement) (options : LineOptions)
@@ -27,8 +44,8 @@ pub record IsOrdered (arrangement : Arrangement) (options : LineOptions)
   pub texts_are : AreInputs holds old new
       (names_read (map (λ name. name.now) options.files.items)) texts
   pub chooser_is : chooser_of options.choice arrangement ≡ Some chooser
-  pub output_is : output ≡ lines_output (whole_line options.end)
-      (ordered chooser arrangement options (lines_of options.end (joined options.end texts)))
+  pub output_is : output ≡ ordered_output (text_of options.place) (is_kept chooser) arrangement
+      options (joined options.end texts)
 
 -- each line has a version, if the options ask for that
 abbrev pub HasNoBad : LineOptions → (List ℕ → Option (List ℕ)) → Option (List ℕ)
@@ -36,5 +53,4 @@ abbrev pub HasNoBad : LineOptions → (List ℕ → Option (List ℕ)) → Optio
 HasNoBad options holds old new =
     (texts : List (List ℕ))
     × AreInputs holds old new (names_read (map (λ name. name.now) options.files.items)) texts
-    × (policy options ≡ Fail → bad_lines (text_of options.place)
-    (lines_of options.end (joined options.end texts)) ≡ [])
+    × IsGood (text_of options.place) options (joined options.end texts)

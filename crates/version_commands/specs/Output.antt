@@ -6,11 +6,14 @@ use Rattle.version_commands.specs.Each.{IsAnswered}
 use Rattle.version_commands.specs.Inputs.{joined, AreInputs}
 use Rattle.version_commands.specs.Lists.{difference_text, rows_of}
 use Rattle.version_commands.specs.Ordered.{HasNoBad, IsOrdered}
+use Rattle.version_commands.specs.Picked.{bad_lines}
+use Rattle.version_commands.specs.Place.{text_of}
 use Rattle.version_commands.specs.Test.{answer_of_two, IsAnswerOfList}
+use Rattle.version_commands.specs.declared.options.Invalid.TheVariants.{Fail}
 use Rattle.version_commands.specs.declared.options.Lists.{Lists}
 use Rattle.version_commands.specs.declared.options.Task.{Task}
 use Rattle.version_commands.specs.declared.options.Task.TheVariants as task
-use Rattle.version_lines.specs.Lines.{line_feed}
+use Rattle.version_lines.specs.Lines.{line_feed, lines_of}
 use Rattle.version_rules.specs.Requirements.{requirements_of}
 use Rattle.version_rules.specs.Versioning.{PlainVersioning, versioning_of}
 
@@ -34,6 +37,17 @@ pub record AreChanges (lists : Lists) (holds : List ℕ → Option (List ℕ))
       (rows_of lists (joined lists.end (first ∷ [])))
       (rows_of lists (joined lists.end (second ∷ [])))
 
+-- each line of the two lists has a version, if the options ask for that
+abbrev pub HasNoBadOfTwo : Lists → (List ℕ → Option (List ℕ)) → Option (List ℕ) → Option (List ℕ)
+    → Type 0
+HasNoBadOfTwo lists holds old new =
+    (first second : List ℕ)
+    × AreInputs holds old new (lists.old.now ∷ lists.new.now ∷ []) (first ∷ second ∷ [])
+    × (lists.invalid ≡ Fail → AreGood first × AreGood second) where
+      AreGood : List ℕ → Type 0
+      AreGood input =
+          bad_lines (text_of lists.place) (lines_of lists.end (joined lists.end (input ∷ []))) ≡ []
+
 -- the output of a task that ends well, by what the files hold, and what standard input had before
 -- and after; `test` ends well only if its answer is yes
 abbrev pub IsOutput : Task → (List ℕ → Option (List ℕ)) → Option (List ℕ) → Option (List ℕ)
@@ -56,4 +70,5 @@ IsOutput (task.Say text) holds old new output = output ≡ string_bytes text
 abbrev pub HasWhatItNeeds : Task → (List ℕ → Option (List ℕ)) → Option (List ℕ)
     → Option (List ℕ) → Type 0
 HasWhatItNeeds (task.Lines arrangement options) holds old new = HasNoBad options holds old new
+HasWhatItNeeds (task.Lists lists) holds old new = HasNoBadOfTwo lists holds old new
 HasWhatItNeeds other holds old new = ⊤

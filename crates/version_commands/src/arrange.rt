@@ -1,27 +1,27 @@
 //! The commands over lines: `sort`, `newest` and `filter`.
-ghost use Rattle.std.specs.Prelude.{◌≡◌, ℕ, List, [], Some, IfErr, IfOk, OnOk};
+ghost use Rattle.std.specs.Prelude.{◌≡◌, ℕ, List, Some, IfErr, IfOk, OnOk};
 ghost use Rattle.std.specs.Io.KnownBytes.{Appends};
-ghost use Rattle.version_commands.specs.Arranged.{policy};
-ghost use Rattle.version_commands.specs.Choice.{chooser_of, wrong_list};
-ghost use Rattle.version_commands.specs.Fault.{ComesOfLists, FailsAt, GrowsAt};
-ghost use Rattle.version_commands.specs.Ordered.{ordered, HasNoBad, IsOrdered};
-ghost use Rattle.version_commands.specs.Picked.{bad_lines};
-ghost use Rattle.version_commands.specs.Place.{text_of};
-ghost use Rattle.version_commands.specs.declared.options.Invalid.TheVariants.{Fail};
-ghost use Rattle.version_lines.specs.Lines.{lines_of, lines_output, whole_line};
-ghost use Rattle.version_commands.specs.declared.options.Arrangement.TheVariants as arrangement;
+ghost use Rattle.version_commands.specs.Arranged.{arranged, is_reversed, policy};
+ghost use Rattle.version_commands.specs.Cause.{ComesOfArranging};
+ghost use Rattle.version_commands.specs.Choice.{chooser_of, is_kept, wrong_list};
+ghost use Rattle.version_commands.specs.Fault.{ComesOfArranged, ComesOfLists, FailsAt, GrowsAt};
+ghost use Rattle.version_commands.specs.Ordered.{kept_in, ordered_output, output_with, HasNoBad, IsGood, IsOrdered};
+ghost use Rattle.version_commands.specs.Place.{group_text, text_of};
+ghost use Rattle.version_lines.specs.KeyedLines.{lines_in, AreRead};
+ghost use Rattle.version_lines.specs.Lines.{lines_of};
 
 use crate::bad::refuse_bad;
 use crate::choice::Chooser;
 use crate::faults::Fault;
 use crate::files::{Files, Stage};
 use crate::inputs::read_inputs;
-use crate::options::{Arrangement, Choice, Column, LineOptions};
-use crate::pick::{read_kept, read_keyed};
+use crate::options::{Arrangement, Choice, LineOptions};
+use crate::pick::{Chooses, EveryVersion, read_kept, read_keyed};
 use crate::place::{ByColumn, ByVersion};
 use crate::write::write_lines;
-use std::alloc::Global;
+use std::alloc::{AllocError, Global};
 use std::io::{Read, Write};
+use version_lines::{KeyedLines, SortBy, WholeLines};
 
 /// Reads the inputs, and writes those of their lines that the arrangement asks for.
 pub fn serve_lines<F: Files, R: Read, W: Write>(
@@ -40,12 +40,12 @@ pub fn serve_lines<F: Files, R: Read, W: Write>(
     ensures at_fault { IfErr result (FailsAt (IsOrdered arrangement.entry options.now
         (F.holds files.old) (R.remaining reader.old) (R.remaining reader.new))
         (W.contents writer.old) (W.contents writer.new)) }
+    ensures faults { IfErr result (ComesOfArranging arrangement.entry options.now
+        (F.holds files.old) (R.remaining reader.old)) }
 {
     let chooser = read_chooser(alloc, &options.choice, &arrangement)?;
     let input = read_inputs(alloc, options.files.as_slice(), options.end, files, reader)?;
-    if options.progress {
-        files.tell(Stage::Read(input.len()));
-    }
+    tell(options, files, Stage::Read(input.len()));
     write_arranged(
         alloc,
         arrangement,
@@ -72,7 +72,8 @@ fn read_chooser<'w>(
     }
 }
 
-// Writes those of the lines of an input that the arrangement asks for.
+// Writes those of the lines of an input that the arrangement asks for. Where each line is its version, all of them are
+// kept and the order is not reversed, nothing of that is asked again for each line.
 fn write_arranged<F: Files, W: Write>(
     alloc: Global,
     arrangement: Arrangement<'_>,
@@ -83,104 +84,117 @@ fn write_arranged<F: Files, W: Write>(
     writer: &mut W,
 ) -> Result<(), Fault>
     ensures written { OnOk result (Appends (W.contents writer.old) (W.contents writer.new)
-        (lines_output (whole_line options.now.end) (ordered chooser.now arrangement.entry options.now
-        (lines_of options.now.end input.now)))) }
-    ensures good { OnOk result (policy options.now ≡ Fail
-        → bad_lines (text_of options.now.place) (lines_of options.now.end input.now) ≡ []) }
+        (ordered_output (text_of options.now.place) (is_kept chooser.now) arrangement.entry
+        options.now input.now)) }
+    ensures good { OnOk result (IsGood (text_of options.now.place) options.now input.now) }
     ensures at_fault { IfErr result (GrowsAt (W.contents writer.old) (W.contents writer.new)
-        (lines_output (whole_line options.now.end) (ordered chooser.now arrangement.entry options.now
-        (lines_of options.now.end input.now)))) }
+        (ordered_output (text_of options.now.place) (is_kept chooser.now) arrangement.entry
+        options.now input.now)) }
+    ensures faults { IfErr result (ComesOfArranged (policy options.now) (text_of options.now.place)
+        (lines_of options.now.end input.now)) }
 {
-    match arrangement {
-        Arrangement::Sort { reverse, unique } => {
-            sort(
-                alloc, reverse, unique, options, chooser, input, files, writer,
-            )
-        }
-        Arrangement::Newest { count, group } => {
-            newest(alloc, count, group, options, chooser, input, files, writer)
-        }
-        Arrangement::Filter { list, inverted } => {
-            filter(
-                alloc, list, inverted, options, chooser, input, files, writer,
-            )
-        }
+    if let Arrangement::Filter { .. } = arrangement {
+        return write_kept(alloc, options, chooser, input, files, writer);
     }
-}
-
-// Writes the lines in the order of their versions.
-fn sort<F: Files, W: Write>(
-    alloc: Global,
-    reverse: bool,
-    unique: bool,
-    options: &LineOptions<'_>,
-    chooser: &Chooser<'_>,
-    input: &[u8],
-    files: &mut F,
-    writer: &mut W,
-) -> Result<(), Fault>
-    ensures written { OnOk result (Appends (W.contents writer.old) (W.contents writer.new)
-        (lines_output (whole_line options.now.end) (ordered chooser.now
-        (arrangement.Sort reverse unique) options.now (lines_of options.now.end input.now)))) }
-    ensures good { OnOk result (policy options.now ≡ Fail
-        → bad_lines (text_of options.now.place) (lines_of options.now.end input.now) ≡ []) }
-    ensures at_fault { IfErr result (GrowsAt (W.contents writer.old) (W.contents writer.new)
-        (lines_output (whole_line options.now.end) (ordered chooser.now
-        (arrangement.Sort reverse unique) options.now (lines_of options.now.end input.now)))) }
-{
+    let reverse = is_reversed(&arrangement);
+    if options.place.is_whole() && chooser.keeps_all() && !reverse {
+        return write_keyed(
+            alloc,
+            WholeLines,
+            &EveryVersion,
+            arrangement,
+            options,
+            input,
+            files,
+            writer,
+        );
+    }
     let by = ByVersion {
         place: options.place,
         reverse,
     };
-    let (mut kept, bad) = read_keyed(alloc, by, chooser, options.end, input)?;
-    refuse_bad(alloc, options, &bad)?;
-    if unique {
-        kept.put_first_of_ties();
-    } else {
-        kept.put_in_order();
-    }
-    write_lines(alloc, options, &bad, &kept, files, writer)
+    write_keyed(
+        alloc,
+        by,
+        chooser,
+        arrangement,
+        options,
+        input,
+        files,
+        writer,
+    )
 }
 
-// Writes the newest lines of each group.
-fn newest<F: Files, W: Write>(
+// Writes the lines that are kept in the order of their versions, or the newest of them.
+fn write_keyed<B: SortBy + Copy, C: Chooses, F: Files, W: Write>(
     alloc: Global,
-    count: usize,
-    group: Option<Column>,
+    by: B,
+    chooser: &C,
+    arrangement: Arrangement<'_>,
     options: &LineOptions<'_>,
-    chooser: &Chooser<'_>,
     input: &[u8],
     files: &mut F,
     writer: &mut W,
 ) -> Result<(), Fault>
+    requires { is_reversed arrangement ≡ B.is_reversed by }
     ensures written { OnOk result (Appends (W.contents writer.old) (W.contents writer.new)
-        (lines_output (whole_line options.now.end) (ordered chooser.now
-        (arrangement.Newest count group) options.now (lines_of options.now.end input.now)))) }
-    ensures good { OnOk result (policy options.now ≡ Fail
-        → bad_lines (text_of options.now.place) (lines_of options.now.end input.now) ≡ []) }
+        (ordered_output (B.text_of by) (C.keeps chooser.now) arrangement.entry options.now input.now)) }
+    ensures good { OnOk result (IsGood (B.text_of by) options.now input.now) }
     ensures at_fault { IfErr result (GrowsAt (W.contents writer.old) (W.contents writer.new)
-        (lines_output (whole_line options.now.end) (ordered chooser.now
-        (arrangement.Newest count group) options.now (lines_of options.now.end input.now)))) }
+        (ordered_output (B.text_of by) (C.keeps chooser.now) arrangement.entry options.now input.now)) }
+    ensures faults { IfErr result (ComesOfArranged (policy options.now) (B.text_of by)
+        (lines_of options.now.end input.now)) }
 {
-    let by = ByVersion {
-        place: options.place,
-        reverse: false,
-    };
-    let groups = ByColumn {
-        crlf: options.place.crlf,
-        column: group,
-    };
     let (mut kept, bad) = read_keyed(alloc, by, chooser, options.end, input)?;
     refuse_bad(alloc, options, &bad)?;
-    kept.keep_newest(alloc, count, &groups)?;
+    tell(options, files, Stage::Kept(kept.count()));
+    arrange(alloc, arrangement, options.place.crlf, &mut kept)?;
+    tell(options, files, Stage::Ordered(kept.count()));
     write_lines(alloc, options, &bad, &kept, files, writer)
+}
+
+// Arranges lines that stand as they were added.
+fn arrange<B: SortBy>(
+    alloc: Global,
+    arrangement: Arrangement<'_>,
+    crlf: bool,
+    lines: &mut KeyedLines<'_, B>,
+) -> Result<(), AllocError>
+    requires read { AreRead B.text_of lines.old }
+    requires reversed { is_reversed arrangement ≡ B.is_reversed lines.old.by }
+    ensures { OnOk result (lines_in lines.new ≡ arranged (B.text_of lines.old.by) (group_text crlf)
+        arrangement.entry (lines_in lines.old)) }
+{
+    match arrangement {
+        Arrangement::Sort { unique, .. } => {
+            if unique {
+                lines.put_first_of_ties();
+            } else {
+                lines.put_in_order();
+            }
+            Ok(())
+        }
+        Arrangement::Newest { count, group } => {
+            let groups = ByColumn {
+                crlf,
+                column: group,
+            };
+            lines.keep_newest(alloc, count, &groups)
+        }
+        Arrangement::Filter { .. } => Ok(()),
+    }
+}
+
+// Whether lines are arranged from the last to the first.
+fn is_reversed(arrangement: &Arrangement<'_>) -> bool
+    ensures { result ≡ is_reversed arrangement.now }
+{
+    matches!(arrangement, Arrangement::Sort { reverse: true, .. })
 }
 
 // Writes the lines that are kept, in the order of the input.
-fn filter<F: Files, W: Write>(
+fn write_kept<F: Files, W: Write>(
     alloc: Global,
-    list: &str,
-    inverted: bool,
     options: &LineOptions<'_>,
     chooser: &Chooser<'_>,
     input: &[u8],
@@ -188,13 +202,14 @@ fn filter<F: Files, W: Write>(
     writer: &mut W,
 ) -> Result<(), Fault>
     ensures written { OnOk result (Appends (W.contents writer.old) (W.contents writer.new)
-        (lines_output (whole_line options.now.end) (ordered chooser.now
-        (arrangement.Filter list.entry inverted) options.now (lines_of options.now.end input.now)))) }
-    ensures good { OnOk result (policy options.now ≡ Fail
-        → bad_lines (text_of options.now.place) (lines_of options.now.end input.now) ≡ []) }
+        (output_with (text_of options.now.place) options.now input.now
+        (kept_in (text_of options.now.place) (is_kept chooser.now) options.now input.now))) }
+    ensures good { OnOk result (IsGood (text_of options.now.place) options.now input.now) }
     ensures at_fault { IfErr result (GrowsAt (W.contents writer.old) (W.contents writer.new)
-        (lines_output (whole_line options.now.end) (ordered chooser.now
-        (arrangement.Filter list.entry inverted) options.now (lines_of options.now.end input.now)))) }
+        (output_with (text_of options.now.place) options.now input.now
+        (kept_in (text_of options.now.place) (is_kept chooser.now) options.now input.now))) }
+    ensures faults { IfErr result (ComesOfArranged (policy options.now) (text_of options.now.place)
+        (lines_of options.now.end input.now)) }
 {
     let by = ByVersion {
         place: options.place,
@@ -202,5 +217,13 @@ fn filter<F: Files, W: Write>(
     };
     let (kept, bad) = read_kept(alloc, &by, chooser, options.end, input)?;
     refuse_bad(alloc, options, &bad)?;
+    tell(options, files, Stage::Kept(kept.len()));
     write_lines(alloc, options, &bad, &kept, files, writer)
+}
+
+// Tells how far a run is, if that is asked for.
+fn tell<F: Files>(options: &LineOptions<'_>, files: &mut F, stage: Stage) {
+    if options.progress {
+        files.tell(stage);
+    }
 }

@@ -16,8 +16,21 @@ pub fn refuse_bad(alloc: Global, options: &LineOptions<'_>, bad: &BadLines<'_>) 
     ensures none { OnOk result (policy options.now ≡ Invalid.Fail → bad.now.lines.items ≡ []) }
     ensures faults { IfErr result (ComesOfBad (policy options.now) bad.now) }
 {
-    match policy(options) {
-        Invalid::Fail => refuse_first(alloc, options.place.crlf, bad),
+    refuse_if(alloc, policy(options), options.place.crlf, bad)
+}
+
+/// The same where it is asked so of lines without a version.
+pub fn refuse_if(
+    alloc: Global,
+    invalid: Invalid,
+    crlf: bool,
+    bad: &BadLines<'_>,
+) -> Result<(), Fault>
+    ensures none { OnOk result (invalid ≡ Invalid.Fail → bad.now.lines.items ≡ []) }
+    ensures faults { IfErr result (ComesOfBad invalid bad.now) }
+{
+    match invalid {
+        Invalid::Fail => refuse_first(alloc, crlf, bad),
         Invalid::Skip | Invalid::First | Invalid::Last => Ok(()),
     }
 }

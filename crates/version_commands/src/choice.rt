@@ -1,6 +1,7 @@
 //! Which lines that have a version are kept.
-ghost use Rattle.std.specs.Prelude.{◌≡◌, Some, None, IfOk, IfErr, OnErr};
+ghost use Rattle.std.specs.Prelude.{◌≡◌, true, Some, None, IfOk, IfErr, IsTrue, OnErr};
 ghost use Rattle.version_commands.specs.Choice.{chooser_of, is_kept, is_matched, is_stable_enough, is_wanted, passes_any, wrong_list};
+ghost use Rattle.version_rules.specs.Versioning.{PlainVersioning};
 ghost use Rattle.version_texts.specs.VersioningRef.{plain_versioning_ref};
 
 use crate::options::{Arrangement, Choice};
@@ -56,6 +57,20 @@ impl<'w> Chooser<'w> {
             wanted,
             filter,
         })
+    }
+
+    /// Whether each version is kept, as where nothing is asked.
+    pub fn keeps_all(&self) -> bool
+        ensures { IsTrue result → (v : PlainVersioning) → is_kept self.now v ≡ true }
+    {
+        matches!(
+            self,
+            Chooser {
+                least: Stability::Dev,
+                wanted: None,
+                filter: None,
+            }
+        )
     }
 
     /// Returns whether a version is kept. Does not allocate.

@@ -2,10 +2,12 @@
 ghost use Rattle.std.specs.Prelude.{◌≡◌, ◌++◌, ◌∷◌, [], map, IfErr, IfOk, IsSome, OnOk};
 ghost use Rattle.std.specs.Io.KnownBytes.{Consumes, IsAtEnd};
 ghost use Rattle.std.specs.List.{All};
+ghost use Rattle.version_commands.specs.Cause.{ComesOfAsking, ComesOfQuestion};
 ghost use Rattle.version_commands.specs.Each.{AreAnswered, HasList, IsAnswer, IsAnswered, IsHead};
-ghost use Rattle.version_commands.specs.Fault.{ComesOfReading, NotOfWriting};
+ghost use Rattle.version_commands.specs.Fault.{ComesOfLines, ComesOfReading, ComesOfWords, NotOfWriting};
 ghost use Rattle.version_commands.specs.Pieces.{Adds};
 ghost use Rattle.version_commands.specs.Place.{line_text};
+ghost use Rattle.version_commands.specs.declared.options.Invalid.TheVariants.{Fail};
 ghost use Rattle.version_lines.specs.Lines.{lines_of};
 ghost use Rattle.version_rules.specs.Versioning.{versioning_of};
 ghost use Rattle.version_texts.specs.VersioningRef.{plain_versioning_ref};
@@ -35,7 +37,8 @@ pub fn answer_each<R: Read>(
 ) -> Result<Vec<u8>, Fault>
     ensures output { IfOk result (λ output. IsAnswered question.entry options.now
         (R.remaining reader.old) (R.remaining reader.new) output.items) }
-    ensures faults { IfErr result NotOfWriting }
+    ensures unwritten { IfErr result NotOfWriting }
+    ensures faults { IfErr result (ComesOfAsking question.entry options.now (R.remaining reader.old)) }
 {
     let mut output = head_of(alloc, question, options.end)?;
     if !options.versions.is_empty() {
@@ -53,7 +56,7 @@ pub fn answer_each<R: Read>(
 fn head_of(alloc: Global, question: Question<'_>, end: u8) -> Result<Vec<u8>, Fault>
     ensures head { IfOk result (λ head. IsHead question.entry end head.items) }
     ensures list { OnOk result (HasList question.entry) }
-    ensures faults { IfErr result NotOfWriting }
+    ensures faults { IfErr result (ComesOfQuestion question.entry) }
 {
     let mut head = Vec::new(alloc);
     if let Question::Why(list) = question {
@@ -90,7 +93,8 @@ fn texts_of_lines<'a>(
         ≡ map (line_text options.now.crlf) (lines_of options.now.end input.now)) }
     ensures versions { IfOk result (λ texts.
         All (λ text. IsSome (versioning_of text.now)) texts.items) }
-    ensures faults { IfErr result NotOfWriting }
+    ensures faults { IfErr result
+        (ComesOfLines Fail (line_text options.now.crlf) (lines_of options.now.end input.now)) }
 {
     let mut texts = Vec::new(alloc);
     let mut bad = BadLines::new(alloc);
@@ -117,7 +121,7 @@ fn texts_of_words<'w>(alloc: Global, words: &[&'w str]) -> Result<Vec<&'w [u8]>,
         ≡ map (λ word. word.now) words.now) }
     ensures versions { IfOk result (λ texts.
         All (λ text. IsSome (versioning_of text.now)) texts.items) }
-    ensures faults { IfErr result NotOfWriting }
+    ensures faults { IfErr result ComesOfWords }
 {
     let mut texts = Vec::with_capacity(alloc, words.len())?;
     for word in words {
@@ -149,7 +153,7 @@ fn add_answers(
     requires list { HasList question }
     ensures answers { OnOk result (Adds (AreAnswered question.entry end (map (λ text. text.now) texts.now))
         output.old.items output.new.items) }
-    ensures faults { IfErr result NotOfWriting }
+    ensures faults { IfErr result (ComesOfQuestion question.entry) }
 {
     for text in texts {
         let version = VersioningRef::from_bytes(text).unwrap();

@@ -16,8 +16,8 @@ pub enum Trouble {
 pub enum Stage {
     /// So many bytes were read.
     Read(usize),
-    /// So many lines were checked.
-    Checked(usize),
+    /// So many lines have a version and are not left out.
+    Kept(usize),
     /// So many lines stand in order.
     Ordered(usize),
 }

@@ -1,7 +1,7 @@
 //! What differs between two lists of names with versions.
 ghost use Rattle.std.specs.Prelude.{◌≡◌, ◌<◌, ◌≤◌, ◌+◌, ◌^◌, ℕ, ◌∷◌, ◌++◌, [], List, IfOk, OnOk};
 ghost use Rattle.std.specs.Option.{option_map};
-ghost use Rattle.version_commands.specs.Lists.{difference_text, first_rows, lines_against, new_line, old_line, plain_row, row_text, rows_of, rows_of_line, version_of, AreNames, Row};
+ghost use Rattle.version_commands.specs.Lists.{difference_text, first_rows, lines_against, name_line, plain_row, row_text, rows_of, rows_of_line, version_of, AreNames, Row};
 ghost use Rattle.version_commands.specs.Picked.{AreBadOf};
 ghost use Rattle.version_commands.specs.Place.{text_of};
 ghost use Rattle.version_lines.specs.Lines.{lines_of, whole_line};
@@ -22,6 +22,13 @@ use version_texts::VersioningRef;
 pub struct Named<'a> {
     name: &'a [u8],
     version: VersioningRef<'a>,
+}
+
+// Which of the two lists a name stands in.
+#[derive(Clone, Copy)]
+enum Side {
+    Old,
+    New,
 }
 
 /// The names of a list, each with the version of its first line.
@@ -123,80 +130,62 @@ pub fn add_lists(
     ensures { (before after : List Row) → AreNames before old.now → AreNames after new.now
         → OnOk result (output.new.items ≡ output.old.items ++ difference_text end before after) }
 {
-    add_olds(old, new, end, output)?;
-    add_news(old, new, end, output)
+    add_names(Side::Old, old, new, end, output)?;
+    add_names(Side::New, new, old, end, output)
 }
 
-// Adds the lines for the names of the old list.
-fn add_olds(
-    old: &Names<'_>,
-    new: &Names<'_>,
+// Adds the lines for the names of a list, by the other list.
+fn add_names(
+    side: Side,
+    names: &Names<'_>,
+    others: &Names<'_>,
     end: u8,
     output: &mut Vec<u8>,
 ) -> Result<(), AllocError>
-    ensures { (before after : List Row) → AreNames before old.now → AreNames after new.now
+    ensures { (rows other : List Row) → AreNames rows names.now → AreNames other others.now
         → OnOk result (output.new.items
-        ≡ output.old.items ++ lines_against (old_line end) after (first_rows before)) }
+        ≡ output.old.items ++ lines_against (name_line side end) other (first_rows rows)) }
 {
-    for row in &old.rows {
-        add_old(row, new.version(row.name), end, output)?;
+    for row in &names.rows {
+        add_name(side, row, others.version(row.name), end, output)?;
     }
     Ok(())
 }
 
-// Adds the lines for the names of the new list.
-fn add_news(
-    old: &Names<'_>,
-    new: &Names<'_>,
-    end: u8,
-    output: &mut Vec<u8>,
-) -> Result<(), AllocError>
-    ensures { (before after : List Row) → AreNames before old.now → AreNames after new.now
-        → OnOk result (output.new.items
-        ≡ output.old.items ++ lines_against (new_line end) before (first_rows after)) }
-{
-    for row in &new.rows {
-        add_new(row, old.version(row.name), end, output)?;
-    }
-    Ok(())
-}
-
-// Adds the line for a name of the old list, by its version in the new list.
-fn add_old(
+// Adds the line for a name of a list, by its version in the other list.
+fn add_name(
+    side: Side,
     row: &Named<'_>,
-    new: Option<&VersioningRef<'_>>,
+    other: Option<&VersioningRef<'_>>,
     end: u8,
     output: &mut Vec<u8>,
 ) -> Result<(), AllocError>
-    ensures { OnOk result (output.new.items ≡ output.old.items ++ old_line end (plain_row row.now)
-        (option_map (λ version. plain_versioning_ref version.now) new.entry)) }
+    ensures { OnOk result (output.new.items ≡ output.old.items ++ name_line side end (plain_row row.now)
+        (option_map (λ version. plain_versioning_ref version.now) other.entry)) }
 {
-    let Some(new) = new else {
-        add_row(b"removed ", row, output)?;
-        output.push(end)?;
-        return Ok(());
-    };
-    match row.version.precedence(new) {
-        Ordering::Less => add_change(b"raised ", row, new, end, output),
-        Ordering::Greater => add_change(b"lowered ", row, new, end, output),
-        Ordering::Equal => Ok(()),
+    match (side, other) {
+        (Side::Old, None) => add_whole_row(b"removed ", row, end, output),
+        (Side::Old, Some(new)) => match row.version.precedence(new) {
+            Ordering::Less => add_change(b"raised ", row, new, end, output),
+            Ordering::Greater => add_change(b"lowered ", row, new, end, output),
+            Ordering::Equal => Ok(()),
+        },
+        (Side::New, None) => add_whole_row(b"added ", row, end, output),
+        (Side::New, Some(_)) => Ok(()),
     }
 }
 
-// Adds the line for a name of the new list, by its version in the old list.
-fn add_new(
+// Adds the line for a name that one list has alone.
+fn add_whole_row(
+    word: &[u8],
     row: &Named<'_>,
-    old: Option<&VersioningRef<'_>>,
     end: u8,
     output: &mut Vec<u8>,
 ) -> Result<(), AllocError>
-    ensures { OnOk result (output.new.items ≡ output.old.items ++ new_line end (plain_row row.now)
-        (option_map (λ version. plain_versioning_ref version.now) old.entry)) }
+    ensures { OnOk result (output.new.items
+        ≡ output.old.items ++ whole_line end (row_text word.now (plain_row row.now))) }
 {
-    if old.is_some() {
-        return Ok(());
-    }
-    add_row(b"added ", row, output)?;
+    add_row(word, row, output)?;
     output.push(end)?;
     Ok(())
 }

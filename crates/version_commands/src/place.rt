@@ -1,5 +1,5 @@
 //! Where the version of a line stands.
-ghost use Rattle.std.specs.Prelude.{◌≡◌, ◌<◌, [], drop, length};
+ghost use Rattle.std.specs.Prelude.{◌≡◌, ◌<◌, ℕ, List, [], drop, length, IsTrue};
 ghost use Rattle.std.specs.Option.{option_map_or, IfSome};
 ghost use Rattle.version_commands.specs.Place.{column_text, line_text, named_text, named_version, place_text, text_of};
 ghost use Rattle.version_rules.specs.Versioning.{versioning_of};
@@ -9,6 +9,20 @@ use version_lines::{GroupBy, SortBy};
 use version_tasks::{start_after_prefix, start_in_tag};
 
 impl VersionPlace<'_> {
+    /// Whether each line is its version.
+    pub fn is_whole(&self) -> bool
+        ensures { IsTrue result → (line : List ℕ) → text_of self.now line ≡ line }
+    {
+        matches!(
+            self,
+            VersionPlace {
+                crlf: false,
+                column: None,
+                naming: Naming::Bare,
+            }
+        )
+    }
+
     /// Returns the text in a line that is to be its version. It is empty where the line has no such column, and where
     /// there is no version in the tag. Does not allocate.
     pub fn text<'a>(&self, line: &'a [u8]) -> &'a [u8]

@@ -1,16 +1,17 @@
 //! A run of the program over any files, reader and writer.
 ghost use Rattle.std.specs.Prelude.{◌≡◌, ℕ, List, true, Ok, Some, IfErr, IfOk, OnOk};
 ghost use Rattle.std.specs.Io.KnownBytes.{Appends};
+ghost use Rattle.version_commands.specs.Cause.{ComesOf, ComesOfChanges};
 ghost use Rattle.version_commands.specs.Compare.{comparison_line};
 ghost use Rattle.version_commands.specs.Difference.{difference_line};
 ghost use Rattle.version_commands.specs.Fault.{ComesOfTest, ComesOfWords, FailsAt, NotOfWriting};
-ghost use Rattle.version_commands.specs.Output.{AreChanges, HasWhatItNeeds, IsLineOfTwo, IsOutput};
+ghost use Rattle.version_commands.specs.Output.{AreChanges, HasNoBadOfTwo, HasWhatItNeeds, IsLineOfTwo, IsOutput};
 ghost use Rattle.version_lines.specs.Lines.{line_feed};
 ghost use Rattle.version_rules.specs.Versioning.{versioning_of};
 ghost use Rattle.version_texts.specs.VersioningRef.{plain_versioning_ref};
 
 use crate::arrange::serve_lines;
-use crate::bad::refuse_first;
+use crate::bad::refuse_if;
 use crate::compare::add_comparison;
 use crate::difference::add_difference;
 use crate::each::answer_each;
@@ -18,7 +19,7 @@ use crate::faults::Fault;
 use crate::files::Files;
 use crate::inputs::read_inputs;
 use crate::lists::{add_lists, read_names};
-use crate::options::{Invalid, Lists, Task};
+use crate::options::{Lists, Task};
 use crate::test::{WrongWord, test_list, test_two};
 use crate::words::read_words;
 use crate::write::write_answer;
@@ -58,6 +59,7 @@ pub fn serve<F: Files, R: Read, W: Write>(
     ensures at_fault { IfErr result (FailsAt (IsOutput task.now (F.holds files.old)
         (R.remaining reader.old) (R.remaining reader.new))
         (W.contents writer.old) (W.contents writer.new)) }
+    ensures faults { IfErr result (ComesOf task.now (F.holds files.old) (R.remaining reader.old)) }
 {
     match task {
         Task::Lines(arrangement, options) => {
@@ -155,16 +157,17 @@ fn changes<F: Files, R: Read>(
 ) -> Result<Vec<u8>, Fault>
     ensures output { IfOk result (λ output. AreChanges lists.now (F.holds files.now)
         (R.remaining reader.old) (R.remaining reader.new) output.items) }
-    ensures faults { IfErr result NotOfWriting }
+    ensures good { OnOk result (HasNoBadOfTwo lists.now (F.holds files.now)
+        (R.remaining reader.old) (R.remaining reader.new)) }
+    ensures unwritten { IfErr result NotOfWriting }
+    ensures faults { IfErr result (ComesOfChanges lists.now (F.holds files.now)) }
 {
     let old = read_inputs(alloc, &[lists.old], lists.end, files, reader)?;
     let new = read_inputs(alloc, &[lists.new], lists.end, files, reader)?;
     let (old_names, old_bad) = read_names(alloc, lists, old.as_slice())?;
     let (new_names, new_bad) = read_names(alloc, lists, new.as_slice())?;
-    if lists.invalid == Invalid::Fail {
-        refuse_first(alloc, lists.place.crlf, &old_bad)?;
-        refuse_first(alloc, lists.place.crlf, &new_bad)?;
-    }
+    refuse_if(alloc, lists.invalid, lists.place.crlf, &old_bad)?;
+    refuse_if(alloc, lists.invalid, lists.place.crlf, &new_bad)?;
     let mut output = Vec::new(alloc);
     add_lists(&old_names, &new_names, lists.end, &mut output)?;
     Ok(output)

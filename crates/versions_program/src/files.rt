@@ -41,7 +41,7 @@ impl Files for SystemFiles<'_> {
     fn tell(&mut self, stage: Stage) {
         let _ = match stage {
             Stage::Read(bytes) => eprintln!(self.rt; "versions: {bytes} bytes read"),
-            Stage::Checked(lines) => eprintln!(self.rt; "versions: {lines} lines checked"),
+            Stage::Kept(lines) => eprintln!(self.rt; "versions: {lines} lines kept"),
             Stage::Ordered(lines) => eprintln!(self.rt; "versions: {lines} lines in order"),
         };
     }

@@ -1,43 +1,89 @@
 -- Two lists that were read in turn, and what changed between them.
-use Rattle.std.proofs.Common.{◌≡◌, ℕ, List, [], ◌∷◌, Option, subst, ap, ◌∙◌}
+use Rattle.std.proofs.Common.{◌≡◌, ◌⊎◌, ℕ, List, [], ◌∷◌, Option, map, refl, sym, subst, ap, ◌∙◌, Bor}
+use Rattle.version_commands.specs.Cause.{ComesOfChanges, ComesOfInput}
+use Rattle.version_commands.specs.Fault.{ComesOfBad, ComesOfLines}
 use Rattle.version_commands.specs.Inputs.{AreInputs, IsInput, joined}
 use Rattle.version_commands.specs.Lists.{difference_text, rows_of}
 use Rattle.version_commands.specs.Output.{AreChanges}
+use Rattle.version_commands.specs.Picked.{bad_lines, AreBadOf}
+use Rattle.version_commands.specs.Place.{text_of}
+use Rattle.version_commands.specs.declared.faults.Fault.{Fault}
+use Rattle.version_commands.specs.declared.faults.Fault.TheVariants.{Usage, NotVersion, NotRequirement, NotTested, BadLine, NoNext, Untrue, Memory, Read, Write}
 use Rattle.version_commands.specs.declared.options.Lists.{Lists}
+use Rattle.version_commands.specs.declared.pick.BadLines.{BadLines}
+use Rattle.version_commands.proofs.lemmas.Fault.{lines-bad}
+use Rattle.version_lines.specs.Lines.{lines_of}
 
--- each list is one input
+-- a list is one input
+pub one-input : (holds : List ℕ → Option (List ℕ)) (old new : Option (List ℕ)) (name : List ℕ)
+    (end : ℕ) (texts : List (List ℕ)) (input : List ℕ)
+    → AreInputs holds old new (name ∷ []) texts → input ≡ joined end texts
+    → (text : List ℕ) × IsInput holds old new name text × (input ≡ joined end (text ∷ []))
+one-input holds old new name end [] input none is = absurd none
+one-input holds old new name end (text ∷ more ∷ others) input (between, read, none) is = absurd none
+one-input holds old new name end (text ∷ []) input (between, read, same) is =
+    (text, subst (λ (o : Option (List ℕ)). IsInput holds old o name text) (sym same) read, is)
+
+-- two lists are two inputs
+pub two-inputs : (holds : List ℕ → Option (List ℕ)) (old between new : Option (List ℕ))
+    (one other first second : List ℕ) → IsInput holds old between one first
+    → IsInput holds between new other second
+    → AreInputs holds old new (one ∷ other ∷ []) (first ∷ second ∷ [])
+two-inputs holds old between new one other first second read read_more =
+    (between, read, (new, read_more, refl))
+
 pub are-changes : (lists : Lists) (holds : List ℕ → Option (List ℕ)) (old between new : Option (List ℕ))
-    (olds news : List (List ℕ)) (before after output : List ℕ)
-    → AreInputs holds old between (lists.old.now ∷ []) olds → before ≡ joined lists.end olds
-    → AreInputs holds between new (lists.new.now ∷ []) news → after ≡ joined lists.end news
+    (first second before after output : List ℕ)
+    → IsInput holds old between lists.old.now first → before ≡ joined lists.end (first ∷ [])
+    → IsInput holds between new lists.new.now second → after ≡ joined lists.end (second ∷ [])
     → output ≡ difference_text lists.end (rows_of lists before) (rows_of lists after)
     → AreChanges lists holds old new output
-are-changes lists holds old between new [] news before after output none is_old read_new is_new is =
-    absurd none
-are-changes lists holds old between new (first ∷ more ∷ others) news before after output
-    (behind, read, none) is_old read_new is_new is =
-    absurd none
-are-changes lists holds old between new (first ∷ []) [] before after output read_old is_old none
-    is_new is =
-    absurd none
-are-changes lists holds old between new (first ∷ []) (second ∷ more ∷ others) before after output
-    read_old is_old (end, read, none) is_new is =
-    absurd none
-are-changes lists holds old between new (first ∷ []) (second ∷ []) before after output
-    (behind, read, same) is_old (end, read_more, same_end) is_new is = record {
+are-changes lists holds old between new first second before after output read is_old read_more is_new
+    is = record {
       first = first;
       second = second;
-      texts_are = (
-        behind,
-        read,
-        (
-          end,
-          subst (λ (o : Option (List ℕ)). IsInput holds o end lists.new.now second) same read_more,
-          same_end,
-        ),
-      );
+      texts_are = two-inputs holds old between new lists.old.now lists.new.now first second read
+          read_more;
       output_is = is
-          ∙ ap (λ (i : List ℕ). difference_text lists.end (rows_of lists i) (rows_of lists after)) is_old
-          ∙ ap (λ (i : List ℕ). difference_text lists.end (rows_of lists (joined lists.end (first ∷ [])))
-          (rows_of lists i)) is_new;
+          ∙ (λ i. difference_text lists.end (rows_of lists (is_old i)) (rows_of lists (is_new i)));
     }
+
+-- a list's lines without a version, by what the list holds
+pub input-bad : (lists : Lists) (holds : List ℕ → Option (List ℕ)) (old new : Option (List ℕ))
+    (name text input : List ℕ) (bad : BadLines) → IsInput holds old new name text
+    → input ≡ joined lists.end (text ∷ [])
+    → AreBadOf (text_of lists.place) (lines_of lists.end input) bad
+    → (fault : Fault) → ComesOfBad lists.invalid bad fault → ComesOfInput lists holds name fault
+input-bad lists holds old new name text input bad read whole are fault is = (
+  old,
+  new,
+  text,
+  read,
+  subst (λ (i : List ℕ). ComesOfLines lists.invalid (text_of lists.place) (lines_of lists.end i) fault)
+      whole (lines-bad lists.invalid (text_of lists.place) (lines_of lists.end input) bad are fault is),
+)
+
+-- where none is left, each line of the list has a version
+pub input-good : (lists : Lists) (text input : List ℕ) (bad : BadLines)
+    → input ≡ joined lists.end (text ∷ [])
+    → AreBadOf (text_of lists.place) (lines_of lists.end input) bad → bad.lines.items ≡ []
+    → bad_lines (text_of lists.place) (lines_of lists.end (joined lists.end (text ∷ []))) ≡ []
+input-good lists text input bad whole (same, before) none =
+    ap (λ (i : List ℕ). bad_lines (text_of lists.place) (lines_of lists.end i)) (sym whole)
+    ∙ sym same ∙ ap (map (λ (line : Bor (List ℕ)). line.now)) none
+
+-- so they are the faults of the two
+pub changes-bad : (lists : Lists) (holds : List ℕ → Option (List ℕ)) (bad : BadLines) (fault : Fault)
+    → ComesOfBad lists.invalid bad fault
+    → ComesOfInput lists holds lists.old.now fault ⊎ ComesOfInput lists holds lists.new.now fault
+    → ComesOfChanges lists holds fault
+changes-bad lists holds bad (Usage text) is where_it_is = is
+changes-bad lists holds bad (NotVersion text) is where_it_is = is
+changes-bad lists holds bad (NotRequirement text) is where_it_is = is
+changes-bad lists holds bad (NotTested text) is where_it_is = is
+changes-bad lists holds bad (BadLine number text ends more) is where_it_is = where_it_is
+changes-bad lists holds bad (NoNext text) is where_it_is = is
+changes-bad lists holds bad Untrue is where_it_is = is
+changes-bad lists holds bad Memory is where_it_is = is
+changes-bad lists holds bad (Read name) is where_it_is = absurd is
+changes-bad lists holds bad (Write name) is where_it_is = is

@@ -1,6 +1,10 @@
--- What is written at a fault.
-use Rattle.std.proofs.Common.{ℕ, List, Option, None, Some}
-use Rattle.version_commands.specs.Fault.{FailsAt, GrowsAt}
+-- What is written at a fault, and what it comes of.
+use Rattle.std.proofs.Common.{ℕ, ◌∙◌, ◌+◌, ◌^◌, ◌-◌, List, Option, None, Some, length, min, sym, ap, Bor}
+use Rattle.std.proofs.lemmas.List.{length-map}
+use Rattle.version_commands.specs.Fault.{ComesOfBad, ComesOfLines, FailsAt, GrowsAt}
+use Rattle.version_commands.specs.Picked.{AreBadOf}
+use Rattle.version_commands.specs.declared.options.Invalid.{Invalid}
+use Rattle.version_commands.specs.declared.pick.BadLines.{BadLines}
 use Rattle.version_commands.specs.declared.faults.Fault.{Fault}
 use Rattle.version_commands.specs.declared.faults.Fault.TheVariants.{Usage, NotVersion, NotRequirement, NotTested, BadLine, NoNext, Untrue, Memory, Read, Write}
 
@@ -18,3 +22,22 @@ fails-grown IsOutput old new output Memory is grows = grows
 fails-grown IsOutput old new output (Read name) is grows = grows
 fails-grown IsOutput old new output (Write (Some name)) is grows = grows
 fails-grown IsOutput old new output (Write None) is grows = (output, is, grows)
+
+-- the faults of lines without a version, by the lines themselves
+pub lines-bad : (invalid : Invalid) (at : List ℕ → List ℕ) (lines : List (List ℕ))
+    (bad : BadLines) → AreBadOf at lines bad → (fault : Fault) → ComesOfBad invalid bad fault
+    → ComesOfLines invalid at lines fault
+lines-bad invalid at lines bad are (Usage text) is = is
+lines-bad invalid at lines bad are (NotVersion text) is = is
+lines-bad invalid at lines bad are (NotRequirement text) is = is
+lines-bad invalid at lines bad are (NotTested text) is = is
+lines-bad invalid at lines bad (same, before) (BadLine number text ends more) (asked, first, others) = (
+  asked,
+  first ∙ ap (λ (n : ℕ). min (n + 1) (2 ^ 64 - 1)) before,
+  others ∙ sym (length-map bad.lines.items (λ (line : Bor (List ℕ)). line.now)) ∙ ap length same,
+)
+lines-bad invalid at lines bad are (NoNext text) is = is
+lines-bad invalid at lines bad are Untrue is = is
+lines-bad invalid at lines bad are Memory is = is
+lines-bad invalid at lines bad are (Read name) is = is
+lines-bad invalid at lines bad are (Write name) is = is

@@ -5,7 +5,7 @@ use Rattle.version_commands.specs.Ordered.{IsOrdered}
 use Rattle.version_commands.specs.Picked.{bad_lines}
 use Rattle.version_commands.specs.Place.{text_of}
 use Rattle.version_commands.proofs.lemmas.Fault.{fails-grown}
-use Rattle.version_commands.proofs.lemmas.Ordered.{is-ordered}
+use Rattle.version_commands.proofs.lemmas.Ordered.{is-ordered, ordered-faults}
 use Rattle.version_commands.proofs.arrange.serve_lines.Goals as goal
 use Rattle.version_lines.specs.Lines.{lines_of}
 
@@ -50,3 +50,12 @@ returns-clause-at_fault g c =
     (g.R.Read.remaining c.args.reader.now) (g.R.Read.remaining c.read_inputs.new.reader))
     (g.W.Write.contents c.args.writer.now) (g.W.Write.contents c.write_arranged.new.writer)
     _ fault is grows) c.write_arranged.ensures.at_fault
+
+pub returns-clause-faults : goal.returns-clause-faults
+returns-clause-faults g c =
+    let (texts, are, same) = c.in_ok-input.ensures.input in
+    IfErr-weaker c.write_arranged.result _ _
+    (ordered-faults c.args.arrangement c.args.options.now (g.F.Files.holds c.args.files.now)
+    (g.R.Read.remaining c.args.reader.now) (g.R.Read.remaining c.read_inputs.new.reader) texts
+    c.as_slice.result.now c.as_slice-2.result.now c.as_slice.ensures.value are
+    (c.as_slice-2.ensures.value ∙ same)) c.write_arranged.ensures.faults

@@ -1,0 +1,111 @@
+-- Why a task fails: what each of its faults comes of. Refused memory and a writer that takes no more
+-- can end any task.
+use Rattle.std.specs.Prelude.{◌≡◌, ◌⊎◌, ⊤, ℕ, Bool, List, [], ◌∷◌, map, Option, Some, None, Result, string_bytes}
+use Rattle.std.specs.Io.KnownBytes.{Consumes, IsAtEnd}
+use Rattle.version_commands.specs.Arranged.{policy}
+use Rattle.version_commands.specs.Choice.{wrong_list}
+use Rattle.version_commands.specs.Fault.{ComesOfLines, ComesOfTest, ComesOfWords}
+use Rattle.version_commands.specs.Inputs.{joined, names_read, AreInputs, IsInput}
+use Rattle.version_commands.specs.Place.{line_text, text_of}
+use Rattle.version_commands.specs.Test.{answer_of_two, IsAnswerOfList}
+use Rattle.version_commands.specs.declared.faults.Fault.{Fault}
+use Rattle.version_commands.specs.declared.faults.Fault.TheVariants as fault
+use Rattle.version_commands.specs.declared.options.Arrangement.{Arrangement}
+use Rattle.version_commands.specs.declared.options.EachOptions.{EachOptions}
+use Rattle.version_commands.specs.declared.options.LineOptions.{LineOptions}
+use Rattle.version_commands.specs.declared.options.Lists.{Lists}
+use Rattle.version_commands.specs.declared.options.Question.{Question}
+use Rattle.version_commands.specs.declared.options.Question.TheVariants.{Show, Json, Key, Why, Next}
+use Rattle.version_commands.specs.declared.options.Task.{Task}
+use Rattle.version_commands.specs.declared.options.Task.TheVariants as task
+use Rattle.version_commands.specs.declared.options.Invalid.TheVariants.{Fail}
+use Rattle.version_commands.specs.declared.test.WrongWord.{WrongWord}
+use Rattle.version_lines.specs.Lines.{lines_of}
+use Rattle.version_rules.specs.Requirements.{requirements_of}
+use Rattle.version_rules.specs.Versioning.{PlainVersioning, versioning_of}
+use Rattle.version_tasks.specs.Next.{NoNext}
+
+-- the faults of `sort`, `newest` and `filter`: of a word that is no list of requirements, of a file,
+-- or of the lines that have no version
+abbrev pub ComesOfArranging : Arrangement → LineOptions → (List ℕ → Option (List ℕ))
+    → Option (List ℕ) → Fault → Type 0
+ComesOfArranging arrangement options holds old (fault.NotRequirement text) =
+    wrong_list options.choice arrangement ≡ Some (string_bytes text)
+ComesOfArranging arrangement options holds old (fault.BadLine number text ends more) =
+    (new : Option (List ℕ)) × (texts : List (List ℕ))
+    × AreInputs holds old new (names_read (map (λ name. name.now) options.files.items)) texts
+    × ComesOfLines (policy options) (text_of options.place)
+    (lines_of options.end (joined options.end texts)) (fault.BadLine number text ends more)
+ComesOfArranging arrangement options holds old (fault.Read name) = ⊤
+ComesOfArranging arrangement options holds old (fault.Write name) = ⊤
+ComesOfArranging arrangement options holds old fault.Memory = ⊤
+ComesOfArranging arrangement options holds old other = ⊥
+
+-- the question asks for the version next to one that has none
+abbrev pub HasNoNext : Question → Option PlainVersioning → Type 0
+HasNoNext (Next place) (Some v) = NoNext v place
+HasNoNext other v = ⊥
+
+-- the question has this word for its list, which is none
+abbrev pub HasWrongList : Question → List ℕ → Type 0
+HasWrongList (Why list) word = (list.now ≡ word) × (requirements_of word ≡ None)
+HasWrongList other word = ⊥
+
+-- the faults of a question: of the list of `why`, or of a version that none comes next to
+abbrev pub ComesOfQuestion : Question → Fault → Type 0
+ComesOfQuestion question (fault.NotRequirement text) = HasWrongList question (string_bytes text)
+ComesOfQuestion question (fault.NoNext text) = HasNoNext question (versioning_of (string_bytes text))
+ComesOfQuestion question fault.Memory = ⊤
+ComesOfQuestion question other = ⊥
+
+-- the faults of `show`, `key`, `why` and `next`: of a word or a line that is no version, of standard
+-- input, or of the question
+abbrev pub ComesOfAsking : Question → EachOptions → Option (List ℕ) → Fault → Type 0
+ComesOfAsking question options old (fault.NotVersion text) = versioning_of (string_bytes text) ≡ None
+ComesOfAsking question options old (fault.BadLine number text ends more) =
+    (new : Option (List ℕ)) × (input : List ℕ) × Consumes old new input × IsAtEnd new
+    × ComesOfLines Fail (line_text options.crlf) (lines_of options.end input)
+    (fault.BadLine number text ends more)
+ComesOfAsking question options old (fault.Read name) = ⊤
+ComesOfAsking question options old other = ComesOfQuestion question other
+
+-- a line of the input of this name has no version, and it is asked that each has one
+abbrev pub ComesOfInput : Lists → (List ℕ → Option (List ℕ)) → List ℕ → Fault → Type 0
+ComesOfInput lists holds name bad =
+    (old new : Option (List ℕ)) × (input : List ℕ) × IsInput holds old new name input
+    × ComesOfLines lists.invalid (text_of lists.place)
+    (lines_of lists.end (joined lists.end (input ∷ []))) bad
+
+-- the faults of `diff --lists`: of a file, or of the lines of a list that have no version
+abbrev pub ComesOfChanges : Lists → (List ℕ → Option (List ℕ)) → Fault → Type 0
+ComesOfChanges lists holds (fault.BadLine number text ends more) =
+    ComesOfInput lists holds lists.old.now (fault.BadLine number text ends more)
+    ⊎ ComesOfInput lists holds lists.new.now (fault.BadLine number text ends more)
+ComesOfChanges lists holds (fault.Read name) = ⊤
+ComesOfChanges lists holds fault.Memory = ⊤
+ComesOfChanges lists holds other = ⊥
+
+-- the faults of `test` with a list
+abbrev pub ComesOfTestOfList : List ℕ → List ℕ → Fault → Type 0
+ComesOfTestOfList version list other =
+    (answer : Result Bool WrongWord)
+    × IsAnswerOfList (versioning_of version) (requirements_of list) answer
+    × ComesOfTest answer version list other
+
+-- the faults of each task, but for a writer that takes no more
+abbrev pub ComesOfTask : Task → (List ℕ → Option (List ℕ)) → Option (List ℕ) → Fault → Type 0
+ComesOfTask (task.Lines arrangement options) holds old fault =
+    ComesOfArranging arrangement options holds old fault
+ComesOfTask (task.Each question options) holds old fault = ComesOfAsking question options old fault
+ComesOfTask (task.TestTwo a operator b) holds old fault =
+    ComesOfTest (answer_of_two operator (versioning_of a.now) (versioning_of b.now)) a.now b.now fault
+ComesOfTask (task.TestList version list) holds old fault = ComesOfTestOfList version.now list.now fault
+ComesOfTask (task.Compare a b explain) holds old fault = ComesOfWords fault
+ComesOfTask (task.Difference a b) holds old fault = ComesOfWords fault
+ComesOfTask (task.Lists lists) holds old fault = ComesOfChanges lists holds fault
+ComesOfTask (task.Say text) holds old fault = ⊥
+
+-- the faults of a task
+abbrev pub ComesOf : Task → (List ℕ → Option (List ℕ)) → Option (List ℕ) → Fault → Type 0
+ComesOf task holds old (fault.Write None) = ⊤
+ComesOf task holds old other = ComesOfTask task holds old other
