@@ -2,6 +2,7 @@
 //! the file `stdout`.
 
 mod any;
+mod commands;
 mod general;
 mod json;
 mod lines;
@@ -25,5 +26,6 @@ pub fn make_all(table: &mut Table<'_>) -> io::Result<()> {
     requirements::make_all(table)?;
     json::make_all(table)?;
     lines::make_all(table)?;
-    program::make_all(table)
+    program::make_all(table)?;
+    commands::make_all(table)
 }

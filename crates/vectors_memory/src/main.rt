@@ -3,6 +3,7 @@
 #![tactic(auto)]
 
 mod calls;
+mod held;
 mod table;
 mod taker;
 

@@ -1,5 +1,6 @@
 //! The kinds of rows in the table of calls. A row prints nothing before its argument is made.
 
+use crate::held::HeldFiles;
 use crate::taker::Taker;
 use std::alloc::{AllocError, Global};
 use std::fmt::Debug;
@@ -119,6 +120,36 @@ impl<'a> Table<'a> {
         let mut lines = "7.".repeat(self.rt.alloc(), 35000)?;
         lines.push_str("7\n7.2\n")?;
         self.run(name, words, lines.as_bytes(), lines.as_bytes())
+    }
+
+    /// Makes a run of the program `versions` over the files that are held. What is written is counted with what is put
+    /// into a file.
+    pub fn answers(
+        &mut self,
+        name: &str,
+        words: &[&str],
+        input: &[u8],
+        wanted: &[u8],
+    ) -> io::Result<()> {
+        if !self.makes_next() {
+            return Ok(());
+        }
+        let words = owned(self.rt.alloc(), words)?;
+        let mut reader = input;
+        let mut taker = Taker::of(wanted);
+        let mut files = HeldFiles {
+            others: Taker::of(b"x y\n"),
+        };
+        print!(self.rt; "{name}: {words:?}")?;
+        let outcome = version_commands::run(
+            self.rt.alloc(),
+            words.as_slice(),
+            &mut files,
+            &mut reader,
+            &mut taker,
+        );
+        let taken = taker.taken.saturating_add(files.others.taken);
+        println!(self.rt; " gives {outcome:?} after {taken} bytes and stays {words:?}")
     }
 
     fn run(&self, name: &str, words: &[&str], input: &[u8], wanted: &[u8]) -> io::Result<()> {
