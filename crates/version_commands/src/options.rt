@@ -3,7 +3,7 @@
 use version_tasks::Stability;
 
 /// A column of a line.
-#[derive(Clone, Copy, Debug, PartialEq, Eq)]
+#[derive(Clone, Copy, Debug)]
 pub struct Column {
     /// Its number, counted from 0. Words count from 1.
     pub number: usize,
@@ -13,7 +13,7 @@ pub struct Column {
 }
 
 /// How a version stands in its column, or in the whole line.
-#[derive(Clone, Copy, Debug, PartialEq, Eq)]
+#[derive(Clone, Copy, Debug)]
 pub enum Naming<'w> {
     /// It is the whole text.
     Bare,
@@ -24,7 +24,7 @@ pub enum Naming<'w> {
 }
 
 /// Where the version of a line stands.
-#[derive(Clone, Copy, Debug, PartialEq, Eq)]
+#[derive(Clone, Copy, Debug)]
 pub struct VersionPlace<'w> {
     /// Whether a carriage return at the end of a line belongs to the line's end.
     pub crlf: bool,
@@ -34,7 +34,7 @@ pub struct VersionPlace<'w> {
 }
 
 /// Which lines that have a version are left out before all else.
-#[derive(Clone, Copy, Debug, PartialEq, Eq)]
+#[derive(Clone, Copy, Debug)]
 pub struct Choice<'w> {
     /// Those whose version is less stable.
     pub least: Stability,
@@ -43,7 +43,7 @@ pub struct Choice<'w> {
 }
 
 /// What becomes of the lines that have no version.
-#[derive(Clone, Copy, Debug, PartialEq, Eq)]
+#[derive(Clone, Copy, Debug)]
 pub enum Invalid {
     /// The first of them is a fault.
     Fail,
@@ -56,7 +56,7 @@ pub enum Invalid {
 }
 
 /// What is written of the lines that have a version and are not left out.
-#[derive(Clone, Copy, Debug, PartialEq, Eq)]
+#[derive(Clone, Copy, Debug)]
 pub enum Arrangement<'w> {
     /// All of them in the order of their versions.
     Sort {
@@ -95,7 +95,7 @@ pub struct LineOptions<'w> {
 }
 
 /// What is asked of each of several versions.
-#[derive(Clone, Copy, Debug, PartialEq, Eq)]
+#[derive(Clone, Copy, Debug)]
 pub enum Question<'w> {
     /// Its kind, numbers and other fields, in lines.
     Show,
@@ -120,7 +120,7 @@ pub struct EachOptions<'w> {
 }
 
 /// How two versions are asked to compare by precedence.
-#[derive(Clone, Copy, Debug, PartialEq, Eq)]
+#[derive(Clone, Copy, Debug)]
 pub enum Operator {
     Less,
     LessOrEqual,
@@ -130,7 +130,7 @@ pub enum Operator {
 }
 
 /// Two lists of names with versions.
-#[derive(Clone, Copy, Debug, PartialEq, Eq)]
+#[derive(Clone, Copy, Debug)]
 pub struct Lists<'w> {
     /// The files; `-` is standard input.
     pub old: &'w str,

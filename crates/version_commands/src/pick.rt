@@ -37,7 +37,7 @@ impl Chooses for EveryVersion {
 }
 
 /// The lines that have no version.
-#[derive(Debug, Drop)]
+#[derive(Drop)]
 pub struct BadLines<'a> {
     /// Their texts, in the order of the input.
     pub lines: Vec<&'a [u8]>,

@@ -50,7 +50,7 @@ impl Naming<'_> {
 }
 
 /// What lines are sorted by: the version that stands at a place in each of them.
-#[derive(Clone, Copy, Debug, PartialEq, Eq)]
+#[derive(Clone, Copy)]
 pub struct ByVersion<'w> {
     pub place: VersionPlace<'w>,
     /// Whether the highest version comes first.
@@ -74,7 +74,7 @@ impl SortBy for ByVersion<'_> {
 }
 
 /// The group of a line: the text of a column, or all lines are of one group.
-#[derive(Clone, Copy, Debug, PartialEq, Eq)]
+#[derive(Clone, Copy)]
 pub struct ByColumn {
     /// Whether a carriage return at the end of a line belongs to the line's end.
     pub crlf: bool,

@@ -10,7 +10,7 @@ use std::cmp::Ordering;
 use version_texts::{VersioningRef, list_matches};
 
 /// Which of two words is the first that is not what it should be.
-#[derive(Clone, Copy, Debug, PartialEq, Eq)]
+#[derive(Clone, Copy)]
 pub(crate) enum WrongWord {
     First,
     Second,
