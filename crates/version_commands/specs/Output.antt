@@ -66,6 +66,11 @@ IsOutput (task.Difference a b) holds old new output =
 IsOutput (task.Lists lists) holds old new output = AreChanges lists holds old new output
 IsOutput (task.Say text) holds old new output = output ≡ string_bytes text
 
+-- the output of some task
+abbrev pub IsOutputOfTask : (List ℕ → Option (List ℕ)) → Option (List ℕ) → Option (List ℕ) → List ℕ
+    → Type 0
+IsOutputOfTask holds old new output = (task : Task) × IsOutput task holds old new output
+
 -- each line has a version, where the options of the task ask for that
 abbrev pub HasWhatItNeeds : Task → (List ℕ → Option (List ℕ)) → Option (List ℕ)
     → Option (List ℕ) → Type 0

@@ -1,11 +1,11 @@
 //! A run of the program over any files, reader and writer.
-ghost use Rattle.std.specs.Prelude.{◌≡◌, ℕ, List, true, Ok, Some, IfErr, IfOk, OnOk};
-ghost use Rattle.std.specs.Io.KnownBytes.{Appends};
+ghost use Rattle.std.specs.Prelude.{◌≡◌, ◌⊎◌, ℕ, List, true, Ok, Some, IfErr, IfOk, OnOk};
+ghost use Rattle.std.specs.Io.KnownBytes.{Appends, Keeps};
 ghost use Rattle.version_commands.specs.Cause.{ComesOf, ComesOfChanges};
 ghost use Rattle.version_commands.specs.Compare.{comparison_line};
 ghost use Rattle.version_commands.specs.Difference.{difference_line};
 ghost use Rattle.version_commands.specs.Fault.{ComesOfTest, ComesOfWords, FailsAt, NotOfWriting};
-ghost use Rattle.version_commands.specs.Output.{AreChanges, HasNoBadOfTwo, HasWhatItNeeds, IsLineOfTwo, IsOutput};
+ghost use Rattle.version_commands.specs.Output.{AreChanges, HasNoBadOfTwo, HasWhatItNeeds, IsLineOfTwo, IsOutput, IsOutputOfTask};
 ghost use Rattle.version_lines.specs.Lines.{line_feed};
 ghost use Rattle.version_rules.specs.Versioning.{versioning_of};
 ghost use Rattle.version_texts.specs.VersioningRef.{plain_versioning_ref};
@@ -30,14 +30,22 @@ use version_texts::VersioningRef;
 /// Does what the words ask for. docs/VERSIONS.md has the commands.
 ///
 /// The words are read first, and each that should be a version or a list of requirements is checked before anything is
-/// read. The inputs are read to their ends and checked before anything is written, and all memory is taken before.
+/// read. The inputs are read to their ends and checked before anything is written, and all memory is taken before. So it
+/// writes the whole output of a task, or at a fault nothing, but for standard output that takes no more.
 pub fn run<F: Files, R: Read, W: Write>(
     alloc: Global,
     words: &[String],
     files: &mut F,
     reader: &mut R,
     writer: &mut W,
-) -> Result<(), Fault> {
+) -> Result<(), Fault>
+    ensures written { OnOk result ((output : List ℕ) × IsOutputOfTask (F.holds files.old)
+        (R.remaining reader.old) (R.remaining reader.new) output
+        × Appends (W.contents writer.old) (W.contents writer.new) output) }
+    ensures at_fault { IfErr result (λ fault. Keeps (W.contents writer.old) (W.contents writer.new)
+        ⊎ FailsAt (IsOutputOfTask (F.holds files.old) (R.remaining reader.old)
+        (R.remaining reader.new)) (W.contents writer.old) (W.contents writer.new) fault) }
+{
     let task = read_words(alloc, words)?;
     serve(alloc, &task, files, reader, writer)
 }
