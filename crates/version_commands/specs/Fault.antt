@@ -25,6 +25,12 @@ status_of Memory = 3
 status_of (Read name) = 3
 status_of (Write name) = 3
 
+-- the faults that words which are no task can end in
+abbrev pub ComesOfWrongWords : Fault → Type 0
+ComesOfWrongWords (Usage text) = ⊤
+ComesOfWrongWords Memory = ⊤
+ComesOfWrongWords fault = ⊥
+
 -- the faults that reading can end in
 abbrev pub ComesOfReading : Fault → Type 0
 ComesOfReading Memory = ⊤

@@ -4,7 +4,7 @@ ghost use Rattle.std.specs.Io.KnownBytes.{Appends, Keeps};
 ghost use Rattle.version_commands.specs.Cause.{ComesOf, ComesOfChanges};
 ghost use Rattle.version_commands.specs.Compare.{comparison_line};
 ghost use Rattle.version_commands.specs.Difference.{difference_line};
-ghost use Rattle.version_commands.specs.Fault.{ComesOfTest, ComesOfWords, FailsAt, NotOfWriting};
+ghost use Rattle.version_commands.specs.Fault.{ComesOfTest, ComesOfWords, ComesOfWrongWords, FailsAt, NotOfWriting};
 ghost use Rattle.version_commands.specs.Output.{AreChanges, HasNoBadOfTwo, HasWhatItNeeds, IsLineOfTwo, IsOutput, IsOutputOfTask};
 ghost use Rattle.version_lines.specs.Lines.{line_feed};
 ghost use Rattle.version_rules.specs.Versioning.{versioning_of};
@@ -45,6 +45,8 @@ pub fn run<F: Files, R: Read, W: Write>(
     ensures at_fault { IfErr result (λ fault. Keeps (W.contents writer.old) (W.contents writer.new)
         ⊎ FailsAt (IsOutputOfTask (F.holds files.old) (R.remaining reader.old)
         (R.remaining reader.new)) (W.contents writer.old) (W.contents writer.new) fault) }
+    ensures faults { IfErr result (λ fault. ComesOfWrongWords fault
+        ⊎ (task : Task) × ComesOf task (F.holds files.old) (R.remaining reader.old) fault) }
 {
     let task = read_words(alloc, words)?;
     serve(alloc, &task, files, reader, writer)

@@ -1,6 +1,7 @@
 //! Reads the words of a run.
-ghost use Rattle.std.specs.Prelude.{◌≡◌, false};
+ghost use Rattle.std.specs.Prelude.{◌≡◌, false, IfErr, IfOk};
 ghost use Rattle.version_rules.specs.DigitRun.{is_digits};
+ghost use Rattle.version_commands.specs.Fault.{ComesOfWrongWords};
 ghost use Rattle.version_commands.specs.Words.{invalid_asked, invalid_named, operator_named, separator_named, stability_named, name_place};
 
 mod grammar;
@@ -22,7 +23,9 @@ use version_texts::is_digits;
 const MORE: &str = "\n\nFor more information, try '--help'.\n";
 
 /// Reads the words after the program's name: a task, or what is wrong with them and how they are used.
-pub fn read_words<'w>(alloc: Global, words: &'w [String]) -> Result<Task<'w>, Fault> {
+pub fn read_words<'w>(alloc: Global, words: &'w [String]) -> Result<Task<'w>, Fault>
+    ensures { IfErr result ComesOfWrongWords }
+{
     let program = grammar::program(alloc)?;
     match program.try_get_matches_from(words) {
         Ok(matches) => task_of(alloc, &matches),
@@ -31,7 +34,9 @@ pub fn read_words<'w>(alloc: Global, words: &'w [String]) -> Result<Task<'w>, Fa
 }
 
 // Returns what a parse without matches asks for: a text, if the words ask for help or the version.
-fn answer_to<'w>(alloc: Global, error: &Error, words: &[String]) -> Result<Task<'w>, Fault> {
+fn answer_to<'w>(alloc: Global, error: &Error, words: &[String]) -> Result<Task<'w>, Fault>
+    ensures { IfErr result ComesOfWrongWords }
+{
     let text = format!(in alloc; "{error}")?;
     match error.kind() {
         ErrorKind::DisplayHelp | ErrorKind::DisplayVersion => Ok(Task::Say(text)),
@@ -65,7 +70,9 @@ fn meant_value(alloc: Global, text: String) -> Result<String, AllocError> {
 }
 
 // Returns the task that the words parse as.
-fn task_of<'w>(alloc: Global, matches: &ArgMatches<'w>) -> Result<Task<'w>, Fault> {
+fn task_of<'w>(alloc: Global, matches: &ArgMatches<'w>) -> Result<Task<'w>, Fault>
+    ensures { IfErr result ComesOfWrongWords }
+{
     match matches.subcommand() {
         Some((name @ ("sort" | "newest" | "filter"), options)) => lines_task(alloc, name, options),
         Some(("test", options)) => test_task(alloc, options),
@@ -81,7 +88,9 @@ fn task_of<'w>(alloc: Global, matches: &ArgMatches<'w>) -> Result<Task<'w>, Faul
 }
 
 // Returns the task of a command that answers with lines of its input.
-fn lines_task<'w>(alloc: Global, name: &str, options: &ArgMatches<'w>) -> Result<Task<'w>, Fault> {
+fn lines_task<'w>(alloc: Global, name: &str, options: &ArgMatches<'w>) -> Result<Task<'w>, Fault>
+    ensures { IfErr result ComesOfWrongWords }
+{
     let separator = separator_of(alloc, options)?;
     let arrangement = arrangement_of(name, options, separator);
     let by_default = match arrangement {
@@ -133,7 +142,9 @@ fn arrangement_of<'w>(
 }
 
 // Returns the task of a command that answers of each version.
-fn each_task<'w>(alloc: Global, name: &str, options: &ArgMatches<'w>) -> Result<Task<'w>, Fault> {
+fn each_task<'w>(alloc: Global, name: &str, options: &ArgMatches<'w>) -> Result<Task<'w>, Fault>
+    ensures { IfErr result ComesOfWrongWords }
+{
     let question = question_of(alloc, name, options)?;
     let words = words_of(alloc, options)?;
     let versions = match words.as_slice() {
@@ -154,7 +165,9 @@ fn question_of<'w>(
     alloc: Global,
     name: &str,
     options: &ArgMatches<'w>,
-) -> Result<Question<'w>, Fault> {
+) -> Result<Question<'w>, Fault>
+    ensures { IfErr result ComesOfWrongWords }
+{
     match name {
         "key" => Ok(Question::Key),
         "why" => Ok(Question::Why(word_of(options, "LIST"))),
@@ -170,7 +183,9 @@ fn question_of<'w>(
     }
 }
 
-fn test_task<'w>(alloc: Global, options: &ArgMatches<'w>) -> Result<Task<'w>, Fault> {
+fn test_task<'w>(alloc: Global, options: &ArgMatches<'w>) -> Result<Task<'w>, Fault>
+    ensures { IfErr result ComesOfWrongWords }
+{
     match options.get_strs("WORD") {
         Some([version, list]) => Ok(Task::TestList(version, list)),
         Some([first, word, second]) => match operator_named(word) {
@@ -181,7 +196,9 @@ fn test_task<'w>(alloc: Global, options: &ArgMatches<'w>) -> Result<Task<'w>, Fa
     }
 }
 
-fn diff_task<'w>(alloc: Global, options: &ArgMatches<'w>) -> Result<Task<'w>, Fault> {
+fn diff_task<'w>(alloc: Global, options: &ArgMatches<'w>) -> Result<Task<'w>, Fault>
+    ensures { IfErr result ComesOfWrongWords }
+{
     let old = word_of(options, "A");
     let new = word_of(options, "B");
     if !options.get_flag("lists") {
@@ -233,7 +250,9 @@ fn column(number: usize, separator: Option<u8>) -> Column {
 }
 
 // Returns the byte between columns, if it is asked for.
-fn separator_of(alloc: Global, options: &ArgMatches<'_>) -> Result<Option<u8>, Fault> {
+fn separator_of(alloc: Global, options: &ArgMatches<'_>) -> Result<Option<u8>, Fault>
+    ensures { IfErr result ComesOfWrongWords }
+{
     let Some(word) = options.get_str("field-separator") else {
         return Ok(None);
     };
@@ -343,7 +362,9 @@ fn place_named(word: &str) -> Option<usize>
 }
 
 // Returns the fault of words that `clap` lets through.
-fn wrong(alloc: Global, what: &str) -> Result<Fault, AllocError> {
+fn wrong(alloc: Global, what: &str) -> Result<Fault, AllocError>
+    ensures { IfOk result ComesOfWrongWords }
+{
     let text = format!(in alloc; "error: {what}{MORE}")?;
     Ok(Fault::Usage(text))
 }
@@ -354,13 +375,17 @@ fn wrong_value(
     word: &str,
     argument: &str,
     meant: Option<&'static str>,
-) -> Result<Fault, AllocError> {
+) -> Result<Fault, AllocError>
+    ensures { IfOk result ComesOfWrongWords }
+{
     let text = format!(in alloc; "error: invalid value '{word}' for {argument}{MORE}")?;
     let text = near::with_tip(alloc, text, MORE, "value", meant)?;
     Ok(Fault::Usage(text))
 }
 
-fn wrong_operator(alloc: Global, word: &str) -> Result<Fault, AllocError> {
+fn wrong_operator(alloc: Global, word: &str) -> Result<Fault, AllocError>
+    ensures { IfOk result ComesOfWrongWords }
+{
     let argument = "'<OP>'\n  [possible values: <, <=, =, >=, >, lt, le, eq, ge, gt]";
     wrong_value(alloc, word, argument, operator_meant(word))
 }
@@ -377,7 +402,9 @@ fn operator_meant(word: &str) -> Option<&'static str> {
     }
 }
 
-fn wrong_place(alloc: Global, word: &str) -> Result<Fault, AllocError> {
+fn wrong_place(alloc: Global, word: &str) -> Result<Fault, AllocError>
+    ensures { IfOk result ComesOfWrongWords }
+{
     let meant = near::similar(alloc, word, &["major", "minor", "patch"])?;
     let argument = "'<PLACE>'\n  [possible values: major, minor, patch, a number from 0]";
     wrong_value(alloc, word, argument, meant)
