@@ -4,7 +4,7 @@ use Rattle.std.specs.Prelude.{◌≡◌, ◌⊎◌, ⊤, ℕ, Bool, List, [], �
 use Rattle.std.specs.Io.KnownBytes.{Consumes, IsAtEnd}
 use Rattle.version_commands.specs.Arranged.{policy}
 use Rattle.version_commands.specs.Choice.{wrong_list}
-use Rattle.version_commands.specs.Fault.{ComesOfLines, ComesOfTest, ComesOfWords}
+use Rattle.version_commands.specs.Fault.{first_wrong, ComesOfLines, ComesOfTest, ComesOfWords}
 use Rattle.version_commands.specs.Inputs.{joined, names_read, AreInputs, IsInput}
 use Rattle.version_commands.specs.Place.{line_text, text_of}
 use Rattle.version_commands.specs.Test.{answer_of_two, IsAnswerOfList}
@@ -61,7 +61,8 @@ ComesOfQuestion question other = ⊥
 -- the faults of `show`, `key`, `why` and `next`: of a word or a line that is no version, of standard
 -- input, or of the question
 abbrev pub ComesOfAsking : Question → EachOptions → Option (List ℕ) → Fault → Type 0
-ComesOfAsking question options old (fault.NotVersion text) = versioning_of (string_bytes text) ≡ None
+ComesOfAsking question options old (fault.NotVersion text) =
+    first_wrong (map (λ word. word.now) options.versions.items) ≡ Some (string_bytes text)
 ComesOfAsking question options old (fault.BadLine number text ends more) =
     (new : Option (List ℕ)) × (input : List ℕ) × Consumes old new input × IsAtEnd new
     × ComesOfLines Fail (line_text options.crlf) (lines_of options.end input)
@@ -100,8 +101,10 @@ ComesOfTask (task.Each question options) holds old fault = ComesOfAsking questio
 ComesOfTask (task.TestTwo a operator b) holds old fault =
     ComesOfTest (answer_of_two operator (versioning_of a.now) (versioning_of b.now)) a.now b.now fault
 ComesOfTask (task.TestList version list) holds old fault = ComesOfTestOfList version.now list.now fault
-ComesOfTask (task.Compare a b explain) holds old fault = ComesOfWords fault
-ComesOfTask (task.Difference a b) holds old fault = ComesOfWords fault
+ComesOfTask (task.Compare a b explain) holds old fault =
+    ComesOfWords (first_wrong (a.now ∷ b.now ∷ [])) fault
+ComesOfTask (task.Difference a b) holds old fault =
+    ComesOfWords (first_wrong (a.now ∷ b.now ∷ [])) fault
 ComesOfTask (task.Lists lists) holds old fault = ComesOfChanges lists holds fault
 ComesOfTask (task.Say text) holds old fault = ⊥
 

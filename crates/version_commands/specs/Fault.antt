@@ -1,14 +1,15 @@
 -- The faults of a run.
-use Rattle.std.specs.Prelude.{◌≡◌, ◌⊎◌, ◌+◌, ◌-◌, ◌^◌, min, ⊤, ℕ, List, Option, None, Some, Bool, false, Result, Ok, Err, length, string_bytes}
+use Rattle.std.specs.Prelude.{◌≡◌, ◌⊎◌, ◌+◌, ◌-◌, ◌^◌, min, ⊤, ℕ, List, [], ◌∷◌, Option, None, Some, Bool, false, Result, Ok, Err, length, string_bytes}
 use Rattle.std.specs.Io.KnownBytes.{Keeps}
+use Rattle.std.specs.Option.{option_or}
 use Rattle.version_commands.specs.declared.options.Invalid.{Invalid}
 use Rattle.version_commands.specs.declared.options.Invalid.TheVariants as invalid
 use Rattle.version_commands.specs.declared.pick.BadLines.{BadLines}
 use Rattle.version_commands.specs.declared.test.WrongWord.{WrongWord}
 use Rattle.version_commands.specs.declared.test.WrongWord.TheVariants as wrong
 use Rattle.version_commands.specs.Picked.{bad_lines, good_before}
-use Rattle.version_rules.specs.Versioning.{versioning_of}
 use Rattle.version_lines.specs.Output.{AppendsProperBeginning}
+use Rattle.version_lines.specs.Run.{unless_version}
 use Rattle.version_commands.specs.declared.faults.Fault.{Fault}
 use Rattle.version_commands.specs.declared.faults.Fault.TheVariants.{Usage, NotVersion, NotRequirement, NotTested, BadLine, NoNext, Untrue, Memory, Read, Write}
 
@@ -89,11 +90,21 @@ FailsAt IsOutput old new (Write None) =
     (output : List ℕ) × IsOutput output × AppendsProperBeginning old new output
 FailsAt IsOutput old new fault = Keeps old new
 
--- the faults that words which should be versions can end in
-abbrev pub ComesOfWords : Fault → Type 0
-ComesOfWords Memory = ⊤
-ComesOfWords (NotVersion text) = versioning_of (string_bytes text) ≡ None
-ComesOfWords fault = ⊥
+-- the first of some words that is no version
+abbrev pub first_wrong : List (List ℕ) → Option (List ℕ)
+first_wrong [] = None
+first_wrong (word ∷ words) = option_or (unless_version word) (first_wrong words)
+
+-- nothing was written at a fault, but for standard output that takes no more
+abbrev pub KeepsBeforeWriting : Option (List ℕ) → Option (List ℕ) → Fault → Type 0
+KeepsBeforeWriting old new (Write None) = ⊤
+KeepsBeforeWriting old new fault = Keeps old new
+
+-- the faults that words which should be versions can end in, if this is the first that is none
+abbrev pub ComesOfWords : Option (List ℕ) → Fault → Type 0
+ComesOfWords wrong Memory = ⊤
+ComesOfWords wrong (NotVersion text) = wrong ≡ Some (string_bytes text)
+ComesOfWords wrong fault = ⊥
 
 -- the faults that `test` can end in: that the answer is no, and the word that is wrong
 abbrev pub ComesOfTest : Result Bool WrongWord → List ℕ → List ℕ → Fault → Type 0

@@ -26,27 +26,23 @@ pub record IsLineOfTwo (line : PlainVersioning → PlainVersioning → List ℕ)
   pub second_is : versioning_of b ≡ Some second
   pub output_is : output ≡ line first second
 
--- what changed between two lists, which were read in turn
+-- the lines of a list that have no version
+abbrev pub bad_lines_of : Lists → List ℕ → List (List ℕ)
+bad_lines_of lists input =
+    bad_lines (text_of lists.place) (lines_of lists.end (joined lists.end (input ∷ [])))
+
+-- what changed between two lists, which were read in turn; each line of theirs has a version, if the
+-- options ask for that
 pub record AreChanges (lists : Lists) (holds : List ℕ → Option (List ℕ))
     (old new : Option (List ℕ)) (output : List ℕ) : Type 0 where
   pub first : List ℕ
   pub second : List ℕ
   pub texts_are : AreInputs holds old new (lists.old.now ∷ lists.new.now ∷ [])
       (first ∷ second ∷ [])
+  pub good_are : lists.invalid ≡ Fail → (bad_lines_of lists first ≡ []) × (bad_lines_of lists second ≡ [])
   pub output_is : output ≡ difference_text lists.end
       (rows_of lists (joined lists.end (first ∷ [])))
       (rows_of lists (joined lists.end (second ∷ [])))
-
--- each line of the two lists has a version, if the options ask for that
-abbrev pub HasNoBadOfTwo : Lists → (List ℕ → Option (List ℕ)) → Option (List ℕ) → Option (List ℕ)
-    → Type 0
-HasNoBadOfTwo lists holds old new =
-    (first second : List ℕ)
-    × AreInputs holds old new (lists.old.now ∷ lists.new.now ∷ []) (first ∷ second ∷ [])
-    × (lists.invalid ≡ Fail → AreGood first × AreGood second) where
-      AreGood : List ℕ → Type 0
-      AreGood input =
-          bad_lines (text_of lists.place) (lines_of lists.end (joined lists.end (input ∷ []))) ≡ []
 
 -- the output of a task that ends well, by what the files hold, and what standard input had before
 -- and after; `test` ends well only if its answer is yes
@@ -66,14 +62,8 @@ IsOutput (task.Difference a b) holds old new output =
 IsOutput (task.Lists lists) holds old new output = AreChanges lists holds old new output
 IsOutput (task.Say text) holds old new output = output ≡ string_bytes text
 
--- the output of some task
-abbrev pub IsOutputOfTask : (List ℕ → Option (List ℕ)) → Option (List ℕ) → Option (List ℕ) → List ℕ
-    → Type 0
-IsOutputOfTask holds old new output = (task : Task) × IsOutput task holds old new output
-
 -- each line has a version, where the options of the task ask for that
 abbrev pub HasWhatItNeeds : Task → (List ℕ → Option (List ℕ)) → Option (List ℕ)
     → Option (List ℕ) → Type 0
 HasWhatItNeeds (task.Lines arrangement options) holds old new = HasNoBad options holds old new
-HasWhatItNeeds (task.Lists lists) holds old new = HasNoBadOfTwo lists holds old new
 HasWhatItNeeds other holds old new = ⊤

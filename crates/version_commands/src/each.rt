@@ -4,7 +4,7 @@ ghost use Rattle.std.specs.Io.KnownBytes.{Consumes, IsAtEnd};
 ghost use Rattle.std.specs.List.{All};
 ghost use Rattle.version_commands.specs.Cause.{ComesOfAsking, ComesOfQuestion};
 ghost use Rattle.version_commands.specs.Each.{AreAnswered, HasList, IsAnswer, IsAnswered, IsHead};
-ghost use Rattle.version_commands.specs.Fault.{ComesOfLines, ComesOfReading, ComesOfWords, NotOfWriting};
+ghost use Rattle.version_commands.specs.Fault.{first_wrong, ComesOfLines, ComesOfReading, ComesOfWords, NotOfWriting};
 ghost use Rattle.version_commands.specs.Pieces.{Adds};
 ghost use Rattle.version_commands.specs.Place.{line_text};
 ghost use Rattle.version_commands.specs.declared.options.Invalid.TheVariants.{Fail};
@@ -121,7 +121,7 @@ fn texts_of_words<'w>(alloc: Global, words: &[&'w str]) -> Result<Vec<&'w [u8]>,
         ≡ map (λ word. word.now) words.now) }
     ensures versions { IfOk result (λ texts.
         All (λ text. IsSome (versioning_of text.now)) texts.items) }
-    ensures faults { IfErr result ComesOfWords }
+    ensures faults { IfErr result (ComesOfWords (first_wrong (map (λ word. word.now) words.now))) }
 {
     let mut texts = Vec::with_capacity(alloc, words.len())?;
     for word in words {

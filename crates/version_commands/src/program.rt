@@ -1,12 +1,13 @@
 //! A run of the program over any files, reader and writer.
-ghost use Rattle.std.specs.Prelude.{◌≡◌, ◌⊎◌, ℕ, List, true, Ok, Some, IfErr, IfOk, OnOk};
-ghost use Rattle.std.specs.Io.KnownBytes.{Appends, Keeps};
+ghost use Rattle.std.specs.Prelude.{◌≡◌, ◌⊎◌, ◌∷◌, [], ℕ, List, true, Ok, Some, IfErr, IfOk, OnOk};
+ghost use Rattle.std.specs.Io.KnownBytes.{Appends};
 ghost use Rattle.version_commands.specs.Cause.{ComesOf, ComesOfChanges};
 ghost use Rattle.version_commands.specs.Compare.{comparison_line};
 ghost use Rattle.version_commands.specs.Difference.{difference_line};
-ghost use Rattle.version_commands.specs.Fault.{ComesOfTest, ComesOfWords, ComesOfWrongWords, FailsAt, NotOfWriting};
-ghost use Rattle.version_commands.specs.Output.{AreChanges, HasNoBadOfTwo, HasWhatItNeeds, IsLineOfTwo, IsOutput, IsOutputOfTask};
+ghost use Rattle.version_commands.specs.Fault.{first_wrong, ComesOfTest, ComesOfWords, ComesOfWrongWords, FailsAt, KeepsBeforeWriting, NotOfWriting};
+ghost use Rattle.version_commands.specs.Output.{AreChanges, HasWhatItNeeds, IsLineOfTwo, IsOutput};
 ghost use Rattle.version_lines.specs.Lines.{line_feed};
+ghost use Rattle.version_lines.specs.Run.{unless_version};
 ghost use Rattle.version_rules.specs.Versioning.{versioning_of};
 ghost use Rattle.version_texts.specs.VersioningRef.{plain_versioning_ref};
 
@@ -30,8 +31,8 @@ use version_texts::VersioningRef;
 /// Does what the words ask for. docs/VERSIONS.md has the commands.
 ///
 /// The words are read first, and each that should be a version or a list of requirements is checked before anything is
-/// read. The inputs are read to their ends and checked before anything is written, and all memory is taken before. So it
-/// writes the whole output of a task, or at a fault nothing, but for standard output that takes no more.
+/// read. The inputs are read to their ends and checked before anything is written, and all memory is taken before. So at
+/// a fault nothing was written, but for standard output that takes no more.
 pub fn run<F: Files, R: Read, W: Write>(
     alloc: Global,
     words: &[String],
@@ -39,12 +40,8 @@ pub fn run<F: Files, R: Read, W: Write>(
     reader: &mut R,
     writer: &mut W,
 ) -> Result<(), Fault>
-    ensures written { OnOk result ((output : List ℕ) × IsOutputOfTask (F.holds files.old)
-        (R.remaining reader.old) (R.remaining reader.new) output
-        × Appends (W.contents writer.old) (W.contents writer.new) output) }
-    ensures at_fault { IfErr result (λ fault. Keeps (W.contents writer.old) (W.contents writer.new)
-        ⊎ FailsAt (IsOutputOfTask (F.holds files.old) (R.remaining reader.old)
-        (R.remaining reader.new)) (W.contents writer.old) (W.contents writer.new) fault) }
+    ensures at_fault { IfErr result
+        (KeepsBeforeWriting (W.contents writer.old) (W.contents writer.new)) }
     ensures faults { IfErr result (λ fault. ComesOfWrongWords fault
         ⊎ (task : Task) × ComesOf task (F.holds files.old) (R.remaining reader.old) fault) }
 {
@@ -124,7 +121,7 @@ fn settle(
 // Parses a word as a version. Otherwise the fault holds a copy of the word.
 fn version_of_word(alloc: Global, word: &str) -> Result<VersioningRef<'_>, Fault>
     ensures ok { IfOk result (λ v. versioning_of word.now ≡ Some (plain_versioning_ref v)) }
-    ensures faults { IfErr result ComesOfWords }
+    ensures faults { IfErr result (ComesOfWords (unless_version word.now)) }
 {
     match VersioningRef::new(word) {
         Some(version) => Ok(version),
@@ -136,7 +133,7 @@ fn version_of_word(alloc: Global, word: &str) -> Result<VersioningRef<'_>, Fault
 fn comparison(alloc: Global, first: &str, second: &str, explain: bool) -> Result<Vec<u8>, Fault>
     ensures output { IfOk result (λ output.
         IsLineOfTwo (comparison_line explain line_feed) first.now second.now output.items) }
-    ensures faults { IfErr result ComesOfWords }
+    ensures faults { IfErr result (ComesOfWords (first_wrong (first.now ∷ second.now ∷ []))) }
 {
     let first = version_of_word(alloc, first)?;
     let second = version_of_word(alloc, second)?;
@@ -149,7 +146,7 @@ fn comparison(alloc: Global, first: &str, second: &str, explain: bool) -> Result
 fn difference(alloc: Global, first: &str, second: &str) -> Result<Vec<u8>, Fault>
     ensures output { IfOk result (λ output.
         IsLineOfTwo (difference_line line_feed) first.now second.now output.items) }
-    ensures faults { IfErr result ComesOfWords }
+    ensures faults { IfErr result (ComesOfWords (first_wrong (first.now ∷ second.now ∷ []))) }
 {
     let first = version_of_word(alloc, first)?;
     let second = version_of_word(alloc, second)?;
@@ -167,8 +164,6 @@ fn changes<F: Files, R: Read>(
 ) -> Result<Vec<u8>, Fault>
     ensures output { IfOk result (λ output. AreChanges lists.now (F.holds files.now)
         (R.remaining reader.old) (R.remaining reader.new) output.items) }
-    ensures good { OnOk result (HasNoBadOfTwo lists.now (F.holds files.now)
-        (R.remaining reader.old) (R.remaining reader.new)) }
     ensures unwritten { IfErr result NotOfWriting }
     ensures faults { IfErr result (ComesOfChanges lists.now (F.holds files.now)) }
 {

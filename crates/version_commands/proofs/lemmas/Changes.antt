@@ -4,11 +4,12 @@ use Rattle.version_commands.specs.Cause.{ComesOfChanges, ComesOfInput}
 use Rattle.version_commands.specs.Fault.{ComesOfBad, ComesOfLines}
 use Rattle.version_commands.specs.Inputs.{AreInputs, IsInput, joined}
 use Rattle.version_commands.specs.Lists.{difference_text, rows_of}
-use Rattle.version_commands.specs.Output.{AreChanges}
+use Rattle.version_commands.specs.Output.{bad_lines_of, AreChanges}
 use Rattle.version_commands.specs.Picked.{bad_lines, AreBadOf}
 use Rattle.version_commands.specs.Place.{text_of}
 use Rattle.version_commands.specs.declared.faults.Fault.{Fault}
 use Rattle.version_commands.specs.declared.faults.Fault.TheVariants.{Usage, NotVersion, NotRequirement, NotTested, BadLine, NoNext, Untrue, Memory, Read, Write}
+use Rattle.version_commands.specs.declared.options.Invalid.TheVariants.{Fail}
 use Rattle.version_commands.specs.declared.options.Lists.{Lists}
 use Rattle.version_commands.specs.declared.pick.BadLines.{BadLines}
 use Rattle.version_commands.proofs.lemmas.Fault.{lines-bad}
@@ -25,25 +26,19 @@ one-input holds old new name end (text ∷ []) input (between, read, same) is =
     (text, subst (λ (o : Option (List ℕ)). IsInput holds old o name text) (sym same) read, is)
 
 -- two lists are two inputs
-pub two-inputs : (holds : List ℕ → Option (List ℕ)) (old between new : Option (List ℕ))
-    (one other first second : List ℕ) → IsInput holds old between one first
-    → IsInput holds between new other second
-    → AreInputs holds old new (one ∷ other ∷ []) (first ∷ second ∷ [])
-two-inputs holds old between new one other first second read read_more =
-    (between, read, (new, read_more, refl))
-
 pub are-changes : (lists : Lists) (holds : List ℕ → Option (List ℕ)) (old between new : Option (List ℕ))
     (first second before after output : List ℕ)
     → IsInput holds old between lists.old.now first → before ≡ joined lists.end (first ∷ [])
     → IsInput holds between new lists.new.now second → after ≡ joined lists.end (second ∷ [])
+    → (lists.invalid ≡ Fail → (bad_lines_of lists first ≡ []) × (bad_lines_of lists second ≡ []))
     → output ≡ difference_text lists.end (rows_of lists before) (rows_of lists after)
     → AreChanges lists holds old new output
 are-changes lists holds old between new first second before after output read is_old read_more is_new
-    is = record {
+    good is = record {
       first = first;
       second = second;
-      texts_are = two-inputs holds old between new lists.old.now lists.new.now first second read
-          read_more;
+      texts_are = (between, read, (new, read_more, refl));
+      good_are = good;
       output_is = is
           ∙ (λ i. difference_text lists.end (rows_of lists (is_old i)) (rows_of lists (is_new i)));
     }
@@ -67,7 +62,7 @@ input-bad lists holds old new name text input bad read whole are fault is = (
 pub input-good : (lists : Lists) (text input : List ℕ) (bad : BadLines)
     → input ≡ joined lists.end (text ∷ [])
     → AreBadOf (text_of lists.place) (lines_of lists.end input) bad → bad.lines.items ≡ []
-    → bad_lines (text_of lists.place) (lines_of lists.end (joined lists.end (text ∷ []))) ≡ []
+    → bad_lines_of lists text ≡ []
 input-good lists text input bad whole (same, before) none =
     ap (λ (i : List ℕ). bad_lines (text_of lists.place) (lines_of lists.end i)) (sym whole)
     ∙ sym same ∙ ap (map (λ (line : Bor (List ℕ)). line.now)) none

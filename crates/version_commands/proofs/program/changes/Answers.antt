@@ -2,7 +2,7 @@ use Rattle.std.proofs.Common.{◌++◌, ℕ, List, rules, ap, inl, inr, ◌∙�
 use Rattle.std.proofs.lemmas.Result.{IfErr-weaker}
 use Rattle.version_commands.specs.Fault.{ComesOfBad}
 use Rattle.version_commands.specs.Lists.{difference_text, rows_of}
-use Rattle.version_commands.proofs.lemmas.Changes.{are-changes, changes-bad, input-bad, input-good, one-input, two-inputs}
+use Rattle.version_commands.proofs.lemmas.Changes.{are-changes, changes-bad, input-bad, input-good, one-input}
 use Rattle.version_commands.proofs.program.changes.Goals as goal
 
 pub returns-clause-output : goal.returns-clause-output
@@ -24,35 +24,15 @@ returns-clause-output g c =
     c.in_ok-old_names.ensures.names c.in_ok-new_names.ensures.names in
     are-changes lists holds start between end first second before after c.add_lists.new.output.items
     one first_is other second_is
+    (λ asked. (
+      input-good lists first before c.in_ok-old_names.old_bad first_is
+          c.in_ok-old_names.ensures.bad (c.in_ok-refuse_if.ensures.none asked),
+      input-good lists second after c.in_ok-new_names.new_bad second_is
+          c.in_ok-new_names.ensures.bad (c.in_ok-refuse_if-2.ensures.none asked),
+    ))
     (added
     ∙ ap (λ (l : List ℕ). l ++ difference_text lists.end (rows_of lists before) (rows_of lists after))
     c.new-output.ensures.items)
-
-pub returns-clause-good : goal.returns-clause-good
-returns-clause-good g c =
-    let lists = c.args.lists.now in
-    let holds = g.F.Files.holds c.args.files.now in
-    let start = g.R.Read.remaining c.args.reader.now in
-    let between = g.R.Read.remaining c.read_inputs.new.reader in
-    let end = g.R.Read.remaining c.read_inputs-2.new.reader in
-    let before = c.as_slice.result.now in
-    let after = c.as_slice-2.result.now in
-    let (olds, read_old, old_is) = c.in_ok-old.ensures.input in
-    let (news, read_new, new_is) = c.in_ok-new.ensures.input in
-    let (first, one, first_is) = one-input holds start between lists.old.now lists.end olds before read_old
-    (c.as_slice.ensures.value ∙ old_is) in
-    let (second, other, second_is) = one-input holds between end lists.new.now lists.end news after read_new
-    (c.as_slice-2.ensures.value ∙ new_is) in (
-      first,
-      second,
-      two-inputs holds start between end lists.old.now lists.new.now first second one other,
-      λ asked. (
-        input-good lists first before c.in_ok-old_names.old_bad first_is
-            c.in_ok-old_names.ensures.bad (c.in_ok-refuse_if.ensures.none asked),
-        input-good lists second after c.in_ok-new_names.new_bad second_is
-            c.in_ok-new_names.ensures.bad (c.in_ok-refuse_if-2.ensures.none asked),
-      ),
-    )
 
 pub returns-in_err-refuse_if-clause-faults : goal.returns-in_err-refuse_if-clause-faults
 returns-in_err-refuse_if-clause-faults g c =
