@@ -1,5 +1,4 @@
 pub mod Changes
-pub mod Column
 pub mod Each
 pub mod Fault
 pub mod Fields

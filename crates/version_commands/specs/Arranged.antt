@@ -2,7 +2,7 @@
 use Rattle.std.specs.Prelude.{ℕ, Bool, false, true, List, ◌++◌, Option, None, Some}
 use Rattle.version_commands.specs.declared.options.Arrangement.{Arrangement}
 use Rattle.version_commands.specs.declared.options.Arrangement.TheVariants.{Sort, Newest, Filter}
-use Rattle.version_commands.specs.declared.options.Column.{Column}
+use Rattle.version_lines.specs.declared.column.Column.{Column}
 use Rattle.version_commands.specs.declared.options.Invalid.{Invalid}
 use Rattle.version_commands.specs.declared.options.Invalid.TheVariants.{Fail, Skip, First, Last}
 use Rattle.version_commands.specs.declared.options.LineOptions.{LineOptions}

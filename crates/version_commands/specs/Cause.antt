@@ -1,9 +1,11 @@
 -- Why a task fails: what each of its faults comes of. Refused memory and a writer that takes no more
 -- can end any task.
-use Rattle.std.specs.Prelude.{◌≡◌, ◌⊎◌, ⊤, ℕ, Bool, List, [], ◌∷◌, map, Option, Some, None, Result, string_bytes}
+use Rattle.std.specs.Prelude.{◌≡◌, ◌⊎◌, ◌++◌, ⊤, ℕ, Bool, List, [], ◌∷◌, codes, map, Option, Some, None, Result, string_bytes}
 use Rattle.std.specs.Io.KnownBytes.{Consumes, IsAtEnd}
+use Rattle.std.specs.List.{Contains}
 use Rattle.version_commands.specs.Arranged.{policy}
 use Rattle.version_commands.specs.Choice.{wrong_list}
+use Rattle.version_commands.specs.Each.{AreAnswered, AreTexts}
 use Rattle.version_commands.specs.Fault.{first_wrong, ComesOfLines, ComesOfTest, ComesOfWords}
 use Rattle.version_commands.specs.Inputs.{joined, names_read, AreInputs, IsInput}
 use Rattle.version_commands.specs.Place.{line_text, text_of}
@@ -15,7 +17,7 @@ use Rattle.version_commands.specs.declared.options.EachOptions.{EachOptions}
 use Rattle.version_commands.specs.declared.options.LineOptions.{LineOptions}
 use Rattle.version_commands.specs.declared.options.Lists.{Lists}
 use Rattle.version_commands.specs.declared.options.Question.{Question}
-use Rattle.version_commands.specs.declared.options.Question.TheVariants.{Show, Json, Key, Why, Next}
+use Rattle.version_commands.specs.declared.options.Question.TheVariants.{Why, Next}
 use Rattle.version_commands.specs.declared.options.Task.{Task}
 use Rattle.version_commands.specs.declared.options.Task.TheVariants as task
 use Rattle.version_commands.specs.declared.options.Invalid.TheVariants.{Fail}
@@ -36,7 +38,8 @@ ComesOfArranging arrangement options holds old (fault.BadLine number text ends m
     × AreInputs holds old new (names_read (map (λ name. name.now) options.files.items)) texts
     × ComesOfLines (policy options) (text_of options.place)
     (lines_of options.end (joined options.end texts)) (fault.BadLine number text ends more)
-ComesOfArranging arrangement options holds old (fault.Read name) = ⊤
+ComesOfArranging arrangement options holds old (fault.Read name) =
+    Contains (names_read (map (λ name. name.now) options.files.items)) (string_bytes name)
 ComesOfArranging arrangement options holds old (fault.Write name) = ⊤
 ComesOfArranging arrangement options holds old fault.Memory = ⊤
 ComesOfArranging arrangement options holds old other = ⊥
@@ -51,15 +54,27 @@ abbrev pub HasWrongList : Question → List ℕ → Type 0
 HasWrongList (Why list) word = (list.now ≡ word) × (requirements_of word ≡ None)
 HasWrongList other word = ⊥
 
--- the faults of a question: of the list of `why`, or of a version that none comes next to
-abbrev pub ComesOfQuestion : Question → Fault → Type 0
-ComesOfQuestion question (fault.NotRequirement text) = HasWrongList question (string_bytes text)
-ComesOfQuestion question (fault.NoNext text) = HasNoNext question (versioning_of (string_bytes text))
-ComesOfQuestion question fault.Memory = ⊤
-ComesOfQuestion question other = ⊥
+-- the faults of a question's list
+abbrev pub ComesOfList : Question → Fault → Type 0
+ComesOfList question (fault.NotRequirement text) = HasWrongList question (string_bytes text)
+ComesOfList question fault.Memory = ⊤
+ComesOfList question other = ⊥
+
+-- the first of some texts whose version has no next, so that there are answers to those before it
+abbrev pub IsFirstWithoutNext : Question → ℕ → List (List ℕ) → List ℕ → Type 0
+IsFirstWithoutNext question end texts text =
+    (before after : List (List ℕ)) × (answers : List ℕ) × (texts ≡ before ++ text ∷ after)
+    × AreAnswered question end before answers × HasNoNext question (versioning_of text)
+
+-- the faults of answering to some texts
+abbrev pub ComesOfAnswering : Question → ℕ → List (List ℕ) → Fault → Type 0
+ComesOfAnswering question end texts (fault.NoNext text) =
+    IsFirstWithoutNext question end texts (string_bytes text)
+ComesOfAnswering question end texts fault.Memory = ⊤
+ComesOfAnswering question end texts other = ⊥
 
 -- the faults of `show`, `key`, `why` and `next`: of a word or a line that is no version, of standard
--- input, or of the question
+-- input, of a version that none comes next to, or of the list of `why`
 abbrev pub ComesOfAsking : Question → EachOptions → Option (List ℕ) → Fault → Type 0
 ComesOfAsking question options old (fault.NotVersion text) =
     first_wrong (map (λ word. word.now) options.versions.items) ≡ Some (string_bytes text)
@@ -67,8 +82,11 @@ ComesOfAsking question options old (fault.BadLine number text ends more) =
     (new : Option (List ℕ)) × (input : List ℕ) × Consumes old new input × IsAtEnd new
     × ComesOfLines Fail (line_text options.crlf) (lines_of options.end input)
     (fault.BadLine number text ends more)
-ComesOfAsking question options old (fault.Read name) = ⊤
-ComesOfAsking question options old other = ComesOfQuestion question other
+ComesOfAsking question options old (fault.Read name) = string_bytes name ≡ codes "-"
+ComesOfAsking question options old (fault.NoNext text) =
+    (new : Option (List ℕ)) × (texts : List (List ℕ)) × AreTexts options old new texts
+    × IsFirstWithoutNext question options.end texts (string_bytes text)
+ComesOfAsking question options old other = ComesOfList question other
 
 -- a line of the input of this name has no version, and it is asked that each has one
 abbrev pub ComesOfInput : Lists → (List ℕ → Option (List ℕ)) → List ℕ → Fault → Type 0
@@ -82,7 +100,8 @@ abbrev pub ComesOfChanges : Lists → (List ℕ → Option (List ℕ)) → Fault
 ComesOfChanges lists holds (fault.BadLine number text ends more) =
     ComesOfInput lists holds lists.old.now (fault.BadLine number text ends more)
     ⊎ ComesOfInput lists holds lists.new.now (fault.BadLine number text ends more)
-ComesOfChanges lists holds (fault.Read name) = ⊤
+ComesOfChanges lists holds (fault.Read name) =
+    Contains (lists.old.now ∷ lists.new.now ∷ []) (string_bytes name)
 ComesOfChanges lists holds fault.Memory = ⊤
 ComesOfChanges lists holds other = ⊥
 

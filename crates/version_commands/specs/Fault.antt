@@ -1,6 +1,7 @@
 -- The faults of a run.
 use Rattle.std.specs.Prelude.{◌≡◌, ◌⊎◌, ◌+◌, ◌-◌, ◌^◌, min, ⊤, ℕ, List, [], ◌∷◌, Option, None, Some, Bool, false, Result, Ok, Err, length, string_bytes}
 use Rattle.std.specs.Io.KnownBytes.{Keeps}
+use Rattle.std.specs.List.{Contains}
 use Rattle.std.specs.Option.{option_or}
 use Rattle.version_commands.specs.declared.options.Invalid.{Invalid}
 use Rattle.version_commands.specs.declared.options.Invalid.TheVariants as invalid
@@ -32,11 +33,11 @@ ComesOfWrongWords (Usage text) = ⊤
 ComesOfWrongWords Memory = ⊤
 ComesOfWrongWords fault = ⊥
 
--- the faults that reading can end in
-abbrev pub ComesOfReading : Fault → Type 0
-ComesOfReading Memory = ⊤
-ComesOfReading (Read name) = ⊤
-ComesOfReading fault = ⊥
+-- the faults that reading inputs of these names can end in
+abbrev pub ComesOfReading : List (List ℕ) → Fault → Type 0
+ComesOfReading names Memory = ⊤
+ComesOfReading names (Read name) = Contains names (string_bytes name)
+ComesOfReading names fault = ⊥
 
 -- the faults that lines without a version can end in: the first of them, by its number, and how many
 -- more there are

@@ -1,7 +1,6 @@
 pub mod Arranged
 pub mod Cause
 pub mod Choice
-pub mod Column
 pub mod Compare
 pub mod Difference
 pub mod Each

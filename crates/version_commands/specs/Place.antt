@@ -2,8 +2,8 @@
 use Rattle.std.specs.Prelude.{ℕ, Bool, List, [], Option, Some, None, if◌then◌else◌}
 use Rattle.std.specs.Option.{option_map_or, unwrap_or}
 use Rattle.std.specs.Str.Lines.{strip_carriage_return}
-use Rattle.version_commands.specs.Column.{column_of}
-use Rattle.version_commands.specs.declared.options.Column.{Column}
+use Rattle.version_lines.specs.Column.{column_of}
+use Rattle.version_lines.specs.declared.column.Column.{Column}
 use Rattle.version_commands.specs.declared.options.Naming.{Naming}
 use Rattle.version_commands.specs.declared.options.Naming.TheVariants.{Bare, Tag, Prefix}
 use Rattle.version_commands.specs.declared.options.VersionPlace.{VersionPlace}

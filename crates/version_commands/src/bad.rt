@@ -55,10 +55,15 @@ pub fn refuse_first(alloc: Global, crlf: bool, bad: &BadLines<'_>) -> Result<(),
         [first, others @ ..] => Err(Fault::BadLine {
             number: bad.before.saturating_add(1),
             text: printable(alloc, first)?,
-            ends_in_return: !crlf && first.last() == Some(&b'\r'),
+            ends_in_return: !crlf && ends_in_return(first),
             more: others.len(),
         }),
     }
+}
+
+// Whether the last byte of a line is a carriage return.
+fn ends_in_return(line: &[u8]) -> bool {
+    matches!(line, [.., b'\r'])
 }
 
 /// Returns the beginning of a line as it can be printed: as much as is UTF-8 and fits, with control characters escaped.

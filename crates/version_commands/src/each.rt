@@ -1,8 +1,8 @@
 //! The commands that ask the same of each of several versions: `show`, `key`, `why` and `next`.
-ghost use Rattle.std.specs.Prelude.{◌≡◌, ◌++◌, ◌∷◌, [], map, IfErr, IfOk, IsSome, OnOk};
+ghost use Rattle.std.specs.Prelude.{◌≡◌, ◌++◌, ◌∷◌, [], codes, map, IfErr, IfOk, IsSome, OnOk};
 ghost use Rattle.std.specs.Io.KnownBytes.{Consumes, IsAtEnd};
 ghost use Rattle.std.specs.List.{All};
-ghost use Rattle.version_commands.specs.Cause.{ComesOfAsking, ComesOfQuestion};
+ghost use Rattle.version_commands.specs.Cause.{ComesOfAnswering, ComesOfAsking, ComesOfList};
 ghost use Rattle.version_commands.specs.Each.{AreAnswered, HasList, IsAnswer, IsAnswered, IsHead};
 ghost use Rattle.version_commands.specs.Fault.{first_wrong, ComesOfLines, ComesOfReading, ComesOfWords, NotOfWriting};
 ghost use Rattle.version_commands.specs.Pieces.{Adds};
@@ -56,7 +56,7 @@ pub fn answer_each<R: Read>(
 fn head_of(alloc: Global, question: Question<'_>, end: u8) -> Result<Vec<u8>, Fault>
     ensures head { IfOk result (λ head. IsHead question.entry end head.items) }
     ensures list { OnOk result (HasList question.entry) }
-    ensures faults { IfErr result (ComesOfQuestion question.entry) }
+    ensures faults { IfErr result (ComesOfList question.entry) }
 {
     let mut head = Vec::new(alloc);
     if let Question::Why(list) = question {
@@ -73,7 +73,7 @@ fn read_standard<R: Read>(alloc: Global, reader: &mut R) -> Result<Vec<u8>, Faul
     ensures input { IfOk result (λ input.
         Consumes (R.remaining reader.old) (R.remaining reader.new) input.items) }
     ensures end { OnOk result (IsAtEnd (R.remaining reader.new)) }
-    ensures faults { IfErr result ComesOfReading }
+    ensures faults { IfErr result (ComesOfReading (codes "-" ∷ [])) }
 {
     match read_all(alloc, reader) {
         Ok(input) => Ok(input),
@@ -153,7 +153,7 @@ fn add_answers(
     requires list { HasList question }
     ensures answers { OnOk result (Adds (AreAnswered question.entry end (map (λ text. text.now) texts.now))
         output.old.items output.new.items) }
-    ensures faults { IfErr result (ComesOfQuestion question.entry) }
+    ensures faults { IfErr result (ComesOfAnswering question.entry end (map (λ text. text.now) texts.now)) }
 {
     for text in texts {
         let version = VersioningRef::from_bytes(text).unwrap();

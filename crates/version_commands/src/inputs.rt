@@ -21,7 +21,7 @@ pub fn read_inputs<F: Files, R: Read>(
     ensures input { IfOk result (λ input. (texts : List (List ℕ))
         × AreInputs (F.holds files.now) (R.remaining reader.old) (R.remaining reader.new)
         (names_read (map (λ name. name.now) names.now)) texts × (input.items ≡ joined end texts)) }
-    ensures faults { IfErr result ComesOfReading }
+    ensures faults { IfErr result (ComesOfReading (names_read (map (λ name. name.now) names.now))) }
 {
     if names.is_empty() {
         return read_named(alloc, &["-"], end, files, reader);
@@ -40,7 +40,7 @@ fn read_named<F: Files, R: Read>(
     ensures input { IfOk result (λ input. (texts : List (List ℕ))
         × AreInputs (F.holds files.now) (R.remaining reader.old) (R.remaining reader.new)
         (map (λ name. name.now) names.now) texts × (input.items ≡ joined end texts)) }
-    ensures faults { IfErr result ComesOfReading }
+    ensures faults { IfErr result (ComesOfReading (map (λ name. name.now) names.now)) }
 {
     let mut input = Vec::new(alloc);
     for name in names {
@@ -61,7 +61,7 @@ fn add_input<F: Files, R: Read>(
     ensures text { OnOk result ((text : List ℕ)
         × IsInput (F.holds files.now) (R.remaining reader.old) (R.remaining reader.new) name.now text
         × (input.new.items ≡ input.old.items ++ ended end text)) }
-    ensures faults { IfErr result ComesOfReading }
+    ensures faults { IfErr result (ComesOfReading (name.now ∷ [])) }
 {
     let start = input.len();
     add_text(alloc, name, files, reader, input)?;
@@ -90,7 +90,7 @@ fn add_text<F: Files, R: Read>(
     ensures text { OnOk result ((text : List ℕ)
         × IsInput (F.holds files.now) (R.remaining reader.old) (R.remaining reader.new) name.now text
         × (input.new.items ≡ input.old.items ++ text)) }
-    ensures faults { IfErr result ComesOfReading }
+    ensures faults { IfErr result (ComesOfReading (name.now ∷ [])) }
 {
     if name == "-" {
         return match read_onto(alloc, reader, input) {

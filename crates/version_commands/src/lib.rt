@@ -5,7 +5,6 @@
 mod arrange;
 mod bad;
 mod choice;
-mod column;
 mod compare;
 mod difference;
 mod each;
@@ -31,8 +30,8 @@ mod write;
 pub use faults::Fault;
 pub use files::{Files, Stage, Trouble};
 pub use options::{
-    Arrangement, Choice, Column, EachOptions, Invalid, LineOptions, Lists, Naming, Operator,
-    Question, Task, VersionPlace,
+    Arrangement, Choice, EachOptions, Invalid, LineOptions, Lists, Naming, Operator, Question,
+    Task, VersionPlace,
 };
 pub use program::{run, serve};
 pub use words::read_words;

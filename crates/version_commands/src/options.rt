@@ -1,16 +1,7 @@
 //! What a command is asked to do: the words of a run, read.
 
+use version_lines::Column;
 use version_tasks::Stability;
-
-/// A column of a line.
-#[derive(Clone, Copy, Debug)]
-pub struct Column {
-    /// Its number, counted from 0. Words count from 1.
-    pub number: usize,
-    /// The byte between two columns. Without one, runs of spaces and tabs are between them, and those at the line's
-    /// beginning are left out.
-    pub separator: Option<u8>,
-}
 
 /// How a version stands in its column, or in the whole line.
 #[derive(Clone, Copy, Debug)]

@@ -4,8 +4,8 @@ ghost use Rattle.std.specs.Option.{option_map_or, IfSome};
 ghost use Rattle.version_commands.specs.Place.{column_text, line_text, named_text, named_version, place_text, text_of};
 ghost use Rattle.version_rules.specs.Versioning.{versioning_of};
 
-use crate::options::{Column, Naming, VersionPlace};
-use version_lines::{GroupBy, SortBy};
+use crate::options::{Naming, VersionPlace};
+use version_lines::{Column, GroupBy, SortBy};
 use version_tasks::{start_after_prefix, start_in_tag};
 
 impl VersionPlace<'_> {

@@ -10,12 +10,13 @@ mod table;
 
 use crate::faults::Fault;
 use crate::options::{
-    Arrangement, Choice, Column, EachOptions, Invalid, LineOptions, Lists, Naming, Operator,
-    Question, Task, VersionPlace,
+    Arrangement, Choice, EachOptions, Invalid, LineOptions, Lists, Naming, Operator, Question,
+    Task, VersionPlace,
 };
 use clap::error::ErrorKind;
 use clap::{ArgMatches, Error};
 use std::alloc::{AllocError, Global};
+use version_lines::Column;
 use version_tasks::Stability;
 use version_texts::is_digits;
 

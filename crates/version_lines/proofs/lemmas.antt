@@ -1,3 +1,4 @@
+pub mod Column
 pub mod Entry
 pub mod FirstOfEach
 pub mod Grouped

@@ -1,4 +1,5 @@
 pub mod Answer
+pub mod Column
 pub mod Command
 pub mod Comparison
 pub mod Entry

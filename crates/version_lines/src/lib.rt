@@ -4,6 +4,7 @@
 #![tactic(auto)]
 
 mod answer;
+mod column;
 mod command;
 mod comparison;
 mod faults;
@@ -19,6 +20,7 @@ mod show;
 mod sort;
 mod words;
 
+pub use column::Column;
 pub use faults::Fault;
 pub use input::{read_all, read_onto};
 pub use lines::split_line;

@@ -1,17 +1,23 @@
 -- Answers that follow one another, and the texts that are asked.
-use Rattle.std.proofs.Common.{◌≡◌, ◌+◌, ◌<◌, ◌≤◌, ℕ, Bool, true, false, Bor, List, [], ◌∷◌, ◌++◌, length, take, get_or, map, None, Some, IsSome, refl, sym, subst, ap, ◌∙◌, arith, append-nil, append_assoc}
+use Rattle.std.proofs.Common.{◌≡◌, ◌+◌, ◌<◌, ◌≤◌, ℕ, Bool, true, false, Bor, List, [], ◌∷◌, ◌++◌, length, take, drop, get_or, map, Option, None, Some, IsSome, refl, sym, subst, ap, ◌∙◌, arith, append-nil, append_assoc}
 use Rattle.std.specs.List.{All}
-use Rattle.std.proofs.lemmas.List.{map-append, map_push, take_more}
+use Rattle.std.proofs.lemmas.List.{map-append, map_push, take_more, take-append-drop}
 use Rattle.std.proofs.lemmas.List.Elements.{All-push}
-use Rattle.version_commands.specs.Each.{AreAnswered, IsAnswer}
+use Rattle.version_commands.specs.Cause.{ComesOfAnswering, ComesOfAsking, HasNoNext, IsFirstWithoutNext}
+use Rattle.version_commands.specs.Each.{AreAnswered, AreLineTexts, AreTexts, AreTextsOf, IsAnswer}
 use Rattle.version_commands.specs.Picked.{AreBadOf}
 use Rattle.version_commands.specs.Pieces.{Adds}
 use Rattle.version_commands.specs.Place.{line_text}
+use Rattle.version_commands.specs.declared.faults.Fault.{Fault}
+use Rattle.version_commands.specs.declared.faults.Fault.TheVariants.{Usage, NotVersion, NotRequirement, NotTested, BadLine, NoNext, Untrue, Memory, Read, Write}
+use Rattle.version_commands.specs.declared.options.EachOptions.{EachOptions}
 use Rattle.version_commands.specs.declared.options.Question.{Question}
+use Rattle.version_commands.specs.declared.options.Question.TheVariants.{Show, Json, Key, Why, Next}
 use Rattle.version_commands.specs.declared.pick.BadLines.{BadLines}
 use Rattle.version_lines.specs.Lines.{lines_of}
 use Rattle.version_lines.specs.Sort.{is_bad}
-use Rattle.version_rules.specs.Versioning.{PlainVersioning, versioning_of}
+use Rattle.version_rules.proofs.lemmas.Versioning.{versioning_of-spells, versioning_printed}
+use Rattle.version_rules.specs.Versioning.{PlainVersioning, versioning_of, versioning_text}
 use Rattle.version_commands.proofs.lemmas.Picked.{IsPicked, all-kept, picked-bad, picked-end, picked-kept, picked-start}
 
 -- one more answer after the others
@@ -136,3 +142,73 @@ texts-end crlf end input rest texts bad so_far nothing none =
     ∙ ap (map (line_text crlf))
     (kept_are ∙ all-kept (line_text crlf) (lines_of end input)
     (sym bad_are.0 ∙ ap (map (λ (t : Bor (List ℕ)). t.now)) none))
+
+-- the texts that are asked are those of the words, if there are any
+pub word-texts : (options : EachOptions) (old : Option (List ℕ)) (words : List (Bor (List ℕ)))
+    (texts : List (List ℕ)) → words ≡ options.versions.items → 0 < length words
+    → texts ≡ map (λ word. word.now) words → AreTexts options old old texts
+word-texts options old [] texts same some are = absurd (omega (arith, some))
+word-texts options old (word ∷ words) texts same some are =
+    subst (λ (w : List (Bor (List ℕ))). AreTextsOf options old old texts (map (λ word. word.now) w))
+    same (refl, are)
+
+-- and else those of the lines
+pub line-texts : (options : EachOptions) (old new : Option (List ℕ)) (texts : List (List ℕ))
+    → options.versions.items ≡ [] → AreLineTexts options old new texts
+    → AreTexts options old new texts
+line-texts options old new texts none are =
+    subst (λ (w : List (Bor (List ℕ))). AreTextsOf options old new texts (map (λ word. word.now) w))
+    (sym none) are
+
+-- the faults of answering to the texts that are asked
+pub asking-answering : (question : Question) (options : EachOptions) (old new : Option (List ℕ))
+    (texts : List (List ℕ)) → AreTexts options old new texts → (fault : Fault)
+    → ComesOfAnswering question options.end texts fault → ComesOfAsking question options old fault
+asking-answering question options old new texts are (Usage text) is = absurd is
+asking-answering question options old new texts are (NotVersion text) is = absurd is
+asking-answering question options old new texts are (NotRequirement text) is = absurd is
+asking-answering question options old new texts are (NotTested text) is = absurd is
+asking-answering question options old new texts are (BadLine number text ends more) is = absurd is
+asking-answering question options old new texts are (NoNext text) is = (new, texts, are, is)
+asking-answering question options old new texts are Untrue is = absurd is
+asking-answering question options old new texts are Memory is = tt
+asking-answering question options old new texts are (Read name) is = absurd is
+asking-answering question options old new texts are (Write name) is = absurd is
+
+-- only `next` leaves a version without an answer
+pub unanswered : (question : Question) (end : ℕ) (v : PlainVersioning) (found : Bool)
+    (answer : List ℕ) → found ≡ false → IsAnswer question end v found answer
+    → HasNoNext question (Some v)
+unanswered question end v true answer not_found is = cc not_found
+unanswered Show end v false answer not_found (found, is) = cc found
+unanswered Json end v false answer not_found (found, is) = cc found
+unanswered Key end v false answer not_found (found, is) = cc found
+unanswered (Why list) end v false answer not_found (found, is) = cc found
+unanswered (Next place) end v false answer not_found (none, is) = none
+
+-- the next text is the first whose version has no next
+pub first-without-next : (question : Question) (end : ℕ) (old new newer : List ℕ)
+    (texts : List (Bor (List ℕ))) (i : ℕ) (d : Bor (List ℕ)) (v : PlainVersioning) (found : Bool)
+    (text : List ℕ) → i < length texts
+    → Adds (AreAnswered question end (map (λ text. text.now) (take i texts))) old new
+    → versioning_of (get_or texts i d).now ≡ Some v → found ≡ false
+    → Adds (IsAnswer question end v found) new newer → text ≡ versioning_text v
+    → IsFirstWithoutNext question end (map (λ text. text.now) texts) text
+first-without-next question end old new newer texts i d v found text inside (body, are, whole) some
+    not_found (answer, is, more) printed =
+    let now : Bor (List ℕ) → List ℕ = λ t. t.now in
+    let before = map now (take i texts) in
+    let after = map now (drop (i + 1) texts) in
+    let same : (get_or texts i d).now ≡ text =
+    sym (versioning_printed (get_or texts i d).now v
+    (versioning_of-spells (get_or texts i d).now v some)) ∙ sym printed in
+    let cut : map now texts ≡ before ++ text ∷ after =
+    ap (map now) (sym (take-append-drop (i + 1) texts))
+    ∙ map-append now (take (i + 1) texts) (drop (i + 1) texts)
+    ∙ ap (λ (t : List (List ℕ)). t ++ after) (texts-next now texts i d inside)
+    ∙ append_assoc before ((get_or texts i d).now ∷ []) after
+    ∙ ap (λ (t : List ℕ). before ++ t ∷ after) same in
+    let none : HasNoNext question (versioning_of text) =
+    subst (HasNoNext question) (sym (ap versioning_of (sym same) ∙ some))
+    (unanswered question end v found answer not_found is) in
+    (before, after, body, cut, are, none)

@@ -1,7 +1,8 @@
 -- What is written at a fault, and what it comes of.
-use Rattle.std.proofs.Common.{ℕ, ◌∙◌, ◌+◌, ◌^◌, ◌-◌, List, Option, None, Some, length, min, sym, ap, Bor}
+use Rattle.std.proofs.Common.{ℕ, ◌∙◌, ◌+◌, ◌^◌, ◌-◌, List, Option, None, Some, String, Global, length, min, string_bytes, sym, ap, Bor}
 use Rattle.std.proofs.lemmas.List.{length-map}
-use Rattle.version_commands.specs.Fault.{ComesOfBad, ComesOfLines, FailsAt, GrowsAt}
+use Rattle.std.specs.List.{Contains}
+use Rattle.version_commands.specs.Fault.{ComesOfBad, ComesOfLines, ComesOfReading, FailsAt, GrowsAt}
 use Rattle.version_commands.specs.Picked.{AreBadOf}
 use Rattle.version_commands.specs.declared.options.Invalid.{Invalid}
 use Rattle.version_commands.specs.declared.pick.BadLines.{BadLines}
@@ -41,3 +42,19 @@ lines-bad invalid at lines bad are Untrue is = is
 lines-bad invalid at lines bad are Memory is = is
 lines-bad invalid at lines bad are (Read name) is = is
 lines-bad invalid at lines bad are (Write name) is = is
+
+-- What follows from refused memory, and from an input that can't be read, follows from each fault of
+-- reading.
+pub reading-cases : (Follows : Fault → Type 0) (names : List (List ℕ)) → Follows Memory
+    → ((name : String Global) → Contains names (string_bytes name) → Follows (Read name))
+    → (fault : Fault) → ComesOfReading names fault → Follows fault
+reading-cases Follows names memory read (Usage text) is = absurd is
+reading-cases Follows names memory read (NotVersion text) is = absurd is
+reading-cases Follows names memory read (NotRequirement text) is = absurd is
+reading-cases Follows names memory read (NotTested text) is = absurd is
+reading-cases Follows names memory read (BadLine number text ends more) is = absurd is
+reading-cases Follows names memory read (NoNext text) is = absurd is
+reading-cases Follows names memory read Untrue is = absurd is
+reading-cases Follows names memory read Memory is = memory
+reading-cases Follows names memory read (Read name) is = read name is
+reading-cases Follows names memory read (Write name) is = absurd is

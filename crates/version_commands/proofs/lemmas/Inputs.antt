@@ -1,10 +1,10 @@
 -- Inputs that were read in turn.
-use Rattle.std.proofs.Common.{◌≡◌, ◌==◌, ◌<◌, ◌-◌, ◌+◌, ℕ, suc, true, List, [], ◌∷◌, ◌++◌, length, take, get_or, map, Option, refl, sym, subst, ap, ◌∙◌, arith, append-nil, add-one}
-use Rattle.std.specs.List.{slice_get}
+use Rattle.std.proofs.Common.{◌≡◌, ◌==◌, ◌<◌, ◌-◌, ◌+◌, ℕ, zero, suc, true, List, [], ◌∷◌, ◌++◌, length, take, get_or, map, Option, refl, sym, subst, ap, ◌∙◌, arith, append-nil, add-one}
+use Rattle.std.specs.List.{slice_get, Contains}
 use Rattle.std.specs.Option.{option_map_or}
 use Rattle.std.proofs.Math.Seq.{take-suc}
 use Rattle.std.proofs.lemmas.Grind.{flat_map-append}
-use Rattle.std.proofs.lemmas.List.{map-append}
+use Rattle.std.proofs.lemmas.List.{get_or-map, length-map, map-append}
 use Rattle.version_commands.specs.Inputs.{ended, ends_line, joined, AreInputs, IsInput}
 
 -- one more input was read after the others
@@ -47,3 +47,12 @@ ends_line-last end (byte ∷ next ∷ bytes) =
     ends_line-last end (next ∷ bytes)
     ∙ ap (λ (i : ℕ). option_map_or (λ b. b == end) (slice_get (byte ∷ next ∷ bytes) i) true)
     (sym place)
+
+-- the name at a place is one of the names
+pub name-among : {X : Type 0} (f : X → List ℕ) (names : List X) (i : ℕ) (d : X)
+    → i < length names → (name : List ℕ) → Contains (f (get_or names i d) ∷ []) name
+    → Contains (map f names) name
+name-among f names i d inside name (zero, within, same) =
+    let long : length (map f names) ≡ length names = length-map names f in
+    (i, omega (arith, inside), get_or-map f names i d name inside ∙ same)
+name-among f names i d inside name (suc k, within, same) = absurd (omega (arith, within))

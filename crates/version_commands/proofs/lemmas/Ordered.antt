@@ -1,6 +1,6 @@
 -- The lines that are written, in their order.
-use Rattle.std.proofs.Common.{◌≡◌, List, ℕ, Bool, true, Option, Some, map, ap, subst, sym, Bor}
-use Rattle.version_commands.specs.Arranged.{arranged, placed, policy}
+use Rattle.std.proofs.Common.{◌≡◌, List, ℕ, true, Option, Some, map, ap, subst, sym, Bor}
+use Rattle.version_commands.specs.Arranged.{placed, policy}
 use Rattle.version_commands.specs.Cause.{ComesOfArranging}
 use Rattle.version_commands.specs.Choice.{chooser_of, is_kept}
 use Rattle.version_commands.specs.Fault.{ComesOfArranged, ComesOfLines}

@@ -8,7 +8,11 @@ use std::alloc::{AllocError, Global};
 
 /// Returns the program with all its commands. The words that it reads begin after its name.
 pub fn program<'a>(alloc: Global) -> Result<Command<'a>, AllocError> {
-    let mut program = Command::new(alloc, "versions")
+    let mut commands = Vec::with_capacity(alloc, COMMANDS.len())?;
+    for row in &COMMANDS {
+        commands.push(command_of(alloc, row)?)?;
+    }
+    Command::new(alloc, "versions")
         .about(ABOUT)
         .after_help(STATUSES)
         .no_binary_name(true)
@@ -16,11 +20,8 @@ pub fn program<'a>(alloc: Global) -> Result<Command<'a>, AllocError> {
         .disable_help_subcommand(true)
         .subcommand_required(true)
         .arg_required_else_help(true)
-        .bin_name("versions")?;
-    for row in &COMMANDS {
-        program = program.subcommand(command_of(alloc, row)?)?;
-    }
-    Ok(program)
+        .bin_name("versions")?
+        .subcommands(commands)
 }
 
 // Returns a command with its arguments.
@@ -30,12 +31,18 @@ fn command_of<'a>(alloc: Global, row: &CommandRow) -> Result<Command<'a>, AllocE
     if name == "test" {
         command = command.override_usage(USE_OF_TEST);
     }
-    for argument in &ARGUMENTS {
-        if argument.0.contains(&name) {
-            command = command.arg(argument_of(alloc, name, argument)?)?;
+    command.args(arguments_of(alloc, name)?)
+}
+
+// Returns the arguments of a command.
+fn arguments_of<'a>(alloc: Global, command: &str) -> Result<Vec<Arg<'a>>, AllocError> {
+    let mut arguments = Vec::new(alloc);
+    for row in &ARGUMENTS {
+        if row.0.contains(&command) {
+            arguments.push(argument_of(alloc, command, row)?)?;
         }
     }
-    Ok(command)
+    Ok(arguments)
 }
 
 // Returns an argument of a command.

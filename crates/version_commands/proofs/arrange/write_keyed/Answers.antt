@@ -1,11 +1,9 @@
-use Rattle.std.proofs.Common.{◌≡◌, ℕ, List, IfErr, OnOk, sym, subst, ◌∙◌, ap}
+use Rattle.std.proofs.Common.{ℕ, List, IfErr, OnOk, subst, ◌∙◌}
 use Rattle.std.specs.Io.KnownBytes.{Appends}
 use Rattle.version_commands.specs.Arranged.{arranged}
 use Rattle.version_commands.specs.Fault.{GrowsAt}
-use Rattle.version_commands.specs.Ordered.{kept_in}
 use Rattle.version_commands.specs.Place.{group_text}
 use Rattle.version_commands.proofs.lemmas.Ordered.{output-rows}
-use Rattle.version_lines.specs.KeyedLines.{lines_in}
 use Rattle.version_commands.proofs.arrange.write_keyed.Goals as goal
 
 pub returns-clause-written : goal.returns-clause-written

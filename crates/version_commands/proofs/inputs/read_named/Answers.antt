@@ -1,6 +1,9 @@
-use Rattle.std.proofs.Common.{◌<◌, ◌++◌, ◌∷◌, ℕ, List, [], length, map, take, get_or, rules, sym, subst, Bor}
+use Rattle.std.proofs.Common.{◌<◌, ◌++◌, ◌∷◌, ℕ, List, [], length, map, string_bytes, take, get_or, rules, sym, subst, Bor}
 use Rattle.version_commands.specs.Inputs.{AreInputs}
-use Rattle.version_commands.proofs.lemmas.Inputs.{inputs-push, joined-next, names-next}
+use Rattle.version_commands.specs.Fault.{ComesOfReading}
+use Rattle.version_commands.proofs.lemmas.Fault.{reading-cases}
+use Rattle.version_commands.proofs.lemmas.Inputs.{inputs-push, joined-next, name-among, names-next}
+use Rattle.std.proofs.lemmas.Result.{IfErr-weaker}
 use Rattle.version_commands.proofs.inputs.read_named.Goals as goal
 
 pub loop-name-preserved : goal.loop-name-preserved
@@ -21,3 +24,14 @@ loop-name-preserved g c =
           (get_or names i d).now text read is),
       joined-next c.args.end texts text _ _ same added,
     )
+
+pub returns-in_err-add_input-clause-faults : goal.returns-in_err-add_input-clause-faults
+returns-in_err-add_input-clause-faults g c =
+    let names = c.args.names.now in
+    let i = c.loop-name.name-index in
+    let d : Bor (List ℕ) = record { ref_ptr = (0, 0); now = [] } in
+    let inside : i < length names = search rules in
+    let now : Bor (List ℕ) → List ℕ = λ n. n.now in
+    IfErr-weaker c.from_residual.result (ComesOfReading (now (get_or names i d) ∷ [])) _
+    (λ fault. reading-cases (ComesOfReading (map now names)) (now (get_or names i d) ∷ []) tt
+    (λ name. name-among now names i d inside (string_bytes name)) fault) (search rules)

@@ -4,7 +4,7 @@ use Rattle.std.proofs.lemmas.Bool.{cases_Bool, false_from_ne_true}
 use Rattle.std.proofs.lemmas.List.{drop-drop, take_rest}
 use Rattle.std.proofs.lemmas.List.Splits.{slice_split-cons_no, slice_split-cons_yes}
 use Rattle.std.specs.List.{filter, onto_first, prefix_len, slice_split}
-use Rattle.version_commands.specs.Column.{has_bytes, is_blank, words_of}
+use Rattle.version_lines.specs.Column.{has_bytes, is_blank, words_of}
 
 -- ---- between separators
 

@@ -1,6 +1,6 @@
 use Rattle.std.proofs.Common.{◌∙◌, arith, sym}
-use Rattle.version_commands.proofs.column.cut_word.Goals as goal
-use Rattle.version_commands.proofs.lemmas.Column.{words-between, words-none}
+use Rattle.version_lines.proofs.column.cut_word.Goals as goal
+use Rattle.version_lines.proofs.lemmas.Column.{words-between, words-none}
 
 pub returns-then-start-text : goal.returns-then-start-text
 returns-then-start-text c =

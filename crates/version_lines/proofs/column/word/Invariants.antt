@@ -1,7 +1,7 @@
 use Rattle.std.proofs.Common.{◌≡◌, ◌-◌, ◌∷◌}
 use Rattle.std.specs.List.{slice_get}
-use Rattle.version_commands.specs.Column.{words_of}
-use Rattle.version_commands.proofs.column.word.Given as goal
+use Rattle.version_lines.specs.Column.{words_of}
+use Rattle.version_lines.proofs.column.word.Given as goal
 
 -- the word is so many further on
 abbrev pub invariant-loop : goal.invariant-loop

@@ -1,7 +1,7 @@
 use Rattle.std.proofs.Common.{◌≡◌, ◌+◌, ◌-◌, ◌≤◌, drop, length}
 use Rattle.std.specs.List.{prefix_len}
-use Rattle.version_commands.specs.Column.{is_blank_or_not}
-use Rattle.version_commands.proofs.column.run_end.Given as goal
+use Rattle.version_lines.specs.Column.{is_blank_or_not}
+use Rattle.version_lines.proofs.column.run_end.Given as goal
 
 -- all bytes so far are of the run
 abbrev pub invariant-loop-end : goal.invariant-loop-end

@@ -1,5 +1,5 @@
-use Rattle.version_commands.proofs.lemmas.Column.{pieces-cut, pieces-last}
-use Rattle.version_commands.proofs.column.cut_piece.Goals as goal
+use Rattle.version_lines.proofs.lemmas.Column.{pieces-cut, pieces-last}
+use Rattle.version_lines.proofs.column.cut_piece.Goals as goal
 
 pub returns-in-Some : goal.returns-in-Some
 returns-in-Some c =

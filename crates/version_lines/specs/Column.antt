@@ -1,7 +1,7 @@
 -- The columns of a line.
 use Rattle.std.specs.Prelude.{◌==◌, ◌||◌, ℕ, Bool, List, [], ◌∷◌, not, true, false, Option, Some, None}
 use Rattle.std.specs.List.{filter, slice_get, slice_split}
-use Rattle.version_commands.specs.declared.options.Column.{Column}
+use Rattle.version_lines.specs.declared.column.Column.{Column}
 
 -- a space or a tab
 abbrev pub is_blank : ℕ → Bool

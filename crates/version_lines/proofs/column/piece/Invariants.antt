@@ -1,8 +1,8 @@
 use Rattle.std.proofs.Common.{◌≡◌, ◌-◌, [], ◌∷◌}
 use Rattle.std.specs.List.{slice_get}
 use Rattle.std.specs.Option.{option_map_or}
-use Rattle.version_commands.proofs.column.piece.Given as goal
-use Rattle.version_commands.proofs.lemmas.Column.{pieces}
+use Rattle.version_lines.proofs.column.piece.Given as goal
+use Rattle.version_lines.proofs.lemmas.Column.{pieces}
 
 -- the piece is so many further on
 abbrev pub invariant-loop : goal.invariant-loop

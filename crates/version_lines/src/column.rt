@@ -2,10 +2,19 @@
 ghost use Rattle.std.specs.Prelude.{◌≡◌, ◌==◌, ◌≤◌, ◌+◌, [], ◌∷◌, drop, length};
 ghost use Rattle.std.specs.List.{prefix_len, slice_get, slice_split};
 ghost use Rattle.std.specs.Option.{option_map, option_map_or};
-ghost use Rattle.version_commands.specs.Column.{column_of, is_blank_or_not, words_of};
+ghost use Rattle.version_lines.specs.Column.{column_of, is_blank_or_not, words_of};
 
-use crate::options::Column;
 use memchr::memchr;
+
+/// A column of a line.
+#[derive(Clone, Copy, Debug)]
+pub struct Column {
+    /// Its number, counted from 0.
+    pub number: usize,
+    /// The byte between two columns. Without one, runs of spaces and tabs are between them, and those at the line's
+    /// beginning are left out.
+    pub separator: Option<u8>,
+}
 
 impl Column {
     /// Returns the text of the column in a line, or None if the line has fewer columns. Does not allocate.

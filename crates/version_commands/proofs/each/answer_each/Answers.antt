@@ -1,0 +1,33 @@
+use Rattle.std.proofs.Common.{◌≡◌, ◌<◌, ℕ, List, Bor, length, map, rules}
+use Rattle.std.proofs.lemmas.List.{nil_from_length}
+use Rattle.std.proofs.lemmas.Result.{IfErr-weaker}
+use Rattle.version_commands.specs.Cause.{ComesOfAnswering}
+use Rattle.version_commands.specs.Each.{AreLineTexts}
+use Rattle.version_commands.proofs.lemmas.Each.{asking-answering, line-texts, word-texts}
+use Rattle.version_commands.proofs.each.answer_each.Goals as goal
+
+pub returns-in_err-add_answers-clause-faults : goal.returns-in_err-add_answers-clause-faults
+returns-in_err-add_answers-clause-faults g c =
+    let question = c.args.question in
+    let options = c.args.options.now in
+    let old = g.R.Read.remaining c.args.reader.now in
+    let texts = map (λ (text : Bor (List ℕ)). text.now) c.as_slice-then-not-is_empty.result.now in
+    let words = c.as_slice.result.now in
+    let some : 0 < length words = search rules in
+    let same : texts ≡ map (λ (text : Bor (List ℕ)). text.now) words = search rules in
+    let are = word-texts options old words texts c.as_slice.ensures.value some same in
+    IfErr-weaker c.from_residual-in_err-add_answers.result (ComesOfAnswering question options.end texts) _
+    (asking-answering question options old old texts are) (search rules)
+
+pub returns-in_err-add_answers-2-clause-faults : goal.returns-in_err-add_answers-2-clause-faults
+returns-in_err-add_answers-2-clause-faults g c =
+    let question = c.args.question in
+    let options = c.args.options.now in
+    let old = g.R.Read.remaining c.args.reader.now in
+    let new = g.R.Read.remaining c.read_standard.new.reader in
+    let texts = map (λ (text : Bor (List ℕ)). text.now) c.as_slice-3.result.now in
+    let none : length options.versions.items ≡ 0 = search (rules, c.if-not-is_empty.ensures) in
+    let read : AreLineTexts options old new texts = search rules in
+    let are = line-texts options old new texts (nil_from_length _ none) read in
+    IfErr-weaker c.from_residual-in_err-add_answers-2.result (ComesOfAnswering question options.end texts)
+    _ (asking-answering question options old new texts are) (search rules)
