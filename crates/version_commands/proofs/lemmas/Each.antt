@@ -1,7 +1,7 @@
 -- Answers that follow one another, and the texts that are asked.
 use Rattle.std.proofs.Common.{◌≡◌, ◌+◌, ◌<◌, ◌≤◌, ℕ, Bool, true, false, Bor, List, [], ◌∷◌, ◌++◌, length, take, drop, get_or, map, Option, None, Some, IsSome, refl, sym, subst, ap, ◌∙◌, arith, append-nil, append_assoc}
 use Rattle.std.specs.List.{All}
-use Rattle.std.proofs.lemmas.List.{map-append, map_push, take_more, take-append-drop}
+use Rattle.std.proofs.lemmas.List.{map-append, map_push, take-append-drop}
 use Rattle.std.proofs.lemmas.List.Elements.{All-push}
 use Rattle.version_commands.specs.Cause.{ComesOfAnswering, ComesOfAsking, HasNoNext, IsFirstWithoutNext}
 use Rattle.version_commands.specs.Each.{AreAnswered, AreLineTexts, AreTexts, AreTextsOf, IsAnswer}
@@ -18,6 +18,7 @@ use Rattle.version_lines.specs.Lines.{lines_of}
 use Rattle.version_lines.specs.Sort.{is_bad}
 use Rattle.version_rules.proofs.lemmas.Versioning.{versioning_of-spells, versioning_printed}
 use Rattle.version_rules.specs.Versioning.{PlainVersioning, versioning_of, versioning_text}
+use Rattle.version_commands.proofs.lemmas.Pieces.{texts-next}
 use Rattle.version_commands.proofs.lemmas.Picked.{IsPicked, all-kept, picked-bad, picked-end, picked-kept, picked-start}
 
 -- one more answer after the others
@@ -37,13 +38,6 @@ answered-push question end (t ∷ texts) text v answers answer
       answered-push question end texts text v rest answer more some is,
       ap (λ (a : List ℕ). a ++ answer) whole ∙ append_assoc first rest answer,
     )
-
--- the texts up to the next
-pub texts-next : {X : Type 0} (f : X → List ℕ) (texts : List X) (i : ℕ) (d : X)
-    → i < length texts
-    → map f (take (i + 1) texts) ≡ map f (take i texts) ++ f (get_or texts i d) ∷ []
-texts-next f texts i d inside =
-    ap (map f) (take_more texts i d inside) ∙ map-append f (take i texts) (get_or texts i d ∷ [])
 
 -- the next text is answered
 pub answers-next : (question : Question) (end : ℕ) (old between new : List ℕ)

@@ -1,10 +1,9 @@
 -- Inputs that were read in turn.
-use Rattle.std.proofs.Common.{◌≡◌, ◌==◌, ◌<◌, ◌-◌, ◌+◌, ℕ, zero, suc, true, List, [], ◌∷◌, ◌++◌, length, take, get_or, map, Option, refl, sym, subst, ap, ◌∙◌, arith, append-nil, add-one}
+use Rattle.std.proofs.Common.{◌≡◌, ◌==◌, ◌<◌, ◌-◌, ℕ, zero, suc, true, List, [], ◌∷◌, ◌++◌, length, get_or, map, Option, refl, sym, subst, ap, ◌∙◌, arith, append-nil}
 use Rattle.std.specs.List.{slice_get, Contains}
 use Rattle.std.specs.Option.{option_map_or}
-use Rattle.std.proofs.Math.Seq.{take-suc}
 use Rattle.std.proofs.lemmas.Grind.{flat_map-append}
-use Rattle.std.proofs.lemmas.List.{get_or-map, length-map, map-append}
+use Rattle.std.proofs.lemmas.List.{get_or-map, length-map}
 use Rattle.version_commands.specs.Inputs.{ended, ends_line, joined, AreInputs, IsInput}
 
 -- one more input was read after the others
@@ -19,16 +18,7 @@ inputs-push holds old now new (n ∷ names) [] name text none read = absurd none
 inputs-push holds old now new (n ∷ names) (t ∷ texts) name text (between, here, more) read =
     (between, here, inputs-push holds between now new names texts name text more read)
 
--- the names up to the next
-pub names-next : {X : Type 0} (f : X → List ℕ) (names : List X) (i : ℕ) (d : X)
-    → i < length names
-    → map f (take (i + 1) names) ≡ map f (take i names) ++ f (get_or names i d) ∷ []
-names-next f names i d inside =
-    rw (add-one i)
-    (ap (map f) (take-suc names i d inside)
-    ∙ map-append f (take i names) (get_or names i d ∷ []))
-
--- and their texts as one
+-- the texts of one more input, as one
 pub joined-next : (end : ℕ) (texts : List (List ℕ)) (text input longer : List ℕ)
     → input ≡ joined end texts → longer ≡ input ++ ended end text
     → longer ≡ joined end (texts ++ text ∷ [])

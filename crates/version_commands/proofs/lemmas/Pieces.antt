@@ -1,6 +1,6 @@
 -- Texts that are added to others, one after another.
-use Rattle.std.proofs.Common.{◌≡◌, ◌+◌, ◌<◌, ◌∙◌, ap, ℕ, Bor, List, [], ◌++◌, append_assoc, append-nil, get_or, length, sym, take}
-use Rattle.std.proofs.lemmas.List.{flat_map_more, take_more}
+use Rattle.std.proofs.Common.{◌≡◌, ◌+◌, ◌<◌, ◌∙◌, ap, ℕ, Bor, List, [], ◌∷◌, ◌++◌, append_assoc, append-nil, get_or, length, map, sym, take}
+use Rattle.std.proofs.lemmas.List.{flat_map_more, map-append, take_more}
 use Rattle.std.specs.List.{flat_map}
 
 -- a text added to a list, and then more
@@ -27,3 +27,11 @@ one_more old {between} {new} pieces place d within so_far is =
     ∙ flat_map_more (λ (piece : Bor (List ℕ)). piece.now) old (take place pieces) (get_or pieces place d)
     ∙ ap (λ (some : List (Bor (List ℕ))). old ++ flat_map (λ piece. piece.now) some)
     (sym (take_more pieces place d within))
+
+-- the texts of what comes before a place, and the one there
+pub texts-next : {X : Type 0} (text_of : X → List ℕ) (xs : List X) (i : ℕ) (d : X)
+    → i < length xs
+    → map text_of (take (i + 1) xs) ≡ map text_of (take i xs) ++ text_of (get_or xs i d) ∷ []
+texts-next text_of xs i d inside =
+    ap (map text_of) (take_more xs i d inside)
+    ∙ map-append text_of (take i xs) (get_or xs i d ∷ [])

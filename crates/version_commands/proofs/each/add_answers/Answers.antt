@@ -1,4 +1,4 @@
-use Rattle.std.proofs.Common.{◌≡◌, [], true, false, Some, rules, refl, sym, ap, ◌∙◌, append-nil}
+use Rattle.std.proofs.Common.{◌≡◌, [], true, Some, rules, refl, sym, ap, ◌∙◌, append-nil}
 use Rattle.std.specs.Option.{option_map}
 use Rattle.version_texts.specs.VersioningRef.{plain_versioning_ref}
 use Rattle.version_commands.proofs.lemmas.Each.{answers-next, first-without-next}
@@ -20,10 +20,9 @@ loop-text-preserved c =
 pub returns-then-not-branch-clause-faults : goal.returns-then-not-branch-clause-faults
 returns-then-not-branch-clause-faults c =
     let version : c.from_bytes.result ≡ Some c.unwrap-version.result = search rules in
-    let not_found : c.in_ok-add_answer.field-0 ≡ false = search rules in
     first-without-next c.args.question c.args.end c.args.output.now.items c.loop-text.output.items
     c.add_answer.new.output.items c.args.texts.now c.loop-text.text-index _
     (plain_versioning_ref c.unwrap-version.result) c.in_ok-add_answer.field-0 _
     c.loop-text-test.true c.loop-text.invariant
-    (sym c.from_bytes.ensures ∙ ap (option_map plain_versioning_ref) version) not_found
+    (sym c.from_bytes.ensures ∙ ap (option_map plain_versioning_ref) version) c.if-not-branch.true
     c.in_ok-add_answer.ensures (c.in_ok-from_str.ensures.ok ∙ c.text.ensures.printed)

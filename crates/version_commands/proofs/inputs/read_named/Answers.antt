@@ -2,7 +2,8 @@ use Rattle.std.proofs.Common.{◌<◌, ◌++◌, ◌∷◌, ℕ, List, [], lengt
 use Rattle.version_commands.specs.Inputs.{AreInputs}
 use Rattle.version_commands.specs.Fault.{ComesOfReading}
 use Rattle.version_commands.proofs.lemmas.Fault.{reading-cases}
-use Rattle.version_commands.proofs.lemmas.Inputs.{inputs-push, joined-next, name-among, names-next}
+use Rattle.version_commands.proofs.lemmas.Inputs.{inputs-push, joined-next, name-among}
+use Rattle.version_commands.proofs.lemmas.Pieces.{texts-next}
 use Rattle.std.proofs.lemmas.Result.{IfErr-weaker}
 use Rattle.version_commands.proofs.inputs.read_named.Goals as goal
 
@@ -17,7 +18,7 @@ loop-name-preserved g c =
     let holds = g.F.Files.holds c.args.files.now in
     let old = g.R.Read.remaining c.args.reader.now in
     let new = g.R.Read.remaining c.add_input.new.reader in
-    let next = names-next (λ (n : Bor (List ℕ)). n.now) names i d inside in (
+    let next = texts-next (λ (n : Bor (List ℕ)). n.now) names i d inside in (
       texts ++ text ∷ [],
       subst (λ (n : List (List ℕ)). AreInputs holds old new n (texts ++ text ∷ [])) (sym next)
           (inputs-push holds old _ new (map (λ (n : Bor (List ℕ)). n.now) (take i names)) texts
