@@ -36,7 +36,7 @@ ComesOfArranging arrangement options holds old (fault.NotRequirement text) =
 ComesOfArranging arrangement options holds old (fault.BadLine number text ends more) =
     (new : Option (List ℕ)) × (texts : List (List ℕ))
     × AreInputs holds old new (names_read (map (λ name. name.now) options.files.items)) texts
-    × ComesOfLines (policy options) (text_of options.place)
+    × ComesOfLines (policy options) options.place.crlf (text_of options.place)
     (lines_of options.end (joined options.end texts)) (fault.BadLine number text ends more)
 ComesOfArranging arrangement options holds old (fault.Read name) =
     Contains (names_read (map (λ name. name.now) options.files.items)) (string_bytes name)
@@ -80,7 +80,7 @@ ComesOfAsking question options old (fault.NotVersion text) =
     first_wrong (map (λ word. word.now) options.versions.items) ≡ Some (string_bytes text)
 ComesOfAsking question options old (fault.BadLine number text ends more) =
     (new : Option (List ℕ)) × (input : List ℕ) × Consumes old new input × IsAtEnd new
-    × ComesOfLines Fail (line_text options.crlf) (lines_of options.end input)
+    × ComesOfLines Fail options.crlf (line_text options.crlf) (lines_of options.end input)
     (fault.BadLine number text ends more)
 ComesOfAsking question options old (fault.Read name) = string_bytes name ≡ codes "-"
 ComesOfAsking question options old (fault.NoNext text) =
@@ -92,7 +92,7 @@ ComesOfAsking question options old other = ComesOfList question other
 abbrev pub ComesOfInput : Lists → (List ℕ → Option (List ℕ)) → List ℕ → Fault → Type 0
 ComesOfInput lists holds name bad =
     (old new : Option (List ℕ)) × (input : List ℕ) × IsInput holds old new name input
-    × ComesOfLines lists.invalid (text_of lists.place)
+    × ComesOfLines lists.invalid lists.place.crlf (text_of lists.place)
     (lines_of lists.end (joined lists.end (input ∷ []))) bad
 
 -- the faults of `diff --lists`: of a file, or of the lines of a list that have no version

@@ -1,5 +1,5 @@
 -- The faults of a run.
-use Rattle.std.specs.Prelude.{◌≡◌, ◌⊎◌, ◌+◌, ◌-◌, ◌^◌, min, ⊤, ℕ, List, [], ◌∷◌, Option, None, Some, Bool, false, Result, Ok, Err, length, string_bytes}
+use Rattle.std.specs.Prelude.{◌≡◌, ◌⊎◌, ◌+◌, ◌-◌, ◌^◌, min, ⊤, ℕ, List, [], ◌∷◌, Option, None, Some, Bool, false, Result, Ok, Err, map, string_bytes}
 use Rattle.std.specs.Io.KnownBytes.{Keeps}
 use Rattle.std.specs.List.{Contains}
 use Rattle.std.specs.Option.{option_or}
@@ -8,6 +8,7 @@ use Rattle.version_commands.specs.declared.options.Invalid.TheVariants as invali
 use Rattle.version_commands.specs.declared.pick.BadLines.{BadLines}
 use Rattle.version_commands.specs.declared.test.WrongWord.{WrongWord}
 use Rattle.version_commands.specs.declared.test.WrongWord.TheVariants as wrong
+use Rattle.version_commands.specs.Bad.{Reports}
 use Rattle.version_commands.specs.Picked.{bad_lines, good_before}
 use Rattle.version_lines.specs.Output.{AppendsProperBeginning}
 use Rattle.version_lines.specs.Run.{unless_version}
@@ -39,26 +40,28 @@ ComesOfReading names Memory = ⊤
 ComesOfReading names (Read name) = Contains names (string_bytes name)
 ComesOfReading names fault = ⊥
 
--- the faults that lines without a version can end in: the first of them, by its number, and how many
--- more there are
-abbrev pub ComesOfBad : Invalid → BadLines → Fault → Type 0
-ComesOfBad policy bad Memory = ⊤
-ComesOfBad policy bad (BadLine number text ends more) =
-    (policy ≡ invalid.Fail) × (number ≡ min (bad.before + 1) (2 ^ 64 - 1)) × (more + 1 ≡ length bad.lines.items)
-ComesOfBad policy bad fault = ⊥
+-- the faults that lines without a version can end in, before the first of which come so many with one
+abbrev pub ComesOfBadAfter : Invalid → Bool → ℕ → List (List ℕ) → Fault → Type 0
+ComesOfBadAfter policy crlf before bad Memory = ⊤
+ComesOfBadAfter policy crlf before bad (BadLine number text ends more) =
+    (policy ≡ invalid.Fail) × (number ≡ min (before + 1) (2 ^ 64 - 1))
+    × Reports crlf bad (string_bytes text) ends more
+ComesOfBadAfter policy crlf before bad fault = ⊥
 
--- the same, by the lines themselves
-abbrev pub ComesOfLines : Invalid → (List ℕ → List ℕ) → List (List ℕ) → Fault → Type 0
-ComesOfLines policy text_of lines Memory = ⊤
-ComesOfLines policy text_of lines (BadLine number text ends more) =
-    (policy ≡ invalid.Fail) × (number ≡ min (good_before text_of lines + 1) (2 ^ 64 - 1))
-    × (more + 1 ≡ length (bad_lines text_of lines))
-ComesOfLines policy text_of lines fault = ⊥
+-- those of the lines without a version that were found
+abbrev pub ComesOfBad : Invalid → Bool → BadLines → Fault → Type 0
+ComesOfBad policy crlf bad =
+    ComesOfBadAfter policy crlf bad.before (map (λ line. line.now) bad.lines.items)
+
+-- those of some lines
+abbrev pub ComesOfLines : Invalid → Bool → (List ℕ → List ℕ) → List (List ℕ) → Fault → Type 0
+ComesOfLines policy crlf text_of lines =
+    ComesOfBadAfter policy crlf (good_before text_of lines) (bad_lines text_of lines)
 
 -- the faults that lines can end in which are arranged and written
-abbrev pub ComesOfArranged : Invalid → (List ℕ → List ℕ) → List (List ℕ) → Fault → Type 0
-ComesOfArranged policy text_of lines (Write name) = ⊤
-ComesOfArranged policy text_of lines fault = ComesOfLines policy text_of lines fault
+abbrev pub ComesOfArranged : Invalid → Bool → (List ℕ → List ℕ) → List (List ℕ) → Fault → Type 0
+ComesOfArranged policy crlf text_of lines (Write name) = ⊤
+ComesOfArranged policy crlf text_of lines fault = ComesOfLines policy crlf text_of lines fault
 
 -- the faults that writing can end in
 abbrev pub ComesOfWriting : Fault → Type 0

@@ -1,4 +1,5 @@
 pub mod Arranged
+pub mod Bad
 pub mod Cause
 pub mod Choice
 pub mod Compare

@@ -1,10 +1,12 @@
 -- What single words of a run name.
-use Rattle.std.specs.Prelude.{ℕ, Bool, true, false, List, [], ◌∷◌, Option, None, Some, codes, unwrap_or, ◌||◌, if◌then◌else◌}
+use Rattle.std.specs.Prelude.{ℕ, Bool, true, false, List, [], ◌∷◌, Option, None, Some, codes, nat_lt, unwrap_or, ◌||◌, ◌&&◌, ◌^◌, if◌then◌else◌}
 use Rattle.std.specs.Str.{bytes_eq}
+use Rattle.std.specs.Str.Parse.{digits_value}
 use Rattle.version_commands.specs.declared.options.Invalid.{Invalid}
 use Rattle.version_commands.specs.declared.options.Operator.{Operator}
 use Rattle.version_commands.specs.declared.options.Invalid.TheVariants as invalid
 use Rattle.version_commands.specs.declared.options.Operator.TheVariants as operator
+use Rattle.version_rules.specs.DigitRun.{is_digits}
 use Rattle.version_tasks.specs.declared.stability.Stability.{Stability}
 use Rattle.version_tasks.specs.declared.stability.Stability.TheVariants as stability
 
@@ -49,9 +51,15 @@ separator_named word =
     if bytes_eq word (codes "\\t") then Some 9
     else (if bytes_eq word (codes "\\0") then Some 0 else None)
 
--- the place of a number that a name stands for in `next`
-abbrev pub name_place : List ℕ → Option ℕ
-name_place word =
+-- the number that a word is, if it is all digits and fits
+abbrev pub number_named : List ℕ → Option ℕ
+number_named word =
+    if is_digits word && nat_lt (digits_value 10 word) (2 ^ 64)
+    then Some (digits_value 10 word) else None
+
+-- the place of a number that a word of `next` names, counted from 0
+abbrev pub place_named : List ℕ → Option ℕ
+place_named word =
     if bytes_eq word (codes "major") then Some 0
     else (if bytes_eq word (codes "minor") then Some 1
-    else (if bytes_eq word (codes "patch") then Some 2 else None))
+    else (if bytes_eq word (codes "patch") then Some 2 else number_named word))

@@ -90,8 +90,8 @@ fn write_arranged<F: Files, W: Write>(
     ensures at_fault { IfErr result (GrowsAt (W.contents writer.old) (W.contents writer.new)
         (ordered_output (text_of options.now.place) (is_kept chooser.now) arrangement.entry
         options.now input.now)) }
-    ensures faults { IfErr result (ComesOfArranged (policy options.now) (text_of options.now.place)
-        (lines_of options.now.end input.now)) }
+    ensures faults { IfErr result (ComesOfArranged (policy options.now) options.now.place.crlf
+        (text_of options.now.place) (lines_of options.now.end input.now)) }
 {
     if let Arrangement::Filter { .. } = arrangement {
         return write_kept(alloc, options, chooser, input, files, writer);
@@ -142,8 +142,8 @@ fn write_keyed<B: SortBy + Copy, C: Chooses, F: Files, W: Write>(
     ensures good { OnOk result (IsGood (B.text_of by) options.now input.now) }
     ensures at_fault { IfErr result (GrowsAt (W.contents writer.old) (W.contents writer.new)
         (ordered_output (B.text_of by) (C.keeps chooser.now) arrangement.entry options.now input.now)) }
-    ensures faults { IfErr result (ComesOfArranged (policy options.now) (B.text_of by)
-        (lines_of options.now.end input.now)) }
+    ensures faults { IfErr result (ComesOfArranged (policy options.now) options.now.place.crlf
+        (B.text_of by) (lines_of options.now.end input.now)) }
 {
     let (mut kept, bad) = read_keyed(alloc, by, chooser, options.end, input)?;
     refuse_bad(alloc, options, &bad)?;
@@ -208,8 +208,8 @@ fn write_kept<F: Files, W: Write>(
     ensures at_fault { IfErr result (GrowsAt (W.contents writer.old) (W.contents writer.new)
         (output_with (text_of options.now.place) options.now input.now
         (kept_in (text_of options.now.place) (is_kept chooser.now) options.now input.now))) }
-    ensures faults { IfErr result (ComesOfArranged (policy options.now) (text_of options.now.place)
-        (lines_of options.now.end input.now)) }
+    ensures faults { IfErr result (ComesOfArranged (policy options.now) options.now.place.crlf
+        (text_of options.now.place) (lines_of options.now.end input.now)) }
 {
     let by = ByVersion {
         place: options.place,

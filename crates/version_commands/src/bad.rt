@@ -1,9 +1,11 @@
 //! The fault of lines that have no version.
-ghost use Rattle.std.specs.Prelude.{◌≡◌, ◌+◌, [], length, IfErr, OnOk};
+ghost use Rattle.std.specs.Prelude.{◌≡◌, ◌++◌, [], string_bytes, IfErr, IfOk, OnOk};
 ghost use Rattle.version_commands.specs.Arranged.{policy};
+ghost use Rattle.version_commands.specs.Bad.{ends_in_return, shown, shown_character, text_in_front};
 ghost use Rattle.version_commands.specs.Fault.{ComesOfBad};
 
 use crate::faults::Fault;
+use crate::inputs::ends_line;
 use crate::options::{Invalid, LineOptions};
 use crate::pick::BadLines;
 use std::alloc::{AllocError, Global};
@@ -14,7 +16,7 @@ const SHOWN: usize = 60;
 /// Fails with the first line that has no version, if there is one and the options ask for that.
 pub fn refuse_bad(alloc: Global, options: &LineOptions<'_>, bad: &BadLines<'_>) -> Result<(), Fault>
     ensures none { OnOk result (policy options.now ≡ Invalid.Fail → bad.now.lines.items ≡ []) }
-    ensures faults { IfErr result (ComesOfBad (policy options.now) bad.now) }
+    ensures faults { IfErr result (ComesOfBad (policy options.now) options.now.place.crlf bad.now) }
 {
     refuse_if(alloc, policy(options), options.place.crlf, bad)
 }
@@ -27,7 +29,7 @@ pub fn refuse_if(
     bad: &BadLines<'_>,
 ) -> Result<(), Fault>
     ensures none { OnOk result (invalid ≡ Invalid.Fail → bad.now.lines.items ≡ []) }
-    ensures faults { IfErr result (ComesOfBad invalid bad.now) }
+    ensures faults { IfErr result (ComesOfBad invalid crlf bad.now) }
 {
     match invalid {
         Invalid::Fail => refuse_first(alloc, crlf, bad),
@@ -48,40 +50,56 @@ pub fn policy(options: &LineOptions<'_>) -> Invalid
 /// Fails with the first line that has no version, if there is one.
 pub fn refuse_first(alloc: Global, crlf: bool, bad: &BadLines<'_>) -> Result<(), Fault>
     ensures none { OnOk result (bad.now.lines.items ≡ []) }
-    ensures faults { IfErr result (ComesOfBad Invalid.Fail bad.now) }
+    ensures faults { IfErr result (ComesOfBad Invalid.Fail crlf bad.now) }
 {
     match bad.lines.as_slice() {
         [] => Ok(()),
         [first, others @ ..] => Err(Fault::BadLine {
             number: bad.before.saturating_add(1),
-            text: printable(alloc, first)?,
+            text: shown(alloc, first)?,
             ends_in_return: !crlf && ends_in_return(first),
             more: others.len(),
         }),
     }
 }
 
-// Whether the last byte of a line is a carriage return.
-fn ends_in_return(line: &[u8]) -> bool {
-    matches!(line, [.., b'\r'])
+// Whether a line ends in a carriage return.
+fn ends_in_return(line: &[u8]) -> bool
+    ensures { result ≡ ends_in_return line.now }
+{
+    !line.is_empty() && ends_line(b'\r', line)
 }
 
-/// Returns the beginning of a line as it can be printed: as much as is UTF-8 and fits, with control characters escaped.
-pub fn printable(alloc: Global, line: &[u8]) -> Result<String, AllocError> {
-    let cut = &line[..line.len().min(SHOWN)];
-    let text = match std::str::from_utf8(cut) {
-        Ok(text) => text,
-        Err(error) => std::str::from_utf8(&cut[..error.valid_up_to().min(cut.len())]).unwrap_or(""),
-    };
-    let mut printed = String::new(alloc);
-    for character in text.chars() {
-        if character.is_control() {
-            for escaped in character.escape_default() {
-                printed.push(escaped)?;
-            }
-        } else {
-            printed.push(character)?;
-        }
+// Returns a line as a message shows it: as much of its beginning as is UTF-8, with control characters escaped.
+fn shown(alloc: Global, line: &[u8]) -> Result<String, AllocError>
+    ensures { IfOk result (λ text. string_bytes text ≡ shown line.now) }
+{
+    let mut shown = String::new(alloc);
+    for character in text_in_front(&line[..SHOWN.min(line.len())]).chars() {
+        add_shown(&mut shown, character)?;
     }
-    Ok(printed)
+    Ok(shown)
+}
+
+// Returns as much of the front of some bytes as is UTF-8.
+fn text_in_front(bytes: &[u8]) -> &str
+    ensures { result.now ≡ text_in_front bytes.now }
+{
+    match bytes.utf8_chunks().next() {
+        Some(chunk) => chunk.valid(),
+        None => "",
+    }
+}
+
+// Adds a character as a message shows it.
+fn add_shown(text: &mut String, character: char) -> Result<(), AllocError>
+    ensures { OnOk result (string_bytes text.new ≡ string_bytes text.old ++ shown_character character) }
+{
+    if !character.is_control() {
+        return text.push(character);
+    }
+    for escaped in character.escape_default() {
+        text.push(escaped)?;
+    }
+    Ok(())
 }

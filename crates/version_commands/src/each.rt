@@ -94,7 +94,8 @@ fn texts_of_lines<'a>(
     ensures versions { IfOk result (λ texts.
         All (λ text. IsSome (versioning_of text.now)) texts.items) }
     ensures faults { IfErr result
-        (ComesOfLines Fail (line_text options.now.crlf) (lines_of options.now.end input.now)) }
+        (ComesOfLines Fail options.now.crlf (line_text options.now.crlf)
+        (lines_of options.now.end input.now)) }
 {
     let mut texts = Vec::new(alloc);
     let mut bad = BadLines::new(alloc);

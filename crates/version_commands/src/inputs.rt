@@ -106,8 +106,8 @@ fn add_text<F: Files, R: Read>(
     }
 }
 
-// Whether some bytes end where a line ends: they are none, or the last of them ends a line.
-fn ends_line(end: u8, bytes: &[u8]) -> bool
+/// Whether some bytes end where a line ends: they are none, or the last of them ends a line.
+pub fn ends_line(end: u8, bytes: &[u8]) -> bool
     ensures { result ≡ ends_line end bytes.now }
 {
     match bytes.last() {

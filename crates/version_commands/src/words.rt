@@ -1,8 +1,7 @@
 //! Reads the words of a run.
-ghost use Rattle.std.specs.Prelude.{◌≡◌, false, IfErr, IfOk};
-ghost use Rattle.version_rules.specs.DigitRun.{is_digits};
+ghost use Rattle.std.specs.Prelude.{◌≡◌, IfErr, IfOk};
 ghost use Rattle.version_commands.specs.Fault.{ComesOfWrongWords};
-ghost use Rattle.version_commands.specs.Words.{invalid_asked, invalid_named, operator_named, separator_named, stability_named, name_place};
+ghost use Rattle.version_commands.specs.Words.{invalid_asked, invalid_named, number_named, operator_named, place_named, separator_named, stability_named};
 
 mod grammar;
 mod near;
@@ -351,14 +350,24 @@ fn separator_named(word: &str) -> Option<u8>
 
 // Returns the place of a number that a word of `next` names, counted from 0: by its name, or by digits.
 fn place_named(word: &str) -> Option<usize>
-    ensures { is_digits word.now ≡ false → result ≡ name_place word.now }
+    ensures { result ≡ place_named word.now }
 {
     match word {
         "major" => Some(0),
         "minor" => Some(1),
         "patch" => Some(2),
-        _ if is_digits(word.as_bytes()) => word.parse::<usize>().ok(),
-        _ => None,
+        _ => number_named(word),
+    }
+}
+
+// Returns the number that a word is, if it is all digits and fits.
+fn number_named(word: &str) -> Option<usize>
+    ensures { result ≡ number_named word.now }
+{
+    if is_digits(word.as_bytes()) {
+        word.parse::<usize>().ok()
+    } else {
+        None
     }
 }
 

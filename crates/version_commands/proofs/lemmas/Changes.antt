@@ -8,11 +8,11 @@ use Rattle.version_commands.specs.Output.{bad_lines_of, AreChanges}
 use Rattle.version_commands.specs.Picked.{bad_lines, AreBadOf}
 use Rattle.version_commands.specs.Place.{text_of}
 use Rattle.version_commands.specs.declared.faults.Fault.{Fault}
-use Rattle.version_commands.specs.declared.faults.Fault.TheVariants.{Usage, NotVersion, NotRequirement, NotTested, BadLine, NoNext, Untrue, Memory, Read, Write}
+use Rattle.version_commands.specs.declared.faults.Fault.TheVariants.{BadLine}
 use Rattle.version_commands.specs.declared.options.Invalid.TheVariants.{Fail}
 use Rattle.version_commands.specs.declared.options.Lists.{Lists}
 use Rattle.version_commands.specs.declared.pick.BadLines.{BadLines}
-use Rattle.version_commands.proofs.lemmas.Fault.{lines-bad}
+use Rattle.version_commands.proofs.lemmas.Fault.{bad-cases, lines-bad}
 use Rattle.version_lines.specs.Lines.{lines_of}
 
 -- a list is one input
@@ -48,14 +48,17 @@ pub input-bad : (lists : Lists) (holds : List ℕ → Option (List ℕ)) (old ne
     (name text input : List ℕ) (bad : BadLines) → IsInput holds old new name text
     → input ≡ joined lists.end (text ∷ [])
     → AreBadOf (text_of lists.place) (lines_of lists.end input) bad
-    → (fault : Fault) → ComesOfBad lists.invalid bad fault → ComesOfInput lists holds name fault
+    → (fault : Fault) → ComesOfBad lists.invalid lists.place.crlf bad fault
+    → ComesOfInput lists holds name fault
 input-bad lists holds old new name text input bad read whole are fault is = (
   old,
   new,
   text,
   read,
-  subst (λ (i : List ℕ). ComesOfLines lists.invalid (text_of lists.place) (lines_of lists.end i) fault)
-      whole (lines-bad lists.invalid (text_of lists.place) (lines_of lists.end input) bad are fault is),
+  subst (λ (i : List ℕ). ComesOfLines lists.invalid lists.place.crlf (text_of lists.place)
+      (lines_of lists.end i) fault)
+      whole (lines-bad lists.invalid lists.place.crlf (text_of lists.place)
+      (lines_of lists.end input) bad are fault is),
 )
 
 -- where none is left, each line of the list has a version
@@ -67,18 +70,14 @@ input-good lists text input bad whole (same, before) none =
     ap (λ (i : List ℕ). bad_lines (text_of lists.place) (lines_of lists.end i)) (sym whole)
     ∙ sym same ∙ ap (map (λ (line : Bor (List ℕ)). line.now)) none
 
--- so they are the faults of the two
-pub changes-bad : (lists : Lists) (holds : List ℕ → Option (List ℕ)) (bad : BadLines) (fault : Fault)
-    → ComesOfBad lists.invalid bad fault
-    → ComesOfInput lists holds lists.old.now fault ⊎ ComesOfInput lists holds lists.new.now fault
+-- so the faults of the lines without a version of a list are those of the two, if they are so for what
+-- is reported of them
+pub changes-bad : (lists : Lists) (holds : List ℕ → Option (List ℕ)) (bad : BadLines)
+    → ((fault : Fault) → ComesOfBad lists.invalid lists.place.crlf bad fault
+    → ComesOfInput lists holds lists.old.now fault ⊎ ComesOfInput lists holds lists.new.now fault)
+    → (fault : Fault) → ComesOfBad lists.invalid lists.place.crlf bad fault
     → ComesOfChanges lists holds fault
-changes-bad lists holds bad (Usage text) is where_it_is = is
-changes-bad lists holds bad (NotVersion text) is where_it_is = is
-changes-bad lists holds bad (NotRequirement text) is where_it_is = is
-changes-bad lists holds bad (NotTested text) is where_it_is = is
-changes-bad lists holds bad (BadLine number text ends more) is where_it_is = where_it_is
-changes-bad lists holds bad (NoNext text) is where_it_is = is
-changes-bad lists holds bad Untrue is where_it_is = is
-changes-bad lists holds bad Memory is where_it_is = is
-changes-bad lists holds bad (Read name) is where_it_is = absurd is
-changes-bad lists holds bad (Write name) is where_it_is = is
+changes-bad lists holds bad of_either =
+    bad-cases (ComesOfChanges lists holds) lists.invalid lists.place.crlf bad.before
+    (map (λ (line : Bor (List ℕ)). line.now) bad.lines.items) tt
+    (λ number text ends more is. of_either (BadLine number text ends more) is)

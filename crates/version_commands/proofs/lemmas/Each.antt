@@ -1,16 +1,19 @@
 -- Answers that follow one another, and the texts that are asked.
 use Rattle.std.proofs.Common.{◌≡◌, ◌+◌, ◌<◌, ◌≤◌, ℕ, Bool, true, false, Bor, List, [], ◌∷◌, ◌++◌, length, take, drop, get_or, map, Option, None, Some, IsSome, refl, sym, subst, ap, ◌∙◌, arith, append-nil, append_assoc}
+use Rattle.std.specs.Io.KnownBytes.{Consumes, IsAtEnd}
 use Rattle.std.specs.List.{All}
 use Rattle.std.proofs.lemmas.List.{map-append, map_push, take-append-drop}
 use Rattle.std.proofs.lemmas.List.Elements.{All-push}
 use Rattle.version_commands.specs.Cause.{ComesOfAnswering, ComesOfAsking, HasNoNext, IsFirstWithoutNext}
 use Rattle.version_commands.specs.Each.{AreAnswered, AreLineTexts, AreTexts, AreTextsOf, IsAnswer}
-use Rattle.version_commands.specs.Picked.{AreBadOf}
+use Rattle.version_commands.specs.Fault.{ComesOfBad, ComesOfLines}
+use Rattle.version_commands.specs.Picked.{bad_lines, good_before, AreBadOf}
 use Rattle.version_commands.specs.Pieces.{Adds}
 use Rattle.version_commands.specs.Place.{line_text}
 use Rattle.version_commands.specs.declared.faults.Fault.{Fault}
 use Rattle.version_commands.specs.declared.faults.Fault.TheVariants.{Usage, NotVersion, NotRequirement, NotTested, BadLine, NoNext, Untrue, Memory, Read, Write}
 use Rattle.version_commands.specs.declared.options.EachOptions.{EachOptions}
+use Rattle.version_commands.specs.declared.options.Invalid.TheVariants.{Fail}
 use Rattle.version_commands.specs.declared.options.Question.{Question}
 use Rattle.version_commands.specs.declared.options.Question.TheVariants.{Show, Json, Key, Why, Next}
 use Rattle.version_commands.specs.declared.pick.BadLines.{BadLines}
@@ -18,6 +21,7 @@ use Rattle.version_lines.specs.Lines.{lines_of}
 use Rattle.version_lines.specs.Sort.{is_bad}
 use Rattle.version_rules.proofs.lemmas.Versioning.{versioning_of-spells, versioning_printed}
 use Rattle.version_rules.specs.Versioning.{PlainVersioning, versioning_of, versioning_text}
+use Rattle.version_commands.proofs.lemmas.Fault.{bad-cases, lines-bad}
 use Rattle.version_commands.proofs.lemmas.Pieces.{texts-next}
 use Rattle.version_commands.proofs.lemmas.Picked.{IsPicked, all-kept, picked-bad, picked-end, picked-kept, picked-start}
 
@@ -206,3 +210,24 @@ first-without-next question end old new newer texts i d v found text inside (bod
     subst (HasNoNext question) (sym (ap versioning_of (sym same) ∙ some))
     (unanswered question end v found answer not_found is) in
     (before, after, body, cut, are, none)
+
+-- the faults of the lines without a version, by the lines that are asked
+pub texts-faults : (crlf : Bool) (end : ℕ) (input rest : List ℕ) (texts : List (Bor (List ℕ)))
+    (bad : BadLines) → AreTextsUpTo crlf end input rest texts bad → rest ≡ [] → (fault : Fault)
+    → ComesOfBad Fail crlf bad fault
+    → ComesOfLines Fail crlf (line_text crlf) (lines_of end input) fault
+texts-faults crlf end input rest texts bad so_far nothing =
+    let (kept_are, bad_are) = picked-end (line_text crlf) (λ v. true) end input rest so_far.kept bad
+    so_far.picked nothing in
+    lines-bad Fail crlf (line_text crlf) (lines_of end input) bad bad_are
+
+-- the faults of the lines that are asked
+pub asking-lines : (question : Question) (options : EachOptions) (old new : Option (List ℕ))
+    (input : List ℕ) → Consumes old new input → IsAtEnd new → (fault : Fault)
+    → ComesOfLines Fail options.crlf (line_text options.crlf) (lines_of options.end input) fault
+    → ComesOfAsking question options old fault
+asking-lines question options old new input read end =
+    bad-cases (ComesOfAsking question options old) Fail options.crlf
+    (good_before (line_text options.crlf) (lines_of options.end input))
+    (bad_lines (line_text options.crlf) (lines_of options.end input)) tt
+    (λ number text ends more is. (new, input, read, end, is))

@@ -1,9 +1,8 @@
 -- What is written at a fault, and what it comes of.
-use Rattle.std.proofs.Common.{ℕ, ◌∙◌, ◌+◌, ◌^◌, ◌-◌, List, Option, None, Some, String, Global, length, min, string_bytes, sym, ap, Bor}
-use Rattle.std.proofs.lemmas.List.{length-map}
+use Rattle.std.proofs.Common.{ℕ, Bool, List, Option, None, Some, String, Global, string_bytes, subst}
 use Rattle.std.specs.List.{Contains}
-use Rattle.version_commands.specs.Fault.{ComesOfBad, ComesOfLines, ComesOfReading, FailsAt, GrowsAt}
-use Rattle.version_commands.specs.Picked.{AreBadOf}
+use Rattle.version_commands.specs.Fault.{ComesOfBad, ComesOfBadAfter, ComesOfLines, ComesOfReading, FailsAt, GrowsAt}
+use Rattle.version_commands.specs.Picked.{bad_lines, AreBadOf}
 use Rattle.version_commands.specs.declared.options.Invalid.{Invalid}
 use Rattle.version_commands.specs.declared.pick.BadLines.{BadLines}
 use Rattle.version_commands.specs.declared.faults.Fault.{Fault}
@@ -25,23 +24,32 @@ fails-grown IsOutput old new output (Write (Some name)) is grows = grows
 fails-grown IsOutput old new output (Write None) is grows = (output, is, grows)
 
 -- the faults of lines without a version, by the lines themselves
-pub lines-bad : (invalid : Invalid) (at : List ℕ → List ℕ) (lines : List (List ℕ))
-    (bad : BadLines) → AreBadOf at lines bad → (fault : Fault) → ComesOfBad invalid bad fault
-    → ComesOfLines invalid at lines fault
-lines-bad invalid at lines bad are (Usage text) is = is
-lines-bad invalid at lines bad are (NotVersion text) is = is
-lines-bad invalid at lines bad are (NotRequirement text) is = is
-lines-bad invalid at lines bad are (NotTested text) is = is
-lines-bad invalid at lines bad (same, before) (BadLine number text ends more) (asked, first, others) = (
-  asked,
-  first ∙ ap (λ (n : ℕ). min (n + 1) (2 ^ 64 - 1)) before,
-  others ∙ sym (length-map bad.lines.items (λ (line : Bor (List ℕ)). line.now)) ∙ ap length same,
-)
-lines-bad invalid at lines bad are (NoNext text) is = is
-lines-bad invalid at lines bad are Untrue is = is
-lines-bad invalid at lines bad are Memory is = is
-lines-bad invalid at lines bad are (Read name) is = is
-lines-bad invalid at lines bad are (Write name) is = is
+pub lines-bad : (invalid : Invalid) (crlf : Bool) (at : List ℕ → List ℕ) (lines : List (List ℕ))
+    (bad : BadLines) → AreBadOf at lines bad → (fault : Fault) → ComesOfBad invalid crlf bad fault
+    → ComesOfLines invalid crlf at lines fault
+lines-bad invalid crlf at lines bad (same, before) fault is =
+    subst (λ (n : ℕ). ComesOfBadAfter invalid crlf n (bad_lines at lines) fault) before
+    (subst (λ (l : List (List ℕ)). ComesOfBadAfter invalid crlf bad.before l fault) same is)
+
+-- What follows from refused memory, and from what is reported of lines without a version, follows from
+-- each fault of such lines.
+pub bad-cases : (Follows : Fault → Type 0) (policy : Invalid) (crlf : Bool) (before : ℕ)
+    (bad : List (List ℕ)) → Follows Memory
+    → ((number : ℕ) (text : String Global) (ends : Bool) (more : ℕ)
+    → ComesOfBadAfter policy crlf before bad (BadLine number text ends more)
+    → Follows (BadLine number text ends more))
+    → (fault : Fault) → ComesOfBadAfter policy crlf before bad fault → Follows fault
+bad-cases Follows policy crlf before bad memory line (Usage text) is = absurd is
+bad-cases Follows policy crlf before bad memory line (NotVersion text) is = absurd is
+bad-cases Follows policy crlf before bad memory line (NotRequirement text) is = absurd is
+bad-cases Follows policy crlf before bad memory line (NotTested text) is = absurd is
+bad-cases Follows policy crlf before bad memory line (BadLine number text ends more) is =
+    line number text ends more is
+bad-cases Follows policy crlf before bad memory line (NoNext text) is = absurd is
+bad-cases Follows policy crlf before bad memory line Untrue is = absurd is
+bad-cases Follows policy crlf before bad memory line Memory is = memory
+bad-cases Follows policy crlf before bad memory line (Read name) is = absurd is
+bad-cases Follows policy crlf before bad memory line (Write name) is = absurd is
 
 -- What follows from refused memory, and from an input that can't be read, follows from each fault of
 -- reading.

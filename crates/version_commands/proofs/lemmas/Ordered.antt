@@ -59,7 +59,8 @@ pub ordered-faults : (arrangement : Arrangement) (options : LineOptions)
     (names : List (Bor (List ℕ))) (input : List ℕ) → names ≡ options.files.items
     → AreInputs holds old new (names_read (map (λ name. name.now) names)) texts
     → input ≡ joined options.end texts → (fault : Fault)
-    → ComesOfArranged (policy options) (text_of options.place) (lines_of options.end input) fault
+    → ComesOfArranged (policy options) options.place.crlf (text_of options.place)
+    (lines_of options.end input) fault
     → ComesOfArranging arrangement options holds old fault
 ordered-faults arrangement options holds old new texts names input same are whole (Usage text) is =
     is
@@ -75,7 +76,7 @@ ordered-faults arrangement options holds old new texts names input same are whol
       texts,
       subst (λ (n : List (Bor (List ℕ))).
           AreInputs holds old new (names_read (map (λ name. name.now) n)) texts) same are,
-      subst (λ (i : List ℕ). ComesOfLines (policy options) (text_of options.place)
+      subst (λ (i : List ℕ). ComesOfLines (policy options) options.place.crlf (text_of options.place)
           (lines_of options.end i) (BadLine number text ends more)) whole is,
     )
 ordered-faults arrangement options holds old new texts names input same are whole (NoNext text) is =

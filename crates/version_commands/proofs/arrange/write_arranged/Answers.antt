@@ -25,6 +25,7 @@ returns-then-not-reverse g c =
           c.write_keyed.ensures.good;
       at_fault = subst (λ (output : List ℕ). IfErr result (GrowsAt before after output)) same
           c.write_keyed.ensures.at_fault;
-      faults = subst (λ (text : List ℕ → List ℕ). IfErr result (ComesOfArranged (policy options) text
-          (lines_of options.end c.args.input.now))) text c.write_keyed.ensures.faults;
+      faults = subst (λ (text : List ℕ → List ℕ). IfErr result (ComesOfArranged (policy options)
+          options.place.crlf text (lines_of options.end c.args.input.now))) text
+          c.write_keyed.ensures.faults;
     }

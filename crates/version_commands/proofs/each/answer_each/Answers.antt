@@ -1,9 +1,14 @@
 use Rattle.std.proofs.Common.{◌≡◌, ◌<◌, ℕ, List, Bor, length, map, rules}
 use Rattle.std.proofs.lemmas.List.{nil_from_length}
 use Rattle.std.proofs.lemmas.Result.{IfErr-weaker}
+use Rattle.std.specs.Io.KnownBytes.{Consumes}
 use Rattle.version_commands.specs.Cause.{ComesOfAnswering}
+use Rattle.version_commands.specs.Fault.{ComesOfLines}
+use Rattle.version_commands.specs.Place.{line_text}
+use Rattle.version_commands.specs.declared.options.Invalid.TheVariants.{Fail}
+use Rattle.version_lines.specs.Lines.{lines_of}
 use Rattle.version_commands.specs.Each.{AreLineTexts}
-use Rattle.version_commands.proofs.lemmas.Each.{asking-answering, line-texts, word-texts}
+use Rattle.version_commands.proofs.lemmas.Each.{asking-answering, asking-lines, line-texts, word-texts}
 use Rattle.version_commands.proofs.each.answer_each.Goals as goal
 
 pub returns-in_err-add_answers-clause-faults : goal.returns-in_err-add_answers-clause-faults
@@ -31,3 +36,14 @@ returns-in_err-add_answers-2-clause-faults g c =
     let are = line-texts options old new texts (nil_from_length _ none) read in
     IfErr-weaker c.from_residual-in_err-add_answers-2.result (ComesOfAnswering question options.end texts)
     _ (asking-answering question options old new texts are) (search rules)
+
+pub returns-in_err-texts-2-clause-faults : goal.returns-in_err-texts-2-clause-faults
+returns-in_err-texts-2-clause-faults g c =
+    let options = c.args.options.now in
+    let old = g.R.Read.remaining c.args.reader.now in
+    let new = g.R.Read.remaining c.read_standard.new.reader in
+    let input = c.as_slice-2.result.now in
+    let read : Consumes old new input = search rules in
+    IfErr-weaker c.from_residual-in_err-texts-2.result
+    (ComesOfLines Fail options.crlf (line_text options.crlf) (lines_of options.end input)) _
+    (asking-lines c.args.question options old new input read c.in_ok-input.ensures.end) (search rules)

@@ -1,9 +1,12 @@
 use Rattle.std.proofs.Common.{◌≡◌, ◌++◌, ◌∷◌, [], None, Some, length, rules, ap, sym, ◌∙◌}
 use Rattle.std.proofs.lemmas.List.{nil_from_length}
+use Rattle.std.proofs.lemmas.Result.{IfErr-weaker}
 use Rattle.version_rules.specs.Versioning.{versioning_of}
 use Rattle.version_texts.specs.VersioningRef.{plain_versioning_ref}
+use Rattle.version_commands.specs.Fault.{ComesOfBad}
 use Rattle.version_commands.specs.Place.{line_text}
-use Rattle.version_commands.proofs.lemmas.Each.{texts-bad, texts-end, texts-kept, texts-start}
+use Rattle.version_commands.specs.declared.options.Invalid.TheVariants.{Fail}
+use Rattle.version_commands.proofs.lemmas.Each.{texts-bad, texts-end, texts-faults, texts-kept, texts-start}
 use Rattle.version_commands.proofs.each.texts_of_lines.Goals as goal
 
 pub loop-rest-init : goal.loop-rest-init
@@ -35,3 +38,10 @@ returns-clause-texts c =
     let nothing : length c.loop-rest.rest.now ≡ 0 = search (rules, c.loop-rest-test.ensures) in
     texts-end _ _ _ _ _ _ c.loop-rest.invariant (nil_from_length _ nothing)
     c.in_ok-refuse_first.ensures.none
+
+pub returns-in_err-refuse_first-clause-faults : goal.returns-in_err-refuse_first-clause-faults
+returns-in_err-refuse_first-clause-faults c =
+    let nothing : length c.loop-rest.rest.now ≡ 0 = search (rules, c.loop-rest-test.ensures) in
+    IfErr-weaker c.from_residual-in_err-refuse_first.result
+    (ComesOfBad Fail c.args.options.now.crlf c.loop-rest.bad) _
+    (texts-faults _ _ _ _ _ _ c.loop-rest.invariant (nil_from_length _ nothing)) (search rules)

@@ -45,8 +45,8 @@ returns-in_err-refuse_if-clause-faults g c =
     let (olds, read_old, old_is) = c.in_ok-old.ensures.input in
     let (first, one, first_is) = one-input holds start between lists.old.now lists.end olds before read_old
     (c.as_slice.ensures.value ∙ old_is) in
-    IfErr-weaker c.from_residual-in_err-refuse_if.result (ComesOfBad lists.invalid bad) _
-    (λ fault is. changes-bad lists holds bad fault is (inl (input-bad lists holds start between
+    IfErr-weaker c.from_residual-in_err-refuse_if.result (ComesOfBad lists.invalid lists.place.crlf bad) _
+    (changes-bad lists holds bad (λ fault is. inl (input-bad lists holds start between
     lists.old.now first before bad one first_is c.in_ok-old_names.ensures.bad fault is))) (search rules)
 
 pub returns-in_err-refuse_if-2-clause-faults : goal.returns-in_err-refuse_if-2-clause-faults
@@ -60,7 +60,7 @@ returns-in_err-refuse_if-2-clause-faults g c =
     let (news, read_new, new_is) = c.in_ok-new.ensures.input in
     let (second, other, second_is) = one-input holds between end lists.new.now lists.end news after read_new
     (c.as_slice-2.ensures.value ∙ new_is) in
-    IfErr-weaker c.from_residual-in_err-refuse_if-2.result (ComesOfBad lists.invalid bad) _
-    (λ fault is. changes-bad lists holds bad fault is (inr (input-bad lists holds between end
+    IfErr-weaker c.from_residual-in_err-refuse_if-2.result (ComesOfBad lists.invalid lists.place.crlf bad) _
+    (changes-bad lists holds bad (λ fault is. inr (input-bad lists holds between end
     lists.new.now second after bad other second_is c.in_ok-new_names.ensures.bad fault is)))
     (search rules)
