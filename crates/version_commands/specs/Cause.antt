@@ -73,16 +73,18 @@ ComesOfAnswering question end texts (fault.NoNext text) =
 ComesOfAnswering question end texts fault.Memory = ⊤
 ComesOfAnswering question end texts other = ⊥
 
--- the faults of `show`, `key`, `why` and `next`: of a word or a line that is no version, of standard
--- input, of a version that none comes next to, or of the list of `why`
+-- the faults of `show`, `key`, `why` and `next`: of a word that is no version, or without words of
+-- standard input or a line of it, of a version that none comes next to, or of the list of `why`
 abbrev pub ComesOfAsking : Question → EachOptions → Option (List ℕ) → Fault → Type 0
 ComesOfAsking question options old (fault.NotVersion text) =
     first_wrong (map (λ word. word.now) options.versions.items) ≡ Some (string_bytes text)
 ComesOfAsking question options old (fault.BadLine number text ends more) =
-    (new : Option (List ℕ)) × (input : List ℕ) × Consumes old new input × IsAtEnd new
+    (options.versions.items ≡ []) × (new : Option (List ℕ)) × (input : List ℕ)
+    × Consumes old new input × IsAtEnd new
     × ComesOfLines Fail options.crlf (line_text options.crlf) (lines_of options.end input)
     (fault.BadLine number text ends more)
-ComesOfAsking question options old (fault.Read name) = string_bytes name ≡ codes "-"
+ComesOfAsking question options old (fault.Read name) =
+    (options.versions.items ≡ []) × (string_bytes name ≡ codes "-")
 ComesOfAsking question options old (fault.NoNext text) =
     (new : Option (List ℕ)) × (texts : List (List ℕ)) × AreTexts options old new texts
     × IsFirstWithoutNext question options.end texts (string_bytes text)

@@ -223,11 +223,12 @@ texts-faults crlf end input rest texts bad so_far nothing =
 
 -- the faults of the lines that are asked
 pub asking-lines : (question : Question) (options : EachOptions) (old new : Option (List ℕ))
-    (input : List ℕ) → Consumes old new input → IsAtEnd new → (fault : Fault)
+    (input : List ℕ) → options.versions.items ≡ [] → Consumes old new input → IsAtEnd new
+    → (fault : Fault)
     → ComesOfLines Fail options.crlf (line_text options.crlf) (lines_of options.end input) fault
     → ComesOfAsking question options old fault
-asking-lines question options old new input read end =
+asking-lines question options old new input none read end =
     bad-cases (ComesOfAsking question options old) Fail options.crlf
     (good_before (line_text options.crlf) (lines_of options.end input))
     (bad_lines (line_text options.crlf) (lines_of options.end input)) tt
-    (λ number text ends more is. (new, input, read, end, is))
+    (λ number text ends more is. (none, new, input, read, end, is))

@@ -43,7 +43,9 @@ returns-in_err-texts-2-clause-faults g c =
     let old = g.R.Read.remaining c.args.reader.now in
     let new = g.R.Read.remaining c.read_standard.new.reader in
     let input = c.as_slice-2.result.now in
+    let none : length options.versions.items ≡ 0 = search (rules, c.if-not-is_empty.ensures) in
     let read : Consumes old new input = search rules in
     IfErr-weaker c.from_residual-in_err-texts-2.result
     (ComesOfLines Fail options.crlf (line_text options.crlf) (lines_of options.end input)) _
-    (asking-lines c.args.question options old new input read c.in_ok-input.ensures.end) (search rules)
+    (asking-lines c.args.question options old new input (nil_from_length _ none) read
+    c.in_ok-input.ensures.end) (search rules)
