@@ -208,7 +208,7 @@ class Run:
             try:
                 return f"{one.next(place)}\n".encode()
             except (ValueError, OverflowError):
-                raise Ended(1, f"no version comes next at that place: {one}".encode()) from None
+                raise Ended(1, b"no version comes next at that place: " + shown(str(one).encode())) from None
 
         return self.each(words, answer)
 
@@ -231,7 +231,11 @@ class Run:
     def compare(self, first, second):
         first, second = version(first), version(second)
         sign = "<=>"[versions.compare(first, second) + 1]
-        return (f"{sign} {first.difference(second)}\n" if "explain" in self.options else f"{sign}\n").encode()
+        found = first.difference(second)
+        if found.kind.name == "NONE":
+            same = str(first) == str(second)
+            found = "they are the same version" if same else "they differ only after the plus, which doesn't count"
+        return (f"{sign} {found}\n" if "explain" in self.options else f"{sign}\n").encode()
 
     def diff(self, first, second):
         if "lists" in self.options:
@@ -339,14 +343,14 @@ def version(word):
     try:
         return versions.Version(word)
     except versions.InvalidVersion:
-        raise Ended(1, b"not a version: " + word.encode()) from None
+        raise Ended(1, b"not a version: " + shown(word.encode())) from None
 
 
 def requirement(word):
     try:
         return versions.Requirement(word)
     except versions.InvalidRequirement:
-        raise Ended(1, b"not a requirement: " + word.encode()) from None
+        raise Ended(1, b"not a requirement: " + shown(word.encode())) from None
 
 
 def matching(rows, wanted, keeps):
@@ -354,9 +358,9 @@ def matching(rows, wanted, keeps):
     return [row for row, matches in zip(rows, found) if matches is keeps]
 
 
-def shown(line):
-    """The beginning of a line as a fault shows it: up to the first byte that is no UTF-8, with Rust's escapes."""
-    cut = line[:SHOWN]
+def shown(text):
+    """The beginning of a text as a fault quotes it: up to the first byte that is no UTF-8, with Rust's escapes."""
+    cut = text[:SHOWN]
     try:
         text = cut.decode()
     except UnicodeDecodeError as error:

@@ -2,13 +2,14 @@
 -- can end any task.
 use Rattle.std.specs.Prelude.{◌≡◌, ◌⊎◌, ◌++◌, ⊤, ℕ, Bool, List, [], ◌∷◌, codes, map, Option, Some, None, Result, string_bytes}
 use Rattle.std.specs.Io.KnownBytes.{Consumes, IsAtEnd}
-use Rattle.std.specs.List.{Contains}
+use Rattle.std.specs.Option.{option_map}
 use Rattle.version_commands.specs.Arranged.{policy}
 use Rattle.version_commands.specs.Choice.{wrong_list}
 use Rattle.version_commands.specs.Each.{AreAnswered, AreTexts}
 use Rattle.version_commands.specs.Fault.{first_wrong, ComesOfLines, ComesOfTest, ComesOfWords}
 use Rattle.version_commands.specs.Inputs.{joined, names_read, AreInputs, IsInput}
 use Rattle.version_commands.specs.Place.{line_text, text_of}
+use Rattle.version_commands.specs.Quote.{quoted, QuotesOneOf}
 use Rattle.version_commands.specs.Test.{answer_of_two, IsAnswerOfList}
 use Rattle.version_commands.specs.declared.faults.Fault.{Fault}
 use Rattle.version_commands.specs.declared.faults.Fault.TheVariants as fault
@@ -32,14 +33,14 @@ use Rattle.version_tasks.specs.Next.{NoNext}
 abbrev pub ComesOfArranging : Arrangement → LineOptions → (List ℕ → Option (List ℕ))
     → Option (List ℕ) → Fault → Type 0
 ComesOfArranging arrangement options holds old (fault.NotRequirement text) =
-    wrong_list options.choice arrangement ≡ Some (string_bytes text)
+    option_map quoted (wrong_list options.choice arrangement) ≡ Some (string_bytes text)
 ComesOfArranging arrangement options holds old (fault.BadLine number text ends more) =
     (new : Option (List ℕ)) × (texts : List (List ℕ))
     × AreInputs holds old new (names_read (map (λ name. name.now) options.files.items)) texts
     × ComesOfLines (policy options) options.place.crlf (text_of options.place)
     (lines_of options.end (joined options.end texts)) (fault.BadLine number text ends more)
 ComesOfArranging arrangement options holds old (fault.Read name) =
-    Contains (names_read (map (λ name. name.now) options.files.items)) (string_bytes name)
+    QuotesOneOf (names_read (map (λ name. name.now) options.files.items)) (string_bytes name)
 ComesOfArranging arrangement options holds old (fault.Write name) = ⊤
 ComesOfArranging arrangement options holds old fault.Memory = ⊤
 ComesOfArranging arrangement options holds old other = ⊥
@@ -49,10 +50,10 @@ abbrev pub HasNoNext : Question → Option PlainVersioning → Type 0
 HasNoNext (Next place) (Some v) = NoNext v place
 HasNoNext other v = ⊥
 
--- the question has this word for its list, which is none
+-- the question has a word for its list which is none, and this is how a message shows it
 abbrev pub HasWrongList : Question → List ℕ → Type 0
-HasWrongList (Why list) word = (list.now ≡ word) × (requirements_of word ≡ None)
-HasWrongList other word = ⊥
+HasWrongList (Why list) shown = (quoted list.now ≡ shown) × (requirements_of list.now ≡ None)
+HasWrongList other shown = ⊥
 
 -- the faults of a question's list
 abbrev pub ComesOfList : Question → Fault → Type 0
@@ -66,10 +67,15 @@ IsFirstWithoutNext question end texts text =
     (before after : List (List ℕ)) × (answers : List ℕ) × (texts ≡ before ++ text ∷ after)
     × AreAnswered question end before answers × HasNoNext question (versioning_of text)
 
+-- the first of some texts whose version has no next, as a message shows it
+abbrev pub QuotesFirstWithoutNext : Question → ℕ → List (List ℕ) → List ℕ → Type 0
+QuotesFirstWithoutNext question end texts shown =
+    (text : List ℕ) × IsFirstWithoutNext question end texts text × (shown ≡ quoted text)
+
 -- the faults of answering to some texts
 abbrev pub ComesOfAnswering : Question → ℕ → List (List ℕ) → Fault → Type 0
 ComesOfAnswering question end texts (fault.NoNext text) =
-    IsFirstWithoutNext question end texts (string_bytes text)
+    QuotesFirstWithoutNext question end texts (string_bytes text)
 ComesOfAnswering question end texts fault.Memory = ⊤
 ComesOfAnswering question end texts other = ⊥
 
@@ -77,17 +83,18 @@ ComesOfAnswering question end texts other = ⊥
 -- standard input or a line of it, of a version that none comes next to, or of the list of `why`
 abbrev pub ComesOfAsking : Question → EachOptions → Option (List ℕ) → Fault → Type 0
 ComesOfAsking question options old (fault.NotVersion text) =
-    first_wrong (map (λ word. word.now) options.versions.items) ≡ Some (string_bytes text)
+    option_map quoted (first_wrong (map (λ word. word.now) options.versions.items))
+    ≡ Some (string_bytes text)
 ComesOfAsking question options old (fault.BadLine number text ends more) =
     (options.versions.items ≡ []) × (new : Option (List ℕ)) × (input : List ℕ)
     × Consumes old new input × IsAtEnd new
     × ComesOfLines Fail options.crlf (line_text options.crlf) (lines_of options.end input)
     (fault.BadLine number text ends more)
 ComesOfAsking question options old (fault.Read name) =
-    (options.versions.items ≡ []) × (string_bytes name ≡ codes "-")
+    (options.versions.items ≡ []) × QuotesOneOf (codes "-" ∷ []) (string_bytes name)
 ComesOfAsking question options old (fault.NoNext text) =
     (new : Option (List ℕ)) × (texts : List (List ℕ)) × AreTexts options old new texts
-    × IsFirstWithoutNext question options.end texts (string_bytes text)
+    × QuotesFirstWithoutNext question options.end texts (string_bytes text)
 ComesOfAsking question options old other = ComesOfList question other
 
 -- a line of the input of this name has no version, and it is asked that each has one
@@ -103,7 +110,7 @@ ComesOfChanges lists holds (fault.BadLine number text ends more) =
     ComesOfInput lists holds lists.old.now (fault.BadLine number text ends more)
     ⊎ ComesOfInput lists holds lists.new.now (fault.BadLine number text ends more)
 ComesOfChanges lists holds (fault.Read name) =
-    Contains (lists.old.now ∷ lists.new.now ∷ []) (string_bytes name)
+    QuotesOneOf (lists.old.now ∷ lists.new.now ∷ []) (string_bytes name)
 ComesOfChanges lists holds fault.Memory = ⊤
 ComesOfChanges lists holds other = ⊥
 

@@ -1,24 +1,32 @@
 -- What `compare` writes for two versions.
-use Rattle.std.specs.Prelude.{ℕ, Bool, List, [], ◌∷◌, ◌++◌, codes, if◌then◌else◌}
+use Rattle.std.specs.Prelude.{ℕ, Bool, true, false, List, [], ◌∷◌, ◌++◌, codes, if◌then◌else◌}
 use Rattle.std.specs.Fmt.{decimal}
+use Rattle.std.specs.Str.{bytes_eq}
 use Rattle.version_lines.specs.Comparison.{sign_text}
 use Rattle.version_rules.specs.Key.{key_of, precedence}
-use Rattle.version_rules.specs.Versioning.{PlainVersioning}
+use Rattle.version_rules.specs.Versioning.{PlainVersioning, versioning_text}
 use Rattle.version_texts.specs.Difference.{difference_of}
 use Rattle.version_texts.specs.declared.difference.Difference.{Difference}
 use Rattle.version_texts.specs.declared.difference.Difference.TheVariants.{Same, Tie, Epoch, Part, Tail}
 
--- a space, and the sentence that says where two versions differ first; parts count from 0
-abbrev pub explanation : Difference → List ℕ
-explanation Epoch = codes " they differ first in the epoch"
-explanation (Part number) = codes " they differ first in part " ++ decimal number
-explanation Tail = codes " they differ first in what follows the parts"
-explanation Tie = codes " they compare equal, and are not the same version"
-explanation Same = codes " they are the same version"
+-- whether two versions have the same text; if they don't and are the same version, they are strict
+-- and differ in their metadata alone
+abbrev pub have_one_text : PlainVersioning → PlainVersioning → Bool
+have_one_text a b = bytes_eq (versioning_text a) (versioning_text b)
+
+-- a space, and the sentence that says where two versions differ first, also by whether they have the
+-- same text; parts count from 0
+abbrev pub explanation : Difference → Bool → List ℕ
+explanation Epoch one_text = codes " they differ first in the epoch"
+explanation (Part number) one_text = codes " they differ first in part " ++ decimal number
+explanation Tail one_text = codes " they differ first in what follows the parts"
+explanation Tie one_text = codes " they compare equal, and are not the same version"
+explanation Same true = codes " they are the same version"
+explanation Same false = codes " they differ only after the plus, which doesn't count"
 
 -- the line for two versions: the sign between them, then if it is asked for the sentence, and the
 -- byte that ends the line
 abbrev pub comparison_line : Bool → ℕ → PlainVersioning → PlainVersioning → List ℕ
 comparison_line explain end a b =
     sign_text (precedence (key_of a) (key_of b))
-    ++ ((if explain then explanation (difference_of a b) else []) ++ end ∷ [])
+    ++ ((if explain then explanation (difference_of a b) (have_one_text a b) else []) ++ end ∷ [])

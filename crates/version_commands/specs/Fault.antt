@@ -1,8 +1,7 @@
 -- The faults of a run.
 use Rattle.std.specs.Prelude.{◌≡◌, ◌⊎◌, ◌+◌, ◌-◌, ◌^◌, min, ⊤, ℕ, List, [], ◌∷◌, Option, None, Some, Bool, false, Result, Ok, Err, map, string_bytes}
 use Rattle.std.specs.Io.KnownBytes.{Keeps}
-use Rattle.std.specs.List.{Contains}
-use Rattle.std.specs.Option.{option_or}
+use Rattle.std.specs.Option.{option_map, option_or}
 use Rattle.version_commands.specs.declared.options.Invalid.{Invalid}
 use Rattle.version_commands.specs.declared.options.Invalid.TheVariants as invalid
 use Rattle.version_commands.specs.declared.pick.BadLines.{BadLines}
@@ -10,6 +9,7 @@ use Rattle.version_commands.specs.declared.test.WrongWord.{WrongWord}
 use Rattle.version_commands.specs.declared.test.WrongWord.TheVariants as wrong
 use Rattle.version_commands.specs.Bad.{Reports}
 use Rattle.version_commands.specs.Picked.{bad_lines, good_before}
+use Rattle.version_commands.specs.Quote.{quoted, QuotesOneOf}
 use Rattle.version_lines.specs.Output.{AppendsProperBeginning}
 use Rattle.version_lines.specs.Run.{unless_version}
 use Rattle.version_commands.specs.declared.faults.Fault.{Fault}
@@ -37,7 +37,7 @@ ComesOfWrongWords fault = ⊥
 -- the faults that reading inputs of these names can end in
 abbrev pub ComesOfReading : List (List ℕ) → Fault → Type 0
 ComesOfReading names Memory = ⊤
-ComesOfReading names (Read name) = Contains names (string_bytes name)
+ComesOfReading names (Read name) = QuotesOneOf names (string_bytes name)
 ComesOfReading names fault = ⊥
 
 -- the faults that lines without a version can end in, before the first of which come so many with one
@@ -84,7 +84,7 @@ GrowsAt old new output fault = Keeps old new
 -- the faults that reading lists of requirements can end in, if this is the first word that is none
 abbrev pub ComesOfLists : Option (List ℕ) → Fault → Type 0
 ComesOfLists wrong Memory = ⊤
-ComesOfLists wrong (NotRequirement text) = wrong ≡ Some (string_bytes text)
+ComesOfLists wrong (NotRequirement text) = option_map quoted wrong ≡ Some (string_bytes text)
 ComesOfLists wrong fault = ⊥
 
 -- what was written at a fault: a proper beginning of an output, where it could not be written to its
@@ -107,7 +107,7 @@ KeepsBeforeWriting old new fault = Keeps old new
 -- the faults that words which should be versions can end in, if this is the first that is none
 abbrev pub ComesOfWords : Option (List ℕ) → Fault → Type 0
 ComesOfWords wrong Memory = ⊤
-ComesOfWords wrong (NotVersion text) = wrong ≡ Some (string_bytes text)
+ComesOfWords wrong (NotVersion text) = option_map quoted wrong ≡ Some (string_bytes text)
 ComesOfWords wrong fault = ⊥
 
 -- the faults that `test` can end in: that the answer is no, and the word that is wrong
@@ -115,8 +115,8 @@ abbrev pub ComesOfTest : Result Bool WrongWord → List ℕ → List ℕ → Fau
 ComesOfTest answer first second Memory = ⊤
 ComesOfTest answer first second Untrue = answer ≡ Ok false
 ComesOfTest answer first second (NotTested text) =
-    ((answer ≡ Err wrong.First) × (string_bytes text ≡ first))
-    ⊎ ((answer ≡ Err wrong.Second) × (string_bytes text ≡ second))
+    ((answer ≡ Err wrong.First) × (string_bytes text ≡ quoted first))
+    ⊎ ((answer ≡ Err wrong.Second) × (string_bytes text ≡ quoted second))
 ComesOfTest answer first second fault = ⊥
 
 -- any fault but that standard output takes no more

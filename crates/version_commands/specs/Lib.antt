@@ -16,6 +16,7 @@ pub mod Output
 pub mod Picked
 pub mod Pieces
 pub mod Place
+pub mod Quote
 pub mod Show
 pub mod Test
 pub mod Why

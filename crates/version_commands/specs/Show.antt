@@ -1,5 +1,5 @@
 -- What `show` writes for a version.
-use Rattle.std.specs.Prelude.{ℕ, List, [], ◌∷◌, ◌++◌, Option, Some, None, codes}
+use Rattle.std.specs.Prelude.{ℕ, min, List, [], ◌∷◌, ◌++◌, Option, Some, None, codes}
 use Rattle.std.specs.Fmt.{decimal}
 use Rattle.std.specs.List.{concat, flat_map}
 use Rattle.std.specs.Option.{option_map}
@@ -12,7 +12,7 @@ use Rattle.version_tasks.specs.Stability.{stability_of}
 use Rattle.version_tasks.specs.declared.stability.Stability.{Stability}
 use Rattle.version_tasks.specs.declared.stability.Stability.TheVariants.{Dev, Alpha, Beta, Rc, Stable}
 use Rattle.version_texts.specs.Field.{field_text}
-use Rattle.version_texts.specs.Sinks.{saturated}
+use Rattle.version_texts.specs.Numbers.{largest_epoch}
 use Rattle.version_texts.specs.declared.field.Field.TheVariants.{PreRelease, Release, Metadata}
 
 -- the names of kinds
@@ -29,9 +29,9 @@ stability_name Beta = codes "beta"
 stability_name Rc = codes "rc"
 stability_name Stable = codes "stable"
 
--- the epoch as a number of 64 bits: a larger one is the largest of these
+-- the epoch as a number that C can give: a larger one is the largest of these
 abbrev pub shown_epoch : PlainVersioning → Option ℕ
-shown_epoch v = option_map saturated (versioning_epoch v)
+shown_epoch v = option_map (min largest_epoch) (versioning_epoch v)
 
 -- the line of a field: two spaces, its name, a colon, a space and its text; no line for a field
 -- that the version does not have

@@ -18,6 +18,7 @@ use crate::inputs::read_inputs;
 use crate::options::{Arrangement, Choice, LineOptions};
 use crate::pick::{Chooses, EveryVersion, read_kept, read_keyed};
 use crate::place::{ByColumn, ByVersion};
+use crate::quote::quoted;
 use crate::write::write_lines;
 use std::alloc::{AllocError, Global};
 use std::io::{Read, Write};
@@ -57,7 +58,7 @@ pub fn serve_lines<F: Files, R: Read, W: Write>(
     )
 }
 
-// Reads the lists of requirements. Otherwise the fault holds a copy of the first word that is none.
+// Reads the lists of requirements. Otherwise the fault quotes the first word that is none.
 fn read_chooser<'w>(
     alloc: Global,
     choice: &Choice<'w>,
@@ -68,7 +69,7 @@ fn read_chooser<'w>(
 {
     match Chooser::new(choice, arrangement) {
         Ok(chooser) => Ok(chooser),
-        Err(word) => Err(Fault::NotRequirement(String::from_str(alloc, word)?)),
+        Err(word) => Err(Fault::NotRequirement(quoted(alloc, word.as_bytes())?)),
     }
 }
 

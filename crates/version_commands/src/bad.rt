@@ -1,17 +1,15 @@
 //! The fault of lines that have no version.
-ghost use Rattle.std.specs.Prelude.{◌≡◌, ◌++◌, [], string_bytes, IfErr, IfOk, OnOk};
+ghost use Rattle.std.specs.Prelude.{◌≡◌, [], IfErr, OnOk};
 ghost use Rattle.version_commands.specs.Arranged.{policy};
-ghost use Rattle.version_commands.specs.Bad.{ends_in_return, shown, shown_character, text_in_front};
+ghost use Rattle.version_commands.specs.Bad.{ends_in_return};
 ghost use Rattle.version_commands.specs.Fault.{ComesOfBad};
 
 use crate::faults::Fault;
 use crate::inputs::ends_line;
 use crate::options::{Invalid, LineOptions};
 use crate::pick::BadLines;
-use std::alloc::{AllocError, Global};
-
-// How many bytes of a line a message shows.
-const SHOWN: usize = 60;
+use crate::quote::quoted;
+use std::alloc::Global;
 
 /// Fails with the first line that has no version, if there is one and the options ask for that.
 pub fn refuse_bad(alloc: Global, options: &LineOptions<'_>, bad: &BadLines<'_>) -> Result<(), Fault>
@@ -56,7 +54,7 @@ pub fn refuse_first(alloc: Global, crlf: bool, bad: &BadLines<'_>) -> Result<(),
         [] => Ok(()),
         [first, others @ ..] => Err(Fault::BadLine {
             number: bad.before.saturating_add(1),
-            text: shown(alloc, first)?,
+            text: quoted(alloc, first)?,
             ends_in_return: !crlf && ends_in_return(first),
             more: others.len(),
         }),
@@ -68,38 +66,4 @@ fn ends_in_return(line: &[u8]) -> bool
     ensures { result ≡ ends_in_return line.now }
 {
     !line.is_empty() && ends_line(b'\r', line)
-}
-
-// Returns a line as a message shows it: as much of its beginning as is UTF-8, with control characters escaped.
-fn shown(alloc: Global, line: &[u8]) -> Result<String, AllocError>
-    ensures { IfOk result (λ text. string_bytes text ≡ shown line.now) }
-{
-    let mut shown = String::new(alloc);
-    for character in text_in_front(&line[..SHOWN.min(line.len())]).chars() {
-        add_shown(&mut shown, character)?;
-    }
-    Ok(shown)
-}
-
-// Returns as much of the front of some bytes as is UTF-8.
-fn text_in_front(bytes: &[u8]) -> &str
-    ensures { result.now ≡ text_in_front bytes.now }
-{
-    match bytes.utf8_chunks().next() {
-        Some(chunk) => chunk.valid(),
-        None => "",
-    }
-}
-
-// Adds a character as a message shows it.
-fn add_shown(text: &mut String, character: char) -> Result<(), AllocError>
-    ensures { OnOk result (string_bytes text.new ≡ string_bytes text.old ++ shown_character character) }
-{
-    if !character.is_control() {
-        return text.push(character);
-    }
-    for escaped in character.escape_default() {
-        text.push(escaped)?;
-    }
-    Ok(())
 }

@@ -1,7 +1,7 @@
 //! The command `compare`: how two versions compare, and where they differ first.
 
 ghost use Rattle.std.specs.Prelude.{◌≡◌, ◌++◌, OnOk};
-ghost use Rattle.version_commands.specs.Compare.{comparison_line, explanation};
+ghost use Rattle.version_commands.specs.Compare.{comparison_line, explanation, have_one_text};
 ghost use Rattle.version_lines.specs.Comparison.{sign_text};
 ghost use Rattle.version_texts.specs.VersioningRef.{plain_versioning_ref};
 
@@ -25,7 +25,11 @@ pub(crate) fn add_comparison(
 {
     add_pieces(output, &[sign(first.precedence(second))])?;
     if explain {
-        add_explanation(first.difference(second), output)?;
+        add_explanation(
+            first.difference(second),
+            have_one_text(first, second),
+            output,
+        )?;
     }
     output.push(end)?;
     Ok(())
@@ -42,9 +46,21 @@ fn sign(order: Ordering) -> &'static [u8]
     }
 }
 
+// Returns whether two versions have the same text. If they don't and are the same version, they differ in their metadata
+// alone.
+fn have_one_text(first: &VersioningRef<'_>, second: &VersioningRef<'_>) -> bool
+    ensures { result ≡ have_one_text (plain_versioning_ref first.now) (plain_versioning_ref second.now) }
+{
+    first.text() == second.text()
+}
+
 // Adds a space and the sentence that says where two versions differ first.
-fn add_explanation(difference: Difference, output: &mut Vec<u8>) -> Result<(), AllocError>
-    ensures { OnOk result (output.new.items ≡ output.old.items ++ explanation difference) }
+fn add_explanation(
+    difference: Difference,
+    one_text: bool,
+    output: &mut Vec<u8>,
+) -> Result<(), AllocError>
+    ensures { OnOk result (output.new.items ≡ output.old.items ++ explanation difference one_text) }
 {
     let sentence: &[u8] = match difference {
         Difference::Epoch => b" they differ first in the epoch",
@@ -60,7 +76,8 @@ fn add_explanation(difference: Difference, output: &mut Vec<u8>) -> Result<(), A
         }
         Difference::Tail => b" they differ first in what follows the parts",
         Difference::Tie => b" they compare equal, and are not the same version",
-        Difference::Same => b" they are the same version",
+        Difference::Same if one_text => b" they are the same version",
+        Difference::Same => b" they differ only after the plus, which doesn't count",
     };
     output.extend_from_slice(sentence)
 }

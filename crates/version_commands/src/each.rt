@@ -14,12 +14,14 @@ ghost use Rattle.version_texts.specs.VersioningRef.{plain_versioning_ref};
 
 use crate::bad::refuse_first;
 use crate::faults::Fault;
+use crate::inputs::not_read;
 use crate::json::add_json;
 use crate::key::add_key_line;
 use crate::next::add_next;
 use crate::options::{EachOptions, Question};
 use crate::pick::BadLines;
 use crate::place::line_text;
+use crate::quote::quoted;
 use crate::show::add_show;
 use crate::why::{add_conflict, add_why};
 use std::alloc::{AllocError, Global};
@@ -61,7 +63,7 @@ fn head_of(alloc: Global, question: Question<'_>, end: u8) -> Result<Vec<u8>, Fa
     let mut head = Vec::new(alloc);
     if let Question::Why(list) = question {
         if RequirementsRef::new(list).is_none() {
-            return Err(Fault::NotRequirement(String::from_str(alloc, list)?));
+            return Err(Fault::NotRequirement(quoted(alloc, list.as_bytes())?));
         }
         add_conflict(list.as_bytes(), end, &mut head)?;
     }
@@ -78,7 +80,7 @@ fn read_standard<R: Read>(alloc: Global, reader: &mut R) -> Result<Vec<u8>, Faul
     match read_all(alloc, reader) {
         Ok(input) => Ok(input),
         Err(version_lines::Fault::Memory) => Err(Fault::Memory),
-        Err(_) => Err(Fault::Read(String::from_str(alloc, "-")?)),
+        Err(_) => Err(not_read(alloc, "-")),
     }
 }
 
@@ -127,7 +129,7 @@ fn texts_of_words<'w>(alloc: Global, words: &[&'w str]) -> Result<Vec<&'w [u8]>,
     let mut texts = Vec::with_capacity(alloc, words.len())?;
     for word in words {
         if VersioningRef::new(word).is_none() {
-            return Err(Fault::NotVersion(String::from_str(alloc, word)?));
+            return Err(Fault::NotVersion(quoted(alloc, word.as_bytes())?));
         }
         add_text(&mut texts, word.as_bytes())?;
     }
@@ -159,7 +161,7 @@ fn add_answers(
     for text in texts {
         let version = VersioningRef::from_bytes(text).unwrap();
         if !add_answer(alloc, question, &version, end, output)? {
-            return Err(Fault::NoNext(String::from_str(alloc, version.text())?));
+            return Err(Fault::NoNext(quoted(alloc, text)?));
         }
     }
     Ok(())

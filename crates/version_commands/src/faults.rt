@@ -5,7 +5,8 @@ use std::error::Error;
 use std::fmt;
 
 /// Why a run failed. It prints as the line that the program writes to standard error, after its name; `Untrue` prints
-/// nothing.
+/// nothing. Of a word, a line or the name of a file it holds what is UTF-8 in front of the first sixty bytes, with control
+/// characters escaped.
 #[derive(Debug, PartialEq, Eq, Drop)]
 pub enum Fault {
     /// The words are not a command. What was meant, and how the command is used.
@@ -20,7 +21,7 @@ pub enum Fault {
     BadLine {
         /// Its number, counted from 1 through all files.
         number: usize,
-        /// Its text, cut at sixty bytes, so that it can be printed.
+        /// Its text.
         text: String,
         /// Whether it ends in a carriage return that belongs to its end: `--crlf` is missing.
         ends_in_return: bool,

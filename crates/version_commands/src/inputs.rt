@@ -5,6 +5,7 @@ ghost use Rattle.version_commands.specs.Inputs.{ended, ends_line, joined, names_
 
 use crate::faults::Fault;
 use crate::files::{Files, Trouble};
+use crate::quote::quoted;
 use std::alloc::{AllocError, Global};
 use std::io::Read;
 use version_lines::read_onto;
@@ -96,13 +97,23 @@ fn add_text<F: Files, R: Read>(
         return match read_onto(alloc, reader, input) {
             Ok(()) => Ok(()),
             Err(version_lines::Fault::Memory) => Err(Fault::Memory),
-            Err(_) => Err(Fault::Read(String::from_str(alloc, name)?)),
+            Err(_) => Err(not_read(alloc, name)),
         };
     }
     match files.read_onto(name, input) {
         Ok(()) => Ok(()),
         Err(Trouble::Memory) => Err(Fault::Memory),
-        Err(Trouble::System) => Err(Fault::Read(String::from_str(alloc, name)?)),
+        Err(Trouble::System) => Err(not_read(alloc, name)),
+    }
+}
+
+/// Returns the fault of an input of this name that can't be read.
+pub fn not_read(alloc: Global, name: &str) -> Fault
+    ensures { ComesOfReading (name.now ∷ []) result }
+{
+    match quoted(alloc, name.as_bytes()) {
+        Ok(name) => Fault::Read(name),
+        Err(_) => Fault::Memory,
     }
 }
 

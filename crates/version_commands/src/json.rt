@@ -8,7 +8,7 @@ ghost use Rattle.version_commands.specs.Json.{json_line, json_of, number_or_null
 ghost use Rattle.version_texts.specs.VersioningRef.{plain_versioning_ref};
 
 use crate::pieces::add_pieces;
-use crate::show::{field_of, kind_name, number_at, stability_name};
+use crate::show::{epoch_of, field_of, kind_name, number_at, stability_name};
 use serde_json::Value;
 use std::alloc::{AllocError, Global};
 use version_tasks::stability_of;
@@ -45,7 +45,7 @@ fn add_object(
         b",\"kind\":",
         Some(kind_name(version.kind())),
     )?;
-    add_number(alloc, output, b",\"epoch\":", version.epoch())?;
+    add_number(alloc, output, b",\"epoch\":", epoch_of(version))?;
     add_number(alloc, output, b",\"major\":", number_at(version, 0))?;
     add_number(alloc, output, b",\"minor\":", number_at(version, 1))?;
     add_number(alloc, output, b",\"patch\":", number_at(version, 2))?;

@@ -20,6 +20,7 @@ mod pick;
 mod pieces;
 mod place;
 mod program;
+mod quote;
 mod rows;
 mod show;
 mod test;

@@ -21,6 +21,7 @@ use crate::files::Files;
 use crate::inputs::read_inputs;
 use crate::lists::{add_lists, read_names};
 use crate::options::{Lists, Task};
+use crate::quote::quoted;
 use crate::test::{WrongWord, test_list, test_two};
 use crate::words::read_words;
 use crate::write::write_answer;
@@ -113,19 +114,19 @@ fn settle(
     match answer {
         Ok(true) => Ok(()),
         Ok(false) => Err(Fault::Untrue),
-        Err(WrongWord::First) => Err(Fault::NotTested(String::from_str(alloc, first)?)),
-        Err(WrongWord::Second) => Err(Fault::NotTested(String::from_str(alloc, second)?)),
+        Err(WrongWord::First) => Err(Fault::NotTested(quoted(alloc, first.as_bytes())?)),
+        Err(WrongWord::Second) => Err(Fault::NotTested(quoted(alloc, second.as_bytes())?)),
     }
 }
 
-// Parses a word as a version. Otherwise the fault holds a copy of the word.
+// Parses a word as a version. Otherwise the fault quotes the word.
 fn version_of_word(alloc: Global, word: &str) -> Result<VersioningRef<'_>, Fault>
     ensures ok { IfOk result (λ v. versioning_of word.now ≡ Some (plain_versioning_ref v)) }
     ensures faults { IfErr result (ComesOfWords (unless_version word.now)) }
 {
     match VersioningRef::new(word) {
         Some(version) => Ok(version),
-        None => Err(Fault::NotVersion(String::from_str(alloc, word)?)),
+        None => Err(Fault::NotVersion(quoted(alloc, word.as_bytes())?)),
     }
 }
 

@@ -3,7 +3,7 @@
 ghost use Rattle.std.specs.Prelude.{◌≡◌, ◌++◌, OnOk};
 ghost use Rattle.std.specs.Fmt.{decimal};
 ghost use Rattle.std.specs.Option.{option_map};
-ghost use Rattle.version_commands.specs.Show.{field_line, kind_name, show_text, stability_name};
+ghost use Rattle.version_commands.specs.Show.{field_line, kind_name, show_text, shown_epoch, stability_name};
 ghost use Rattle.version_rules.specs.Versioning.{versioning_nth};
 ghost use Rattle.version_texts.specs.Field.{field_text};
 ghost use Rattle.version_texts.specs.VersioningRef.{plain_versioning_ref};
@@ -14,7 +14,7 @@ use std::alloc::AllocError;
 use std::str;
 use version_rules::Kind;
 use version_tasks::{Stability, stability_of};
-use version_texts::{Field, VersioningRef};
+use version_texts::{Field, LARGEST_EPOCH, VersioningRef};
 
 /// Adds the block of lines for a version. What stands between two blocks is left to the caller.
 pub(crate) fn add_show(
@@ -27,7 +27,7 @@ pub(crate) fn add_show(
 {
     add_pieces(output, &[version.text().as_bytes(), &[end]])?;
     add_field(output, end, "kind", Some(kind_name(version.kind())))?;
-    add_number_field(output, end, "epoch", version.epoch())?;
+    add_number_field(output, end, "epoch", epoch_of(version))?;
     add_number_field(output, end, "major", number_at(version, 0))?;
     add_number_field(output, end, "minor", number_at(version, 1))?;
     add_number_field(output, end, "patch", number_at(version, 2))?;
@@ -70,6 +70,13 @@ pub(crate) fn stability_name(stability: Stability) -> &'static str
         Stability::Rc => "rc",
         Stability::Stable => "stable",
     }
+}
+
+/// Returns the epoch of a version, or `LARGEST_EPOCH` if it is larger.
+pub(crate) fn epoch_of(version: &VersioningRef<'_>) -> Option<u64>
+    ensures { result ≡ shown_epoch (plain_versioning_ref version.now) }
+{
+    Some(version.epoch()?.min(LARGEST_EPOCH))
 }
 
 /// Returns the number at a place of a version, counted from 0.

@@ -12,6 +12,7 @@ use crate::options::{
     Arrangement, Choice, EachOptions, Invalid, LineOptions, Lists, Naming, Operator, Question,
     Task, VersionPlace,
 };
+use crate::quote::quoted;
 use clap::error::ErrorKind;
 use clap::{ArgMatches, Error};
 use std::alloc::{AllocError, Global};
@@ -37,14 +38,59 @@ pub fn read_words<'w>(alloc: Global, words: &'w [String]) -> Result<Task<'w>, Fa
 fn answer_to<'w>(alloc: Global, error: &Error, words: &[String]) -> Result<Task<'w>, Fault>
     ensures { IfErr result ComesOfWrongWords }
 {
-    let text = format!(in alloc; "{error}")?;
     match error.kind() {
-        ErrorKind::DisplayHelp | ErrorKind::DisplayVersion => Ok(Task::Say(text)),
+        ErrorKind::DisplayHelp | ErrorKind::DisplayVersion => {
+            Ok(Task::Say(format!(in alloc; "{error}")?))
+        }
         ErrorKind::OutOfMemory => Err(Fault::Memory),
-        ErrorKind::InvalidSubcommand => Err(Fault::Usage(meant_command(alloc, text, words)?)),
-        ErrorKind::InvalidValue => Err(Fault::Usage(meant_value(alloc, text)?)),
-        _ => Err(Fault::Usage(text)),
+        kind => Err(Fault::Usage(what_is_wrong(alloc, kind, words)?)),
     }
+}
+
+// Returns what is wrong with words, and which were meant.
+fn what_is_wrong(alloc: Global, kind: ErrorKind, words: &[String]) -> Result<String, AllocError> {
+    let text = text_of(alloc, kind, words)?;
+    match kind {
+        ErrorKind::InvalidSubcommand => meant_command(alloc, text, words),
+        ErrorKind::InvalidValue => meant_value(alloc, text),
+        _ => Ok(text),
+    }
+}
+
+// Returns the text of an error of this kind. Since errors hold words whole, it is that of the words as they are quoted.
+fn text_of(alloc: Global, kind: ErrorKind, words: &[String]) -> Result<String, AllocError> {
+    let mut shown = Vec::with_capacity(alloc, words.len())?;
+    for word in words {
+        shown.push(quoted(alloc, word.as_bytes())?)?;
+    }
+    text_of_parse(alloc, kind, shown.as_slice())
+}
+
+// Returns the text of the error of these words, if it is of this kind.
+fn text_of_parse(alloc: Global, kind: ErrorKind, words: &[String]) -> Result<String, AllocError> {
+    let program = grammar::program(alloc)?;
+    match program.try_get_matches_from(words) {
+        Err(error) => text_of_error(alloc, kind, &error),
+        Ok(_matches) => text_of_kind(alloc, kind),
+    }
+}
+
+// Returns the text of an error, if it is of this kind.
+fn text_of_error(alloc: Global, kind: ErrorKind, error: &Error) -> Result<String, AllocError> {
+    let found = error.kind();
+    if found == ErrorKind::OutOfMemory {
+        Err(AllocError)
+    } else if found == kind {
+        format!(in alloc; "{error}")
+    } else {
+        text_of_kind(alloc, kind)
+    }
+}
+
+// Returns a text that quotes nothing.
+fn text_of_kind(alloc: Global, kind: ErrorKind) -> Result<String, AllocError> {
+    let what = kind.as_str().unwrap_or("the words are no command");
+    format!(in alloc; "error: {what}{MORE}")
 }
 
 // Adds to a fault which command was meant.
@@ -388,6 +434,7 @@ fn wrong_value(
 ) -> Result<Fault, AllocError>
     ensures { IfOk result ComesOfWrongWords }
 {
+    let word = quoted(alloc, word.as_bytes())?;
     let text = format!(in alloc; "error: invalid value '{word}' for {argument}{MORE}")?;
     let text = near::with_tip(alloc, text, MORE, "value", meant)?;
     Ok(Fault::Usage(text))

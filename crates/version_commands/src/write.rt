@@ -11,6 +11,7 @@ use crate::faults::Fault;
 use crate::files::{Files, Trouble};
 use crate::options::{Invalid, LineOptions};
 use crate::pick::BadLines;
+use crate::quote::quoted;
 use crate::rows::{Rows, put_rows};
 use std::alloc::{AllocError, Global};
 use std::io::Write;
@@ -127,7 +128,7 @@ fn put_bad<F: Files>(
     match files.put(name, bytes.as_slice()) {
         Ok(()) => Ok(()),
         Err(Trouble::Memory) => Err(Fault::Memory),
-        Err(Trouble::System) => Err(Fault::Write(Some(String::from_str(alloc, name)?))),
+        Err(Trouble::System) => Err(Fault::Write(Some(quoted(alloc, name.as_bytes())?))),
     }
 }
 

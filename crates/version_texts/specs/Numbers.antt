@@ -1,5 +1,5 @@
 -- The number at a place of a version, read off its text.
-use Rattle.std.specs.Prelude.{◌==◌, ◌&&◌, ◌||◌, ℕ, Bool, List, [], ◌∷◌, drop, length, not, Option, Some, None, if◌then◌else◌}
+use Rattle.std.specs.Prelude.{◌==◌, ◌&&◌, ◌||◌, ◌-◌, ◌^◌, ℕ, Bool, List, [], ◌∷◌, drop, length, not, Option, Some, None, if◌then◌else◌}
 use Rattle.std.specs.Borrow.{Bor}
 use Rattle.std.specs.Char.{is_ascii_alphabetic, is_ascii_digit}
 use Rattle.std.specs.List.{before_first, prefix_len, slice_split, take_while}
@@ -10,6 +10,10 @@ use Rattle.version_rules.specs.Sep.{is_sep}
 use Rattle.version_texts.specs.Piece.{behind_digits}
 use Rattle.version_texts.specs.TextKey.{pieces}
 use Rattle.version_texts.specs.TextKind.{is_numeral}
+
+-- the largest epoch that is given as a number where numbers have a sign: the largest of 64 bits
+abbrev pub largest_epoch : ℕ
+largest_epoch = 2 ^ 63 - 1
 
 -- the pieces of a text that may be missing, and then has none
 abbrev pub pieces_left : Option (Bor (List ℕ)) → List (List ℕ)

@@ -37,7 +37,7 @@ pub use difference::Difference;
 pub use field::Field;
 pub use inexact::write_inexact;
 pub use key_ties::{compare_key_ties, mark_kind, marked_kind, marked_number};
-pub use numbers::from_piece;
+pub use numbers::{LARGEST_EPOCH, from_piece};
 pub use numeral::{is_digits, numeral_value, spells_numeral};
 pub use order::piece::split_piece;
 pub use range_ref::{Bound, RangeRef};

@@ -14,6 +14,9 @@ use crate::order::piece::{after_mark, behind_first, split_piece};
 use crate::shape::Shape;
 use version_rules::Kind;
 
+/// The largest epoch that is given as a number where numbers have a sign, as in SQL: a larger one is given as this.
+pub const LARGEST_EPOCH: u64 = 0x7FFF_FFFF_FFFF_FFFF;
+
 /// Returns the number at a place, counted from 0, or None if no number is there: of the body of a strict or general
 /// version, and of the first section of a messy one that no colon follows.
 pub fn nth(text: &[u8], shape: Shape, n: usize) -> Option<u32>

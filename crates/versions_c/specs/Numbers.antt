@@ -1,18 +1,15 @@
 -- The numbers of a version.
-use Rattle.std.specs.Prelude.{ℕ, ℤ, ◌-◌, ◌^◌, nat_le, Option, Some, None, is_some, if◌then◌else◌}
+use Rattle.std.specs.Prelude.{ℕ, ℤ, nat_le, Option, Some, None, is_some, if◌then◌else◌}
 use Rattle.std.specs.Option.{option_map_or}
 use Rattle.version_rules.specs.Key.{versioning_epoch}
 use Rattle.version_rules.specs.Versioning.{PlainVersioning}
+use Rattle.version_texts.specs.Numbers.{largest_epoch}
 use Rattle.versions_c.specs.declared.status.TheConstants.{OK, LARGE_EPOCH, NO_NUMBER, NO_VERSION}
 
 -- the status for a text, by the number that its version has or lacks
 abbrev pub number_status : Option PlainVersioning → (PlainVersioning → Option ℕ) → ℤ
 number_status None number = NO_VERSION
 number_status (Some v) number = if is_some (number v) then OK else NO_NUMBER
-
--- the largest epoch that is written as it is: the largest signed number of 64 bits
-abbrev pub largest_epoch : ℕ
-largest_epoch = 2 ^ 63 - 1
 
 -- the status for a text, by the epoch that its version has or lacks
 abbrev pub epoch_status : Option PlainVersioning → ℤ

@@ -3,11 +3,11 @@
 ghost use Rattle.std.specs.Prelude.{◌≡◌, ◌≢◌, IfSome, Some};
 ghost use Rattle.version_rules.specs.Key.{versioning_epoch};
 ghost use Rattle.version_rules.specs.Versioning.{versioning_nth, versioning_of};
-ghost use Rattle.versions_c.specs.Numbers.{epoch_status, largest_epoch, number_status};
+ghost use Rattle.version_texts.specs.Numbers.{largest_epoch};
+ghost use Rattle.versions_c.specs.Numbers.{epoch_status, number_status};
 
-use crate::offsets::LARGEST;
 use crate::status::{LARGE_EPOCH, NO_NUMBER, NO_VERSION, OK};
-use version_texts::VersioningRef;
+use version_texts::{LARGEST_EPOCH, VersioningRef};
 
 /// Writes the number at a place of a version.
 #[unsafe(no_mangle)]
@@ -42,8 +42,8 @@ pub extern "C" fn versions_epoch(text: &[u8], epoch: &mut u64) -> i32
     let Some(found) = version.epoch() else {
         return NO_NUMBER;
     };
-    if found > LARGEST {
-        *epoch = LARGEST;
+    if found > LARGEST_EPOCH {
+        *epoch = LARGEST_EPOCH;
         return LARGE_EPOCH;
     }
     *epoch = found;

@@ -4,12 +4,13 @@ use Rattle.std.specs.Io.KnownBytes.{Consumes, IsAtEnd}
 use Rattle.std.specs.List.{All}
 use Rattle.std.proofs.lemmas.List.{map-append, map_push, take-append-drop}
 use Rattle.std.proofs.lemmas.List.Elements.{All-push}
-use Rattle.version_commands.specs.Cause.{ComesOfAnswering, ComesOfAsking, HasNoNext, IsFirstWithoutNext}
+use Rattle.version_commands.specs.Cause.{ComesOfAnswering, ComesOfAsking, HasNoNext, QuotesFirstWithoutNext}
 use Rattle.version_commands.specs.Each.{AreAnswered, AreLineTexts, AreTexts, AreTextsOf, IsAnswer}
 use Rattle.version_commands.specs.Fault.{ComesOfBad, ComesOfLines}
 use Rattle.version_commands.specs.Picked.{bad_lines, good_before, AreBadOf}
 use Rattle.version_commands.specs.Pieces.{Adds}
 use Rattle.version_commands.specs.Place.{line_text}
+use Rattle.version_commands.specs.Quote.{quoted}
 use Rattle.version_commands.specs.declared.faults.Fault.{Fault}
 use Rattle.version_commands.specs.declared.faults.Fault.TheVariants.{Usage, NotVersion, NotRequirement, NotTested, BadLine, NoNext, Untrue, Memory, Read, Write}
 use Rattle.version_commands.specs.declared.options.EachOptions.{EachOptions}
@@ -187,29 +188,25 @@ unanswered (Next place) end v false answer not_found (none, is) = none
 -- the next text is the first whose version has no next
 pub first-without-next : (question : Question) (end : ℕ) (old new newer : List ℕ)
     (texts : List (Bor (List ℕ))) (i : ℕ) (d : Bor (List ℕ)) (v : PlainVersioning) (found : Bool)
-    (text : List ℕ) → i < length texts
+    (shown : List ℕ) → i < length texts
     → Adds (AreAnswered question end (map (λ text. text.now) (take i texts))) old new
     → versioning_of (get_or texts i d).now ≡ Some v → found ≡ false
-    → Adds (IsAnswer question end v found) new newer → text ≡ versioning_text v
-    → IsFirstWithoutNext question end (map (λ text. text.now) texts) text
-first-without-next question end old new newer texts i d v found text inside (body, are, whole) some
-    not_found (answer, is, more) printed =
+    → Adds (IsAnswer question end v found) new newer → shown ≡ quoted (get_or texts i d).now
+    → QuotesFirstWithoutNext question end (map (λ text. text.now) texts) shown
+first-without-next question end old new newer texts i d v found shown inside (body, are, whole) some
+    not_found (answer, is, more) quotes =
     let now : Bor (List ℕ) → List ℕ = λ t. t.now in
+    let text = (get_or texts i d).now in
     let before = map now (take i texts) in
     let after = map now (drop (i + 1) texts) in
-    let same : (get_or texts i d).now ≡ text =
-    sym (versioning_printed (get_or texts i d).now v
-    (versioning_of-spells (get_or texts i d).now v some)) ∙ sym printed in
     let cut : map now texts ≡ before ++ text ∷ after =
     ap (map now) (sym (take-append-drop (i + 1) texts))
     ∙ map-append now (take (i + 1) texts) (drop (i + 1) texts)
     ∙ ap (λ (t : List (List ℕ)). t ++ after) (texts-next now texts i d inside)
-    ∙ append_assoc before ((get_or texts i d).now ∷ []) after
-    ∙ ap (λ (t : List ℕ). before ++ t ∷ after) same in
+    ∙ append_assoc before (text ∷ []) after in
     let none : HasNoNext question (versioning_of text) =
-    subst (HasNoNext question) (sym (ap versioning_of (sym same) ∙ some))
-    (unanswered question end v found answer not_found is) in
-    (before, after, body, cut, are, none)
+    subst (HasNoNext question) (sym some) (unanswered question end v found answer not_found is) in
+    (text, (before, after, body, cut, are, none), quotes)
 
 -- the faults of the lines without a version, by the lines that are asked
 pub texts-faults : (crlf : Bool) (end : ℕ) (input rest : List ℕ) (texts : List (Bor (List ℕ)))

@@ -1,8 +1,8 @@
 -- What is written at a fault, and what it comes of.
-use Rattle.std.proofs.Common.{ℕ, Bool, List, Option, None, Some, String, Global, string_bytes, subst}
-use Rattle.std.specs.List.{Contains}
+use Rattle.std.proofs.Common.{◌≡◌, ℕ, zero, Bool, List, [], ◌∷◌, Option, None, Some, String, Global, string_bytes, arith, refl, subst}
 use Rattle.version_commands.specs.Fault.{ComesOfBad, ComesOfBadAfter, ComesOfLines, ComesOfReading, FailsAt, GrowsAt}
 use Rattle.version_commands.specs.Picked.{bad_lines, AreBadOf}
+use Rattle.version_commands.specs.Quote.{quoted, QuotesOneOf}
 use Rattle.version_commands.specs.declared.options.Invalid.{Invalid}
 use Rattle.version_commands.specs.declared.pick.BadLines.{BadLines}
 use Rattle.version_commands.specs.declared.faults.Fault.{Fault}
@@ -51,10 +51,14 @@ bad-cases Follows policy crlf before bad memory line Memory is = memory
 bad-cases Follows policy crlf before bad memory line (Read name) is = absurd is
 bad-cases Follows policy crlf before bad memory line (Write name) is = absurd is
 
+-- what a message shows of the one text
+pub quotes-one : (text shown : List ℕ) → shown ≡ quoted text → QuotesOneOf (text ∷ []) shown
+quotes-one text shown is = (text, (zero, omega arith, refl), is)
+
 -- What follows from refused memory, and from an input that can't be read, follows from each fault of
 -- reading.
 pub reading-cases : (Follows : Fault → Type 0) (names : List (List ℕ)) → Follows Memory
-    → ((name : String Global) → Contains names (string_bytes name) → Follows (Read name))
+    → ((name : String Global) → QuotesOneOf names (string_bytes name) → Follows (Read name))
     → (fault : Fault) → ComesOfReading names fault → Follows fault
 reading-cases Follows names memory read (Usage text) is = absurd is
 reading-cases Follows names memory read (NotVersion text) is = absurd is

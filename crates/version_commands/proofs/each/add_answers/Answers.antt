@@ -25,4 +25,4 @@ returns-then-not-branch-clause-faults c =
     (plain_versioning_ref c.unwrap-version.result) c.in_ok-add_answer.field-0 _
     c.loop-text-test.true c.loop-text.invariant
     (sym c.from_bytes.ensures ∙ ap (option_map plain_versioning_ref) version) c.if-not-branch.true
-    c.in_ok-add_answer.ensures (c.in_ok-from_str.ensures.ok ∙ c.text.ensures.printed)
+    c.in_ok-add_answer.ensures c.in_ok-quoted.ensures

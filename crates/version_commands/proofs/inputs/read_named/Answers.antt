@@ -1,4 +1,4 @@
-use Rattle.std.proofs.Common.{◌<◌, ◌++◌, ◌∷◌, ℕ, List, [], length, map, string_bytes, take, get_or, rules, sym, subst, Bor}
+use Rattle.std.proofs.Common.{◌<◌, ◌++◌, ◌∷◌, ℕ, List, [], length, map, take, get_or, rules, sym, subst, Bor}
 use Rattle.version_commands.specs.Inputs.{AreInputs}
 use Rattle.version_commands.specs.Fault.{ComesOfReading}
 use Rattle.version_commands.proofs.lemmas.Fault.{reading-cases}
@@ -35,4 +35,5 @@ returns-in_err-add_input-clause-faults g c =
     let now : Bor (List ℕ) → List ℕ = λ n. n.now in
     IfErr-weaker c.from_residual.result (ComesOfReading (now (get_or names i d) ∷ [])) _
     (λ fault. reading-cases (ComesOfReading (map now names)) (now (get_or names i d) ∷ []) tt
-    (λ name. name-among now names i d inside (string_bytes name)) fault) (search rules)
+    (λ name (read, is, quotes). (read, name-among now names i d inside read is, quotes)) fault)
+    (search rules)

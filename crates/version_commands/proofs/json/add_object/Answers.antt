@@ -17,7 +17,7 @@ returns c =
     (ap (λ (text : List ℕ). codes ",\"kind\":" ++ compact_text (string text))
     (c.kind_name.ensures ∙ ap kind_name c.kind.ensures))
     (then _ _ c.in_ok-add_number.ensures
-    (ap (λ (n : Option ℕ). codes ",\"epoch\":" ++ compact_text (number_or_null n)) c.epoch.ensures)
+    (ap (λ (n : Option ℕ). codes ",\"epoch\":" ++ compact_text (number_or_null n)) c.epoch_of.ensures)
     (then _ _ c.in_ok-add_number-2.ensures
     (ap (λ (n : Option ℕ). codes ",\"major\":" ++ compact_text (number_or_null n)) c.number_at.ensures)
     (then _ _ c.in_ok-add_number-3.ensures

@@ -1,7 +1,9 @@
-use Rattle.std.proofs.Common.{◌++◌, ℕ, List, rules, ap, inl, inr, ◌∙◌}
+use Rattle.std.proofs.Common.{◌++◌, ◌∷◌, [], ℕ, suc, List, arith, rules, ap, inl, inr, ◌∙◌}
 use Rattle.std.proofs.lemmas.Result.{IfErr-weaker}
-use Rattle.version_commands.specs.Fault.{ComesOfBad}
+use Rattle.version_commands.specs.Cause.{ComesOfChanges}
+use Rattle.version_commands.specs.Fault.{ComesOfBad, ComesOfReading}
 use Rattle.version_commands.specs.Lists.{difference_text, rows_of}
+use Rattle.version_commands.proofs.lemmas.Fault.{reading-cases}
 use Rattle.version_commands.proofs.lemmas.Changes.{are-changes, changes-bad, input-bad, input-good, one-input}
 use Rattle.version_commands.proofs.program.changes.Goals as goal
 
@@ -33,6 +35,15 @@ returns-clause-output g c =
     (added
     ∙ ap (λ (l : List ℕ). l ++ difference_text lists.end (rows_of lists before) (rows_of lists after))
     c.new-output.ensures.items)
+
+pub returns-in_err-new-clause-faults : goal.returns-in_err-new-clause-faults
+returns-in_err-new-clause-faults g c =
+    let lists = c.args.lists.now in
+    let new = lists.new.now in
+    IfErr-weaker c.from_residual-in_err-new.result (ComesOfReading (new ∷ [])) _
+    (λ fault. reading-cases (ComesOfChanges lists (g.F.Files.holds c.args.files.now)) (new ∷ []) tt
+    (λ name (read, (k, within, same), quotes). (read, (suc k, omega (arith, within), same), quotes))
+    fault) (search rules)
 
 pub returns-in_err-refuse_if-clause-faults : goal.returns-in_err-refuse_if-clause-faults
 returns-in_err-refuse_if-clause-faults g c =

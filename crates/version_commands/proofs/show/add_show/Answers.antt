@@ -14,7 +14,7 @@ returns c =
     (ap (λ (name : List ℕ). field_line end (codes "kind") (Some name))
     (c.kind_name.ensures ∙ ap kind_name c.kind.ensures))
     (then _ _ c.in_ok-add_number_field.ensures
-    (ap (λ (n : Option ℕ). field_line end (codes "epoch") (option_map decimal n)) c.epoch.ensures)
+    (ap (λ (n : Option ℕ). field_line end (codes "epoch") (option_map decimal n)) c.epoch_of.ensures)
     (then _ _ c.in_ok-add_number_field-2.ensures
     (ap (λ (n : Option ℕ). field_line end (codes "major") (option_map decimal n)) c.number_at.ensures)
     (then _ _ c.in_ok-add_number_field-3.ensures

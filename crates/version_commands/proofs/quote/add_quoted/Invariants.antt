@@ -2,7 +2,7 @@
 use Rattle.std.proofs.Common.{◌≡◌, ◌++◌, string_bytes, encode_utf8_all}
 use Rattle.std.specs.Char.Escape.{escape_default}
 use Rattle.std.specs.Char.Iter.{escape_rest}
-use Rattle.version_commands.proofs.bad.add_shown.Given as goal
+use Rattle.version_commands.proofs.quote.add_quoted.Given as goal
 
 abbrev pub invariant-loop-escaped : goal.invariant-loop-escaped
 invariant-loop-escaped l =

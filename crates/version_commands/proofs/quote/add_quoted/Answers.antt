@@ -2,7 +2,7 @@ use Rattle.std.proofs.Common.{◌≡◌, ◌++◌, ◌∷◌, [], ℕ, Bool, tru
 use Rattle.std.specs.Char.{is_control}
 use Rattle.std.specs.Char.Escape.{escape_default}
 use Rattle.std.specs.Char.Iter.{escape_rest}
-use Rattle.version_commands.proofs.bad.add_shown.Goals as goal
+use Rattle.version_commands.proofs.quote.add_quoted.Goals as goal
 
 pub loop-escaped-init : goal.loop-escaped-init
 loop-escaped-init c =
