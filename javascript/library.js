@@ -123,7 +123,8 @@ export function put(text, at) {
     }
     if (place === length) return at + length;
   }
-  return at + encoder.encodeInto(text, to.subarray(at)).written;
+  // Node 20 writes nothing into a target of 2 ** 31 bytes or more.
+  return at + encoder.encodeInto(text, to.subarray(at, at + 3 * length)).written;
 }
 
 /** The place in a text before which so many of its bytes lie, counted in its units. */

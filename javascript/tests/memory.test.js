@@ -84,3 +84,19 @@ test("more than there is room for is refused, and the next call is right", () =>
   assert.throws(() => versions.kinds(texts), { name: "RangeError", message: "the texts of one call need more than 4 GiB" });
   assert.deepEqual(versions.kinds(["1.2.3", "x y"]), ["ideal", null]);
 });
+
+test("the target of a text is no larger than the text needs", () => {
+  const { encodeInto } = TextEncoder.prototype;
+  // As node 20 does with a target of 2 ** 31 bytes or more.
+  TextEncoder.prototype.encodeInto = function (text, target) {
+    return target.length > 3 * text.length ? { read: 0, written: 0 } : encodeInto.call(this, text, target);
+  };
+  try {
+    const long = `${"1.".repeat(100)}1`;
+    assert.deepEqual(versions.kinds([long, "1.2.3", long]), ["general", "ideal", "general"]);
+    assert.equal(versions.compare(long, `${long}3`), -1);
+    assert.deepEqual(versions.inTags([`é-v${long}`, "é-v1.2"]), [long, "1.2"]);
+  } finally {
+    TextEncoder.prototype.encodeInto = encodeInto;
+  }
+});
