@@ -212,15 +212,15 @@ export function patch(text: Text): number | null;
 export function valid(text: Text | Missing): string | null;
 /** The text, or null where it is not a requirement. */
 export function validRange(text: string | Requirement | Missing): string | null;
-/** Whether the requirement matches. False where one of the two is none. */
-export function satisfies(text: Text, requirement: string | Requirement): boolean;
-/** The newest item that matches, or null, also where the requirement is none. */
+/** Whether the requirement matches. False where one of the two is none, or is missing. */
+export function satisfies(text: Text | Missing, requirement: string | Requirement | Missing): boolean;
+/** The newest item that matches, or null, also where the requirement is none, or is missing. */
 export function maxSatisfying<Item extends Text>(
   texts: Iterable<Item | Missing>,
-  requirement: string | Requirement,
+  requirement: string | Requirement | Missing,
 ): Item | null;
-/** The oldest item that matches, or null, also where the requirement is none. */
+/** The oldest item that matches, or null, also where the requirement is none, or is missing. */
 export function minSatisfying<Item extends Text>(
   texts: Iterable<Item | Missing>,
-  requirement: string | Requirement,
+  requirement: string | Requirement | Missing,
 ): Item | null;

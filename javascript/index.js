@@ -601,25 +601,28 @@ export const major = (text) => new Version(text).major;
 export const minor = (text) => new Version(text).minor;
 export const patch = (text) => new Version(text).patch;
 
-// What a call returns, or another value where it is refused for what it was asked about.
-function orElse(other, ask) {
+// A requirement, or null for a missing value and for a text that is none.
+function asRequirement(text) {
+  if (isMissing(text)) return null;
   try {
-    return ask();
+    return new Requirement(text);
   } catch (error) {
-    if (error instanceof InvalidVersion || error instanceof InvalidRequirement) return other;
+    if (error instanceof InvalidRequirement) return null;
     throw error;
   }
 }
 
 export const valid = (text) => (isMissing(text) || kind(text) === null ? null : textOf(text));
-export const validRange = (text) => (isMissing(text) ? null : orElse(null, () => new Requirement(text).toString()));
-export const satisfies = (text, requirement) => orElse(false, () => new Requirement(requirement).has(text));
-export const maxSatisfying = (texts, requirement) => orElse(null, () => newest(texts, { requirement }));
+export const validRange = (text) => asRequirement(text)?.toString() ?? null;
+export const satisfies = (text, requirement) => !isMissing(text) && (asRequirement(requirement)?.has(text) ?? false);
+
+export function maxSatisfying(texts, requirement) {
+  const wanted = asRequirement(requirement);
+  return wanted === null ? null : newest(texts, { requirement: wanted });
+}
 
 export function minSatisfying(texts, requirement) {
-  return orElse(null, () => {
-    const items = new Requirement(requirement).filter(texts);
-    // The first of those that no other comes before.
-    return items.reduce((least, item) => (least !== null && compare(least, item) <= 0 ? least : item), null);
-  });
+  const items = asRequirement(requirement)?.filter(texts) ?? [];
+  // The first of those that no other comes before.
+  return items.reduce((least, item) => (least !== null && compare(least, item) <= 0 ? least : item), null);
 }

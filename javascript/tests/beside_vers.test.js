@@ -138,3 +138,20 @@ test("strict versions beside npm's semver", () => {
   }
   assert.ok(matched > 1000);
 });
+
+test("what is missing, beside npm's semver", () => {
+  const semver = createRequire(import.meta.url)("semver");
+  for (const missing of [null, undefined, NaN]) {
+    for (const of of [semver, versions]) {
+      for (const name of ["maxSatisfying", "minSatisfying"]) {
+        assert.equal(of[name](["1.2.3", "1.3.0"], missing), null);
+        assert.equal(of[name]([missing, "1.2.3"], "*"), "1.2.3");
+      }
+      assert.deepEqual([of.satisfies("1.2.3", missing), of.satisfies(missing, "*")], [false, false]);
+      assert.deepEqual([of.valid(missing), of.validRange(missing)], [null, null]);
+    }
+  }
+  for (const name of ["maxSatisfying", "minSatisfying", "satisfies"]) {
+    assert.throws(() => versions[name](name === "satisfies" ? "1.2.3" : ["1.2.3"], 5), TypeError);
+  }
+});
