@@ -19,9 +19,9 @@ export const version: string;
 /** The stabilities, from the least stable on. */
 export const STABILITIES: readonly Stability[];
 
-/** A text is not a version. */
+/** A text is not a version, or a tag has none. */
 export class InvalidVersion extends RangeError {
-  constructor(text: string);
+  constructor(text: string, message?: string);
   readonly text: string;
 }
 
@@ -46,7 +46,7 @@ export class Version {
 
   /**
    * The version in a tag of git, or in another name of a release: 1.2.3 in v1.2.3. With a prefix, the tag has to begin
-   * with it, and the version follows it. InvalidVersion where there is none.
+   * with it, and the version follows it. InvalidVersion where there is none, which says whether the prefix is there.
    */
   static fromTag(tag: Text, prefix?: string | null): Version;
   /** As the function `compare`. */

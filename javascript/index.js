@@ -42,8 +42,8 @@ const FROM = BigInt(FIRST);
 const LONE_SURROGATE = /\p{Surrogate}/u;
 
 export class InvalidVersion extends RangeError {
-  constructor(text) {
-    super(`not a version: ${JSON.stringify(text)}`);
+  constructor(text, message = `not a version: ${JSON.stringify(text)}`) {
+    super(message);
     this.text = text;
   }
 }
@@ -347,6 +347,14 @@ export class Mismatch {
   }
 }
 
+// Why there is no version in a tag.
+function noVersionIn(tag, prefix) {
+  const its = `the tag ${JSON.stringify(tag)}`;
+  if (prefix === null) return `${its} has no version`;
+  const front = JSON.stringify(prefix);
+  return tag.startsWith(prefix) ? `${its} has no version after ${front}` : `${its} doesn't begin with ${front}`;
+}
+
 // How node shows a value.
 const SHOWN = Symbol.for("nodejs.util.inspect.custom");
 
@@ -369,13 +377,13 @@ export class Version {
   static fromTag(tag, prefix = null) {
     const its = textOf(tag);
     const front = prefix === null ? "" : asText(prefix);
-    if (LONE_SURROGATE.test(its) || LONE_SURROGATE.test(front)) throw new InvalidVersion(its);
+    const isLone = LONE_SURROGATE.test(its) || LONE_SURROGATE.test(front);
     writeTwo(front, its);
     const status =
       prefix === null
         ? call.versions_in_tag(FROM, big(two), SLOTS[0])
         : call.versions_after_prefix(FROM, big(one), after(one), big(two), SLOTS[0]);
-    if (status !== OK) throw new InvalidVersion(its);
+    if (isLone || status !== OK) throw new InvalidVersion(its, noVersionIn(its, prefix));
     return new this(its.slice(placeOf(its, slot(0))));
   }
 

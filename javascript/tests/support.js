@@ -6,14 +6,19 @@ export const folder = process.env.JAVASCRIPT;
 export const versions = await import(pathToFileURL(`${folder}/index.js`));
 const { InvalidRequirement, InvalidVersion } = versions;
 
-/** Whether a call throws InvalidVersion with a text. */
-export function refusesVersion(call, text) {
+/** Whether a call throws InvalidVersion with a text, and a message. */
+export function refusesVersion(call, text, message = `not a version: ${JSON.stringify(text)}`) {
   assert.throws(call, (error) => {
     assert.ok(error instanceof InvalidVersion && error instanceof RangeError, String(error));
     assert.equal(error.text, text);
-    assert.equal(String(error), `InvalidVersion: not a version: ${JSON.stringify(text)}`);
+    assert.equal(String(error), `InvalidVersion: ${message}`);
     return true;
   });
+}
+
+/** Whether Version.fromTag throws InvalidVersion for a tag, and says why. */
+export function refusesTag(tag, prefix, why) {
+  refusesVersion(() => versions.Version.fromTag(tag, prefix), tag, `the tag ${JSON.stringify(tag)} ${why}`);
 }
 
 /** Whether a call throws InvalidRequirement with a text, and its first wrong member. */
