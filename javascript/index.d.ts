@@ -2,7 +2,8 @@
  * Version numbers, parsed, ordered and matched by a library that is proved.
  *
  * A text is a string; a `Version` stands for its text in every call, and a `Requirement` for its own. Anything else is
- * a TypeError. A text with a lone surrogate is not a version, and a member with one is not a requirement.
+ * a TypeError, as is an option that a call doesn't know. A text with a lone surrogate is not a version, and a member with
+ * one is not a requirement.
  */
 
 /** strict, as SemVer 2.0 describes it, general, or messy */
@@ -167,9 +168,9 @@ export function matchAll(requirement: string | Requirement, texts: Texts): (bool
 
 export interface NewestOptions {
   /** What the version has to match. */
-  requirement?: string | Requirement;
+  requirement?: string | Requirement | null;
   /** How stable the version has to be at least. */
-  stability?: Stability;
+  stability?: Stability | null;
   /** Whether the version of a text is the one in it as in a tag. */
   tags?: boolean;
 }

@@ -62,8 +62,8 @@ InvalidRequirement.prototype.name = "InvalidRequirement";
 
 const nameOf = (value) => (value === null ? "null" : typeof value);
 
-function asText(value) {
-  if (typeof value !== "string") throw new TypeError(`a text is a string, and this is of type ${nameOf(value)}`);
+function asText(value, what = "this") {
+  if (typeof value !== "string") throw new TypeError(`a text is a string, and ${what} is of type ${nameOf(value)}`);
   return value;
 }
 
@@ -168,8 +168,12 @@ function itemsOf(texts) {
   return Array.from(texts);
 }
 
+// The text of the item at a place of a list, or of its key.
+const textAt = (place, item, what = "item") =>
+  typeof item === "string" ? item : (versionText(item) ?? asText(item, `${what} ${place}`));
+
 // The texts of items. A missing value has the empty text, which is not a version either.
-const textsOf = (items) => items.map((item) => (isMissing(item) ? "" : textOf(item)));
+const textsOf = (items, what) => items.map((item, place) => (isMissing(item) ? "" : textAt(place, item, what)));
 
 // The same of tags, but the empty text for a tag with a lone surrogate: such a text has no version.
 const tagsOf = (items) => textsOf(items).map((tag) => (LONE_SURROGATE.test(tag) ? "" : tag));
@@ -270,22 +274,51 @@ function placesInOrder(texts) {
   return [places, good];
 }
 
-export function sort(texts, { key = null, reverse = false, invalid = "throw" } = {}) {
+/*
+ * The options of a call, each read once, by the names that it knows. Those have the types that their values may be of,
+ * as `nameOf` has them; what is undefined isn't given.
+ */
+function optionsOf(given, known) {
+  if (!isObject(given)) throw new TypeError(`options are an object, and this is of type ${nameOf(given)}`);
+  const other = Object.keys(given).find((name) => !Object.hasOwn(known, name));
+  if (other !== undefined) {
+    throw new TypeError(`there is no option ${JSON.stringify(other)}, but ${Object.keys(known).join(", ")}`);
+  }
+  const options = {};
+  for (const [name, types] of Object.entries(known)) {
+    const value = given[name];
+    if (value !== undefined && !types.includes(nameOf(value))) {
+      throw new TypeError(`the option ${name} is of type ${types.join(" or ")}, and this is of type ${nameOf(value)}`);
+    }
+    options[name] = value;
+  }
+  return options;
+}
+
+const OF_SORT = { key: ["function", "null"], reverse: ["boolean"], invalid: ["string"] };
+const OF_NEWEST = { requirement: ["string", "object", "null"], stability: ["string", "null"], tags: ["boolean"] };
+
+export function sort(texts, options = {}) {
+  const { key = null, reverse = false, invalid = "throw" } = optionsOf(options, OF_SORT);
   if (invalid !== "throw" && invalid !== "last") {
     throw new RangeError(`invalid is 'throw' or 'last', and this is ${JSON.stringify(invalid)}`);
   }
   const items = itemsOf(texts);
+  const what = key === null ? "item" : "the key of item";
+  const keys = key === null ? items : items.map((item) => key(item));
+  const its = invalid === "last" ? textsOf(keys, what) : keys.map((item, place) => textAt(place, item, what));
   // In reverse, the items are sorted from the last to the first, and then taken from the last to the first: so those
   // that tie keep their order.
-  const keys = key === null ? items.slice() : items.map((item) => key(item));
   if (reverse) {
     items.reverse();
-    keys.reverse();
+    its.reverse();
   }
-  const its = invalid === "last" ? textsOf(keys) : keys.map(textOf);
   const [places, good] = placesInOrder(its);
   if (good < places.length && invalid === "throw") {
-    throw new InvalidVersion(its[places[reverse ? places.length - 1 : good]]);
+    const last = places.length - 1;
+    const place = places[reverse ? last : good];
+    const text = its[place];
+    throw new InvalidVersion(text, `${what} ${reverse ? last - place : place} is not a version: ${JSON.stringify(text)}`);
   }
   const versions = places.slice(0, good);
   const others = places.slice(good);
@@ -296,10 +329,11 @@ export function sort(texts, { key = null, reverse = false, invalid = "throw" } =
   return versions.concat(others).map((place) => items[place]);
 }
 
-export function newest(texts, { requirement = null, stability = null, tags = false } = {}) {
+export function newest(texts, options = {}) {
+  const { requirement = null, stability = null, tags = false } = optionsOf(options, OF_NEWEST);
   const list = listOf(requirement ?? "*");
   const least = STABILITIES.indexOf(stability) + 1;
-  if (least === 0 && !isMissing(stability)) throw new RangeError(`no stability: ${JSON.stringify(stability)}`);
+  if (least === 0 && stability !== null) throw new RangeError(`no stability: ${JSON.stringify(stability)}`);
   const items = itemsOf(texts);
   const its = tags ? tagsOf(items) : textsOf(items);
   const { end, passed } = writeAll(its, 0, 3 * list.length);
@@ -604,7 +638,7 @@ export const lte = (a, b) => compare(a, b) <= 0;
 export const eq = (a, b) => compare(a, b) === 0;
 export const neq = (a, b) => compare(a, b) !== 0;
 export const rcompare = (a, b) => compare(b, a);
-export const rsort = (texts, options = {}) => sort(texts, { ...options, reverse: true });
+export const rsort = (texts, options = {}) => sort(texts, { ...optionsOf(options, OF_SORT), reverse: true });
 export const major = (text) => new Version(text).major;
 export const minor = (text) => new Version(text).minor;
 export const patch = (text) => new Version(text).patch;

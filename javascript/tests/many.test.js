@@ -37,7 +37,9 @@ test("what are no texts", () => {
     for (const other of ["1.2", 5, null, undefined, {}, new Version("1")]) {
       refusesType(() => call(other), other === null ? "null" : typeof other);
     }
-    for (const other of [5, 1.2, {}, ["1"], new Requirement("*")]) refusesType(() => call(["1.2", other]), typeof other);
+    for (const other of [5, 1.2, {}, ["1"], new Requirement("*")]) {
+      refusesType(() => call(["1.2", other, 7]), typeof other, "item 1");
+    }
     assert.throws(() => call((function* () { yield "1.2"; throw new Error("mine"); })()), /mine/);
     // The calls go on as before.
     assert.deepEqual(kinds(USUAL), KINDS);
@@ -89,11 +91,47 @@ test("sort", () => {
   assert.deepEqual(sort(tied, { reverse: true }), ["2", "2", "1.0.0+b", "1.0.0+a", "1.0.0+c", "0.9.0"]);
   assert.deepEqual(sort(["1.2", "0:1.2", "1.3"], { reverse: true }), ["1.3", "0:1.2", "1.2"]);
   for (const texts of [["1", "1..2", "x y"], ["1..2"], ["2", "1", "1..2"]]) {
-    for (const reverse of [false, true]) refusesVersion(() => sort(texts, { reverse }), "1..2");
+    const message = `item ${texts.indexOf("1..2")} is not a version: "1..2"`;
+    for (const reverse of [false, true]) refusesVersion(() => sort(texts, { reverse }), "1..2", message);
   }
-  for (const text of ["", "\ud800"]) refusesVersion(() => sort(["1", text]), text);
-  refusesType(() => sort(["1", null]), "null");
-  for (const wrong of ["first", "", null, true]) assert.throws(() => sort(["1"], { invalid: wrong }), RangeError);
+  for (const text of ["", "\ud800"]) {
+    refusesVersion(() => sort(["1", text]), text, `item 1 is not a version: ${JSON.stringify(text)}`);
+  }
+  for (const reverse of [false, true]) refusesType(() => sort(["1", null, "2"], { reverse }), "null", "item 1");
+  for (const wrong of ["first", ""]) assert.throws(() => sort(["1"], { invalid: wrong }), RangeError);
+});
+
+test("options", () => {
+  const typeOf = (value) => (value === null ? "null" : typeof value);
+  const values = [null, true, 1, NaN, 5n, "1", () => "1", Symbol("1"), {}, ["*"], new Version("1")];
+  for (const call of [sort, versions.rsort, newest]) {
+    for (const value of values.filter((value) => typeof value !== "object" || value === null)) {
+      refusesType(() => call([], value), typeOf(value));
+    }
+    const known = call === newest ? "requirement, stability, tags" : "key, reverse, invalid";
+    for (const name of ["Reverse", "loose", "toString", "__proto__", "0", ""]) {
+      const message = `there is no option ${JSON.stringify(name)}, but ${known}`;
+      for (const value of [true, undefined]) assert.throws(() => call([], { [name]: value }), { name: "TypeError", message });
+    }
+  }
+  // The types of an option, and values of it.
+  for (const [call, name, types, good] of [
+    [sort, "key", ["function", "null"], [undefined, null, String]],
+    [sort, "reverse", ["boolean"], [undefined, false, true]],
+    [sort, "invalid", ["string"], [undefined, "throw", "last"]],
+    [newest, "requirement", ["string", "null"], [undefined, null, "*", new Requirement("*")]],
+    [newest, "stability", ["string", "null"], [undefined, null, "dev"]],
+    [newest, "tags", ["boolean"], [undefined, false, true]],
+  ]) {
+    for (const value of good) assert.equal(call(["1"], { [name]: value })[0], "1");
+    for (const value of values.filter((value) => !types.includes(typeOf(value)))) {
+      refusesType(() => call([], { [name]: value }), typeOf(value));
+    }
+  }
+  // Each is read once, wherever it is from.
+  let asked = 0;
+  const options = Object.create({ get reverse() { return asked++ === 0; } });
+  assert.deepEqual([sort(["1", "2"], options), asked], [["2", "1"], 1]);
 });
 
 test("what is not a version comes last", () => {
@@ -102,7 +140,7 @@ test("what is not a version comes last", () => {
   assert.deepEqual(sort(items, { invalid: "last" }), ["1", "2", "3", ...last]);
   assert.deepEqual(sort(items, { invalid: "last", reverse: true }), ["3", "2", "1", ...last]);
   for (const reverse of [false, true]) assert.deepEqual(sort(last, { invalid: "last", reverse }), last);
-  for (const other of [5, {}, new Requirement("*")]) refusesType(() => sort(["1", other], { invalid: "last" }), typeof other);
+  for (const other of [5, {}, new Requirement("*")]) refusesType(() => sort(["1", other], { invalid: "last" }), typeof other, "item 1");
 });
 
 test("sort by a key", () => {
@@ -113,12 +151,15 @@ test("sort by a key", () => {
   const bad = ["x y", "1", null, "2", ""].map((v) => ({ v }));
   assert.deepEqual(sort(bad, { key, invalid: "last" }), [1, 3, 0, 2, 4].map((n) => bad[n]));
   assert.deepEqual(sort(bad, { key, invalid: "last", reverse: true }), [3, 1, 0, 2, 4].map((n) => bad[n]));
-  refusesVersion(() => sort([bad[1], bad[0], bad[4]], { key }), "x y");
+  for (const reverse of [false, true]) {
+    refusesVersion(() => sort([bad[1], bad[0], bad[4]], { key, reverse }), "x y", 'the key of item 1 is not a version: "x y"');
+    refusesType(() => sort([bad[1], { v: 5 }, {}], { key, reverse }), "number", "the key of item 1");
+    refusesType(() => sort([null, {}, { v: 5 }], { key: (row) => row?.v, reverse, invalid: "last" }), "number", "the key of item 2");
+  }
   const called = [];
   sort(["3", "1", "2"], { key: (item) => (called.push(item), item), reverse: true });
   assert.deepEqual(called, ["3", "1", "2"]);
   assert.throws(() => sort(["1"], { key: () => { throw new Error("mine"); } }), /mine/);
-  assert.throws(() => sort(["1"], { key: 5 }), TypeError);
 });
 
 test("sort by a model", () => {
@@ -178,6 +219,6 @@ test("newest", () => {
     assert.equal(newest(items, { requirement }), text);
     assert.equal(String(newest(items.map((each) => new Version(each)).reverse(), { requirement })), text);
   }
-  for (const stability of ["", "Beta", 0, 5, {}]) assert.throws(() => newest([], { stability }), RangeError);
+  for (const stability of ["", "Beta"]) assert.throws(() => newest([], { stability }), RangeError);
   for (const requirement of [5, new Version("1"), ["*"]]) assert.throws(() => newest([], { requirement }), TypeError);
 });

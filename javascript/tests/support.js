@@ -33,11 +33,11 @@ export function refusesRequirement(call, text, start, member) {
   });
 }
 
-/** Whether a call throws a TypeError that names a type. */
-export function refusesType(call, type) {
+/** Whether a call throws a TypeError that names a type, and what is of it. */
+export function refusesType(call, type, what = "this") {
   assert.throws(call, (error) => {
     assert.equal(error.constructor, TypeError, String(error));
-    assert.match(error.message, new RegExp(`of type ${type}$`));
+    assert.match(error.message, new RegExp(`and ${what} is of type ${type}$`));
     return true;
   });
 }
