@@ -132,6 +132,19 @@ function field(text, number) {
   return call.versions_field(FROM, big(length), number, SLOTS[0], SLOTS[1]) === OK ? between(text) : null;
 }
 
+function isPrerelease(text) {
+  call.versions_is_prerelease(FROM, big(write(text)), SLOTS[0]);
+  return bytes[START] === 1;
+}
+
+const stabilityOf = (text) => STABILITIES[call.versions_stability(FROM, big(write(text))) - 1];
+
+function epochOf(text) {
+  // A larger epoch than any number here has a call's status of its own, and the largest number.
+  const status = call.versions_epoch(FROM, big(write(text)), SLOTS[0]);
+  return status === NO_NUMBER ? null : Math.min(slot(0), Number.MAX_SAFE_INTEGER);
+}
+
 export const kind = (text) => KINDS[call.versions_kind(FROM, big(write(textOf(text))))];
 
 export const sortKey = (text) => bytesOf(parse(textOf(text))[1]);
@@ -389,6 +402,19 @@ function noVersionIn(tag, prefix) {
   return tag.startsWith(prefix) ? `${its} has no version after ${front}` : `${its} doesn't begin with ${front}`;
 }
 
+// What the library answered about a version, each when it was first asked for; undefined is what wasn't yet.
+class Answers {
+  isPrerelease;
+  stability;
+  major;
+  minor;
+  patch;
+  epoch;
+  preRelease;
+  release;
+  metadata;
+}
+
 // How node shows a value.
 const SHOWN = Symbol.for("nodejs.util.inspect.custom");
 
@@ -396,6 +422,7 @@ export class Version {
   #text;
   #kind;
   #key;
+  #answers;
 
   constructor(text) {
     this.#text = textOf(text);
@@ -446,42 +473,50 @@ export class Version {
   }
 
   get isPrerelease() {
-    call.versions_is_prerelease(FROM, big(write(this.#text)), SLOTS[0]);
-    return bytes[START] === 1;
+    const answers = (this.#answers ??= new Answers());
+    return (answers.isPrerelease ??= isPrerelease(this.#text));
   }
 
   get stability() {
-    return STABILITIES[call.versions_stability(FROM, big(write(this.#text))) - 1];
+    const answers = (this.#answers ??= new Answers());
+    return (answers.stability ??= stabilityOf(this.#text));
   }
 
   get major() {
-    return this.nth(0);
+    const answers = (this.#answers ??= new Answers());
+    return answers.major === undefined ? (answers.major = this.nth(0)) : answers.major;
   }
 
   get minor() {
-    return this.nth(1);
+    const answers = (this.#answers ??= new Answers());
+    return answers.minor === undefined ? (answers.minor = this.nth(1)) : answers.minor;
   }
 
   get patch() {
-    return this.nth(2);
+    const answers = (this.#answers ??= new Answers());
+    return answers.patch === undefined ? (answers.patch = this.nth(2)) : answers.patch;
   }
 
   get epoch() {
-    // A larger epoch than any number here has a call's status of its own, and the largest number.
-    const status = call.versions_epoch(FROM, big(write(this.#text)), SLOTS[0]);
-    return status === NO_NUMBER ? null : Math.min(slot(0), Number.MAX_SAFE_INTEGER);
+    const answers = (this.#answers ??= new Answers());
+    return answers.epoch === undefined ? (answers.epoch = epochOf(this.#text)) : answers.epoch;
   }
 
   get preRelease() {
-    return field(this.#text, PRE_RELEASE);
+    const answers = (this.#answers ??= new Answers());
+    return answers.preRelease === undefined
+      ? (answers.preRelease = field(this.#text, PRE_RELEASE))
+      : answers.preRelease;
   }
 
   get release() {
-    return field(this.#text, RELEASE);
+    const answers = (this.#answers ??= new Answers());
+    return answers.release === undefined ? (answers.release = field(this.#text, RELEASE)) : answers.release;
   }
 
   get metadata() {
-    return field(this.#text, METADATA);
+    const answers = (this.#answers ??= new Answers());
+    return answers.metadata === undefined ? (answers.metadata = field(this.#text, METADATA)) : answers.metadata;
   }
 
   nth(n) {

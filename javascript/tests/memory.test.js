@@ -100,3 +100,33 @@ test("the target of a text is no larger than the text needs", () => {
     TextEncoder.prototype.encodeInto = encodeInto;
   }
 });
+
+test("a version is asked for each field once", () => {
+  const names = ["major", "minor", "patch", "epoch", "preRelease", "release", "metadata", "isPrerelease", "stability"];
+  // By docs/GRAMMAR.md and docs/TASKS.md.
+  const wanted = {
+    "1.2.3-rc.1+x": [1, 2, 3, null, "rc.1", null, "x", true, "rc"],
+    "4:5.6-7": [5, 6, null, 4, null, "7", null, false, "stable"],
+    "a_b": [null, null, null, null, null, null, null, false, "stable"],
+  };
+  const { call } = library;
+  const kept = { ...call };
+  const asked = [];
+  for (const name of Object.keys(call).filter((name) => typeof call[name] === "function")) {
+    call[name] = (...passed) => (asked.push(name), kept[name](...passed));
+  }
+  try {
+    const values = Object.keys(wanted).map((text) => [new Version(text), wanted[text]]);
+    for (let run = 0; run < 3; run++) {
+      names.forEach((name, place) => {
+        for (const [version, answers] of values) {
+          asked.length = 0;
+          assert.equal(version[name], answers[place], `${version} ${name}`);
+          assert.equal(asked.length, run === 0 ? 1 : 0, `${version} ${name}`);
+        }
+      });
+    }
+  } finally {
+    Object.assign(call, kept);
+  }
+});
