@@ -1,26 +1,21 @@
 /*
  * The proved library as a WebAssembly module, its memory, and how texts get there.
  *
+ * The module is a text in module.js, and compiled while this file is loaded. So nothing here waits: node's `require`
+ * takes the package as `import` does, and a bundler needs no rule for another kind of file.
+ *
  * The module imports nothing, and none of its calls allocates. So all memory past what it begins with is ours: each
  * call writes what it passes from `START` on, over what the call before it left there. The memory grows to what the
  * largest call needs. Where that is more than KEPT bytes, a new instance takes the place of the old one once the running
  * code has ended, since no memory of WebAssembly shrinks.
  */
 
+import encoded from "./module.js";
+
 const PAGE = 65536;
 const KEPT = 16 * 1024 * 1024;
 // A module of nothing but one 64-bit memory.
 const MEMORY_64 = Uint8Array.of(0, 97, 115, 109, 1, 0, 0, 0, 5, 3, 1, 4, 1);
-
-async function read(url) {
-  if (url.protocol === "file:" && typeof process === "object" && process.versions?.node) {
-    const { readFile } = await import(/* webpackIgnore: true */ /* @vite-ignore */ "node:fs/promises");
-    return readFile(url);
-  }
-  const answer = await fetch(url);
-  if (!answer.ok) throw new Error(`${url} was not loaded: status ${answer.status}`);
-  return answer.arrayBuffer();
-}
 
 if (!WebAssembly.validate(MEMORY_64)) {
   throw new Error(
@@ -28,7 +23,7 @@ if (!WebAssembly.validate(MEMORY_64)) {
       "or give an earlier node the option --experimental-wasm-memory64",
   );
 }
-const compiled = await WebAssembly.compile(await read(new URL("./versions.wasm", import.meta.url)));
+const compiled = new WebAssembly.Module(bytesOf(atob(encoded)));
 
 /** The calls of the module, by the names of c/versions.h. */
 export let call;
