@@ -73,6 +73,14 @@ test("the order", () => {
   assert.equal(compareTotal("1.0.0+a", "1.0.0+b"), 0);
 });
 
+test("what the language does with versions by itself, as the page says", () => {
+  const [old, now] = [new Version("1.9"), new Version("1.10")];
+  assert.deepEqual([new Version("2.0") < "1.0", new Version("2.0").compare("1.0") < 0], [true, false]);
+  assert.deepEqual([old, now].sort(), [now, old]);
+  assert.deepEqual(versions.sort([now, old]), [old, now]);
+  assert.deepEqual(structuredClone(old), {});
+});
+
 test("what is not a version", () => {
   for (const text of NONE) {
     assert.equal(kind(text), null);

@@ -29,8 +29,8 @@ const values: Version[] = sort([version], { reverse: true });
 const last: (string | null)[] = sort(["1.2", null], { invalid: "last" });
 const rows: { v: string }[] = sort([{ v: "1" }], { key: (row) => row.v });
 const filtered: Version[] = wanted.filter([version, null]);
-const best: string | null = newest(["1"], { requirement: wanted, stability: "beta", tags: true });
-const most: string | null = maxSatisfying(["1"], "*") ?? minSatisfying(["1"], wanted) ?? valid(null);
+const best: string | null = newest(["1"], { requirement: wanted, stability: null, tags: true });
+const most: string | null = maxSatisfying(["1"], null) ?? minSatisfying(["1"], wanted) ?? valid(null);
 const error: RangeError = new InvalidRequirement("x");
 const text: string = new InvalidVersion("x").text;
 
@@ -44,6 +44,16 @@ sort([1, 2]);
 sort(["1", null]);
 // @ts-expect-error: rows need a key.
 sort([{ v: "1" }]);
+// @ts-expect-error: by `<` a version is compared with a version alone, and with a text by compare.
+export const below: boolean = version < "1.0";
+// @ts-expect-error: the same of a text before it.
+export const above: boolean = "1.0" < version;
+// @ts-expect-error: `==` compares objects.
+export const same: boolean = version == "1.0";
+// @ts-expect-error: there is no such option.
+sort(["1"], { loose: true });
+// @ts-expect-error: a comparison is no option.
+sort(["1"], compare);
 // @ts-expect-error: there is no such stability.
 newest(["1"], { stability: "final" });
 // @ts-expect-error: it can't be changed.
