@@ -29,6 +29,9 @@ const good = texts.filter((_, place) => kinds[place] !== null);
 // What `vers cmp` prints.
 const SIGNS = { "-1": "<", 0: "=", 1: ">" };
 
+// The comparisons that npm's semver has too.
+const COMPARISONS = ["compare", "rcompare", "gt", "gte", "lt", "lte", "eq", "neq"];
+
 function vers(words, lines) {
   const input = Buffer.concat(lines.flatMap((line) => [Buffer.from(line), Buffer.from("\n")]));
   const output = execFileSync(VERS, words, { input, maxBuffer: 2 ** 30 });
@@ -112,12 +115,11 @@ test("strict versions beside npm's semver", () => {
     assert.equal(new versions.Version(text).preRelease, semver.prerelease(text)?.join(".") ?? null);
   }
   const below = chooser(5);
-  const names = ["compare", "rcompare", "gt", "gte", "lt", "lte", "eq", "neq"];
   const near = (text) => [text, text.split(/[-+]/)[0], `${text.split(/[-+]/)[0]}-rc.1`, strict[below(strict.length)]][below(4)];
   for (let run = 0; run < 5000; run++) {
     const a = strict[below(strict.length)];
     const b = near(a);
-    for (const name of names) assert.equal(versions[name](a, b), semver[name](a, b), `${name} ${a} ${b}`);
+    for (const name of COMPARISONS) assert.equal(versions[name](a, b), semver[name](a, b), `${name} ${a} ${b}`);
   }
   const plain = strict.filter((text) => !text.includes("-"));
   let matched = 0;
@@ -149,6 +151,9 @@ test("what is missing, beside npm's semver", () => {
       }
       assert.deepEqual([of.satisfies("1.2.3", missing), of.satisfies(missing, "*")], [false, false]);
       assert.deepEqual([of.valid(missing), of.validRange(missing)], [null, null]);
+      for (const name of ["major", "minor", "patch", ...COMPARISONS]) {
+        assert.throws(() => of[name](missing, "1.2.3"), TypeError, name);
+      }
     }
   }
   for (const name of ["maxSatisfying", "minSatisfying", "satisfies"]) {
