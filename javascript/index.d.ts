@@ -2,7 +2,7 @@
  * Version numbers, parsed, ordered and matched by a library that is proved.
  *
  * A text is a string; a `Version` stands for its text in every call, and a `Requirement` for its own. Anything else is
- * a TypeError, as is an option that a call doesn't know. A text with a lone surrogate is not a version, and a member with
+ * a TypeError, as is an option of another name or type. A text with a lone surrogate is not a version, and a member with
  * one is not a requirement.
  */
 
@@ -39,7 +39,8 @@ export class InvalidRequirement extends RangeError {
 /**
  * A version of any kind, which can't be changed. It keeps its key and its kind.
  *
- * `a < b` and `a > b` go by precedence, the one order of all versions; `==` compares objects, so take `equals`.
+ * `a < b` and `a > b` go by precedence, the one order of all versions; beside a text they mean nothing, so take `compare`.
+ * `==` compares objects, so take `equals`.
  */
 export class Version {
   /** InvalidVersion for a text that is not a version. Of a `Version` it takes the text. */

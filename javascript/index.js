@@ -560,7 +560,7 @@ export class Version {
     return this.#text;
   }
 
-  // So that < and > go by the keys, and all else by the text.
+  // So that < and > go by the keys, and all else by the text. What is on their other side can't be seen from here.
   [Symbol.toPrimitive](hint) {
     return hint === "number" ? this.#key : this.#text;
   }
