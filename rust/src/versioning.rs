@@ -172,32 +172,27 @@ impl<'a> Versioning<'a> {
         library::nth(&self.text, n)
     }
 
-    /// Returns the first number of a strict version, or `None` for every other version.
+    /// Returns the number at place 0, as [`nth`](Versioning::nth) does.
     ///
     /// ```
     /// use proved_versions::Versioning;
     ///
-    /// let version = Versioning::new("1.2.3-rc.1").unwrap();
-    /// let numbers = (version.major(), version.minor(), version.patch());
-    /// assert_eq!(numbers, (Some(1), Some(2), Some(3)));
-    /// assert_eq!(Versioning::new("1.2").unwrap().major(), None);
+    /// let versions = ["1.2.3-rc.1", "1.2", "a.2"].map(|text| Versioning::new(text).unwrap());
+    /// let numbers = [0, 1, 2].map(|n: usize| (versions[n].major(), versions[n].patch()));
+    /// assert_eq!(numbers, [(Some(1), Some(3)), (Some(1), None), (None, None)]);
     /// ```
     pub fn major(&self) -> Option<u32> {
-        self.strict_number(0)
+        self.nth(0)
     }
 
-    /// Returns the second number of a strict version, or `None` for every other version.
+    /// Returns the number at place 1, as [`nth`](Versioning::nth) does.
     pub fn minor(&self) -> Option<u32> {
-        self.strict_number(1)
+        self.nth(1)
     }
 
-    /// Returns the third number of a strict version, or `None` for every other version.
+    /// Returns the number at place 2, as [`nth`](Versioning::nth) does.
     pub fn patch(&self) -> Option<u32> {
-        self.strict_number(2)
-    }
-
-    fn strict_number(&self, place: usize) -> Option<u32> {
-        self.is_ideal().then(|| self.nth(place)).flatten()
+        self.nth(2)
     }
 
     /// Returns the epoch: the number before the colon, which counts in the order. `None` for a

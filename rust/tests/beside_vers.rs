@@ -365,12 +365,9 @@ fn fields_are_pieces_of_the_text() {
         assert_eq!(version.epoch(), epoch, "{line}");
         assert_eq!(version.is_prerelease(), version.pre_release().is_some());
         let numbers = [version.major(), version.minor(), version.patch()];
-        assert_eq!(
-            numbers.map(|n| n.is_some()),
-            [version.is_ideal(); 3],
-            "{line}"
-        );
-        if let [Some(major), Some(minor), Some(patch)] = numbers {
+        assert_eq!(numbers, [0, 1, 2].map(|n| version.nth(n)), "{line}");
+        if version.is_ideal() {
+            let [major, minor, patch] = numbers.map(Option::unwrap);
             let part = |sign, part: Option<&str>| {
                 part.map_or(String::new(), |part| format!("{sign}{part}"))
             };

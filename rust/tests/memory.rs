@@ -54,7 +54,7 @@ fn one_text_and_two() {
             for n in [0, 1, 2, 3, usize::MAX] {
                 assert!(version.nth(n) <= Some(u32::MAX));
             }
-            assert_eq!(version.major().is_some(), version.is_ideal());
+            assert!(version.patch().is_some() || !version.is_ideal());
             assert!(version.epoch() <= Some(i64::MAX as u64));
             assert_eq!(version.is_prerelease(), version.pre_release().is_some());
             assert!(version.release().is_none() || version.is_general());

@@ -508,47 +508,39 @@ fn epochs_and_pre_releases() {
 
 #[test]
 fn fields() {
-    // Of a text, the pre-release, the release, the metadata, and what is strict, by docs/GRAMMAR.md.
-    type Row = (&'static str, [Option<&'static str>; 3], Option<[u32; 3]>);
-    let rows: [Row; 18] = [
-        ("1.2.3", [None; 3], Some([1, 2, 3])),
-        (
-            "1.2.3-rc.1+x86",
-            [Some("rc.1"), None, Some("x86")],
-            Some([1, 2, 3]),
-        ),
-        ("1.2.3-rc.1", [Some("rc.1"), None, None], Some([1, 2, 3])),
-        ("1.2.3+a-b", [None, None, Some("a-b")], Some([1, 2, 3])),
-        ("1.2.3+..", [None, None, Some("..")], Some([1, 2, 3])),
-        (
-            "1.0.0-x-y-z.-",
-            [Some("x-y-z.-"), None, None],
-            Some([1, 0, 0]),
-        ),
+    // Of a text, the pre-release, the release, the metadata, and the first three numbers, by
+    // docs/GRAMMAR.md.
+    let rows: [(&str, [Option<&str>; 3], &str); 18] = [
+        ("1.2.3", [None; 3], "1 2 3"),
+        ("1.2.3-rc.1+x86", [Some("rc.1"), None, Some("x86")], "1 2 3"),
+        ("1.2.3-rc.1", [Some("rc.1"), None, None], "1 2 3"),
+        ("1.2.3+a-b", [None, None, Some("a-b")], "1 2 3"),
+        ("1.2.3+..", [None, None, Some("..")], "1 2 3"),
+        ("1.0.0-x-y-z.-", [Some("x-y-z.-"), None, None], "1 0 0"),
         (
             "4294967295.0.4294967295",
             [None; 3],
-            Some([4294967295, 0, 4294967295]),
+            "4294967295 0 4294967295",
         ),
-        ("1", [None; 3], None),
-        ("1.2-3+x", [None, Some("3"), Some("x")], None),
-        ("1:2.0rc1-3", [None, Some("3"), None], None),
-        ("1.2.3.4-5", [None, Some("5"), None], None),
-        ("1.2rc1", [None; 3], None),
-        ("1--2", [None, Some("-2"), None], None),
-        ("1.2+x", [None, None, Some("x")], None),
-        ("2:10.2+0.0093r3+1-1", [None; 3], None),
-        ("1.2.3-06", [None; 3], None),
-        ("8:2007f~dfsg-7", [None; 3], None),
-        ("4294967296.0.0", [None; 3], None),
+        ("1", [None; 3], "1 - -"),
+        ("1.2-3+x", [None, Some("3"), Some("x")], "1 2 -"),
+        ("1:2.0rc1-3", [None, Some("3"), None], "2 0 -"),
+        ("1.2.3.4-5", [None, Some("5"), None], "1 2 3"),
+        ("1.2rc1", [None; 3], "1 2 -"),
+        ("1--2", [None, Some("-2"), None], "1 - -"),
+        ("1.2+x", [None, None, Some("x")], "1 2 -"),
+        ("2:10.2+0.0093r3+1-1", [None; 3], "10 2 -"),
+        ("1.2.3-06", [None; 3], "1 2 3"),
+        ("8:2007f~dfsg-7", [None; 3], "- - -"),
+        ("4294967296.0.0", [None; 3], "- 0 0"),
     ];
     for (text, fields, numbers) in rows {
         let version = version(text);
         let found = [version.pre_release(), version.release(), version.metadata()];
         assert_eq!(found, fields, "{text}");
         let found = [version.major(), version.minor(), version.patch()];
-        let wanted = numbers.map_or([None; 3], |numbers| numbers.map(Some));
-        assert_eq!(found, wanted, "{text}");
+        let found = found.map(|number| number.map_or("-".into(), |number| number.to_string()));
+        assert_eq!(found.join(" "), numbers, "{text}");
         // They are pieces of the text.
         for piece in found_in(&version) {
             let start = piece.as_ptr() as usize - version.as_str().as_ptr() as usize;
