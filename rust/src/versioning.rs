@@ -26,6 +26,24 @@ use crate::{Difference, InvalidVersion, Key, Kind, Stability, Text};
 /// assert_eq!(Versioning::new("1.0.0+a"), Versioning::new("1.0.0+b"));
 /// ```
 ///
+/// `==` with a text is `==` with the version that the text is, and false where it is not a version.
+/// It reads the text each time, and allocates nothing.
+///
+/// ```
+/// use proved_versions::Versioning;
+///
+/// let version = Versioning::new("1.0.0+a").unwrap();
+/// assert!(version == "1.0.0" && version != "0:1.0.0" && version != "1..0");
+/// ```
+///
+/// There is no `<` with a text, which would be false for a text that is not a version, as `>=` would:
+/// [`compare_total`](crate::compare_total) returns the error.
+///
+/// ```compile_fail,E0308
+/// let version = proved_versions::Versioning::default();
+/// assert!(version < "1.0.0");
+/// ```
+///
 /// The sort key is made once, by [`new`](Versioning::new), and comparisons go by keys. They ask the
 /// library about the texts only where two keys are equal, and not both versions are strict.
 ///
@@ -403,6 +421,12 @@ impl<'a> Versioning<'a> {
         }
     }
 
+    /// Whether a text is this version.
+    fn is(&self, text: &str) -> bool {
+        library::kind(text).is_some()
+            && valid(library::compare_total(&self.text, text).ok()).is_eq()
+    }
+
     /// How this version compares to another one of the same key.
     fn tie(&self, other: &Versioning<'_>) -> Ordering {
         if (self.is_ideal() && other.is_ideal()) || self.text == other.text {
@@ -451,12 +475,50 @@ impl Default for Versioning<'_> {
     }
 }
 
+/// The strict version of three numbers. Allocates its text, and what [`Versioning::new`] does.
+///
+/// ```
+/// use proved_versions::Versioning;
+///
+/// assert_eq!(Versioning::from((1, 2, 3)).as_str(), "1.2.3");
+/// ```
+impl From<(u32, u32, u32)> for Versioning<'_> {
+    fn from((major, minor, patch): (u32, u32, u32)) -> Self {
+        Versioning::new(format!("{major}.{minor}.{patch}"))
+            .expect("the library does not take three numbers for a version")
+    }
+}
+
 impl Eq for Versioning<'_> {}
 
 impl<'b> PartialEq<Versioning<'b>> for Versioning<'_> {
     #[inline]
     fn eq(&self, other: &Versioning<'b>) -> bool {
         self.key == other.key && self.tie(other).is_eq()
+    }
+}
+
+impl PartialEq<str> for Versioning<'_> {
+    fn eq(&self, text: &str) -> bool {
+        self.is(text)
+    }
+}
+
+impl PartialEq<&str> for Versioning<'_> {
+    fn eq(&self, text: &&str) -> bool {
+        self.is(text)
+    }
+}
+
+impl PartialEq<Versioning<'_>> for str {
+    fn eq(&self, version: &Versioning<'_>) -> bool {
+        version.is(self)
+    }
+}
+
+impl PartialEq<Versioning<'_>> for &str {
+    fn eq(&self, version: &Versioning<'_>) -> bool {
+        version.is(self)
     }
 }
 

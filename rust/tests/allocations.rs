@@ -80,6 +80,7 @@ fn calls_that_allocate_nothing() {
         assert_eq!(of(|| compare(a, b)), (0, 0));
         assert_eq!(of(|| compare_total(a, b)), (0, 0));
         assert_eq!(of(|| (x.precedence(&y), x.cmp(&y), x == y)), (0, 0));
+        assert_eq!(of(|| (x == *a, x == *b, x == "1..2")), (0, 0));
         assert_eq!(of(|| (x.kind(), x.nth(0), x.nth(99), x.major())), (0, 0));
         assert_eq!(of(|| (x.epoch(), x.is_prerelease())), (0, 0));
         assert_eq!(of(|| x.pre_release()), (0, 0));

@@ -60,6 +60,7 @@ fn one_text_and_two() {
             assert!(version.release().is_none() || version.is_general());
             assert!(version.metadata().is_none() || !version.is_complex());
             assert_eq!(version, version.clone().into_owned());
+            assert!(version == **a);
             assert!(version.stability() >= Stability::Dev);
             for place in [0, 1, 2, 199, usize::MAX] {
                 assert!(version.next(place).map_or(true, |next| next > version));

@@ -77,7 +77,9 @@ fn answers_that_change() {
 fn calls() -> Result<(), Box<dyn Error>> {
     let version = Versioning::new("1.2.3")?;
     assert_eq!(version, Versioning::new(String::from("1.2.3"))?);
-    assert_eq!(version, "1.2.3".parse()?);
+    assert_eq!(version, "1.2.3");
+    assert_eq!(version, "1.2.3".parse::<Versioning>()?);
+    assert_eq!(version, Versioning::from((1, 2, 3)));
     assert_eq!(version, Versioning::try_from("1.2.3")?);
     assert_eq!(version, Versioning::try_from(String::from("1.2.3"))?);
     assert!(version.is_ideal() && !version.is_general() && !version.is_complex());

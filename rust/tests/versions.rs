@@ -291,7 +291,7 @@ fn comparisons_across_lifetimes() {
     let mut of_the_program = Versioning::new("1.2").unwrap();
     let text = String::from("1.2");
     assert!(alike(&mut of_the_program, &mut version(&text)));
-    assert!(of_the_program == "1.2".parse().unwrap());
+    assert!(of_the_program == *text);
     let set: HashSet<Versioning<'static>> = HashSet::from([of_the_program]);
     assert!(set.contains(&version(&text)));
 }
@@ -396,6 +396,75 @@ fn keys_compare_hash_and_are_looked_up_as_their_bytes() {
         assert_eq!(hashed.get(key.as_bytes()), Some(key));
         assert!(!ordered.contains(&*key.after()) && !hashed.contains(&*key.after()));
     }
+}
+
+/// Whether a version equals a text, and the text the version, in each way to write it.
+fn is_text(version: &Versioning, text: &str) -> bool {
+    let answers = [
+        *version == *text,
+        *version == text,
+        *text == *version,
+        text == *version,
+    ];
+    let unequal = [
+        *version != *text,
+        *version != text,
+        *text != *version,
+        text != *version,
+    ];
+    assert_eq!(answers.map(|answer| !answer), unequal);
+    assert_eq!(answers, [answers[0]; 4], "{version} {text:?}");
+    answers[0]
+}
+
+#[test]
+fn a_version_equals_a_text() {
+    // By docs/ORDER.md: each of the words but the first is another version, with the same key or
+    // not; but for the metadata of strict versions.
+    let rows = [
+        ("1.2 0:1.2 01.2 1.002 1.2+x 1.2.0 1:1.2 1.2-1 v1.2", false),
+        (
+            "1.2.3-rc.1 1.2.3 1.2.3-rc.01 1.2.3-rc.2 0:1.2.3-rc.1",
+            false,
+        ),
+        ("1.2.3 1.2.3+a 1.2.3+b", true),
+        ("1.2.3+a 1.2.3 1.2.3+b", true),
+        ("1_2 1_02 1.2 1-2", false),
+    ];
+    for (texts, are_equal) in rows {
+        let mut texts = texts.split(' ');
+        let one = version(texts.next().unwrap());
+        assert!(is_text(&one, one.as_str()));
+        for text in texts {
+            assert_eq!(is_text(&one, text), are_equal, "{one} {text}");
+            assert_eq!(one == version(text), are_equal, "{one} {text}");
+        }
+        for text in NOT_VERSIONS {
+            assert!(!is_text(&one, text), "{one} {text:?}");
+        }
+    }
+    let long = "1_".repeat(1_000_000) + "1";
+    assert!(is_text(&version(&long), &long));
+    assert!(!is_text(&version(&long), &long[..long.len() - 1]));
+}
+
+#[test]
+fn versions_of_three_numbers() {
+    let max = u32::MAX;
+    let rows = [
+        ((1, 2, 3), "1.2.3"),
+        ((0, 0, 0), "0.0.0"),
+        ((10, 0, 9), "10.0.9"),
+        ((max, max, max), "4294967295.4294967295.4294967295"),
+    ];
+    for (numbers, text) in rows {
+        let made = Versioning::from(numbers);
+        assert_eq!((made.as_str(), made.kind()), (text, Kind::Ideal));
+        let parts = [made.major(), made.minor(), made.patch()];
+        assert_eq!(parts, [numbers.0, numbers.1, numbers.2].map(Some));
+    }
+    let made: Versioning<'static> = (1, 10, 0).into();
+    assert!(made > Versioning::from((1, 9, max)));
 }
 
 #[test]

@@ -50,6 +50,7 @@ fn statuses() {
         ),
         ("versions_compare_total", panic(|| general.cmp(&strict))),
         ("versions_compare_total", panic(|| general == version("v9"))),
+        ("versions_compare_total", panic(|| general == "1")),
         ("versions_parse", panic(|| sort_key("x99"))),
         (
             "versions_parse",
@@ -127,6 +128,7 @@ fn statuses_of_other_calls() {
     for text in ["v2", "v3", "v4"] {
         assert!(panic(|| version(text).cmp(&version("v0"))).contains(FORGOTTEN));
         assert!(panic(|| version(text) == version("v0")).contains(FORGOTTEN));
+        assert!(panic(|| version(text) == "1").contains(FORGOTTEN));
         assert!(panic(|| version(text).difference(&version("v0"))).contains(FORGOTTEN));
     }
     for (text, status) in [("x5", "status 5"), ("x7", "status 7"), ("x10", "status 10")] {
