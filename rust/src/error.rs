@@ -34,6 +34,20 @@ pub struct InvalidRequirement {
     member: Range<usize>,
 }
 
+/// The error for a text that is not the name of a [`Kind`](crate::Kind) or a
+/// [`Stability`](crate::Stability), whichever is parsed. It holds the whole text.
+///
+/// ```
+/// let error = "Ideal".parse::<proved_versions::Kind>().unwrap_err();
+/// assert_eq!(error.to_string(), r#"not one of ideal, general, complex: "Ideal""#);
+/// assert_eq!(error.text(), "Ideal");
+/// ```
+#[derive(Clone, Debug, PartialEq, Eq, Hash)]
+pub struct InvalidName {
+    text: String,
+    names: &'static [&'static str],
+}
+
 impl InvalidVersion {
     pub(crate) fn new(text: impl Into<String>) -> Self {
         InvalidVersion { text: text.into() }
@@ -78,6 +92,27 @@ impl InvalidRequirement {
     }
 }
 
+impl InvalidName {
+    /// The place of a name among others.
+    pub(crate) fn place(names: &'static [&'static str], text: &str) -> Result<usize, Self> {
+        let place = names.iter().position(|name| *name == text);
+        place.ok_or_else(|| InvalidName {
+            text: text.into(),
+            names,
+        })
+    }
+
+    /// Returns the text that is not a name.
+    pub fn text(&self) -> &str {
+        &self.text
+    }
+
+    /// Returns the same, as the `String` that the error held.
+    pub fn into_text(self) -> String {
+        self.text
+    }
+}
+
 impl fmt::Display for InvalidVersion {
     fn fmt(&self, f: &mut fmt::Formatter<'_>) -> fmt::Result {
         write!(f, "not a version: {:?}", self.text)
@@ -95,6 +130,14 @@ impl fmt::Display for InvalidRequirement {
     }
 }
 
+impl fmt::Display for InvalidName {
+    fn fmt(&self, f: &mut fmt::Formatter<'_>) -> fmt::Result {
+        write!(f, "not one of {}: {:?}", self.names.join(", "), self.text)
+    }
+}
+
 impl Error for InvalidVersion {}
 
 impl Error for InvalidRequirement {}
+
+impl Error for InvalidName {}

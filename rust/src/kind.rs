@@ -1,4 +1,7 @@
 use std::fmt;
+use std::str::FromStr;
+
+use crate::InvalidName;
 
 /// Which of the three grammars a version has: the first that the whole text fits.
 ///
@@ -13,6 +16,7 @@ use std::fmt;
 /// assert_eq!(kind("20.0026.1_0-2+0.93"), Some(Kind::Complex));
 /// assert_eq!(kind("1..2"), None);
 /// assert_eq!(Kind::Ideal.to_string(), "ideal");
+/// assert_eq!("ideal".parse(), Ok(Kind::Ideal));
 /// ```
 #[derive(Clone, Copy, Debug, PartialEq, Eq, PartialOrd, Ord, Hash)]
 pub enum Kind {
@@ -24,13 +28,27 @@ pub enum Kind {
     Complex,
 }
 
+impl Kind {
+    pub(crate) const ALL: [Kind; 3] = [Kind::Ideal, Kind::General, Kind::Complex];
+    const NAMES: [&'static str; 3] = ["ideal", "general", "complex"];
+
+    pub(crate) fn name(self) -> &'static str {
+        Kind::NAMES[self as usize]
+    }
+}
+
 /// `ideal`, `general` or `complex`.
 impl fmt::Display for Kind {
     fn fmt(&self, f: &mut fmt::Formatter<'_>) -> fmt::Result {
-        f.pad(match self {
-            Kind::Ideal => "ideal",
-            Kind::General => "general",
-            Kind::Complex => "complex",
-        })
+        f.pad(self.name())
+    }
+}
+
+/// From what `Display` prints.
+impl FromStr for Kind {
+    type Err = InvalidName;
+
+    fn from_str(name: &str) -> Result<Kind, InvalidName> {
+        InvalidName::place(&Kind::NAMES, name).map(|place| Kind::ALL[place])
     }
 }

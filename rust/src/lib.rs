@@ -74,7 +74,7 @@ mod text;
 mod versioning;
 
 pub use difference::Difference;
-pub use error::{InvalidRequirement, InvalidVersion};
+pub use error::{InvalidName, InvalidRequirement, InvalidVersion};
 pub use key::Key;
 pub use kind::Kind;
 pub use many::{

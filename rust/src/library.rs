@@ -427,7 +427,7 @@ impl Written {
         KeyRange {
             low,
             high: (self.flags & RANGE_HIGH != 0).then_some(high),
-            kinds: KINDS
+            kinds: Kind::ALL
                 .into_iter()
                 .filter(|kind| self.flags & flag(*kind) != 0)
                 .fold(Kinds::NONE, Kinds::with),
@@ -969,8 +969,6 @@ fn start(text: &str) -> *const c_char {
     text.as_ptr().cast()
 }
 
-const KINDS: [Kind; 3] = [Kind::Ideal, Kind::General, Kind::Complex];
-
 /// The kind of a number of `versions_kind`.
 fn kind_of(number: c_int) -> Option<Kind> {
     match kind_of_number(number) {
@@ -1023,12 +1021,12 @@ fn flag(kind: Kind) -> u32 {
 
 /// All flags of a range, added.
 fn all_flags() -> u32 {
-    KINDS.map(flag).iter().sum::<u32>() + RANGE_HIGH + RANGE_EXACT
+    Kind::ALL.map(flag).iter().sum::<u32>() + RANGE_HIGH + RANGE_EXACT
 }
 
 /// The flags of a range, added.
 fn flags(range: &KeyRange) -> u32 {
-    let kinds = KINDS.into_iter().filter(|kind| range.has_kind(*kind));
+    let kinds = Kind::ALL.into_iter().filter(|kind| range.has_kind(*kind));
     let bounds = if range.high().is_some() {
         RANGE_HIGH
     } else {

@@ -115,7 +115,7 @@ impl fmt::Debug for KeyRange {
         if let Some(high) = &self.high {
             write!(f, "{high:?}")?;
         }
-        for kind in [Kind::Ideal, Kind::General, Kind::Complex] {
+        for kind in Kind::ALL {
             if self.has_kind(kind) {
                 write!(f, ", {kind}")?;
             }

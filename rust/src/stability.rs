@@ -1,4 +1,7 @@
 use std::fmt;
+use std::str::FromStr;
+
+use crate::InvalidName;
 
 /// How stable a version is, by the words that stand in it: what
 /// [`Versioning::stability`](crate::Versioning::stability) returns.
@@ -10,6 +13,7 @@ use std::fmt;
 ///
 /// assert!(Stability::Dev < Stability::Alpha && Stability::Rc < Stability::Stable);
 /// assert_eq!(Stability::Beta.to_string(), "beta");
+/// assert_eq!("beta".parse(), Ok(Stability::Beta));
 /// ```
 #[derive(Clone, Copy, Debug, PartialEq, Eq, PartialOrd, Ord, Hash)]
 pub enum Stability {
@@ -25,15 +29,33 @@ pub enum Stability {
     Stable,
 }
 
+impl Stability {
+    const ALL: [Stability; 5] = [
+        Stability::Dev,
+        Stability::Alpha,
+        Stability::Beta,
+        Stability::Rc,
+        Stability::Stable,
+    ];
+    const NAMES: [&'static str; 5] = ["dev", "alpha", "beta", "rc", "stable"];
+
+    pub(crate) fn name(self) -> &'static str {
+        Stability::NAMES[self as usize]
+    }
+}
+
 /// `dev`, `alpha`, `beta`, `rc` or `stable`.
 impl fmt::Display for Stability {
     fn fmt(&self, f: &mut fmt::Formatter<'_>) -> fmt::Result {
-        f.pad(match self {
-            Stability::Dev => "dev",
-            Stability::Alpha => "alpha",
-            Stability::Beta => "beta",
-            Stability::Rc => "rc",
-            Stability::Stable => "stable",
-        })
+        f.pad(self.name())
+    }
+}
+
+/// From what `Display` prints.
+impl FromStr for Stability {
+    type Err = InvalidName;
+
+    fn from_str(name: &str) -> Result<Stability, InvalidName> {
+        InvalidName::place(&Stability::NAMES, name).map(|place| Stability::ALL[place])
     }
 }

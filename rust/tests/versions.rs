@@ -10,8 +10,8 @@ use std::rc::Rc;
 use std::sync::Arc;
 
 use proved_versions::{
-    compare, compare_total, kind, sort_key, Difference, InvalidRequirement, InvalidVersion, Key,
-    KeyRange, Kind, Requirement, SortKeys, Stability, Versioning,
+    compare, compare_total, kind, sort_key, Difference, InvalidName, InvalidRequirement,
+    InvalidVersion, Key, KeyRange, Kind, Requirement, SortKeys, Stability, Versioning,
 };
 
 // By docs/GRAMMAR.md.
@@ -115,6 +115,43 @@ fn kinds_are_printed_and_ordered() {
     );
     assert!(kinds[0] < kinds[1] && kinds[1] < kinds[2]);
     assert_eq!(HashSet::from(kinds).len(), 3);
+}
+
+#[test]
+fn names_of_kinds_and_stabilities() {
+    let kinds = [
+        ("ideal", Kind::Ideal),
+        ("general", Kind::General),
+        ("complex", Kind::Complex),
+    ];
+    // By docs/TASKS.md.
+    let stabilities = [
+        ("dev", Stability::Dev),
+        ("alpha", Stability::Alpha),
+        ("beta", Stability::Beta),
+        ("rc", Stability::Rc),
+        ("stable", Stability::Stable),
+    ];
+    for (name, kind) in kinds {
+        assert_eq!((name.parse(), kind.to_string()), (Ok(kind), name.into()));
+    }
+    for (name, stability) in stabilities {
+        let read = (name.parse(), stability.to_string());
+        assert_eq!(read, (Ok(stability), name.into()));
+    }
+    for text in ["", "Ideal", "RC", "rc ", " dev", "strict", "alph", "rc\0"] {
+        let kind = text.parse::<Kind>().unwrap_err();
+        let said = format!("not one of ideal, general, complex: {text:?}");
+        assert_eq!((kind.text(), kind.to_string()), (text, said));
+        let stability: InvalidName = text.parse::<Stability>().unwrap_err();
+        let said = format!("not one of dev, alpha, beta, rc, stable: {text:?}");
+        assert_eq!(stability.to_string(), said);
+        assert_ne!(kind, stability);
+        let error: Box<dyn Error> = stability.into();
+        assert!(error.source().is_none());
+        assert_eq!(kind.into_text(), text);
+    }
+    assert!("dev".parse::<Kind>().is_err() && "ideal".parse::<Stability>().is_err());
 }
 
 #[test]
@@ -767,6 +804,7 @@ fn every_type_is_send_and_sync() {
     holds::<proved_versions::Mismatch>();
     holds::<InvalidVersion>();
     holds::<InvalidRequirement>();
+    holds::<InvalidName>();
     holds::<SortKeys>();
     holds::<proved_versions::Filter<'_, std::vec::IntoIter<Versioning>>>();
 }
