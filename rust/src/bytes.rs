@@ -53,6 +53,22 @@ impl Bytes {
     }
 }
 
+/// Copies the bytes.
+#[cfg(feature = "serde")]
+impl From<&[u8]> for Bytes {
+    fn from(bytes: &[u8]) -> Bytes {
+        if bytes.len() > WITHIN {
+            return Bytes::Allocated(bytes.into());
+        }
+        let mut room = [0; WITHIN];
+        room[..bytes.len()].copy_from_slice(bytes);
+        Bytes::Within {
+            length: bytes.len() as u8,
+            room,
+        }
+    }
+}
+
 /// Where each word of a room begins. The last one overlaps with the one before.
 const WORDS: [usize; 5] = [0, 8, 16, 24, WITHIN - 8];
 

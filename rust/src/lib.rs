@@ -45,8 +45,9 @@
 //!
 //! # Features
 //!
-//! `serde`: [`Versioning`] and [`Requirement`] are serialized as their texts, and deserialized from
-//! texts.
+//! `serde`: [`Versioning`] and [`Requirement`] are serialized as their texts, [`Kind`] and
+//! [`Stability`] as their names, and all four are deserialized from texts. A [`Key`] is bytes, and in
+//! a format that people read a text of their hexadecimal digits, which can be the key of a map.
 #![deny(missing_docs, unsafe_code, unsafe_op_in_unsafe_fn)]
 
 use std::cmp::Ordering;

@@ -1,12 +1,14 @@
-//! Versions and requirements as their texts, by serde.
+//! Versions and requirements as their texts, kinds and stabilities as their names, and keys as bytes,
+//! by serde.
 
 use std::borrow::Cow;
 use std::fmt;
 
-use serde::de::{Deserialize, Deserializer, Error, Visitor};
+use serde::de::{Deserialize, Deserializer, Error, Unexpected, Visitor};
 use serde::ser::{Serialize, Serializer};
 
-use crate::{Requirement, Versioning};
+use crate::bytes::Bytes;
+use crate::{Key, Kind, Requirement, Stability, Versioning};
 
 /// Takes a text, borrowed where the format lends it; the word says what it should be.
 struct Text(&'static str);
@@ -89,4 +91,93 @@ impl Serialize for Requirement<'_> {
     fn serialize<S: Serializer>(&self, serializer: S) -> Result<S::Ok, S::Error> {
         serializer.serialize_str(self.as_str())
     }
+}
+
+/// As the name, as `ideal`.
+impl Serialize for Kind {
+    fn serialize<S: Serializer>(&self, serializer: S) -> Result<S::Ok, S::Error> {
+        serializer.serialize_str(self.name())
+    }
+}
+
+/// From the name, as `ideal`.
+impl<'de> Deserialize<'de> for Kind {
+    fn deserialize<D: Deserializer<'de>>(deserializer: D) -> Result<Self, D::Error> {
+        let name = deserializer.deserialize_str(Text("a kind"))?;
+        name.parse().map_err(D::Error::custom)
+    }
+}
+
+/// As the name, as `rc`.
+impl Serialize for Stability {
+    fn serialize<S: Serializer>(&self, serializer: S) -> Result<S::Ok, S::Error> {
+        serializer.serialize_str(self.name())
+    }
+}
+
+/// From the name, as `rc`.
+impl<'de> Deserialize<'de> for Stability {
+    fn deserialize<D: Deserializer<'de>>(deserializer: D) -> Result<Self, D::Error> {
+        let name = deserializer.deserialize_str(Text("a stability"))?;
+        name.parse().map_err(D::Error::custom)
+    }
+}
+
+/// As bytes. In a format that people read, as JSON, as a text of two hexadecimal digits for each
+/// byte, in lower case. So a key can be the key of a map there too, and such texts sort as keys do.
+impl Serialize for Key {
+    fn serialize<S: Serializer>(&self, serializer: S) -> Result<S::Ok, S::Error> {
+        if serializer.is_human_readable() {
+            serializer.collect_str(&format_args!("{:?}", self.bytes()))
+        } else {
+            serializer.serialize_bytes(self.as_bytes())
+        }
+    }
+}
+
+/// From bytes, or a text of their hexadecimal digits. Takes any bytes, also those that are the key of
+/// no version.
+impl<'de> Deserialize<'de> for Key {
+    fn deserialize<D: Deserializer<'de>>(deserializer: D) -> Result<Self, D::Error> {
+        if deserializer.is_human_readable() {
+            deserializer.deserialize_str(Digits)
+        } else {
+            deserializer.deserialize_bytes(Digits)
+        }
+    }
+}
+
+/// Takes a key. Bytes may come where a text was asked for, since what serde holds back, as for an
+/// untagged enum, counts as read by people.
+struct Digits;
+
+impl Visitor<'_> for Digits {
+    type Value = Key;
+
+    fn expecting(&self, f: &mut fmt::Formatter<'_>) -> fmt::Result {
+        f.write_str("a key as bytes or hexadecimal digits")
+    }
+
+    fn visit_bytes<E: Error>(self, bytes: &[u8]) -> Result<Key, E> {
+        Ok(Key::new(Bytes::from(bytes)))
+    }
+
+    fn visit_str<E: Error>(self, text: &str) -> Result<Key, E> {
+        match bytes_of(text) {
+            Some(bytes) => self.visit_bytes(&bytes),
+            None => Err(E::invalid_value(Unexpected::Str(text), &self)),
+        }
+    }
+}
+
+/// The bytes of hexadecimal digits; `None` for any other text.
+fn bytes_of(digits: &str) -> Option<Vec<u8>> {
+    let byte = |pair: &[u8]| {
+        let digit = |digit: u8| char::from(digit).to_digit(16);
+        match *pair {
+            [first, second] => Some((digit(first)? * 16 + digit(second)?) as u8),
+            _ => None,
+        }
+    };
+    digits.as_bytes().chunks(2).map(byte).collect()
 }
