@@ -132,15 +132,19 @@ impl<'a> Requirement<'a> {
         })
     }
 
-    /// Returns two members of the list that exclude each other, so that no version matches, or `None`.
-    /// Both are the same if one member excludes every version. Allocates nothing.
+    /// Returns two members of the list that exclude each other by their ranges, so that no version
+    /// matches, or `None`. Both are the same if one member excludes every version. Allocates nothing.
+    ///
+    /// `None` where the range isn't empty: such a list can still match no version, as `=1.0,=1.0+x`.
     ///
     /// ```
     /// use proved_versions::Requirement;
     ///
     /// let requirement = Requirement::new(">=1.2,*,<1.0").unwrap();
     /// assert_eq!(requirement.conflict(), Some((">=1.2", "<1.0")));
-    /// assert_eq!(Requirement::new(">=1.2,<2").unwrap().conflict(), None);
+    /// for text in [">=1.2,<2", "=1.0,=1.0+x"] {
+    ///     assert_eq!(Requirement::new(text).unwrap().conflict(), None);
+    /// }
     /// ```
     pub fn conflict(&self) -> Option<(&str, &str)> {
         let [first, second] = library::conflict(&self.text)?;
