@@ -258,7 +258,6 @@ CALLS = {
     "newest with all": partial(versions.newest, ["v1.3", PLAIN], ">=1", versions.Stability.RC, tags=True),
     "newest of none": partial(versions.newest, ["1..2", PLAIN], "<0"),
     "newest of no requirement": partial(versions.newest, ["1.2"], "1"),
-    "newest of no stability": partial(versions.newest, ["1.2"], stability=7),
     "newest of no text": partial(versions.newest, ["1.2", Odd()]),
     "newest of one": partial(versions.newest, "1.2"),
     "sorted": partial(versions.sorted, ["1.3", "1.2", LONG]),
@@ -291,6 +290,8 @@ PYTHON_CALLS = {
     "what changed": lambda: (str(PLAIN.difference("1.3")), PLAIN.difference(EPOCH), PLAIN.next(0), PLAIN.next(9)),
     "tags": lambda: (versions.Version.from_tag("v1.2"), MINE.from_tag("go1.2", "go").stability),
     "range": lambda: (WANTED.range, pickle.loads(pickle.dumps(WANTED)).low, WANTED == STRICT, hash(WANTED)),
+    "newest of a name": lambda: versions.newest(["1.2", "1.3rc1"], stability="stable"),
+    "newest of no stability": lambda: versions.newest(["1.2"], stability=7),
     "kinds of what fails": failing_midway,
     "kinds of what can't be iterated": lambda: versions.kinds(5),
 }

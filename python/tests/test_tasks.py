@@ -265,6 +265,13 @@ class Newest(LongLists):
         self.assertEqual(newest(["1.10", "1.9", "1.10rc1"]), "1.10")
         self.assertEqual(newest(["1.10-SNAPSHOT", "1.9b1"], stability=Stability.BETA), "1.9b1")
         self.assertEqual(newest(["1.10", "1.9"], None, None, False), "1.10")
+        # By docs/TASKS.md: the names, from the lowest up.
+        texts = ["1.0", "1.1rc1", "1.2b1", "1.3a1", "1.4.dev1"]
+        for name, wanted in zip(("stable", "rc", "beta", "alpha", "dev"), texts):
+            self.assertEqual(newest(texts, stability=name), wanted)
+            self.assertEqual(newest(texts, stability=Stability(name)), wanted)
+            self.assertIs(Stability(name), Stability[name.upper()])
+            self.assertIs(Stability(int(Stability(name))), Stability(name))
 
     def test_the_order_of_two(self):
         for i, a in enumerate(INCREASING):
@@ -346,11 +353,18 @@ class Newest(LongLists):
                 self.assertEqual(raised.exception.text, wrong)
         for wrong in (5, b"*", Version("1"), ["*"]):
             self.assertRaises(TypeError, versions.newest, [], wrong)
-        for wrong in (0, 6, -1, 10**30, -(10**30)):
-            words = f"stability is one of Stability, and this is {wrong}$"
-            self.assertRaisesRegex(ValueError, words, versions.newest, [], None, wrong)
-        for wrong in ("beta", 1.0, b"", Version("1")):
-            self.assertRaises(TypeError, versions.newest, [], None, wrong)
+        # By docs/TASKS.md, the names of the stabilities.
+        names = "a stability is one of dev, alpha, beta, rc, stable, and this is"
+        for call in (Stability, lambda wrong: versions.newest([], None, wrong)):
+            for wrong in (0, 6, -1, 10**30, -(10**30), "betta", "Beta", "BETA", "", "beta ", "1", "\ud800"):
+                with self.assertRaises(ValueError) as raised:
+                    call(wrong)
+                self.assertIs(type(raised.exception), ValueError)
+                self.assertEqual(str(raised.exception), f"{names} {wrong!r}")
+            for wrong in (True, False, 1.0, b"beta", Version("1"), ("beta",), ()):
+                with self.assertRaises(TypeError) as raised:
+                    call(wrong)
+                self.assertEqual(str(raised.exception), f"{names} {wrong!r}")
         for wrong in ((), ([], None, None, False, None)):
             self.assertRaises(TypeError, versions.newest, *wrong)
         self.assertRaises(TypeError, versions.newest, [], key=str)

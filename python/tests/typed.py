@@ -37,6 +37,8 @@ told: tuple[str, str, int, int, Reason] = why_not or ("1.4", ">=1.5", 0, 5, Reas
 conflict: Optional[tuple[str, str]] = wanted.conflict
 following: Version = version.next(1)
 newest_text: Optional[str] = versions.newest(["1.2", None], ">=1", Stability.RC, tags=True)
+newest_beta: Optional[str] = versions.newest(["1.2"], stability="beta")
+stability_of_name: Stability = Stability("rc")
 newest_version: Optional[Version] = versions.newest([version, newest], requirement=wanted)
 mixed: list[Union[str, Version]] = ["1.2", version]
 newest_of_both: Union[str, Version, None] = versions.newest(mixed)
@@ -78,5 +80,6 @@ versions.kinds([1.2])  # type: ignore[list-item]
 wanted.why_not(1.2)  # type: ignore[arg-type]
 version.difference(1.2)  # type: ignore[arg-type]
 versions.newest([1.2])  # type: ignore[type-var]
-versions.newest(["1.2"], stability="beta")  # type: ignore[arg-type]
+versions.newest(["1.2"], stability="betta")  # type: ignore[arg-type]
+versions.newest(["1.2"], stability=True)  # type: ignore[arg-type]
 version.key = b""  # type: ignore[misc]

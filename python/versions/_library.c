@@ -865,16 +865,26 @@ static int read_wanted(PyObject *requirement, struct range *wanted) {
   return failed;
 }
 
-/* Reads a Stability, or 0 where it is None. */
-static int read_stability(PyObject *object, uint32_t *number) {
-  Py_ssize_t given = object == Py_None ? 0 : PyNumber_AsSsize_t(object, NULL);
+/* The Stability that is made of an object, such as its name. */
+static PyObject *stability_of(PyObject *object) {
+  PyObject *module = PyImport_ImportModule("versions._version");
+  PyObject *stability = module == NULL ? NULL : PyObject_CallMethod(module, "Stability", "(O)", object);
 
-  *number = 0;
-  if (object == Py_None) return 0;
-  if (given == -1 && PyErr_Occurred()) return -1;
-  if (given < VERSIONS_DEV || given > VERSIONS_STABLE) {
-    fail(PyExc_ValueError, "stability is one of Stability, and this is %S", object);
-    return -1;
+  Py_XDECREF(module);
+  return stability;
+}
+
+/* Reads a Stability, or what one is made of; 0 where it is None. */
+static int read_stability(PyObject *object, uint32_t *number) {
+  bool is_number = PyLong_Check(object) && !PyBool_Check(object);
+  Py_ssize_t given = is_number ? PyNumber_AsSsize_t(object, NULL) : 0;
+
+  if (object != Py_None && (given < VERSIONS_DEV || given > VERSIONS_STABLE)) {
+    PyObject *stability = stability_of(object);
+
+    if (stability == NULL) return -1;
+    given = PyNumber_AsSsize_t(stability, NULL);
+    Py_DECREF(stability);
   }
   *number = (uint32_t)given;
   return 0;
@@ -1035,16 +1045,17 @@ PyDoc_STRVAR(newest_doc,
              "values, as\n"
              "`kinds` has them, are passed over. So are versions that the `requirement` doesn't match, a `Requirement` "
              "or a text,\n"
-             "and versions that are less stable than a `stability`. With `tags`, a text has its version as "
-             "`Version.from_tag`\n"
-             "finds it, and the text of a `Version` counts as a tag too. `InvalidRequirement` where the text is not a "
-             "requirement.\n"
+             "and versions that are less stable than a `stability`, a `Stability` or its name. With `tags`, a text has "
+             "its version\n"
+             "as `Version.from_tag` finds it, and the text of a `Version` counts as a tag too. `InvalidRequirement` "
+             "where the text\n"
+             "is not a requirement.\n"
              "\n"
              ">>> newest([\"1.9\", \"1.10\", \"2.0rc1\", \"x y\", None])\n"
              "'2.0rc1'\n"
              ">>> newest([\"v1.10.0\", \"v2.0.0-beta.1\", \"v2.0.0\"], \"<2\", tags=True)\n"
              "'v1.10.0'\n"
-             ">>> newest([\"1.9\", \"1.10\", \"2.0rc1\"], stability=Stability.STABLE)\n"
+             ">>> newest([\"1.9\", \"1.10\", \"2.0rc1\"], stability=\"stable\")\n"
              "'1.10'\n");
 
 static PyMethodDef functions[] = {

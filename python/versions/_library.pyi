@@ -100,7 +100,7 @@ def in_tags(texts: Texts) -> list[Optional[str]]: ...
 def newest(
     texts: Iterable[VersionOrMissing],
     requirement: Union[str, Requirement, None] = ...,
-    stability: Optional[Stability] = ...,
+    stability: Union[Stability, Literal["dev", "alpha", "beta", "rc", "stable"], None] = ...,
     tags: bool = ...,
 ) -> Optional[VersionOrMissing]: ...
 @overload

@@ -3,7 +3,7 @@
 from __future__ import annotations
 
 import enum
-from typing import TYPE_CHECKING, Literal, NamedTuple, Optional, Union
+from typing import TYPE_CHECKING, Any, Literal, NamedTuple, Optional, Union
 
 from . import _library
 from ._value import Value
@@ -14,13 +14,28 @@ if TYPE_CHECKING:
 Kind = Literal["ideal", "general", "complex"]
 
 
-class Stability(enum.IntEnum):
+class _StabilityType(enum.EnumMeta):
+    """Calls `Stability` with a number or a name. An IntEnum alone takes True and 1.0 for 1."""
+
+    def __call__(cls, value: Any, *args: Any, **named: Any) -> Any:
+        if isinstance(value, bool) or not isinstance(value, (int, str)):
+            raise TypeError(_not_a_stability(value))
+        return super().__call__(value, *args, **named)
+
+
+class Stability(enum.IntEnum, metaclass=_StabilityType):
     """How stable a version is, from DEV up to STABLE, by the words that stand in it: by habit, not by SemVer 2.0.
+
+    It is made of its name, as `str` has it, or its number. `ValueError` for any other text or number, and `TypeError`
+    for what is neither, as True.
 
     >>> Stability.DEV < Stability.ALPHA < Stability.BETA < Stability.RC < Stability.STABLE
     True
-    >>> str(Stability.BETA)
-    'beta'
+    >>> str(Stability.BETA), Stability("beta") is Stability.BETA
+    ('beta', True)
+    >>> Stability("betta")
+    Traceback (most recent call last):
+    ValueError: a stability is one of dev, alpha, beta, rc, stable, and this is 'betta'
     """
 
     DEV = _library.DEV
@@ -29,12 +44,27 @@ class Stability(enum.IntEnum):
     RC = _library.RC
     STABLE = _library.STABLE
 
+    if TYPE_CHECKING:
+
+        def __new__(cls, value: Union[int, str]) -> Self: ...
+
+    @classmethod
+    def _missing_(cls, value: object) -> Stability:
+        for stability in cls:
+            if str(stability) == value:
+                return stability
+        raise ValueError(_not_a_stability(value))
+
     def __str__(self) -> str:
         return self.name.lower()
 
     def __format__(self, spec: str) -> str:
         # That of IntEnum formats the number in some versions of Python, and the name in others.
         return format(str(self), spec)
+
+
+def _not_a_stability(value: object) -> str:
+    return f"a stability is one of {', '.join(map(str, Stability))}, and this is {value!r}"
 
 
 # What `_library.stabilities` answers, by the numbers of the library.
