@@ -100,12 +100,16 @@ class Requirement(Value, _library.Ranged):
 
     @property
     def conflict(self) -> Optional[tuple[str, str]]:
-        """Two members that exclude each other, so that nothing matches, or None.
+        """Two members that exclude each other by their ranges, so that nothing matches, or None.
 
-        The two are the same where one member excludes every version.
+        The two are the same where one member excludes every version. None where the range isn't empty: such a list can
+        still match nothing.
 
         >>> Requirement(">=1.2,*,<1.0").conflict, Requirement(">=1.2,<2").conflict
         (('>=1.2', '<1.0'), None)
+        >>> wanted = Requirement("=1.0,=1.0+x")
+        >>> wanted.conflict, wanted.filter(["1.0", "1.0+x"])
+        (None, [])
         """
         return _library.conflict(self._text)
 
