@@ -369,7 +369,7 @@ export class Difference {
 
   toString() {
     return {
-      none: "they are the same version",
+      none: "they differ at most after the plus, which doesn't count",
       tie: "they compare equal, and are not the same version",
       epoch: "they differ first in the epoch",
       part: `they differ first in part ${this.part}`,

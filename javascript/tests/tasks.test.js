@@ -107,7 +107,7 @@ test("differences", () => {
   }
   // By docs/ORDER.md: where they differ first, and in which part; and pairs of versions that do.
   const sentences = {
-    none: "they are the same version",
+    none: "they differ at most after the plus, which doesn't count",
     tie: "they compare equal, and are not the same version",
     epoch: "they differ first in the epoch",
     tail: "they differ first in what follows the parts",

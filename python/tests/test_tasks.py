@@ -416,7 +416,7 @@ class Differences(unittest.TestCase):
     )
     PAIRS = [(name, part, *pair.split()) for name, part, pairs in ROWS for pair in pairs.split(", ")]
     SENTENCES = {
-        "NONE": "they are the same version",
+        "NONE": "they differ at most after the plus, which doesn't count",
         "TIE": "they compare equal, and are not the same version",
         "EPOCH": "they differ first in the epoch",
         "TAIL": "they differ first in what follows the parts",

@@ -99,7 +99,7 @@ class Difference(NamedTuple):
 
 
 _DIFFERENCES = {
-    DifferenceKind.NONE: "they are the same version",
+    DifferenceKind.NONE: "they differ at most after the plus, which doesn't count",
     DifferenceKind.TIE: "they compare equal, and are not the same version",
     DifferenceKind.EPOCH: "they differ first in the epoch",
     DifferenceKind.TAIL: "they differ first in what follows the parts",

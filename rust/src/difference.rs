@@ -28,7 +28,7 @@ pub enum Difference {
 impl fmt::Display for Difference {
     fn fmt(&self, f: &mut fmt::Formatter<'_>) -> fmt::Result {
         f.write_str(match self {
-            Difference::Same => "they are the same version",
+            Difference::Same => "they differ at most after the plus, which doesn't count",
             Difference::Tie => "they compare equal, and are not the same version",
             Difference::Epoch => "they differ first in the epoch",
             Difference::Part(part) => return write!(f, "they differ first in part {part}"),

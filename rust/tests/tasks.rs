@@ -350,7 +350,7 @@ fn where_versions_differ() {
     assert_eq!(
         sentences,
         [
-            "they are the same version",
+            "they differ at most after the plus, which doesn't count",
             "they compare equal, and are not the same version",
             "they differ first in the epoch",
             "they differ first in part 0",
