@@ -19,6 +19,7 @@
  *   version_in(tag), version_in(tag, prefix)
  *                                        the version in a tag, a TEXT, also after a prefix
  *   version_stability(text)              'dev', 'alpha', 'beta', 'rc' or 'stable', by the words in a version
+ *   version_stability_rank(text)         the same as an integer to order by, from 1 for 'dev' to 5 for 'stable'
  *   version_difference(a, b)             where two versions differ first: 'epoch', 'part 0', 'tail', 'tie' or 'same'
  *   version_next(text, n)                the version that comes next at a place, an integer counted from 0
  *   version_why_not(requirement, text)   why a version does not match, a sentence; NULL if it matches
@@ -526,6 +527,22 @@ static void version_stability(sqlite3_context *context, int count, sqlite3_value
   }
 }
 
+static void version_stability_rank(sqlite3_context *context, int count, sqlite3_value **values) {
+  struct text text = text_of(values[0]);
+  int rank;
+  (void)count;
+  if (!text.bytes) {
+    sqlite3_result_error_nomem(context);
+    return;
+  }
+  rank = versions_stability(text.bytes, text.len);
+  if (rank == VERSIONS_NONE) {
+    sqlite3_result_null(context);
+  } else {
+    sqlite3_result_int(context, rank);
+  }
+}
+
 static void version_difference(sqlite3_context *context, int count, sqlite3_value **values) {
   static const char *const names[] = {"same", "tie", "epoch", "part", "tail"};
   struct text a = text_of(values[0]), b = text_of(values[1]);
@@ -711,6 +728,7 @@ static int define_functions(sqlite3 *db) {
       {"version_in", 1, version_in},
       {"version_in", 2, version_in},
       {"version_stability", 1, version_stability},
+      {"version_stability_rank", 1, version_stability_rank},
       {"version_difference", 2, version_difference},
       {"version_next", 2, version_next},
       {"version_why_not", 2, version_why_not},

@@ -118,7 +118,8 @@ static const char *const statements[] = {
     "SELECT is_version(" LONG ") || is_version('1..2')",
     "SELECT version_epoch('1:2.0-3') || version_is_prerelease('1.0.0-rc.1')",
     "SELECT version_pre_release('1.0.0-rc.1') || version_release('1-2') || version_metadata('1+' || " LONG ")",
-    "SELECT version_in('v' || " LONG ") || version_in('go1.2', 'go') || version_stability('1.0-rc1')",
+    "SELECT version_in('v' || " LONG ") || version_in('go1.2', 'go') || version_stability('1.0-rc1') ||"
+    " version_stability_rank(" LONG ")",
     "SELECT version_difference('1.2.3', " LONG ") || version_difference('1.0', '1:1.0')",
     "SELECT version_next('1.' || " LONG ", 0) || version_next('1.2.3', 1.0)",
     "SELECT version_next(replace(hex(zeroblob(200)), '00', '1.') || '1', 9)",
