@@ -32,8 +32,8 @@
  * BLOBs and texts that are not UTF-8 are not versions. A number is not converted to text, since 1.10 is already 1.1.
  * The aggregates skip values that are not versions. A function of a requirement returns NULL for NULL, and fails if the
  * requirement does not parse. version_nth and version_next return NULL for NULL, and fail if the place is not an
- * integer. All
- * functions are deterministic and have no side effects, so indexes and generated columns can use them.
+ * integer. version_in returns NULL if the prefix is not a text. All functions are deterministic and have no side
+ * effects, so indexes and generated columns can use them.
  *
  * All memory is SQLite's: keys, bounds, fields, the range of a constant requirement, the texts that an aggregate keeps,
  * messages, and a number for a connection. Nothing else is allocated.
@@ -59,7 +59,7 @@ struct text {
   size_t len;
 };
 
-/* Not UTF-8, and so not a version. */
+/* Not UTF-8, and so neither a version nor a requirement. */
 static const struct text no_text = {"\xff", 1};
 
 /* The text of a value, in UTF-8; no_text for another type. Its bytes are null on allocation failure. */
@@ -498,17 +498,20 @@ static void version_is_prerelease(sqlite3_context *context, int count, sqlite3_v
   }
 }
 
-/* The version in a tag: its text from the start that the library finds. */
+/* The version in a tag: its text from the start that the library finds. Any text can be a prefix, no_text too. */
 static void version_in(sqlite3_context *context, int count, sqlite3_value **values) {
   struct text tag = text_of(values[0]), prefix = text_of(values[count - 1]);
   size_t start;
-  int status;
+  int status = VERSIONS_NO_VERSION;
   if (!tag.bytes || !prefix.bytes) {
     sqlite3_result_error_nomem(context);
     return;
   }
-  status = count == 1 ? versions_in_tag(tag.bytes, tag.len, &start)
-                      : versions_after_prefix(prefix.bytes, prefix.len, tag.bytes, tag.len, &start);
+  if (count == 1) {
+    status = versions_in_tag(tag.bytes, tag.len, &start);
+  } else if (sqlite3_value_type(values[1]) == SQLITE_TEXT) {
+    status = versions_after_prefix(prefix.bytes, prefix.len, tag.bytes, tag.len, &start);
+  }
   if (status == VERSIONS_OK) {
     sqlite3_result_text64(context, tag.bytes + start, tag.len - start, SQLITE_TRANSIENT, SQLITE_UTF8);
   } else {
