@@ -31,7 +31,7 @@ CREATE FUNCTION version_matches(requirement text, version text) RETURNS boolean
   AS 'MODULE_PATHNAME', 'version_matches_text' LANGUAGE C IMMUTABLE STRICT PARALLEL SAFE COST 10;
 
 -- The number at a place, counted from 0; NULL if the version has no number there.
-CREATE FUNCTION version_nth(text, place integer) RETURNS bigint
+CREATE FUNCTION version_nth(text, place bigint) RETURNS bigint
   AS 'MODULE_PATHNAME' LANGUAGE C IMMUTABLE STRICT PARALLEL SAFE COST 10;
 
 -- The epoch, the number before the colon; NULL if the version has none. At most 9223372036854775807.
@@ -62,7 +62,7 @@ CREATE FUNCTION version_difference(text, text) RETURNS text
   AS 'MODULE_PATHNAME' LANGUAGE C IMMUTABLE STRICT PARALLEL SAFE COST 10;
 
 -- The version that comes next at a place, counted from 0; NULL if there is none.
-CREATE FUNCTION version_next(text, place integer) RETURNS text
+CREATE FUNCTION version_next(text, place bigint) RETURNS text
   AS 'MODULE_PATHNAME' LANGUAGE C IMMUTABLE STRICT PARALLEL SAFE COST 10;
 
 -- Why a version does not match a requirement or a list, in a sentence; NULL if it matches. Fails if the first does not
@@ -123,7 +123,7 @@ CREATE FUNCTION version_compare(version, version) RETURNS integer
   AS 'MODULE_PATHNAME', 'version_compare_of_version' LANGUAGE C IMMUTABLE STRICT PARALLEL SAFE COST 10;
 CREATE FUNCTION version_compare_total(version, version) RETURNS integer
   AS 'MODULE_PATHNAME', 'version_compare_total_of_version' LANGUAGE C IMMUTABLE STRICT PARALLEL SAFE COST 10;
-CREATE FUNCTION version_nth(version, place integer) RETURNS bigint
+CREATE FUNCTION version_nth(version, place bigint) RETURNS bigint
   AS 'MODULE_PATHNAME', 'version_nth_of_version' LANGUAGE C IMMUTABLE STRICT PARALLEL SAFE COST 10;
 CREATE FUNCTION version_epoch(version) RETURNS bigint
   AS 'MODULE_PATHNAME', 'version_epoch_of_version' LANGUAGE C IMMUTABLE STRICT PARALLEL SAFE COST 10;
@@ -140,7 +140,7 @@ CREATE FUNCTION version_stability(version) RETURNS stability
   AS 'MODULE_PATHNAME', 'version_stability_of_version' LANGUAGE C IMMUTABLE STRICT PARALLEL SAFE COST 10;
 CREATE FUNCTION version_difference(version, version) RETURNS text
   AS 'MODULE_PATHNAME', 'version_difference_of_version' LANGUAGE C IMMUTABLE STRICT PARALLEL SAFE COST 10;
-CREATE FUNCTION version_next(version, place integer) RETURNS version
+CREATE FUNCTION version_next(version, place bigint) RETURNS version
   AS 'MODULE_PATHNAME', 'version_next_of_version' LANGUAGE C IMMUTABLE STRICT PARALLEL SAFE COST 10;
 
 -- The order of versions, by precedence. Versions that tie are equal, such as 1.0 and 0:1.0.

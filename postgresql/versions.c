@@ -252,7 +252,7 @@ SQL_FUNCTION(version_matches_text) {
 FUNCTIONS(version_nth) {
   Span span = span_of(PG_GETARG_TEXT_PP(0));
   uint32_t number;
-  int status = versions_nth(span.bytes, span.len, (size_t)PG_GETARG_INT32(1), &number);
+  int status = versions_nth(span.bytes, span.len, (size_t)PG_GETARG_INT64(1), &number);
   if (status != VERSIONS_OK) return no_result(fcinfo, typed, status, span);
   PG_RETURN_INT64(number);
 }
@@ -335,7 +335,7 @@ FUNCTIONS(version_difference) {
 /* A place below 0 is, as a size_t, above each place of a version. */
 FUNCTIONS(version_next) {
   Span span = span_of(PG_GETARG_TEXT_PP(0));
-  size_t place = (size_t)PG_GETARG_INT32(1), len;
+  size_t place = (size_t)PG_GETARG_INT64(1), len;
   text *next;
   int status = versions_next(span.bytes, span.len, place, NULL, 0, &len);
   if (status != VERSIONS_NO_ROOM) return no_result(fcinfo, typed, status, span);
