@@ -1084,7 +1084,8 @@ static List *index_conditions(SupportRequestIndexCondition *request, Oid caller)
 /*
  * Of the keys between two values of a histogram, those below a bound are estimated by how the keys of the histogram go
  * on: how often each byte follows the three bytes before it. The order of bytes alone tells little: between 2.5.999 and
- * 2.6 there are most keys, but hardly a version.
+ * 2.6 there are most keys, but hardly a version. A histogram has few values, often in equal steps, such as each second
+ * number; so before a byte all digits are alike, and half of a digit stands for each of the ten.
  */
 enum { KEYS = 100, OF_KEY = 16, BEFORE = 3 };
 
@@ -1092,17 +1093,22 @@ typedef struct {
   uint8 before[BEFORE], byte;
 } Step;
 
+static bool is_digit(uint8 byte) { return byte >= '0' && byte <= '9'; }
+
 /* The steps of the keys' first bytes, grouped by the last byte before: where a group begins, and after 255 the end. */
 typedef struct {
   int begins[257];
   Step steps[KEYS * OF_KEY];
 } Steps;
 
-/* The byte of a key at a place, and those before it; before the first there are bytes 255. */
+/* The byte of a key at a place, and those before it, each digit as '0'; before the first there are bytes 255. */
 static Step step_at(Span key, size_t at) {
   Step step;
   size_t back;
-  for (back = 1; back <= BEFORE; back++) step.before[BEFORE - back] = at < back ? 255 : (uint8)key.bytes[at - back];
+  for (back = 1; back <= BEFORE; back++) {
+    uint8 before = at < back ? 255 : (uint8)key.bytes[at - back];
+    step.before[BEFORE - back] = is_digit(before) ? '0' : before;
+  }
   step.byte = (uint8)key.bytes[at];
   return step;
 }
@@ -1124,20 +1130,31 @@ static Steps *steps_of(const AttStatsSlot *histogram) {
   return steps;
 }
 
+/* How much of a byte that a key goes on with counts as one below another byte, and how much as that one. */
+static void count_byte(uint8 byte, uint8 other, double *below, double *equal) {
+  double itself = 1;
+  if (is_digit(byte) && is_digit(other)) {
+    itself = 0.5;
+    *below += 0.5 * (other - '0') / 10;
+    *equal += 0.5 / 10;
+  }
+  if (byte < other) *below += itself;
+  if (byte == other) *equal += itself;
+}
+
 /*
  * The shares of keys that go on with a lower byte, and with this one. Those after one byte stand for half a key among
  * those after two, and so on; before them all each byte is as frequent.
  */
 static void shares_of_step(const Steps *steps, Step step, double *lower, double *same) {
-  int all[BEFORE] = {0}, below[BEFORE] = {0}, equal[BEFORE] = {0};
+  double all[BEFORE] = {0}, below[BEFORE] = {0}, equal[BEFORE] = {0};
   int last = step.before[BEFORE - 1], at, known;
   /* each is counted where it is alike in most, and then in less */
   for (at = steps->begins[last]; at < steps->begins[last + 1]; at++) {
     const Step *other = &steps->steps[at];
     known = other->before[1] != step.before[1] ? 0 : other->before[0] != step.before[0] ? 1 : 2;
     all[known]++;
-    below[known] += other->byte < step.byte;
-    equal[known] += other->byte == step.byte;
+    count_byte(other->byte, step.byte, &below[known], &equal[known]);
   }
   *lower = step.byte / 256.0;
   *same = 1 / 256.0;
@@ -1262,14 +1279,25 @@ static bool is_empty(Requirement range) {
   return range.flags & VERSIONS_RANGE_HIGH && order_of_bytes(range.low, range.high) >= 0;
 }
 
+/* How many values a column has beside the common ones, which the statistics list. */
+static double other_values(VariableStatData *column) {
+  AttStatsSlot common;
+  bool is_default;
+  double values = get_variable_numdistinct(column, &is_default);
+  if (get_attstatsslot(&common, column->statsTuple, STATISTIC_KIND_MCV, InvalidOid, ATTSTATSSLOT_NUMBERS)) {
+    values -= common.nnumbers;
+    free_attstatsslot(&common);
+  }
+  return Max(values, 1);
+}
+
 /*
  * The share of the rows of a column that match a constant requirement, by the statistics of ANALYZE: the common values
  * that match, and of the others those between the bounds and of the kinds, but not less than one value. A negative
  * number if there are no statistics.
  */
 static double share_by_statistics(VariableStatData *column, Oid function, Const *requirement, bool is_first) {
-  double common, share, others, values;
-  bool is_default;
+  double common, share, others;
   AttStatsSlot histogram;
   FmgrInfo matches;
   if (!HeapTupleIsValid(column->statsTuple)) return -1;
@@ -1280,8 +1308,7 @@ static double share_by_statistics(VariableStatData *column, Oid function, Const 
       get_attstatsslot(&histogram, column->statsTuple, STATISTIC_KIND_HISTOGRAM, InvalidOid, ATTSTATSSLOT_VALUES)) {
     Requirement range = requirement_of(DatumGetByteaPP(requirement->constvalue));
     if (histogram.nvalues > 1 && !is_empty(range)) {
-      values = get_variable_numdistinct(column, &is_default);
-      share += others * Max(share_in(&histogram, range), 1 / values);
+      share += others * Max(share_in(&histogram, range), 1 / other_values(column));
     }
     free_attstatsslot(&histogram);
   }
