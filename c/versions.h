@@ -13,6 +13,9 @@
  * lie within the buffer. The first offset may be greater than 0, and the last less than the buffer's length. Each array
  * is passed with its own length, n + 1 for offsets and n for results, and nothing past an array is accessed.
  *
+ * Alignment. A pointer is aligned as its type is: to int64_t, uint64_t or size_t to 8 bytes, to int32_t or uint32_t to 4.
+ * Offsets that lie within a buffer of bytes, such as a file's, may not be: copy them first.
+ *
  * Null pointers. A null pointer with length 0 is an empty text or an empty array. Any other null pointer is an error:
  * the call returns VERSIONS_NULL, whatever else is wrong, and reads and writes nothing.
  *
