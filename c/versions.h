@@ -345,7 +345,8 @@ int versions_after_prefix(const char *prefix, size_t prefix_len, const char *tag
  * versions does not count.
  *
  * A strict version with a pre-release and none of these is alpha if the first part of the pre-release begins with a
- * letter or a hyphen, as 1.2.3-x.y, and isn't r and digits, as in 1.2.3-r0. Every other version is stable.
+ * letter or a hyphen, as 1.2.3-x.y, and isn't r and digits, as in 1.2.3-r0. Every other version is stable. Each of these
+ * letters may be in upper or lower case: 1.2.3-R1 is stable.
  *
  * This is not a status. If text is null and text_len is not 0, the call returns -VERSIONS_NULL, which is not a
  * stability.
