@@ -33,7 +33,7 @@ use version_texts::VersioningRef;
 ///
 /// The words are read first, and each that should be a version or a list of requirements is checked before anything is
 /// read. The inputs are read to their ends and checked before anything is written, and all memory is taken before. So at
-/// a fault nothing was written, but for standard output that takes no more.
+/// a fault the writer got nothing, unless it takes no more; the file for lines without a version may have been written.
 pub fn run<F: Files, R: Read, W: Write>(
     alloc: Global,
     words: &[String],
@@ -50,8 +50,8 @@ pub fn run<F: Files, R: Read, W: Write>(
     serve(alloc, &task, files, reader, writer)
 }
 
-/// Does a task. What it writes is `IsOutput` of the task and of what the files and the reader hold. At a fault nothing
-/// was written, but for standard output that takes no more.
+/// Does a task. What it writes is `IsOutput` of the task and of what the files and the reader hold. At a fault the writer
+/// got nothing, or a proper beginning if it takes no more.
 pub fn serve<F: Files, R: Read, W: Write>(
     alloc: Global,
     task: &Task<'_>,
