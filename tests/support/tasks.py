@@ -103,14 +103,14 @@ class Model:
     def is_conflict(self, requirements, found):
         """Whether two members, or none, are an answer to what excludes each other in a list."""
         if found is None:
-            return not self._is_empty(requirements)
+            return not self.is_empty(requirements)
         starts = {0} | {place + 1 for place, byte in enumerate(requirements) if byte == ord(",")}
         members = [requirements[start:end] for start, end in found]
         are_members = {start for start, _ in found} <= starts and not any(b"," in member for member in members)
         whole = all(requirements[end : end + 1] in (b"", b",") for _, end in found)
-        return are_members and whole and self._is_empty(b",".join(members))
+        return are_members and whole and self.is_empty(b",".join(members))
 
-    def _is_empty(self, requirements):
+    def is_empty(self, requirements):
         low, high, kinds = self.library.range(requirements)
         return not kinds or (high is not None and low >= high)
 
