@@ -10,6 +10,7 @@ import os
 import sys
 import unittest
 
+import counted
 import versions
 
 HERE = os.path.dirname(os.path.abspath(__file__))
@@ -17,11 +18,9 @@ TOP = os.path.join(HERE, "..", "..")
 PAGES = [os.path.join(TOP, name) for name in ("README.md", "docs/PYTHON.md", "docs/COOKBOOK.md", "python/README.md")]
 
 names = {name[: -len(".py")] for name in os.listdir(HERE) if name.startswith("test_") and name.endswith(".py")}
-tests = unittest.defaultTestLoader.loadTestsFromNames(sorted(names - set(sys.argv[1:])))
-tests.addTest(doctest.DocTestSuite(versions))
-tests.addTest(doctest.DocTestSuite(versions._library, extraglobs=vars(versions)))
-tests.addTest(doctest.DocFileSuite(*PAGES, module_relative=False, encoding="utf-8"))
-result = unittest.TextTestRunner(sys.stdout).run(tests)
-failed = len({test.id().split(" ")[0] for test, _ in result.failures + result.errors} | set(result.unexpectedSuccesses))
-print(f"{result.testsRun - failed} passed, {failed} failed")
-sys.exit(failed > 0)
+suites = {name: unittest.defaultTestLoader.loadTestsFromName(name) for name in sorted(names - set(sys.argv[1:]))}
+suites["versions"] = doctest.DocTestSuite(versions)
+suites["versions._library"] = doctest.DocTestSuite(versions._library, extraglobs=vars(versions))
+for page in PAGES:
+    suites[page] = doctest.DocFileSuite(page, module_relative=False, encoding="utf-8")
+counted.end(suites)

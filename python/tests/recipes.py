@@ -16,6 +16,7 @@ import numpy
 import pandas
 
 import arrow
+import counted
 import versions
 
 try:
@@ -140,8 +141,4 @@ class Columns(unittest.TestCase):
         self.assertRaises(TypeError, versions.Requirement("*").filter, pandas.Series([1.2, None]))
 
 
-tests = unittest.defaultTestLoader.loadTestsFromModule(sys.modules["__main__"])
-result = unittest.TextTestRunner(sys.stdout).run(tests)
-failed = len({test.id().split(" ")[0] for test, _ in result.failures + result.errors})
-print(f"{result.testsRun - failed} passed, {failed} failed")
-sys.exit(failed > 0)
+counted.end({"recipes": unittest.defaultTestLoader.loadTestsFromModule(sys.modules["__main__"])})

@@ -289,8 +289,7 @@ class Page(Case):
             shutil.rmtree(self.work / "environment")
 
 
-tests = unittest.defaultTestLoader.loadTestsFromModule(sys.modules["__main__"])
-result = unittest.TextTestRunner(sys.stdout).run(tests)
-failed = len({test.id().split(" ")[0] for test, _ in result.failures + result.errors})
-print(f"{result.testsRun - failed} passed, {failed} failed")
-sys.exit(failed > 0)
+sys.path.insert(0, str(TOP / "python/tests"))
+import counted  # noqa: E402
+
+counted.end({"building and installing": unittest.defaultTestLoader.loadTestsFromModule(sys.modules["__main__"])})
