@@ -1,4 +1,4 @@
-"""The program `versions` a second time: what a run writes, and how it ends.
+"""The program `versions` a second time: what a run writes, how it ends, and whether it reads standard input.
 
 The Python package answers what is a version, which of two comes first, what matches and the like. Words, lines, columns,
 options, orders and faults are this file's.
@@ -51,6 +51,7 @@ class Run:
 
     def __init__(self, words, given, read):
         self.given, self.read, self.written, self.output = given, read, {}, b""
+        self.reads_given = False
         self.status, self.error = 0, b""
         try:
             self.output = self.answer([*words])
@@ -75,7 +76,7 @@ class Run:
         texts = []
         for name in names or ["-"]:
             if name == "-":
-                text, self.given = self.given, b""
+                text, self.given, self.reads_given = self.given, b"", True
             else:
                 text = self.read(name)
             if text is None:
