@@ -66,7 +66,10 @@ impl<'a> Table<'a> {
         if !self.makes_next() {
             return Ok(());
         }
-        let lent = made(make(self.rt.alloc(), text)?)?;
+        let Ok(value) = make(self.rt.alloc(), text) else {
+            return begins_not(self.rt, name);
+        };
+        let lent = made(value)?;
         print!(self.rt; "{name}: {lent:?}")?;
         let answer = call(&lent, self.rt.alloc());
         println!(self.rt; " gives {answer:?} and stays {lent:?}")
@@ -92,10 +95,55 @@ impl<'a> Table<'a> {
         if !self.makes_next() {
             return Ok(());
         }
-        let given = made(make(self.rt.alloc(), text)?)?;
+        let Ok(value) = make(self.rt.alloc(), text) else {
+            return begins_not(self.rt, name);
+        };
+        let given = made(value)?;
         print!(self.rt; "{name}: {given:?}")?;
         let answer = call(self.rt.alloc(), given);
         println!(self.rt; " gives {answer:?}")
+    }
+
+    /// Makes a call that borrows a text and changes a value, which is read from the text, and prints the value before
+    /// the call and after it.
+    pub fn changes<'t, B, T, E, M, C>(
+        &mut self,
+        name: &str,
+        text: &'t str,
+        make: M,
+        call: C,
+    ) -> io::Result<()>
+    where
+        B: Debug + Drop,
+        T: Debug + Drop,
+        E: Debug + Drop,
+        M: FnOnce(Global, &'t str) -> Result<Option<B>, AllocError> + Drop,
+        C: FnOnce(Global, &'t str, &mut B) -> Result<T, E> + Drop,
+        requires make { M.IsAlwaysCallable make }
+        requires call { C.IsAlwaysCallable call }
+    {
+        if !self.makes_next() {
+            return Ok(());
+        }
+        let Ok(value) = make(self.rt.alloc(), text) else {
+            return begins_not(self.rt, name);
+        };
+        let mut lent = made(value)?;
+        print!(self.rt; "{name}: {text:?} on {lent:?}")?;
+        let answer = call(self.rt.alloc(), text, &mut lent);
+        println!(self.rt; " gives {answer:?} and leaves {lent:?}")
+    }
+
+    /// Makes a call that changes lines, which prints its row itself.
+    pub fn prints<C>(&mut self, call: C) -> io::Result<()>
+    where
+        C: FnOnce(&HostRuntime) -> io::Result<()> + Drop,
+        requires { C.IsAlwaysCallable call }
+    {
+        if !self.makes_next() {
+            return Ok(());
+        }
+        call(self.rt)
     }
 
     /// Makes a run of the program, which borrows its words, and may write the expected output or a prefix of it.
@@ -117,8 +165,9 @@ impl<'a> Table<'a> {
         if !self.makes_next() {
             return Ok(());
         }
-        let mut lines = "7.".repeat(self.rt.alloc(), 35000)?;
-        lines.push_str("7\n7.2\n")?;
+        let Ok(lines) = long_lines(self.rt.alloc()) else {
+            return begins_not(self.rt, name);
+        };
         self.run(name, words, lines.as_bytes(), lines.as_bytes())
     }
 
@@ -134,7 +183,9 @@ impl<'a> Table<'a> {
         if !self.makes_next() {
             return Ok(());
         }
-        let words = owned(self.rt.alloc(), words)?;
+        let Ok(words) = owned(self.rt.alloc(), words) else {
+            return begins_not(self.rt, name);
+        };
         let mut reader = input;
         let mut taker = Taker::of(wanted);
         let mut files = HeldFiles {
@@ -153,7 +204,9 @@ impl<'a> Table<'a> {
     }
 
     fn run(&self, name: &str, words: &[&str], input: &[u8], wanted: &[u8]) -> io::Result<()> {
-        let words = owned(self.rt.alloc(), words)?;
+        let Ok(words) = owned(self.rt.alloc(), words) else {
+            return begins_not(self.rt, name);
+        };
         let mut reader = input;
         let mut taker = Taker::of(wanted);
         print!(self.rt; "{name}: {words:?}")?;
@@ -163,9 +216,21 @@ impl<'a> Table<'a> {
     }
 }
 
+/// Prints that memory was refused to what a call is made with.
+pub fn begins_not(rt: &HostRuntime, name: &str) -> io::Result<()> {
+    println!(rt; "{name}: no memory before the call")
+}
+
 // Returns the value of a text, which has to parse.
 fn made<B: Drop>(value: Option<B>) -> io::Result<B> {
     value.ok_or(io::Error::from(ErrorKind::InvalidInput))
+}
+
+// Returns two general versions, of which the first is longer than a buffer.
+fn long_lines(alloc: Global) -> Result<String, AllocError> {
+    let mut lines = "7.".repeat(alloc, 35000)?;
+    lines.push_str("7\n7.2\n")?;
+    Ok(lines)
 }
 
 // Returns the words as a program gets them.

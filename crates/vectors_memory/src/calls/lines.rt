@@ -1,19 +1,34 @@
 //! What programs for lines are made of: the input, the buffer, and lines with their keys.
+ghost use Rattle.std.specs.Prelude.{◌≡◌, IfOk, Some};
+ghost use Rattle.version_lines.specs.KeyedLines.{AreRead};
+ghost use Rattle.version_rules.specs.Versioning.{versioning_of};
+ghost use Rattle.version_texts.specs.VersioningRef.{plain_versioning_ref};
 
-use crate::table::Table;
+use crate::calls::scans::begun;
+use crate::table::{Table, begins_not};
 use crate::taker::Taker;
 use std::alloc::{AllocError, Global};
-use std::io;
-use version_lines::{Fault, GroupBy, KeyedLines, WholeLines, make_buffer, read_all, read_onto};
+use std::fmt;
+use std::io::{self, ErrorKind};
+use version_lines::{
+    Fault, GroupBy, KeyedLines, SortBy, WholeLines, make_buffer, put, put_line, read_all,
+    read_onto, write_whole,
+};
 use version_texts::VersioningRef;
+
+const LINE: &str = "1.2.3-rc.1+b";
 
 pub fn make_all(table: &mut Table<'_>) -> io::Result<()> {
     table.reads("read_all", "1.2\n", read_text)?;
-    table.reads("read_onto", "1.2\n", read_after_a_digit)?;
+    table.changes("read_onto", "1.2\n", begun, read_text_onto)?;
     table.reads("make_buffer", "", |alloc, _| make_buffer(alloc))?;
-    table.reads("KeyedLines::new", "1.2.3-rc.1+b", no_lines)?;
-    table.reads("KeyedLines::keep_newest", "1.2.3-rc.1+b", one_of_two_lines)?;
-    table.reads("KeyedLines::write", "1.2.3-rc.1+b", write_line)
+    table.changes("put, without memory", "1.2", begun, put_text)?;
+    table.changes("put_line, without memory", "1.2", begun, put_text_line)?;
+    table.reads("write_whole, without memory", "1.2", write_text)?;
+    table.reads("KeyedLines::new", LINE, no_lines)?;
+    table.prints(add_line)?;
+    table.prints(keep_line)?;
+    table.reads("KeyedLines::write", LINE, write_line)
 }
 
 fn read_text(alloc: Global, text: &str) -> Result<Vec<u8>, Fault> {
@@ -21,17 +36,48 @@ fn read_text(alloc: Global, text: &str) -> Result<Vec<u8>, Fault> {
     read_all(alloc, &mut reader)
 }
 
-fn read_after_a_digit(alloc: Global, text: &str) -> Result<Vec<u8>, Fault> {
+fn read_text_onto(alloc: Global, text: &str, input: &mut Vec<u8>) -> Result<(), Fault> {
     let mut reader = text.as_bytes();
-    let mut input = Vec::new(alloc);
-    input.extend_from_slice(b"0")?;
-    read_onto(alloc, &mut reader, &mut input)?;
-    Ok(input)
+    read_onto(alloc, &mut reader, input)
+}
+
+// These return how many bytes were written.
+fn put_text(_alloc: Global, text: &str, buffer: &mut Vec<u8>) -> Result<usize, Fault> {
+    let mut taker = Taker::of(b"01.2");
+    put(&mut taker, buffer, text.as_bytes())?;
+    Ok(taker.taken)
+}
+
+fn put_text_line(_alloc: Global, text: &str, buffer: &mut Vec<u8>) -> Result<usize, Fault> {
+    let mut taker = Taker::of(b"0=1.2\n");
+    put_line(&mut taker, buffer, b'\n', b"=", text.as_bytes())?;
+    Ok(taker.taken)
+}
+
+fn write_text(_alloc: Global, text: &str) -> Result<usize, Fault> {
+    let mut taker = Taker::of(b"1.2");
+    write_whole(&mut taker, text.as_bytes())?;
+    Ok(taker.taken)
 }
 
 fn no_lines(alloc: Global, text: &str) -> Result<usize, AllocError> {
     let lines = KeyedLines::new(alloc, WholeLines, text.len())?;
     Ok(lines.count())
+}
+
+// Adds a line to one that is the same.
+fn add_line(rt: &HostRuntime) -> io::Result<()> {
+    let name = "KeyedLines::add";
+    let line = LINE.as_bytes();
+    let Some(version) = VersioningRef::from_bytes(line) else {
+        return Err(io::Error::from(ErrorKind::InvalidInput));
+    };
+    let Ok(mut lines) = one_line(rt.alloc(), &version, line) else {
+        return begins_not(rt, name);
+    };
+    print!(rt; "{name}: {LINE:?} on {:?}", Shown(&lines))?;
+    let answer = lines.add(&version, line);
+    println!(rt; " gives {answer:?} and leaves {:?}", Shown(&lines))
 }
 
 // A line is of a group with those that are the same.
@@ -46,17 +92,52 @@ impl GroupBy for SameLines {
     }
 }
 
-// Keeps one of a line and of this line again.
-fn one_of_two_lines(alloc: Global, text: &str) -> Result<usize, AllocError> {
-    let line = text.as_bytes();
-    let mut lines = KeyedLines::new(alloc, WholeLines, text.len())?;
+// Keeps one of two lines that are the same.
+fn keep_line(rt: &HostRuntime) -> io::Result<()> {
+    let name = "KeyedLines::keep_newest";
+    let line = LINE.as_bytes();
     let Some(version) = VersioningRef::from_bytes(line) else {
-        return Ok(lines.count());
+        return Err(io::Error::from(ErrorKind::InvalidInput));
     };
-    lines.add(&version, line)?;
-    lines.add(&version, line)?;
-    lines.keep_newest(alloc, 1, &SameLines)?;
-    Ok(lines.count())
+    let Ok(mut lines) = one_line(rt.alloc(), &version, line) else {
+        return begins_not(rt, name);
+    };
+    let Ok(()) = lines.add(&version, line) else {
+        return begins_not(rt, name);
+    };
+    print!(rt; "{name}: {LINE:?} on {:?}", Shown(&lines))?;
+    let answer = lines.keep_newest(rt.alloc(), 1, &SameLines);
+    println!(rt; " gives {answer:?} and leaves {:?}", Shown(&lines))
+}
+
+fn one_line<'a>(
+    alloc: Global,
+    version: &VersioningRef<'_>,
+    line: &'a [u8],
+) -> Result<KeyedLines<'a, WholeLines>, AllocError>
+    requires { versioning_of line.now ≡ Some (plain_versioning_ref version.now) }
+    ensures { IfOk result (AreRead ⟦<WholeLines as SortBy>⟧.text_of) }
+{
+    let mut lines = KeyedLines::new(alloc, WholeLines, line.len())?;
+    lines.add(version, line)?;
+    Ok(lines)
+}
+
+// Lines, printed as a list.
+#[derive(Clone, Copy)]
+struct Shown<'s, 'a>(&'s KeyedLines<'a, WholeLines>);
+
+impl fmt::Debug for Shown<'_, '_> {
+    fn fmt<W: fmt::Write>(&self, f: &mut fmt::Formatter<W>) -> fmt::Result {
+        write!(f, "[")?;
+        for place in 0..self.0.count() {
+            if place > 0 {
+                write!(f, ", ")?;
+            }
+            write!(f, "{:?}", self.0.line(place))?;
+        }
+        write!(f, "]")
+    }
 }
 
 // Writes a line, which has to be that of the row. Returns how many bytes were written.

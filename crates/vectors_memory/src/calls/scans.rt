@@ -62,13 +62,12 @@ fn scanned(table: &mut Table<'_>) -> io::Result<()> {
 }
 
 fn streams(table: &mut Table<'_>) -> io::Result<()> {
-    table.reads("PieceBytes::append_to", "7rc12", part_bytes)?;
+    table.changes("PieceBytes::append_to", "7rc12", begun, add_part)?;
     for text in ["1.2.3-rc.1", "1:2_a"] {
-        table.borrows("KeyBytes::append_to", text, Versioning::new, key_bytes)?;
+        table.changes("KeyBytes::append_to", text, begun, add_owned_key)?;
+        table.changes("VersioningRef::append_key", text, begun, add_key)?;
     }
-    table.reads("VersioningRef::append_key", "1.2.3-rc.1", written_key)?;
-    table.reads("VersioningRef::append_key", "1:2_a", written_key)?;
-    table.reads("VersioningRef::append_end", "1.2.3-rc.1", written_end)
+    table.changes("VersioningRef::append_end", "1.2.3-rc.1", begun, add_end)
 }
 
 fn build_last(alloc: Global, text: &str) -> Result<Option<Last>, AllocError> {
@@ -106,32 +105,32 @@ fn build_list(alloc: Global, text: &str) -> Result<Option<Vec<MChunk>>, AllocErr
     }
 }
 
-fn part_bytes(alloc: Global, text: &str) -> Result<Vec<u8>, AllocError> {
-    let mut list = Vec::new(alloc);
-    PieceBytes::part(PartText::text(text)).append_to(&mut list)?;
-    Ok(list)
+// Returns a list that something is appended to.
+pub fn begun(alloc: Global, _text: &str) -> Result<Option<Vec<u8>>, AllocError> {
+    Ok(Some(vec![in alloc; b'0'; 1]?))
 }
 
-fn key_bytes(version: &Versioning, alloc: Global) -> Result<Vec<u8>, AllocError> {
-    let mut list = Vec::new(alloc);
-    version.key_bytes().append_to(&mut list)?;
-    Ok(list)
+fn add_part(_alloc: Global, text: &str, list: &mut Vec<u8>) -> Result<(), AllocError> {
+    PieceBytes::part(PartText::text(text)).append_to(list)
 }
 
-fn written_key(alloc: Global, text: &str) -> Result<Option<Vec<u8>>, AllocError> {
-    let Some(version) = VersioningRef::new(text) else {
-        return Ok(None);
-    };
-    let mut list = Vec::new(alloc);
-    version.append_key(&mut list)?;
-    Ok(Some(list))
+fn add_owned_key(alloc: Global, text: &str, list: &mut Vec<u8>) -> Result<(), AllocError> {
+    match Versioning::new(alloc, text)? {
+        Some(version) => version.key_bytes().append_to(list),
+        None => Ok(()),
+    }
 }
 
-fn written_end(alloc: Global, text: &str) -> Result<Option<Vec<u8>>, AllocError> {
-    let Some(version) = VersioningRef::new(text) else {
-        return Ok(None);
-    };
-    let mut list = Vec::new(alloc);
-    version.append_end(End::AboveBegun(Kept::ButLast), &mut list)?;
-    Ok(Some(list))
+fn add_key(_alloc: Global, text: &str, list: &mut Vec<u8>) -> Result<(), AllocError> {
+    match VersioningRef::new(text) {
+        Some(version) => version.append_key(list),
+        None => Ok(()),
+    }
+}
+
+fn add_end(_alloc: Global, text: &str, list: &mut Vec<u8>) -> Result<(), AllocError> {
+    match VersioningRef::new(text) {
+        Some(version) => version.append_end(End::AboveBegun(Kept::ButLast), list),
+        None => Ok(()),
+    }
 }
