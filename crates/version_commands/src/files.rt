@@ -32,8 +32,9 @@ pub trait Files {
 
     /// Adds what the file holds to the input. After an error, part of it may have been added.
     fn read_onto(&self, name: &str, input: &mut Vec<u8>) -> Result<(), Trouble>
-        ensures { OnOk result ((text : List ℕ) × (input.new.items ≡ input.old.items ++ text)
-            × IfSome (holds self.now name.now) (λ held. text ≡ held)) };
+        ensures text { OnOk result ((text : List ℕ) × (input.new.items ≡ input.old.items ++ text)
+            × IfSome (holds self.now name.now) (λ held. text ≡ held)) }
+        ensures begun { (more : List ℕ) × (input.new.items ≡ input.old.items ++ more) };
 
     /// Writes the bytes to the file, in place of what it holds.
     fn put(&mut self, name: &str, bytes: &[u8]) -> Result<(), Trouble>

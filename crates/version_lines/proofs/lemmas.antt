@@ -5,6 +5,7 @@ pub mod Grouped
 pub mod Head
 pub mod Kept
 pub mod KeyBytes
+pub mod KeyedLines
 pub mod Lines
 pub mod Matching
 pub mod Newest

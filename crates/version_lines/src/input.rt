@@ -1,5 +1,5 @@
 //! Reading the whole input.
-ghost use Rattle.std.specs.Prelude.{◌≡◌, vec_len, OnOk, IfOk, IfErr};
+ghost use Rattle.std.specs.Prelude.{◌≡◌, ◌++◌, ℕ, List, vec_len, OnOk, IfOk, IfErr};
 ghost use Rattle.std.specs.Io.KnownBytes.{Consumes, IsAtEnd};
 ghost use Rattle.version_lines.specs.Fault.{ComesOfReading};
 ghost use Rattle.version_lines.specs.Input.{AddsRest};
@@ -30,11 +30,13 @@ pub fn read_all<R: Read>(alloc: Global, reader: &mut R) -> Result<Vec<u8>, Fault
     Ok(input)
 }
 
-/// Reads to the end of the reader, and adds what it reads after the input so far. It stops as `read_all` does.
+/// Reads to the end of the reader, and adds what it reads after the input so far. It stops as `read_all` does. After an
+/// error, part of it may have been added.
 pub fn read_onto<R: Read>(alloc: Global, reader: &mut R, input: &mut Vec<u8>) -> Result<(), Fault>
     ensures bytes { OnOk result
         (AddsRest (R.remaining reader.old) (R.remaining reader.new) input.old.items input.new.items) }
     ensures end { OnOk result (IsAtEnd (R.remaining reader.new)) }
+    ensures begun { (more : List ℕ) × (input.new.items ≡ input.old.items ++ more) }
     ensures faults { IfErr result ComesOfReading }
 {
     let mut piece = zeros(alloc, PIECE)?;

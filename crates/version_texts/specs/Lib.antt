@@ -5,6 +5,7 @@ pub mod Empty
 pub mod EndOrder
 pub mod Field
 pub mod Inexact
+pub mod KeyRoom
 pub mod KeyTies
 pub mod Matching
 pub mod MemberPlace

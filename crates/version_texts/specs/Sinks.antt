@@ -3,11 +3,10 @@ use Rattle.std.specs.Prelude.{◌≡◌, ℕ, Bool, true, false, zero, suc, ◌+
 use Rattle.std.specs.Ordering.{ordering_then}
 use Rattle.std.specs.declared.cmp.Ordering.{Ordering}
 use Rattle.std.specs.declared.cmp.Ordering.TheVariants.{Less}
-use Rattle.std.proofs.Common.{◌∙◌, ap, append-nil, append_assoc, sym}
-use Rattle.version_rules.specs.Lists.{bytes_cmp, GrowsWithin}
+use Rattle.std.proofs.Common.{◌∙◌, ap, append_assoc, sym}
+use Rattle.version_rules.specs.Lists.{bytes_cmp}
 use Rattle.version_texts.specs.declared.sinks.Beside.{Beside}
 use Rattle.version_texts.specs.declared.sinks.Between.{Between}
-use Rattle.version_texts.specs.declared.sinks.Growing.{Growing}
 use Rattle.version_texts.specs.declared.sinks.Count.{Count}
 use Rattle.version_texts.specs.declared.sinks.Room.{Room}
 
@@ -71,62 +70,3 @@ is_between low high = false
 -- the same of the bytes written and more
 abbrev pub between_with : Between → List ℕ → Bool
 between_with bounds more = is_between (order_with bounds.low more) (order_with bounds.high more)
-
--- a list before and after bytes, with whether a request was refused then: a list after a refused
--- request stays, one that grows has the bytes, and one whose request is refused on the way has some
--- of them
-abbrev pub ListTakes : Bool → Bool → List ℕ → List ℕ → List ℕ → Type 0
-ListTakes true true before bytes after = after ≡ before
-ListTakes true false before bytes after = ⊥
-ListTakes false true before bytes after = GrowsWithin before after bytes
-ListTakes false false before bytes after = after ≡ before ++ bytes
-
--- the same list, after the bytes
-abbrev pub LeadsList : Growing → List ℕ → Growing → Type 0
-LeadsList first bytes last =
-    (last.list.ghost_name ≡ first.list.ghost_name)
-    × ListTakes first.refused last.refused first.list.now.items bytes last.list.now.items
-
-takes_nothing : (refused : Bool) (items : List ℕ) → ListTakes refused refused items [] items
-takes_nothing true items = refl
-takes_nothing false items = sym (append-nil items)
-
-takes_in_turn : (first middle last : Bool) (before between after xs ys : List ℕ)
-    → ListTakes first middle before xs between
-    → ListTakes middle last between ys after → ListTakes first last before (xs ++ ys) after
-takes_in_turn true true true before between after xs ys h k = k ∙ h
-takes_in_turn true true false before between after xs ys h k = k
-takes_in_turn true false last before between after xs ys h k = absurd h
-takes_in_turn false true true before between after xs ys (left, g) k = (
-  left ++ ys,
-  record {
-    taken =
-        g.taken;
-    bytes_are =
-        ap (λ (l : List ℕ). l ++ ys) g.bytes_are ∙ append_assoc g.taken left ys;
-    new_is =
-        k ∙ g.new_is;
-  },
-)
-takes_in_turn false true false before between after xs ys h k = absurd k
-takes_in_turn false false true before between after xs ys h (left, g) = (
-  left,
-  record {
-    taken = xs ++ g.taken;
-    bytes_are = ap (λ (l : List ℕ). xs ++ l) g.bytes_are ∙ sym (append_assoc xs g.taken left);
-    new_is = g.new_is ∙ ap (λ (l : List ℕ). l ++ g.taken) h ∙ append_assoc before xs g.taken;
-  },
-)
-takes_in_turn false false false before between after xs ys h k =
-    k ∙ ap (λ (l : List ℕ). l ++ ys) h ∙ append_assoc before xs ys
-
-pub list_none : (list : Growing) → LeadsList list [] list
-list_none list = (refl, takes_nothing list.refused list.list.now.items)
-
-pub list_both : (first middle last : Growing) (xs ys : List ℕ) → LeadsList first xs middle
-    → LeadsList middle ys last → LeadsList first (xs ++ ys) last
-list_both first middle last xs ys h k = (
-  k.0 ∙ h.0,
-  takes_in_turn first.refused middle.refused last.refused first.list.now.items
-      middle.list.now.items last.list.now.items xs ys h.1 k.1,
-)

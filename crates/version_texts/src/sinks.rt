@@ -1,4 +1,4 @@
-//! Sinks: a count of bytes, a buffer with room, a comparison with given bytes, and a list that grows.
+//! Sinks: a count of bytes, a buffer with room, and comparisons with given bytes.
 
 ghost use Rattle.std.specs.Prelude.{◌≡◌, ◌+◌, [], length};
 ghost use Rattle.version_rules.specs.Ends.{end_bytes};
@@ -6,7 +6,7 @@ ghost use Rattle.version_rules.specs.KeyBytes.{key_bytes};
 ghost use Rattle.version_rules.specs.Lists.{bytes_cmp};
 ghost use Rattle.version_rules.specs.Tail.{tail_bytes};
 ghost use Rattle.version_texts.specs.Shape.{tail_in, Fits};
-ghost use Rattle.version_texts.specs.Sinks.{between_with, count_with, leads_both, leads_none, list_both, list_none, order_with, put_at, room_both, room_none, saturated, Leads, LeadsList, LeadsRoom};
+ghost use Rattle.version_texts.specs.Sinks.{between_with, count_with, leads_both, leads_none, order_with, put_at, room_both, room_none, saturated, Leads, LeadsRoom};
 ghost use Rattle.version_texts.specs.TextKey.{tail_of, text_key};
 
 use crate::key::{put_front, put_tail, tail_at};
@@ -145,36 +145,6 @@ impl<'a> Beside<'a> {
     }
 }
 
-// A list that grows. After a refused request it takes no more bytes.
-#[derive(Drop)]
-pub(crate) struct Growing<'a> {
-    pub(crate) list: &'a mut Vec<u8>,
-    pub(crate) refused: bool,
-}
-
-impl<'a> Sink for Growing<'a> {
-    ghost takes = { LeadsList };
-
-    #[inline(always)]
-    fn put(&mut self, byte: u8) {
-        if self.refused {
-            return;
-        }
-        if self.list.push(byte).is_err() {
-            self.refused = true;
-        }
-    }
-
-    #[inline(always)]
-    fn is_decided(&self) -> bool {
-        self.refused
-    }
-
-    ghost takes_none = { list_none };
-
-    ghost takes_both = { list_both };
-}
-
 // Two comparisons of the bytes written, with a low and a high bound.
 #[derive(Drop)]
 pub(crate) struct Between<'a> {
@@ -216,23 +186,20 @@ impl<'a> Between<'a> {
 
 /// Writes the key of a version into a buffer from a place on, as far as it fits, and returns the place after it.
 /// Does not allocate.
-// Not inlined: so the writer has one caller with a room, and the compiler keeps the room in registers.
-#[inline(never)]
+// Its tail has a sink of its own: so the compiler keeps both in registers.
+#[inline(always)]
 pub fn write_key(text: &[u8], shape: Shape, room: &mut [u8], start: usize) -> usize
     requires { Fits text.now shape }
     ensures bytes { room.new ≡ put_at room.old start (key_bytes (text_key text.now shape)) }
     ensures end { result ≡ saturated (start + length (key_bytes (text_key text.now shape))) }
 {
     let mut sink = Room { room, end: start };
-    if !put_front(&mut sink, text, shape) {
-        return sink.end();
-    }
+    put_front(&mut sink, text, shape);
     let end = sink.end();
     write_tail(text, shape, room, end)
 }
 
-// Writes the tail of a key into a buffer from a place on, as far as it fits, and returns the place after it. It has a
-// sink of its own: so the compiler keeps that of `write_key` in registers.
+// Writes the tail of a key into a buffer from a place on, as far as it fits, and returns the place after it.
 #[inline(never)]
 fn write_tail(text: &[u8], shape: Shape, room: &mut [u8], start: usize) -> usize
     requires { Fits text.now shape }

@@ -12,12 +12,13 @@ ghost use Rattle.version_rules.specs.Versioning.{kind_rank, PlainVersioning};
 use crate::difference::{Difference, key_difference};
 use crate::end_order::compare_ends;
 use crate::field::Field;
+use crate::key_room::{LONGEST_WITH_ROOM, length_with, room_for};
 use crate::order::piece::through_dot;
 use crate::order::ties;
 use crate::scan::scan;
 use crate::shape::{Shape, TailKind};
 use crate::sink::Sink;
-use crate::sinks::{Beside, Between, Count, Growing, Room};
+use crate::sinks::{Beside, Between, Count, Room};
 use crate::{key, matching, numbers, order, range, sinks};
 use std::alloc::AllocError;
 use std::cmp::Ordering;
@@ -35,10 +36,10 @@ pub struct VersioningRef<'a> {
 }
 
 impl<'a> VersioningRef<'a> {
-    ghost use Rattle.std.specs.Prelude.{◌+◌, ◌++◌, ◌↔◌, length, IsTrue, OnErr, OnOk};
+    ghost use Rattle.std.specs.Prelude.{◌+◌, ◌++◌, ◌↔◌, ◌≤◌, length, IsTrue, OnErr, OnOk};
     ghost use Rattle.std.specs.Option.{option_map};
     ghost use Rattle.std.specs.declared.cmp.Ordering.TheVariants.{Equal};
-    ghost use Rattle.version_rules.specs.Lists.{bytes_cmp, GrowsWithin};
+    ghost use Rattle.version_rules.specs.Lists.{bytes_cmp};
     ghost use Rattle.version_rules.specs.Ends.{end_bytes};
     ghost use Rattle.version_rules.specs.Key.{key_of, precedence, versioning_epoch};
     ghost use Rattle.version_rules.specs.KeyBytes.{key_bytes};
@@ -183,15 +184,29 @@ impl<'a> VersioningRef<'a> {
         }
     }
 
-    /// Appends the bytes of its key to a list. `Err` means allocation failure; the list then ends with a prefix of the
-    /// bytes.
+    /// Appends the bytes of its key to a list. `Err` means allocation failure; the list is then unchanged.
     pub fn append_key(&self, list: &mut Vec<u8>) -> Result<(), AllocError>
         ensures ok { OnOk result (list.new.items
             ≡ list.old.items ++ key_bytes (key_of (plain_versioning_ref self.now))) }
-        ensures err { OnErr result (GrowsWithin list.old.items list.new.items
-            (key_bytes (key_of (plain_versioning_ref self.now)))) }
+        ensures err { OnErr result (list.new.items ≡ list.old.items) }
     {
-        self.append_end(End::Key, list)
+        let start = list.len();
+        list.resize(length_with(start, self.key_room())?, 0)?;
+        let end = self.write_key(list.as_mut_slice(), start);
+        list.truncate(end);
+        Ok(())
+    }
+
+    // Returns a size that is enough for its key: for a long text its length, so that no memory is taken in vain.
+    #[inline(always)]
+    fn key_room(&self) -> usize
+        ensures { saturated (length (key_bytes (key_of (plain_versioning_ref self.now)))) ≤ result }
+    {
+        if self.text.len() <= LONGEST_WITH_ROOM {
+            room_for(self.text.len())
+        } else {
+            self.key_length()
+        }
     }
 
     /// Writes the bytes of its key into a sink. Returns early once the sink is decided. Does not allocate.
@@ -273,23 +288,17 @@ impl<'a> VersioningRef<'a> {
         }
     }
 
-    /// Appends the bytes of an end of a range of its key to a list. `Err` means allocation failure; the list then ends
-    /// with a prefix of the bytes.
-    #[inline(always)]
+    /// Appends the bytes of an end of a range of its key to a list. `Err` means allocation failure; the list is then
+    /// unchanged.
     pub fn append_end(&self, end: End, list: &mut Vec<u8>) -> Result<(), AllocError>
         ensures ok { OnOk result (list.new.items
             ≡ list.old.items ++ end_bytes end (key_of (plain_versioning_ref self.now))) }
-        ensures err { OnErr result (GrowsWithin list.old.items list.new.items
-            (end_bytes end (key_of (plain_versioning_ref self.now)))) }
+        ensures err { OnErr result (list.new.items ≡ list.old.items) }
     {
-        let mut sink = Growing {
-            list,
-            refused: false,
-        };
-        self.put_end(end, &mut sink);
-        if sink.refused {
-            return Err(AllocError);
-        }
+        let start = list.len();
+        list.resize(length_with(start, self.end_length(end))?, 0)?;
+        let end = self.write_end(end, list.as_mut_slice(), start);
+        list.truncate(end);
         Ok(())
     }
 

@@ -160,10 +160,24 @@ impl<'a> KeyBytes<'a> {
         }
     }
 
-    /// Appends the bytes to a list, so that one list can hold many keys. `Err` means allocation failure; the list then
-    /// ends with a prefix of the bytes.
+    /// Appends the bytes to a list, so that one list can hold many keys. `Err` means allocation failure; the list is
+    /// then unchanged.
     #[inline(always)]
     pub fn append_to(self, list: &mut Vec<u8>) -> Result<(), AllocError>
+        ensures ok { OnOk result (list.new.items ≡ list.old.items ++ self.entry) }
+        ensures err { OnErr result (list.new.items ≡ list.old.items) }
+    {
+        let start = list.len();
+        let appended = self.append_pieces(list);
+        if appended.is_err() {
+            list.truncate(start);
+        }
+        appended
+    }
+
+    // Appends the bytes, and leaves some of them in the list if an allocation fails.
+    #[inline(always)]
+    fn append_pieces(self, list: &mut Vec<u8>) -> Result<(), AllocError>
         ensures ok { OnOk result (list.new.items ≡ list.old.items ++ self.entry) }
         ensures err { OnErr result (GrowsWithin list.old.items list.new.items self.entry) }
     {

@@ -27,10 +27,6 @@ pub record AreKeyOffsets (offsets : List ℕ) (buffer key_offsets : ℕ) : Type 
   pub of_texts : AreOffsets offsets buffer (length offsets - 1)
   pub as_many : key_offsets ≡ length offsets
 
--- a size that is enough for the key of any text of a length
-abbrev pub room_for : ℕ → ℕ
-room_for len = 3 * len + 5
-
 -- a number, or the largest signed number of 64 bits if it is larger
 abbrev pub saturated_signed : ℕ → ℕ
 saturated_signed n = min n (2 ^ 63 - 1)

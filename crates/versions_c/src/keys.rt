@@ -4,8 +4,9 @@ ghost use Rattle.std.specs.Prelude.{◌≡◌, ◌≢◌, ◌↔◌, ◌+◌, �
 ghost use Rattle.version_rules.specs.Key.{key_of};
 ghost use Rattle.version_rules.specs.KeyBytes.{key_bytes};
 ghost use Rattle.version_rules.specs.Versioning.{versioning_of, PlainVersioning};
+ghost use Rattle.version_texts.specs.KeyRoom.{room_for};
 ghost use Rattle.version_texts.specs.Sinks.{put_at, saturated};
-ghost use Rattle.versions_c.specs.Keys.{all_keys, key_status, keys_before, length_past, room_for, room_status, saturated_signed, spelled_key, AreKeyOffsets};
+ghost use Rattle.versions_c.specs.Keys.{all_keys, key_status, keys_before, length_past, room_status, saturated_signed, spelled_key, AreKeyOffsets};
 ghost use Rattle.versions_c.specs.Kinds.{kind_of};
 ghost use Rattle.versions_c.specs.Offsets.{AreOffsets};
 ghost use Rattle.versions_c.specs.Sorting.{IsMarked};
@@ -14,7 +15,7 @@ use crate::kinds::kind_number;
 use crate::offsets::{LARGEST, are_offsets, text_at};
 use crate::status::{BAD_OFFSETS, NO_ROOM, NO_VERSION, OK};
 use version_rules::Kind;
-use version_texts::{VersioningRef, mark_kind};
+use version_texts::{VersioningRef, mark_kind, room_for};
 
 /// Returns a size that is enough for the key of any text of a length.
 #[unsafe(no_mangle)]
@@ -25,7 +26,7 @@ pub extern "C" fn versions_sort_key_bound(text_len: usize) -> usize
     ensures enough { (text : List ℕ) (v : PlainVersioning) → length text ≡ text_len
         → versioning_of text ≡ Some v → length (key_bytes (key_of v)) ≤ room_for text_len }
 {
-    text_len.saturating_mul(3).saturating_add(5)
+    room_for(text_len)
 }
 
 /// Writes the sort key of a version.
@@ -195,7 +196,7 @@ fn length_past(text: &[u8], room: usize) -> Option<usize>
     requires { room < 2 ^ 63 }
     ensures { result ≡ length_past (spelled_key text.now) room }
 {
-    if is_enough(room, text.len()) {
+    if room_for(text.len()) <= room {
         return None;
     }
     let length = VersioningRef::from_bytes(text)?.key_length();
@@ -203,11 +204,4 @@ fn length_past(text: &[u8], room: usize) -> Option<usize>
         return None;
     }
     Some(length)
-}
-
-// Returns whether a size is enough for the key of any text of a length.
-fn is_enough(room: usize, text_len: usize) -> bool
-    ensures { IsTrue result ↔ (room_for text_len ≤ room) }
-{
-    5 <= room && text_len <= (room - 5) / 3
 }

@@ -7,7 +7,7 @@ ghost use Rattle.version_rules.specs.Requirement.{PlainRequirement};
 ghost use Rattle.version_rules.specs.Requirements.{requirements_of};
 ghost use Rattle.version_rules.specs.Versioning.{versioning_of};
 ghost use Rattle.version_texts.specs.VersioningRef.{plain_versioning_ref};
-ghost use Rattle.versions_c.specs.Keys.{room_for};
+ghost use Rattle.version_texts.specs.KeyRoom.{room_for};
 ghost use Rattle.versions_c.specs.Kinds.{version_status};
 ghost use Rattle.versions_c.specs.Offsets.{text_at, AreOffsets};
 ghost use Rattle.versions_c.specs.Ranges.{has_flag, in_range_code, one_if, range_status, range_with, AreLengths};

@@ -1,5 +1,5 @@
 //! A line as it is sorted.
-ghost use Rattle.std.specs.Prelude.{◌≡◌, ◌++◌, drop, length, IfOk, IsTrue, OnOk};
+ghost use Rattle.std.specs.Prelude.{◌≡◌, ◌++◌, drop, length, IfOk, IsTrue, OnErr, OnOk};
 ghost use Rattle.std.specs.Ordering.{then_cmp};
 ghost use Rattle.version_lines.specs.Head.{behind_heads_cmp};
 ghost use Rattle.version_lines.specs.Sorting.{turned};
@@ -32,7 +32,7 @@ impl<'a> Entry<'a> {
     ghost use Rattle.version_lines.specs.Entry.{behind_cmp, entry_cmp, entry_key, entry_kind, entry_line, entry_tie, tie_cmp, turn_cmp, HoldsKey, IsStrict};
 
     /// Returns an entry for the line, whose version was parsed. The key of this is added to `keys`. Fails if the key
-    /// cannot be allocated.
+    /// cannot be allocated; the keys are then unchanged.
     pub fn read(
         keys: &mut Vec<u8>,
         version: &VersioningRef<'_>,
@@ -43,12 +43,14 @@ impl<'a> Entry<'a> {
         ensures line { IfOk result (λ e. entry_line e ≡ line.now) }
         ensures key { IfOk result (HoldsKey keys.new.items (plain_versioning_ref version.now)) }
         ensures last { IfOk result (λ e. e.start ≡ length keys.old.items) }
+        ensures err { OnErr result (keys.new.items ≡ keys.old.items) }
     {
         let start = keys.len();
         version.append_key(keys)?;
         let key = &keys.as_slice()[start..];
         let length = key.len() as u64;
         if length >= LENGTH_LIMIT {
+            keys.truncate(start);
             return Err(AllocError);
         }
         Ok(Entry {

@@ -52,17 +52,20 @@ impl<'a, B: SortBy> KeyedLines<'a, B> {
         })
     }
 
-    /// Adds a line after the others, whose version was parsed from the text in it.
+    /// Adds a line after the others, whose version was parsed from the text in it. If memory is refused, the lines stay
+    /// as they are.
     pub fn add(&mut self, version: &VersioningRef<'_>, line: &'a [u8]) -> Result<(), AllocError>
         requires read { AreRead B.text_of self.old }
         requires version { versioning_of (B.text_of self.old.by line.now)
             ≡ Some (plain_versioning_ref version.now) }
-        ensures read { OnOk result (AreRead B.text_of self.new) }
+        ensures read { AreRead B.text_of self.new }
         ensures lines { OnOk result (lines_in self.new ≡ lines_in self.old ++ line.now ∷ []) }
-        ensures by { OnOk result (self.new.by ≡ self.old.by) }
+        ensures stays { OnErr result (lines_in self.new ≡ lines_in self.old) }
+        ensures by { self.new.by ≡ self.old.by }
     {
+        self.entries.reserve(1)?;
         let entry = Entry::read(&mut self.keys, version, line)?;
-        self.entries.push(entry)?;
+        self.entries.push_reserved(entry);
         self.are_strict &= entry.is_strict();
         Ok(())
     }

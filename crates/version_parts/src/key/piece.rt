@@ -207,9 +207,23 @@ impl<'a> PieceBytes<'a> {
         }
     }
 
-    /// Appends the bytes to a list. Fails on allocation failure, and then leaves a prefix of the bytes in the list.
+    /// Appends the bytes to a list. Fails on allocation failure; the list is then unchanged.
     #[inline(always)]
     pub fn append_to(&mut self, list: &mut Vec<u8>) -> Result<(), AllocError>
+        ensures ok { OnOk result (list.new.items ≡ list.old.items ++ self.old) }
+        ensures err { OnErr result (list.new.items ≡ list.old.items) }
+    {
+        let start = list.len();
+        let appended = self.append_all(list);
+        if appended.is_err() {
+            list.truncate(start);
+        }
+        appended
+    }
+
+    // Appends the bytes to a list, and leaves some of them in it if an allocation fails.
+    #[inline(always)]
+    fn append_all(&mut self, list: &mut Vec<u8>) -> Result<(), AllocError>
         ensures ok { OnOk result (list.new.items ≡ list.old.items ++ self.old) }
         ensures err { OnErr result (GrowsWithin list.old.items list.new.items self.old) }
     {

@@ -1,5 +1,7 @@
 -- Bytes written into a buffer.
-use Rattle.std.proofs.Common.{◌≡◌, ◌∙◌, ◌+◌, ◌-◌, ◌<◌, ◌≤◌, ◌^◌, ℕ, zero, suc, List, [], ◌∷◌, ◌++◌, drop, length, min, set, refl, ap, sym, arith, inl, inr, nat_lt}
+use Rattle.std.proofs.Common.{◌≡◌, ◌∙◌, ◌+◌, ◌-◌, ◌<◌, ◌≤◌, ◌^◌, ℕ, zero, suc, List, [], ◌∷◌, ◌++◌, drop, length, min, replicate, set, take, refl, ap, append-nil, sym, arith, inl, inr, nat_lt}
+use Rattle.std.proofs.lemmas.List.{length-append, length-replicate, take_all}
+use Rattle.std.proofs.Math.Seq.{take-append-add, take-append_seam}
 use Rattle.std.proofs.lemmas.Bool.{cases_Bool, ltb-false, ltb-true}
 use Rattle.version_texts.specs.Sinks.{put_at, saturated}
 
@@ -29,6 +31,21 @@ put_saturated room start bytes small = elim (cases_Bool (nat_lt start (2 ^ 64)))
       put_past room (saturated start) bytes (omega (arith, past, small))
       ∙ sym (put_past room start bytes (omega (arith, past, small)))
 ]
+
+-- a buffer that has taken bytes, and the place after them
+pub written : (room after : List ℕ) (start end : ℕ) (bytes : List ℕ)
+    → ((more : List ℕ)
+    → ◌≡◌ {A = List ℕ × ℕ} (put_at after end more, saturated (end + length more))
+    (put_at room start (bytes ++ more), saturated (start + length (bytes ++ more))))
+    → (after ≡ put_at room start bytes) × (saturated end ≡ saturated (start + length bytes))
+written room after start end bytes taken =
+    let whole = append-nil bytes in
+    let told = ap (λ (p : List ℕ × ℕ). p.1) (taken [])
+    ∙ ap (λ (l : List ℕ). saturated (start + length l)) whole in (
+      sym (put_nothing after end) ∙ ap (λ (p : List ℕ × ℕ). p.0) (taken [])
+          ∙ ap (put_at room start) whole,
+      omega (arith, told),
+    )
 
 -- the first byte, and then the others
 pub put_first : (room : List ℕ) (start b : ℕ) (bytes : List ℕ) → start < length room
@@ -70,3 +87,37 @@ length-put [] start bytes = refl
 length-put (x ∷ room) zero [] = refl
 length-put (x ∷ room) zero (b ∷ bytes) = ap suc (length-put room 0 bytes)
 length-put (x ∷ room) (suc start) bytes = ap suc (length-put room start bytes)
+
+-- bytes written after a list leave it as it is
+pub put_behind : (list room bytes : List ℕ)
+    → put_at (list ++ room) (length list) bytes ≡ list ++ put_at room 0 bytes
+put_behind [] room bytes = refl
+put_behind (x ∷ list) room bytes = ap (λ (l : List ℕ). x ∷ l) (put_behind list room bytes)
+
+-- bytes appended to a list: zeros are added to it, bytes are written over them, and the zeros that
+-- are left are cut off
+pub appended : (old items room bytes : List ℕ) (n len end : ℕ)
+    → items ≡ take n old ++ replicate (n - length old) 0 → len ≡ n
+    → room ≡ put_at items (length old) bytes → length old + length bytes ≤ n
+    → end ≡ length old + length bytes
+    → take end (take len (room ++ drop (length room) items)) ≡ old ++ bytes
+appended old items room bytes n len end i l r fits e =
+    let zeros : List ℕ = replicate (n - length old) 0 in
+    let many : length zeros ≡ n - length old = length-replicate (n - length old) 0 in
+    let spare : items ≡ old ++ zeros =
+    i ∙ ap (λ (xs : List ℕ). xs ++ zeros) (take_all n old (omega (arith, fits))) in
+    let whole : room ≡ old ++ (bytes ++ drop (length bytes) zeros) =
+    r ∙ ap (λ (xs : List ℕ). put_at xs (length old) bytes) spare ∙ put_behind old zeros bytes
+    ∙ ap (λ (xs : List ℕ). old ++ xs)
+    (put_fits zeros bytes (omega (arith, fits, many))) in
+    let long : length room ≡ len =
+    ap length r ∙ length-put items (length old) bytes ∙ ap length spare
+    ∙ length-append old zeros
+    ∙ omega (arith, fits, l, many) in
+    let back : take len (room ++ drop (length room) items) ≡ room =
+    ap (λ k. take k (room ++ drop (length room) items)) (sym long)
+    ∙ take-append_seam room (drop (length room) items) in
+    ap (take end) (back ∙ whole)
+    ∙ ap (λ k. take k (old ++ (bytes ++ drop (length bytes) zeros))) e
+    ∙ take-append-add old (bytes ++ drop (length bytes) zeros) (length bytes)
+    ∙ ap (λ (xs : List ℕ). old ++ xs) (take-append_seam bytes (drop (length bytes) zeros))

@@ -23,9 +23,9 @@ use Rattle.version_rules.specs.Requirement.{PlainRequirement, SpellsOperand, Spe
 use Rattle.version_rules.specs.Requirements.{comma, requirements_of}
 use Rattle.version_rules.specs.VersionMatch.{is_plain_zero}
 use Rattle.version_rules.specs.Versioning.{PlainVersioning, Ideal, General, Complex}
-use Rattle.versions_c.proofs.lemmas.Keys.{key_length, spelled_length}
-use Rattle.versions_c.proofs.lemmas.Keys.Parts.{list_length}
-use Rattle.versions_c.specs.Keys.{room_for}
+use Rattle.version_texts.proofs.lemmas.KeyRoom.{key_length, spelled_length}
+use Rattle.version_texts.proofs.lemmas.KeyRoom.Parts.{list_length}
+use Rattle.version_texts.specs.KeyRoom.{room_for}
 
 -- both bounds of a range have at most so many bytes
 pub record IsShort (n : ℕ) (range : PlainRange) : Type 0 where

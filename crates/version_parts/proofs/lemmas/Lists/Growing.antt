@@ -1,5 +1,6 @@
 -- A list to which bytes are appended, some at a time.
-use Rattle.std.proofs.Common.{◌≡◌, ℕ, List, [], ◌++◌, ◌∷◌, Result, Ok, Err, OnErr, refl, sym, ap, ◌∙◌, append_assoc, append-nil}
+use Rattle.std.proofs.Common.{◌≡◌, ℕ, List, [], ◌++◌, ◌∷◌, length, take, Result, Ok, Err, OnErr, refl, sym, ap, ◌∙◌, append_assoc, append-nil}
+use Rattle.std.proofs.Math.Seq.{take-append_seam}
 use Rattle.version_rules.specs.Lists.{Growing, GrowsWithin}
 
 pub grows_not : (old bytes : List ℕ) → Growing old old bytes bytes
@@ -58,12 +59,13 @@ grows_in_turn old new after bytes left g h =
     grows_within old new after bytes left []
     (left_is old new bytes left (left ++ []) g (sym (append-nil left))) h
 
-pub grows_next : (old new after bytes left more rest : List ℕ) → Growing old new bytes left
-    → left ≡ more ++ rest → GrowsWithin new after more → GrowsWithin old after bytes
-grows_next old new after bytes left more rest g e h =
-    grows_within old new after bytes more rest (left_is old new bytes left (more ++ rest) g e) h
+-- and then nothing more
+pub grows_so_far : (old new after bytes left : List ℕ) → Growing old new bytes left → after ≡ new
+    → GrowsWithin old after bytes
+grows_so_far old new after bytes left g e =
+    (left, record { taken = g.taken; bytes_are = g.bytes_are; new_is = e ∙ g.new_is })
 
-pub grows_first : (old after bytes more rest : List ℕ) → bytes ≡ more ++ rest
-    → GrowsWithin old after more → GrowsWithin old after bytes
-grows_first old after bytes more rest e h =
-    grows_next old old after bytes bytes more rest (grows_not old bytes) e h
+-- without what it grew by it is as before
+pub grown_less : (old new bytes : List ℕ) → GrowsWithin old new bytes → take (length old) new ≡ old
+grown_less old new bytes (left, g) =
+    ap (take (length old)) g.new_is ∙ take-append_seam old g.taken

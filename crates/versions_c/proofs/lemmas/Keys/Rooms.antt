@@ -5,9 +5,10 @@ use Rattle.std.specs.Option.{option_map, unwrap_or}
 use Rattle.version_rules.specs.Key.{key_of}
 use Rattle.version_rules.specs.KeyBytes.{key_bytes}
 use Rattle.version_rules.specs.Versioning.{PlainVersioning, versioning_of}
-use Rattle.versions_c.specs.Keys.{keys_before, room_for, spelled_key}
+use Rattle.version_texts.specs.KeyRoom.{room_for}
+use Rattle.versions_c.specs.Keys.{keys_before, spelled_key}
 use Rattle.versions_c.specs.Offsets.{AreOffsets, text_at}
-use Rattle.versions_c.proofs.lemmas.Keys.{enough_room}
+use Rattle.version_texts.proofs.lemmas.KeyRoom.{enough_room}
 
 key_within : (text : List ℕ) → length (unwrap_or (spelled_key text) []) ≤ room_for (length text)
 key_within text = by (versioning_of text) refl

@@ -10,7 +10,7 @@ use Rattle.version_texts.specs.declared.range_ref.Bound.{Bound}
 use Rattle.version_texts.specs.declared.range_ref.RangeRef.{RangeRef}
 use Rattle.version_texts.specs.Sinks.{saturated}
 use Rattle.versions_c.proofs.lemmas.Ranges.{list_short}
-use Rattle.versions_c.specs.Keys.{room_for}
+use Rattle.version_texts.specs.KeyRoom.{room_for}
 use Rattle.versions_c.specs.Ranges.{range_status, range_with}
 use Rattle.versions_c.specs.declared.status.TheConstants.{OK}
 

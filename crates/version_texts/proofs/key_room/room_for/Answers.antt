@@ -1,6 +1,6 @@
 use Rattle.std.proofs.Common.{arith}
-use Rattle.versions_c.proofs.lemmas.Keys.{enough_room}
-use Rattle.versions_c.proofs.keys.versions_sort_key_bound.Goals as goal
+use Rattle.version_texts.proofs.lemmas.KeyRoom.{enough_room}
+use Rattle.version_texts.proofs.key_room.room_for.Goals as goal
 
 pub returns-clause-room : goal.returns-clause-room
 returns-clause-room c = omega (arith, c.saturating_add.ensures, c.saturating_mul.ensures)

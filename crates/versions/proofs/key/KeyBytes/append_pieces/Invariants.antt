@@ -1,7 +1,7 @@
 use Rattle.std.proofs.Common.{◌++◌, length}
 use Rattle.version_rules.specs.Lists.{Growing}
 use Rattle.versions.specs.KeyStream.{list_left, tail_left}
-use Rattle.versions.proofs.key.KeyBytes.append_to.Given as goal
+use Rattle.versions.proofs.key.KeyBytes.append_pieces.Given as goal
 
 -- the bytes taken are in the list, and the others remain
 abbrev pub invariant-loop-piece : goal.invariant-loop-piece
