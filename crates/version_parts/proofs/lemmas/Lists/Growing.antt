@@ -1,6 +1,5 @@
 -- A list to which bytes are appended, some at a time.
-use Rattle.std.proofs.Common.{◌≡◌, ℕ, List, [], ◌++◌, ◌∷◌, length, take, Result, Ok, Err, OnErr, refl, sym, ap, ◌∙◌, append_assoc, append-nil}
-use Rattle.std.proofs.Math.Seq.{take-append_seam}
+use Rattle.std.proofs.Common.{◌≡◌, ℕ, List, [], ◌++◌, ◌∷◌, Result, Ok, Err, OnErr, refl, sym, ap, ◌∙◌, append_assoc, append-nil}
 use Rattle.version_rules.specs.Lists.{Growing, GrowsWithin}
 
 pub grows_not : (old bytes : List ℕ) → Growing old old bytes bytes
@@ -64,8 +63,3 @@ pub grows_so_far : (old new after bytes left : List ℕ) → Growing old new byt
     → GrowsWithin old after bytes
 grows_so_far old new after bytes left g e =
     (left, record { taken = g.taken; bytes_are = g.bytes_are; new_is = e ∙ g.new_is })
-
--- without what it grew by it is as before
-pub grown_less : (old new bytes : List ℕ) → GrowsWithin old new bytes → take (length old) new ≡ old
-grown_less old new bytes (left, g) =
-    ap (take (length old)) g.new_is ∙ take-append_seam old g.taken
