@@ -1,9 +1,10 @@
 -- What sinks become as bytes are written.
-use Rattle.std.specs.Prelude.{◌≡◌, ℕ, Bool, true, false, zero, suc, ◌+◌, ◌-◌, ◌^◌, min, List, [], ◌∷◌, ◌++◌, length, refl}
+use Rattle.std.specs.Prelude.{◌≡◌, ℕ, Bool, true, false, zero, suc, ◌+◌, ◌-◌, ◌^◌, ◌<◌, ◌≤◌, min, List, [], ◌∷◌, ◌++◌, length, refl}
 use Rattle.std.specs.Ordering.{ordering_then}
 use Rattle.std.specs.declared.cmp.Ordering.{Ordering}
 use Rattle.std.specs.declared.cmp.Ordering.TheVariants.{Less}
-use Rattle.std.proofs.Common.{◌∙◌, ap, append_assoc, sym}
+use Rattle.std.proofs.Common.{◌∙◌, ap, append_assoc, arith, sym}
+use Rattle.std.proofs.lemmas.List.{length-append}
 use Rattle.version_rules.specs.Lists.{bytes_cmp}
 use Rattle.version_texts.specs.declared.sinks.Beside.{Beside}
 use Rattle.version_texts.specs.declared.sinks.Between.{Between}
@@ -39,22 +40,87 @@ put_at (x ∷ room) (suc start) bytes = x ∷ put_at room start bytes
 put_at (x ∷ room) zero [] = x ∷ room
 put_at (x ∷ room) zero (b ∷ bytes) = b ∷ put_at room zero bytes
 
--- a buffer after more bytes, and the place after them
-abbrev pub room_with : Room → List ℕ → List ℕ × ℕ
-room_with room more = (put_at room.room.now room.end more, saturated (room.end + length more))
+-- a buffer that bytes are written into from a place on, if they end before it does; otherwise it
+-- stays
+pub record IsWritten (before : List ℕ) (start : ℕ) (bytes after : List ℕ) : Type 0 where
+  pub fitting : start + length bytes ≤ length before → after ≡ put_at before start bytes
+  pub kept : length before < start + length bytes → after ≡ before
 
--- the same buffer, after the bytes
-abbrev pub LeadsRoom : Room → List ℕ → Room → Type 0
-LeadsRoom first bytes last =
-    (last.room.ghost_name ≡ first.room.ghost_name) × Leads room_with first bytes last
+-- the same buffer, with the bytes from its place on, and the place after them
+pub record TakesRoom (first : Room) (bytes : List ℕ) (last : Room) : Type 0 where
+  pub same : last.room.ghost_name ≡ first.room.ghost_name
+  pub bytes_are : last.room.now ≡ put_at first.room.now first.end bytes
+  pub end_is : last.end ≡ first.end + length bytes
 
-pub room_none : (room : Room) → LeadsRoom room [] room
-room_none room = (refl, leads_none room_with room)
+-- the bytes end before the buffer does
+abbrev pub FitsRoom : Room → List ℕ → Type 0
+FitsRoom room bytes = room.end + length bytes ≤ length room.room.now
 
-pub room_both : (first middle last : Room) (xs ys : List ℕ) → LeadsRoom first xs middle
-    → LeadsRoom middle ys last → LeadsRoom first (xs ++ ys) last
+-- writing nothing changes nothing
+pub put_nothing : (room : List ℕ) (start : ℕ) → put_at room start [] ≡ room
+put_nothing [] start = refl
+put_nothing (x ∷ room) zero = refl
+put_nothing (x ∷ room) (suc start) = ap (λ (l : List ℕ). x ∷ l) (put_nothing room start)
+
+-- bytes are written in turn
+pub put_both : (room : List ℕ) (start : ℕ) (xs ys : List ℕ)
+    → put_at (put_at room start xs) (start + length xs) ys ≡ put_at room start (xs ++ ys)
+put_both room start [] ys =
+    rw (put_nothing room start) (ap (λ n. put_at room n ys) (omega arith))
+put_both [] start (x ∷ xs) ys = refl
+put_both (r ∷ room) zero (x ∷ xs) ys =
+    let place : 0 + length (x ∷ xs) ≡ suc (0 + length xs) = omega arith in
+    ap (λ n. put_at (x ∷ put_at room 0 xs) n ys) place
+    ∙ ap (λ (l : List ℕ). x ∷ l) (put_both room 0 xs ys)
+put_both (r ∷ room) (suc start) (x ∷ xs) ys =
+    let place : suc start + length (x ∷ xs) ≡ suc (start + length (x ∷ xs)) = omega arith in
+    ap (λ n. put_at (r ∷ put_at room start (x ∷ xs)) n ys) place
+    ∙ ap (λ (l : List ℕ). r ∷ l) (put_both room start (x ∷ xs) ys)
+
+-- a buffer keeps its length
+pub length-put : (room : List ℕ) (start : ℕ) (bytes : List ℕ)
+    → length (put_at room start bytes) ≡ length room
+length-put [] start bytes = refl
+length-put (x ∷ room) zero [] = refl
+length-put (x ∷ room) zero (b ∷ bytes) = ap suc (length-put room 0 bytes)
+length-put (x ∷ room) (suc start) bytes = ap suc (length-put room start bytes)
+
+pub room_none : (room : Room) → TakesRoom room [] room
+room_none room =
+    record {
+      same =
+          refl;
+      bytes_are =
+          sym (put_nothing room.room.now room.end);
+      end_is = omega arith;
+    }
+
+pub room_both : (first middle last : Room) (xs ys : List ℕ) → TakesRoom first xs middle
+    → TakesRoom middle ys last → TakesRoom first (xs ++ ys) last
 room_both first middle last xs ys h k =
-    (k.0 ∙ h.0, leads_both room_with first middle last xs ys h.1 k.1)
+    record {
+      same =
+          k.same ∙ h.same;
+      bytes_are =
+          k.bytes_are ∙ (λ i. put_at (h.bytes_are i) (h.end_is i) ys)
+          ∙ put_both first.room.now first.end xs ys;
+      end_is = omega (arith, h.end_is, k.end_is, length-append xs ys);
+    }
+
+pub room_first : (room : Room) (xs ys : List ℕ) → FitsRoom room (xs ++ ys) → FitsRoom room xs
+room_first room xs ys fits = omega (arith, fits, length-append xs ys)
+
+pub room_then : (first middle : Room) (xs ys : List ℕ) → TakesRoom first xs middle
+    → FitsRoom first (xs ++ ys) → FitsRoom middle ys
+room_then first middle xs ys h fits =
+    omega (
+      arith,
+      fits,
+      length-append xs ys,
+      h.end_is,
+      ap length h.bytes_are,
+      length-put first.room.now first.end xs,
+    )
 
 -- how the bytes written and more compare with the given bytes
 abbrev pub order_with : Beside → List ℕ → Ordering

@@ -1,6 +1,6 @@
 //! The classes of the bytes that versions are made of, all of them ASCII, and where runs of a class end.
 
-ghost use Rattle.std.specs.Prelude.{◌≡◌, ◌+◌, ◌≤◌, ℕ, List, drop, length};
+ghost use Rattle.std.specs.Prelude.{◌≡◌, ◌+◌, ◌≤◌, ◌∷◌, ℕ, IfNone, IfSome, List, drop, false, length, true};
 ghost use Rattle.std.specs.List.{prefix_len, take_while};
 ghost use Rattle.version_rules.specs.Bytes.{HasDigits};
 ghost use Rattle.version_rules.specs.Front.{begins};
@@ -147,5 +147,18 @@ pub fn begins_with(text: &[u8], class: Class) -> bool
     match text {
         [first, ..] => class.contains(*first),
         [] => false,
+    }
+}
+
+/// Returns the byte of a class that a text begins with, and the rest, or None if it begins with no such byte. Does not
+/// allocate.
+#[inline(always)]
+pub fn split_byte(text: &[u8], class: Class) -> Option<(u8, &[u8])>
+    ensures some { IfSome result (λ p. (text.now ≡ p.0 ∷ p.1.now) × (contains class p.0 ≡ true)) }
+    ensures none { IfNone result (begins (contains class) text.now ≡ false) }
+{
+    match text {
+        [first, rest @ ..] if class.contains(*first) => Some((*first, rest)),
+        _ => None,
     }
 }

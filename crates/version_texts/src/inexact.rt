@@ -5,27 +5,32 @@ ghost use Rattle.std.specs.List.{join_with_byte};
 ghost use Rattle.version_rules.specs.Requirements.{comma};
 ghost use Rattle.version_texts.specs.Inexact.{inexact_part, inexact_pieces, is_inexact};
 ghost use Rattle.version_texts.specs.Members.{cut_at_commas, pieces_of};
-ghost use Rattle.version_texts.specs.Sinks.{put_at, saturated};
+ghost use Rattle.version_texts.specs.Sinks.{saturated, IsWritten};
 
 use crate::members::Members;
 use crate::requirement_ref::RequirementRef;
 use crate::sink::{Sink, put_all};
-use crate::sinks::Room;
+use crate::sinks::{Count, Room};
 
-/// Writes the members of a list that need not match each version in their range, joined by commas, into a buffer, as
-/// far as they fit. Returns how many bytes they are. For a version in the range of the list these members decide. Does
+/// Writes the members of a list that need not match each version in their range, joined by commas, into a buffer, if
+/// they fit there. Returns how many bytes they are. For a version in the range of the list these members decide. Does
 /// not allocate.
 pub fn write_inexact(list: &[u8], room: &mut [u8]) -> usize
-    ensures bytes { room.new ≡ put_at room.old 0 (inexact_part list.now) }
+    ensures bytes { IsWritten room.old 0 (inexact_part list.now) room.new }
     ensures length { result ≡ saturated (length (inexact_part list.now)) }
 {
-    let mut sink = Room { room, end: 0 };
-    put_inexact(&mut sink, list);
-    sink.end()
+    let mut count = Count { length: 0 };
+    put_inexact(&mut count, list);
+    let length = count.length();
+    if length <= room.len() {
+        put_inexact(&mut Room { room, end: 0 }, list);
+    }
+    length
 }
 
 // Writes these members, joined by commas.
 fn put_inexact<S: Sink>(sink: &mut S, list: &[u8])
+    requires { S.fits sink.old (inexact_part list.now) }
     ensures { S.takes sink.old (inexact_part list.now) sink.new }
 {
     let mut members = Members::of(list);

@@ -15,12 +15,13 @@ ghost use Rattle.version_rules.specs.Split.{split_bytes, split_of};
 ghost use Rattle.version_rules.specs.KeyBytes.{key_bytes};
 ghost use Rattle.version_rules.specs.Range.{begun};
 ghost use Rattle.version_rules.specs.Tail.{section_bytes, tail_bytes};
+ghost use Rattle.version_texts.specs.Class.{contains};
 ghost use Rattle.version_texts.specs.Parts.{parts_behind};
 ghost use Rattle.version_texts.specs.Shape.{body_in, epoch_in, is_section_byte, is_tail_byte, tail_in, Fits};
 ghost use Rattle.version_texts.specs.TextKey.{chunk_of, chunks_of, front_bytes, parts_of, sections_of, tail_of, text_key};
 
-use crate::class::{Class, begins_with, split_run};
-use crate::order::digits::without_zeros;
+use crate::class::{Class, begins_with, split_byte, split_run};
+use crate::order::digits::{one_digit, without_zeros};
 use crate::order::piece::after_mark;
 use crate::shape::{Shape, TailKind};
 use crate::sink::{Sink, put_all};
@@ -28,6 +29,7 @@ use crate::sink::{Sink, put_all};
 // Writes a length.
 #[inline(always)]
 fn put_length<S: Sink>(sink: &mut S, length: usize)
+    requires { S.fits sink.old (length_bytes length) }
     ensures { S.takes sink.old (length_bytes length) sink.new }
 {
     let mut left = length;
@@ -38,36 +40,68 @@ fn put_length<S: Sink>(sink: &mut S, length: usize)
     sink.put(left as u8);
 }
 
+// Writes the run of a class at the start of a text, and returns the rest.
+#[inline(always)]
+fn put_run<'t, S: Sink>(sink: &mut S, text: &'t [u8], class: Class) -> &'t [u8]
+    requires { S.fits sink.old (take_while (contains class) text.now) }
+    ensures bytes { S.takes sink.old (take_while (contains class) text.now) sink.new }
+    ensures rest { result.now ≡ drop (prefix_len (contains class) text.now) text.now }
+{
+    let mut left = text;
+    while let Some((first, rest)) = split_byte(left, class) {
+        sink.put(first);
+        left = rest;
+    }
+    left
+}
+
 // Writes the number at the start of a text, and returns the rest.
 #[inline(always)]
 fn put_number<'t, S: Sink>(sink: &mut S, text: &'t [u8]) -> &'t [u8]
+    requires { S.fits sink.old (number_bytes (run_value text.now)) }
     ensures bytes { S.takes sink.old (number_bytes (run_value text.now)) sink.new }
     ensures rest { result.now ≡ drop (prefix_len is_ascii_digit text.now) text.now }
 {
-    let (digits, rest) = split_run(without_zeros(text), Class::Digit);
+    // Most numbers have one digit, which takes no loop.
+    if let Some((digit, rest)) = one_digit(text) {
+        sink.put(1);
+        sink.put(digit);
+        return rest;
+    }
+    put_long_number(sink, text)
+}
+
+// Writes the number at the start of a text, of any length, and returns the rest.
+#[inline(always)]
+fn put_long_number<'t, S: Sink>(sink: &mut S, text: &'t [u8]) -> &'t [u8]
+    requires { S.fits sink.old (number_bytes (run_value text.now)) }
+    ensures bytes { S.takes sink.old (number_bytes (run_value text.now)) sink.new }
+    ensures rest { result.now ≡ drop (prefix_len is_ascii_digit text.now) text.now }
+{
+    let number = without_zeros(text);
+    let (digits, _) = split_run(number, Class::Digit);
     put_length(sink, digits.len());
-    put_all(sink, digits);
-    rest
+    put_run(sink, number, Class::Digit)
 }
 
 // Writes the run of letters and digits at the start of a text, split before its first digit, and returns the rest.
 #[inline(always)]
 fn put_split<'t, S: Sink>(sink: &mut S, text: &'t [u8]) -> &'t [u8]
+    requires { S.fits sink.old
+        (split_bytes (split_of (take_while is_ascii_alphanumeric text.now))) }
     ensures bytes { S.takes sink.old
         (split_bytes (split_of (take_while is_ascii_alphanumeric text.now))) sink.new }
     ensures rest { result.now ≡ drop (prefix_len is_ascii_alphanumeric text.now) text.now }
 {
-    let (letters, rest) = split_run(text, Class::Letter);
-    put_all(sink, letters);
+    let rest = put_run(sink, text, Class::Letter);
     sink.put(0);
     if !begins_with(rest, Class::Digit) {
         sink.put(0);
         return rest;
     }
     sink.put(1);
-    let behind = put_number(sink, rest);
-    let (run, rest) = split_run(behind, Class::Alphanumeric);
-    put_all(sink, run);
+    let behind = put_long_number(sink, rest);
+    let rest = put_run(sink, behind, Class::Alphanumeric);
     sink.put(0);
     rest
 }
@@ -75,6 +109,8 @@ fn put_split<'t, S: Sink>(sink: &mut S, text: &'t [u8]) -> &'t [u8]
 // Writes the part at the start of a text, and returns the rest.
 #[inline(always)]
 fn put_part<'t, S: Sink>(sink: &mut S, text: &'t [u8]) -> &'t [u8]
+    requires { S.fits sink.old
+        (part_bytes (Some (part_key (take_while is_ascii_alphanumeric text.now)))) }
     ensures bytes { S.takes sink.old
         (part_bytes (Some (part_key (take_while is_ascii_alphanumeric text.now)))) sink.new }
     ensures rest { result.now ≡ drop (prefix_len is_ascii_alphanumeric text.now) text.now }
@@ -96,6 +132,8 @@ fn put_part<'t, S: Sink>(sink: &mut S, text: &'t [u8]) -> &'t [u8]
 // decided.
 #[inline(always)]
 fn put_parts<'t, S: Sink>(sink: &mut S, text: &'t [u8]) -> Option<&'t [u8]>
+    requires { S.fits sink.old
+        (items_bytes part_bytes (parts_of (take_while is_section_byte text.now))) }
     ensures bytes { S.takes sink.old
         (items_bytes part_bytes (parts_of (take_while is_section_byte text.now))) sink.new }
     ensures rest { IfSome result
@@ -119,6 +157,8 @@ fn put_parts<'t, S: Sink>(sink: &mut S, text: &'t [u8]) -> Option<&'t [u8]>
 // Writes the same parts and the end of the list, and returns the rest. Returns None once the sink is decided.
 #[inline(always)]
 fn put_list<'t, S: Sink>(sink: &mut S, text: &'t [u8]) -> Option<&'t [u8]>
+    requires { S.fits sink.old
+        (parts_bytes (parts_of (take_while is_section_byte text.now))) }
     ensures bytes { S.takes sink.old
         (parts_bytes (parts_of (take_while is_section_byte text.now))) sink.new }
     ensures rest { IfSome result
@@ -134,7 +174,8 @@ fn put_list<'t, S: Sink>(sink: &mut S, text: &'t [u8]) -> Option<&'t [u8]>
 // Writes a chunk of a release, by its text.
 #[inline(always)]
 fn put_chunk<S: Sink>(sink: &mut S, text: &[u8])
-    requires { list_all is_identifier_byte text.now ≡ true }
+    requires text { list_all is_identifier_byte text.now ≡ true }
+    requires fits { S.fits sink.old (chunk_bytes (Some (chunk_of text.now))) }
     ensures { S.takes sink.old (chunk_bytes (Some (chunk_of text.now))) sink.new }
 {
     let (_, behind) = split_run(text, Class::Digit);
@@ -151,7 +192,8 @@ fn put_chunk<S: Sink>(sink: &mut S, text: &[u8])
 // Writes a release, by its text.
 #[inline(always)]
 fn put_release<S: Sink>(sink: &mut S, text: &[u8])
-    requires { list_all is_metadata_byte text.now ≡ true }
+    requires text { list_all is_metadata_byte text.now ≡ true }
+    requires fits { S.fits sink.old (release_bytes (chunks_of text.now)) }
     ensures { S.takes sink.old (release_bytes (chunks_of text.now)) sink.new }
 {
     let mut left = text;
@@ -171,7 +213,8 @@ fn put_release<S: Sink>(sink: &mut S, text: &[u8])
 // Writes the sections of a text, between its signs, and their end.
 #[inline(always)]
 fn put_sections<S: Sink>(sink: &mut S, text: &[u8])
-    requires { list_all (is_tail_byte TailKind.Sections) text.now ≡ true }
+    requires text { list_all (is_tail_byte TailKind.Sections) text.now ≡ true }
+    requires fits { S.fits sink.old (list_bytes section_bytes (sections_of text.now)) }
     ensures { S.takes sink.old (list_bytes section_bytes (sections_of text.now)) sink.new }
 {
     let mut left = text;
@@ -193,7 +236,8 @@ fn put_sections<S: Sink>(sink: &mut S, text: &[u8])
 // Writes a tail, by its kind and its text.
 #[inline(always)]
 pub(crate) fn put_tail<S: Sink>(sink: &mut S, kind: TailKind, text: &[u8])
-    requires { list_all (is_tail_byte kind) text.now ≡ true }
+    requires text { list_all (is_tail_byte kind) text.now ≡ true }
+    requires fits { S.fits sink.old (tail_bytes (tail_of kind text.now)) }
     ensures { S.takes sink.old (tail_bytes (tail_of kind text.now)) sink.new }
 {
     sink.put(kind.rank());
@@ -207,7 +251,8 @@ pub(crate) fn put_tail<S: Sink>(sink: &mut S, kind: TailKind, text: &[u8])
 // Writes an epoch, by its digits.
 #[inline(always)]
 fn put_epoch<S: Sink>(sink: &mut S, digits: &[u8])
-    requires { list_all is_ascii_digit digits.now ≡ true }
+    requires digits { list_all is_ascii_digit digits.now ≡ true }
+    requires fits { S.fits sink.old (number_bytes (digits_value 10 digits.now)) }
     ensures { S.takes sink.old (number_bytes (digits_value 10 digits.now)) sink.new }
 {
     if digits.is_empty() {
@@ -256,6 +301,7 @@ pub(crate) fn tail_at(text: &[u8], shape: Shape) -> &[u8]
 pub fn put_begun<S: Sink>(sink: &mut S, digits: &[u8], parts: Option<&[u8]>)
     requires digits { list_all is_ascii_digit digits.now ≡ true }
     requires parts { IfSome parts (λ text. list_all is_section_byte text.now ≡ true) }
+    requires fits { S.fits sink.old (begun (digits_value 10 digits.now) (parts_behind parts)) }
     ensures { S.takes sink.old (begun (digits_value 10 digits.now) (parts_behind parts.entry))
         sink.new }
 {
@@ -268,7 +314,8 @@ pub fn put_begun<S: Sink>(sink: &mut S, digits: &[u8], parts: Option<&[u8]>)
 /// Writes the key of a version, by its text and its shape. Returns early once the sink is decided. Does not allocate.
 #[inline(always)]
 pub fn put_key<S: Sink>(sink: &mut S, text: &[u8], shape: Shape)
-    requires { Fits text.now shape }
+    requires shape { Fits text.now shape }
+    requires fits { S.fits sink.old (key_bytes (text_key text.now shape)) }
     ensures { S.takes sink.old (key_bytes (text_key text.now shape)) sink.new }
 {
     if put_front(sink, text, shape) {
@@ -279,7 +326,8 @@ pub fn put_key<S: Sink>(sink: &mut S, text: &[u8], shape: Shape)
 // Writes the epoch and the body of a key. Returns whether the tail has to follow: not if the sink is decided.
 #[inline(always)]
 pub(crate) fn put_front<S: Sink>(sink: &mut S, text: &[u8], shape: Shape) -> bool
-    requires { Fits text.now shape }
+    requires shape { Fits text.now shape }
+    requires fits { S.fits sink.old (front_bytes (text_key text.now shape)) }
     ensures bytes { S.takes sink.old (front_bytes (text_key text.now shape)) sink.new }
     ensures decided { result ≡ false → (bytes : List ℕ) → S.takes sink.new bytes sink.new }
 {

@@ -62,7 +62,9 @@ pub(crate) fn kept_parts(body: &[u8], kept: Kept) -> Option<&[u8]>
 // Writes the epoch and the kept parts of a version, by its text and its shape.
 #[inline(always)]
 fn put_kept<S: Sink>(sink: &mut S, text: &[u8], shape: Shape, kept: Kept)
-    requires { Fits text.now shape }
+    requires shape { Fits text.now shape }
+    requires fits { S.fits sink.old (begun (text_key text.now shape).epoch
+        (kept_parts kept (text_key text.now shape).body)) }
     ensures { S.takes sink.old (begun (text_key text.now shape).epoch
         (kept_parts kept (text_key text.now shape).body)) sink.new }
 {
@@ -73,7 +75,8 @@ fn put_kept<S: Sink>(sink: &mut S, text: &[u8], shape: Shape, kept: Kept)
 /// Writes an end of a range, by the text and the shape of its version. Does not allocate.
 #[inline(always)]
 pub fn put_end<S: Sink>(sink: &mut S, text: &[u8], shape: Shape, end: End)
-    requires { Fits text.now shape }
+    requires shape { Fits text.now shape }
+    requires fits { S.fits sink.old (end_bytes end (text_key text.now shape)) }
     ensures { S.takes sink.old (end_bytes end (text_key text.now shape)) sink.new }
 {
     match end {

@@ -11,7 +11,7 @@ ghost use Rattle.version_rules.specs.Requirements.{comma, requirements_of};
 ghost use Rattle.version_texts.specs.Empty.{IsCrossed};
 ghost use Rattle.version_texts.specs.RangeRef.{bound_bytes, high_length, low_bytes, plain_range_ref, IsParsed};
 ghost use Rattle.version_texts.specs.RequirementRef.{plain_requirement_ref};
-ghost use Rattle.version_texts.specs.Sinks.{put_at, saturated};
+ghost use Rattle.version_texts.specs.Sinks.{saturated, IsWritten};
 ghost use Rattle.version_texts.specs.VersioningRef.{plain_versioning_ref};
 
 use crate::members::Members;
@@ -39,9 +39,9 @@ impl<'a> Bound<'a> {
         self.version.end_length(self.end)
     }
 
-    /// Writes its bytes into a buffer, as far as they fit. Does not allocate.
+    /// Writes its bytes into a buffer, if they fit there. Does not allocate.
     pub fn write(&self, room: &mut [u8])
-        ensures { room.new ≡ put_at room.old 0 (bound_bytes self.now) }
+        ensures { IsWritten room.old 0 (bound_bytes self.now) room.new }
     {
         self.version.write_end(self.end, room, 0);
     }
@@ -188,7 +188,7 @@ impl<'a> RangeRef<'a> {
         }
     }
 
-    /// Writes its low bound into a buffer, as far as it fits. Does not allocate.
+    /// Writes its low bound into a buffer, if it fits there. Does not allocate.
     pub fn write_low(&self, room: &mut [u8])
         ensures { length (plain_range_ref self.now).low ≤ length room.old
             → take (length (plain_range_ref self.now).low) room.new
@@ -199,7 +199,7 @@ impl<'a> RangeRef<'a> {
         }
     }
 
-    /// Writes its high bound into a buffer, as far as it fits, if there is one. Does not allocate.
+    /// Writes its high bound into a buffer, if there is one and it fits there. Does not allocate.
     pub fn write_high(&self, room: &mut [u8])
         ensures { IfSome (plain_range_ref self.now).high (λ bound. length bound ≤ length room.old
             → take (length bound) room.new ≡ bound) }

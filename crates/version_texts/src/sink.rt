@@ -7,8 +7,12 @@ pub trait Sink {
     // The second sink is the first after the bytes.
     ghost takes: { Self → List ℕ → Self → Type 0 };
 
+    // The sink has room for the bytes.
+    ghost fits: { Self → List ℕ → Type 0 };
+
     /// Writes a byte.
     fn put(&mut self, byte: u8)
+        requires { fits self.old (byte ∷ []) }
         ensures { takes self.old (byte ∷ []) self.new };
 
     /// Returns whether no further byte changes the sink.
@@ -18,6 +22,12 @@ pub trait Sink {
     // No bytes leave a sink as it is. Bytes after bytes are one list.
     ghost takes_none: { (sink : Self) → takes sink [] sink };
 
+    // Bytes that fit, fit in turn.
+    ghost fits_first: { (sink : Self) (xs ys : List ℕ) → fits sink (xs ++ ys) → fits sink xs };
+
+    ghost fits_then: { (first middle : Self) (xs ys : List ℕ) → takes first xs middle
+        → fits first (xs ++ ys) → fits middle ys };
+
     ghost takes_both: { (first middle last : Self) (xs ys : List ℕ) → takes first xs middle
         → takes middle ys last → takes first (xs ++ ys) last };
 }
@@ -25,6 +35,7 @@ pub trait Sink {
 /// Writes bytes.
 #[inline(always)]
 pub fn put_all<S: Sink>(sink: &mut S, bytes: &[u8])
+    requires { S.fits sink.old bytes.now }
     ensures { S.takes sink.old bytes.now sink.new }
 {
     for byte in bytes {

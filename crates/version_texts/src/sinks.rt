@@ -1,12 +1,12 @@
 //! Sinks: a count of bytes, a buffer with room, and comparisons with given bytes.
 
-ghost use Rattle.std.specs.Prelude.{◌≡◌, ◌+◌, [], length};
+ghost use Rattle.std.specs.Prelude.{◌≡◌, ◌+◌, ◌≤◌, [], length, ⊤};
 ghost use Rattle.version_rules.specs.Ends.{end_bytes};
 ghost use Rattle.version_rules.specs.KeyBytes.{key_bytes};
 ghost use Rattle.version_rules.specs.Lists.{bytes_cmp};
 ghost use Rattle.version_rules.specs.Tail.{tail_bytes};
 ghost use Rattle.version_texts.specs.Shape.{tail_in, Fits};
-ghost use Rattle.version_texts.specs.Sinks.{between_with, count_with, leads_both, leads_none, order_with, put_at, room_both, room_none, saturated, Leads, LeadsRoom};
+ghost use Rattle.version_texts.specs.Sinks.{between_with, count_with, leads_both, leads_none, order_with, put_at, room_both, room_first, room_none, room_then, FitsRoom, Leads, TakesRoom};
 ghost use Rattle.version_texts.specs.TextKey.{tail_of, text_key};
 
 use crate::key::{put_front, put_tail, tail_at};
@@ -25,6 +25,8 @@ pub struct Count {
 impl Sink for Count {
     ghost takes = { Leads count_with };
 
+    ghost fits = { λ _ _. ⊤ };
+
     #[inline(always)]
     fn put(&mut self, _byte: u8) {
         self.length = self.length.saturating_add(1);
@@ -34,6 +36,10 @@ impl Sink for Count {
     fn is_decided(&self) -> bool {
         false
     }
+
+    ghost fits_first = { λ _ _ _ _. tt };
+
+    ghost fits_then = { λ _ _ _ _ _ _. tt };
 
     ghost takes_none = { leads_none count_with };
 
@@ -50,7 +56,7 @@ impl Count {
     }
 }
 
-/// A buffer and the place after the bytes written. Bytes that do not fit are only counted.
+/// A buffer and the place after the bytes written.
 #[derive(Drop)]
 pub struct Room<'a> {
     pub room: &'a mut [u8],
@@ -58,14 +64,12 @@ pub struct Room<'a> {
 }
 
 impl<'a> Sink for Room<'a> {
-    ghost takes = { LeadsRoom };
+    ghost takes = { TakesRoom };
+
+    ghost fits = { FitsRoom };
 
     #[inline(always)]
     fn put(&mut self, byte: u8) {
-        if self.end >= self.room.len() {
-            self.end = self.end.saturating_add(1);
-            return;
-        }
         self.room[self.end] = byte;
         self.end += 1;
     }
@@ -75,19 +79,13 @@ impl<'a> Sink for Room<'a> {
         false
     }
 
+    ghost fits_first = { room_first };
+
+    ghost fits_then = { room_then };
+
     ghost takes_none = { room_none };
 
     ghost takes_both = { room_both };
-}
-
-impl<'a> Room<'a> {
-    /// Returns the place after the bytes written. Does not allocate.
-    #[inline(always)]
-    pub fn end(&self) -> usize
-        ensures { result ≡ saturated self.now.end }
-    {
-        self.end
-    }
 }
 
 // A comparison of the bytes written with given ones, of which these are left, as far as no byte differed.
@@ -99,6 +97,8 @@ pub(crate) struct Beside<'a> {
 
 impl<'a> Sink for Beside<'a> {
     ghost takes = { Leads order_with };
+
+    ghost fits = { λ _ _. ⊤ };
 
     #[inline(always)]
     fn put(&mut self, byte: u8) {
@@ -122,6 +122,10 @@ impl<'a> Sink for Beside<'a> {
     fn is_decided(&self) -> bool {
         self.order != Ordering::Equal
     }
+
+    ghost fits_first = { λ _ _ _ _. tt };
+
+    ghost fits_then = { λ _ _ _ _ _ _. tt };
 
     ghost takes_none = { leads_none order_with };
 
@@ -155,6 +159,8 @@ pub(crate) struct Between<'a> {
 impl<'a> Sink for Between<'a> {
     ghost takes = { Leads between_with };
 
+    ghost fits = { λ _ _. ⊤ };
+
     #[inline(always)]
     fn put(&mut self, byte: u8) {
         self.low.put(byte);
@@ -168,6 +174,10 @@ impl<'a> Sink for Between<'a> {
             (low, high) => low != Ordering::Equal && high != Ordering::Equal,
         }
     }
+
+    ghost fits_first = { λ _ _ _ _. tt };
+
+    ghost fits_then = { λ _ _ _ _ _ _. tt };
 
     ghost takes_none = { leads_none between_with };
 
@@ -184,33 +194,35 @@ impl<'a> Between<'a> {
     }
 }
 
-/// Writes the key of a version into a buffer from a place on, as far as it fits, and returns the place after it.
-/// Does not allocate.
-// Its tail has a sink of its own: so the compiler keeps both in registers.
+// Writes the key of a version into a buffer from a place on, and returns the place after it. Its tail has a sink of its
+// own: so the compiler keeps both in registers.
 #[inline(always)]
-pub fn write_key(text: &[u8], shape: Shape, room: &mut [u8], start: usize) -> usize
-    requires { Fits text.now shape }
+pub(crate) fn write_key(text: &[u8], shape: Shape, room: &mut [u8], start: usize) -> usize
+    requires shape { Fits text.now shape }
+    requires room { start + length (key_bytes (text_key text.now shape)) ≤ length room.old }
     ensures bytes { room.new ≡ put_at room.old start (key_bytes (text_key text.now shape)) }
-    ensures end { result ≡ saturated (start + length (key_bytes (text_key text.now shape))) }
+    ensures end { result ≡ start + length (key_bytes (text_key text.now shape)) }
 {
     let mut sink = Room { room, end: start };
     put_front(&mut sink, text, shape);
-    let end = sink.end();
+    let end = sink.end;
     write_tail(text, shape, room, end)
 }
 
-// Writes the tail of a key into a buffer from a place on, as far as it fits, and returns the place after it.
-#[inline(never)]
+// Writes the tail of a key into a buffer from a place on, and returns the place after it.
+#[inline(always)]
 fn write_tail(text: &[u8], shape: Shape, room: &mut [u8], start: usize) -> usize
-    requires { Fits text.now shape }
+    requires shape { Fits text.now shape }
+    requires room { start + length (tail_bytes (tail_of shape.tail (tail_in text.now shape)))
+        ≤ length room.old }
     ensures bytes { room.new ≡ put_at room.old start
         (tail_bytes (tail_of shape.tail (tail_in text.now shape))) }
-    ensures end { result ≡ saturated (start
-        + length (tail_bytes (tail_of shape.tail (tail_in text.now shape)))) }
+    ensures end { result ≡ start
+        + length (tail_bytes (tail_of shape.tail (tail_in text.now shape))) }
 {
     let mut sink = Room { room, end: start };
     put_tail(&mut sink, shape.tail, tail_at(text, shape));
-    sink.end()
+    sink.end
 }
 
 /// Compares an end of a range with given bytes, up to the first difference.

@@ -36,7 +36,7 @@ pub struct VersioningRef<'a> {
 }
 
 impl<'a> VersioningRef<'a> {
-    ghost use Rattle.std.specs.Prelude.{◌+◌, ◌++◌, ◌↔◌, ◌≤◌, length, IsTrue, OnErr, OnOk};
+    ghost use Rattle.std.specs.Prelude.{◌+◌, ◌-◌, ◌++◌, ◌↔◌, ◌<◌, ◌≤◌, ◌^◌, length, IfNone, IfSome, IsTrue, OnErr, OnOk};
     ghost use Rattle.std.specs.Option.{option_map};
     ghost use Rattle.std.specs.declared.cmp.Ordering.TheVariants.{Equal};
     ghost use Rattle.version_rules.specs.Lists.{bytes_cmp};
@@ -47,7 +47,7 @@ impl<'a> VersioningRef<'a> {
     ghost use Rattle.version_rules.specs.Versioning.{is_prerelease, versioning_nth, versioning_of, versioning_plain_cmp, versioning_text};
     ghost use Rattle.version_texts.specs.Difference.{difference_of};
     ghost use Rattle.version_texts.specs.Field.{epoch_and_parts, field_place};
-    ghost use Rattle.version_texts.specs.Sinks.{is_between, put_at, saturated};
+    ghost use Rattle.version_texts.specs.Sinks.{is_between, saturated, IsWritten};
     ghost use Rattle.version_texts.specs.VersioningRef.{major_text, plain_versioning_ref};
 
     /// Parses the whole text as a strict version, else as a general, else as a messy one; returns None if it does not
@@ -212,20 +212,24 @@ impl<'a> VersioningRef<'a> {
     /// Writes the bytes of its key into a sink. Returns early once the sink is decided. Does not allocate.
     #[inline(always)]
     pub fn put_key<S: Sink>(&self, sink: &mut S)
+        requires { S.fits sink.old (key_bytes (key_of (plain_versioning_ref self.now))) }
         ensures { S.takes sink.old (key_bytes (key_of (plain_versioning_ref self.now))) sink.new }
     {
         key::put_key(sink, self.text, self.shape);
     }
 
-    /// Writes the bytes of its key into a buffer from a place on, as far as they fit, and returns the place after them.
+    /// Writes the bytes of its key into a buffer from a place on, if they fit there, and returns the place after them.
     /// Does not allocate.
     #[inline(always)]
     pub fn write_key(&self, room: &mut [u8], start: usize) -> usize
-        ensures bytes { room.new ≡ put_at room.old start
-            (key_bytes (key_of (plain_versioning_ref self.now))) }
+        ensures bytes { IsWritten room.old start
+            (key_bytes (key_of (plain_versioning_ref self.now))) room.new }
         ensures end { result ≡ saturated (start
             + length (key_bytes (key_of (plain_versioning_ref self.now)))) }
     {
+        if let Some(place) = self.end_past(End::Key, start, room.len()) {
+            return place;
+        }
         sinks::write_key(self.text, self.shape, room, start)
     }
 
@@ -305,24 +309,59 @@ impl<'a> VersioningRef<'a> {
     /// Writes the bytes of an end of a range into a sink. Does not allocate.
     #[inline(always)]
     pub fn put_end<S: Sink>(&self, end: End, sink: &mut S)
+        requires { S.fits sink.old (end_bytes end (key_of (plain_versioning_ref self.now))) }
         ensures { S.takes sink.old (end_bytes end (key_of (plain_versioning_ref self.now)))
             sink.new }
     {
         range::put_end(sink, self.text, self.shape, end);
     }
 
-    /// Writes the bytes of an end of a range into a buffer from a place on, as far as they fit, and returns the place
-    /// after them. Does not allocate.
+    /// Writes the bytes of an end of a range into a buffer from a place on, if they fit there, and returns the place after
+    /// them. Does not allocate.
     #[inline(never)]
     pub fn write_end(&self, end: End, room: &mut [u8], start: usize) -> usize
-        ensures bytes { room.new ≡ put_at room.old start
-            (end_bytes end (key_of (plain_versioning_ref self.now))) }
+        ensures bytes { IsWritten room.old start
+            (end_bytes end (key_of (plain_versioning_ref self.now))) room.new }
         ensures end { result ≡ saturated (start
             + length (end_bytes end (key_of (plain_versioning_ref self.now)))) }
     {
+        if let Some(place) = self.end_past(end, start, room.len()) {
+            return place;
+        }
         let mut sink = Room { room, end: start };
         self.put_end(end, &mut sink);
-        sink.end()
+        sink.end
+    }
+
+    // Returns the place after the bytes of an end of a range that begin at a place, if it is past a size. Mostly the
+    // size is so large that the bytes need not be counted.
+    #[inline(always)]
+    fn end_past(&self, end: End, start: usize, size: usize) -> Option<usize>
+        requires { size < 2 ^ 63 }
+        ensures within { IfNone result
+            (start + length (end_bytes end (key_of (plain_versioning_ref self.now))) ≤ size) }
+        ensures past { IfSome result (λ place.
+            (place ≡ saturated (start
+            + length (end_bytes end (key_of (plain_versioning_ref self.now)))))
+            × (size < start + length (end_bytes end (key_of (plain_versioning_ref self.now))))) }
+    {
+        if start.saturating_add(self.end_room(end)) <= size {
+            return None;
+        }
+        let place = start.saturating_add(self.end_length(end));
+        if place <= size { None } else { Some(place) }
+    }
+
+    // Returns a size that is enough for an end of a range.
+    #[inline(always)]
+    fn end_room(&self, end: End) -> usize
+        ensures { saturated (length (end_bytes end (key_of (plain_versioning_ref self.now)))) ≤ result }
+    {
+        let room = room_for(self.text.len());
+        match end {
+            End::Key => room,
+            _ => room.saturating_add(1),
+        }
     }
 
     /// Returns how many bytes an end of a range has. Does not allocate.

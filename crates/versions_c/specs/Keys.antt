@@ -39,9 +39,3 @@ room_status bytes room = if nat_le (length bytes) room then OK else NO_ROOM
 abbrev pub key_status : Option (List ℕ) → ℕ → ℤ
 key_status None room = NO_VERSION
 key_status (Some bytes) room = room_status bytes room
-
--- the length of a key that does not fit
-abbrev pub length_past : Option (List ℕ) → ℕ → Option ℕ
-length_past None room = None
-length_past (Some bytes) room =
-    if nat_le (length bytes) room then None else Some (saturated (length bytes))

@@ -43,10 +43,9 @@ pub extern "C" fn versions_inexact(list: &[u8], members: &mut [u8], members_len:
     if wrong_member(list).is_some() {
         return NO_REQUIREMENTS;
     }
-    *members_len = write_inexact(list, &mut []);
+    *members_len = write_inexact(list, members);
     if *members_len > members.len() {
         return NO_ROOM;
     }
-    write_inexact(list, members);
     OK
 }

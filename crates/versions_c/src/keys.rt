@@ -6,7 +6,7 @@ ghost use Rattle.version_rules.specs.KeyBytes.{key_bytes};
 ghost use Rattle.version_rules.specs.Versioning.{versioning_of, PlainVersioning};
 ghost use Rattle.version_texts.specs.KeyRoom.{room_for};
 ghost use Rattle.version_texts.specs.Sinks.{put_at, saturated};
-ghost use Rattle.versions_c.specs.Keys.{all_keys, key_status, keys_before, length_past, room_status, saturated_signed, spelled_key, AreKeyOffsets};
+ghost use Rattle.versions_c.specs.Keys.{all_keys, key_status, keys_before, room_status, saturated_signed, spelled_key, AreKeyOffsets};
 ghost use Rattle.versions_c.specs.Kinds.{kind_of};
 ghost use Rattle.versions_c.specs.Offsets.{AreOffsets};
 ghost use Rattle.versions_c.specs.Sorting.{IsMarked};
@@ -66,14 +66,13 @@ pub extern "C" fn versions_parse(
     ensures kind { result ≡ OK → kind.new ≡ kind_of (versioning_of text.now) }
     ensures kept_kind { result ≢ OK → kind.new ≡ kind.old }
 {
-    if let Some(length) = length_past(text, key.len()) {
-        *key_len = length;
-        return NO_ROOM;
-    }
     let Some(version) = VersioningRef::from_bytes(text) else {
         return NO_VERSION;
     };
     *key_len = version.write_key(key, 0);
+    if *key_len > key.len() {
+        return NO_ROOM;
+    }
     *kind = kind_number(version.kind());
     OK
 }
@@ -119,8 +118,7 @@ pub extern "C" fn versions_sort_keys(
     }
 }
 
-/// Writes the keys of all texts, as far as they fit, and their offsets, and returns whether all of them fit. Writes the
-/// places of the first texts, with the kinds of the texts marked on them, as many as there is room for.
+/// Writes the keys of all texts, if they fit, and their offsets, and returns whether they fit. Writes the places of the first texts, with the kinds of the texts marked on them, as many as there is room for.
 pub fn put_keys(
     texts: &[u8],
     offsets: &[u64],
@@ -142,11 +140,12 @@ pub fn put_keys(
     ensures places { (i : ℕ) → i < count → i < length places.old
         → IsMarked texts.now offsets.now i (slice_index places.new i) }
 {
-    put_all(texts, offsets, count, keys, key_offsets, places) <= keys.len()
+    let room = keys.len();
+    put_all(texts, offsets, count, keys, key_offsets, places) <= room
 }
 
-// Writes the keys of all texts, as far as they fit, and their offsets, and returns the place after them. Writes the
-// marked places too.
+// Writes the keys of all texts, if they fit, and their offsets, and returns the place after them. Writes the marked
+// places too.
 fn put_all(
     texts: &[u8],
     offsets: &[u64],
@@ -158,7 +157,8 @@ fn put_all(
     requires offsets { AreOffsets offsets.now (length texts.now) count }
     requires room { length key_offsets.old ≡ count + 1 }
     ensures end { result ≡ saturated (length (keys_before texts.now offsets.now count)) }
-    ensures keys { keys.new ≡ put_at keys.old 0 (keys_before texts.now offsets.now count) }
+    ensures keys { length (keys_before texts.now offsets.now count) ≤ length keys.old → keys.new
+        ≡ put_at keys.old 0 (keys_before texts.now offsets.now count) }
     ensures key_offsets { (i : ℕ) → i ≤ count
         → slice_index key_offsets.new i
         ≡ saturated_signed (length (keys_before texts.now offsets.now i)) }
@@ -189,19 +189,4 @@ pub fn is_always_room(texts: &[u8], offsets: &[u64], count: usize, room: usize) 
     let fives = 5 * count;
     let bytes = offsets[count] - offsets[0];
     fives <= room && bytes <= ((room - fives) / 3) as u64
-}
-
-// Returns the length of the key of a version, if it does not fit.
-fn length_past(text: &[u8], room: usize) -> Option<usize>
-    requires { room < 2 ^ 63 }
-    ensures { result ≡ length_past (spelled_key text.now) room }
-{
-    if room_for(text.len()) <= room {
-        return None;
-    }
-    let length = VersioningRef::from_bytes(text)?.key_length();
-    if length <= room {
-        return None;
-    }
-    Some(length)
 }

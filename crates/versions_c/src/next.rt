@@ -29,10 +29,9 @@ pub extern "C" fn versions_next(
     let Some(found) = next_of(&version, place) else {
         return NO_NEXT;
     };
-    *next_len = found.length();
+    *next_len = found.write(next);
     if *next_len > next.len() {
         return NO_ROOM;
     }
-    found.write(next);
     OK
 }

@@ -28,7 +28,7 @@ impl<'a> Next<'a> {
     ghost use Rattle.std.specs.Prelude.{length};
     ghost use Rattle.version_rules.specs.Versioning.{versioning_text};
     ghost use Rattle.version_tasks.specs.NextRef.{plain_next};
-    ghost use Rattle.version_texts.specs.Sinks.{put_at, saturated};
+    ghost use Rattle.version_texts.specs.Sinks.{saturated, IsWritten};
 
     /// Returns how many bytes its text has. Does not allocate.
     pub fn length(&self) -> usize
@@ -39,16 +39,21 @@ impl<'a> Next<'a> {
         sink.length()
     }
 
-    /// Writes its text into a buffer, as far as it fits. Does not allocate.
-    pub fn write(&self, room: &mut [u8])
-        ensures { room.new ≡ put_at room.old 0 (versioning_text (plain_next self.now)) }
+    /// Writes its text into a buffer, if it fits there, and returns how many bytes it has. Does not allocate.
+    pub fn write(&self, room: &mut [u8]) -> usize
+        ensures bytes { IsWritten room.old 0 (versioning_text (plain_next self.now)) room.new }
+        ensures length { result ≡ saturated (length (versioning_text (plain_next self.now))) }
     {
-        let mut sink = Room { room, end: 0 };
-        self.put(&mut sink);
+        let length = self.length();
+        if length <= room.len() {
+            self.put(&mut Room { room, end: 0 });
+        }
+        length
     }
 
     // Writes its text into a sink.
     fn put<S: Sink>(&self, sink: &mut S)
+        requires { S.fits sink.old (versioning_text (plain_next self.now)) }
         ensures { S.takes sink.old (versioning_text (plain_next self.now)) sink.new }
     {
         let mut buffer = Buffer::new();
@@ -61,6 +66,7 @@ impl<'a> Next<'a> {
 
 // Writes zeros, each after a dot.
 fn put_zeros<S: Sink>(sink: &mut S, zeros: usize)
+    requires { S.fits sink.old (zeros_text zeros) }
     ensures { S.takes sink.old (zeros_text zeros) sink.new }
 {
     for _ in 0..zeros {

@@ -3,49 +3,7 @@ use Rattle.std.proofs.Common.{◌≡◌, ◌∙◌, ◌+◌, ◌-◌, ◌<◌, �
 use Rattle.std.proofs.lemmas.List.{length-append, length-replicate, take_all}
 use Rattle.std.proofs.Math.Seq.{take-append-add, take-append_seam}
 use Rattle.std.proofs.lemmas.Bool.{cases_Bool, ltb-false, ltb-true}
-use Rattle.version_texts.specs.Sinks.{put_at, saturated}
-
--- writing nothing changes nothing
-pub put_nothing : (room : List ℕ) (start : ℕ) → put_at room start [] ≡ room
-put_nothing [] start = refl
-put_nothing (x ∷ room) zero = refl
-put_nothing (x ∷ room) (suc start) = ap (λ (l : List ℕ). x ∷ l) (put_nothing room start)
-
--- nor does writing after the end of the buffer
-pub put_past : (room : List ℕ) (start : ℕ) (bytes : List ℕ) → length room ≤ start
-    → put_at room start bytes ≡ room
-put_past [] start bytes past = refl
-put_past (x ∷ room) zero bytes past = absurd (omega (arith, past))
-put_past (x ∷ room) (suc start) bytes past =
-    ap (λ (l : List ℕ). x ∷ l) (put_past room start bytes (omega (arith, past)))
-
--- no buffer reaches a place that is saturated
-pub put_saturated : (room : List ℕ) (start : ℕ) (bytes : List ℕ) → length room < 2 ^ 64
-    → put_at room (saturated start) bytes ≡ put_at room start bytes
-put_saturated room start bytes small = elim (cases_Bool (nat_lt start (2 ^ 64))) [
-  | inl least ↦
-      let less : start < 2 ^ 64 = ltb-true start (2 ^ 64) least in
-      ap (λ n. put_at room n bytes) (omega (arith, less))
-  | inr more ↦
-      let past : 2 ^ 64 ≤ start = ltb-false start (2 ^ 64) more in
-      put_past room (saturated start) bytes (omega (arith, past, small))
-      ∙ sym (put_past room start bytes (omega (arith, past, small)))
-]
-
--- a buffer that has taken bytes, and the place after them
-pub written : (room after : List ℕ) (start end : ℕ) (bytes : List ℕ)
-    → ((more : List ℕ)
-    → ◌≡◌ {A = List ℕ × ℕ} (put_at after end more, saturated (end + length more))
-    (put_at room start (bytes ++ more), saturated (start + length (bytes ++ more))))
-    → (after ≡ put_at room start bytes) × (saturated end ≡ saturated (start + length bytes))
-written room after start end bytes taken =
-    let whole = append-nil bytes in
-    let told = ap (λ (p : List ℕ × ℕ). p.1) (taken [])
-    ∙ ap (λ (l : List ℕ). saturated (start + length l)) whole in (
-      sym (put_nothing after end) ∙ ap (λ (p : List ℕ × ℕ). p.0) (taken [])
-          ∙ ap (put_at room start) whole,
-      omega (arith, told),
-    )
+use Rattle.version_texts.specs.Sinks.{length-put, put_at}
 
 -- the first byte, and then the others
 pub put_first : (room : List ℕ) (start b : ℕ) (bytes : List ℕ) → start < length room
@@ -56,21 +14,6 @@ put_first (x ∷ room) (suc start) b bytes fits =
     let one_more : suc start + 1 ≡ suc (start + 1) = omega arith in
     rw one_more (ap (λ (l : List ℕ). x ∷ l) (put_first room start b bytes (omega (arith, fits))))
 
--- a buffer with one more byte, and the place after it
-pub fitting_byte : (room : List ℕ) (end b : ℕ) (more : List ℕ) → end < length room
-    → (put_at (set room end b) (end + 1) more ≡ put_at room end (b ∷ more))
-    × (saturated (end + 1 + length more) ≡ saturated (end + length (b ∷ more)))
-fitting_byte room end b more fits = (put_first room end b more fits, omega arith)
-
-pub byte_past : (room : List ℕ) (end next b : ℕ) (more : List ℕ) → length room ≤ end
-    → length room < 2 ^ 64 → next ≡ min (end + 1) (2 ^ 64 - 1)
-    → (put_at room next more ≡ put_at room end (b ∷ more))
-    × (saturated (next + length more) ≡ saturated (end + length (b ∷ more)))
-byte_past room end next b more past small is = (
-  put_past room next more (omega (arith, is)) ∙ sym (put_past room end (b ∷ more) past),
-  omega (arith, is),
-)
-
 -- bytes that fit replace the first bytes, and the rest stays
 pub put_fits : (room bytes : List ℕ) → length bytes ≤ length room
     → put_at room 0 bytes ≡ bytes ++ drop (length bytes) room
@@ -79,14 +22,6 @@ put_fits [] (b ∷ bytes) fits = absurd (omega (arith, fits))
 put_fits (x ∷ room) [] fits = refl
 put_fits (x ∷ room) (b ∷ bytes) fits =
     ap (λ (l : List ℕ). b ∷ l) (put_fits room bytes (omega (arith, fits)))
-
--- a buffer keeps its length
-pub length-put : (room : List ℕ) (start : ℕ) (bytes : List ℕ)
-    → length (put_at room start bytes) ≡ length room
-length-put [] start bytes = refl
-length-put (x ∷ room) zero [] = refl
-length-put (x ∷ room) zero (b ∷ bytes) = ap suc (length-put room 0 bytes)
-length-put (x ∷ room) (suc start) bytes = ap suc (length-put room start bytes)
 
 -- bytes written after a list leave it as it is
 pub put_behind : (list room bytes : List ℕ)

@@ -1,6 +1,6 @@
 //! Numbers of any size, by their digits.
 
-ghost use Rattle.std.specs.Prelude.{◌≡◌, ◌==◌, ◌∷◌, drop, false, true, IfNone, IfSome};
+ghost use Rattle.std.specs.Prelude.{◌≡◌, ◌≢◌, ◌==◌, ◌∷◌, drop, false, true, IfNone, IfSome};
 ghost use Rattle.std.specs.Char.{is_ascii_digit};
 ghost use Rattle.std.specs.List.{prefix_len};
 ghost use Rattle.std.specs.Ordering.{nat_cmp};
@@ -91,6 +91,19 @@ fn split_digit(text: &[u8]) -> Option<(u8, &[u8])>
         [digit, rest @ ..] if digit.is_ascii_digit() => Some((*digit, rest)),
         _ => None,
     }
+}
+
+// The digit that a text begins with, and the rest, or None if the digit is 0 or more digits follow it.
+#[inline(always)]
+pub(crate) fn one_digit(text: &[u8]) -> Option<(u8, &[u8])>
+    ensures { IfSome result (λ p. (text.now ≡ p.0 ∷ p.1.now) × (is_ascii_digit p.0 ≡ true)
+        × (p.0 ≢ 48) × (starts_with_digit p.1.now ≡ false)) }
+{
+    let (digit, rest) = split_digit(text)?;
+    if digit == b'0' || begins_with(rest, Class::Digit) {
+        return None;
+    }
+    Some((digit, rest))
 }
 
 // The text after its leading zeros.

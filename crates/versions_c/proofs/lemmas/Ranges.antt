@@ -6,25 +6,22 @@ use Rattle.std.proofs.lemmas.List.{length-append}
 use Rattle.std.specs.List.{AllZip, join_with_byte}
 use Rattle.std.specs.Option.{option_map_or}
 use Rattle.std.specs.Ordering.{is_lt}
-use Rattle.version_rules.specs.Codes.{items_bytes}
-use Rattle.version_rules.specs.Lists.{bytes_cmp, split_last}
-use Rattle.version_rules.specs.NumberBytes.{number_bytes}
-use Rattle.version_rules.specs.PartKey.{PartKey, part_bytes}
+use Rattle.version_rules.specs.Lists.{bytes_cmp}
+use Rattle.version_rules.specs.PartKey.{PartKey}
 use Rattle.version_texts.proofs.lemmas.RangeRef.{narrowed}
 use Rattle.version_texts.specs.RangeRef.{high_length}
 use Rattle.version_rules.proofs.lemmas.Requirements.{requirements_of-spells}
 use Rattle.version_rules.specs.declared.op.Op.{Op}
 use Rattle.version_rules.specs.declared.op.Op.TheVariants.{Exact, Greater, GreaterEq, Less, LessEq, Tilde, Caret, Wildcard}
-use Rattle.version_rules.specs.Key.{Key, key_of}
+use Rattle.version_rules.specs.Key.{key_of}
 use Rattle.version_rules.specs.KeyBytes.{key_bytes}
 use Rattle.version_rules.specs.Op.{op_text}
 use Rattle.version_rules.specs.Range.{PlainRange, alike_from, begun, but_last, bytes_of, common, earlier_high, everything, later, op_range, range_of, range_without_version, requirement_range, series_range, through_other}
 use Rattle.version_rules.specs.Requirement.{PlainRequirement, SpellsOperand, SpellsRequirement}
 use Rattle.version_rules.specs.Requirements.{comma, requirements_of}
-use Rattle.version_rules.specs.VersionMatch.{is_plain_zero}
 use Rattle.version_rules.specs.Versioning.{PlainVersioning, Ideal, General, Complex}
-use Rattle.version_texts.proofs.lemmas.KeyRoom.{key_length, spelled_length}
-use Rattle.version_texts.proofs.lemmas.KeyRoom.Parts.{list_length}
+use Rattle.version_texts.proofs.lemmas.KeyRoom.{spelled_length}
+use Rattle.version_texts.proofs.lemmas.KeyRoom.Ends.{begun_length, below_key, but_last_length, length_of, through_other_length}
 use Rattle.version_texts.specs.KeyRoom.{room_for}
 
 -- both bounds of a range have at most so many bytes
@@ -32,49 +29,7 @@ pub record IsShort (n : ℕ) (range : PlainRange) : Type 0 where
   pub low : length range.low ≤ n
   pub high : high_length range ≤ n
 
--- ---- kept parts
-
-abbrev length_of : List PartKey → ℕ
-length_of parts = length (items_bytes part_bytes parts)
-
--- the bytes of one part more
-one_more : (part : PartKey) (parts : List PartKey)
-    → length_of (part ∷ parts) ≡ length (part_bytes (Some part)) + length_of parts
-one_more part parts = length-append (part_bytes (Some part)) (items_bytes part_bytes parts)
-
--- kept parts have no more bytes than all parts
-but_last_length : (parts : List PartKey) → length_of (but_last parts) ≤ length_of parts
-but_last_length [] = omega arith
-but_last_length (part ∷ parts) = by (split_last parts) (but_last_length parts)
-  where
-    whole : Option (List PartKey × PartKey) → List PartKey × PartKey
-    whole split = option_map_or (λ s. (part ∷ s.0, s.1)) split ([], part)
-
-    by : (split : Option (List PartKey × PartKey))
-        → length_of (option_map_or (λ s. s.0) split []) ≤ length_of parts
-        → length_of (whole split).0 ≤ length_of (part ∷ parts)
-    by None fewer = omega arith
-    by (Some s) fewer = omega (arith, fewer, one_more part s.0, one_more part parts)
-
-through_other_length : (parts : List PartKey) → length_of (through_other parts) ≤ length_of parts
-through_other_length [] = omega arith
-through_other_length (part ∷ parts) = by (is_plain_zero part) (through_other_length parts)
-  where
-    by : (zero : Bool) → length_of (through_other parts) ≤ length_of parts
-        → length_of (part ∷ (if zero then through_other parts else [])) ≤ length_of (part ∷ parts)
-    by true fewer = omega (arith, fewer, one_more part (through_other parts), one_more part parts)
-    by false fewer = omega (arith, one_more part [], one_more part parts)
-
 -- ---- one requirement
-
--- what the keys of an epoch and of some parts begin with
-begun_length : (epoch : ℕ) (parts : List PartKey)
-    → length (begun epoch parts) ≡ length (number_bytes epoch) + length_of parts
-begun_length epoch parts = length-append (number_bytes epoch) (items_bytes part_bytes parts)
-
--- is shorter than each such key
-below_key : (k : Key) → length (number_bytes k.epoch) + length_of k.body < length (key_bytes k)
-below_key k = omega (arith, list_length part_bytes k.body, key_length k.epoch k.body k.tail)
 
 alike_short : (kept : List PartKey → List PartKey)
     → ((parts : List PartKey) → length_of (kept parts) ≤ length_of parts)

@@ -1,5 +1,5 @@
 -- The text of a version of numbers, which parses as that version.
-use Rattle.std.proofs.Common.{◌≡◌, ◌∙◌, ◌<◌, ◌^◌, ◌+◌, ℕ, zero, suc, true, List, [], ◌∷◌, ◌++◌, drop, get_or, length, map, Option, Some, None, refl, sym, ap, subst, arith, append_assoc, append-nil}
+use Rattle.std.proofs.Common.{◌≡◌, ◌∙◌, ◌<◌, ◌^◌, ◌+◌, ◌-◌, ℕ, zero, suc, true, List, [], ◌∷◌, ◌++◌, drop, get_or, length, map, Option, Some, None, refl, sym, ap, subst, arith, append_assoc, append-nil, zero-add}
 use Rattle.std.proofs.lemmas.Bool.{ltb-true, ne_eqb}
 use Rattle.std.proofs.lemmas.Fmt.{decimal_digit, decimal_is_IsNumeral, first_decimal}
 use Rattle.std.proofs.lemmas.Str.{IsUtf8-from_ascii}
@@ -133,6 +133,20 @@ pub one_more_zero : (zeros : ℕ) → zeros_text zeros ++ dot ∷ 48 ∷ [] ≡ 
 one_more_zero zeros =
     let same : suc zeros ≡ zeros + 1 = omega arith in
     another_zero zeros ∙ ap zeros_text same
+
+-- zeros one after another
+zeros_both : (m n : ℕ) → zeros_text (m + n) ≡ zeros_text m ++ zeros_text n
+zeros_both zero n = ap zeros_text (zero-add n)
+zeros_both (suc m) n =
+    let next : suc m + n ≡ suc (m + n) = omega arith in
+    ap zeros_text next ∙ ap (λ (l : List ℕ). dot ∷ 48 ∷ l) (zeros_both m n)
+
+-- zeros begin with some of them, and one more
+pub zeros_begun : (some all : ℕ) → some < all
+    → zeros_text all ≡ zeros_text some ++ ((dot ∷ 48 ∷ []) ++ zeros_text (all - some - 1))
+zeros_begun some all fewer =
+    let parts : all ≡ some + suc (all - some - 1) = omega (arith, fewer) in
+    ap zeros_text parts ∙ zeros_both some (suc (all - some - 1))
 
 raised_some : (place : ℕ) (ns : List ℕ) (k : ℕ) → place < length ns
     → 0 < length (map decimal (raised place ns k))

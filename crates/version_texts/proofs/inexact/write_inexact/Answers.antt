@@ -1,9 +1,11 @@
-use Rattle.std.proofs.Common.{arith, rules}
-use Rattle.version_texts.proofs.lemmas.Sinks.{written}
+use Rattle.std.proofs.Common.{◌∙◌, ◌+◌, [], ℕ, List, ap, append-nil, length, zero-add}
+use Rattle.version_texts.specs.Inexact.{inexact_part}
+use Rattle.version_texts.specs.Sinks.{saturated}
 use Rattle.version_texts.proofs.inexact.write_inexact.Goals as goal
 
-pub returns-clause-bytes : goal.returns-clause-bytes
-returns-clause-bytes c = rw (← (written _ _ _ _ _ c.put_inexact.ensures.1).0) (search rules)
-
-pub returns-clause-length : goal.returns-clause-length
-returns-clause-length c = omega (arith, (written _ _ _ _ _ c.put_inexact.ensures.1).1, c.end.ensures)
+pub returns-else-length-room-clause-length : goal.returns-else-length-room-clause-length
+returns-else-length-room-clause-length c =
+    let part = inexact_part c.args.list.now in
+    c.length-length.ensures ∙ c.put_inexact.ensures []
+    ∙ ap (λ (l : List ℕ). saturated (0 + length l)) (append-nil part)
+    ∙ ap saturated (zero-add (length part))

@@ -1,21 +1,26 @@
-use Rattle.std.proofs.Common.{ℕ, List, ◌∙◌, ap, drop}
-use Rattle.std.specs.Char.{is_ascii_digit}
-use Rattle.std.specs.List.{prefix_len}
-use Rattle.version_rules.proofs.lemmas.NumberBytes.{is_zero}
-use Rattle.version_texts.proofs.lemmas.TextKey.Runs.{number_of_run}
-use Rattle.version_texts.proofs.lemmas.General.RunsWithin.{rest_within, zero_digit}
-use Rattle.version_texts.proofs.lemmas.TextKey.Taking.{takes_same}
+use Rattle.std.proofs.Common.{[], ◌∷◌}
+use Rattle.version_texts.proofs.lemmas.TextKey.Runs.{number_of_digit}
+use Rattle.version_texts.proofs.lemmas.TextKey.Taking.{fits_front, fits_next, takes_same}
 use Rattle.version_texts.proofs.key.put_number.Goals as goal
 
-pub returns-clause-bytes : goal.returns-clause-bytes
-returns-clause-bytes g c =
-    takes_same g.S.Sink.takes _ _ _ _
-    (number_of_run c.args.text.now c.without_zeros.result.now c.split_run.result.0.now
-    c.without_zeros.ensures c.split_run.ensures.run)
-    (g.met.S.Sink.takes_both _ _ _ _ _ c.put_length.ensures c.put_all.ensures)
+pub put-requires : goal.put-requires
+put-requires g c =
+    let one = c.in-Some.ensures in
+    fits_front g.S.Sink.fits g.met.S.Sink.fits_first _ _ (1 ∷ []) (c.in-Some.digit ∷ [])
+    (number_of_digit c.args.text.now c.in-Some.rest.now c.in-Some.digit one.0 one.1 one.2 one.3)
+    c.requires
 
-pub returns-clause-rest : goal.returns-clause-rest
-returns-clause-rest g c =
-    c.split_run.ensures.rest
-    ∙ ap (λ (l : List ℕ). drop (prefix_len is_ascii_digit l) l) c.without_zeros.ensures
-    ∙ rest_within is_zero is_ascii_digit zero_digit c.args.text.now
+pub put-requires-in-Some : goal.put-requires-in-Some
+put-requires-in-Some g c =
+    let one = c.in-Some.ensures in
+    fits_next g.S.Sink.takes g.S.Sink.fits g.met.S.Sink.fits_first g.met.S.Sink.fits_then
+    _ _ _ (1 ∷ []) (c.in-Some.digit ∷ []) []
+    (number_of_digit c.args.text.now c.in-Some.rest.now c.in-Some.digit one.0 one.1 one.2 one.3)
+    c.put.ensures c.requires
+
+pub returns-in-Some-clause-bytes : goal.returns-in-Some-clause-bytes
+returns-in-Some-clause-bytes g c =
+    let one = c.in-Some.ensures in
+    takes_same g.S.Sink.takes _ _ _ _
+    (number_of_digit c.args.text.now c.in-Some.rest.now c.in-Some.digit one.0 one.1 one.2 one.3)
+    (g.met.S.Sink.takes_both _ _ _ _ _ c.put.ensures c.put-in-Some.ensures)

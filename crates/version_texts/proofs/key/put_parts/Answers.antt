@@ -2,7 +2,7 @@ use Rattle.std.proofs.Common.{ℕ, List, [], ◌++◌, ◌∙◌, ap, append_ass
 use Rattle.std.specs.Char.{is_ascii_alphanumeric}
 use Rattle.version_texts.proofs.lemmas.TextKey.DotPieces.{first_part, last_part, part_and_more, rest_and_more, rest_of_last}
 use Rattle.version_texts.proofs.lemmas.TextKey.Lists.{behind_shorter}
-use Rattle.version_texts.proofs.lemmas.TextKey.Taking.{takes_same}
+use Rattle.version_texts.proofs.lemmas.TextKey.Taking.{fits_next, takes_same}
 use Rattle.version_texts.proofs.key.put_parts.Goals as goal
 
 pub parts-init : goal.parts-init
@@ -50,3 +50,11 @@ pub returns-in-None-clause-rest : goal.returns-in-None-clause-rest
 returns-in-None-clause-rest g c =
     rest_of_last c.parts.left.now c.put_part-rest.result.now c.put_part-rest.ensures.rest
     c.in-None.ensures ∙ c.parts.invariant.3
+
+pub put_part-rest-requires : goal.put_part-rest-requires
+put_part-rest-requires g c =
+    let so_far = c.parts.invariant in
+    let first = first_part c.parts.left.now _ refl in
+    fits_next g.S.Sink.takes g.S.Sink.fits g.met.S.Sink.fits_first g.met.S.Sink.fits_then
+    _ _ _ so_far.0 _ first.0 (so_far.1 ∙ ap (λ (l : List ℕ). so_far.0 ++ l) first.1) so_far.2
+    c.requires

@@ -3,11 +3,11 @@ use Rattle.std.proofs.lemmas.List.{nil_from_length}
 use Rattle.version_texts.specs.Shape.{is_section_byte}
 use Rattle.version_texts.proofs.lemmas.TextKey.SectionPieces.{behind_all, first_section, last_section, section_and_more}
 use Rattle.version_texts.proofs.lemmas.TextKey.Lists.{behind_shorter}
-use Rattle.version_texts.proofs.lemmas.TextKey.Taking.{takes_same}
+use Rattle.version_texts.proofs.lemmas.TextKey.Taking.{fits_next, takes_same}
 use Rattle.version_texts.proofs.key.put_sections.Goals as goal
 
 pub sections-init : goal.sections-init
-sections-init g c = ([], refl, g.met.S.Sink.takes_none _, c.requires)
+sections-init g c = ([], refl, g.met.S.Sink.takes_none _, c.requires.text)
 
 pub sections-preserved : goal.sections-preserved
 sections-preserved g c =
@@ -52,3 +52,33 @@ returns-in-None g c =
     (both _ _ _ _ _
     (both _ _ _ _ _ so_far.2 (both _ _ _ _ _ c.put.ensures c.in-Some.ensures.bytes))
     c.put-in-None.ensures)
+
+pub put-requires : goal.put-requires
+put-requires g c =
+    let so_far = c.sections.invariant in
+    let first = first_section c.sections.left.now so_far.3 in
+    fits_next g.S.Sink.takes g.S.Sink.fits g.met.S.Sink.fits_first g.met.S.Sink.fits_then
+    _ _ _ so_far.0 (2 ∷ []) _ (so_far.1 ∙ ap (λ (l : List ℕ). so_far.0 ++ l) first.1) so_far.2
+    c.requires.fits
+
+pub put_list-requires : goal.put_list-requires
+put_list-requires g c =
+    let so_far = c.sections.invariant in
+    let first = first_section c.sections.left.now so_far.3 in
+    fits_next g.S.Sink.takes g.S.Sink.fits g.met.S.Sink.fits_first g.met.S.Sink.fits_then
+    _ _ _ (so_far.0 ++ 2 ∷ []) _ first.0
+    (so_far.1 ∙ ap (λ (l : List ℕ). so_far.0 ++ l) first.1
+    ∙ sym (append_assoc so_far.0 (2 ∷ []) _))
+    (g.met.S.Sink.takes_both _ _ _ _ _ so_far.2 c.put.ensures) c.requires.fits
+
+pub put-requires-in-None : goal.put-requires-in-None
+put-requires-in-None g c =
+    let so_far = c.sections.invariant in
+    let none = nil_from_length c.in-Some.rest.now c.in-None.ensures.cases in
+    let last = last_section c.sections.left.now c.in-Some.rest.now c.in-Some.ensures.rest none in
+    let both = g.met.S.Sink.takes_both in
+    fits_next g.S.Sink.takes g.S.Sink.fits g.met.S.Sink.fits_first g.met.S.Sink.fits_then
+    _ _ _ _ (1 ∷ []) []
+    (so_far.1 ∙ ap (λ (l : List ℕ). so_far.0 ++ l) last ∙ sym (append_assoc so_far.0 _ (1 ∷ [])))
+    (both _ _ _ _ _ so_far.2 (both _ _ _ _ _ c.put.ensures c.in-Some.ensures.bytes))
+    c.requires.fits

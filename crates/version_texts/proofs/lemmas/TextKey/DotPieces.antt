@@ -216,3 +216,15 @@ last_chunk text chunk rest c r none =
     ∙ ap (λ (l : List ℕ). l ∷ []) (sym c) in
     ap (λ (l : List (List ℕ)). release_bytes (map chunk_of l)) cut
     ∙ last_item chunk_bytes (chunk_of chunk)
+
+-- a release begins with its first chunk, whatever follows
+pub first_chunk : (text chunk : List ℕ) → chunk ≡ take_while not_dot text
+    → (more : List ℕ)
+    × (release_bytes (chunks_of text) ≡ chunk_bytes (Some (chunk_of chunk)) ++ more)
+first_chunk text chunk c = by (drop (prefix_len not_dot text) text) refl
+  where
+    by : (rest : List ℕ) → rest ≡ drop (prefix_len not_dot text) text
+        → (more : List ℕ)
+        × (release_bytes (chunks_of text) ≡ chunk_bytes (Some (chunk_of chunk)) ++ more)
+    by [] r = (1 ∷ [], last_chunk text chunk [] c r refl)
+    by (b ∷ behind) r = (_, chunk_and_more text chunk (b ∷ behind) behind b c r refl)

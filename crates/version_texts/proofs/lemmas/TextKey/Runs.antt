@@ -1,6 +1,6 @@
 -- The bytes of parts whose texts are runs of letters and digits.
-use Rattle.std.proofs.Common.{◌≡◌, ◌==◌, ◌∙◌, ℕ, zero, suc, ◌<◌, true, false, List, [], ◌∷◌, ◌++◌, length, drop, Some, refl, sym, ap, inl, inr, arith, append_assoc, append-nil}
-use Rattle.std.proofs.lemmas.Bool.{and_from, cases_Bool, eqb-true}
+use Rattle.std.proofs.Common.{◌≡◌, ◌≢◌, ◌==◌, ◌∙◌, ℕ, zero, suc, ◌<◌, true, false, List, [], ◌∷◌, ◌++◌, length, drop, Some, refl, sym, ap, inl, inr, arith, append_assoc, append-nil}
+use Rattle.std.proofs.lemmas.Bool.{and_from, cases_Bool, eqb-true, ne_eqb}
 use Rattle.std.proofs.lemmas.Bool.Decides.{nat_tests}
 use Rattle.std.specs.Char.{is_ascii_alphabetic, is_ascii_alphanumeric, is_ascii_digit}
 use Rattle.std.specs.Cmp.{first_so, second_so}
@@ -49,6 +49,18 @@ number_of_run text left digits l d =
     ap number_bytes (sym value)
     ∙ number_bytes-digits (digits_value 10 digits) digits
     (digits_of_run digits (rw d (list_all-take_while is_ascii_digit left)) canonical)
+
+-- the bytes of a number of one digit
+pub number_of_digit : (text rest : List ℕ) (digit : ℕ) → text ≡ digit ∷ rest
+    → is_ascii_digit digit ≡ true → digit ≢ 48 → begins is_ascii_digit rest ≡ false
+    → number_bytes (run_value text) ≡ (1 ∷ []) ++ (digit ∷ [])
+number_of_digit text rest digit t passes other ends =
+    let no_zero : (digit == 48) ≡ false = ne_eqb digit 48 other in
+    number_of_run text text (digit ∷ [])
+    (sym (no_run is_zero text (rw t no_zero)).1)
+    (sym
+    (ap (take_while is_ascii_digit) t ∙ (run_cons is_ascii_digit digit rest passes).0
+    ∙ ap (λ (l : List ℕ). digit ∷ l) (no_run is_ascii_digit rest ends).0))
 
 -- no digit follows a run of digits
 no_digit : (text rest : List ℕ) → rest ≡ drop (prefix_len is_ascii_digit text) text
@@ -153,7 +165,7 @@ pub split_of_number : (text letters rest behind run : List ℕ)
     → begins is_ascii_digit rest ≡ true → behind ≡ drop (prefix_len is_ascii_digit rest) rest
     → run ≡ take_while is_ascii_alphanumeric behind
     → split_bytes (split_of (take_while is_ascii_alphanumeric text))
-    ≡ ((((letters ++ 0 ∷ []) ++ 1 ∷ []) ++ number_bytes (run_value rest)) ++ run) ++ 0 ∷ []
+    ≡ (letters ++ 0 ∷ []) ++ (1 ∷ (number_bytes (run_value rest) ++ (run ++ 0 ∷ [])))
 split_of_number text letters rest behind run l r digit b n =
     let digits = take_while is_ascii_digit rest in
     let alone = letters_alone text letters l in
@@ -171,12 +183,17 @@ split_of_number text letters rest behind run l r digit b n =
     ap (λ (xs : List ℕ). split_bytes (split_of xs)) whole
     ∙ ap split_bytes (split_of-digits letters digits run alone.0 (run_is_digits rest digit) ends)
     ∙ (λ i. alone.1 i ++ (1 ∷ (number_bytes (run_value rest) ++ written i)))
-    ∙ sym (regroup letters (number_bytes (run_value rest)) run)
-  where
-    regroup : (a b c : List ℕ)
-        → ((((a ++ 0 ∷ []) ++ 1 ∷ []) ++ b) ++ c) ++ 0 ∷ []
-        ≡ (a ++ 0 ∷ []) ++ (1 ∷ (b ++ (c ++ 0 ∷ [])))
-    regroup a b c = simp append_assoc
+
+-- a split begins with its letters and their end, whatever follows
+pub split_begun : (text letters rest : List ℕ) → letters ≡ take_while is_ascii_alphabetic text
+    → rest ≡ drop (prefix_len is_ascii_alphabetic text) text
+    → (more : List ℕ)
+    × (split_bytes (split_of (take_while is_ascii_alphanumeric text))
+    ≡ (letters ++ 0 ∷ []) ++ more)
+split_begun text letters rest l r = elim (cases_Bool (begins is_ascii_digit rest)) [
+  | inl digit ↦ (_, split_of_number text letters rest _ _ l r digit refl refl)
+  | inr other ↦ (_, split_of_letters text letters rest l r other)
+]
 
 -- ---- parts
 
@@ -189,7 +206,7 @@ word_of_run text other =
     (begins_inner is_ascii_digit is_ascii_alphanumeric digit_alphanumeric text ∙ other))
 
 -- a number, and the suffix after it
-number_and_suffix : (text rest : List ℕ) → begins is_ascii_digit text ≡ true
+pub number_and_suffix : (text rest : List ℕ) → begins is_ascii_digit text ≡ true
     → rest ≡ drop (prefix_len is_ascii_digit text) text
     → part_bytes (Some (part_key (take_while is_ascii_alphanumeric text)))
     ≡ 3 ∷

@@ -13,13 +13,13 @@ use Rattle.version_texts.proofs.range.put_kept.Goals as goal
 
 pub put_begun-requires-clause-digits : goal.put_begun-requires-clause-digits
 put_begun-requires-clause-digits g c =
-    ap (list_all is_ascii_digit) c.epoch_at.ensures ∙ c.requires.epoch_is
+    ap (list_all is_ascii_digit) c.epoch_at.ensures ∙ c.requires.shape.epoch_is
 
 pub put_begun-requires-clause-parts : goal.put_begun-requires-clause-parts
 put_begun-requires-clause-parts g c =
     front_passes is_section_byte c.body_at.result.now c.kept_parts-parts.result
     c.kept_parts-parts.ensures.front
-    (ap (list_all is_section_byte) c.body_at.ensures ∙ c.requires.body_is)
+    (ap (list_all is_section_byte) c.body_at.ensures ∙ c.requires.shape.body_is)
 
 pub returns : goal.returns
 returns g c =

@@ -45,8 +45,10 @@ returns-clause-status c =
 pub returns-clause-members : goal.returns-clause-members
 returns-clause-members c = λ ok.
     written c.args.list.now c.write_inexact.result c.args.members.now
-    c.write_inexact-2.new.room (omega arith) c.write_inexact.ensures.length
-    (omega (arith, c.if-members_len-members.false)) c.write_inexact-2.ensures.bytes
+    c.write_inexact.new.room (omega arith) c.write_inexact.ensures.length
+    (omega (arith, c.if-members_len-members.false))
+    (c.write_inexact.ensures.bytes.fitting
+    (omega (arith, c.write_inexact.ensures.length, c.if-members_len-members.false)))
 
 pub returns-clause-length : goal.returns-clause-length
 returns-clause-length c =

@@ -4,21 +4,22 @@ use Rattle.std.specs.Option.{option_map, option_map_or}
 use Rattle.version_rules.specs.Key.{key_of}
 use Rattle.version_rules.specs.KeyBytes.{key_bytes}
 use Rattle.version_texts.specs.VersioningRef.{plain_versioning_ref}
-use Rattle.version_texts.specs.Sinks.{put_at, saturated}
+use Rattle.version_texts.specs.Sinks.{put_nothing}
 use Rattle.versions_c.specs.Keys.{keys_before}
 use Rattle.versions_c.specs.Offsets.{text_at}
 use Rattle.version_rules.specs.Kind.{versioning_kind}
 use Rattle.version_rules.specs.Versioning.{versioning_of}
 use Rattle.version_rules.specs.declared.kind.Kind.TheVariants.{Ideal}
-use Rattle.version_texts.proofs.lemmas.Sinks.{put_nothing}
-use Rattle.versions_c.proofs.lemmas.Keys.Putting.{first_told, next_marked, next_told, no_more_key, one_more_key}
+use Rattle.versions_c.proofs.lemmas.Keys.Putting.{ArePut, first_told, next_marked, next_told, no_more_key, one_more_key}
 use Rattle.versions_c.proofs.keys.put_all.Goals.{else-place-places, in-Some, in_default, then-place-places}
 use Rattle.versions_c.proofs.keys.put_all.Goals as goal
 
 pub loop-place-init : goal.loop-place-init
 loop-place-init c = record {
-  ended = refl;
-  written = sym (put_nothing c.args.keys.now 0);
+  put = record {
+    ended = refl;
+    written = λ fits. sym (put_nothing c.args.keys.now 0);
+  };
   told = first_told c.args.texts.now c.args.offsets.now c.args.key_offsets.now
       (omega (arith, c.requires.room));
   marked = λ i below inside. absurd (omega (arith, below));
@@ -30,22 +31,22 @@ loop-place-preserved c =
     let offsets = c.args.offsets.now in
     let i = c.loop-place.place in
     let before = c.loop-place.invariant in
-    let both : (c.match-from_bytes.end ≡ saturated (length (keys_before texts offsets (i + 1))))
-    × (c.match-from_bytes.keys ≡ put_at c.args.keys.now 0 (keys_before texts offsets (i + 1))) =
+    let put : ArePut c.args.keys.now (keys_before texts offsets (i + 1)) c.match-from_bytes.end
+    c.match-from_bytes.keys =
     elim c.match-from_bytes.branch [
       | in-Some w ↦
           one_more_key texts offsets c.args.keys.now i c.text_at.result.now
           (key_bytes (key_of (plain_versioning_ref w.in-Some.version))) c.loop-place.keys
           c.match-from_bytes.keys c.loop-place.end c.match-from_bytes.end
           (omega arith) c.text_at.ensures
-          (ap (option_map (λ v. key_bytes (key_of v))) w.in-Some.ensures) before.ended
-          before.written (w.end-is ∙ w.write_key-end.ensures.end)
-          (w.keys-is ∙ w.write_key-end.ensures.bytes)
+          (ap (option_map (λ v. key_bytes (key_of v))) w.in-Some.ensures) before.put
+          (w.end-is ∙ w.write_key-end.ensures.end) (rw w.keys-is w.write_key-end.ensures.bytes)
+          c.loop-place.auto.keys
       | in_default w ↦
           no_more_key texts offsets c.args.keys.now i c.text_at.result.now c.match-from_bytes.keys
           c.match-from_bytes.end c.text_at.ensures
           (ap (option_map (λ v. key_bytes (key_of v))) w.in_default.ensures)
-          (w.end-is ∙ before.ended) (w.keys-is ∙ before.written)
+          (rw (w.end-is, w.keys-is) before.put)
     ] in
     let spelled =
     ap (λ (t : List ℕ). option_map_or versioning_kind (versioning_of t) Ideal) c.text_at.ensures in
@@ -73,9 +74,14 @@ loop-place-preserved c =
             omega (arith, inside, c.if-place-places.auto.places) in
             rw w.places-is (before.marked j (omega (arith, in_all, w.if-place-places.false)) in_all)
       ];
-      ended = both.0;
-      written = both.1;
+      put = put;
       told = next_told texts offsets c.loop-place.key_offsets i c.min.result
           (omega (arith, length-set c.args.key_offsets.now 0 0)) before.told
-          (omega (arith, both.0, c.min.ensures));
+          (omega (arith, put.ended, c.min.ensures));
     }
+
+pub returns-clause-keys : goal.returns-clause-keys
+returns-clause-keys c =
+    let all : c.loop-place.place ≡ c.args.count =
+    omega (arith, c.loop-place.auto.place-end, c.loop-place-test.false) in
+    rw (← all) c.loop-place.invariant.put.written

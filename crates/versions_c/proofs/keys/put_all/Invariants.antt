@@ -1,13 +1,12 @@
 use Rattle.std.proofs.Common.{◌≡◌, ◌<◌, ◌≤◌, ℕ, length, slice_index}
-use Rattle.version_texts.specs.Sinks.{put_at, saturated}
 use Rattle.versions_c.specs.Keys.{keys_before, saturated_signed}
 use Rattle.versions_c.specs.Sorting.{IsMarked}
+use Rattle.versions_c.proofs.lemmas.Keys.Putting.{ArePut}
 use Rattle.versions_c.proofs.keys.put_all.Given as goal
 
 abbrev pub invariant-loop-place : goal.invariant-loop-place
 invariant-loop-place l = record {
-  ended : l.end ≡ saturated (length (keys_before l.texts l.offsets l.place));
-  written : l.keys ≡ put_at l.fn.keys 0 (keys_before l.texts l.offsets l.place);
+  put : ArePut l.fn.keys (keys_before l.texts l.offsets l.place) l.end l.keys;
   told : (i : ℕ) → i ≤ l.place
       → slice_index l.key_offsets i ≡ saturated_signed (length (keys_before l.texts l.offsets i));
   marked : (i : ℕ) → i < l.place → i < length l.places

@@ -1,4 +1,4 @@
-use Rattle.std.proofs.Common.{ap}
+use Rattle.std.proofs.Common.{ap, arith}
 use Rattle.std.specs.Option.{option_map}
 use Rattle.version_rules.specs.Key.{key_of}
 use Rattle.version_rules.specs.KeyBytes.{key_bytes}
@@ -9,8 +9,9 @@ use Rattle.versions_c.proofs.keys.versions_parse.Goals as goal
 
 pub returns-clause-key : goal.returns-clause-key
 returns-clause-key c =
-    let version = plain_versioning_ref c.in-Some-from_bytes.version in
+    let version = plain_versioning_ref c.in-Some.version in
     λ ok. fitting_key (spelled_key c.args.text.now)
     (key_bytes (key_of version)) c.args.key.now c.write_key.new.room
-    (ap (option_map (λ v. key_bytes (key_of v))) c.in-Some-from_bytes.ensures)
-    c.in_default.ensures c.write_key.ensures.bytes
+    (ap (option_map (λ v. key_bytes (key_of v))) c.in-Some.ensures)
+    c.write_key.ensures.bytes
+    (omega (arith, c.write_key.ensures.end, c.if-key_len-key.false))

@@ -9,7 +9,9 @@ returns c =
     let part = take c.write_inexact-length.result c.write_inexact-length.new.room in
     let is = part_in c.args.room.now c.write_inexact-length.new.room
     (inexact_part c.args.list.now) c.write_inexact-length.result (omega arith)
-    c.write_inexact-length.ensures.bytes c.write_inexact-length.ensures.length
+    (c.write_inexact-length.ensures.bytes.fitting
+    (omega (arith, c.write_inexact-length.ensures.length, c.if-length-room.false)))
+    c.write_inexact-length.ensures.length
     (omega (arith, c.if-length-room.false)) in
     decide c.args.list.now part (plain_range_ref c.in_ok-range.range) c.in_ok-members.members
     c.in_ok-range.ensures is c.in_ok-members.ensures

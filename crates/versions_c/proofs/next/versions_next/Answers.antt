@@ -1,4 +1,4 @@
-use Rattle.std.proofs.Common.{◌<◌, ◌^◌, arith, length}
+use Rattle.std.proofs.Common.{◌<◌, ◌≤◌, ◌^◌, arith, length}
 use Rattle.version_tasks.specs.NextRef.{plain_next}
 use Rattle.version_texts.specs.VersioningRef.{plain_versioning_ref}
 use Rattle.versions_c.proofs.lemmas.Next.{next_written}
@@ -7,6 +7,9 @@ use Rattle.versions_c.proofs.next.versions_next.Goals as goal
 pub returns-clause-next : goal.returns-clause-next
 returns-clause-next c =
     let small : length c.args.next.now < 2 ^ 63 = omega arith in
+    let within : c.write.result ≤ length c.args.next.now =
+    omega (arith, c.if-next_len-next.false, c.write.auto.room) in
     next_written _ (plain_versioning_ref c.in-Some.version) c.in-Some.ensures c.args.place
     c.args.next.now (plain_next c.in-Some-next_of.found) c.in-Some-next_of.ensures.some _
-    c.length.ensures small c.if-next_len-next.false _ c.write.ensures
+    c.write.ensures.length small within _
+    (c.write.ensures.bytes.fitting (omega (arith, c.write.ensures.length, within, small)))

@@ -1,6 +1,6 @@
 use Rattle.std.proofs.Common.{◌≡◌, arith, sym}
-use Rattle.version_tasks.proofs.lemmas.Next.Text.{one_more_zero}
-use Rattle.version_texts.proofs.lemmas.TextKey.Taking.{takes_same}
+use Rattle.version_tasks.proofs.lemmas.Next.Text.{one_more_zero, zeros_begun}
+use Rattle.version_texts.proofs.lemmas.TextKey.Taking.{fits_next, takes_same}
 use Rattle.version_tasks.proofs.next.text.put_zeros.Goals as goal
 
 pub loop-init : goal.loop-init
@@ -10,6 +10,12 @@ pub loop-preserved : goal.loop-preserved
 loop-preserved g c =
     takes_same g.S.Sink.takes _ _ _ _ (sym (one_more_zero c.loop.counter))
     (g.met.S.Sink.takes_both _ _ _ _ _ c.loop.invariant c.put_all.ensures)
+
+pub put_all-requires : goal.put_all-requires
+put_all-requires g c =
+    fits_next g.S.Sink.takes g.S.Sink.fits g.met.S.Sink.fits_first g.met.S.Sink.fits_then
+    _ _ _ _ _ _ (zeros_begun c.loop.counter c.args.zeros c.loop-test.true) c.loop.invariant
+    c.requires
 
 pub returns : goal.returns
 returns g c =

@@ -21,6 +21,7 @@ returns-clause-ok c =
     c.write_end-end.result
     (c.in_ok-resize.ensures.items ∙ ap (λ k. take n old ++ replicate (n - k) 0) counted)
     (search rules)
-    (c.write_end-end.ensures.bytes
+    (c.write_end-end.ensures.bytes.fitting
+    (omega (arith, last, fits, c.as_mut_slice.ensures.len, c.in_ok-resize.ensures.len))
     ∙ (λ i. put_at (c.as_mut_slice.ensures.value i) (last i) bytes))
     fits (omega (arith, room, last, fits, c.write_end-end.ensures.end))

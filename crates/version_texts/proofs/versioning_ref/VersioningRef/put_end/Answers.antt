@@ -1,8 +1,11 @@
 use Rattle.version_texts.proofs.lemmas.VersioningRef.{key-is, shape_fits}
 use Rattle.version_texts.proofs.versioning_ref.VersioningRef.put_end.Goals as goal
 
-pub put_end-requires : goal.put_end-requires
-put_end-requires g c = shape_fits _ _ c.args.self.now.read
+pub put_end-requires-clause-shape : goal.put_end-requires-clause-shape
+put_end-requires-clause-shape g c = shape_fits _ _ c.args.self.now.read
+
+pub put_end-requires-clause-fits : goal.put_end-requires-clause-fits
+put_end-requires-clause-fits g c = rw (key-is _ _ c.args.self.now.read) at c.requires
 
 pub returns : goal.returns
 returns g c = rw (key-is _ _ c.args.self.now.read) c.put_end.ensures
