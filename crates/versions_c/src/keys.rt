@@ -118,7 +118,8 @@ pub extern "C" fn versions_sort_keys(
     }
 }
 
-/// Writes the keys of all texts, if they fit, and their offsets, and returns whether they fit. Writes the places of the first texts, with the kinds of the texts marked on them, as many as there is room for.
+/// Writes the keys of all texts, if they fit, and their offsets, and returns whether they fit. Writes the places of the
+/// first texts, with the kinds of the texts marked on them, as many as there is room for.
 pub fn put_keys(
     texts: &[u8],
     offsets: &[u64],

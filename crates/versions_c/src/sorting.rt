@@ -68,8 +68,8 @@ pub extern "C" fn versions_sort(
     OK
 }
 
-// Writes the keys of all texts, as far as they fit, and their offsets. Returns whether all of them fit, and writes only
-// then the places, with the kinds of their texts marked on them.
+// Writes the keys of all texts, if they fit, and their offsets. Returns whether they fit, and writes only then the
+// places, with the kinds of their texts marked on them.
 fn put_places(
     texts: &[u8],
     offsets: &[u64],

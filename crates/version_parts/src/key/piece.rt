@@ -207,7 +207,8 @@ impl<'a> PieceBytes<'a> {
         }
     }
 
-    /// Appends the bytes to a list. Fails on allocation failure; the list is then unchanged.
+    /// Appends the bytes to a list, and takes them. Fails on allocation failure: then the list is unchanged, and some of
+    /// the bytes are taken.
     #[inline(always)]
     pub fn append_to(&mut self, list: &mut Vec<u8>) -> Result<(), AllocError>
         ensures ok { OnOk result (list.new.items ≡ list.old.items ++ self.old) }
