@@ -169,10 +169,7 @@ impl<'a> Sink for Between<'a> {
 
     #[inline(always)]
     fn is_decided(&self) -> bool {
-        match (self.low.order, self.high.order) {
-            (Ordering::Less, _) | (_, Ordering::Greater) => true,
-            (low, high) => low != Ordering::Equal && high != Ordering::Equal,
-        }
+        self.low.is_decided() && self.high.is_decided()
     }
 
     ghost fits_first = { λ _ _ _ _. tt };

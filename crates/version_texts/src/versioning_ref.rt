@@ -209,13 +209,13 @@ impl<'a> VersioningRef<'a> {
         }
     }
 
-    /// Writes the bytes of its key into a sink. Returns early once the sink is decided. Does not allocate.
+    // Writes the bytes of its key into a sink, and returns the sink.
     #[inline(always)]
-    pub fn put_key<S: Sink>(&self, sink: &mut S)
-        requires { S.fits sink.old (key_bytes (key_of (plain_versioning_ref self.now))) }
-        ensures { S.takes sink.old (key_bytes (key_of (plain_versioning_ref self.now))) sink.new }
+    fn with_key<S: Sink>(&self, sink: S) -> S
+        requires { S.fits sink (key_bytes (key_of (plain_versioning_ref self.now))) }
+        ensures { S.takes sink (key_bytes (key_of (plain_versioning_ref self.now))) result }
     {
-        key::put_key(sink, self.text, self.shape);
+        key::with_key(sink, self.text, self.shape)
     }
 
     /// Writes the bytes of its key into a buffer from a place on, if they fit there, and returns the place after them.
@@ -246,12 +246,11 @@ impl<'a> VersioningRef<'a> {
         ensures { result ≡ bytes_cmp (key_bytes (key_of (plain_versioning_ref self.now)))
             bytes.now }
     {
-        let mut sink = Beside {
+        let sink = Beside {
             left: bytes,
             order: Ordering::Equal,
         };
-        self.put_key(&mut sink);
-        sink.order()
+        self.with_key(sink).order()
     }
 
     /// Returns whether the bytes of its key are at least the low bound and below the high one. Does not allocate.
@@ -261,7 +260,7 @@ impl<'a> VersioningRef<'a> {
             ≡ is_between (bytes_cmp (key_bytes (key_of (plain_versioning_ref self.now))) low.now)
             (bytes_cmp (key_bytes (key_of (plain_versioning_ref self.now))) high.now) }
     {
-        let mut sink = Between {
+        let sink = Between {
             low: Beside {
                 left: low,
                 order: Ordering::Equal,
@@ -271,8 +270,7 @@ impl<'a> VersioningRef<'a> {
                 order: Ordering::Equal,
             },
         };
-        self.put_key(&mut sink);
-        sink.is_between()
+        self.with_key(sink).is_between()
     }
 
     /// Returns whether its key is at least the low bound, and below the high one, if there is one, and its kind is one

@@ -8,5 +8,5 @@ use Rattle.version_texts.proofs.versioning_ref.VersioningRef.compare_key.Goals a
 pub returns : goal.returns
 returns c =
     let bytes = key_bytes (key_of (plain_versioning_ref c.args.self.now)) in
-    c.order.ensures ∙ c.put_key.ensures []
+    c.order.ensures ∙ c.with_key.ensures []
     ∙ ap (λ (l : List ℕ). bytes_cmp l c.args.bytes.now) (append-nil bytes)

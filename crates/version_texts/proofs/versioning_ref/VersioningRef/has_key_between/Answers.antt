@@ -9,6 +9,6 @@ use Rattle.version_texts.proofs.versioning_ref.VersioningRef.has_key_between.Goa
 pub returns : goal.returns
 returns c =
     let key = key_bytes (key_of (plain_versioning_ref c.args.self.now)) in
-    c.is_between.ensures ∙ c.put_key.ensures []
+    c.is_between.ensures ∙ c.with_key.ensures []
     ∙ ap (λ (l : List ℕ). is_between (bytes_cmp l c.args.low.now) (bytes_cmp l c.args.high.now))
     (append-nil key)
