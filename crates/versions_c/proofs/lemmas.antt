@@ -1,3 +1,4 @@
+pub mod Bytes
 pub mod Inexact
 pub mod Keys
 pub mod Matching

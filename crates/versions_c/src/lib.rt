@@ -2,6 +2,7 @@
 //! takes texts as bytes, keeps nothing, and returns a status.
 #![tactic(auto)]
 
+mod bytes;
 mod difference;
 mod fields;
 mod inexact;

@@ -7,6 +7,7 @@ ghost use Rattle.versions_c.specs.Offsets.{text_at, AreOffsets};
 ghost use Rattle.version_texts.specs.KeyTies.{marked_number};
 ghost use Rattle.versions_c.specs.Sorting.{keyed_cmp, keys_cmp, tied_cmp, AreInOrder, AreSortOffsets, IsMarked};
 
+use crate::bytes::compare_bytes;
 use crate::keys::{is_always_room, put_keys};
 use crate::offsets::{are_offsets, text_at};
 use crate::status::{BAD_OFFSETS, NO_ROOM, OK};
@@ -172,5 +173,5 @@ fn compare_empty_last(a: &[u8], b: &[u8]) -> Ordering
     if a.is_empty() || b.is_empty() {
         return a.is_empty().cmp(&b.is_empty());
     }
-    a.cmp(b)
+    compare_bytes(a, b)
 }
