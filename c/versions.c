@@ -14,14 +14,17 @@
 /* Stands in for a null pointer to an empty array. It is aligned for each type, and is neither read nor written. */
 static uint64_t nothing;
 
+/* Whether a pointer is null, which few are: so the compiler tests it first. */
+static bool is_null(const void *pointer) { return __builtin_expect(pointer == NULL, 0); }
+
 /* Whether a pointer is null although len is not 0. */
-static bool lacks(const void *pointer, size_t len) { return pointer == NULL && len != 0; }
+static bool lacks(const void *pointer, size_t len) { return is_null(pointer) && len != 0; }
 
 /* The pointer, or one that is not null, to read from. */
-static const void *from(const void *pointer) { return pointer != NULL ? pointer : &nothing; }
+static const void *from(const void *pointer) { return is_null(pointer) ? &nothing : pointer; }
 
 /* The pointer, or one that is not null, to write to. */
-static void *to(void *pointer) { return pointer != NULL ? pointer : &nothing; }
+static void *to(void *pointer) { return is_null(pointer) ? &nothing : pointer; }
 
 int versions_kind(const char *text, size_t text_len) {
   if (lacks(text, text_len)) return -VERSIONS_NULL;
