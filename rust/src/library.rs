@@ -307,11 +307,10 @@ impl Texts {
     /// Copies the texts.
     pub fn new<T: AsRef<str>>(texts: &[T]) -> Texts {
         let mut bytes = String::with_capacity(texts.iter().map(|text| text.as_ref().len()).sum());
-        let mut offsets = Vec::with_capacity(texts.len() + 1);
-        offsets.push(0);
-        for text in texts {
+        let mut offsets = vec![0; texts.len() + 1];
+        for (text, end) in texts.iter().zip(&mut offsets[1..]) {
             bytes.push_str(text.as_ref());
-            offsets.push(bytes.len() as i64); // a String has at most i64::MAX bytes
+            *end = bytes.len() as i64; // a String has at most i64::MAX bytes
         }
         Texts { bytes, offsets }
     }

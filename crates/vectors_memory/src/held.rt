@@ -11,9 +11,9 @@ pub struct HeldFiles<'a> {
 }
 
 impl<'a> Files for HeldFiles<'a> {
-    ghost use Rattle.std.specs.Prelude.{⊤, None};
+    ghost use Rattle.std.specs.Prelude.{⊤};
 
-    ghost holds = { λ _ _. None };
+    ghost reads = { λ _ _ _. ⊤ };
 
     ghost puts = { λ _ _ _ _. ⊤ };
 
@@ -37,7 +37,7 @@ impl<'a> Files for HeldFiles<'a> {
         }
     }
 
-    fn tell(&mut self, _stage: Stage) {}
+    fn tell(&self, _stage: Stage) {}
 }
 
 fn held(name: &str) -> Option<&'static str> {

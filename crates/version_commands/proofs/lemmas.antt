@@ -1,5 +1,6 @@
 pub mod Changes
 pub mod Each
+pub mod Ends
 pub mod Fault
 pub mod Fields
 pub mod Inputs

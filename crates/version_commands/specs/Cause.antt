@@ -6,10 +6,11 @@ use Rattle.std.specs.Option.{option_map}
 use Rattle.version_commands.specs.Arranged.{policy}
 use Rattle.version_commands.specs.Choice.{wrong_list}
 use Rattle.version_commands.specs.Each.{AreAnswered, AreTexts}
-use Rattle.version_commands.specs.Fault.{first_wrong, ComesOfLines, ComesOfTest, ComesOfWords}
-use Rattle.version_commands.specs.Inputs.{joined, names_read, AreInputs, IsInput}
+use Rattle.version_commands.specs.Fault.{first_wrong, ComesOfLines, ComesOfPut, ComesOfReading, ComesOfTest, ComesOfWords}
+use Rattle.version_commands.specs.Inputs.{joined, names_read, AreInputs, Reading}
+use Rattle.version_commands.specs.Lists.{bad_lines_of, lines_of_list, names_of}
 use Rattle.version_commands.specs.Place.{line_text, text_of}
-use Rattle.version_commands.specs.Quote.{quoted, QuotesOneOf}
+use Rattle.version_commands.specs.Quote.{quoted}
 use Rattle.version_commands.specs.Test.{answer_of_two, IsAnswerOfList}
 use Rattle.version_commands.specs.declared.faults.Fault.{Fault}
 use Rattle.version_commands.specs.declared.faults.Fault.TheVariants as fault
@@ -28,22 +29,25 @@ use Rattle.version_rules.specs.Requirements.{requirements_of}
 use Rattle.version_rules.specs.Versioning.{PlainVersioning, versioning_of}
 use Rattle.version_tasks.specs.Next.{NoNext}
 
--- the faults of `sort`, `newest` and `filter`: of a word that is no list of requirements, of a file,
--- or of the lines that have no version
-abbrev pub ComesOfArranging : Arrangement → LineOptions → (List ℕ → Option (List ℕ))
-    → Option (List ℕ) → Fault → Type 0
-ComesOfArranging arrangement options holds old (fault.NotRequirement text) =
+-- the faults of a run over the lines of an input: of the lines that have no version, or of the file
+-- for these
+abbrev pub ComesOfArranged : LineOptions → (List ℕ → List ℕ) → List ℕ → Fault → Type 0
+ComesOfArranged options text_of input (fault.Write name) = ComesOfPut options (fault.Write name)
+ComesOfArranged options text_of input other =
+    ComesOfLines (policy options) options.place.crlf text_of (lines_of options.end input) other
+
+-- the faults of `sort`, `newest` and `filter`: of a word that is no list of requirements, of an input,
+-- of the lines that have no version, or of the file for these
+abbrev pub ComesOfArranging : Arrangement → LineOptions → Reading → Option (List ℕ) → Fault → Type 0
+ComesOfArranging arrangement options reads old (fault.NotRequirement text) =
     option_map quoted (wrong_list options.choice arrangement) ≡ Some (string_bytes text)
-ComesOfArranging arrangement options holds old (fault.BadLine number text ends more) =
+ComesOfArranging arrangement options reads old (fault.Read name) =
+    ComesOfReading reads (names_read (map (λ name. name.now) options.files.items)) (fault.Read name)
+ComesOfArranging arrangement options reads old fault.Memory = ⊤
+ComesOfArranging arrangement options reads old other =
     (new : Option (List ℕ)) × (texts : List (List ℕ))
-    × AreInputs holds old new (names_read (map (λ name. name.now) options.files.items)) texts
-    × ComesOfLines (policy options) options.place.crlf (text_of options.place)
-    (lines_of options.end (joined options.end texts)) (fault.BadLine number text ends more)
-ComesOfArranging arrangement options holds old (fault.Read name) =
-    QuotesOneOf (names_read (map (λ name. name.now) options.files.items)) (string_bytes name)
-ComesOfArranging arrangement options holds old (fault.Write name) = ⊤
-ComesOfArranging arrangement options holds old fault.Memory = ⊤
-ComesOfArranging arrangement options holds old other = ⊥
+    × AreInputs reads old new (names_read (map (λ name. name.now) options.files.items)) texts
+    × ComesOfArranged options (text_of options.place) (joined options.end texts) other
 
 -- the question asks for the version next to one that has none
 abbrev pub HasNoNext : Question → Option PlainVersioning → Type 0
@@ -91,28 +95,29 @@ ComesOfAsking question options old (fault.BadLine number text ends more) =
     × ComesOfLines Fail options.crlf (line_text options.crlf) (lines_of options.end input)
     (fault.BadLine number text ends more)
 ComesOfAsking question options old (fault.Read name) =
-    (options.versions.items ≡ []) × QuotesOneOf (codes "-" ∷ []) (string_bytes name)
+    (options.versions.items ≡ []) × (string_bytes name ≡ quoted (codes "-"))
 ComesOfAsking question options old (fault.NoNext text) =
     (new : Option (List ℕ)) × (texts : List (List ℕ)) × AreTexts options old new texts
     × QuotesFirstWithoutNext question options.end texts (string_bytes text)
 ComesOfAsking question options old other = ComesOfList question other
 
--- a line of the input of this name has no version, and it is asked that each has one
-abbrev pub ComesOfInput : Lists → (List ℕ → Option (List ℕ)) → List ℕ → Fault → Type 0
-ComesOfInput lists holds name bad =
-    (old new : Option (List ℕ)) × (input : List ℕ) × IsInput holds old new name input
-    × ComesOfLines lists.invalid lists.place.crlf (text_of lists.place)
-    (lines_of lists.end (joined lists.end (input ∷ []))) bad
+-- the faults of the lines without a version of a list
+abbrev pub ComesOfOne : Lists → List ℕ → Fault → Type 0
+ComesOfOne lists input =
+    ComesOfLines lists.invalid lists.place.crlf (text_of lists.place) (lines_of_list lists input)
 
--- the faults of `diff --lists`: of a file, or of the lines of a list that have no version
-abbrev pub ComesOfChanges : Lists → (List ℕ → Option (List ℕ)) → Fault → Type 0
-ComesOfChanges lists holds (fault.BadLine number text ends more) =
-    ComesOfInput lists holds lists.old.now (fault.BadLine number text ends more)
-    ⊎ ComesOfInput lists holds lists.new.now (fault.BadLine number text ends more)
-ComesOfChanges lists holds (fault.Read name) =
-    QuotesOneOf (lists.old.now ∷ lists.new.now ∷ []) (string_bytes name)
-ComesOfChanges lists holds fault.Memory = ⊤
-ComesOfChanges lists holds other = ⊥
+-- those of two lists: of the new one only where each line of the old one has a version
+abbrev pub ComesOfEither : Lists → List ℕ → List ℕ → Fault → Type 0
+ComesOfEither lists first second fault = ComesOfOne lists first fault
+    ⊎ ((bad_lines_of lists first ≡ []) × ComesOfOne lists second fault)
+
+-- the faults of `diff --lists`: of an input, or of the lines of a list that have no version
+abbrev pub ComesOfChanges : Lists → Reading → Option (List ℕ) → Fault → Type 0
+ComesOfChanges lists reads old (fault.BadLine number text ends more) =
+    (new : Option (List ℕ)) × (first second : List ℕ)
+    × AreInputs reads old new (names_of lists) (first ∷ second ∷ [])
+    × ComesOfEither lists first second (fault.BadLine number text ends more)
+ComesOfChanges lists reads old other = ComesOfReading reads (names_of lists) other
 
 -- the faults of `test` with a list
 abbrev pub ComesOfTestOfList : List ℕ → List ℕ → Fault → Type 0
@@ -122,21 +127,16 @@ ComesOfTestOfList version list other =
     × ComesOfTest answer version list other
 
 -- the faults of each task, but for a writer that takes no more
-abbrev pub ComesOfTask : Task → (List ℕ → Option (List ℕ)) → Option (List ℕ) → Fault → Type 0
-ComesOfTask (task.Lines arrangement options) holds old fault =
-    ComesOfArranging arrangement options holds old fault
-ComesOfTask (task.Each question options) holds old fault = ComesOfAsking question options old fault
-ComesOfTask (task.TestTwo a operator b) holds old fault =
+abbrev pub ComesOf : Task → Reading → Option (List ℕ) → Fault → Type 0
+ComesOf (task.Lines arrangement options) reads old fault =
+    ComesOfArranging arrangement options reads old fault
+ComesOf (task.Each question options) reads old fault = ComesOfAsking question options old fault
+ComesOf (task.TestTwo a operator b) reads old fault =
     ComesOfTest (answer_of_two operator (versioning_of a.now) (versioning_of b.now)) a.now b.now fault
-ComesOfTask (task.TestList version list) holds old fault = ComesOfTestOfList version.now list.now fault
-ComesOfTask (task.Compare a b explain) holds old fault =
+ComesOf (task.TestList version list) reads old fault = ComesOfTestOfList version.now list.now fault
+ComesOf (task.Compare a b explain) reads old fault =
     ComesOfWords (first_wrong (a.now ∷ b.now ∷ [])) fault
-ComesOfTask (task.Difference a b) holds old fault =
+ComesOf (task.Difference a b) reads old fault =
     ComesOfWords (first_wrong (a.now ∷ b.now ∷ [])) fault
-ComesOfTask (task.Lists lists) holds old fault = ComesOfChanges lists holds fault
-ComesOfTask (task.Say text) holds old fault = ⊥
-
--- the faults of a task
-abbrev pub ComesOf : Task → (List ℕ → Option (List ℕ)) → Option (List ℕ) → Fault → Type 0
-ComesOf task holds old (fault.Write None) = ⊤
-ComesOf task holds old other = ComesOfTask task holds old other
+ComesOf (task.Lists lists) reads old fault = ComesOfChanges lists reads old fault
+ComesOf (task.Say text) reads old fault = ⊥

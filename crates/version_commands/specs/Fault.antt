@@ -1,16 +1,16 @@
 -- The faults of a run.
 use Rattle.std.specs.Prelude.{◌≡◌, ◌⊎◌, ◌+◌, ◌-◌, ◌^◌, min, ⊤, ℕ, List, [], ◌∷◌, Option, None, Some, Bool, false, Result, Ok, Err, map, string_bytes}
-use Rattle.std.specs.Io.KnownBytes.{Keeps}
 use Rattle.std.specs.Option.{option_map, option_or}
 use Rattle.version_commands.specs.declared.options.Invalid.{Invalid}
 use Rattle.version_commands.specs.declared.options.Invalid.TheVariants as invalid
+use Rattle.version_commands.specs.declared.options.LineOptions.{LineOptions}
 use Rattle.version_commands.specs.declared.pick.BadLines.{BadLines}
 use Rattle.version_commands.specs.declared.test.WrongWord.{WrongWord}
 use Rattle.version_commands.specs.declared.test.WrongWord.TheVariants as wrong
 use Rattle.version_commands.specs.Bad.{Reports}
+use Rattle.version_commands.specs.Inputs.{IsRefused, Reading}
 use Rattle.version_commands.specs.Picked.{bad_lines, good_before}
-use Rattle.version_commands.specs.Quote.{quoted, QuotesOneOf}
-use Rattle.version_lines.specs.Output.{AppendsProperBeginning}
+use Rattle.version_commands.specs.Quote.{quoted}
 use Rattle.version_lines.specs.Run.{unless_version}
 use Rattle.version_commands.specs.declared.faults.Fault.{Fault}
 use Rattle.version_commands.specs.declared.faults.Fault.TheVariants.{Usage, NotVersion, NotRequirement, NotTested, BadLine, NoNext, Untrue, Memory, Read, Write}
@@ -34,11 +34,18 @@ ComesOfWrongWords (Usage text) = ⊤
 ComesOfWrongWords Memory = ⊤
 ComesOfWrongWords fault = ⊥
 
+-- the fault of the input of this name, which can't be read
+abbrev pub ComesOfName : List ℕ → Fault → Type 0
+ComesOfName name Memory = ⊤
+ComesOfName name (Read shown) = string_bytes shown ≡ quoted name
+ComesOfName name fault = ⊥
+
 -- the faults that reading inputs of these names can end in
-abbrev pub ComesOfReading : List (List ℕ) → Fault → Type 0
-ComesOfReading names Memory = ⊤
-ComesOfReading names (Read name) = QuotesOneOf names (string_bytes name)
-ComesOfReading names fault = ⊥
+abbrev pub ComesOfReading : Reading → List (List ℕ) → Fault → Type 0
+ComesOfReading reads names Memory = ⊤
+ComesOfReading reads names (Read shown) =
+    (name : List ℕ) × IsRefused reads names name × (string_bytes shown ≡ quoted name)
+ComesOfReading reads names fault = ⊥
 
 -- the faults that lines without a version can end in, before the first of which come so many with one
 abbrev pub ComesOfBadAfter : Invalid → Bool → ℕ → List (List ℕ) → Fault → Type 0
@@ -58,51 +65,16 @@ abbrev pub ComesOfLines : Invalid → Bool → (List ℕ → List ℕ) → List 
 ComesOfLines policy crlf text_of lines =
     ComesOfBadAfter policy crlf (good_before text_of lines) (bad_lines text_of lines)
 
--- the faults that lines can end in which are arranged and written
-abbrev pub ComesOfArranged : Invalid → Bool → (List ℕ → List ℕ) → List (List ℕ) → Fault → Type 0
-ComesOfArranged policy crlf text_of lines (Write name) = ⊤
-ComesOfArranged policy crlf text_of lines fault = ComesOfLines policy crlf text_of lines fault
-
--- the faults that writing can end in
-abbrev pub ComesOfWriting : Fault → Type 0
-ComesOfWriting Memory = ⊤
-ComesOfWriting (Write name) = ⊤
-ComesOfWriting fault = ⊥
-
--- the faults that the file for lines without a version can end in
-abbrev pub ComesOfFiles : Fault → Type 0
-ComesOfFiles Memory = ⊤
-ComesOfFiles (Write (Some name)) = ⊤
-ComesOfFiles fault = ⊥
-
--- known bytes grow by what is written at a fault: a proper beginning of the output where it could
--- not be written to its end, and else nothing
-abbrev pub GrowsAt : Option (List ℕ) → Option (List ℕ) → List ℕ → Fault → Type 0
-GrowsAt old new output (Write None) = AppendsProperBeginning old new output
-GrowsAt old new output fault = Keeps old new
-
 -- the faults that reading lists of requirements can end in, if this is the first word that is none
 abbrev pub ComesOfLists : Option (List ℕ) → Fault → Type 0
 ComesOfLists wrong Memory = ⊤
 ComesOfLists wrong (NotRequirement text) = option_map quoted wrong ≡ Some (string_bytes text)
 ComesOfLists wrong fault = ⊥
 
--- what was written at a fault: a proper beginning of an output, where it could not be written to its
--- end, and else nothing
-abbrev pub FailsAt : (List ℕ → Type 0) → Option (List ℕ) → Option (List ℕ) → Fault → Type 0
-FailsAt IsOutput old new (Write None) =
-    (output : List ℕ) × IsOutput output × AppendsProperBeginning old new output
-FailsAt IsOutput old new fault = Keeps old new
-
 -- the first of some words that is no version
 abbrev pub first_wrong : List (List ℕ) → Option (List ℕ)
 first_wrong [] = None
 first_wrong (word ∷ words) = option_or (unless_version word) (first_wrong words)
-
--- nothing was written at a fault, but for standard output that takes no more
-abbrev pub KeepsBeforeWriting : Option (List ℕ) → Option (List ℕ) → Fault → Type 0
-KeepsBeforeWriting old new (Write None) = ⊤
-KeepsBeforeWriting old new fault = Keeps old new
 
 -- the faults that words which should be versions can end in, if this is the first that is none
 abbrev pub ComesOfWords : Option (List ℕ) → Fault → Type 0
@@ -119,7 +91,9 @@ ComesOfTest answer first second (NotTested text) =
     ⊎ ((answer ≡ Err wrong.Second) × (string_bytes text ≡ quoted second))
 ComesOfTest answer first second fault = ⊥
 
--- any fault but that standard output takes no more
-abbrev pub NotOfWriting : Fault → Type 0
-NotOfWriting (Write None) = ⊥
-NotOfWriting fault = ⊤
+-- the faults that the file for lines without a version can end in: they name it
+abbrev pub ComesOfPut : LineOptions → Fault → Type 0
+ComesOfPut options Memory = ⊤
+ComesOfPut options (Write (Some name)) =
+    option_map (λ file. quoted file.now) options.invalid_to ≡ Some (string_bytes name)
+ComesOfPut options fault = ⊥

@@ -1,7 +1,7 @@
 -- The inputs of a run, which are read in turn.
-use Rattle.std.specs.Prelude.{◌≡◌, ◌==◌, ℕ, Bool, true, false, List, [], ◌∷◌, ◌++◌, Option, codes, IfSome, if◌then◌else◌}
+use Rattle.std.specs.Prelude.{◌≡◌, ◌==◌, ℕ, Bool, true, false, List, [], ◌∷◌, ◌++◌, Option, None, Some, codes, if◌then◌else◌}
 use Rattle.std.specs.Io.KnownBytes.{Consumes, IsAtEnd}
-use Rattle.std.specs.List.{flat_map}
+use Rattle.std.specs.List.{flat_map, list_any, Contains}
 use Rattle.std.specs.Str.{bytes_eq}
 
 -- whether some bytes end where a line ends: they are none, or the last of them ends a line
@@ -18,31 +18,42 @@ ended end bytes = if ends_line end bytes then bytes else bytes ++ end ∷ []
 abbrev pub joined : ℕ → List (List ℕ) → List ℕ
 joined end texts = flat_map (ended end) texts
 
+-- what reading the file of a name may give, or that it may fail
+abbrev pub Reading : Type 1
+Reading = List ℕ → Option (List ℕ) → Type 0
+
 -- the name of standard input
 abbrev pub is_standard : List ℕ → Bool
 is_standard name = bytes_eq name (codes "-")
 
--- the text is what standard input still had, or else what the file of this name holds
-abbrev pub IsInputBy : Bool → (List ℕ → Option (List ℕ)) → Option (List ℕ) → Option (List ℕ)
-    → List ℕ → List ℕ → Type 0
-IsInputBy true holds old new name text = Consumes old new text × IsAtEnd new
-IsInputBy false holds old new name text = (new ≡ old) × IfSome (holds name) (λ held. text ≡ held)
+-- the text is what standard input still had, or else what the file of this name gave
+abbrev pub IsInputBy : Bool → Reading → Option (List ℕ) → Option (List ℕ) → List ℕ → List ℕ → Type 0
+IsInputBy true reads old new name text = Consumes old new text × IsAtEnd new
+IsInputBy false reads old new name text = (new ≡ old) × reads name (Some text)
 
-abbrev pub IsInput : (List ℕ → Option (List ℕ)) → Option (List ℕ) → Option (List ℕ) → List ℕ
-    → List ℕ → Type 0
-IsInput holds old new name text = IsInputBy (is_standard name) holds old new name text
+abbrev pub IsInput : Reading → Option (List ℕ) → Option (List ℕ) → List ℕ → List ℕ → Type 0
+IsInput reads old new name text = IsInputBy (is_standard name) reads old new name text
 
 -- the texts are those of the inputs of these names, which were read in turn
-abbrev pub AreInputs : (List ℕ → Option (List ℕ)) → Option (List ℕ) → Option (List ℕ)
-    → List (List ℕ) → List (List ℕ) → Type 0
-AreInputs holds old new [] [] = new ≡ old
-AreInputs holds old new (name ∷ names) (text ∷ texts) =
-    (between : Option (List ℕ)) × IsInput holds old between name text
-    × AreInputs holds between new names texts
-AreInputs holds old new [] (text ∷ texts) = ⊥
-AreInputs holds old new (name ∷ names) [] = ⊥
+abbrev pub AreInputs : Reading → Option (List ℕ) → Option (List ℕ) → List (List ℕ) → List (List ℕ)
+    → Type 0
+AreInputs reads old new [] [] = new ≡ old
+AreInputs reads old new (name ∷ names) (text ∷ texts) =
+    (between : Option (List ℕ)) × IsInput reads old between name text
+    × AreInputs reads between new names texts
+AreInputs reads old new [] (text ∷ texts) = ⊥
+AreInputs reads old new (name ∷ names) [] = ⊥
 
 -- the names that are read: those that were given, or that of standard input
 abbrev pub names_read : List (List ℕ) → List (List ℕ)
 names_read [] = codes "-" ∷ []
 names_read (name ∷ names) = name ∷ names
+
+-- whether standard input is among the inputs of these names
+abbrev pub reads_standard : List (List ℕ) → Bool
+reads_standard names = list_any is_standard names
+
+-- the name is one of these, and its file may not be read
+pub record IsRefused (reads : Reading) (names : List (List ℕ)) (name : List ℕ) : Type 0 where
+  pub among : Contains names name
+  pub failed : is_standard name ≡ false → reads name None

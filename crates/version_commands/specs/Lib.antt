@@ -5,7 +5,9 @@ pub mod Choice
 pub mod Compare
 pub mod Difference
 pub mod Each
+pub mod Ends
 pub mod Fault
+pub mod Files
 pub mod Inputs
 pub mod Json
 pub mod Key
@@ -17,6 +19,7 @@ pub mod Picked
 pub mod Pieces
 pub mod Place
 pub mod Quote
+pub mod Run
 pub mod Show
 pub mod Test
 pub mod Why

@@ -8,7 +8,9 @@ use Rattle.std.specs.Ordering.{nat_cmp}
 use Rattle.std.specs.Str.{bytes_eq}
 use Rattle.std.specs.declared.cmp.Ordering.{Ordering}
 use Rattle.std.specs.declared.cmp.Ordering.TheVariants.{Less, Equal, Greater}
-use Rattle.version_commands.specs.Place.{column_text, line_text, version_in}
+use Rattle.version_commands.specs.Inputs.{joined}
+use Rattle.version_commands.specs.Picked.{bad_lines}
+use Rattle.version_commands.specs.Place.{column_text, line_text, text_of, version_in}
 use Rattle.version_commands.specs.declared.lists.Named.{Named}
 use Rattle.version_commands.specs.declared.lists.Names.{Names}
 use Rattle.version_commands.specs.declared.lists.Side.{Side}
@@ -18,6 +20,18 @@ use Rattle.version_lines.specs.Lines.{lines_of, whole_line}
 use Rattle.version_rules.specs.Key.{key_of, precedence}
 use Rattle.version_rules.specs.Versioning.{PlainVersioning, versioning_text}
 use Rattle.version_texts.specs.VersioningRef.{plain_versioning_ref}
+
+-- the inputs of two lists
+abbrev pub names_of : Lists → List (List ℕ)
+names_of lists = lists.old.now ∷ lists.new.now ∷ []
+
+-- the lines of a list
+abbrev pub lines_of_list : Lists → List ℕ → List (List ℕ)
+lines_of_list lists input = lines_of lists.end (joined lists.end (input ∷ []))
+
+-- those that have no version
+abbrev pub bad_lines_of : Lists → List ℕ → List (List ℕ)
+bad_lines_of lists input = bad_lines (text_of lists.place) (lines_of_list lists input)
 
 -- a name, and the version beside it
 abbrev pub Row : Type 0

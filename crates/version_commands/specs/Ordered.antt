@@ -2,7 +2,8 @@
 use Rattle.std.specs.Prelude.{◌≡◌, ℕ, Bool, List, [], map, Option, Some}
 use Rattle.version_commands.specs.Arranged.{arranged, placed, policy}
 use Rattle.version_commands.specs.Choice.{chooser_of, is_kept}
-use Rattle.version_commands.specs.Inputs.{joined, names_read, AreInputs}
+use Rattle.std.specs.Option.{option_map}
+use Rattle.version_commands.specs.Inputs.{joined, names_read, AreInputs, Reading}
 use Rattle.version_commands.specs.Picked.{bad_lines, kept_lines}
 use Rattle.version_commands.specs.Place.{group_text, text_of}
 use Rattle.version_commands.specs.declared.choice.Chooser.{Chooser}
@@ -12,45 +13,45 @@ use Rattle.version_commands.specs.declared.options.LineOptions.{LineOptions}
 use Rattle.version_lines.specs.Lines.{lines_of, lines_output, whole_line}
 use Rattle.version_rules.specs.Versioning.{PlainVersioning}
 
--- the output for some lines of an input: these, and all of its lines that have no version
-abbrev pub output_with : (List ℕ → List ℕ) → LineOptions → List ℕ → List (List ℕ) → List ℕ
-output_with text_of options input lines =
-    lines_output (whole_line options.end)
-    (placed (policy options) (bad_lines text_of (lines_of options.end input)) lines)
-
 -- the lines of an input that are kept
 abbrev pub kept_in : (List ℕ → List ℕ) → (PlainVersioning → Bool) → LineOptions → List ℕ
     → List (List ℕ)
 kept_in text_of keeps options input = kept_lines text_of keeps (lines_of options.end input)
 
--- the output for an input: its lines that are kept, arranged, and those without a version
-abbrev pub ordered_output : (List ℕ → List ℕ) → (PlainVersioning → Bool) → Arrangement → LineOptions
-    → List ℕ → List ℕ
-ordered_output text_of keeps arrangement options input =
-    output_with text_of options input
-    (arranged text_of (group_text options.place.crlf) arrangement (kept_in text_of keeps options input))
+-- the same, arranged
+abbrev pub arranged_in : (List ℕ → List ℕ) → (PlainVersioning → Bool) → Arrangement → LineOptions
+    → List ℕ → List (List ℕ)
+arranged_in text_of keeps arrangement options input =
+    arranged text_of (group_text options.place.crlf) arrangement (kept_in text_of keeps options input)
 
--- each line of an input has a version, if the options ask for that
-abbrev pub IsGood : (List ℕ → List ℕ) → LineOptions → List ℕ → Type 0
-IsGood text_of options input =
-    policy options ≡ Fail → bad_lines text_of (lines_of options.end input) ≡ []
+-- what is put into the file for lines without a version, if there is one: the name of the file and
+-- these lines
+abbrev pub put_of : LineOptions → List (List ℕ) → Option (List ℕ × List ℕ)
+put_of options bad =
+    option_map (λ name. (name.now, lines_output (whole_line options.end) bad)) options.invalid_to
 
--- the output of a run over lines, whose inputs were read in turn
-pub record IsOrdered (arrangement : Arrangement) (options : LineOptions)
-    (holds : List ℕ → Option (List ℕ)) (old new : Option (List ℕ))
+-- lines are written, with those that have no version before or after them or in their file
+pub record IsPlaced (options : LineOptions) (bad lines : List (List ℕ))
+    (leaves : Option (List ℕ × List ℕ) → Type 0) (output : List ℕ) : Type 0 where
+  pub put : leaves (put_of options bad)
+  pub output_is : output ≡ lines_output (whole_line options.end) (placed (policy options) bad lines)
+
+-- the same with the lines of an input that have no version; there are none if the options want none
+pub record IsArranged (text_of : List ℕ → List ℕ) (options : LineOptions) (input : List ℕ)
+    (lines : List (List ℕ)) (leaves : Option (List ℕ × List ℕ) → Type 0)
+    (output : List ℕ) : Type 0 where
+  pub good : policy options ≡ Fail → bad_lines text_of (lines_of options.end input) ≡ []
+  pub is_placed : IsPlaced options (bad_lines text_of (lines_of options.end input)) lines leaves output
+
+-- the same of a run whose inputs were read in turn
+pub record IsOrdered (arrangement : Arrangement) (options : LineOptions) (reads : Reading)
+    (old new : Option (List ℕ)) (leaves : Option (List ℕ × List ℕ) → Type 0)
     (output : List ℕ) : Type 0 where
   pub texts : List (List ℕ)
   pub chooser : Chooser
-  pub texts_are : AreInputs holds old new
-      (names_read (map (λ name. name.now) options.files.items)) texts
+  pub texts_are : AreInputs reads old new (names_read (map (λ name. name.now) options.files.items))
+      texts
   pub chooser_is : chooser_of options.choice arrangement ≡ Some chooser
-  pub output_is : output ≡ ordered_output (text_of options.place) (is_kept chooser) arrangement
-      options (joined options.end texts)
-
--- each line has a version, if the options ask for that
-abbrev pub HasNoBad : LineOptions → (List ℕ → Option (List ℕ)) → Option (List ℕ)
-    → Option (List ℕ) → Type 0
-HasNoBad options holds old new =
-    (texts : List (List ℕ))
-    × AreInputs holds old new (names_read (map (λ name. name.now) options.files.items)) texts
-    × IsGood (text_of options.place) options (joined options.end texts)
+  pub is_arranged : IsArranged (text_of options.place) options (joined options.end texts)
+      (arranged_in (text_of options.place) (is_kept chooser) arrangement options
+      (joined options.end texts)) leaves output

@@ -1,8 +1,8 @@
 -- What a message shows of a text that it quotes: a line, a word or the name of a file.
-use Rattle.std.specs.Prelude.{◌≡◌, ℕ, List, take, if◌then◌else◌}
+use Rattle.std.specs.Prelude.{ℕ, List, take, if◌then◌else◌}
 use Rattle.std.specs.Char.{encode_utf8, is_control}
 use Rattle.std.specs.Char.Escape.{escape_default}
-use Rattle.std.specs.List.{flat_map, Contains}
+use Rattle.std.specs.List.{flat_map}
 use Rattle.std.specs.Str.{chars, encode_utf8_all}
 use Rattle.std.specs.Str.Lossy.{utf8_valid_len}
 
@@ -17,7 +17,3 @@ quoted_character c = if is_control c then encode_utf8_all (escape_default c) els
 -- a text as a message shows it: what is UTF-8 in front of its first sixty bytes
 abbrev pub quoted : List ℕ → List ℕ
 quoted text = flat_map quoted_character (chars (text_in_front (take 60 text)))
-
--- a message shows one of these texts
-abbrev pub QuotesOneOf : List (List ℕ) → List ℕ → Type 0
-QuotesOneOf texts shown = (text : List ℕ) × Contains texts text × (shown ≡ quoted text)

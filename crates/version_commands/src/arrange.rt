@@ -1,14 +1,15 @@
 //! The commands over lines: `sort`, `newest` and `filter`.
-ghost use Rattle.std.specs.Prelude.{◌≡◌, ℕ, List, Some, IfErr, IfOk, OnOk};
-ghost use Rattle.std.specs.Io.KnownBytes.{Appends};
-ghost use Rattle.version_commands.specs.Arranged.{arranged, is_reversed, policy};
-ghost use Rattle.version_commands.specs.Cause.{ComesOfArranging};
+ghost use Rattle.std.specs.Prelude.{◌≡◌, false, map, None, Some, IfErr, IfOk, OnOk};
+ghost use Rattle.version_commands.specs.Arranged.{arranged, is_reversed};
+ghost use Rattle.version_commands.specs.Cause.{ComesOfArranged, ComesOfArranging};
 ghost use Rattle.version_commands.specs.Choice.{chooser_of, is_kept, wrong_list};
-ghost use Rattle.version_commands.specs.Fault.{ComesOfArranged, ComesOfLists, FailsAt, GrowsAt};
-ghost use Rattle.version_commands.specs.Ordered.{kept_in, ordered_output, output_with, HasNoBad, IsGood, IsOrdered};
+ghost use Rattle.version_commands.specs.Ends.{Ends};
+ghost use Rattle.version_commands.specs.Fault.{ComesOfLists};
+ghost use Rattle.version_commands.specs.Files.{Leaves};
+ghost use Rattle.version_commands.specs.Inputs.{names_read, reads_standard};
+ghost use Rattle.version_commands.specs.Ordered.{arranged_in, kept_in, IsArranged, IsOrdered};
 ghost use Rattle.version_commands.specs.Place.{group_text, text_of};
 ghost use Rattle.version_lines.specs.KeyedLines.{lines_in, AreRead};
-ghost use Rattle.version_lines.specs.Lines.{lines_of};
 
 use crate::bad::refuse_bad;
 use crate::choice::Chooser;
@@ -33,16 +34,13 @@ pub fn serve_lines<F: Files, R: Read, W: Write>(
     reader: &mut R,
     writer: &mut W,
 ) -> Result<(), Fault>
-    ensures written { OnOk result ((output : List ℕ) × IsOrdered arrangement.entry options.now
-        (F.holds files.old) (R.remaining reader.old) (R.remaining reader.new) output
-        × Appends (W.contents writer.old) (W.contents writer.new) output) }
-    ensures good { OnOk result (HasNoBad options.now (F.holds files.old)
-        (R.remaining reader.old) (R.remaining reader.new)) }
-    ensures at_fault { IfErr result (FailsAt (IsOrdered arrangement.entry options.now
-        (F.holds files.old) (R.remaining reader.old) (R.remaining reader.new))
-        (W.contents writer.old) (W.contents writer.new)) }
-    ensures faults { IfErr result (ComesOfArranging arrangement.entry options.now
-        (F.holds files.old) (R.remaining reader.old)) }
+    ensures ends { Ends (IsOrdered arrangement.entry options.now (F.reads files.old)
+        (R.remaining reader.old) (R.remaining reader.new) (Leaves F.puts files.old files.new))
+        (ComesOfArranging arrangement.entry options.now (F.reads files.old) (R.remaining reader.old))
+        (W.contents writer.old) (W.contents writer.new) result }
+    ensures unread { reads_standard (names_read (map (λ name. name.now) options.now.files.items)) ≡ false
+        → reader.new ≡ reader.old }
+    ensures files { options.now.invalid_to ≡ None → files.new ≡ files.old }
 {
     let chooser = read_chooser(alloc, &options.choice, &arrangement)?;
     let input = read_inputs(alloc, options.files.as_slice(), options.end, files, reader)?;
@@ -84,15 +82,12 @@ fn write_arranged<F: Files, W: Write>(
     files: &mut F,
     writer: &mut W,
 ) -> Result<(), Fault>
-    ensures written { OnOk result (Appends (W.contents writer.old) (W.contents writer.new)
-        (ordered_output (text_of options.now.place) (is_kept chooser.now) arrangement.entry
-        options.now input.now)) }
-    ensures good { OnOk result (IsGood (text_of options.now.place) options.now input.now) }
-    ensures at_fault { IfErr result (GrowsAt (W.contents writer.old) (W.contents writer.new)
-        (ordered_output (text_of options.now.place) (is_kept chooser.now) arrangement.entry
-        options.now input.now)) }
-    ensures faults { IfErr result (ComesOfArranged (policy options.now) options.now.place.crlf
-        (text_of options.now.place) (lines_of options.now.end input.now)) }
+    ensures ends { Ends (IsArranged (text_of options.now.place) options.now input.now
+        (arranged_in (text_of options.now.place) (is_kept chooser.now) arrangement.entry options.now
+        input.now) (Leaves F.puts files.old files.new))
+        (ComesOfArranged options.now (text_of options.now.place) input.now)
+        (W.contents writer.old) (W.contents writer.new) result }
+    ensures files { options.now.invalid_to ≡ None → files.new ≡ files.old }
 {
     if let Arrangement::Filter { .. } = arrangement {
         return write_kept(alloc, options, chooser, input, files, writer);
@@ -138,13 +133,12 @@ fn write_keyed<B: SortBy + Copy, C: Chooses, F: Files, W: Write>(
     writer: &mut W,
 ) -> Result<(), Fault>
     requires { is_reversed arrangement ≡ B.is_reversed by }
-    ensures written { OnOk result (Appends (W.contents writer.old) (W.contents writer.new)
-        (ordered_output (B.text_of by) (C.keeps chooser.now) arrangement.entry options.now input.now)) }
-    ensures good { OnOk result (IsGood (B.text_of by) options.now input.now) }
-    ensures at_fault { IfErr result (GrowsAt (W.contents writer.old) (W.contents writer.new)
-        (ordered_output (B.text_of by) (C.keeps chooser.now) arrangement.entry options.now input.now)) }
-    ensures faults { IfErr result (ComesOfArranged (policy options.now) options.now.place.crlf
-        (B.text_of by) (lines_of options.now.end input.now)) }
+    ensures ends { Ends (IsArranged (B.text_of by) options.now input.now
+        (arranged_in (B.text_of by) (C.keeps chooser.now) arrangement.entry options.now input.now)
+        (Leaves F.puts files.old files.new))
+        (ComesOfArranged options.now (B.text_of by) input.now)
+        (W.contents writer.old) (W.contents writer.new) result }
+    ensures files { options.now.invalid_to ≡ None → files.new ≡ files.old }
 {
     let (mut kept, bad) = read_keyed(alloc, by, chooser, options.end, input)?;
     refuse_bad(alloc, options, &bad)?;
@@ -202,15 +196,12 @@ fn write_kept<F: Files, W: Write>(
     files: &mut F,
     writer: &mut W,
 ) -> Result<(), Fault>
-    ensures written { OnOk result (Appends (W.contents writer.old) (W.contents writer.new)
-        (output_with (text_of options.now.place) options.now input.now
-        (kept_in (text_of options.now.place) (is_kept chooser.now) options.now input.now))) }
-    ensures good { OnOk result (IsGood (text_of options.now.place) options.now input.now) }
-    ensures at_fault { IfErr result (GrowsAt (W.contents writer.old) (W.contents writer.new)
-        (output_with (text_of options.now.place) options.now input.now
-        (kept_in (text_of options.now.place) (is_kept chooser.now) options.now input.now))) }
-    ensures faults { IfErr result (ComesOfArranged (policy options.now) options.now.place.crlf
-        (text_of options.now.place) (lines_of options.now.end input.now)) }
+    ensures ends { Ends (IsArranged (text_of options.now.place) options.now input.now
+        (kept_in (text_of options.now.place) (is_kept chooser.now) options.now input.now)
+        (Leaves F.puts files.old files.new))
+        (ComesOfArranged options.now (text_of options.now.place) input.now)
+        (W.contents writer.old) (W.contents writer.new) result }
+    ensures files { options.now.invalid_to ≡ None → files.new ≡ files.old }
 {
     let by = ByVersion {
         place: options.place,
@@ -223,7 +214,7 @@ fn write_kept<F: Files, W: Write>(
 }
 
 // Tells how far a run is, if that is asked for.
-fn tell<F: Files>(options: &LineOptions<'_>, files: &mut F, stage: Stage) {
+fn tell<F: Files>(options: &LineOptions<'_>, files: &F, stage: Stage) {
     if options.progress {
         files.tell(stage);
     }

@@ -1,10 +1,10 @@
 //! The commands that ask the same of each of several versions: `show`, `key`, `why` and `next`.
-ghost use Rattle.std.specs.Prelude.{◌≡◌, ◌++◌, ◌∷◌, [], codes, map, IfErr, IfOk, IsSome, OnOk};
+ghost use Rattle.std.specs.Prelude.{◌≡◌, ◌==◌, ◌++◌, ◌∷◌, [], codes, false, length, map, IfErr, IfOk, IsSome, OnOk};
 ghost use Rattle.std.specs.Io.KnownBytes.{Consumes, IsAtEnd};
 ghost use Rattle.std.specs.List.{All};
 ghost use Rattle.version_commands.specs.Cause.{ComesOfAnswering, ComesOfAsking, ComesOfList};
 ghost use Rattle.version_commands.specs.Each.{AreAnswered, HasList, IsAnswer, IsAnswered, IsHead};
-ghost use Rattle.version_commands.specs.Fault.{first_wrong, ComesOfLines, ComesOfReading, ComesOfWords, NotOfWriting};
+ghost use Rattle.version_commands.specs.Fault.{first_wrong, ComesOfLines, ComesOfName, ComesOfWords};
 ghost use Rattle.version_commands.specs.Pieces.{Adds};
 ghost use Rattle.version_commands.specs.Place.{line_text};
 ghost use Rattle.version_commands.specs.declared.options.Invalid.TheVariants.{Fail};
@@ -39,7 +39,7 @@ pub fn answer_each<R: Read>(
 ) -> Result<Vec<u8>, Fault>
     ensures output { IfOk result (λ output. IsAnswered question.entry options.now
         (R.remaining reader.old) (R.remaining reader.new) output.items) }
-    ensures unwritten { IfErr result NotOfWriting }
+    ensures unread { length options.now.versions.items == 0 ≡ false → reader.new ≡ reader.old }
     ensures faults { IfErr result (ComesOfAsking question.entry options.now (R.remaining reader.old)) }
 {
     let mut output = head_of(alloc, question, options.end)?;
@@ -75,7 +75,7 @@ fn read_standard<R: Read>(alloc: Global, reader: &mut R) -> Result<Vec<u8>, Faul
     ensures input { IfOk result (λ input.
         Consumes (R.remaining reader.old) (R.remaining reader.new) input.items) }
     ensures end { OnOk result (IsAtEnd (R.remaining reader.new)) }
-    ensures faults { IfErr result (ComesOfReading (codes "-" ∷ [])) }
+    ensures faults { IfErr result (ComesOfName (codes "-")) }
 {
     match read_all(alloc, reader) {
         Ok(input) => Ok(input),

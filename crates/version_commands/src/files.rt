@@ -1,6 +1,6 @@
 //! The files of a run, and what it tells while it works.
 
-ghost use Rattle.std.specs.Prelude.{◌≡◌, ℕ, ◌⊎◌, List, Option, ◌++◌, IfErr, IfSome, OnOk};
+ghost use Rattle.std.specs.Prelude.{◌≡◌, ℕ, List, Option, None, Some, ◌++◌, IfErr, OnOk};
 
 /// Why a file could not be read or written.
 #[derive(Clone, Copy, Debug)]
@@ -24,8 +24,8 @@ pub enum Stage {
 
 /// The files that a run may read and write by their names.
 pub trait Files {
-    // What a file holds, by its name, if that is known.
-    ghost holds: { Self → List ℕ → Option (List ℕ) };
+    // Reading the file of this name may give these bytes, or none and fail.
+    ghost reads: { Self → List ℕ → Option (List ℕ) → Type 0 };
 
     // Between the two states the bytes were written to the file of this name, in place of what it held.
     ghost puts: { Self → Self → List ℕ → List ℕ → Type 0 };
@@ -33,7 +33,9 @@ pub trait Files {
     /// Adds what the file holds to the input. After an error, part of it may have been added.
     fn read_onto(&self, name: &str, input: &mut Vec<u8>) -> Result<(), Trouble>
         ensures text { OnOk result ((text : List ℕ) × (input.new.items ≡ input.old.items ++ text)
-            × IfSome (holds self.now name.now) (λ held. text ≡ held)) }
+            × reads self.now name.now (Some text)) }
+        ensures failed { IfErr result
+            (λ trouble. trouble ≡ Trouble.System → reads self.now name.now None) }
         ensures begun { (more : List ℕ) × (input.new.items ≡ input.old.items ++ more) };
 
     /// Writes the bytes to the file, in place of what it holds.
@@ -41,5 +43,5 @@ pub trait Files {
         ensures { OnOk result (puts self.old self.new name.now bytes.now) };
 
     /// Tells how far the run is. Only `--progress` asks for it.
-    fn tell(&mut self, stage: Stage);
+    fn tell(&self, stage: Stage);
 }

@@ -1,7 +1,7 @@
 //! Reading the inputs in turn.
-ghost use Rattle.std.specs.Prelude.{◌≡◌, ◌++◌, ◌∷◌, [], ℕ, List, map, IfErr, IfOk, OnOk};
-ghost use Rattle.version_commands.specs.Fault.{ComesOfReading};
-ghost use Rattle.version_commands.specs.Inputs.{ended, ends_line, joined, names_read, AreInputs, IsInput};
+ghost use Rattle.std.specs.Prelude.{◌≡◌, ◌++◌, ◌∷◌, [], ℕ, List, false, map, IfErr, IfOk, OnOk};
+ghost use Rattle.version_commands.specs.Fault.{ComesOfName, ComesOfReading};
+ghost use Rattle.version_commands.specs.Inputs.{ended, ends_line, is_standard, joined, names_read, reads_standard, AreInputs, IsInput};
 
 use crate::faults::Fault;
 use crate::files::{Files, Trouble};
@@ -20,9 +20,12 @@ pub fn read_inputs<F: Files, R: Read>(
     reader: &mut R,
 ) -> Result<Vec<u8>, Fault>
     ensures input { IfOk result (λ input. (texts : List (List ℕ))
-        × AreInputs (F.holds files.now) (R.remaining reader.old) (R.remaining reader.new)
+        × AreInputs (F.reads files.now) (R.remaining reader.old) (R.remaining reader.new)
         (names_read (map (λ name. name.now) names.now)) texts × (input.items ≡ joined end texts)) }
-    ensures faults { IfErr result (ComesOfReading (names_read (map (λ name. name.now) names.now))) }
+    ensures unread { reads_standard (names_read (map (λ name. name.now) names.now)) ≡ false
+        → reader.new ≡ reader.old }
+    ensures faults { IfErr result (ComesOfReading (F.reads files.now)
+        (names_read (map (λ name. name.now) names.now))) }
 {
     if names.is_empty() {
         return read_named(alloc, &["-"], end, files, reader);
@@ -39,9 +42,12 @@ fn read_named<F: Files, R: Read>(
     reader: &mut R,
 ) -> Result<Vec<u8>, Fault>
     ensures input { IfOk result (λ input. (texts : List (List ℕ))
-        × AreInputs (F.holds files.now) (R.remaining reader.old) (R.remaining reader.new)
+        × AreInputs (F.reads files.now) (R.remaining reader.old) (R.remaining reader.new)
         (map (λ name. name.now) names.now) texts × (input.items ≡ joined end texts)) }
-    ensures faults { IfErr result (ComesOfReading (map (λ name. name.now) names.now)) }
+    ensures unread { reads_standard (map (λ name. name.now) names.now) ≡ false
+        → reader.new ≡ reader.old }
+    ensures faults { IfErr result
+        (ComesOfReading (F.reads files.now) (map (λ name. name.now) names.now)) }
 {
     let mut input = Vec::new(alloc);
     for name in names {
@@ -60,9 +66,10 @@ fn add_input<F: Files, R: Read>(
     end: u8,
 ) -> Result<(), Fault>
     ensures text { OnOk result ((text : List ℕ)
-        × IsInput (F.holds files.now) (R.remaining reader.old) (R.remaining reader.new) name.now text
+        × IsInput (F.reads files.now) (R.remaining reader.old) (R.remaining reader.new) name.now text
         × (input.new.items ≡ input.old.items ++ ended end text)) }
-    ensures faults { IfErr result (ComesOfReading (name.now ∷ [])) }
+    ensures unread { is_standard name.now ≡ false → reader.new ≡ reader.old }
+    ensures faults { IfErr result (ComesOfReading (F.reads files.now) (name.now ∷ [])) }
 {
     let start = input.len();
     add_text(alloc, name, files, reader, input)?;
@@ -89,9 +96,10 @@ fn add_text<F: Files, R: Read>(
     input: &mut Vec<u8>,
 ) -> Result<(), Fault>
     ensures text { OnOk result ((text : List ℕ)
-        × IsInput (F.holds files.now) (R.remaining reader.old) (R.remaining reader.new) name.now text
+        × IsInput (F.reads files.now) (R.remaining reader.old) (R.remaining reader.new) name.now text
         × (input.new.items ≡ input.old.items ++ text)) }
-    ensures faults { IfErr result (ComesOfReading (name.now ∷ [])) }
+    ensures unread { is_standard name.now ≡ false → reader.new ≡ reader.old }
+    ensures faults { IfErr result (ComesOfReading (F.reads files.now) (name.now ∷ [])) }
 {
     if name == "-" {
         return match read_onto(alloc, reader, input) {
@@ -109,7 +117,7 @@ fn add_text<F: Files, R: Read>(
 
 /// Returns the fault of an input of this name that can't be read.
 pub fn not_read(alloc: Global, name: &str) -> Fault
-    ensures { ComesOfReading (name.now ∷ []) result }
+    ensures { ComesOfName name.now result }
 {
     match quoted(alloc, name.as_bytes()) {
         Ok(name) => Fault::Read(name),

@@ -109,8 +109,7 @@ fn add_line<'a>(
         → AreBadOf (text_of lists.now.place) (lines ++ line.now ∷ []) bad.new) }
     ensures before { OnOk result (bad.new.before ≤ bad.old.before + 1) }
 {
-    let text = lists.place.text(line);
-    match VersioningRef::from_bytes(text) {
+    match lists.place.version(line) {
         Some(version) => {
             bad.pass();
             let name = column_text(Some(lists.name), line_text(lists.place.crlf, line));

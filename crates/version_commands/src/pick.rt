@@ -102,7 +102,7 @@ pub fn read_keyed<'a, B: SortBy + Copy, C: Chooses>(
     let mut rest = input;
     while !rest.is_empty() {
         let (line, after) = split_line(end, rest);
-        match VersioningRef::from_bytes(by.text(line)) {
+        match by.version(line) {
             None => bad.add(line)?,
             Some(version) => {
                 bad.pass();
@@ -134,7 +134,7 @@ pub fn read_kept<'a, B: SortBy, C: Chooses>(
     let mut rest = input;
     while !rest.is_empty() {
         let (line, after) = split_line(end, rest);
-        match VersioningRef::from_bytes(by.text(line)) {
+        match by.version(line) {
             None => bad.add(line)?,
             Some(version) => {
                 bad.pass();

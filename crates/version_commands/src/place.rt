@@ -1,12 +1,13 @@
 //! Where the version of a line stands.
-ghost use Rattle.std.specs.Prelude.{◌≡◌, ◌<◌, ℕ, List, [], drop, length, IsTrue};
-ghost use Rattle.std.specs.Option.{option_map_or, IfSome};
-ghost use Rattle.version_commands.specs.Place.{column_text, line_text, named_text, named_version, place_text, text_of};
-ghost use Rattle.version_rules.specs.Versioning.{versioning_of};
+ghost use Rattle.std.specs.Prelude.{◌≡◌, ℕ, List, IsTrue};
+ghost use Rattle.std.specs.Option.{option_map};
+ghost use Rattle.version_commands.specs.Place.{column_text, line_text, named_text, named_version, place_text, text_of, version_in};
+ghost use Rattle.version_texts.specs.VersioningRef.{plain_versioning_ref};
 
 use crate::options::{Naming, VersionPlace};
 use version_lines::{Column, GroupBy, SortBy};
-use version_tasks::{start_after_prefix, start_in_tag};
+use version_tasks::{version_after_prefix, version_in_tag};
+use version_texts::VersioningRef;
 
 impl VersionPlace<'_> {
     /// Whether each line is its version.
@@ -26,25 +27,50 @@ impl VersionPlace<'_> {
     /// Returns the text in a line that is to be its version. It is empty where the line has no such column, and where
     /// there is no version in the tag. Does not allocate.
     pub fn text<'a>(&self, line: &'a [u8]) -> &'a [u8]
-        ensures text { result.now ≡ text_of self.now line.now }
-        ensures version { versioning_of result.now
-            ≡ named_version self.now.naming (place_text self.now line.now) }
+        ensures { result.now ≡ text_of self.now line.now }
     {
-        self.naming
-            .text(column_text(self.column, line_text(self.crlf, line)))
+        self.naming.text(self.place_text(line))
+    }
+
+    /// Returns the version of a line: the one that this text is. Does not allocate.
+    pub fn version<'a>(&self, line: &'a [u8]) -> Option<VersioningRef<'a>>
+        ensures named { option_map plain_versioning_ref result
+            ≡ named_version self.now.naming (place_text self.now line.now) }
+        ensures read { option_map plain_versioning_ref result ≡ version_in self.now line.now }
+    {
+        self.naming.version(self.place_text(line))
+    }
+
+    // Returns the text that names the version of a line.
+    fn place_text<'a>(&self, line: &'a [u8]) -> &'a [u8]
+        ensures { result.now ≡ place_text self.now line.now }
+    {
+        column_text(self.column, line_text(self.crlf, line))
     }
 }
 
 impl Naming<'_> {
     // Returns the text of the version in a text.
     fn text<'a>(&self, text: &'a [u8]) -> &'a [u8]
-        ensures text { result.now ≡ named_text self.now text.now }
-        ensures version { versioning_of result.now ≡ named_version self.now text.now }
+        ensures { result.now ≡ named_text self.now text.now }
     {
         match self {
             Naming::Bare => text,
-            Naming::Tag => rest_from(text, start_in_tag(text)),
-            Naming::Prefix(prefix) => rest_from(text, start_after_prefix(prefix.as_bytes(), text)),
+            Naming::Tag | Naming::Prefix(_) => match self.version(text) {
+                Some(version) => version.bytes(),
+                None => &[],
+            },
+        }
+    }
+
+    // Returns the version in a text.
+    fn version<'a>(&self, text: &'a [u8]) -> Option<VersioningRef<'a>>
+        ensures { option_map plain_versioning_ref result ≡ named_version self.now text.now }
+    {
+        match self {
+            Naming::Bare => VersioningRef::from_bytes(text),
+            Naming::Tag => version_in_tag(text),
+            Naming::Prefix(prefix) => version_after_prefix(prefix.as_bytes(), text),
         }
     }
 }
@@ -66,6 +92,10 @@ impl SortBy for ByVersion<'_> {
 
     fn text<'a>(&self, line: &'a [u8]) -> &'a [u8] {
         self.place.text(line)
+    }
+
+    fn version<'a>(&self, line: &'a [u8]) -> Option<VersioningRef<'a>> {
+        self.place.version(line)
     }
 
     fn is_reversed(&self) -> bool {
@@ -92,17 +122,6 @@ impl GroupBy for ByColumn {
             Some(column) => column_text(Some(column), line_text(self.crlf, line)),
             None => &[],
         }
-    }
-}
-
-// Returns the rest of a text from a place on, and nothing without one.
-fn rest_from(text: &[u8], start: Option<usize>) -> &[u8]
-    requires { IfSome start (λ place. place < length text.now) }
-    ensures { result.now ≡ option_map_or (λ place. drop place text.now) start [] }
-{
-    match start {
-        Some(start) => &text[start..],
-        None => &[],
     }
 }
 

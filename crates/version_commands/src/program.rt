@@ -1,11 +1,15 @@
 //! A run of the program over any files, reader and writer.
-ghost use Rattle.std.specs.Prelude.{◌≡◌, ◌⊎◌, ◌∷◌, [], ℕ, List, true, Ok, Some, IfErr, IfOk, OnOk};
-ghost use Rattle.std.specs.Io.KnownBytes.{Appends};
+ghost use Rattle.std.specs.Prelude.{◌≡◌, ◌∷◌, [], false, true, None, Ok, Some, IfErr, IfOk, OnOk};
 ghost use Rattle.version_commands.specs.Cause.{ComesOf, ComesOfChanges};
 ghost use Rattle.version_commands.specs.Compare.{comparison_line};
 ghost use Rattle.version_commands.specs.Difference.{difference_line};
-ghost use Rattle.version_commands.specs.Fault.{first_wrong, ComesOfTest, ComesOfWords, ComesOfWrongWords, FailsAt, KeepsBeforeWriting, NotOfWriting};
-ghost use Rattle.version_commands.specs.Output.{AreChanges, HasWhatItNeeds, IsLineOfTwo, IsOutput};
+ghost use Rattle.version_commands.specs.Ends.{Ends};
+ghost use Rattle.version_commands.specs.Fault.{first_wrong, ComesOfTest, ComesOfWords};
+ghost use Rattle.version_commands.specs.Files.{Leaves};
+ghost use Rattle.version_commands.specs.Inputs.{reads_standard};
+ghost use Rattle.version_commands.specs.Lists.{names_of};
+ghost use Rattle.version_commands.specs.Output.{asks_reader, file_of, AreChanges, IsLineOfTwo, IsOutput};
+ghost use Rattle.version_commands.specs.Run.{RunsBy};
 ghost use Rattle.version_lines.specs.Lines.{line_feed};
 ghost use Rattle.version_lines.specs.Run.{unless_version};
 ghost use Rattle.version_rules.specs.Versioning.{versioning_of};
@@ -41,17 +45,16 @@ pub fn run<F: Files, R: Read, W: Write>(
     reader: &mut R,
     writer: &mut W,
 ) -> Result<(), Fault>
-    ensures at_fault { IfErr result
-        (KeepsBeforeWriting (W.contents writer.old) (W.contents writer.new)) }
-    ensures faults { IfErr result (λ fault. ComesOfWrongWords fault
-        ⊎ (task : Task) × ComesOf task (F.holds files.old) (R.remaining reader.old) fault) }
+    ensures { RunsBy F.reads F.puts R.remaining files.old files.new reader.old reader.new
+        (W.contents writer.old) (W.contents writer.new) result }
 {
     let task = read_words(alloc, words)?;
     serve(alloc, &task, files, reader, writer)
 }
 
-/// Does a task. What it writes is `IsOutput` of the task and of what the files and the reader hold. At a fault the writer
-/// got nothing, or a proper beginning if it takes no more.
+/// Does a task. What it writes is `IsOutput` of the task and of what its files and the reader hold, and a fault
+/// `ComesOf` the same. At a fault the writer got nothing, or a proper beginning if it takes no more. A task that doesn't
+/// read standard input leaves the reader as it is, and one that names no file for lines without a version the files.
 pub fn serve<F: Files, R: Read, W: Write>(
     alloc: Global,
     task: &Task<'_>,
@@ -59,60 +62,47 @@ pub fn serve<F: Files, R: Read, W: Write>(
     reader: &mut R,
     writer: &mut W,
 ) -> Result<(), Fault>
-    ensures written { OnOk result ((output : List ℕ) × IsOutput task.now (F.holds files.old)
-        (R.remaining reader.old) (R.remaining reader.new) output
-        × Appends (W.contents writer.old) (W.contents writer.new) output) }
-    ensures good { OnOk result (HasWhatItNeeds task.now (F.holds files.old)
-        (R.remaining reader.old) (R.remaining reader.new)) }
-    ensures at_fault { IfErr result (FailsAt (IsOutput task.now (F.holds files.old)
-        (R.remaining reader.old) (R.remaining reader.new))
-        (W.contents writer.old) (W.contents writer.new)) }
-    ensures faults { IfErr result (ComesOf task.now (F.holds files.old) (R.remaining reader.old)) }
+    ensures ends { Ends (IsOutput task.now (F.reads files.old) (R.remaining reader.old)
+        (R.remaining reader.new) (Leaves F.puts files.old files.new))
+        (ComesOf task.now (F.reads files.old) (R.remaining reader.old))
+        (W.contents writer.old) (W.contents writer.new) result }
+    ensures unread { asks_reader task.now ≡ false → reader.new ≡ reader.old }
+    ensures files { file_of task.now ≡ None → files.new ≡ files.old }
 {
-    match task {
+    let output = match task {
         Task::Lines(arrangement, options) => {
-            serve_lines(alloc, *arrangement, options, files, reader, writer)
+            return serve_lines(alloc, *arrangement, options, files, reader, writer);
         }
-        Task::Each(question, options) => {
-            let output = answer_each(alloc, *question, options, reader)?;
-            write_answer(writer, output.as_slice())
-        }
+        Task::Say(text) => return write_answer(writer, text.as_bytes()),
+        Task::Each(question, options) => answer_each(alloc, *question, options, reader)?,
         Task::TestTwo(first, operator, second) => {
-            settle(alloc, test_two(first, *operator, second), first, second)
+            settle(alloc, test_two(first, *operator, second), first, second)?
         }
-        Task::TestList(version, list) => settle(alloc, test_list(version, list), version, list),
+        Task::TestList(version, list) => settle(alloc, test_list(version, list), version, list)?,
         Task::Compare {
             first,
             second,
             explain,
-        } => {
-            let output = comparison(alloc, first, second, *explain)?;
-            write_answer(writer, output.as_slice())
-        }
-        Task::Difference(first, second) => {
-            let output = difference(alloc, first, second)?;
-            write_answer(writer, output.as_slice())
-        }
-        Task::Lists(lists) => {
-            let output = changes(alloc, lists, files, reader)?;
-            write_answer(writer, output.as_slice())
-        }
-        Task::Say(text) => write_answer(writer, text.as_bytes()),
-    }
+        } => comparison(alloc, first, second, *explain)?,
+        Task::Difference(first, second) => difference(alloc, first, second)?,
+        Task::Lists(lists) => changes(alloc, lists, files, reader)?,
+    };
+    write_answer(writer, output.as_slice())
 }
 
-// Ends `test` by its answer, or with the word that is wrong.
+// Ends `test` by its answer, of which nothing is written, or with the word that is wrong.
 fn settle(
     alloc: Global,
     answer: Result<bool, WrongWord>,
     first: &str,
     second: &str,
-) -> Result<(), Fault>
+) -> Result<Vec<u8>, Fault>
     ensures yes { OnOk result (answer ≡ Ok true) }
+    ensures nothing { IfOk result (λ output. output.items ≡ []) }
     ensures faults { IfErr result (ComesOfTest answer first.now second.now) }
 {
     match answer {
-        Ok(true) => Ok(()),
+        Ok(true) => Ok(Vec::new(alloc)),
         Ok(false) => Err(Fault::Untrue),
         Err(WrongWord::First) => Err(Fault::NotTested(quoted(alloc, first.as_bytes())?)),
         Err(WrongWord::Second) => Err(Fault::NotTested(quoted(alloc, second.as_bytes())?)),
@@ -163,10 +153,10 @@ fn changes<F: Files, R: Read>(
     files: &F,
     reader: &mut R,
 ) -> Result<Vec<u8>, Fault>
-    ensures output { IfOk result (λ output. AreChanges lists.now (F.holds files.now)
+    ensures output { IfOk result (λ output. AreChanges lists.now (F.reads files.now)
         (R.remaining reader.old) (R.remaining reader.new) output.items) }
-    ensures unwritten { IfErr result NotOfWriting }
-    ensures faults { IfErr result (ComesOfChanges lists.now (F.holds files.now)) }
+    ensures unread { reads_standard (names_of lists.now) ≡ false → reader.new ≡ reader.old }
+    ensures faults { IfErr result (ComesOfChanges lists.now (F.reads files.now) (R.remaining reader.old)) }
 {
     let old = read_inputs(alloc, &[lists.old], lists.end, files, reader)?;
     let new = read_inputs(alloc, &[lists.new], lists.end, files, reader)?;

@@ -1,8 +1,11 @@
 //! Writing what a command answers.
-ghost use Rattle.std.specs.Prelude.{◌≡◌, ◌++◌, [], None, map, IfErr, IfOk, IfSome, OnErr, OnOk};
+ghost use Rattle.std.specs.Prelude.{◌≡◌, ◌++◌, [], None, map, IfErr, IfOk, OnErr, OnOk};
 ghost use Rattle.std.specs.Io.KnownBytes.{Appends};
 ghost use Rattle.version_commands.specs.Arranged.{placed, policy};
-ghost use Rattle.version_commands.specs.Fault.{ComesOfFiles, ComesOfWriting, GrowsAt};
+ghost use Rattle.version_commands.specs.Ends.{Ends};
+ghost use Rattle.version_commands.specs.Fault.{ComesOfPut};
+ghost use Rattle.version_commands.specs.Files.{Leaves};
+ghost use Rattle.version_commands.specs.Ordered.{put_of, IsPlaced};
 ghost use Rattle.version_lines.specs.Lines.{lines_output, whole_line};
 ghost use Rattle.version_lines.specs.Output.{AppendsProperBeginning, AppendsUpTo};
 
@@ -27,16 +30,10 @@ pub fn write_lines<L: Rows, F: Files, W: Write>(
     files: &mut F,
     writer: &mut W,
 ) -> Result<(), Fault>
-    ensures written { OnOk result (Appends (W.contents writer.old) (W.contents writer.new)
-        (lines_output (whole_line options.now.end) (placed (policy options.now)
-        (map (λ line. line.now) bad.now.lines.items) (L.lines rows.now)))) }
-    ensures put { OnOk result (IfSome options.now.invalid_to (λ name. (before : F)
-        × F.puts before files.new name.now (lines_output (whole_line options.now.end)
-        (map (λ line. line.now) bad.now.lines.items)))) }
-    ensures at_fault { IfErr result (GrowsAt (W.contents writer.old) (W.contents writer.new)
-        (lines_output (whole_line options.now.end) (placed (policy options.now)
-        (map (λ line. line.now) bad.now.lines.items) (L.lines rows.now)))) }
-    ensures faults { IfErr result ComesOfWriting }
+    ensures ends { Ends (IsPlaced options.now (map (λ line. line.now) bad.now.lines.items)
+        (L.lines rows.now) (Leaves F.puts files.old files.new)) (ComesOfPut options.now)
+        (W.contents writer.old) (W.contents writer.new) result }
+    ensures files { options.now.invalid_to ≡ None → files.new ≡ files.old }
 {
     let mut buffer = make_buffer(alloc)?;
     put_bad(alloc, options, bad, files)?;
@@ -116,10 +113,10 @@ fn put_bad<F: Files>(
     bad: &BadLines<'_>,
     files: &mut F,
 ) -> Result<(), Fault>
-    ensures put { OnOk result (IfSome options.now.invalid_to (λ name. (before : F)
-        × F.puts before files.new name.now (lines_output (whole_line options.now.end)
-        (map (λ line. line.now) bad.now.lines.items)))) }
-    ensures faults { IfErr result ComesOfFiles }
+    ensures put { OnOk result (Leaves F.puts files.old files.new
+        (put_of options.now (map (λ line. line.now) bad.now.lines.items))) }
+    ensures files { options.now.invalid_to ≡ None → files.new ≡ files.old }
+    ensures faults { IfErr result (ComesOfPut options.now) }
 {
     let Some(name) = options.invalid_to else {
         return Ok(());
@@ -147,10 +144,8 @@ fn joined_lines(alloc: Global, end: u8, lines: &[&[u8]]) -> Result<Vec<u8>, Allo
 
 /// Writes an answer that was gathered.
 pub fn write_answer<W: Write>(writer: &mut W, answer: &[u8]) -> Result<(), Fault>
-    ensures written { OnOk result (Appends (W.contents writer.old) (W.contents writer.new) answer.now) }
-    ensures at_fault { IfErr result
-        (GrowsAt (W.contents writer.old) (W.contents writer.new) answer.now) }
-    ensures faults { IfErr result (λ fault. fault ≡ Fault.Write None) }
+    ensures { Ends (λ output. output ≡ answer.now) (λ _. ⊥)
+        (W.contents writer.old) (W.contents writer.new) result }
 {
     match write_whole(writer, answer) {
         Ok(()) => Ok(()),

@@ -3,7 +3,7 @@ use Rattle.std.specs.Prelude.{◌≡◌, ◌<◌, ◌≤◌, ◌+◌, ℕ, List,
 use Rattle.std.specs.List.{All, AllPairs}
 use Rattle.std.specs.Ordering.{nat_cmp, on, then_cmp}
 use Rattle.std.specs.declared.cmp.Ordering.{Ordering}
-use Rattle.version_lines.specs.Head.{behind_heads_cmp, head_number}
+use Rattle.version_texts.specs.Head.{behind_heads_cmp, head_number}
 use Rattle.version_lines.specs.declared.sort.entry.Entry.{Entry}
 use Rattle.version_rules.specs.Key.{key_of}
 use Rattle.version_rules.specs.KeyBytes.{key_bytes}

@@ -5,7 +5,6 @@ pub mod Comparison
 pub mod Entry
 pub mod Fault
 pub mod Grouped
-pub mod Head
 pub mod Input
 pub mod KeyedLines
 pub mod Lines

@@ -55,7 +55,7 @@ pub fn stability_of(version: &VersioningRef<'_>) -> Stability
 fn counted_text<'a>(version: &VersioningRef<'a>) -> &'a [u8]
     ensures { result.now ≡ counted_text (plain_versioning_ref version.now) }
 {
-    let text = version.text().as_bytes();
+    let text = version.bytes();
     match version.place(Field::Metadata) {
         Some((start, _)) => &text[..start - 1],
         None => text,
@@ -67,7 +67,7 @@ fn pre_release_text<'a>(version: &VersioningRef<'a>) -> &'a [u8]
     ensures { result.now ≡ pre_release_text (plain_versioning_ref version.now) }
 {
     match version.place(Field::PreRelease) {
-        Some((start, end)) => &version.text().as_bytes()[start..end],
+        Some((start, end)) => &version.bytes()[start..end],
         None => &[],
     }
 }

@@ -50,7 +50,7 @@ pub fn start_in_tag(tag: &[u8]) -> Option<usize>
     ensures within { IfSome result (λ start. start < length tag.now) }
 {
     let version = version_in_tag(tag)?;
-    Some(tag.len() - version.text().len())
+    Some(tag.len() - version.bytes().len())
 }
 
 /// Returns where the version after a prefix of a tag begins, as `version_after_prefix` finds it. None if there is none.
@@ -63,7 +63,7 @@ pub fn start_after_prefix(prefix: &[u8], tag: &[u8]) -> Option<usize>
     ensures within { IfSome result (λ start. start < length tag.now) }
 {
     let version = version_after_prefix(prefix, tag)?;
-    Some(tag.len() - version.text().len())
+    Some(tag.len() - version.bytes().len())
 }
 
 // The rest of a tag from the digit on where its version begins.

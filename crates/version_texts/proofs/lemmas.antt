@@ -7,6 +7,7 @@ pub mod Field
 pub mod FirstFailing
 pub mod Inexact
 pub mod General
+pub mod Head
 pub mod KeyRoom
 pub mod KeyTies
 pub mod Matching

@@ -1,13 +1,11 @@
 -- What sinks become as bytes are written.
-use Rattle.std.specs.Prelude.{◌≡◌, ℕ, Bool, true, false, zero, suc, ◌+◌, ◌-◌, ◌^◌, ◌<◌, ◌≤◌, min, List, [], ◌∷◌, ◌++◌, length, refl}
+use Rattle.std.specs.Prelude.{◌≡◌, ℕ, zero, suc, ◌+◌, ◌-◌, ◌^◌, ◌<◌, ◌≤◌, min, List, [], ◌∷◌, ◌++◌, length, refl}
 use Rattle.std.specs.Ordering.{ordering_then}
 use Rattle.std.specs.declared.cmp.Ordering.{Ordering}
-use Rattle.std.specs.declared.cmp.Ordering.TheVariants.{Less}
 use Rattle.std.proofs.Common.{◌∙◌, ap, append_assoc, arith, sym}
 use Rattle.std.proofs.lemmas.List.{length-append}
 use Rattle.version_rules.specs.Lists.{bytes_cmp}
 use Rattle.version_texts.specs.declared.sinks.Beside.{Beside}
-use Rattle.version_texts.specs.declared.sinks.Between.{Between}
 use Rattle.version_texts.specs.declared.sinks.Count.{Count}
 use Rattle.version_texts.specs.declared.sinks.Room.{Room}
 
@@ -125,14 +123,3 @@ room_then first middle xs ys h fits =
 -- how the bytes written and more compare with the given bytes
 abbrev pub order_with : Beside → List ℕ → Ordering
 order_with beside more = ordering_then beside.order (bytes_cmp more beside.left.now)
-
--- whether bytes that compare so with a low and a high bound are at least the low and below the high
--- one
-abbrev pub is_between : Ordering → Ordering → Bool
-is_between Less high = false
-is_between low Less = true
-is_between low high = false
-
--- the same of the bytes written and more
-abbrev pub between_with : Between → List ℕ → Bool
-between_with bounds more = is_between (order_with bounds.low more) (order_with bounds.high more)

@@ -323,23 +323,6 @@ pub fn put_key<S: Sink>(sink: &mut S, text: &[u8], shape: Shape)
     }
 }
 
-// Writes the key of a version into a sink, and returns the sink. The tail has a sink of its own: so the compiler keeps
-// both in registers.
-#[inline(always)]
-pub(crate) fn with_key<S: Sink>(sink: S, text: &[u8], shape: Shape) -> S
-    requires shape { Fits text.now shape }
-    requires fits { S.fits sink (key_bytes (text_key text.now shape)) }
-    ensures { S.takes sink (key_bytes (text_key text.now shape)) result }
-{
-    let mut front = sink;
-    if !put_front(&mut front, text, shape) {
-        return front;
-    }
-    let mut tail = front;
-    put_tail(&mut tail, shape.tail, tail_at(text, shape));
-    tail
-}
-
 // Writes the epoch and the body of a key. Returns whether the tail has to follow: not if the sink is decided.
 #[inline(always)]
 pub(crate) fn put_front<S: Sink>(sink: &mut S, text: &[u8], shape: Shape) -> bool

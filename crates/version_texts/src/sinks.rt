@@ -6,7 +6,7 @@ ghost use Rattle.version_rules.specs.KeyBytes.{key_bytes};
 ghost use Rattle.version_rules.specs.Lists.{bytes_cmp};
 ghost use Rattle.version_rules.specs.Tail.{tail_bytes};
 ghost use Rattle.version_texts.specs.Shape.{tail_in, Fits};
-ghost use Rattle.version_texts.specs.Sinks.{between_with, count_with, leads_both, leads_none, order_with, put_at, room_both, room_first, room_none, room_then, FitsRoom, Leads, TakesRoom};
+ghost use Rattle.version_texts.specs.Sinks.{count_with, leads_both, leads_none, order_with, put_at, room_both, room_first, room_none, room_then, FitsRoom, Leads, TakesRoom};
 ghost use Rattle.version_texts.specs.TextKey.{tail_of, text_key};
 
 use crate::key::{put_front, put_tail, tail_at};
@@ -149,50 +149,8 @@ impl<'a> Beside<'a> {
     }
 }
 
-// Two comparisons of the bytes written, with a low and a high bound.
-#[derive(Drop)]
-pub(crate) struct Between<'a> {
-    pub(crate) low: Beside<'a>,
-    pub(crate) high: Beside<'a>,
-}
-
-impl<'a> Sink for Between<'a> {
-    ghost takes = { Leads between_with };
-
-    ghost fits = { λ _ _. ⊤ };
-
-    #[inline(always)]
-    fn put(&mut self, byte: u8) {
-        self.low.put(byte);
-        self.high.put(byte);
-    }
-
-    #[inline(always)]
-    fn is_decided(&self) -> bool {
-        self.low.is_decided() && self.high.is_decided()
-    }
-
-    ghost fits_first = { λ _ _ _ _. tt };
-
-    ghost fits_then = { λ _ _ _ _ _ _. tt };
-
-    ghost takes_none = { leads_none between_with };
-
-    ghost takes_both = { leads_both between_with };
-}
-
-impl<'a> Between<'a> {
-    // Whether all bytes written are at least the low bound and below the high one.
-    #[inline(always)]
-    pub(crate) fn is_between(&self) -> bool
-        ensures { result ≡ between_with self.now [] }
-    {
-        self.low.order() != Ordering::Less && self.high.order() == Ordering::Less
-    }
-}
-
-// Writes the key of a version into a buffer from a place on, and returns the place after it. Its tail has a sink of its
-// own: so the compiler keeps both in registers.
+// Writes the key of a version into a buffer from a place on, and returns the place after it. The tail has a sink of its
+// own, here and in a comparison: so the compiler keeps both in registers.
 #[inline(always)]
 pub(crate) fn write_key(text: &[u8], shape: Shape, room: &mut [u8], start: usize) -> usize
     requires shape { Fits text.now shape }
@@ -220,6 +178,24 @@ fn write_tail(text: &[u8], shape: Shape, room: &mut [u8], start: usize) -> usize
     let mut sink = Room { room, end: start };
     put_tail(&mut sink, shape.tail, tail_at(text, shape));
     sink.end
+}
+
+// Compares the key of a version with given bytes, up to the first difference.
+#[inline(always)]
+pub(crate) fn compare_key(text: &[u8], shape: Shape, bytes: &[u8]) -> Ordering
+    requires { Fits text.now shape }
+    ensures { result ≡ bytes_cmp (key_bytes (text_key text.now shape)) bytes.now }
+{
+    let mut front = Beside {
+        left: bytes,
+        order: Ordering::Equal,
+    };
+    if !put_front(&mut front, text, shape) {
+        return front.order();
+    }
+    let mut tail = front;
+    put_tail(&mut tail, shape.tail, tail_at(text, shape));
+    tail.order()
 }
 
 /// Compares an end of a range with given bytes, up to the first difference.

@@ -18,7 +18,7 @@ use crate::order::ties;
 use crate::scan::scan;
 use crate::shape::{Shape, TailKind};
 use crate::sink::Sink;
-use crate::sinks::{Beside, Between, Count, Room};
+use crate::sinks::{Count, Room};
 use crate::{key, matching, numbers, order, range, sinks};
 use std::alloc::AllocError;
 use std::cmp::Ordering;
@@ -47,7 +47,7 @@ impl<'a> VersioningRef<'a> {
     ghost use Rattle.version_rules.specs.Versioning.{is_prerelease, versioning_nth, versioning_of, versioning_plain_cmp, versioning_text};
     ghost use Rattle.version_texts.specs.Difference.{difference_of};
     ghost use Rattle.version_texts.specs.Field.{epoch_and_parts, field_place};
-    ghost use Rattle.version_texts.specs.Sinks.{is_between, saturated, IsWritten};
+    ghost use Rattle.version_texts.specs.Sinks.{saturated, IsWritten};
     ghost use Rattle.version_texts.specs.VersioningRef.{major_text, plain_versioning_ref};
 
     /// Parses the whole text as a strict version, else as a general, else as a messy one; returns None if it does not
@@ -92,6 +92,15 @@ impl<'a> VersioningRef<'a> {
         ensures read { versioning_of result.now ≡ Some (plain_versioning_ref self.now) }
     {
         str::from_utf8(self.text).unwrap()
+    }
+
+    /// Returns the bytes of its text. Does not allocate.
+    #[inline(always)]
+    pub fn bytes(&self) -> &'a [u8]
+        ensures printed { result.now ≡ versioning_text (plain_versioning_ref self.now) }
+        ensures read { versioning_of result.now ≡ Some (plain_versioning_ref self.now) }
+    {
+        self.text
     }
 
     // Returns the major number of a strict version as its text has it, and the dot behind it. Empty for other kinds.
@@ -209,15 +218,6 @@ impl<'a> VersioningRef<'a> {
         }
     }
 
-    // Writes the bytes of its key into a sink, and returns the sink.
-    #[inline(always)]
-    fn with_key<S: Sink>(&self, sink: S) -> S
-        requires { S.fits sink (key_bytes (key_of (plain_versioning_ref self.now))) }
-        ensures { S.takes sink (key_bytes (key_of (plain_versioning_ref self.now))) result }
-    {
-        key::with_key(sink, self.text, self.shape)
-    }
-
     /// Writes the bytes of its key into a buffer from a place on, if they fit there, and returns the place after them.
     /// Does not allocate.
     #[inline(always)]
@@ -246,31 +246,7 @@ impl<'a> VersioningRef<'a> {
         ensures { result ≡ bytes_cmp (key_bytes (key_of (plain_versioning_ref self.now)))
             bytes.now }
     {
-        let sink = Beside {
-            left: bytes,
-            order: Ordering::Equal,
-        };
-        self.with_key(sink).order()
-    }
-
-    /// Returns whether the bytes of its key are at least the low bound and below the high one. Does not allocate.
-    #[inline(always)]
-    pub fn has_key_between(&self, low: &[u8], high: &[u8]) -> bool
-        ensures { result
-            ≡ is_between (bytes_cmp (key_bytes (key_of (plain_versioning_ref self.now))) low.now)
-            (bytes_cmp (key_bytes (key_of (plain_versioning_ref self.now))) high.now) }
-    {
-        let sink = Between {
-            low: Beside {
-                left: low,
-                order: Ordering::Equal,
-            },
-            high: Beside {
-                left: high,
-                order: Ordering::Equal,
-            },
-        };
-        self.with_key(sink).is_between()
+        sinks::compare_key(self.text, self.shape, bytes)
     }
 
     /// Returns whether its key is at least the low bound, and below the high one, if there is one, and its kind is one
@@ -284,10 +260,13 @@ impl<'a> VersioningRef<'a> {
         if !kinds.has(self.shape.kind) {
             return false;
         }
-        match high {
-            Some(high) => self.has_key_between(low, high),
-            None => self.compare_key(low).is_ge(),
+        // The high bound first: it alone decides on what is above the range.
+        if let Some(high) = high {
+            if self.compare_key(high).is_ge() {
+                return false;
+            }
         }
+        self.compare_key(low).is_ge()
     }
 
     /// Appends the bytes of an end of a range of its key to a list. `Err` means allocation failure; the list is then

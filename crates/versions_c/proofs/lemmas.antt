@@ -1,4 +1,3 @@
-pub mod Bytes
 pub mod Inexact
 pub mod Keys
 pub mod Matching

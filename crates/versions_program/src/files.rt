@@ -11,9 +11,9 @@ pub struct SystemFiles<'r> {
 }
 
 impl Files for SystemFiles<'_> {
-    ghost use Rattle.std.specs.Prelude.{⊤, None};
+    ghost use Rattle.std.specs.Prelude.{⊤};
 
-    ghost holds = { λ _ _. None };
+    ghost reads = { λ _ _ _. ⊤ };
 
     ghost puts = { λ _ _ _ _. ⊤ };
 
@@ -38,7 +38,7 @@ impl Files for SystemFiles<'_> {
         }
     }
 
-    fn tell(&mut self, stage: Stage) {
+    fn tell(&self, stage: Stage) {
         let _ = match stage {
             Stage::Read(bytes) => eprintln!(self.rt; "versions: {bytes} bytes read"),
             Stage::Kept(lines) => eprintln!(self.rt; "versions: {lines} lines kept"),

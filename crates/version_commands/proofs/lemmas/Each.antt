@@ -1,12 +1,12 @@
 -- Answers that follow one another, and the texts that are asked.
-use Rattle.std.proofs.Common.{◌≡◌, ◌+◌, ◌<◌, ◌≤◌, ℕ, Bool, true, false, Bor, List, [], ◌∷◌, ◌++◌, length, take, drop, get_or, map, Option, None, Some, IsSome, refl, sym, subst, ap, ◌∙◌, arith, append-nil, append_assoc}
+use Rattle.std.proofs.Common.{◌≡◌, ◌+◌, ◌<◌, ◌≤◌, ℕ, Bool, true, false, Bor, List, [], ◌∷◌, ◌++◌, length, take, codes, drop, get_or, map, Option, None, Some, IsSome, refl, sym, subst, ap, ◌∙◌, arith, append-nil, append_assoc}
 use Rattle.std.specs.Io.KnownBytes.{Consumes, IsAtEnd}
 use Rattle.std.specs.List.{All}
 use Rattle.std.proofs.lemmas.List.{map-append, map_push, take-append-drop}
 use Rattle.std.proofs.lemmas.List.Elements.{All-push}
 use Rattle.version_commands.specs.Cause.{ComesOfAnswering, ComesOfAsking, HasNoNext, QuotesFirstWithoutNext}
 use Rattle.version_commands.specs.Each.{AreAnswered, AreLineTexts, AreTexts, AreTextsOf, IsAnswer}
-use Rattle.version_commands.specs.Fault.{ComesOfBad, ComesOfLines}
+use Rattle.version_commands.specs.Fault.{ComesOfBad, ComesOfLines, ComesOfName}
 use Rattle.version_commands.specs.Picked.{bad_lines, good_before, AreBadOf}
 use Rattle.version_commands.specs.Pieces.{Adds}
 use Rattle.version_commands.specs.Place.{line_text}
@@ -20,8 +20,7 @@ use Rattle.version_commands.specs.declared.options.Question.TheVariants.{Show, J
 use Rattle.version_commands.specs.declared.pick.BadLines.{BadLines}
 use Rattle.version_lines.specs.Lines.{lines_of}
 use Rattle.version_lines.specs.Sort.{is_bad}
-use Rattle.version_rules.proofs.lemmas.Versioning.{versioning_of-spells, versioning_printed}
-use Rattle.version_rules.specs.Versioning.{PlainVersioning, versioning_of, versioning_text}
+use Rattle.version_rules.specs.Versioning.{PlainVersioning, versioning_of}
 use Rattle.version_commands.proofs.lemmas.Fault.{bad-cases, lines-bad}
 use Rattle.version_commands.proofs.lemmas.Pieces.{texts-next}
 use Rattle.version_commands.proofs.lemmas.Picked.{IsPicked, all-kept, picked-bad, picked-end, picked-kept, picked-start}
@@ -229,3 +228,18 @@ asking-lines question options old new input none read end =
     (good_before (line_text options.crlf) (lines_of options.end input))
     (bad_lines (line_text options.crlf) (lines_of options.end input)) tt
     (λ number text ends more is. (none, new, input, read, end, is))
+
+-- standard input can't be read, which is asked for without words
+pub asking-name : (question : Question) (options : EachOptions) (old : Option (List ℕ))
+    → options.versions.items ≡ [] → (fault : Fault) → ComesOfName (codes "-") fault
+    → ComesOfAsking question options old fault
+asking-name question options old none (Usage text) is = absurd is
+asking-name question options old none (NotVersion text) is = absurd is
+asking-name question options old none (NotRequirement text) is = absurd is
+asking-name question options old none (NotTested text) is = absurd is
+asking-name question options old none (BadLine number text ends more) is = absurd is
+asking-name question options old none (NoNext text) is = absurd is
+asking-name question options old none Untrue is = absurd is
+asking-name question options old none Memory is = is
+asking-name question options old none (Read name) is = (none, is)
+asking-name question options old none (Write to) is = absurd is

@@ -1,27 +1,13 @@
 -- What is written at a fault, and what it comes of.
-use Rattle.std.proofs.Common.{◌≡◌, ℕ, zero, Bool, List, [], ◌∷◌, Option, None, Some, String, Global, string_bytes, arith, refl, subst}
-use Rattle.version_commands.specs.Fault.{ComesOfBad, ComesOfBadAfter, ComesOfLines, ComesOfReading, FailsAt, GrowsAt}
+use Rattle.std.proofs.Common.{ℕ, Bool, List, String, Global, subst}
+use Rattle.version_commands.specs.Fault.{ComesOfBad, ComesOfBadAfter, ComesOfLines, ComesOfReading}
 use Rattle.version_commands.specs.Picked.{bad_lines, AreBadOf}
-use Rattle.version_commands.specs.Quote.{quoted, QuotesOneOf}
+use Rattle.std.specs.List.{Contains}
+use Rattle.version_commands.specs.Inputs.{Reading}
 use Rattle.version_commands.specs.declared.options.Invalid.{Invalid}
 use Rattle.version_commands.specs.declared.pick.BadLines.{BadLines}
 use Rattle.version_commands.specs.declared.faults.Fault.{Fault}
 use Rattle.version_commands.specs.declared.faults.Fault.TheVariants.{Usage, NotVersion, NotRequirement, NotTested, BadLine, NoNext, Untrue, Memory, Read, Write}
-
--- an output that could not be written is one of those that may be
-pub fails-grown : (IsOutput : List ℕ → Type 0) (old new : Option (List ℕ)) (output : List ℕ)
-    (fault : Fault) → IsOutput output → GrowsAt old new output fault → FailsAt IsOutput old new fault
-fails-grown IsOutput old new output (Usage text) is grows = grows
-fails-grown IsOutput old new output (NotVersion text) is grows = grows
-fails-grown IsOutput old new output (NotRequirement text) is grows = grows
-fails-grown IsOutput old new output (NotTested text) is grows = grows
-fails-grown IsOutput old new output (BadLine number text ends more) is grows = grows
-fails-grown IsOutput old new output (NoNext text) is grows = grows
-fails-grown IsOutput old new output Untrue is grows = grows
-fails-grown IsOutput old new output Memory is grows = grows
-fails-grown IsOutput old new output (Read name) is grows = grows
-fails-grown IsOutput old new output (Write (Some name)) is grows = grows
-fails-grown IsOutput old new output (Write None) is grows = (output, is, grows)
 
 -- the faults of lines without a version, by the lines themselves
 pub lines-bad : (invalid : Invalid) (crlf : Bool) (at : List ℕ → List ℕ) (lines : List (List ℕ))
@@ -51,22 +37,28 @@ bad-cases Follows policy crlf before bad memory line Memory is = memory
 bad-cases Follows policy crlf before bad memory line (Read name) is = absurd is
 bad-cases Follows policy crlf before bad memory line (Write name) is = absurd is
 
--- what a message shows of the one text
-pub quotes-one : (text shown : List ℕ) → shown ≡ quoted text → QuotesOneOf (text ∷ []) shown
-quotes-one text shown is = (text, (zero, omega arith, refl), is)
-
 -- What follows from refused memory, and from an input that can't be read, follows from each fault of
 -- reading.
-pub reading-cases : (Follows : Fault → Type 0) (names : List (List ℕ)) → Follows Memory
-    → ((name : String Global) → QuotesOneOf names (string_bytes name) → Follows (Read name))
-    → (fault : Fault) → ComesOfReading names fault → Follows fault
-reading-cases Follows names memory read (Usage text) is = absurd is
-reading-cases Follows names memory read (NotVersion text) is = absurd is
-reading-cases Follows names memory read (NotRequirement text) is = absurd is
-reading-cases Follows names memory read (NotTested text) is = absurd is
-reading-cases Follows names memory read (BadLine number text ends more) is = absurd is
-reading-cases Follows names memory read (NoNext text) is = absurd is
-reading-cases Follows names memory read Untrue is = absurd is
-reading-cases Follows names memory read Memory is = memory
-reading-cases Follows names memory read (Read name) is = read name is
-reading-cases Follows names memory read (Write name) is = absurd is
+pub reading-cases : (Follows : Fault → Type 0) (reads : Reading) (names : List (List ℕ))
+    → Follows Memory
+    → ((name : String Global) → ComesOfReading reads names (Read name) → Follows (Read name))
+    → (fault : Fault) → ComesOfReading reads names fault → Follows fault
+reading-cases Follows reads names memory read (Usage text) is = absurd is
+reading-cases Follows reads names memory read (NotVersion text) is = absurd is
+reading-cases Follows reads names memory read (NotRequirement text) is = absurd is
+reading-cases Follows reads names memory read (NotTested text) is = absurd is
+reading-cases Follows reads names memory read (BadLine number text ends more) is = absurd is
+reading-cases Follows reads names memory read (NoNext text) is = absurd is
+reading-cases Follows reads names memory read Untrue is = absurd is
+reading-cases Follows reads names memory read Memory is = memory
+reading-cases Follows reads names memory read (Read name) is = read name is
+reading-cases Follows reads names memory read (Write name) is = absurd is
+
+-- the faults of reading inputs of these names are those of reading inputs of others too
+pub reading-weaker : (reads : Reading) (names others : List (List ℕ))
+    → ((name : List ℕ) → Contains names name → Contains others name) → (fault : Fault)
+    → ComesOfReading reads names fault → ComesOfReading reads others fault
+reading-weaker reads names others among =
+    reading-cases (ComesOfReading reads others) reads names tt
+    (λ shown (name, refused, quotes).
+    (name, record { among = among name refused.among; failed = refused.failed }, quotes))

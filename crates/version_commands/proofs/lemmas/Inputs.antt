@@ -1,22 +1,22 @@
 -- Inputs that were read in turn.
-use Rattle.std.proofs.Common.{◌≡◌, ◌==◌, ◌<◌, ◌-◌, ℕ, zero, suc, true, List, [], ◌∷◌, ◌++◌, length, get_or, map, Option, refl, sym, subst, ap, ◌∙◌, arith, append-nil}
+use Rattle.std.proofs.Common.{◌≡◌, ◌==◌, ◌<◌, ◌-◌, ◌||◌, ℕ, zero, suc, Bool, false, true, List, [], ◌∷◌, ◌++◌, length, get_or, map, Option, refl, sym, subst, ap, ◌∙◌, arith, append-nil}
 use Rattle.std.specs.List.{slice_get, Contains}
 use Rattle.std.specs.Option.{option_map_or}
 use Rattle.std.proofs.lemmas.Grind.{flat_map-append}
 use Rattle.std.proofs.lemmas.List.{get_or-map, length-map}
-use Rattle.version_commands.specs.Inputs.{ended, ends_line, joined, AreInputs, IsInput}
+use Rattle.version_commands.specs.Inputs.{ended, ends_line, is_standard, joined, reads_standard, AreInputs, IsInput, Reading}
 
 -- one more input was read after the others
-pub inputs-push : (holds : List ℕ → Option (List ℕ)) (old now new : Option (List ℕ))
-    (names texts : List (List ℕ)) (name text : List ℕ) → AreInputs holds old now names texts
-    → IsInput holds now new name text
-    → AreInputs holds old new (names ++ name ∷ []) (texts ++ text ∷ [])
-inputs-push holds old now new [] [] name text none read =
-    (new, subst (λ (o : Option (List ℕ)). IsInput holds o new name text) none read, refl)
-inputs-push holds old now new [] (t ∷ texts) name text none read = absurd none
-inputs-push holds old now new (n ∷ names) [] name text none read = absurd none
-inputs-push holds old now new (n ∷ names) (t ∷ texts) name text (between, here, more) read =
-    (between, here, inputs-push holds between now new names texts name text more read)
+pub inputs-push : (reads : Reading) (old now new : Option (List ℕ))
+    (names texts : List (List ℕ)) (name text : List ℕ) → AreInputs reads old now names texts
+    → IsInput reads now new name text
+    → AreInputs reads old new (names ++ name ∷ []) (texts ++ text ∷ [])
+inputs-push reads old now new [] [] name text none read =
+    (new, subst (λ (o : Option (List ℕ)). IsInput reads o new name text) none read, refl)
+inputs-push reads old now new [] (t ∷ texts) name text none read = absurd none
+inputs-push reads old now new (n ∷ names) [] name text none read = absurd none
+inputs-push reads old now new (n ∷ names) (t ∷ texts) name text (between, here, more) read =
+    (between, here, inputs-push reads between now new names texts name text more read)
 
 -- the texts of one more input, as one
 pub joined-next : (end : ℕ) (texts : List (List ℕ)) (text input longer : List ℕ)
@@ -46,3 +46,17 @@ name-among f names i d inside name (zero, within, same) =
     let long : length (map f names) ≡ length names = length-map names f in
     (i, omega (arith, inside), get_or-map f names i d name inside ∙ same)
 name-among f names i d inside name (suc k, within, same) = absurd (omega (arith, within))
+
+-- where neither is so, none of both is
+either-none : (one other : Bool) → one || other ≡ false → (one ≡ false) × (other ≡ false)
+either-none true other wrong = cc wrong
+either-none false other same = (refl, same)
+
+-- where standard input is none of the inputs, the one at a place isn't
+pub none-standard : {X : Type 0} (f : X → List ℕ) (names : List X) (i : ℕ) (d : X)
+    → i < length names → reads_standard (map f names) ≡ false
+    → is_standard (f (get_or names i d)) ≡ false
+none-standard f [] i d inside none = absurd (omega (arith, inside))
+none-standard f (name ∷ names) zero d inside none = (either-none _ _ none).0
+none-standard f (name ∷ names) (suc k) d inside none =
+    none-standard f names k d (omega (arith, inside)) (either-none (is_standard (f name)) _ none).1

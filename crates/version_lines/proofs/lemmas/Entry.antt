@@ -11,7 +11,7 @@ use Rattle.std.proofs.lemmas.Cmp.{nat_cmp_total, nat_list_cmp_total, on_total, t
 use Rattle.std.proofs.lemmas.List.{drop-append-le, length-take, take-append-le, take_all}
 use Rattle.std.proofs.lemmas.List.Quantifiers.{all_pairs_push}
 use Rattle.std.proofs.lemmas.List.Sorted.{ranks_by}
-use Rattle.version_lines.specs.Head.{behind_heads_cmp, head_number}
+use Rattle.version_texts.specs.Head.{behind_heads_cmp, head_number}
 use Rattle.version_lines.specs.Entry.{entry_cmp, entry_key, entry_kind, entry_line, entry_tie, key_length, text_tie, tie_cmp, AreInTurn, HoldsKey, IsRead}
 use Rattle.version_lines.specs.Lines.{lines_output, whole_line}
 use Rattle.version_lines.specs.Sort.{line_cmp, lines_cmp}
@@ -26,7 +26,7 @@ use Rattle.version_rules.specs.Key.{key_of}
 use Rattle.version_rules.specs.KeyBytes.{key_bytes}
 use Rattle.version_rules.specs.laws.Orders.{versioning_cmp_total}
 use Rattle.version_rules.specs.Versioning.{PlainVersioning, versioning_of}
-use Rattle.version_lines.proofs.lemmas.Head.{heads_first}
+use Rattle.version_texts.proofs.lemmas.Head.{heads_first}
 use Rattle.version_lines.proofs.lemmas.KeyBytes.{key_bytes-some}
 use Rattle.version_lines.proofs.lemmas.Sorting.Places.{ties_rise-in_order}
 use Rattle.version_lines.proofs.lemmas.Sorting.{AreAlike, in_order-map, in_order-sorted}

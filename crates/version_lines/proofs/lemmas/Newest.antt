@@ -25,7 +25,7 @@ use Rattle.version_lines.specs.declared.sort.entry.Entry.{Entry}
 use Rattle.version_lines.specs.declared.sort.grouped.Grouped.{Grouped}
 use Rattle.version_lines.proofs.lemmas.FirstOfEach.{AreSame, first_of_each-map}
 use Rattle.version_lines.proofs.lemmas.Grouped.{group_total, grouped_total}
-use Rattle.version_lines.proofs.lemmas.Head.{heads_first}
+use Rattle.version_texts.proofs.lemmas.Head.{heads_first}
 use Rattle.version_lines.proofs.lemmas.Sorting.{AreAlike, below, by_test, in_order-map, in_order-permutes, in_order-sorted}
 use Rattle.version_lines.proofs.lemmas.Sorting.Ties.{length-in_order}
 use Rattle.version_rules.proofs.lemmas.OrdersLaws.{key_bytes_alone}

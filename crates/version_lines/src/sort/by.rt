@@ -1,8 +1,12 @@
 //! What lines are sorted by.
 ghost use Rattle.std.specs.Prelude.{◌≡◌, ℕ, Bool, List};
+ghost use Rattle.std.specs.Option.{option_map};
 ghost use Rattle.version_lines.specs.Sorting.{turn};
+ghost use Rattle.version_rules.specs.Versioning.{versioning_of};
+ghost use Rattle.version_texts.specs.VersioningRef.{plain_versioning_ref};
 
 use std::cmp::Ordering;
+use version_texts::VersioningRef;
 
 /// What lines are sorted by: which text in a line is its version, and whether the order is reversed.
 pub trait SortBy: Drop {
@@ -15,6 +19,11 @@ pub trait SortBy: Drop {
     /// Returns the text in a line that is to be its version.
     fn text<'a>(&self, line: &'a [u8]) -> &'a [u8]
         ensures { result.now ≡ text_of self.now line.now };
+
+    /// Returns the version of a line, or None if it has none.
+    fn version<'a>(&self, line: &'a [u8]) -> Option<VersioningRef<'a>>
+        ensures { option_map plain_versioning_ref result
+            ≡ versioning_of (text_of self.now line.now) };
 
     /// Returns whether the highest version comes first.
     fn is_reversed(&self) -> bool
@@ -35,6 +44,11 @@ impl SortBy for WholeLines {
     #[inline(always)]
     fn text<'a>(&self, line: &'a [u8]) -> &'a [u8] {
         line
+    }
+
+    #[inline(always)]
+    fn version<'a>(&self, line: &'a [u8]) -> Option<VersioningRef<'a>> {
+        VersioningRef::from_bytes(line)
     }
 
     #[inline(always)]

@@ -1,7 +1,7 @@
 //! A line as it is sorted.
 ghost use Rattle.std.specs.Prelude.{◌≡◌, ◌++◌, drop, length, IfOk, IsTrue, OnErr, OnOk};
 ghost use Rattle.std.specs.Ordering.{then_cmp};
-ghost use Rattle.version_lines.specs.Head.{behind_heads_cmp};
+ghost use Rattle.version_texts.specs.Head.{behind_heads_cmp};
 ghost use Rattle.version_lines.specs.Sorting.{turned};
 ghost use Rattle.version_rules.specs.Key.{key_of};
 ghost use Rattle.version_rules.specs.KeyBytes.{key_bytes};

@@ -1,7 +1,7 @@
 //! The first bytes of a key as a number.
 ghost use Rattle.std.specs.Prelude.{◌≡◌, ◌<◌, slice_index_or};
 ghost use Rattle.std.specs.List.{All};
-ghost use Rattle.version_lines.specs.Head.{head_number};
+ghost use Rattle.version_texts.specs.Head.{head_number};
 
 /// Returns the first eight bytes as a number. Missing bytes count as 0.
 pub fn head(bytes: &[u8]) -> u64

@@ -16,7 +16,7 @@ use Rattle.version_rules.specs.Range.{IsIn, PlainRange, bytes_of, common, earlie
 use Rattle.version_rules.specs.Requirement.{PlainRequirement, requirement_of}
 use Rattle.version_rules.specs.Requirements.{requirements_of}
 use Rattle.version_rules.specs.RequirementsRef.{before_others}
-use Rattle.version_rules.specs.Versioning.{PlainVersioning, Ideal, General, Complex}
+use Rattle.version_rules.specs.Versioning.{PlainVersioning}
 use Rattle.version_texts.proofs.lemmas.FirstFailing.{first_and_others, some_pieces}
 use Rattle.version_texts.proofs.lemmas.RangeRef.{narrowed}
 use Rattle.version_texts.specs.Conflict.{ExcludeEachOther, IsAt, IsByEnds}

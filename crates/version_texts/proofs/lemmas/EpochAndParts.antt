@@ -1,5 +1,5 @@
 -- The texts of the epoch and of the parts of a version, by the shape of its text.
-use Rattle.std.proofs.Common.{◌≡◌, ◌∙◌, ◌+◌, ◌≤◌, ℕ, List, [], ◌++◌, drop, length, take, Option, Some, None, refl, sym, ap, arith, append_assoc, append-nil, length-append}
+use Rattle.std.proofs.Common.{◌≡◌, ◌∙◌, ◌≤◌, ℕ, List, [], ◌++◌, drop, length, take, Option, Some, None, refl, sym, ap, arith, append_assoc, append-nil, length-append}
 use Rattle.std.proofs.lemmas.List.{drop_at, take_at}
 use Rattle.version_rules.specs.Body.{body_text}
 use Rattle.version_rules.specs.Conversions.{version_of_semver}

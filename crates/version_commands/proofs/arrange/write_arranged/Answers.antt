@@ -1,31 +1,30 @@
-use Rattle.std.proofs.Common.{◌≡◌, ℕ, List, IfErr, OnOk, rules, sym, subst}
-use Rattle.std.specs.Io.KnownBytes.{Appends}
-use Rattle.version_commands.specs.Arranged.{policy}
-use Rattle.version_commands.specs.Fault.{ComesOfArranged, GrowsAt}
-use Rattle.version_commands.specs.Ordered.{IsGood}
+use Rattle.std.proofs.Common.{◌≡◌, ℕ, List, rules, sym, subst}
+use Rattle.version_commands.specs.Cause.{ComesOfArranged}
+use Rattle.version_commands.specs.Choice.{is_kept}
+use Rattle.version_commands.specs.Files.{Leaves}
+use Rattle.version_commands.specs.Ordered.{arranged_in, IsArranged}
 use Rattle.version_commands.specs.Place.{text_of}
-use Rattle.version_commands.proofs.lemmas.Ordered.{ordered-alike}
+use Rattle.version_commands.proofs.lemmas.Ends.{ends-weaker}
+use Rattle.version_commands.proofs.lemmas.Ordered.{lines-alike}
 use Rattle.version_commands.proofs.arrange.write_arranged.Goals as goal
-use Rattle.version_lines.specs.Lines.{lines_of}
 
 pub returns-then-not-reverse : goal.returns-then-not-reverse
 returns-then-not-reverse g c =
     let options = c.args.options.now in
-    let result = c.write_keyed.result in
-    let before = g.W.Write.contents c.args.writer.now in
-    let after = g.W.Write.contents c.write_keyed.new.writer in
+    let input = c.args.input.now in
+    let leaves = Leaves g.F.Files.puts c.args.files.now c.write_keyed.new.files in
     let whole = c.is_whole.ensures (search rules) in
     let text : (λ (line : List ℕ). line) ≡ text_of options.place = sym (λ i line. whole line i) in
-    let same = ordered-alike options c.args.chooser.now c.args.arrangement c.args.input.now whole
+    let lines = arranged_in (text_of options.place) (is_kept c.args.chooser.now) c.args.arrangement
+    options input in
+    let same = lines-alike options c.args.chooser.now c.args.arrangement input whole
     (c.keeps_all.ensures (search rules)) in
     record {
-      written = subst (λ (output : List ℕ). OnOk result (Appends before after output)) same
-          c.write_keyed.ensures.written;
-      good = subst (λ (text : List ℕ → List ℕ). OnOk result (IsGood text options c.args.input.now)) text
-          c.write_keyed.ensures.good;
-      at_fault = subst (λ (output : List ℕ). IfErr result (GrowsAt before after output)) same
-          c.write_keyed.ensures.at_fault;
-      faults = subst (λ (text : List ℕ → List ℕ). IfErr result (ComesOfArranged (policy options)
-          options.place.crlf text (lines_of options.end c.args.input.now))) text
-          c.write_keyed.ensures.faults;
+      ends = ends-weaker _ _ _ _ _ _ c.write_keyed.result
+          (λ output is. subst (λ (at : List ℕ → List ℕ). IsArranged at options input lines leaves output)
+          text (subst (λ (l : List (List ℕ)).
+          IsArranged (λ line. line) options input l leaves output) same is))
+          (λ fault. subst (λ (at : List ℕ → List ℕ). ComesOfArranged options at input fault) text)
+          c.write_keyed.ensures.ends;
+      files = c.write_keyed.ensures.files;
     }

@@ -1,15 +1,14 @@
-use Rattle.std.proofs.Common.{◌≡◌, ◌<◌, ◌∷◌, [], ℕ, List, Bor, codes, length, map, rules}
+use Rattle.std.proofs.Common.{◌≡◌, ◌<◌, ℕ, List, Bor, codes, length, map, rules}
 use Rattle.std.proofs.lemmas.List.{nil_from_length}
 use Rattle.std.proofs.lemmas.Result.{IfErr-weaker}
 use Rattle.std.specs.Io.KnownBytes.{Consumes}
-use Rattle.version_commands.specs.Cause.{ComesOfAnswering, ComesOfAsking}
-use Rattle.version_commands.specs.Fault.{ComesOfLines, ComesOfReading}
+use Rattle.version_commands.specs.Cause.{ComesOfAnswering}
+use Rattle.version_commands.specs.Fault.{ComesOfLines, ComesOfName}
 use Rattle.version_commands.specs.Place.{line_text}
 use Rattle.version_commands.specs.declared.options.Invalid.TheVariants.{Fail}
 use Rattle.version_lines.specs.Lines.{lines_of}
 use Rattle.version_commands.specs.Each.{AreLineTexts}
-use Rattle.version_commands.proofs.lemmas.Fault.{reading-cases}
-use Rattle.version_commands.proofs.lemmas.Each.{asking-answering, asking-lines, line-texts, word-texts}
+use Rattle.version_commands.proofs.lemmas.Each.{asking-answering, asking-lines, asking-name, line-texts, word-texts}
 use Rattle.version_commands.proofs.each.answer_each.Goals as goal
 
 pub returns-in_err-add_answers-clause-faults : goal.returns-in_err-add_answers-clause-faults
@@ -44,9 +43,8 @@ returns-in_err-input-clause-faults g c =
     let options = c.args.options.now in
     let old = g.R.Read.remaining c.args.reader.now in
     let none : length options.versions.items ≡ 0 = search (rules, c.if-not-is_empty.ensures) in
-    IfErr-weaker c.from_residual-in_err-input.result (ComesOfReading (codes "-" ∷ [])) _
-    (λ fault. reading-cases (ComesOfAsking question options old) (codes "-" ∷ []) tt
-    (λ name is. (nil_from_length _ none, is)) fault) (search rules)
+    IfErr-weaker c.from_residual-in_err-input.result (ComesOfName (codes "-")) _
+    (asking-name question options old (nil_from_length _ none)) (search rules)
 
 pub returns-in_err-texts-2-clause-faults : goal.returns-in_err-texts-2-clause-faults
 returns-in_err-texts-2-clause-faults g c =

@@ -1,4 +1,5 @@
 use Rattle.std.proofs.Common.{◌≡◌, true, false, Some, rules, ap, sym, ◌∙◌}
+use Rattle.std.specs.Option.{option_map}
 use Rattle.version_rules.specs.Versioning.{versioning_of}
 use Rattle.version_texts.specs.VersioningRef.{plain_versioning_ref}
 use Rattle.version_commands.proofs.lemmas.Picked.{picked-kept, picked-left, picked-start}
@@ -15,15 +16,16 @@ loop-rest-init g c = (
 pub loop-rest-preserved-in_ok-add-in-Some : goal.loop-rest-preserved-in_ok-add-in-Some
 loop-rest-preserved-in_ok-add-in-Some g c =
     let (read, by, so_far) = c.loop-rest.invariant in
-    let here : versioning_of c.text.result.now ≡ Some (plain_versioning_ref c.in-Some.version) =
-    search rules in
+    let here : versioning_of (g.B.SortBy.text_of c.args.by c.split_line.result.0.now)
+    ≡ Some (plain_versioning_ref c.in-Some.version) =
+    sym c.version.ensures ∙ ap (option_map plain_versioning_ref) c.in-Some.is in
     let stays : c.keeps.result ≡ true = search rules in (
       c.in_ok-add-in-Some.ensures.read,
       c.in_ok-add-in-Some.ensures.by ∙ by,
       picked-kept _ _ _ _ _ _ c.split_line.result.0.now _ _ _ _
           (plain_versioning_ref c.in-Some.version)
           so_far c.split_line.ensures.lines c.split_line.ensures.shorter
-          (ap versioning_of (sym c.text.ensures) ∙ here) (sym c.keeps.ensures ∙ stays)
+          here (sym c.keeps.ensures ∙ stays)
           c.in_ok-add-in-Some.ensures.lines
           c.pass.ensures.good c.pass.ensures.before,
     )
@@ -31,14 +33,15 @@ loop-rest-preserved-in_ok-add-in-Some g c =
 pub loop-rest-preserved : goal.loop-rest-preserved
 loop-rest-preserved g c =
     let (read, by, so_far) = c.loop-rest.invariant in
-    let here : versioning_of c.text.result.now ≡ Some (plain_versioning_ref c.in-Some.version) =
-    search rules in
+    let here : versioning_of (g.B.SortBy.text_of c.args.by c.split_line.result.0.now)
+    ≡ Some (plain_versioning_ref c.in-Some.version) =
+    sym c.version.ensures ∙ ap (option_map plain_versioning_ref) c.in-Some.is in
     let out : c.keeps.result ≡ false = search rules in (
       read,
       by,
       picked-left _ _ _ _ _ _ c.split_line.result.0.now _ _ _
           (plain_versioning_ref c.in-Some.version)
           so_far c.split_line.ensures.lines c.split_line.ensures.shorter
-          (ap versioning_of (sym c.text.ensures) ∙ here) (sym c.keeps.ensures ∙ out)
+          here (sym c.keeps.ensures ∙ out)
           c.pass.ensures.good c.pass.ensures.before,
     )

@@ -1,16 +1,15 @@
-use Rattle.std.proofs.Common.{◌++◌, ◌∷◌, [], ℕ, suc, List, arith, rules, ap, inl, inr, ◌∙◌}
+use Rattle.std.proofs.Common.{◌++◌, ◌∷◌, [], ℕ, List, rules, ap, inl, inr, ◌∙◌}
 use Rattle.std.proofs.lemmas.Result.{IfErr-weaker}
-use Rattle.version_commands.specs.Cause.{ComesOfChanges}
 use Rattle.version_commands.specs.Fault.{ComesOfBad, ComesOfReading}
-use Rattle.version_commands.specs.Lists.{difference_text, rows_of}
-use Rattle.version_commands.proofs.lemmas.Fault.{reading-cases}
-use Rattle.version_commands.proofs.lemmas.Changes.{are-changes, changes-bad, input-bad, input-good, one-input}
+use Rattle.version_commands.specs.Lists.{difference_text, names_of, rows_of}
+use Rattle.version_commands.proofs.lemmas.Fault.{reading-weaker}
+use Rattle.version_commands.proofs.lemmas.Changes.{are-changes, changes-bad, changes-reading, input-bad, input-good, of-first, of-second, one-input}
 use Rattle.version_commands.proofs.program.changes.Goals as goal
 
 pub returns-clause-output : goal.returns-clause-output
 returns-clause-output g c =
     let lists = c.args.lists.now in
-    let holds = g.F.Files.holds c.args.files.now in
+    let reads = g.F.Files.reads c.args.files.now in
     let start = g.R.Read.remaining c.args.reader.now in
     let between = g.R.Read.remaining c.read_inputs.new.reader in
     let end = g.R.Read.remaining c.read_inputs-2.new.reader in
@@ -18,13 +17,13 @@ returns-clause-output g c =
     let after = c.as_slice-2.result.now in
     let (olds, read_old, old_is) = c.in_ok-old.ensures.input in
     let (news, read_new, new_is) = c.in_ok-new.ensures.input in
-    let (first, one, first_is) = one-input holds start between lists.old.now lists.end olds before read_old
+    let (first, one, first_is) = one-input reads start between lists.old.now lists.end olds before read_old
     (c.as_slice.ensures.value ∙ old_is) in
-    let (second, other, second_is) = one-input holds between end lists.new.now lists.end news after read_new
+    let (second, other, second_is) = one-input reads between end lists.new.now lists.end news after read_new
     (c.as_slice-2.ensures.value ∙ new_is) in
     let added = c.in_ok-add_lists.ensures (rows_of lists before) (rows_of lists after)
     c.in_ok-old_names.ensures.names c.in_ok-new_names.ensures.names in
-    are-changes lists holds start between end first second before after c.add_lists.new.output.items
+    are-changes lists reads start between end first second before after c.add_lists.new.output.items
     one first_is other second_is
     (λ asked. (
       input-good lists first before c.in_ok-old_names.old_bad first_is
@@ -36,42 +35,64 @@ returns-clause-output g c =
     ∙ ap (λ (l : List ℕ). l ++ difference_text lists.end (rows_of lists before) (rows_of lists after))
     c.new-output.ensures.items)
 
+pub returns-in_err-old-clause-faults : goal.returns-in_err-old-clause-faults
+returns-in_err-old-clause-faults g c =
+    let lists = c.args.lists.now in
+    let reads = g.F.Files.reads c.args.files.now in
+    let old = lists.old.now in
+    IfErr-weaker c.from_residual.result (ComesOfReading reads (old ∷ [])) _
+    (λ fault is. changes-reading lists reads (g.R.Read.remaining c.args.reader.now) fault
+    (reading-weaker reads (old ∷ []) (names_of lists) (of-first old lists.new.now) fault is))
+    (search rules)
+
 pub returns-in_err-new-clause-faults : goal.returns-in_err-new-clause-faults
 returns-in_err-new-clause-faults g c =
     let lists = c.args.lists.now in
+    let reads = g.F.Files.reads c.args.files.now in
     let new = lists.new.now in
-    IfErr-weaker c.from_residual-in_err-new.result (ComesOfReading (new ∷ [])) _
-    (λ fault. reading-cases (ComesOfChanges lists (g.F.Files.holds c.args.files.now)) (new ∷ []) tt
-    (λ name (read, (k, within, same), quotes). (read, (suc k, omega (arith, within), same), quotes))
-    fault) (search rules)
+    IfErr-weaker c.from_residual-in_err-new.result (ComesOfReading reads (new ∷ [])) _
+    (λ fault is. changes-reading lists reads (g.R.Read.remaining c.args.reader.now) fault
+    (reading-weaker reads (new ∷ []) (names_of lists) (of-second lists.old.now new) fault is))
+    (search rules)
 
 pub returns-in_err-refuse_if-clause-faults : goal.returns-in_err-refuse_if-clause-faults
 returns-in_err-refuse_if-clause-faults g c =
     let lists = c.args.lists.now in
-    let holds = g.F.Files.holds c.args.files.now in
+    let reads = g.F.Files.reads c.args.files.now in
     let start = g.R.Read.remaining c.args.reader.now in
     let between = g.R.Read.remaining c.read_inputs.new.reader in
-    let before = c.as_slice.result.now in
+    let end = g.R.Read.remaining c.read_inputs-2.new.reader in
     let bad = c.in_ok-old_names.old_bad in
     let (olds, read_old, old_is) = c.in_ok-old.ensures.input in
-    let (first, one, first_is) = one-input holds start between lists.old.now lists.end olds before read_old
-    (c.as_slice.ensures.value ∙ old_is) in
+    let (news, read_new, new_is) = c.in_ok-new.ensures.input in
+    let (first, one, first_is) = one-input reads start between lists.old.now lists.end olds
+    c.as_slice.result.now read_old (c.as_slice.ensures.value ∙ old_is) in
+    let (second, other, second_is) = one-input reads between end lists.new.now lists.end news
+    c.as_slice-2.result.now read_new (c.as_slice-2.ensures.value ∙ new_is) in
     IfErr-weaker c.from_residual-in_err-refuse_if.result (ComesOfBad lists.invalid lists.place.crlf bad) _
-    (changes-bad lists holds bad (λ fault is. inl (input-bad lists holds start between
-    lists.old.now first before bad one first_is c.in_ok-old_names.ensures.bad fault is))) (search rules)
+    (changes-bad lists reads start between end first second bad one other
+    (λ fault fail is. inl (input-bad lists first c.as_slice.result.now bad first_is
+    c.in_ok-old_names.ensures.bad fault is))) (search rules)
 
 pub returns-in_err-refuse_if-2-clause-faults : goal.returns-in_err-refuse_if-2-clause-faults
 returns-in_err-refuse_if-2-clause-faults g c =
     let lists = c.args.lists.now in
-    let holds = g.F.Files.holds c.args.files.now in
+    let reads = g.F.Files.reads c.args.files.now in
+    let start = g.R.Read.remaining c.args.reader.now in
     let between = g.R.Read.remaining c.read_inputs.new.reader in
     let end = g.R.Read.remaining c.read_inputs-2.new.reader in
-    let after = c.as_slice-2.result.now in
     let bad = c.in_ok-new_names.new_bad in
+    let (olds, read_old, old_is) = c.in_ok-old.ensures.input in
     let (news, read_new, new_is) = c.in_ok-new.ensures.input in
-    let (second, other, second_is) = one-input holds between end lists.new.now lists.end news after read_new
-    (c.as_slice-2.ensures.value ∙ new_is) in
+    let (first, one, first_is) = one-input reads start between lists.old.now lists.end olds
+    c.as_slice.result.now read_old (c.as_slice.ensures.value ∙ old_is) in
+    let (second, other, second_is) = one-input reads between end lists.new.now lists.end news
+    c.as_slice-2.result.now read_new (c.as_slice-2.ensures.value ∙ new_is) in
     IfErr-weaker c.from_residual-in_err-refuse_if-2.result (ComesOfBad lists.invalid lists.place.crlf bad) _
-    (changes-bad lists holds bad (λ fault is. inr (input-bad lists holds between end
-    lists.new.now second after bad other second_is c.in_ok-new_names.ensures.bad fault is)))
-    (search rules)
+    (changes-bad lists reads start between end first second bad one other
+    (λ fault fail is. inr (
+      input-good lists first c.as_slice.result.now c.in_ok-old_names.old_bad first_is
+          c.in_ok-old_names.ensures.bad (c.in_ok-refuse_if.ensures.none fail),
+      input-bad lists second c.as_slice-2.result.now bad second_is
+          c.in_ok-new_names.ensures.bad fault is,
+    ))) (search rules)

@@ -5,6 +5,6 @@ use Rattle.version_tasks.proofs.stability.counted_text.Goals as goal
 
 pub returns-in-Some : goal.returns-in-Some
 returns-in-Some c =
-    ap (take (c.in-Some.start - 1)) (c.as_bytes-text.ensures.value ∙ c.text.ensures.printed)
+    ap (take (c.in-Some.start - 1)) c.bytes-text.ensures.printed
     ∙ before_metadata (plain_versioning_ref c.args.version.now) c.in-Some.start
     c.in-Some.field-0-1 (sym c.place.ensures ∙ c.in-Some.is)

@@ -6,22 +6,22 @@ use Rattle.version_tasks.proofs.tag.start_in_tag.Goals as goal
 
 pub overflow_sub-result : goal.overflow_sub-result
 overflow_sub-result c =
-    rw c.text.ensures.printed
+    rw c.bytes.ensures.printed
     (in_tag c.args.tag.now _ c.in_ok-version.ensures.text).within
 
 pub returns-clause-version : goal.returns-clause-version
 returns-clause-version c =
-    rw c.text.ensures.printed
+    rw c.bytes.ensures.printed
     (ap Some (in_tag c.args.tag.now _ c.in_ok-version.ensures.text).is)
     ∙ ap (option_map versioning_text) c.in_ok-version.ensures.version
 
 pub returns-clause-text : goal.returns-clause-text
 returns-clause-text c =
     c.in_ok-version.ensures.text
-    ∙ sym (rw c.text.ensures.printed
+    ∙ sym (rw c.bytes.ensures.printed
     (ap Some (in_tag c.args.tag.now _ c.in_ok-version.ensures.text).is))
 
 pub returns-clause-within : goal.returns-clause-within
 returns-clause-within c =
     let rest = in_tag c.args.tag.now _ c.in_ok-version.ensures.text in
-    rw c.text.ensures.printed (omega (arith, rest.some, rest.within))
+    rw c.bytes.ensures.printed (omega (arith, rest.some, rest.within))

@@ -1,4 +1,4 @@
-use Rattle.std.proofs.Common.{◌≡◌, ◌∙◌, ◌∷◌, ◌++◌, [], ℕ, List, ap, append_assoc, drop, sym}
+use Rattle.std.proofs.Common.{◌∙◌, ◌∷◌, ◌++◌, [], ℕ, List, ap, append_assoc, drop, sym}
 use Rattle.std.specs.List.{prefix_len, take_while}
 use Rattle.version_texts.specs.Class.{contains}
 use Rattle.version_texts.proofs.lemmas.General.Runs.{run_cons}

@@ -1,4 +1,4 @@
-use Rattle.std.proofs.Common.{◌≡◌, ◌∙◌, ◌+◌, ap, arith, length, rules, sym}
+use Rattle.std.proofs.Common.{◌≡◌, ◌∙◌, ap, arith, length, rules, sym}
 use Rattle.std.proofs.lemmas.List.{length-append}
 use Rattle.version_rules.specs.KeyBytes.{key_bytes}
 use Rattle.version_rules.specs.Tail.{tail_bytes}

@@ -1,6 +1,6 @@
 use Rattle.std.proofs.Common.{◌<◌, ◌∙◌, ℕ, arith}
 use Rattle.std.proofs.lemmas.List.Elements.{All-from_get_or}
-use Rattle.version_lines.proofs.lemmas.Head.{head-from_chunk}
+use Rattle.version_texts.proofs.lemmas.Head.{head-from_chunk}
 use Rattle.version_lines.proofs.sort.head.head.Goals as goal
 
 pub returns-in-Some-clause-value : goal.returns-in-Some-clause-value

@@ -1,4 +1,4 @@
-use Rattle.version_lines.proofs.lemmas.Head.{head-from_bytes}
+use Rattle.version_texts.proofs.lemmas.Head.{head-from_bytes}
 use Rattle.version_lines.proofs.sort.head.head_of_few.Goals as goal
 
 pub returns : goal.returns

@@ -1,6 +1,6 @@
 use Rattle.std.proofs.Common.{◌≡◌, ◌∙◌, ◌-◌, ◌<◌, ap, drop, length, rules, subst, take}
 use Rattle.std.specs.List.{All}
-use Rattle.version_lines.specs.Head.{head_number}
+use Rattle.version_texts.specs.Head.{head_number}
 use Rattle.version_lines.proofs.lemmas.Entry.{holds-last, key-part}
 use Rattle.version_rules.specs.Key.{key_of}
 use Rattle.version_rules.specs.KeyBytes.{key_bytes}

@@ -1,25 +1,16 @@
 -- If the first bytes of two lists differ as numbers, the lists compare as these numbers.
 use Rattle.std.proofs.Common.{◌≡◌, ℕ, zero, suc, ◌+◌, ◌*◌, ◌-◌, ◌<◌, ◌≤◌, List, [], ◌∷◌, drop, get_or, length, length-drop, take, refl, sym, ap, ◌∙◌, subst, arith}
 use Rattle.std.specs.Cmp.{nat_cmp_is}
-use Rattle.std.specs.Cmp.Lexicographic.{slice_cmp}
 use Rattle.std.specs.Int.{from_be_bytes, w64}
-use Rattle.std.specs.List.{All}
 use Rattle.std.specs.Ordering.{nat_cmp, ordering_reverse, ordering_then}
-use Rattle.std.specs.declared.cmp.Ordering.{Ordering}
 use Rattle.std.specs.declared.cmp.Ordering.TheVariants.{Less, Equal, Greater}
 use Rattle.std.proofs.lemmas.Cmp.{by_ranked, nat_list_cmp_total, ranked}
 use Rattle.std.proofs.lemmas.List.{drop-drop}
 use Rattle.std.proofs.lemmas.List.Elements.{All-head, All-tail, All-drop}
 use Rattle.version_rules.proofs.lemmas.Orders.{then_assoc}
-use Rattle.version_lines.specs.Head.{behind_heads_cmp, head_number, number_from}
-
--- numbers that a byte can be
-abbrev pub AreBytes : List ℕ → Type 0
-AreBytes = All (λ byte. byte < 256)
-
--- two lists of bytes
-abbrev cmp : List ℕ → List ℕ → Ordering
-cmp = slice_cmp nat_cmp
+use Rattle.version_rules.specs.Lists.{bytes_cmp}
+use Rattle.version_rules.specs.PartTexts.{AreBytes}
+use Rattle.version_texts.specs.Head.{behind_heads_cmp, head_number, number_from}
 
 -- a value followed by nothing gives the least number
 number_from-least : (n v w : ℕ) (xs : List ℕ) → v ≤ w → number_from v n [] ≤ number_from w n xs
@@ -49,7 +40,7 @@ number_from-less (suc n) v w (x ∷ xs) (y ∷ ys) bytes up =
 
 -- the first bytes decide
 first_bytes : (n v : ℕ) (xs ys : List ℕ) → AreBytes xs → AreBytes ys
-    → number_from v n xs < number_from v n ys → cmp xs ys ≡ Less
+    → number_from v n xs < number_from v n ys → bytes_cmp xs ys ≡ Less
 unfolding number_from
 first_bytes zero v xs ys xs_bytes ys_bytes up = absurd (omega arith)
 first_bytes (suc n) v [] [] xs_bytes ys_bytes up = absurd (omega arith)
@@ -72,13 +63,13 @@ first_bytes (suc n) v (x ∷ xs) (y ∷ ys) xs_bytes ys_bytes up =
     )))
 
 -- no list is below the empty one
-nothing_below : (xs : List ℕ) → ¬ (cmp xs [] ≡ Less)
+nothing_below : (xs : List ℕ) → ¬ (bytes_cmp xs [] ≡ Less)
 nothing_below [] below = cc
 nothing_below (x ∷ xs) below = cc
 
 -- if the first bytes tie, the bytes after them decide
 behind_first : (n v : ℕ) (xs ys : List ℕ) → AreBytes ys → number_from v n xs ≡ number_from v n ys
-    → cmp (drop n xs) (drop n ys) ≡ Less → cmp xs ys ≡ Less
+    → bytes_cmp (drop n xs) (drop n ys) ≡ Less → bytes_cmp xs ys ≡ Less
 unfolding number_from
 behind_first zero v xs ys ys_bytes tie behind = behind
 behind_first (suc n) v [] [] ys_bytes tie behind = behind
@@ -100,7 +91,7 @@ behind_first (suc n) v (x ∷ xs) (y ∷ ys) ys_bytes tie behind =
     )))
 
 -- the reversed order
-turned : (xs ys : List ℕ) → cmp ys xs ≡ Less → cmp xs ys ≡ Greater
+turned : (xs ys : List ℕ) → bytes_cmp ys xs ≡ Less → bytes_cmp xs ys ≡ Greater
 turned xs ys less = nat_list_cmp_total.antisymm xs ys ∙ ap ordering_reverse less
 
 -- lengths compare as those of the tails
@@ -120,7 +111,7 @@ nothing_greater n = sym (nat_cmp_is (suc n) 0 Greater (omega arith))
 
 -- the length decides nothing more than the lists do
 length_last : (xs ys : List ℕ)
-    → ordering_then (cmp xs ys) (nat_cmp (length xs) (length ys)) ≡ cmp xs ys
+    → ordering_then (bytes_cmp xs ys) (nat_cmp (length xs) (length ys)) ≡ bytes_cmp xs ys
 length_last [] [] = refl
 length_last [] (y ∷ ys) = refl
 length_last (x ∷ xs) [] = refl
@@ -132,19 +123,19 @@ length_last (x ∷ xs) (y ∷ ys) =
 
 -- the empty list is below any other
 empty_first : (ys behind : List ℕ) (y : ℕ)
-    → ordering_then (cmp [] behind) (nat_cmp 0 (length (y ∷ ys))) ≡ Less
+    → ordering_then (bytes_cmp [] behind) (nat_cmp 0 (length (y ∷ ys))) ≡ Less
 empty_first ys [] y = nothing_less (length ys)
 empty_first ys (b ∷ behind) y = refl
 
 empty_last : (xs behind : List ℕ) (x : ℕ)
-    → ordering_then (cmp behind []) (nat_cmp (length (x ∷ xs)) 0) ≡ Greater
+    → ordering_then (bytes_cmp behind []) (nat_cmp (length (x ∷ xs)) 0) ≡ Greater
 empty_last xs [] x = nothing_greater (length xs)
 empty_last xs (b ∷ behind) x = refl
 
 -- if the first bytes tie, the bytes after them decide, and then the lengths
 tied_front : (n v : ℕ) (xs ys : List ℕ) → AreBytes xs → AreBytes ys
     → number_from v n xs ≡ number_from v n ys
-    → ordering_then (cmp (drop n xs) (drop n ys)) (nat_cmp (length xs) (length ys)) ≡ cmp xs ys
+    → ordering_then (bytes_cmp (drop n xs) (drop n ys)) (nat_cmp (length xs) (length ys)) ≡ bytes_cmp xs ys
 unfolding number_from
 tied_front zero v xs ys xs_bytes ys_bytes tie = length_last xs ys
 tied_front (suc n) v [] [] xs_bytes ys_bytes tie = refl
@@ -190,17 +181,17 @@ lengths_twice m n =
 -- if both heads tie, the bytes after them decide
 both_tied : (xs ys : List ℕ) → AreBytes xs → AreBytes ys → number_from 0 8 xs ≡ number_from 0 8 ys
     → number_from 0 8 (drop 8 xs) ≡ number_from 0 8 (drop 8 ys)
-    → behind_heads_cmp xs ys ≡ cmp xs ys
+    → behind_heads_cmp xs ys ≡ bytes_cmp xs ys
 both_tied xs ys xs_bytes ys_bytes first second =
     let lengths = nat_cmp (length xs) (length ys) in
     let behind = tied_front 8 0 (drop 8 xs) (drop 8 ys) (All-drop (λ b. b < 256) 8 xs xs_bytes)
     (All-drop (λ b. b < 256) 8 ys ys_bytes) second in
     let sixteen : (zs : List ℕ) → drop 8 (drop 8 zs) ≡ drop 16 zs = λ zs. drop-drop 8 8 zs in
-    let farther : ordering_then (cmp (drop 16 xs) (drop 16 ys))
-    (nat_cmp (length xs - 8) (length ys - 8)) ≡ cmp (drop 8 xs) (drop 8 ys) =
+    let farther : ordering_then (bytes_cmp (drop 16 xs) (drop 16 ys))
+    (nat_cmp (length xs - 8) (length ys - 8)) ≡ bytes_cmp (drop 8 xs) (drop 8 ys) =
     rw (← sixteen xs, ← sixteen ys, ← length-drop 8 xs, ← length-drop 8 ys) behind in
-    ap (ordering_then (cmp (drop 16 xs) (drop 16 ys))) (sym (lengths_twice (length xs) (length ys)))
-    ∙ sym (then_assoc (cmp (drop 16 xs) (drop 16 ys))
+    ap (ordering_then (bytes_cmp (drop 16 xs) (drop 16 ys))) (sym (lengths_twice (length xs) (length ys)))
+    ∙ sym (then_assoc (bytes_cmp (drop 16 xs) (drop 16 ys))
     (nat_cmp (length xs - 8) (length ys - 8)) lengths)
     ∙ ap (λ o. ordering_then o lengths) farther
     ∙ tied_front 8 0 xs ys xs_bytes ys_bytes first
@@ -211,7 +202,7 @@ pub heads_first : (xs ys : List ℕ) → AreBytes xs → AreBytes ys
     → ordering_then (nat_cmp (head_number xs) (head_number ys))
     (ordering_then (nat_cmp (head_number (drop 8 xs)) (head_number (drop 8 ys)))
     (behind_heads_cmp xs ys))
-    ≡ cmp xs ys
+    ≡ bytes_cmp xs ys
 unfolding head_number
 heads_first xs ys xs_bytes ys_bytes =
     let one = number_from 0 8 xs in
@@ -268,3 +259,37 @@ head-from_chunk (a ∷ b ∷ c ∷ d ∷ e ∷ f ∷ []) ys enough same = absurd
 head-from_chunk (a ∷ b ∷ c ∷ d ∷ e ∷ f ∷ g ∷ []) ys enough same = absurd (omega arith)
 head-from_chunk (a ∷ b ∷ c ∷ d ∷ e ∷ f ∷ g ∷ h ∷ more) ys enough same =
     ap (from_be_bytes w64) same ∙ head-from_bytes (a ∷ b ∷ c ∷ d ∷ e ∷ f ∷ g ∷ h ∷ more)
+
+-- lengths compare as those of the rests
+lengths_behind : (m n : ℕ) → 8 ≤ m → 8 ≤ n → nat_cmp (m - 8) (n - 8) ≡ nat_cmp m n
+lengths_behind m n enough others =
+    by_ranked (m < n) (m ≡ n) (n < m) (nat_cmp m n) (ranked m n _ refl)
+    (λ e less. sym (nat_cmp_is (m - 8) (n - 8) Less (omega (arith, enough, less))) ∙ sym e)
+    (λ e same. sym (nat_cmp_is (m - 8) (n - 8) Equal (ap (λ k. k - 8) same)) ∙ sym e)
+    (λ e more. sym (nat_cmp_is (m - 8) (n - 8) Greater (omega (arith, others, more))) ∙ sym e)
+
+-- lists of eight bytes or more compare by the head of the first eight, and then by the others
+pub eight_first : (xs ys : List ℕ) → 8 ≤ length xs → 8 ≤ length ys → AreBytes xs → AreBytes ys
+    → ordering_then
+    (nat_cmp (from_be_bytes w64 (take 8 xs)) (from_be_bytes w64 (take 8 ys)))
+    (bytes_cmp (drop 8 xs) (drop 8 ys)) ≡ bytes_cmp xs ys
+unfolding head_number
+eight_first xs ys enough others xs_bytes ys_bytes =
+    let one = number_from 0 8 xs in
+    let other = number_from 0 8 ys in
+    let behind = bytes_cmp (drop 8 xs) (drop 8 ys) in
+    let lengths = lengths_behind (length xs) (length ys) enough others in
+    let heads : nat_cmp (from_be_bytes w64 (take 8 xs)) (from_be_bytes w64 (take 8 ys))
+    ≡ nat_cmp one other =
+    (λ i. nat_cmp (head-from_chunk xs (take 8 xs) enough refl i)
+    (head-from_chunk ys (take 8 ys) others refl i)) in
+    rw heads
+    (by_ranked (one < other) (one ≡ other) (other < one) (nat_cmp one other)
+    (ranked one other _ refl)
+    (λ e below. rw (e, first_bytes 8 0 xs ys xs_bytes ys_bytes below) refl)
+    (λ e same. rw e
+    (sym (length_last (drop 8 xs) (drop 8 ys))
+    ∙ ap (ordering_then behind)
+    ((λ i. nat_cmp (length-drop 8 xs i) (length-drop 8 ys i)) ∙ lengths)
+    ∙ tied_front 8 0 xs ys xs_bytes ys_bytes same))
+    (λ e above. rw (e, turned xs ys (first_bytes 8 0 ys xs ys_bytes xs_bytes above)) refl))
