@@ -63,7 +63,7 @@ struct text {
 static const struct text no_text = {"\xff", 1};
 
 /* The text of a value, in UTF-8; no_text for another type. Its bytes are null on allocation failure. */
-static struct text text_of(sqlite3_value *value) {
+static inline struct text text_of(sqlite3_value *value) {
   struct text text = no_text;
   if (sqlite3_value_type(value) == SQLITE_TEXT) {
     text.bytes = (const char *)sqlite3_value_text(value);
@@ -313,7 +313,7 @@ static bool give_match(sqlite3_context *context, sqlite3_value *requirement, str
 }
 
 /* The same by the range of the list, and in the range by the members that decide. */
-static void give_match_by_range(sqlite3_context *context, const struct range *range, struct text text) {
+static inline void give_match_by_range(sqlite3_context *context, const struct range *range, struct text text) {
   bool matches;
   int status = versions_in_range(text.bytes, text.len, range->low, range->low_len, range->high, range->high_len,
                                  range->flags, &matches);
@@ -335,7 +335,6 @@ static void give_match_by_range(sqlite3_context *context, const struct range *ra
  */
 static void version_matches(sqlite3_context *context, int count, sqlite3_value **values) {
   static char mark;
-  unsigned *calls = sqlite3_user_data(context);
   void *kept = sqlite3_get_auxdata(context, 0);
   struct text text = text_of(values[1]);
   (void)count;
@@ -350,8 +349,9 @@ static void version_matches(sqlite3_context *context, int count, sqlite3_value *
     give_match_by_range(context, kept, text);
   } else if (sqlite3_value_type(values[0]) == SQLITE_NULL) {
     sqlite3_result_null(context);
-  } else if (give_match(context, values[0], text) && (*calls)++ % 16 == 0) {
-    sqlite3_set_auxdata(context, 0, &mark, NULL);
+  } else if (give_match(context, values[0], text)) {
+    unsigned *calls = sqlite3_user_data(context);
+    if ((*calls)++ % 16 == 0) sqlite3_set_auxdata(context, 0, &mark, NULL);
   }
 }
 
