@@ -56,7 +56,7 @@ ifndef VERSIONS
 VERSIONS := c/out$(of_target)/versions
 built += $(VERSIONS)
 $(VERSIONS): crates.txt c/program c/target $(call sources,version_rules version_texts version_tasks version_lines \
-  version_commands versions_program)
+  version_commands version_words versions_program)
 	c/program --target $(TARGET) versions_program $(VERSIONS)
 endif
 

@@ -192,7 +192,7 @@ impl<'a> Table<'a> {
             others: Taker::of(b"x y\n"),
         };
         print!(self.rt; "{name}: {words:?}")?;
-        let outcome = version_commands::run(
+        let outcome = version_words::run(
             self.rt.alloc(),
             words.as_slice(),
             &mut files,

@@ -28,12 +28,6 @@ status_of Memory = 3
 status_of (Read name) = 3
 status_of (Write name) = 3
 
--- the faults that words which are no task can end in
-abbrev pub ComesOfWrongWords : Fault → Type 0
-ComesOfWrongWords (Usage text) = ⊤
-ComesOfWrongWords Memory = ⊤
-ComesOfWrongWords fault = ⊥
-
 -- the fault of the input of this name, which can't be read
 abbrev pub ComesOfName : List ℕ → Fault → Type 0
 ComesOfName name Memory = ⊤

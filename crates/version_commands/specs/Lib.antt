@@ -5,6 +5,7 @@ pub mod Choice
 pub mod Compare
 pub mod Difference
 pub mod Each
+pub mod Early
 pub mod Ends
 pub mod Fault
 pub mod Files
@@ -19,8 +20,6 @@ pub mod Picked
 pub mod Pieces
 pub mod Place
 pub mod Quote
-pub mod Run
 pub mod Show
 pub mod Test
 pub mod Why
-pub mod Words

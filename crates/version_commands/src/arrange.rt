@@ -3,6 +3,7 @@ ghost use Rattle.std.specs.Prelude.{◌≡◌, false, map, None, Some, IfErr, If
 ghost use Rattle.version_commands.specs.Arranged.{arranged, is_reversed};
 ghost use Rattle.version_commands.specs.Cause.{ComesOfArranged, ComesOfArranging};
 ghost use Rattle.version_commands.specs.Choice.{chooser_of, is_kept, wrong_list};
+ghost use Rattle.version_commands.specs.Early.{IfOfWord, UnlessLate};
 ghost use Rattle.version_commands.specs.Ends.{Ends};
 ghost use Rattle.version_commands.specs.Fault.{ComesOfLists};
 ghost use Rattle.version_commands.specs.Files.{Leaves};
@@ -41,6 +42,8 @@ pub fn serve_lines<F: Files, R: Read, W: Write>(
     ensures unread { reads_standard (names_read (map (λ name. name.now) options.now.files.items)) ≡ false
         → reader.new ≡ reader.old }
     ensures files { options.now.invalid_to ≡ None → files.new ≡ files.old }
+    ensures kept { UnlessLate (files.new ≡ files.old) result }
+    ensures early { IfOfWord (reader.new ≡ reader.old) result }
 {
     let chooser = read_chooser(alloc, &options.choice, &arrangement)?;
     let input = read_inputs(alloc, options.files.as_slice(), options.end, files, reader)?;
@@ -88,6 +91,7 @@ fn write_arranged<F: Files, W: Write>(
         (ComesOfArranged options.now (text_of options.now.place) input.now)
         (W.contents writer.old) (W.contents writer.new) result }
     ensures files { options.now.invalid_to ≡ None → files.new ≡ files.old }
+    ensures kept { UnlessLate (files.new ≡ files.old) result }
 {
     if let Arrangement::Filter { .. } = arrangement {
         return write_kept(alloc, options, chooser, input, files, writer);
@@ -121,7 +125,9 @@ fn write_arranged<F: Files, W: Write>(
     )
 }
 
-// Writes the lines that are kept in the order of their versions, or the newest of them.
+// Writes the lines that are kept in the order of their versions, or the newest of them. Not inlined, so that each of its
+// forms has the registers for itself.
+#[inline(never)]
 fn write_keyed<B: SortBy + Copy, C: Chooses, F: Files, W: Write>(
     alloc: Global,
     by: B,
@@ -139,6 +145,7 @@ fn write_keyed<B: SortBy + Copy, C: Chooses, F: Files, W: Write>(
         (ComesOfArranged options.now (B.text_of by) input.now)
         (W.contents writer.old) (W.contents writer.new) result }
     ensures files { options.now.invalid_to ≡ None → files.new ≡ files.old }
+    ensures kept { UnlessLate (files.new ≡ files.old) result }
 {
     let (mut kept, bad) = read_keyed(alloc, by, chooser, options.end, input)?;
     refuse_bad(alloc, options, &bad)?;
@@ -202,6 +209,7 @@ fn write_kept<F: Files, W: Write>(
         (ComesOfArranged options.now (text_of options.now.place) input.now)
         (W.contents writer.old) (W.contents writer.new) result }
     ensures files { options.now.invalid_to ≡ None → files.new ≡ files.old }
+    ensures kept { UnlessLate (files.new ≡ files.old) result }
 {
     let by = ByVersion {
         place: options.place,

@@ -74,6 +74,7 @@ impl<'w> Chooser<'w> {
     }
 
     /// Returns whether a version is kept. Does not allocate.
+    #[inline(always)]
     pub fn keeps(&self, version: &VersioningRef<'_>) -> bool
         ensures { result ≡ is_kept self.now (plain_versioning_ref version.now) }
     {
@@ -84,6 +85,7 @@ impl<'w> Chooser<'w> {
 }
 
 // Whether a version is as stable as this, or more.
+#[inline(always)]
 fn is_stable_enough(least: Stability, version: &VersioningRef<'_>) -> bool
     ensures { result ≡ is_stable_enough least (plain_versioning_ref version.now) }
 {
@@ -122,6 +124,7 @@ impl Chooses for Chooser<'_> {
 
     ghost keeps = { λ chooser. is_kept chooser };
 
+    #[inline(always)]
     fn keeps(&self, version: &VersioningRef<'_>) -> bool {
         Chooser::keeps(self, version)
     }

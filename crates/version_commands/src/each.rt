@@ -3,6 +3,7 @@ ghost use Rattle.std.specs.Prelude.{◌≡◌, ◌==◌, ◌++◌, ◌∷◌, []
 ghost use Rattle.std.specs.Io.KnownBytes.{Consumes, IsAtEnd};
 ghost use Rattle.std.specs.List.{All};
 ghost use Rattle.version_commands.specs.Cause.{ComesOfAnswering, ComesOfAsking, ComesOfList};
+ghost use Rattle.version_commands.specs.Early.{IfOfWord};
 ghost use Rattle.version_commands.specs.Each.{AreAnswered, HasList, IsAnswer, IsAnswered, IsHead};
 ghost use Rattle.version_commands.specs.Fault.{first_wrong, ComesOfLines, ComesOfName, ComesOfWords};
 ghost use Rattle.version_commands.specs.Pieces.{Adds};
@@ -40,6 +41,7 @@ pub fn answer_each<R: Read>(
     ensures output { IfOk result (λ output. IsAnswered question.entry options.now
         (R.remaining reader.old) (R.remaining reader.new) output.items) }
     ensures unread { length options.now.versions.items == 0 ≡ false → reader.new ≡ reader.old }
+    ensures early { IfOfWord (reader.new ≡ reader.old) result }
     ensures faults { IfErr result (ComesOfAsking question.entry options.now (R.remaining reader.old)) }
 {
     let mut output = head_of(alloc, question, options.end)?;

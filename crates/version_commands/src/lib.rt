@@ -1,5 +1,5 @@
-//! The program `versions` over any files, reader and writer: `run` reads the words of a command and its lines, and writes
-//! what the command answers. docs/VERSIONS.md has its rules.
+//! The tasks of the program `versions` over any files, reader and writer: `serve` reads the inputs of a task, and writes
+//! what it answers. docs/VERSIONS.md has their rules.
 #![tactic(auto)]
 
 mod arrange;
@@ -25,7 +25,6 @@ mod rows;
 mod show;
 mod test;
 mod why;
-mod words;
 mod write;
 
 pub use faults::Fault;
@@ -34,5 +33,5 @@ pub use options::{
     Arrangement, Choice, EachOptions, Invalid, LineOptions, Lists, Naming, Operator, Question,
     Task, VersionPlace,
 };
-pub use program::{run, serve};
-pub use words::read_words;
+pub use program::serve;
+pub use quote::quoted;

@@ -33,6 +33,7 @@ impl VersionPlace<'_> {
     }
 
     /// Returns the version of a line: the one that this text is. Does not allocate.
+    #[inline(always)]
     pub fn version<'a>(&self, line: &'a [u8]) -> Option<VersioningRef<'a>>
         ensures named { option_map plain_versioning_ref result
             ≡ named_version self.now.naming (place_text self.now line.now) }
@@ -42,6 +43,7 @@ impl VersionPlace<'_> {
     }
 
     // Returns the text that names the version of a line.
+    #[inline(always)]
     fn place_text<'a>(&self, line: &'a [u8]) -> &'a [u8]
         ensures { result.now ≡ place_text self.now line.now }
     {
@@ -64,6 +66,7 @@ impl Naming<'_> {
     }
 
     // Returns the version in a text.
+    #[inline(always)]
     fn version<'a>(&self, text: &'a [u8]) -> Option<VersioningRef<'a>>
         ensures { option_map plain_versioning_ref result ≡ named_version self.now text.now }
     {
@@ -94,6 +97,7 @@ impl SortBy for ByVersion<'_> {
         self.place.text(line)
     }
 
+    #[inline(always)]
     fn version<'a>(&self, line: &'a [u8]) -> Option<VersioningRef<'a>> {
         self.place.version(line)
     }
@@ -126,6 +130,7 @@ impl GroupBy for ByColumn {
 }
 
 /// Returns the text of a column of a line, or of the whole line. It is empty where the line has no such column.
+#[inline(always)]
 pub fn column_text(column: Option<Column>, line: &[u8]) -> &[u8]
     ensures { result.now ≡ column_text column line.now }
 {
@@ -136,11 +141,15 @@ pub fn column_text(column: Option<Column>, line: &[u8]) -> &[u8]
 }
 
 /// Returns a line without the carriage return that it may end in, if that belongs to its end.
+#[inline(always)]
 pub fn line_text(crlf: bool, line: &[u8]) -> &[u8]
     ensures { result.now ≡ line_text crlf line.now }
 {
+    if !crlf {
+        return line;
+    }
     match line {
-        [front @ .., b'\r'] if crlf => front,
+        [front @ .., b'\r'] => front,
         _ => line,
     }
 }

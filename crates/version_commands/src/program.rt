@@ -1,15 +1,15 @@
-//! A run of the program over any files, reader and writer.
+//! What a task does over any files, reader and writer.
 ghost use Rattle.std.specs.Prelude.{◌≡◌, ◌∷◌, [], false, true, None, Ok, Some, IfErr, IfOk, OnOk};
 ghost use Rattle.version_commands.specs.Cause.{ComesOf, ComesOfChanges};
 ghost use Rattle.version_commands.specs.Compare.{comparison_line};
 ghost use Rattle.version_commands.specs.Difference.{difference_line};
+ghost use Rattle.version_commands.specs.Early.{IfOfWord, UnlessLate};
 ghost use Rattle.version_commands.specs.Ends.{Ends};
 ghost use Rattle.version_commands.specs.Fault.{first_wrong, ComesOfTest, ComesOfWords};
 ghost use Rattle.version_commands.specs.Files.{Leaves};
 ghost use Rattle.version_commands.specs.Inputs.{reads_standard};
 ghost use Rattle.version_commands.specs.Lists.{names_of};
 ghost use Rattle.version_commands.specs.Output.{asks_reader, file_of, AreChanges, IsLineOfTwo, IsOutput};
-ghost use Rattle.version_commands.specs.Run.{RunsBy};
 ghost use Rattle.version_lines.specs.Lines.{line_feed};
 ghost use Rattle.version_lines.specs.Run.{unless_version};
 ghost use Rattle.version_rules.specs.Versioning.{versioning_of};
@@ -27,30 +27,10 @@ use crate::lists::{add_lists, read_names};
 use crate::options::{Lists, Task};
 use crate::quote::quoted;
 use crate::test::{WrongWord, test_list, test_two};
-use crate::words::read_words;
 use crate::write::write_answer;
 use std::alloc::Global;
 use std::io::{Read, Write};
 use version_texts::VersioningRef;
-
-/// Does what the words ask for. docs/VERSIONS.md has the commands.
-///
-/// The words are read first, and each that should be a version or a list of requirements is checked before anything is
-/// read. The inputs are read to their ends and checked before anything is written, and all memory is taken before. So at
-/// a fault the writer got nothing, unless it takes no more; the file for lines without a version may have been written.
-pub fn run<F: Files, R: Read, W: Write>(
-    alloc: Global,
-    words: &[String],
-    files: &mut F,
-    reader: &mut R,
-    writer: &mut W,
-) -> Result<(), Fault>
-    ensures { RunsBy F.reads F.puts R.remaining files.old files.new reader.old reader.new
-        (W.contents writer.old) (W.contents writer.new) result }
-{
-    let task = read_words(alloc, words)?;
-    serve(alloc, &task, files, reader, writer)
-}
 
 /// Does a task. What it writes is `IsOutput` of the task and of what its files and the reader hold, and a fault
 /// `ComesOf` the same. At a fault the writer got nothing, or a proper beginning if it takes no more. A task that doesn't
@@ -68,6 +48,8 @@ pub fn serve<F: Files, R: Read, W: Write>(
         (W.contents writer.old) (W.contents writer.new) result }
     ensures unread { asks_reader task.now ≡ false → reader.new ≡ reader.old }
     ensures files { file_of task.now ≡ None → files.new ≡ files.old }
+    ensures kept { UnlessLate (files.new ≡ files.old) result }
+    ensures early { IfOfWord (reader.new ≡ reader.old) result }
 {
     let output = match task {
         Task::Lines(arrangement, options) => {

@@ -2,6 +2,7 @@
 ghost use Rattle.std.specs.Prelude.{◌≡◌, ◌++◌, [], None, map, IfErr, IfOk, OnErr, OnOk};
 ghost use Rattle.std.specs.Io.KnownBytes.{Appends};
 ghost use Rattle.version_commands.specs.Arranged.{placed, policy};
+ghost use Rattle.version_commands.specs.Early.{UnlessLate};
 ghost use Rattle.version_commands.specs.Ends.{Ends};
 ghost use Rattle.version_commands.specs.Fault.{ComesOfPut};
 ghost use Rattle.version_commands.specs.Files.{Leaves};
@@ -34,6 +35,7 @@ pub fn write_lines<L: Rows, F: Files, W: Write>(
         (L.lines rows.now) (Leaves F.puts files.old files.new)) (ComesOfPut options.now)
         (W.contents writer.old) (W.contents writer.new) result }
     ensures files { options.now.invalid_to ≡ None → files.new ≡ files.old }
+    ensures kept { UnlessLate (files.new ≡ files.old) result }
 {
     let mut buffer = make_buffer(alloc)?;
     put_bad(alloc, options, bad, files)?;

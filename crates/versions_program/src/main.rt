@@ -15,7 +15,8 @@ use std::alloc::Global;
 use std::env;
 use std::env::Env;
 use std::process::ExitCode;
-use version_commands::{Fault, run};
+use version_commands::Fault;
+use version_words::run;
 
 // The status that a shell gives for a program whose reader has gone: that of the signal SIGPIPE.
 const READER_GONE: u8 = 141;

@@ -6,7 +6,8 @@ use crate::table::Table;
 use crate::taker::Taker;
 use std::alloc::{AllocError, Global};
 use std::io;
-use version_commands::{Fault, Task, read_words, serve};
+use version_commands::{Fault, Task, quoted, serve};
+use version_words::read_words;
 
 // The words, the input and the expected output of a run.
 #[derive(Clone, Copy)]
@@ -182,17 +183,22 @@ Example:
 pub fn make_all(table: &mut Table<'_>) -> io::Result<()> {
     for Row(words, input, wanted) in &ROWS {
         table.answers(
-            "version_commands::run",
+            "version_words::run",
             words,
             input.as_bytes(),
             wanted.as_bytes(),
         )?;
     }
     for words in &MISSPELT {
-        table.answers("version_commands::run, with retries", words, b"", b"")?;
+        table.answers("version_words::run, with retries", words, b"", b"")?;
     }
-    table.borrows("version_commands::read_words", "1.2", key_words, task_text)?;
+    table.reads("version_commands::quoted", "1.2\t", quoted_text)?;
+    table.borrows("version_words::read_words", "1.2", key_words, task_text)?;
     table.borrows("version_commands::serve", "1.9", comparison, serve_task)
+}
+
+fn quoted_text(alloc: Global, text: &str) -> Result<String, AllocError> {
+    quoted(alloc, text.as_bytes())
 }
 
 fn key_words(alloc: Global, version: &str) -> Result<Option<Vec<String>>, AllocError> {

@@ -27,4 +27,5 @@ returns-then-not-reverse g c =
           (λ fault. subst (λ (at : List ℕ → List ℕ). ComesOfArranged options at input fault) text)
           c.write_keyed.ensures.ends;
       files = c.write_keyed.ensures.files;
+      kept = c.write_keyed.ensures.kept;
     }

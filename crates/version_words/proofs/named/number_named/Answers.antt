@@ -5,8 +5,8 @@ use Rattle.std.specs.List.{list_all}
 use Rattle.std.specs.Str.Parse.{digits_value}
 use Rattle.version_rules.proofs.lemmas.Numeral.Runs.{digits_model, some_if_ok}
 use Rattle.version_rules.specs.DigitRun.{is_digits}
-use Rattle.version_commands.specs.Words.{number_named}
-use Rattle.version_commands.proofs.words.number_named.Goals as goal
+use Rattle.version_words.specs.Named.{number_named}
+use Rattle.version_words.proofs.named.number_named.Goals as goal
 
 -- a word of digits has one at least, and nothing else
 digits-are : (word : List ℕ) → is_digits word ≡ true

@@ -1,14 +1,30 @@
 -- What single words of a run name.
 use Rattle.std.specs.Prelude.{ℕ, Bool, true, false, List, [], ◌∷◌, Option, None, Some, codes, nat_lt, unwrap_or, ◌||◌, ◌&&◌, ◌^◌, if◌then◌else◌}
 use Rattle.std.specs.Str.{bytes_eq}
-use Rattle.std.specs.Str.Parse.{digits_value}
+use Rattle.std.specs.Str.Parse.{digits_value, without_leading_plus}
 use Rattle.version_commands.specs.declared.options.Invalid.{Invalid}
 use Rattle.version_commands.specs.declared.options.Operator.{Operator}
 use Rattle.version_commands.specs.declared.options.Invalid.TheVariants as invalid
 use Rattle.version_commands.specs.declared.options.Operator.TheVariants as operator
+use Rattle.version_words.specs.declared.named.Verb.{Verb}
+use Rattle.version_words.specs.declared.named.Verb.TheVariants as verb
 use Rattle.version_rules.specs.DigitRun.{is_digits}
 use Rattle.version_tasks.specs.declared.stability.Stability.{Stability}
 use Rattle.version_tasks.specs.declared.stability.Stability.TheVariants as stability
+
+-- the command of a name
+abbrev pub verb_named : List ℕ → Option Verb
+verb_named word =
+    if bytes_eq word (codes "sort") then Some verb.Sort
+    else (if bytes_eq word (codes "newest") then Some verb.Newest
+    else (if bytes_eq word (codes "filter") then Some verb.Filter
+    else (if bytes_eq word (codes "show") then Some verb.Show
+    else (if bytes_eq word (codes "key") then Some verb.Key
+    else (if bytes_eq word (codes "test") then Some verb.Test
+    else (if bytes_eq word (codes "compare") then Some verb.Compare
+    else (if bytes_eq word (codes "why") then Some verb.Why
+    else (if bytes_eq word (codes "diff") then Some verb.Diff
+    else (if bytes_eq word (codes "next") then Some verb.Next else None)))))))))
 
 -- what a word of `--invalid` names
 abbrev pub invalid_named : List ℕ → Option Invalid
@@ -18,6 +34,15 @@ invalid_named word =
     else (if bytes_eq word (codes "first") then Some invalid.First
     else (if bytes_eq word (codes "last") then Some invalid.Last else None)))
 
+-- whether a command can do this with lines that have no version: only those of all lines can put
+-- them before or after the others
+abbrev pub may_ask : Verb → Invalid → Bool
+may_ask verb.Sort asked = true
+may_ask verb.Filter asked = true
+may_ask command invalid.Fail = true
+may_ask command invalid.Skip = true
+may_ask command other = false
+
 -- what becomes of lines without a version: what is asked, or else the command's own choice. Those
 -- that go to a file are left out, and to ask anything else of them is wrong
 abbrev pub invalid_asked : Option Invalid → (to_file : Bool) → (by_default : Invalid) → Option Invalid
@@ -26,13 +51,14 @@ invalid_asked None true by_default = Some invalid.Skip
 invalid_asked (Some invalid.Skip) true by_default = Some invalid.Skip
 invalid_asked (Some other) true by_default = None
 
--- what a word of `--min-stability` names; all others name the least stable
-abbrev pub stability_named : List ℕ → Stability
+-- what a word of `--min-stability` names
+abbrev pub stability_named : List ℕ → Option Stability
 stability_named word =
-    if bytes_eq word (codes "alpha") then stability.Alpha
-    else (if bytes_eq word (codes "beta") then stability.Beta
-    else (if bytes_eq word (codes "rc") then stability.Rc
-    else (if bytes_eq word (codes "stable") then stability.Stable else stability.Dev)))
+    if bytes_eq word (codes "dev") then Some stability.Dev
+    else (if bytes_eq word (codes "alpha") then Some stability.Alpha
+    else (if bytes_eq word (codes "beta") then Some stability.Beta
+    else (if bytes_eq word (codes "rc") then Some stability.Rc
+    else (if bytes_eq word (codes "stable") then Some stability.Stable else None))))
 
 -- the operator that a word of `test` names, by its sign or by its two letters
 abbrev pub operator_named : List ℕ → Option Operator
@@ -56,6 +82,10 @@ abbrev pub number_named : List ℕ → Option ℕ
 number_named word =
     if is_digits word && nat_lt (digits_value 10 word) (2 ^ 64)
     then Some (digits_value 10 word) else None
+
+-- the same with a plus before it
+abbrev pub count_named : List ℕ → Option ℕ
+count_named word = number_named (without_leading_plus word)
 
 -- the place of a number that a word of `next` names, counted from 0
 abbrev pub place_named : List ℕ → Option ℕ

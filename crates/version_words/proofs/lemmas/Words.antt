@@ -1,0 +1,104 @@
+-- What the words of a run mean, and their faults.
+use Rattle.std.proofs.Common.{◌≡◌, ◌∙◌, ℕ, true, false, List, [], Option, None, Some, String, Global, inl, inr, ap, sym, subst}
+use Rattle.clap.specs.Words.{fault_of, is_simple_and_free, kind_of, subcommand_rows_of, App, HasKind, HasMatchesOf, Row}
+use Rattle.clap.specs.declared.error.Error.{Error}
+use Rattle.clap.specs.declared.error.kind.ErrorKind.{ErrorKind}
+use Rattle.clap.specs.declared.parser.matches.ArgMatches.{ArgMatches}
+use Rattle.version_commands.specs.declared.faults.Fault.{Fault}
+use Rattle.version_commands.specs.declared.options.Task.{Task}
+use Rattle.version_commands.specs.declared.options.Task.TheVariants.{Compare, Difference, Each, Lines, Lists, Say, TestList, TestTwo}
+use Rattle.version_words.specs.Grammar.{program_app}
+use Rattle.version_words.specs.Task.{IsTaskOf}
+use Rattle.version_words.specs.Words.{command_in, command_of, faults, shows, AreWrong, ComesOfWrong, HasAnswer, IsMistake, IsTaskIn, IsWrongIn, Means, Shows}
+use Rattle.version_words.specs.declared.named.Verb.{Verb}
+use Rattle.version_words.specs.declared.named.Verb.TheVariants as verb
+use Rattle.version_words.proofs.lemmas.Grammar.{program-is-free, program-is-simple}
+
+-- what is wrong is also wrong in another way
+pub wrong_so : (fault : Fault) (Wrong Other : Type 0) → (Wrong → Other) → ComesOfWrong Wrong fault
+    → ComesOfWrong Other fault
+wrong_so fault Wrong Other so (inl memory) = inl memory
+wrong_so fault Wrong Other so (inr (usage, wrong)) = inr (usage, so wrong)
+
+-- a command's task is none to show a text
+unsaid : (command : Verb) (rows : List Row) (text : String Global) → IsTaskOf command rows (Say text) → ⊥
+unsaid verb.Sort rows text never = never
+unsaid verb.Newest rows text never = never
+unsaid verb.Filter rows text never = never
+unsaid verb.Show rows text never = never
+unsaid verb.Key rows text never = never
+unsaid verb.Test rows text never = never
+unsaid verb.Compare rows text never = never
+unsaid verb.Why rows text never = never
+unsaid verb.Diff rows text never = never
+unsaid verb.Next rows text never = never
+
+unsaid-in : (found : Option (Verb × List Row)) (text : String Global) → IsTaskIn found (Say text) → ⊥
+unsaid-in None text never = never
+unsaid-in (Some (command, rows)) text is = unsaid command rows text is
+
+module _ (words : List (List ℕ)) where
+  meant : (task : Task) → faults words ≡ [] → IsTaskIn (command_of words) task → Means words task
+  meant (Lines arrangement options) right is = (right, is)
+  meant (Each question options) right is = (right, is)
+  meant (TestTwo first operator second) right is = (right, is)
+  meant (TestList version list) right is = (right, is)
+  meant (Compare first second explain) right is = (right, is)
+  meant (Difference first second) right is = (right, is)
+  meant (Lists lists) right is = (right, is)
+  meant (Say text) right is = absurd (unsaid-in (command_of words) text is)
+
+  -- an error that shows a text
+  shown : (task : Task) (kind : ErrorKind) → (shows kind ≡ true → HasAnswer true (faults words))
+      → Shows kind task → Means words task
+  shown (Say text) kind answers is = answers is
+  shown (Lines arrangement options) kind answers never = absurd never
+  shown (Each question options) kind answers never = absurd never
+  shown (TestTwo first operator second) kind answers never = absurd never
+  shown (TestList version list) kind answers never = absurd never
+  shown (Compare first second explain) kind answers never = absurd never
+  shown (Difference first second) kind answers never = absurd never
+  shown (Lists lists) kind answers never = absurd never
+
+  module _ (app : App) (same : app ≡ program_app) where
+    -- a parse that found matches
+    module _ (m : ArgMatches) (right : is_simple_and_free app ≡ true → fault_of app words ≡ [])
+        (matches : HasMatchesOf app words m) where
+      none-wrong : faults words ≡ []
+      none-wrong = subst (λ a. is_simple_and_free a ≡ true → fault_of a words ≡ []) same right
+          program-is-free
+
+      command-is : command_in (subcommand_rows_of m) ≡ command_of words
+      command-is =
+          ap command_in (subst (λ a. HasMatchesOf a words m) same matches program-is-simple).1
+
+      pub task-meant : (task : Task) → IsTaskIn (command_in (subcommand_rows_of m)) task
+          → Means words task
+      task-meant task is =
+          meant task none-wrong (subst (λ found. IsTaskIn found task) command-is is)
+
+      pub rows-wrong : IsWrongIn (command_in (subcommand_rows_of m)) → AreWrong words
+      rows-wrong wrong = inr (none-wrong, subst IsWrongIn command-is wrong)
+
+    -- a parse that failed
+    module _ (error : Error) (fails : is_simple_and_free app ≡ true → HasKind (fault_of app words) error)
+      where
+        has-kind : HasKind (faults words) error
+        has-kind = subst (λ a. is_simple_and_free a ≡ true → HasKind (fault_of a words) error) same fails
+            program-is-free
+
+        answer-shown : HasKind (faults words) error → shows (kind_of error) ≡ true
+            → HasAnswer true (faults words)
+        answer-shown (inl memory) is = cc (sym (ap shows memory) ∙ is)
+        answer-shown (inr among) is = (kind_of error, among, is)
+
+        mistaken : HasKind (faults words) error → IsMistake (kind_of error)
+            → HasAnswer false (faults words)
+        mistaken (inl memory) (hidden, other) = absurd (other memory)
+        mistaken (inr among) (hidden, other) = (kind_of error, among, hidden)
+
+        pub text-meant : (task : Task) → Shows (kind_of error) task → Means words task
+        text-meant task is = shown task (kind_of error) (answer-shown has-kind) is
+
+        pub words-wrong : IsMistake (kind_of error) → AreWrong words
+        words-wrong mistake = inl (mistaken has-kind mistake)

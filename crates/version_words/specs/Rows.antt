@@ -1,0 +1,84 @@
+-- What the rows say that `clap` made of a command's words.
+use Rattle.std.specs.Prelude.{◌-◌, ℕ, Bool, false, List, [], Option, None, Some, codes, is_some, option_and_then, option_map, unwrap_or, ◌||◌, if◌then◌else◌}
+use Rattle.std.specs.Option.{option_map_or}
+use Rattle.std.specs.Str.{bytes_eq}
+use Rattle.clap.specs.Words.{all_of, first_of, rows_of, found_of, Row}
+use Rattle.clap.specs.declared.parser.matches.ArgMatches.{ArgMatches}
+use Rattle.version_commands.specs.declared.options.Invalid.{Invalid}
+use Rattle.version_commands.specs.declared.options.Invalid.TheVariants.{Fail, Skip}
+use Rattle.version_lines.specs.declared.column.Column.{Column}
+use Rattle.version_tasks.specs.declared.stability.Stability.{Stability}
+use Rattle.version_tasks.specs.declared.stability.Stability.TheVariants.{Dev}
+use Rattle.version_words.specs.Named.{count_named, invalid_asked, invalid_named, may_ask, separator_named, stability_named}
+use Rattle.version_words.specs.declared.named.Verb.{Verb}
+use Rattle.version_words.specs.declared.named.Verb.TheVariants.{Filter}
+
+-- the rows of a command
+abbrev pub rows_in : ArgMatches → List Row
+rows_in options = rows_of (found_of options)
+
+-- whether a flag is given
+abbrev pub is_set : List ℕ → List Row → Bool
+is_set name rows = option_map_or (λ text. bytes_eq text (codes "true")) (first_of name rows) false
+
+-- whether an option with a value is given
+abbrev pub is_given : List ℕ → List Row → Bool
+is_given name rows = is_some (first_of name rows)
+
+-- the word of an argument that has to be there
+abbrev pub word_of : List ℕ → List Row → List ℕ
+word_of name rows = unwrap_or (first_of name rows) []
+
+-- the words of which there may be any number
+abbrev pub words_of : List Row → List (List ℕ)
+words_of rows = unwrap_or (all_of (codes "WORDS") rows) []
+
+-- the number of an option
+abbrev pub number_of : List ℕ → List Row → Option ℕ
+number_of name rows = option_and_then count_named (first_of name rows)
+
+-- the byte that ends lines
+abbrev pub end_of : List Row → ℕ
+end_of rows = if is_set (codes "zero-terminated") rows then 0 else 10
+
+-- the byte between columns, if it is asked for; None of all where the word names no byte
+abbrev pub separator_of : List Row → Option (Option ℕ)
+separator_of rows = option_map_or (λ word. option_map Some (separator_named word))
+    (first_of (codes "field-separator") rows) (Some None)
+
+-- the column of a number that counts from 1
+abbrev pub column_at : Option ℕ → ℕ → Column
+column_at separator number = record { number = number - 1; separator = separator }
+
+-- the column that an option asks for
+abbrev pub column_of : List ℕ → Option ℕ → List Row → Option Column
+column_of name separator rows = option_map (column_at separator) (number_of name rows)
+
+-- the level of the versions that are kept
+abbrev pub level_of : List Row → Option Stability
+level_of rows = option_map_or stability_named (first_of (codes "min-stability") rows) (Some Dev)
+
+-- what is asked of lines without a version, if it is; None of all where the word names nothing that
+-- the command can do
+abbrev pub invalid_word : Verb → List Row → Option (Option Invalid)
+invalid_word command rows = option_map_or
+    (λ word. option_and_then (λ asked. if may_ask command asked then Some (Some asked) else None)
+    (invalid_named word)) (first_of (codes "invalid") rows) (Some None)
+
+-- what becomes of them where nothing is asked
+abbrev pub invalid_unasked : Verb → Invalid
+invalid_unasked Filter = Skip
+invalid_unasked other = Fail
+
+-- what becomes of lines without a version
+abbrev pub invalid_of : Verb → List Row → Option Invalid
+invalid_of command rows = option_and_then
+    (λ asked. invalid_asked asked (is_given (codes "invalid-to") rows) (invalid_unasked command))
+    (invalid_word command rows)
+
+-- whether `diff` is given what is for lists alone
+abbrev pub has_option_of_lists : List Row → Bool
+has_option_of_lists rows = is_given (codes "group") rows || (is_given (codes "key") rows
+    || (is_given (codes "field-separator") rows || (is_set (codes "tags") rows
+    || (is_given (codes "prefix") rows || (is_given (codes "invalid") rows
+    || (is_set (codes "zero-terminated") rows || is_set (codes "crlf") rows))))))

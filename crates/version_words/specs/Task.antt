@@ -1,0 +1,150 @@
+-- Which task a command and its rows mean, and what is wrong where they mean none.
+use Rattle.std.specs.Prelude.{◌≡◌, ◌⊎◌, ⊤, ℕ, true, false, List, [], ◌∷◌, Option, None, Some, codes, map, option_map, unwrap_or, if◌then◌else◌}
+use Rattle.std.specs.Str.{bytes_eq}
+use Rattle.clap.specs.Words.{all_of, first_of, Row}
+use Rattle.version_commands.specs.declared.options.Arrangement.{Arrangement}
+use Rattle.version_commands.specs.declared.options.Arrangement.TheVariants as arrangement
+use Rattle.version_commands.specs.declared.options.Choice.{Choice}
+use Rattle.version_commands.specs.declared.options.EachOptions.{EachOptions}
+use Rattle.version_commands.specs.declared.options.LineOptions.{LineOptions}
+use Rattle.version_commands.specs.declared.options.Lists.{Lists}
+use Rattle.version_commands.specs.declared.options.Naming.{Naming}
+use Rattle.version_commands.specs.declared.options.Naming.TheVariants.{Bare, Prefix, Tag}
+use Rattle.version_commands.specs.declared.options.Question.{Question}
+use Rattle.version_commands.specs.declared.options.Question.TheVariants as question
+use Rattle.version_commands.specs.declared.options.Task.{Task}
+use Rattle.version_commands.specs.declared.options.Task.TheVariants as task
+use Rattle.version_commands.specs.declared.options.VersionPlace.{VersionPlace}
+use Rattle.version_lines.specs.declared.column.Column.{Column}
+use Rattle.version_words.specs.Named.{operator_named, place_named}
+use Rattle.version_words.specs.Rows.{column_at, column_of, end_of, has_option_of_lists, invalid_of, is_given, is_set, level_of, number_of, separator_of, word_of, words_of}
+use Rattle.version_words.specs.declared.named.Verb.{Verb}
+use Rattle.version_words.specs.declared.named.Verb.TheVariants.{Compare, Diff, Filter, Key, Newest, Next, Show, Sort, Test, Why}
+
+-- how a version stands in its column: `--tags` and `--prefix` exclude each other
+abbrev pub IsNaming : List Row → Naming → Type 0
+IsNaming rows Bare = (is_set (codes "tags") rows ≡ false) × (first_of (codes "prefix") rows ≡ None)
+IsNaming rows Tag = (is_set (codes "tags") rows ≡ true) × (first_of (codes "prefix") rows ≡ None)
+IsNaming rows (Prefix prefix) =
+    (is_set (codes "tags") rows ≡ false) × (first_of (codes "prefix") rows ≡ Some prefix.now)
+
+-- where a version is in a line
+pub record IsPlace (rows : List Row) (column : Option Column) (place : VersionPlace) : Type 0 where
+  pub crlf_is : place.crlf ≡ is_set (codes "crlf") rows
+  pub column_is : place.column ≡ column
+  pub naming_is : IsNaming rows place.naming
+
+-- which versions are kept
+pub record IsChoice (rows : List Row) (choice : Choice) : Type 0 where
+  pub least_is : level_of rows ≡ Some choice.least
+  pub wanted_is : option_map (λ list. list.now) choice.wanted ≡ first_of (codes "match") rows
+
+-- what is asked beside the arrangement, with this byte between columns
+pub record AreLineOptions (command : Verb) (separator : Option ℕ) (rows : List Row)
+    (options : LineOptions) : Type 0 where
+  pub end_is : options.end ≡ end_of rows
+  pub place_is : IsPlace rows (column_of (codes "key") separator rows) options.place
+  pub choice_is : IsChoice rows options.choice
+  pub invalid_is : invalid_of command rows ≡ Some options.invalid
+  pub invalid_to_is : option_map (λ name. name.now) options.invalid_to ≡ first_of (codes "invalid-to") rows
+  pub progress_is : options.progress ≡ is_set (codes "progress") rows
+  pub files_are : map (λ name. name.now) options.files.items ≡ words_of rows
+
+-- what is written of the lines
+abbrev pub IsArrangement : Verb → Option ℕ → List Row → Arrangement → Type 0
+IsArrangement Sort separator rows (arrangement.Sort reverse unique) =
+    (reverse ≡ is_set (codes "reverse") rows) × (unique ≡ is_set (codes "unique") rows)
+IsArrangement Newest separator rows (arrangement.Newest count group) =
+    (count ≡ unwrap_or (number_of (codes "count") rows) 1)
+    × (group ≡ column_of (codes "group") separator rows)
+IsArrangement Filter separator rows (arrangement.Filter list inverted) =
+    (list.now ≡ word_of (codes "LIST") rows) × (inverted ≡ is_set (codes "invert-match") rows)
+IsArrangement command separator rows other = ⊥
+
+-- what is asked of each version
+abbrev pub IsQuestion : Verb → List Row → Question → Type 0
+IsQuestion Show rows question.Show = is_set (codes "json") rows ≡ false
+IsQuestion Show rows question.Json = is_set (codes "json") rows ≡ true
+IsQuestion Key rows question.Key = ⊤
+IsQuestion Why rows (question.Why list) = list.now ≡ word_of (codes "LIST") rows
+IsQuestion Next rows (question.Next place) =
+    place_named (word_of (codes "PLACE") rows) ≡ Some place
+IsQuestion command rows other = ⊥
+
+-- the versions of the words: none where `-` stands alone, for standard input
+abbrev pub versions_asked : List (List ℕ) → List (List ℕ)
+versions_asked (word ∷ []) = if bytes_eq word (codes "-") then [] else word ∷ []
+versions_asked words = words
+
+pub record AreEachOptions (rows : List Row) (options : EachOptions) : Type 0 where
+  pub versions_are : map (λ word. word.now) options.versions.items ≡ versions_asked (words_of rows)
+  pub end_is : options.end ≡ end_of rows
+  pub crlf_is : options.crlf ≡ is_set (codes "crlf") rows
+
+-- the two lists of `diff`, with this byte between columns
+pub record AreLists (separator : Option ℕ) (rows : List Row) (lists : Lists) : Type 0 where
+  pub asked : is_set (codes "lists") rows ≡ true
+  pub old_is : lists.old.now ≡ word_of (codes "A") rows
+  pub new_is : lists.new.now ≡ word_of (codes "B") rows
+  pub end_is : lists.end ≡ end_of rows
+  pub name_is : lists.name ≡ column_at separator (unwrap_or (number_of (codes "group") rows) 1)
+  pub place_is : IsPlace rows
+      (Some (column_at separator (unwrap_or (number_of (codes "key") rows) 2))) lists.place
+  pub invalid_is : invalid_of Diff rows ≡ Some lists.invalid
+
+-- the command and its rows mean this task
+abbrev pub IsTaskOf : Verb → List Row → Task → Type 0
+IsTaskOf command rows (task.Lines arrangement options) = (separator : Option ℕ)
+    × (separator_of rows ≡ Some separator) × IsArrangement command separator rows arrangement
+    × AreLineOptions command separator rows options
+IsTaskOf command rows (task.Each question options) =
+    IsQuestion command rows question × AreEachOptions rows options
+IsTaskOf Test rows (task.TestTwo first operator second) = (word : List ℕ)
+    × (all_of (codes "WORD") rows ≡ Some (first.now ∷ word ∷ second.now ∷ []))
+    × (operator_named word ≡ Some operator)
+IsTaskOf Test rows (task.TestList version list) =
+    all_of (codes "WORD") rows ≡ Some (version.now ∷ list.now ∷ [])
+IsTaskOf Compare rows (task.Compare first second explain) =
+    (first.now ≡ word_of (codes "A") rows) × (second.now ≡ word_of (codes "B") rows)
+    × (explain ≡ is_set (codes "explain") rows)
+IsTaskOf Diff rows (task.Difference first second) = (is_set (codes "lists") rows ≡ false)
+    × (has_option_of_lists rows ≡ false) × (first.now ≡ word_of (codes "A") rows)
+    × (second.now ≡ word_of (codes "B") rows)
+IsTaskOf Diff rows (task.Lists lists) = (separator : Option ℕ)
+    × (separator_of rows ≡ Some separator) × AreLists separator rows lists
+IsTaskOf command rows other = ⊥
+
+-- ---- what is wrong
+
+-- of the place of a version: it is after a prefix and in a tag, or the byte between columns is none
+abbrev pub HasWrongPlace : List Row → Type 0
+HasWrongPlace rows = (separator_of rows ≡ None)
+    ⊎ ((is_set (codes "tags") rows ≡ true) × (is_given (codes "prefix") rows ≡ true))
+
+-- of the options of a command over lines
+abbrev pub HasWrongLines : Verb → List Row → Type 0
+HasWrongLines command rows =
+    HasWrongPlace rows ⊎ ((level_of rows ≡ None) ⊎ (invalid_of command rows ≡ None))
+
+-- of the words of `test`: they are neither two nor three, or no operator is between two
+abbrev pub HasWrongTest : Option (List (List ℕ)) → Type 0
+HasWrongTest (Some (version ∷ list ∷ [])) = ⊥
+HasWrongTest (Some (first ∷ word ∷ second ∷ [])) = operator_named word ≡ None
+HasWrongTest other = ⊤
+
+-- of the options of `diff`
+abbrev pub HasWrongDiff : List Row → Type 0
+HasWrongDiff rows =
+    ((is_set (codes "lists") rows ≡ false) × (has_option_of_lists rows ≡ true))
+    ⊎ ((is_set (codes "lists") rows ≡ true)
+    × (HasWrongPlace rows ⊎ (invalid_of Diff rows ≡ None)))
+
+-- the command and its rows mean no task
+abbrev pub IsWrong : Verb → List Row → Type 0
+IsWrong Sort rows = HasWrongLines Sort rows
+IsWrong Newest rows = HasWrongLines Newest rows
+IsWrong Filter rows = HasWrongLines Filter rows
+IsWrong Test rows = HasWrongTest (all_of (codes "WORD") rows)
+IsWrong Diff rows = HasWrongDiff rows
+IsWrong Next rows = place_named (word_of (codes "PLACE") rows) ≡ None
+IsWrong other rows = ⊥

@@ -1,0 +1,77 @@
+-- What the words of a run mean.
+use Rattle.std.specs.Prelude.{◌≡◌, ◌≢◌, ◌⊎◌, ⊤, ℕ, Bool, true, false, List, [], Option, None, Some, option_and_then, option_map}
+use Rattle.clap.specs.Words.{fault_of, subcommand_of, IsAmong, Kinds, Row}
+use Rattle.clap.specs.declared.error.kind.ErrorKind.{ErrorKind}
+use Rattle.clap.specs.declared.error.kind.ErrorKind.TheVariants.{DisplayHelp, DisplayVersion, OutOfMemory}
+use Rattle.version_commands.specs.declared.faults.Fault.{Fault}
+use Rattle.version_commands.specs.declared.faults.Fault.TheVariants.{Memory, Usage}
+use Rattle.version_commands.specs.declared.options.Task.{Task}
+use Rattle.version_commands.specs.declared.options.Task.TheVariants.{Say}
+use Rattle.version_words.specs.Grammar.{program_app}
+use Rattle.version_words.specs.Named.{verb_named}
+use Rattle.version_words.specs.Task.{IsTaskOf, IsWrong}
+use Rattle.version_words.specs.declared.named.Verb.{Verb}
+
+-- the words are no task
+abbrev pub IsUsage : Fault → Type 0
+IsUsage (Usage text) = ⊤
+IsUsage other = ⊥
+
+-- there was no memory, or the words are no task since this is wrong with them
+abbrev pub ComesOfWrong : Type 0 → Fault → Type 0
+ComesOfWrong Wrong fault = (fault ≡ Memory) ⊎ (IsUsage fault × Wrong)
+
+-- the command that `clap` found, with the rows of its words
+abbrev pub command_in : Option (List ℕ × List Row) → Option (Verb × List Row)
+command_in found = option_and_then (λ f. option_map (λ command. (command, f.1)) (verb_named f.0)) found
+
+-- this is the task of a command
+abbrev pub IsTaskIn : Option (Verb × List Row) → Task → Type 0
+IsTaskIn None task = ⊥
+IsTaskIn (Some (command, rows)) task = IsTaskOf command rows task
+
+-- there is no command, or no task of it
+abbrev pub IsWrongIn : Option (Verb × List Row) → Type 0
+IsWrongIn None = ⊤
+IsWrongIn (Some (command, rows)) = IsWrong command rows
+
+-- whether an error shows what was asked for: help, or the version
+abbrev pub shows : ErrorKind → Bool
+shows DisplayHelp = true
+shows DisplayVersion = true
+shows other = false
+
+-- an error of this kind shows the text of the task
+abbrev pub Shows : ErrorKind → Task → Type 0
+Shows kind (Say text) = shows kind ≡ true
+Shows kind other = ⊥
+
+-- an error of this kind is a mistake in the words
+abbrev pub IsMistake : ErrorKind → Type 0
+IsMistake kind = (shows kind ≡ false) × (kind ≢ OutOfMemory)
+
+-- one of the kinds does, or does not
+abbrev pub HasAnswer : Bool → Kinds → Type 0
+HasAnswer shown kinds = (kind : ErrorKind) × IsAmong kind kinds × (shows kind ≡ shown)
+
+module _ (words : List (List ℕ)) where
+  -- what is wrong with the words by the grammar alone
+  abbrev pub faults : Kinds
+  faults = fault_of program_app words
+
+  -- the command that they name, with its rows
+  abbrev pub command_of : Option (Verb × List Row)
+  command_of = command_in (subcommand_of program_app words)
+
+  -- The words mean this task: that of their command and its rows, or to show help or the version.
+  abbrev pub Means : Task → Type 0
+  Means (Say text) = HasAnswer true faults
+  Means task = (faults ≡ []) × IsTaskIn command_of task
+
+  -- they are none that the grammar has, or its command and rows mean no task
+  abbrev pub AreWrong : Type 0
+  AreWrong = HasAnswer false faults ⊎ ((faults ≡ []) × IsWrongIn command_of)
+
+  -- the faults that words which mean no task end in
+  abbrev pub ComesOfWords : Fault → Type 0
+  ComesOfWords = ComesOfWrong AreWrong

@@ -1,0 +1,15 @@
+//! The program `versions` over any files, reader and writer: `run` reads the words of a command, and does what they mean.
+//! docs/VERSIONS.md has its rules.
+#![tactic(auto)]
+
+mod grammar;
+mod named;
+mod near;
+mod program;
+mod rows;
+mod task;
+mod words;
+mod wrong;
+
+pub use program::run;
+pub use words::read_words;

@@ -1,0 +1,152 @@
+//! What single words name.
+
+ghost use Rattle.std.specs.Prelude.{◌≡◌};
+ghost use Rattle.version_words.specs.Named.{count_named, invalid_asked, invalid_named, may_ask, number_named, operator_named, place_named, separator_named, stability_named, verb_named};
+
+use version_commands::{Invalid, Operator};
+use version_tasks::Stability;
+use version_texts::is_digits;
+
+/// The command that words name.
+#[derive(Clone, Copy, Debug)]
+pub enum Verb {
+    Sort,
+    Newest,
+    Filter,
+    Show,
+    Key,
+    Test,
+    Compare,
+    Why,
+    Diff,
+    Next,
+}
+
+/// Returns the command of a name.
+pub fn verb_named(word: &str) -> Option<Verb>
+    ensures { result ≡ verb_named word.now }
+{
+    match word {
+        "sort" => Some(Verb::Sort),
+        "newest" => Some(Verb::Newest),
+        "filter" => Some(Verb::Filter),
+        "show" => Some(Verb::Show),
+        "key" => Some(Verb::Key),
+        "test" => Some(Verb::Test),
+        "compare" => Some(Verb::Compare),
+        "why" => Some(Verb::Why),
+        "diff" => Some(Verb::Diff),
+        "next" => Some(Verb::Next),
+        _ => None,
+    }
+}
+
+/// Returns what becomes of lines without a version, or None if that is not to be had.
+pub fn invalid_asked(asked: Option<Invalid>, to_file: bool, by_default: Invalid) -> Option<Invalid>
+    ensures { result ≡ invalid_asked asked to_file by_default }
+{
+    match (asked, to_file) {
+        (None, false) => Some(by_default),
+        (Some(invalid), false) => Some(invalid),
+        (None | Some(Invalid::Skip), true) => Some(Invalid::Skip),
+        (Some(_), true) => None,
+    }
+}
+
+/// Returns what a word of `--invalid` names.
+pub fn invalid_named(word: &str) -> Option<Invalid>
+    ensures { result ≡ invalid_named word.now }
+{
+    match word {
+        "fail" => Some(Invalid::Fail),
+        "skip" => Some(Invalid::Skip),
+        "first" => Some(Invalid::First),
+        "last" => Some(Invalid::Last),
+        _ => None,
+    }
+}
+
+/// Returns whether a command can do this with lines that have no version.
+pub fn may_ask(command: Verb, asked: Invalid) -> bool
+    ensures { result ≡ may_ask command asked }
+{
+    matches!(
+        (command, asked),
+        (Verb::Sort | Verb::Filter, _) | (_, Invalid::Fail | Invalid::Skip)
+    )
+}
+
+/// Returns what a word of `--min-stability` names.
+pub fn stability_named(word: &str) -> Option<Stability>
+    ensures { result ≡ stability_named word.now }
+{
+    match word {
+        "dev" => Some(Stability::Dev),
+        "alpha" => Some(Stability::Alpha),
+        "beta" => Some(Stability::Beta),
+        "rc" => Some(Stability::Rc),
+        "stable" => Some(Stability::Stable),
+        _ => None,
+    }
+}
+
+/// Returns the operator that a word of `test` names.
+pub fn operator_named(word: &str) -> Option<Operator>
+    ensures { result ≡ operator_named word.now }
+{
+    match word {
+        "<" | "lt" => Some(Operator::Less),
+        "<=" | "le" => Some(Operator::LessOrEqual),
+        "=" | "eq" => Some(Operator::Equal),
+        ">=" | "ge" => Some(Operator::GreaterOrEqual),
+        ">" | "gt" => Some(Operator::Greater),
+        _ => None,
+    }
+}
+
+/// Returns the byte that a word of `-t` names.
+pub fn separator_named(word: &str) -> Option<u8>
+    ensures { result ≡ separator_named word.now }
+{
+    if let [byte] = word.as_bytes() {
+        return Some(*byte);
+    }
+    match word {
+        "\\t" => Some(b'\t'),
+        "\\0" => Some(0),
+        _ => None,
+    }
+}
+
+/// Returns the place of a number that a word of `next` names, counted from 0: by its name, or by digits.
+pub fn place_named(word: &str) -> Option<usize>
+    ensures { result ≡ place_named word.now }
+{
+    match word {
+        "major" => Some(0),
+        "minor" => Some(1),
+        "patch" => Some(2),
+        _ => number_named(word),
+    }
+}
+
+/// Returns the number that the word of an option is: digits, perhaps after a plus.
+pub fn count_named(word: &str) -> Option<usize>
+    ensures { result ≡ count_named word.now }
+{
+    match word.strip_prefix("+") {
+        Some(digits) => number_named(digits),
+        None => number_named(word),
+    }
+}
+
+// Returns the number that a word is, if it is all digits and fits.
+fn number_named(word: &str) -> Option<usize>
+    ensures { result ≡ number_named word.now }
+{
+    if is_digits(word.as_bytes()) {
+        word.parse::<usize>().ok()
+    } else {
+        None
+    }
+}

@@ -1,0 +1,242 @@
+//! Which task the words mean.
+
+ghost use Rattle.std.specs.Prelude.{◌≡◌, ◌⊎◌, None, Some, IfErr, IfOk, true, false, codes};
+ghost use Rattle.clap.specs.Words.{all_of, subcommand_rows_of};
+ghost use Rattle.version_words.specs.Named.{place_named};
+ghost use Rattle.version_words.specs.Rows.{column_of, is_given, is_set, rows_in, word_of};
+ghost use Rattle.version_words.specs.Task.{AreEachOptions, AreLineOptions, HasWrongDiff, HasWrongLines, HasWrongPlace, HasWrongTest, IsNaming, IsPlace, IsQuestion, IsTaskOf};
+ghost use Rattle.version_words.specs.Words.{command_in, ComesOfWrong, IsTaskIn, IsWrongIn};
+
+use crate::named::{Verb, operator_named, place_named};
+use crate::rows::{
+    column_at, column_of, command_in, end_of, has_option_of_lists, invalid_of, is_set, level_of,
+    number_of, separator_of, text_of, texts_of, word_of, words_of,
+};
+use crate::wrong::{wrong, wrong_operator, wrong_place};
+use clap::ArgMatches;
+use std::alloc::{AllocError, Global};
+use version_commands::{
+    Arrangement, Choice, EachOptions, Fault, LineOptions, Lists, Naming, Question, Task,
+    VersionPlace,
+};
+use version_lines::Column;
+
+/// Returns the task that the words parse as.
+pub fn task_of<'w>(alloc: Global, matches: &ArgMatches<'w>) -> Result<Task<'w>, Fault>
+    ensures task { IfOk result (IsTaskIn (command_in (subcommand_rows_of matches.now))) }
+    ensures faults { IfErr result
+        (ComesOfWrong (IsWrongIn (command_in (subcommand_rows_of matches.now)))) }
+{
+    let Some((command, options)) = command_in(matches) else {
+        return Err(wrong(alloc, "a command is missing"));
+    };
+    match command {
+        Verb::Sort => sort_task(alloc, options),
+        Verb::Newest => newest_task(alloc, options),
+        Verb::Filter => filter_task(alloc, options),
+        Verb::Show => Ok(Task::Each(show_question(options), each_options(alloc, options)?)),
+        Verb::Key => Ok(Task::Each(Question::Key, each_options(alloc, options)?)),
+        Verb::Why => {
+            let question = Question::Why(word_of(options, "LIST"));
+            Ok(Task::Each(question, each_options(alloc, options)?))
+        }
+        Verb::Next => next_task(alloc, options),
+        Verb::Test => test_task(alloc, options),
+        Verb::Compare => Ok(Task::Compare {
+            first: word_of(options, "A"),
+            second: word_of(options, "B"),
+            explain: is_set(options, "explain"),
+        }),
+        Verb::Diff => diff_task(alloc, options),
+    }
+}
+
+fn sort_task<'w>(alloc: Global, options: &ArgMatches<'w>) -> Result<Task<'w>, Fault>
+    ensures task { IfOk result (IsTaskOf Verb.Sort (rows_in options.now)) }
+    ensures faults { IfErr result (ComesOfWrong (HasWrongLines Verb.Sort (rows_in options.now))) }
+{
+    let separator = separator_of(alloc, options)?;
+    let arrangement = Arrangement::Sort {
+        reverse: is_set(options, "reverse"),
+        unique: is_set(options, "unique"),
+    };
+    let line_options = line_options(alloc, Verb::Sort, separator, options)?;
+    Ok(Task::Lines(arrangement, line_options))
+}
+
+fn newest_task<'w>(alloc: Global, options: &ArgMatches<'w>) -> Result<Task<'w>, Fault>
+    ensures task { IfOk result (IsTaskOf Verb.Newest (rows_in options.now)) }
+    ensures faults { IfErr result (ComesOfWrong (HasWrongLines Verb.Newest (rows_in options.now))) }
+{
+    let separator = separator_of(alloc, options)?;
+    let arrangement = Arrangement::Newest {
+        count: number_of(options, "count").unwrap_or(1),
+        group: column_of(options, "group", separator),
+    };
+    let line_options = line_options(alloc, Verb::Newest, separator, options)?;
+    Ok(Task::Lines(arrangement, line_options))
+}
+
+fn filter_task<'w>(alloc: Global, options: &ArgMatches<'w>) -> Result<Task<'w>, Fault>
+    ensures task { IfOk result (IsTaskOf Verb.Filter (rows_in options.now)) }
+    ensures faults { IfErr result (ComesOfWrong (HasWrongLines Verb.Filter (rows_in options.now))) }
+{
+    let separator = separator_of(alloc, options)?;
+    let arrangement = Arrangement::Filter {
+        list: word_of(options, "LIST"),
+        inverted: is_set(options, "invert-match"),
+    };
+    let line_options = line_options(alloc, Verb::Filter, separator, options)?;
+    Ok(Task::Lines(arrangement, line_options))
+}
+
+// Returns what is asked beside the arrangement, with this byte between columns.
+fn line_options<'w>(
+    alloc: Global,
+    command: Verb,
+    separator: Option<u8>,
+    options: &ArgMatches<'w>,
+) -> Result<LineOptions<'w>, Fault>
+    ensures options { IfOk result (AreLineOptions command separator (rows_in options.now)) }
+    ensures faults { IfErr result (ComesOfWrong (HasWrongLines command (rows_in options.now))) }
+{
+    let place = place_of(alloc, column_of(options, "key", separator), options)?;
+    let least = level_of(alloc, options)?;
+    let invalid = invalid_of(alloc, command, options)?;
+    Ok(LineOptions {
+        end: end_of(options),
+        place,
+        choice: Choice {
+            least,
+            wanted: text_of(options, "match"),
+        },
+        invalid,
+        invalid_to: text_of(options, "invalid-to"),
+        progress: is_set(options, "progress"),
+        files: words_of(alloc, options)?,
+    })
+}
+
+// Returns where a version is in a line.
+fn place_of<'w>(
+    alloc: Global,
+    column: Option<Column>,
+    options: &ArgMatches<'w>,
+) -> Result<VersionPlace<'w>, Fault>
+    ensures place { IfOk result (IsPlace (rows_in options.now) column) }
+    ensures faults { IfErr result (ComesOfWrong (HasWrongPlace (rows_in options.now))) }
+{
+    Ok(VersionPlace {
+        crlf: is_set(options, "crlf"),
+        column,
+        naming: naming_of(alloc, options)?,
+    })
+}
+
+// Returns how a version stands in its column.
+fn naming_of<'w>(alloc: Global, options: &ArgMatches<'w>) -> Result<Naming<'w>, Fault>
+    ensures naming { IfOk result (IsNaming (rows_in options.now)) }
+    ensures faults { IfErr result (ComesOfWrong (HasWrongPlace (rows_in options.now))) }
+{
+    match (is_set(options, "tags"), text_of(options, "prefix")) {
+        (false, None) => Ok(Naming::Bare),
+        (true, None) => Ok(Naming::Tag),
+        (false, Some(prefix)) => Ok(Naming::Prefix(prefix)),
+        (true, Some(_)) => {
+            let what = "the argument '--tags' cannot be used with '--prefix <P>'";
+            Err(wrong(alloc, what))
+        }
+    }
+}
+
+// Returns which versions are asked.
+fn each_options<'w>(alloc: Global, options: &ArgMatches<'w>) -> Result<EachOptions<'w>, AllocError>
+    ensures { IfOk result (AreEachOptions (rows_in options.now)) }
+{
+    let words = words_of(alloc, options)?;
+    let versions = match words.as_slice() {
+        ["-"] => Vec::new(alloc),
+        _ => words,
+    };
+    Ok(EachOptions {
+        versions,
+        end: end_of(options),
+        crlf: is_set(options, "crlf"),
+    })
+}
+
+// Returns what `show` asks.
+fn show_question<'w>(options: &ArgMatches<'_>) -> Question<'w>
+    ensures { IsQuestion Verb.Show (rows_in options.now) result }
+{
+    if is_set(options, "json") {
+        Question::Json
+    } else {
+        Question::Show
+    }
+}
+
+fn next_task<'w>(alloc: Global, options: &ArgMatches<'w>) -> Result<Task<'w>, Fault>
+    ensures task { IfOk result (IsTaskOf Verb.Next (rows_in options.now)) }
+    ensures faults { IfErr result
+        (ComesOfWrong (place_named (word_of (codes "PLACE") (rows_in options.now)) ≡ None)) }
+{
+    let word = word_of(options, "PLACE");
+    match place_named(word) {
+        Some(place) => {
+            let each_options = each_options(alloc, options)?;
+            Ok(Task::Each(Question::Next(place), each_options))
+        }
+        None => Err(wrong_place(alloc, word)),
+    }
+}
+
+fn test_task<'w>(alloc: Global, options: &ArgMatches<'w>) -> Result<Task<'w>, Fault>
+    ensures task { IfOk result (IsTaskOf Verb.Test (rows_in options.now)) }
+    ensures faults { IfErr result
+        (ComesOfWrong (HasWrongTest (all_of (codes "WORD") (rows_in options.now)))) }
+{
+    match texts_of(options, "WORD") {
+        Some([version, list]) => Ok(Task::TestList(version, list)),
+        Some([first, word, second]) => match operator_named(word) {
+            Some(operator) => Ok(Task::TestTwo(first, operator, second)),
+            None => Err(wrong_operator(alloc, word)),
+        },
+        _ => Err(wrong(alloc, "two or three words are needed")),
+    }
+}
+
+fn diff_task<'w>(alloc: Global, options: &ArgMatches<'w>) -> Result<Task<'w>, Fault>
+    ensures task { IfOk result (IsTaskOf Verb.Diff (rows_in options.now)) }
+    ensures faults { IfErr result (ComesOfWrong (HasWrongDiff (rows_in options.now))) }
+{
+    if is_set(options, "lists") {
+        return lists_task(alloc, options);
+    }
+    if has_option_of_lists(options) {
+        let what = "the following required arguments were not provided:\n  --lists";
+        return Err(wrong(alloc, what));
+    }
+    Ok(Task::Difference(word_of(options, "A"), word_of(options, "B")))
+}
+
+// Returns the task of `diff --lists`.
+fn lists_task<'w>(alloc: Global, options: &ArgMatches<'w>) -> Result<Task<'w>, Fault>
+    requires { is_set (codes "lists") (rows_in options.now) ≡ true }
+    ensures task { IfOk result (IsTaskOf Verb.Diff (rows_in options.now)) }
+    ensures faults { IfErr result (ComesOfWrong (HasWrongDiff (rows_in options.now))) }
+{
+    let separator = separator_of(alloc, options)?;
+    let name = number_of(options, "group").unwrap_or(1);
+    let version = number_of(options, "key").unwrap_or(2);
+    let place = place_of(alloc, Some(column_at(separator, version)), options)?;
+    let invalid = invalid_of(alloc, Verb::Diff, options)?;
+    Ok(Task::Lists(Lists {
+        old: word_of(options, "A"),
+        new: word_of(options, "B"),
+        end: end_of(options),
+        name: column_at(separator, name),
+        place,
+        invalid,
+    }))
+}

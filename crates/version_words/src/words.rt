@@ -1,0 +1,93 @@
+//! Reads the words of a run.
+
+ghost use Rattle.std.specs.Prelude.{map, string_bytes, IfErr, IfOk};
+ghost use Rattle.clap.specs.Words.{kind_of};
+ghost use Rattle.version_words.specs.Words.{ComesOfWords, ComesOfWrong, IsMistake, Means, Shows};
+
+use crate::grammar::{NAMES, program};
+use crate::near::{similar, with_tip};
+use crate::task::task_of;
+use crate::wrong::MORE;
+use clap::Error;
+use clap::error::ErrorKind;
+use std::alloc::{AllocError, Global};
+use version_commands::{Fault, Task, quoted};
+
+/// Reads the words after the program's name: a task, or what is wrong with them and how they are used.
+pub fn read_words<'w>(alloc: Global, words: &'w [String]) -> Result<Task<'w>, Fault>
+    ensures task { IfOk result (Means (map string_bytes words.now)) }
+    ensures faults { IfErr result (ComesOfWords (map string_bytes words.now)) }
+{
+    let program = program(alloc)?;
+    match program.try_get_matches_from(words) {
+        Ok(matches) => task_of(alloc, &matches),
+        Err(error) => answer_to(alloc, &error, words),
+    }
+}
+
+// Returns what a parse without matches asks for: a text, if the words ask for help or the version.
+fn answer_to<'w>(alloc: Global, error: &Error, words: &[String]) -> Result<Task<'w>, Fault>
+    ensures task { IfOk result (Shows (kind_of error.now)) }
+    ensures faults { IfErr result (ComesOfWrong (IsMistake (kind_of error.now))) }
+{
+    match error.kind() {
+        ErrorKind::DisplayHelp | ErrorKind::DisplayVersion => {
+            Ok(Task::Say(format!(in alloc; "{error}")?))
+        }
+        ErrorKind::OutOfMemory => Err(Fault::Memory),
+        kind => Err(Fault::Usage(what_is_wrong(alloc, kind, words)?)),
+    }
+}
+
+// Returns what is wrong with words, and which were meant.
+fn what_is_wrong(alloc: Global, kind: ErrorKind, words: &[String]) -> Result<String, AllocError> {
+    let text = text_of(alloc, kind, words)?;
+    match kind {
+        ErrorKind::InvalidSubcommand => meant_command(alloc, text, words),
+        _ => Ok(text),
+    }
+}
+
+// Returns the text of an error of this kind. Since errors hold words whole, it is that of the words as they are quoted.
+fn text_of(alloc: Global, kind: ErrorKind, words: &[String]) -> Result<String, AllocError> {
+    let mut shown = Vec::with_capacity(alloc, words.len())?;
+    for word in words {
+        shown.push(quoted(alloc, word.as_bytes())?)?;
+    }
+    text_of_parse(alloc, kind, shown.as_slice())
+}
+
+// Returns the text of the error of these words, if it is of this kind.
+fn text_of_parse(alloc: Global, kind: ErrorKind, words: &[String]) -> Result<String, AllocError> {
+    match program(alloc)?.try_get_matches_from(words) {
+        Err(error) => text_of_error(alloc, kind, &error),
+        Ok(_matches) => text_of_kind(alloc, kind),
+    }
+}
+
+// Returns the text of an error, if it is of this kind.
+fn text_of_error(alloc: Global, kind: ErrorKind, error: &Error) -> Result<String, AllocError> {
+    let found = error.kind();
+    if found == ErrorKind::OutOfMemory {
+        Err(AllocError)
+    } else if found == kind {
+        format!(in alloc; "{error}")
+    } else {
+        text_of_kind(alloc, kind)
+    }
+}
+
+// Returns a text that quotes nothing.
+fn text_of_kind(alloc: Global, kind: ErrorKind) -> Result<String, AllocError> {
+    let what = kind.as_str().unwrap_or("the words are no command");
+    format!(in alloc; "error: {what}{MORE}")
+}
+
+// Adds to the text of a fault which command was meant.
+fn meant_command(alloc: Global, text: String, words: &[String]) -> Result<String, AllocError> {
+    let [word, ..] = words else {
+        return Ok(text);
+    };
+    let name = similar(alloc, word.as_str(), &NAMES)?;
+    with_tip(alloc, text, "\n\nUsage:", "subcommand", name)
+}
