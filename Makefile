@@ -47,7 +47,8 @@ endif
 ifndef VERS
 VERS := c/out$(of_target)/vers
 built += $(VERS)
-$(VERS): crates.txt c/program c/target $(call sources,version_rules version_texts version_lines vers)
+$(VERS): crates.txt c/program c/target $(call sources,version_rules version_texts version_tasks version_lines \
+  version_commands vers_words vers)
 	c/program --target $(TARGET) vers $(VERS)
 endif
 

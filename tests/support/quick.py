@@ -17,6 +17,8 @@ JOBS = int(os.environ.get("JOBS", "3"))
 # Tests of great lengths, by the prefixes of their names. Each would take `rt try` minutes.
 LARGE = re.compile(r"^#\[test\]\nfn ((?:a_million|ten_megabytes|a_hundred_thousand)\w*)\(.*?^}\n", re.M | re.S)
 SCRIPTS = ("tests/examples", "tests/unused")
+# The crates whose rows `tests/refused_memory` runs.
+MEMORY = ("vectors_memory", "vectors_runs")
 
 # Faults of docs/PROGRAM.md: the words, the input and the status. Nothing is written.
 FAULTS = (
@@ -58,8 +60,8 @@ def cases_of_vers():
     yield "file", [], (own / "stdin").read_text(), (own / "stdout").read_text(), 0
 
 
-def cases_of_memory():
-    yield "calls", [], "", (TOP / "crates/vectors_memory/stdout").read_text(), 0
+def cases_of_memory(crate):
+    yield "calls", [], "", (TOP / "crates" / crate / "stdout").read_text(), 0
 
 
 def left_to_the_gate():
@@ -205,7 +207,8 @@ def main(copy):
         file.write_text(LARGE.sub("", text))
 
     # The longest parts come first, so that the processors end together.
-    parts = [Tests(copy, sorted(tested)), Cases(copy, "vectors_memory", cases_of_memory())]
+    parts = [Tests(copy, sorted(tested))]
+    parts += [Cases(copy, crate, cases_of_memory(crate)) for crate in MEMORY]
     parts += [Script(SCRIPTS[0]), Cases(copy, "vers", cases_of_vers())]
     parts += [FirstCommand(copy), Script(SCRIPTS[1])]
     passed, failed = run(parts)

@@ -4,8 +4,9 @@ use std::alloc::{AllocError, Global};
 use std::io;
 use std::io::{Error, ErrorKind, Read, Write};
 use std::test::Fail;
-use vectors_support::{columns, hash_of, holds};
-use version_lines::{Fault, run};
+use vectors_support::{columns, holds};
+use vers_words::{Fault, run};
+use version_commands as commands;
 
 // The words of runs that read, their inputs, and their outputs.
 const READING: [&str; 5] = [
@@ -73,11 +74,6 @@ fn without_output_a_broken_writer_is_no_fault(rt: HostRuntime) -> Result<(), Fai
     Row::of(&rt, "ideal||")?.writes_nothing()
 }
 
-#[test]
-fn unequal_faults_hash_apart(rt: HostRuntime) {
-    assert_ne!(rt; hash_of(&Fault::Read), hash_of(&Fault::Write));
-}
-
 // Words as the program gets them, an input, and the whole output.
 #[derive(Drop)]
 struct Row<'a> {
@@ -105,7 +101,7 @@ impl<'a> Row<'a> {
         let outcome = self.run(&mut reader, &mut writer);
         let all = reader.input.is_empty() && writer.calls == 0;
         holds(
-            outcome == Err(Fault::Read) && all,
+            outcome == Err(Fault::Task(commands::Fault::Read("-"))) && all,
             format_args!("{outcome:?} after a failed read of {given:?}, {all}"),
         )
     }
@@ -131,7 +127,7 @@ impl<'a> Row<'a> {
         let all = Some(writer.taken.as_slice()) == wanted
             && writer.calls == calls.saturating_add(1);
         holds(
-            outcome == Err(Fault::Write) && all,
+            outcome == Err(Fault::Task(commands::Fault::Write(None))) && all,
             format_args!("{outcome:?} after {calls} calls, {all}"),
         )
     }
@@ -159,7 +155,7 @@ impl<'a> Row<'a> {
         )
     }
 
-    fn run(&self, reader: &mut Giver<'_>, writer: &mut Taker) -> Result<(), Fault> {
+    fn run(&self, reader: &mut Giver<'_>, writer: &mut Taker) -> Result<(), Fault<'_>> {
         run(self.alloc, self.words.as_slice(), reader, writer)
     }
 }

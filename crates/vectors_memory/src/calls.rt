@@ -2,19 +2,17 @@
 //! the file `stdout`.
 
 mod any;
-mod commands;
 mod general;
 mod json;
 mod lines;
 mod messy;
 mod parts;
-mod program;
 mod requirements;
 mod scans;
 mod strict;
 
-use crate::table::Table;
 use std::io;
+use vectors_table::Table;
 
 pub fn make_all(table: &mut Table<'_>) -> io::Result<()> {
     parts::make_all(table)?;
@@ -25,7 +23,5 @@ pub fn make_all(table: &mut Table<'_>) -> io::Result<()> {
     any::make_all(table)?;
     requirements::make_all(table)?;
     json::make_all(table)?;
-    lines::make_all(table)?;
-    program::make_all(table)?;
-    commands::make_all(table)
+    lines::make_all(table)
 }

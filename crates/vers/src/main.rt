@@ -4,23 +4,23 @@
 
 ghost use Rattle.std.specs.Prelude.{◌≡◌, MatchResult};
 ghost use Rattle.std.specs.Process.{exit_status};
-ghost use Rattle.version_lines.specs.Fault.{status_of};
+ghost use Rattle.vers_words.specs.Fault.{status_of};
 
 use std::env;
 use std::env::Env;
 use std::process::ExitCode;
-use version_lines::{Fault, run};
+use vers_words::{Fault, run};
 
 fn main(rt: HostRuntime) -> ExitCode {
-    let outcome = match words(&rt) {
-        Some(words) => run(
-            rt.alloc(),
-            words.as_slice(),
-            &mut rt.stdin(),
-            &mut rt.stdout(),
-        ),
-        None => Err(Fault::Usage),
+    let Some(words) = words(&rt) else {
+        return ending(&rt, Err(Fault::Usage));
     };
+    let outcome = run(
+        rt.alloc(),
+        words.as_slice(),
+        &mut rt.stdin(),
+        &mut rt.stdout(),
+    );
     ending(&rt, outcome)
 }
 
@@ -30,8 +30,8 @@ fn words<R: Env + AllocGlobal>(rt: &R) -> Option<Vec<String>> {
 }
 
 // Returns the exit code: a fault is printed, and sets its status, even if it cannot be printed.
-fn ending(rt: &impl Eprint, outcome: Result<(), Fault>) -> ExitCode
-    ensures { MatchResult outcome
+fn ending(rt: &impl Eprint, outcome: Result<(), Fault<'_>>) -> ExitCode
+    ensures { MatchResult outcome.entry
         (λ _. exit_status result ≡ 0) (λ fault. exit_status result ≡ status_of fault) }
 {
     match outcome {

@@ -1,12 +1,12 @@
 -- Why a task fails: what each of its faults comes of. Refused memory and a writer that takes no more
 -- can end any task.
-use Rattle.std.specs.Prelude.{◌≡◌, ◌⊎◌, ◌++◌, ⊤, ℕ, Bool, List, [], ◌∷◌, codes, map, Option, Some, None, Result, string_bytes}
+use Rattle.std.proofs.Common.{Global, String}
+use Rattle.std.specs.Prelude.{◌≡◌, ◌⊎◌, ⊤, ℕ, Bool, List, [], ◌∷◌, codes, map, Option, Some, None, Result, string_bytes}
 use Rattle.std.specs.Io.KnownBytes.{Consumes, IsAtEnd}
-use Rattle.std.specs.Option.{option_map}
 use Rattle.version_commands.specs.Arranged.{policy}
 use Rattle.version_commands.specs.Choice.{wrong_list}
-use Rattle.version_commands.specs.Each.{AreAnswered, AreTexts}
-use Rattle.version_commands.specs.Fault.{first_wrong, ComesOfLines, ComesOfPut, ComesOfReading, ComesOfTest, ComesOfWords}
+use Rattle.version_commands.specs.Each.{AreTexts, IsFirstWithoutNext}
+use Rattle.version_commands.specs.Fault.{first_wrong, ComesOfLines, ComesOfPut, ComesOfReading, ComesOfStandard, ComesOfTest, ComesOfWords}
 use Rattle.version_commands.specs.Inputs.{joined, names_read, AreInputs, Reading}
 use Rattle.version_commands.specs.Lists.{bad_lines_of, lines_of_list, names_of}
 use Rattle.version_commands.specs.Place.{line_text, text_of}
@@ -19,15 +19,14 @@ use Rattle.version_commands.specs.declared.options.EachOptions.{EachOptions}
 use Rattle.version_commands.specs.declared.options.LineOptions.{LineOptions}
 use Rattle.version_commands.specs.declared.options.Lists.{Lists}
 use Rattle.version_commands.specs.declared.options.Question.{Question}
-use Rattle.version_commands.specs.declared.options.Question.TheVariants.{Why, Next}
+use Rattle.version_commands.specs.declared.options.Question.TheVariants.{Why}
 use Rattle.version_commands.specs.declared.options.Task.{Task}
 use Rattle.version_commands.specs.declared.options.Task.TheVariants as task
 use Rattle.version_commands.specs.declared.options.Invalid.TheVariants.{Fail}
 use Rattle.version_commands.specs.declared.test.WrongWord.{WrongWord}
 use Rattle.version_lines.specs.Lines.{lines_of}
 use Rattle.version_rules.specs.Requirements.{requirements_of}
-use Rattle.version_rules.specs.Versioning.{PlainVersioning, versioning_of}
-use Rattle.version_tasks.specs.Next.{NoNext}
+use Rattle.version_rules.specs.Versioning.{versioning_of}
 
 -- the faults of a run over the lines of an input: of the lines that have no version, or of the file
 -- for these
@@ -40,7 +39,7 @@ ComesOfArranged options text_of input other =
 -- of the lines that have no version, or of the file for these
 abbrev pub ComesOfArranging : Arrangement → LineOptions → Reading → Option (List ℕ) → Fault → Type 0
 ComesOfArranging arrangement options reads old (fault.NotRequirement text) =
-    option_map quoted (wrong_list options.choice arrangement) ≡ Some (string_bytes text)
+    wrong_list options.choice arrangement ≡ Some text.now
 ComesOfArranging arrangement options reads old (fault.Read name) =
     ComesOfReading reads (names_read (map (λ name. name.now) options.files.items)) (fault.Read name)
 ComesOfArranging arrangement options reads old fault.Memory = ⊤
@@ -49,27 +48,16 @@ ComesOfArranging arrangement options reads old other =
     × AreInputs reads old new (names_read (map (λ name. name.now) options.files.items)) texts
     × ComesOfArranged options (text_of options.place) (joined options.end texts) other
 
--- the question asks for the version next to one that has none
-abbrev pub HasNoNext : Question → Option PlainVersioning → Type 0
-HasNoNext (Next place) (Some v) = NoNext v place
-HasNoNext other v = ⊥
-
--- the question has a word for its list which is none, and this is how a message shows it
+-- this is the question's word for its list, which is none
 abbrev pub HasWrongList : Question → List ℕ → Type 0
-HasWrongList (Why list) shown = (quoted list.now ≡ shown) × (requirements_of list.now ≡ None)
-HasWrongList other shown = ⊥
+HasWrongList (Why list) word = (list.now ≡ word) × (requirements_of word ≡ None)
+HasWrongList other word = ⊥
 
 -- the faults of a question's list
 abbrev pub ComesOfList : Question → Fault → Type 0
-ComesOfList question (fault.NotRequirement text) = HasWrongList question (string_bytes text)
+ComesOfList question (fault.NotRequirement word) = HasWrongList question word.now
 ComesOfList question fault.Memory = ⊤
 ComesOfList question other = ⊥
-
--- the first of some texts whose version has no next, so that there are answers to those before it
-abbrev pub IsFirstWithoutNext : Question → ℕ → List (List ℕ) → List ℕ → Type 0
-IsFirstWithoutNext question end texts text =
-    (before after : List (List ℕ)) × (answers : List ℕ) × (texts ≡ before ++ text ∷ after)
-    × AreAnswered question end before answers × HasNoNext question (versioning_of text)
 
 -- the first of some texts whose version has no next, as a message shows it
 abbrev pub QuotesFirstWithoutNext : Question → ℕ → List (List ℕ) → List ℕ → Type 0
@@ -78,24 +66,22 @@ QuotesFirstWithoutNext question end texts shown =
 
 -- the faults of answering to some texts
 abbrev pub ComesOfAnswering : Question → ℕ → List (List ℕ) → Fault → Type 0
-ComesOfAnswering question end texts (fault.NoNext text) =
-    QuotesFirstWithoutNext question end texts (string_bytes text)
-ComesOfAnswering question end texts fault.Memory = ⊤
-ComesOfAnswering question end texts other = ⊥
+ComesOfAnswering question end texts other = (other ≡ fault.Memory)
+    ⊎ ((text : String Global) × (other ≡ fault.NoNext text)
+    × QuotesFirstWithoutNext question end texts (string_bytes text))
 
 -- the faults of `show`, `key`, `why` and `next`: of a word that is no version, or without words of
 -- standard input or a line of it, of a version that none comes next to, or of the list of `why`
 abbrev pub ComesOfAsking : Question → EachOptions → Option (List ℕ) → Fault → Type 0
 ComesOfAsking question options old (fault.NotVersion text) =
-    option_map quoted (first_wrong (map (λ word. word.now) options.versions.items))
-    ≡ Some (string_bytes text)
+    first_wrong (map (λ word. word.now) options.versions.items) ≡ Some text.now
 ComesOfAsking question options old (fault.BadLine number text ends more) =
     (options.versions.items ≡ []) × (new : Option (List ℕ)) × (input : List ℕ)
     × Consumes old new input × IsAtEnd new
     × ComesOfLines Fail options.crlf (line_text options.crlf) (lines_of options.end input)
     (fault.BadLine number text ends more)
 ComesOfAsking question options old (fault.Read name) =
-    (options.versions.items ≡ []) × (string_bytes name ≡ quoted (codes "-"))
+    (options.versions.items ≡ []) × (name.now ≡ codes "-")
 ComesOfAsking question options old (fault.NoNext text) =
     (new : Option (List ℕ)) × (texts : List (List ℕ)) × AreTexts options old new texts
     × QuotesFirstWithoutNext question options.end texts (string_bytes text)
@@ -139,4 +125,5 @@ ComesOf (task.Compare a b explain) reads old fault =
 ComesOf (task.Difference a b) reads old fault =
     ComesOfWords (first_wrong (a.now ∷ b.now ∷ [])) fault
 ComesOf (task.Lists lists) reads old fault = ComesOfChanges lists reads old fault
+ComesOf (task.Label labels) reads old fault = ComesOfStandard fault
 ComesOf (task.Say text) reads old fault = ⊥

@@ -2,12 +2,19 @@
 use Rattle.std.specs.Prelude.{ℕ, Bool, true, false, List, [], ◌∷◌, ◌++◌, codes, if◌then◌else◌}
 use Rattle.std.specs.Fmt.{decimal}
 use Rattle.std.specs.Str.{bytes_eq}
-use Rattle.version_lines.specs.Comparison.{sign_text}
+use Rattle.std.specs.declared.cmp.Ordering.{Ordering}
+use Rattle.std.specs.declared.cmp.Ordering.TheVariants.{Less, Equal, Greater}
 use Rattle.version_rules.specs.Key.{key_of, precedence}
 use Rattle.version_rules.specs.Versioning.{PlainVersioning, versioning_text}
 use Rattle.version_texts.specs.Difference.{difference_of}
 use Rattle.version_texts.specs.declared.difference.Difference.{Difference}
 use Rattle.version_texts.specs.declared.difference.Difference.TheVariants.{Same, Tie, Epoch, Part, Tail}
+
+-- the sign of an ordering
+abbrev pub sign_text : Ordering → List ℕ
+sign_text Less = codes "<"
+sign_text Equal = codes "="
+sign_text Greater = codes ">"
 
 -- whether two versions have the same text; if they don't and are the same version, they are strict
 -- and differ in their metadata alone

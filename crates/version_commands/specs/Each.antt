@@ -1,17 +1,21 @@
 -- What `show`, `key`, `why` and `next` write.
-use Rattle.std.specs.Prelude.{◌≡◌, ⊤, ℕ, Bool, true, List, [], ◌∷◌, ◌++◌, map, Option, Some, IsSome}
+use Rattle.std.proofs.Common.{Bor}
+use Rattle.std.specs.Prelude.{◌≡◌, ⊤, ℕ, Bool, true, List, [], ◌∷◌, ◌++◌, map, Option, None, Some, IsSome}
 use Rattle.std.specs.Io.KnownBytes.{Consumes, IsAtEnd}
 use Rattle.version_commands.specs.Json.{json_line}
 use Rattle.version_commands.specs.Key.{key_line}
 use Rattle.version_commands.specs.Next.{WritesNext}
+use Rattle.version_commands.specs.Pieces.{Adds}
 use Rattle.version_commands.specs.Place.{line_text}
 use Rattle.version_commands.specs.Show.{show_text}
 use Rattle.version_commands.specs.Why.{IsConflictText, IsWhyLine}
+use Rattle.version_commands.specs.declared.each.Answers.{Answers}
 use Rattle.version_commands.specs.declared.options.EachOptions.{EachOptions}
 use Rattle.version_commands.specs.declared.options.Question.{Question}
 use Rattle.version_commands.specs.declared.options.Question.TheVariants.{Show, Json, Key, Why, Next}
 use Rattle.version_lines.specs.Lines.{lines_of}
 use Rattle.version_rules.specs.Requirements.{requirements_of}
+use Rattle.version_tasks.specs.Next.{NoNext}
 use Rattle.version_rules.specs.Versioning.{PlainVersioning, versioning_of}
 
 -- what is written for a version, and whether there is an answer: only `next` may have none
@@ -37,6 +41,30 @@ AreAnswered question end (text ∷ texts) output =
     (v : PlainVersioning) × (answer : List ℕ) × (rest : List ℕ) × (versioning_of text ≡ Some v)
     × IsAnswer question end v true answer × AreAnswered question end texts rest
     × (output ≡ answer ++ rest)
+
+-- the question asks for the version next to one that has none
+abbrev pub HasNoNext : Question → Option PlainVersioning → Type 0
+HasNoNext (Next place) (Some v) = NoNext v place
+HasNoNext other v = ⊥
+
+-- the first of some texts whose version has no next, so that there are answers to those before it
+abbrev pub IsFirstWithoutNext : Question → ℕ → List (List ℕ) → List ℕ → Type 0
+IsFirstWithoutNext question end texts text =
+    (before after : List (List ℕ)) × (answers : List ℕ) × (texts ≡ before ++ text ∷ after)
+    × AreAnswered question end before answers × HasNoNext question (versioning_of text)
+
+-- the texts are answered after a head, or this is the first of them whose version has no next
+abbrev pub AnsweredOr : Question → ℕ → List ℕ → List (List ℕ) → List ℕ → Option (Bor (List ℕ)) → Type 0
+AnsweredOr question end head texts output None = Adds (AreAnswered question end texts) head output
+AnsweredOr question end head texts output (Some text) = IsFirstWithoutNext question end texts text.now
+
+-- the same since the first of these answers
+pub record HaveAnswered (first now : Answers) (texts : List (List ℕ)) : Type 0 where
+  pub question_is : now.question ≡ first.question
+  pub end_is : now.end ≡ first.end
+  pub crlf_is : now.crlf ≡ first.crlf
+  pub answers_are : AnsweredOr first.question first.end first.output.items texts now.output.items
+      now.unanswered
 
 -- what stands before the answers: of `why`, which two members of the list exclude each other
 abbrev pub IsHead : Question → ℕ → List ℕ → Type 0

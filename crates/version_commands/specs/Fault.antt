@@ -1,23 +1,26 @@
--- The faults of a run.
-use Rattle.std.specs.Prelude.{◌≡◌, ◌⊎◌, ◌+◌, ◌-◌, ◌^◌, min, ⊤, ℕ, List, [], ◌∷◌, Option, None, Some, Bool, false, Result, Ok, Err, map, string_bytes}
-use Rattle.std.specs.Option.{option_map, option_or}
+-- The faults of a task: what a message says of them, and what they come of.
+use Rattle.std.proofs.Common.{Bor}
+use Rattle.std.specs.Prelude.{◌≡◌, ◌⊎◌, ◌+◌, ◌-◌, ◌^◌, min, ⊤, ℕ, List, [], ◌∷◌, Option, None, Some, Bool, false, Result, Ok, Err, codes, map, true, zero, string_bytes, ◌++◌}
+use Rattle.std.specs.Fmt.{decimal}
+use Rattle.std.specs.Option.{option_map_or, option_or}
 use Rattle.version_commands.specs.declared.options.Invalid.{Invalid}
 use Rattle.version_commands.specs.declared.options.Invalid.TheVariants as invalid
 use Rattle.version_commands.specs.declared.options.LineOptions.{LineOptions}
 use Rattle.version_commands.specs.declared.pick.BadLines.{BadLines}
 use Rattle.version_commands.specs.declared.test.WrongWord.{WrongWord}
 use Rattle.version_commands.specs.declared.test.WrongWord.TheVariants as wrong
+use Rattle.version_lines.specs.declared.input.Trouble.{Trouble}
+use Rattle.version_lines.specs.declared.input.Trouble.TheVariants as trouble
 use Rattle.version_commands.specs.Bad.{Reports}
 use Rattle.version_commands.specs.Inputs.{IsRefused, Reading}
 use Rattle.version_commands.specs.Picked.{bad_lines, good_before}
 use Rattle.version_commands.specs.Quote.{quoted}
-use Rattle.version_lines.specs.Run.{unless_version}
+use Rattle.version_rules.specs.Versioning.{versioning_of}
 use Rattle.version_commands.specs.declared.faults.Fault.{Fault}
-use Rattle.version_commands.specs.declared.faults.Fault.TheVariants.{Usage, NotVersion, NotRequirement, NotTested, BadLine, NoNext, Untrue, Memory, Read, Write}
+use Rattle.version_commands.specs.declared.faults.Fault.TheVariants.{NotVersion, NotRequirement, NotTested, BadLine, NoNext, Untrue, Memory, Read, Write}
 
 -- the status that a fault ends the program with
 abbrev pub status_of : Fault → ℕ
-status_of (Usage text) = 2
 status_of (NotVersion text) = 1
 status_of (NotRequirement text) = 1
 status_of (NotTested text) = 2
@@ -28,17 +31,48 @@ status_of Memory = 3
 status_of (Read name) = 3
 status_of (Write name) = 3
 
--- the fault of the input of this name, which can't be read
-abbrev pub ComesOfName : List ℕ → Fault → Type 0
-ComesOfName name Memory = ⊤
-ComesOfName name (Read shown) = string_bytes shown ≡ quoted name
-ComesOfName name fault = ⊥
+-- what a message says of so many other lines that have no version
+abbrev pub others_text : ℕ → List ℕ
+others_text zero = []
+others_text more = codes " (and " ++ (decimal more ++ codes " more)")
+
+-- what a message says of the first line that has no version, and of how many more have none
+abbrev pub bad_line_text : ℕ → List ℕ → Bool → ℕ → List ℕ
+bad_line_text number text true more =
+    codes "line " ++ (decimal number ++ (codes " ends in a carriage return: --crlf" ++ others_text more))
+bad_line_text number text false more =
+    codes "line " ++ (decimal number ++ (codes " is not a version: " ++ (text ++ others_text more)))
+
+-- what a message says of a fault
+abbrev pub fault_text : Fault → List ℕ
+fault_text (NotVersion word) = codes "not a version: " ++ quoted word.now
+fault_text (NotRequirement word) = codes "not a requirement: " ++ quoted word.now
+fault_text (NotTested word) = codes "neither a version nor a requirement: " ++ quoted word.now
+fault_text (BadLine number text ends_in_return more) =
+    bad_line_text number (string_bytes text) ends_in_return more
+fault_text (NoNext text) = codes "no version comes next at that place: " ++ string_bytes text
+fault_text Untrue = []
+fault_text Memory = codes "no memory"
+fault_text (Read name) = codes "cannot be read: " ++ quoted name.now
+fault_text (Write (Some name)) = codes "cannot be written: " ++ quoted name.now
+fault_text (Write None) = codes "write failed"
+
+-- the fault of the input of this name, which can't be read for this reason
+abbrev pub not_read : Bor (List ℕ) → Trouble → Fault
+not_read name trouble.Memory = Memory
+not_read name trouble.System = Read name
+
+-- the faults of reading standard input
+abbrev pub ComesOfStandard : Fault → Type 0
+ComesOfStandard Memory = ⊤
+ComesOfStandard (Read name) = name.now ≡ codes "-"
+ComesOfStandard fault = ⊥
 
 -- the faults that reading inputs of these names can end in
 abbrev pub ComesOfReading : Reading → List (List ℕ) → Fault → Type 0
 ComesOfReading reads names Memory = ⊤
 ComesOfReading reads names (Read shown) =
-    (name : List ℕ) × IsRefused reads names name × (string_bytes shown ≡ quoted name)
+    IsRefused reads names shown.now
 ComesOfReading reads names fault = ⊥
 
 -- the faults that lines without a version can end in, before the first of which come so many with one
@@ -62,8 +96,12 @@ ComesOfLines policy crlf text_of lines =
 -- the faults that reading lists of requirements can end in, if this is the first word that is none
 abbrev pub ComesOfLists : Option (List ℕ) → Fault → Type 0
 ComesOfLists wrong Memory = ⊤
-ComesOfLists wrong (NotRequirement text) = option_map quoted wrong ≡ Some (string_bytes text)
+ComesOfLists wrong (NotRequirement text) = wrong ≡ Some text.now
 ComesOfLists wrong fault = ⊥
+
+-- the word, if it is no version
+abbrev pub unless_version : List ℕ → Option (List ℕ)
+unless_version word = option_map_or (λ _. None) (versioning_of word) (Some word)
 
 -- the first of some words that is no version
 abbrev pub first_wrong : List (List ℕ) → Option (List ℕ)
@@ -73,7 +111,7 @@ first_wrong (word ∷ words) = option_or (unless_version word) (first_wrong word
 -- the faults that words which should be versions can end in, if this is the first that is none
 abbrev pub ComesOfWords : Option (List ℕ) → Fault → Type 0
 ComesOfWords wrong Memory = ⊤
-ComesOfWords wrong (NotVersion text) = option_map quoted wrong ≡ Some (string_bytes text)
+ComesOfWords wrong (NotVersion text) = wrong ≡ Some text.now
 ComesOfWords wrong fault = ⊥
 
 -- the faults that `test` can end in: that the answer is no, and the word that is wrong
@@ -81,13 +119,12 @@ abbrev pub ComesOfTest : Result Bool WrongWord → List ℕ → List ℕ → Fau
 ComesOfTest answer first second Memory = ⊤
 ComesOfTest answer first second Untrue = answer ≡ Ok false
 ComesOfTest answer first second (NotTested text) =
-    ((answer ≡ Err wrong.First) × (string_bytes text ≡ quoted first))
-    ⊎ ((answer ≡ Err wrong.Second) × (string_bytes text ≡ quoted second))
+    ((answer ≡ Err wrong.First) × (text.now ≡ first))
+    ⊎ ((answer ≡ Err wrong.Second) × (text.now ≡ second))
 ComesOfTest answer first second fault = ⊥
 
 -- the faults that the file for lines without a version can end in: they name it
 abbrev pub ComesOfPut : LineOptions → Fault → Type 0
 ComesOfPut options Memory = ⊤
-ComesOfPut options (Write (Some name)) =
-    option_map (λ file. quoted file.now) options.invalid_to ≡ Some (string_bytes name)
+ComesOfPut options (Write (Some name)) = options.invalid_to ≡ Some name
 ComesOfPut options fault = ⊥

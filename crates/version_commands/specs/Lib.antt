@@ -12,6 +12,7 @@ pub mod Files
 pub mod Inputs
 pub mod Json
 pub mod Key
+pub mod Label
 pub mod Lists
 pub mod Next
 pub mod Ordered
@@ -20,6 +21,7 @@ pub mod Picked
 pub mod Pieces
 pub mod Place
 pub mod Quote
+pub mod Run
 pub mod Show
 pub mod Test
 pub mod Why

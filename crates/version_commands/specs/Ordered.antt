@@ -1,10 +1,10 @@
 -- What `sort`, `newest` and `filter` write.
-use Rattle.std.specs.Prelude.{◌≡◌, ℕ, Bool, List, [], map, Option, Some}
+use Rattle.std.specs.Prelude.{◌≡◌, ℕ, Bool, List, [], map, Option, Some, if◌then◌else◌}
 use Rattle.version_commands.specs.Arranged.{arranged, placed, policy}
 use Rattle.version_commands.specs.Choice.{chooser_of, is_kept}
 use Rattle.std.specs.Option.{option_map}
 use Rattle.version_commands.specs.Inputs.{joined, names_read, AreInputs, Reading}
-use Rattle.version_commands.specs.Picked.{bad_lines, kept_lines}
+use Rattle.version_commands.specs.Picked.{bad_lines, has, kept_lines}
 use Rattle.version_commands.specs.Place.{group_text, text_of}
 use Rattle.version_commands.specs.declared.choice.Chooser.{Chooser}
 use Rattle.version_commands.specs.declared.options.Arrangement.{Arrangement}
@@ -18,7 +18,11 @@ abbrev pub kept_in : (List ℕ → List ℕ) → (PlainVersioning → Bool) → 
     → List (List ℕ)
 kept_in text_of keeps options input = kept_lines text_of keeps (lines_of options.end input)
 
--- the same, arranged
+-- what is written for a line of an input, if only lines that are kept are written
+abbrev pub kept_line : (List ℕ → List ℕ) → (PlainVersioning → Bool) → ℕ → List ℕ → List ℕ
+kept_line text_of keeps end line = if has keeps (text_of line) then whole_line end line else []
+
+-- the lines that are kept, arranged
 abbrev pub arranged_in : (List ℕ → List ℕ) → (PlainVersioning → Bool) → Arrangement → LineOptions
     → List ℕ → List (List ℕ)
 arranged_in text_of keeps arrangement options input =

@@ -5,6 +5,7 @@ use Rattle.version_commands.specs.Compare.{comparison_line}
 use Rattle.version_commands.specs.Difference.{difference_line}
 use Rattle.version_commands.specs.Each.{IsAnswered}
 use Rattle.version_commands.specs.Inputs.{joined, names_read, reads_standard, AreInputs, Reading}
+use Rattle.version_commands.specs.Label.{AreLabelled}
 use Rattle.version_commands.specs.Lists.{bad_lines_of, difference_text, names_of, rows_of}
 use Rattle.version_commands.specs.Ordered.{IsOrdered}
 use Rattle.version_commands.specs.Test.{answer_of_two, IsAnswerOfList}
@@ -54,6 +55,7 @@ IsOutput (task.Compare a b explain) reads old new leaves output =
 IsOutput (task.Difference a b) reads old new leaves output =
     IsLineOfTwo (difference_line line_feed) a.now b.now output
 IsOutput (task.Lists lists) reads old new leaves output = AreChanges lists reads old new output
+IsOutput (task.Label labels) reads old new leaves output = AreLabelled labels old new output
 IsOutput (task.Say text) reads old new leaves output = output ≡ string_bytes text
 
 -- whether a task reads standard input: no other task changes the reader
@@ -62,6 +64,7 @@ asks_reader (task.Lines arrangement options) =
     reads_standard (names_read (map (λ name. name.now) options.files.items))
 asks_reader (task.Each question options) = length options.versions.items == 0
 asks_reader (task.Lists lists) = reads_standard (names_of lists)
+asks_reader (task.Label labels) = true
 asks_reader other = false
 
 -- the file that a task writes: no other task changes the files

@@ -1,5 +1,5 @@
 //! The commands over lines: `sort`, `newest` and `filter`.
-ghost use Rattle.std.specs.Prelude.{◌≡◌, false, map, None, Some, IfErr, IfOk, OnOk};
+ghost use Rattle.std.specs.Prelude.{◌≡◌, [], ℕ, List, if◌then◌else◌, false, map, None, Some, IfErr, IfOk, IsTrue, OnOk};
 ghost use Rattle.version_commands.specs.Arranged.{arranged, is_reversed};
 ghost use Rattle.version_commands.specs.Cause.{ComesOfArranged, ComesOfArranging};
 ghost use Rattle.version_commands.specs.Choice.{chooser_of, is_kept, wrong_list};
@@ -8,33 +8,35 @@ ghost use Rattle.version_commands.specs.Ends.{Ends};
 ghost use Rattle.version_commands.specs.Fault.{ComesOfLists};
 ghost use Rattle.version_commands.specs.Files.{Leaves};
 ghost use Rattle.version_commands.specs.Inputs.{names_read, reads_standard};
-ghost use Rattle.version_commands.specs.Ordered.{arranged_in, kept_in, IsArranged, IsOrdered};
+ghost use Rattle.version_commands.specs.Ordered.{arranged_in, kept_in, kept_line, IsArranged, IsOrdered};
 ghost use Rattle.version_commands.specs.Place.{group_text, text_of};
 ghost use Rattle.version_lines.specs.KeyedLines.{lines_in, AreRead};
+ghost use Rattle.version_lines.specs.Lines.{answer_text, output_by, whole_line};
+ghost use Rattle.version_lines.specs.NewestLine.{newest_alone};
 
 use crate::bad::refuse_bad;
 use crate::choice::Chooser;
 use crate::faults::Fault;
 use crate::files::{Files, Stage};
 use crate::inputs::read_inputs;
-use crate::options::{Arrangement, Choice, LineOptions};
-use crate::pick::{Chooses, EveryVersion, read_kept, read_keyed};
+use crate::options::{Arrangement, Choice, Invalid, LineOptions, VersionPlace};
+use crate::pick::{Chooses, EveryVersion, Takes, pick};
 use crate::place::{ByColumn, ByVersion};
-use crate::quote::quoted;
-use crate::write::write_lines;
+use crate::write::{write_answers, write_lines};
 use std::alloc::{AllocError, Global};
 use std::io::{Read, Write};
-use version_lines::{KeyedLines, SortBy, WholeLines};
+use version_lines::{Answer, KeyedLines, LineCommand, NewestLine, SortBy, WholeLines};
+use version_texts::{RequirementsRef, VersioningRef};
 
 /// Reads the inputs, and writes those of their lines that the arrangement asks for.
-pub fn serve_lines<F: Files, R: Read, W: Write>(
+pub fn serve_lines<'w, F: Files, R: Read, W: Write>(
     alloc: Global,
-    arrangement: Arrangement<'_>,
-    options: &LineOptions<'_>,
+    arrangement: Arrangement<'w>,
+    options: &LineOptions<'w>,
     files: &mut F,
     reader: &mut R,
     writer: &mut W,
-) -> Result<(), Fault>
+) -> Result<(), Fault<'w>>
     ensures ends { Ends (IsOrdered arrangement.entry options.now (F.reads files.old)
         (R.remaining reader.old) (R.remaining reader.new) (Leaves F.puts files.old files.new))
         (ComesOfArranging arrangement.entry options.now (F.reads files.old) (R.remaining reader.old))
@@ -45,7 +47,7 @@ pub fn serve_lines<F: Files, R: Read, W: Write>(
     ensures kept { UnlessLate (files.new ≡ files.old) result }
     ensures early { IfOfWord (reader.new ≡ reader.old) result }
 {
-    let chooser = read_chooser(alloc, &options.choice, &arrangement)?;
+    let chooser = read_chooser(&options.choice, &arrangement)?;
     let input = read_inputs(alloc, options.files.as_slice(), options.end, files, reader)?;
     tell(options, files, Stage::Read(input.len()));
     write_arranged(
@@ -59,32 +61,28 @@ pub fn serve_lines<F: Files, R: Read, W: Write>(
     )
 }
 
-// Reads the lists of requirements. Otherwise the fault quotes the first word that is none.
+// Reads the lists of requirements. Otherwise the fault has the first word that is none.
 fn read_chooser<'w>(
-    alloc: Global,
     choice: &Choice<'w>,
     arrangement: &Arrangement<'w>,
-) -> Result<Chooser<'w>, Fault>
+) -> Result<Chooser<'w>, Fault<'w>>
     ensures ok { IfOk result (λ chooser. chooser_of choice.now arrangement.now ≡ Some chooser) }
     ensures faults { IfErr result (ComesOfLists (wrong_list choice.now arrangement.now)) }
 {
-    match Chooser::new(choice, arrangement) {
-        Ok(chooser) => Ok(chooser),
-        Err(word) => Err(Fault::NotRequirement(quoted(alloc, word.as_bytes())?)),
-    }
+    Chooser::new(choice, arrangement).map_err(Fault::NotRequirement)
 }
 
 // Writes those of the lines of an input that the arrangement asks for. Where each line is its version, all of them are
 // kept and the order is not reversed, nothing of that is asked again for each line.
-fn write_arranged<F: Files, W: Write>(
+fn write_arranged<'w, F: Files, W: Write>(
     alloc: Global,
     arrangement: Arrangement<'_>,
-    options: &LineOptions<'_>,
+    options: &LineOptions<'w>,
     chooser: &Chooser<'_>,
     input: &[u8],
     files: &mut F,
     writer: &mut W,
-) -> Result<(), Fault>
+) -> Result<(), Fault<'w>>
     ensures ends { Ends (IsArranged (text_of options.now.place) options.now input.now
         (arranged_in (text_of options.now.place) (is_kept chooser.now) arrangement.entry options.now
         input.now) (Leaves F.puts files.old files.new))
@@ -94,6 +92,9 @@ fn write_arranged<F: Files, W: Write>(
     ensures kept { UnlessLate (files.new ≡ files.old) result }
 {
     if let Arrangement::Filter { .. } = arrangement {
+        if leaves_others_out(options) {
+            return write_at_once(alloc, options, chooser, input, writer);
+        }
         return write_kept(alloc, options, chooser, input, files, writer);
     }
     let reverse = is_reversed(&arrangement);
@@ -128,16 +129,16 @@ fn write_arranged<F: Files, W: Write>(
 // Writes the lines that are kept in the order of their versions, or the newest of them. Not inlined, so that each of its
 // forms has the registers for itself.
 #[inline(never)]
-fn write_keyed<B: SortBy + Copy, C: Chooses, F: Files, W: Write>(
+fn write_keyed<'w, B: SortBy + Copy, C: Chooses, F: Files, W: Write>(
     alloc: Global,
     by: B,
     chooser: &C,
     arrangement: Arrangement<'_>,
-    options: &LineOptions<'_>,
+    options: &LineOptions<'w>,
     input: &[u8],
     files: &mut F,
     writer: &mut W,
-) -> Result<(), Fault>
+) -> Result<(), Fault<'w>>
     requires { is_reversed arrangement ≡ B.is_reversed by }
     ensures ends { Ends (IsArranged (B.text_of by) options.now input.now
         (arranged_in (B.text_of by) (C.keeps chooser.now) arrangement.entry options.now input.now)
@@ -147,12 +148,54 @@ fn write_keyed<B: SortBy + Copy, C: Chooses, F: Files, W: Write>(
     ensures files { options.now.invalid_to ≡ None → files.new ≡ files.old }
     ensures kept { UnlessLate (files.new ≡ files.old) result }
 {
-    let (mut kept, bad) = read_keyed(alloc, by, chooser, options.end, input)?;
+    if asks_for_one(&arrangement, options) {
+        return write_newest(alloc, by, chooser, options, input, files, writer);
+    }
+    let mut kept = KeyedLines::new(alloc, by, input.len())?;
+    let bad = pick(alloc, &mut kept, chooser, options.end, input)?;
     refuse_bad(alloc, options, &bad)?;
     tell(options, files, Stage::Kept(kept.count()));
     arrange(alloc, arrangement, options.place.crlf, &mut kept)?;
     tell(options, files, Stage::Ordered(kept.count()));
     write_lines(alloc, options, &bad, &kept, files, writer)
+}
+
+// Whether the newest line is asked for, and nothing told while lines are read: the others needn't be kept.
+fn asks_for_one(arrangement: &Arrangement<'_>, options: &LineOptions<'_>) -> bool
+    ensures { IsTrue result → arrangement.now ≡ Arrangement.Newest 1 None }
+{
+    !options.progress
+        && matches!(
+            arrangement,
+            Arrangement::Newest {
+                count: 1,
+                group: None,
+            }
+        )
+}
+
+// Writes the newest of the lines that are kept.
+fn write_newest<'w, B: SortBy, C: Chooses, F: Files, W: Write>(
+    alloc: Global,
+    by: B,
+    chooser: &C,
+    options: &LineOptions<'w>,
+    input: &[u8],
+    files: &mut F,
+    writer: &mut W,
+) -> Result<(), Fault<'w>>
+    ensures ends { Ends (IsArranged (B.text_of by) options.now input.now
+        (newest_alone (B.text_of by) (kept_in (B.text_of by) (C.keeps chooser.now) options.now input.now))
+        (Leaves F.puts files.old files.new))
+        (ComesOfArranged options.now (B.text_of by) input.now)
+        (W.contents writer.old) (W.contents writer.new) result }
+    ensures files { options.now.invalid_to ≡ None → files.new ≡ files.old }
+    ensures kept { UnlessLate (files.new ≡ files.old) result }
+{
+    let mut newest = NewestLine::new(by);
+    let bad = pick(alloc, &mut newest, chooser, options.end, input)?;
+    refuse_bad(alloc, options, &bad)?;
+    write_lines(alloc, options, &bad, &newest.line(), files, writer)
 }
 
 // Arranges lines that stand as they were added.
@@ -195,14 +238,14 @@ fn is_reversed(arrangement: &Arrangement<'_>) -> bool
 }
 
 // Writes the lines that are kept, in the order of the input.
-fn write_kept<F: Files, W: Write>(
+fn write_kept<'w, F: Files, W: Write>(
     alloc: Global,
-    options: &LineOptions<'_>,
+    options: &LineOptions<'w>,
     chooser: &Chooser<'_>,
     input: &[u8],
     files: &mut F,
     writer: &mut W,
-) -> Result<(), Fault>
+) -> Result<(), Fault<'w>>
     ensures ends { Ends (IsArranged (text_of options.now.place) options.now input.now
         (kept_in (text_of options.now.place) (is_kept chooser.now) options.now input.now)
         (Leaves F.puts files.old files.new))
@@ -211,14 +254,136 @@ fn write_kept<F: Files, W: Write>(
     ensures files { options.now.invalid_to ≡ None → files.new ≡ files.old }
     ensures kept { UnlessLate (files.new ≡ files.old) result }
 {
-    let by = ByVersion {
+    let mut kept = KeptLines {
         place: options.place,
-        reverse: false,
+        lines: Vec::new(alloc),
     };
-    let (kept, bad) = read_kept(alloc, &by, chooser, options.end, input)?;
+    let bad = pick(alloc, &mut kept, chooser, options.end, input)?;
     refuse_bad(alloc, options, &bad)?;
-    tell(options, files, Stage::Kept(kept.len()));
-    write_lines(alloc, options, &bad, &kept, files, writer)
+    tell(options, files, Stage::Kept(kept.lines.len()));
+    write_lines(alloc, options, &bad, &kept.lines, files, writer)
+}
+
+// Whether nothing is asked of the lines that have no version, nor told while lines are read: lines can then be written
+// as they are read.
+fn leaves_others_out(options: &LineOptions<'_>) -> bool
+    ensures { IsTrue result → (options.now.invalid ≡ Invalid.Skip) × (options.now.invalid_to ≡ None) }
+{
+    matches!(
+        options,
+        LineOptions {
+            invalid: Invalid::Skip,
+            invalid_to: None,
+            progress: false,
+            ..
+        }
+    )
+}
+
+// Writes the lines that are kept as they are read.
+fn write_at_once<'w, W: Write>(
+    alloc: Global,
+    options: &LineOptions<'_>,
+    chooser: &Chooser<'_>,
+    input: &[u8],
+    writer: &mut W,
+) -> Result<(), Fault<'w>>
+    ensures { Ends (λ output. output ≡ output_by options.now.end
+        (kept_line (text_of options.now.place) (is_kept chooser.now) options.now.end) input.now)
+        (λ fault. fault ≡ Fault.Memory) (W.contents writer.old) (W.contents writer.new) result }
+{
+    match chooser.only_list() {
+        Some(list) if options.place.is_whole() => {
+            write_answers(alloc, &Listed { list }, options.end, input, writer)
+        }
+        _ => {
+            let chosen = Chosen {
+                place: options.place,
+                chooser,
+            };
+            write_answers(alloc, &chosen, options.end, input, writer)
+        }
+    }
+}
+
+// Lines that are kept.
+#[derive(Drop)]
+struct KeptLines<'w, 'a> {
+    place: VersionPlace<'w>,
+    lines: Vec<&'a [u8]>,
+}
+
+impl<'a> Takes<'a> for KeptLines<'_, 'a> {
+    ghost use Rattle.std.specs.Prelude.{◌≡◌, ⊤, map};
+
+    ghost text_of = { λ kept. text_of kept.place };
+
+    ghost IsReady = { λ _. ⊤ };
+
+    ghost HasTaken = { λ _ kept lines. map (λ line. line.now) kept.lines.items ≡ lines };
+
+    #[inline(always)]
+    fn version(&self, line: &'a [u8]) -> Option<VersioningRef<'a>> {
+        self.place.version(line)
+    }
+
+    fn take(&mut self, _version: &VersioningRef<'a>, line: &'a [u8]) -> Result<(), AllocError> {
+        self.lines.push(line)?;
+        Ok(())
+    }
+}
+
+// Whole lines that are versions which a list matches, and nothing of others.
+#[derive(Clone, Copy)]
+struct Listed<'c> {
+    list: &'c RequirementsRef<'c>,
+}
+
+impl LineCommand for Listed<'_> {
+    ghost use Rattle.version_commands.specs.Choice.{is_matched};
+    ghost use Rattle.version_commands.specs.Ordered.{kept_line};
+
+    ghost line_output = { λ listed. kept_line (λ line. line) (is_matched listed.list.now) };
+
+    #[inline(always)]
+    fn answer(&self, line: &[u8]) -> Answer {
+        // Its first bytes decide most lines without a scan.
+        whole_if(self.list.keeps(line))
+    }
+}
+
+// Whole lines whose versions are kept, and nothing of others.
+#[derive(Clone, Copy)]
+struct Chosen<'c> {
+    place: VersionPlace<'c>,
+    chooser: &'c Chooser<'c>,
+}
+
+impl LineCommand for Chosen<'_> {
+    ghost use Rattle.version_commands.specs.Ordered.{kept_line};
+
+    ghost line_output = { λ chosen. kept_line (text_of chosen.place) (is_kept chosen.chooser.now) };
+
+    #[inline(always)]
+    fn answer(&self, line: &[u8]) -> Answer {
+        whole_if(match self.place.version(line) {
+            Some(version) => self.chooser.keeps(&version),
+            None => false,
+        })
+    }
+}
+
+// Returns the answer for a line: all of it, if it is kept.
+#[inline(always)]
+fn whole_if(kept: bool) -> Answer
+    ensures { (end : ℕ) → (line : List ℕ) → answer_text end result line
+        ≡ if kept then whole_line end line else [] }
+{
+    if kept {
+        Answer::Line(b"")
+    } else {
+        Answer::Nothing
+    }
 }
 
 // Tells how far a run is, if that is asked for.

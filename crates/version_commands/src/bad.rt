@@ -12,7 +12,11 @@ use crate::quote::quoted;
 use std::alloc::Global;
 
 /// Fails with the first line that has no version, if there is one and the options ask for that.
-pub fn refuse_bad(alloc: Global, options: &LineOptions<'_>, bad: &BadLines<'_>) -> Result<(), Fault>
+pub fn refuse_bad<'w>(
+    alloc: Global,
+    options: &LineOptions<'_>,
+    bad: &BadLines<'_>,
+) -> Result<(), Fault<'w>>
     ensures none { OnOk result (policy options.now ≡ Invalid.Fail → bad.now.lines.items ≡ []) }
     ensures faults { IfErr result (ComesOfBad (policy options.now) options.now.place.crlf bad.now) }
 {
@@ -20,12 +24,12 @@ pub fn refuse_bad(alloc: Global, options: &LineOptions<'_>, bad: &BadLines<'_>) 
 }
 
 /// The same where it is asked so of lines without a version.
-pub fn refuse_if(
+pub fn refuse_if<'w>(
     alloc: Global,
     invalid: Invalid,
     crlf: bool,
     bad: &BadLines<'_>,
-) -> Result<(), Fault>
+) -> Result<(), Fault<'w>>
     ensures none { OnOk result (invalid ≡ Invalid.Fail → bad.now.lines.items ≡ []) }
     ensures faults { IfErr result (ComesOfBad invalid crlf bad.now) }
 {
@@ -46,7 +50,7 @@ pub fn policy(options: &LineOptions<'_>) -> Invalid
 }
 
 /// Fails with the first line that has no version, if there is one.
-pub fn refuse_first(alloc: Global, crlf: bool, bad: &BadLines<'_>) -> Result<(), Fault>
+pub fn refuse_first<'w>(alloc: Global, crlf: bool, bad: &BadLines<'_>) -> Result<(), Fault<'w>>
     ensures none { OnOk result (bad.now.lines.items ≡ []) }
     ensures faults { IfErr result (ComesOfBad Invalid.Fail crlf bad.now) }
 {

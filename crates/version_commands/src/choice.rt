@@ -1,5 +1,5 @@
 //! Which lines that have a version are kept.
-ghost use Rattle.std.specs.Prelude.{◌≡◌, true, Some, None, IfOk, IfErr, IsTrue, OnErr};
+ghost use Rattle.std.specs.Prelude.{◌≡◌, true, Some, None, IfOk, IfErr, IfSome, IsTrue, OnErr};
 ghost use Rattle.version_commands.specs.Choice.{chooser_of, is_kept, is_matched, is_stable_enough, is_wanted, passes_any, wrong_list};
 ghost use Rattle.version_rules.specs.Versioning.{PlainVersioning};
 ghost use Rattle.version_texts.specs.VersioningRef.{plain_versioning_ref};
@@ -81,6 +81,21 @@ impl<'w> Chooser<'w> {
         is_stable_enough(self.least, version)
             && is_wanted(&self.wanted, version)
             && passes_any(&self.filter, version)
+    }
+
+    /// Returns the list which alone decides what is kept, if there is one.
+    pub fn only_list(&self) -> Option<&RequirementsRef<'w>>
+        ensures { IfSome result
+            (λ list. (v : PlainVersioning) → is_kept self.now v ≡ is_matched list.now v) }
+    {
+        match self {
+            Chooser {
+                least: Stability::Dev,
+                wanted: None,
+                filter: Some(filter),
+            } if !filter.inverted => Some(&filter.list),
+            _ => None,
+        }
     }
 }
 

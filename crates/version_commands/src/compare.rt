@@ -1,8 +1,8 @@
 //! The command `compare`: how two versions compare, and where they differ first.
 
-ghost use Rattle.std.specs.Prelude.{◌≡◌, ◌++◌, OnOk};
-ghost use Rattle.version_commands.specs.Compare.{comparison_line, explanation, have_one_text};
-ghost use Rattle.version_lines.specs.Comparison.{sign_text};
+ghost use Rattle.std.specs.Prelude.{◌≡◌, ◌∷◌, ◌++◌, [], true, OnOk};
+ghost use Rattle.version_commands.specs.Compare.{comparison_line, explanation, have_one_text, sign_text};
+ghost use Rattle.version_lines.specs.Lines.{line_feed};
 ghost use Rattle.version_texts.specs.VersioningRef.{plain_versioning_ref};
 
 use crate::pieces::add_pieces;
@@ -11,39 +11,35 @@ use std::alloc::AllocError;
 use std::cmp::Ordering;
 use version_texts::{Difference, VersioningRef};
 
-/// Adds the line for two versions: the sign between them, and with `explain` a sentence that says where they differ
-/// first.
-pub(crate) fn add_comparison(
+/// Returns the line of the sign of an ordering.
+pub(crate) fn sign_line(order: Ordering) -> &'static [u8]
+    ensures { result.now ≡ sign_text order ++ line_feed ∷ [] }
+{
+    match order {
+        Ordering::Less => b"<\n",
+        Ordering::Equal => b"=\n",
+        Ordering::Greater => b">\n",
+    }
+}
+
+/// Adds the line for two versions: the sign between them, and a sentence that says where they differ first.
+pub(crate) fn add_explained(
     first: &VersioningRef<'_>,
     second: &VersioningRef<'_>,
-    explain: bool,
     end: u8,
     output: &mut Vec<u8>,
 ) -> Result<(), AllocError>
-    ensures { OnOk result (output.new.items ≡ output.old.items ++ comparison_line explain end
+    ensures { OnOk result (output.new.items ≡ output.old.items ++ comparison_line true end
         (plain_versioning_ref first.now) (plain_versioning_ref second.now)) }
 {
-    add_pieces(output, &[sign(first.precedence(second))])?;
-    if explain {
-        add_explanation(
-            first.difference(second),
-            have_one_text(first, second),
-            output,
-        )?;
-    }
+    output.extend_from_slice(&sign_line(first.precedence(second))[..1])?;
+    add_explanation(
+        first.difference(second),
+        have_one_text(first, second),
+        output,
+    )?;
     output.push(end)?;
     Ok(())
-}
-
-// Returns the sign of an ordering.
-fn sign(order: Ordering) -> &'static [u8]
-    ensures { result.now ≡ sign_text order }
-{
-    match order {
-        Ordering::Less => b"<",
-        Ordering::Equal => b"=",
-        Ordering::Greater => b">",
-    }
 }
 
 // Returns whether two versions have the same text. If they don't and are the same version, they differ in their metadata

@@ -1,63 +1,57 @@
 //! The commands that ask the same of each of several versions: `show`, `key`, `why` and `next`.
-ghost use Rattle.std.specs.Prelude.{◌≡◌, ◌==◌, ◌++◌, ◌∷◌, [], codes, false, length, map, IfErr, IfOk, IsSome, OnOk};
+ghost use Rattle.std.specs.Prelude.{◌≡◌, ◌==◌, ◌<◌, ◌++◌, ◌∷◌, [], false, length, map, ℕ, List, Option, Some, IfErr, IfOk, OnOk};
 ghost use Rattle.std.specs.Io.KnownBytes.{Consumes, IsAtEnd};
-ghost use Rattle.std.specs.List.{All};
 ghost use Rattle.version_commands.specs.Cause.{ComesOfAnswering, ComesOfAsking, ComesOfList};
+ghost use Rattle.version_commands.specs.declared.each.Answers.{Answers};
 ghost use Rattle.version_commands.specs.Early.{IfOfWord};
-ghost use Rattle.version_commands.specs.Each.{AreAnswered, HasList, IsAnswer, IsAnswered, IsHead};
-ghost use Rattle.version_commands.specs.Fault.{first_wrong, ComesOfLines, ComesOfName, ComesOfWords};
+ghost use Rattle.version_commands.specs.Each.{AreAnswered, HasList, HaveAnswered, IsAnswer, IsAnswered, IsHead};
 ghost use Rattle.version_commands.specs.Pieces.{Adds};
 ghost use Rattle.version_commands.specs.Place.{line_text};
-ghost use Rattle.version_commands.specs.declared.options.Invalid.TheVariants.{Fail};
 ghost use Rattle.version_lines.specs.Lines.{lines_of};
 ghost use Rattle.version_rules.specs.Versioning.{versioning_of};
 ghost use Rattle.version_texts.specs.VersioningRef.{plain_versioning_ref};
 
 use crate::bad::refuse_first;
 use crate::faults::Fault;
-use crate::inputs::not_read;
+use crate::inputs::read_standard;
 use crate::json::add_json;
 use crate::key::add_key_line;
 use crate::next::add_next;
 use crate::options::{EachOptions, Question};
-use crate::pick::BadLines;
+use crate::pick::{EveryVersion, Takes, pick};
 use crate::place::line_text;
 use crate::quote::quoted;
 use crate::show::add_show;
 use crate::why::{add_conflict, add_why};
+use crate::word::version_of_word;
 use std::alloc::{AllocError, Global};
 use std::io::Read;
-use version_lines::{read_all, split_line};
 use version_texts::{RequirementsRef, VersioningRef};
 
-/// Answers the question for each version: of the words, or without any of the lines of the reader. All of them are read
-/// before the first answer.
-pub fn answer_each<R: Read>(
+/// Answers the question for each version: of the words, or without any of the lines of the reader.
+pub fn answer_each<'w, R: Read>(
     alloc: Global,
-    question: Question<'_>,
-    options: &EachOptions<'_>,
+    question: Question<'w>,
+    options: &EachOptions<'w>,
     reader: &mut R,
-) -> Result<Vec<u8>, Fault>
+) -> Result<Vec<u8>, Fault<'w>>
     ensures output { IfOk result (λ output. IsAnswered question.entry options.now
         (R.remaining reader.old) (R.remaining reader.new) output.items) }
     ensures unread { length options.now.versions.items == 0 ≡ false → reader.new ≡ reader.old }
     ensures early { IfOfWord (reader.new ≡ reader.old) result }
     ensures faults { IfErr result (ComesOfAsking question.entry options.now (R.remaining reader.old)) }
 {
-    let mut output = head_of(alloc, question, options.end)?;
-    if !options.versions.is_empty() {
-        let texts = texts_of_words(alloc, options.versions.as_slice())?;
-        add_answers(alloc, question, options.end, texts.as_slice(), &mut output)?;
-        return Ok(output);
+    let head = head_of(alloc, question, options.end)?;
+    if options.versions.is_empty() {
+        let input = read_standard(alloc, reader)?;
+        answer_lines(alloc, question, options, head, input.as_slice())
+    } else {
+        answer_words(alloc, question, options, options.versions.as_slice(), head)
     }
-    let input = read_standard(alloc, reader)?;
-    let texts = texts_of_lines(alloc, options, input.as_slice())?;
-    add_answers(alloc, question, options.end, texts.as_slice(), &mut output)?;
-    Ok(output)
 }
 
 // Returns what stands before the answers. It fails if a list of requirements is asked for and is none.
-fn head_of(alloc: Global, question: Question<'_>, end: u8) -> Result<Vec<u8>, Fault>
+fn head_of<'w>(alloc: Global, question: Question<'w>, end: u8) -> Result<Vec<u8>, Fault<'w>>
     ensures head { IfOk result (λ head. IsHead question.entry end head.items) }
     ensures list { OnOk result (HasList question.entry) }
     ensures faults { IfErr result (ComesOfList question.entry) }
@@ -65,108 +59,144 @@ fn head_of(alloc: Global, question: Question<'_>, end: u8) -> Result<Vec<u8>, Fa
     let mut head = Vec::new(alloc);
     if let Question::Why(list) = question {
         if RequirementsRef::new(list).is_none() {
-            return Err(Fault::NotRequirement(quoted(alloc, list.as_bytes())?));
+            return Err(Fault::NotRequirement(list));
         }
         add_conflict(list.as_bytes(), end, &mut head)?;
     }
     Ok(head)
 }
 
-// Reads standard input to its end.
-fn read_standard<R: Read>(alloc: Global, reader: &mut R) -> Result<Vec<u8>, Fault>
-    ensures input { IfOk result (λ input.
-        Consumes (R.remaining reader.old) (R.remaining reader.new) input.items) }
-    ensures end { OnOk result (IsAtEnd (R.remaining reader.new)) }
-    ensures faults { IfErr result (ComesOfName (codes "-")) }
-{
-    match read_all(alloc, reader) {
-        Ok(input) => Ok(input),
-        Err(version_lines::Fault::Memory) => Err(Fault::Memory),
-        Err(_) => Err(not_read(alloc, "-")),
-    }
-}
-
-// Returns the texts of the lines, without the carriage returns that belong to their ends. It fails with the first that
-// is no version.
-fn texts_of_lines<'a>(
+// Answers the question for each word. It fails with the first that is no version.
+fn answer_words<'w>(
     alloc: Global,
+    question: Question<'w>,
     options: &EachOptions<'_>,
-    input: &'a [u8],
-) -> Result<Vec<&'a [u8]>, Fault>
-    ensures texts { IfOk result (λ texts. map (λ text. text.now) texts.items
-        ≡ map (line_text options.now.crlf) (lines_of options.now.end input.now)) }
-    ensures versions { IfOk result (λ texts.
-        All (λ text. IsSome (versioning_of text.now)) texts.items) }
-    ensures faults { IfErr result
-        (ComesOfLines Fail options.now.crlf (line_text options.now.crlf)
-        (lines_of options.now.end input.now)) }
-{
-    let mut texts = Vec::new(alloc);
-    let mut bad = BadLines::new(alloc);
-    let mut rest = input;
-    while !rest.is_empty() {
-        let (line, after) = split_line(options.end, rest);
-        let text = line_text(options.crlf, line);
-        match VersioningRef::from_bytes(text) {
-            Some(_) => {
-                bad.pass();
-                add_text(&mut texts, text)?;
-            }
-            None => bad.add(line)?,
-        }
-        rest = after;
-    }
-    refuse_first(alloc, options.crlf, &bad)?;
-    Ok(texts)
-}
-
-// Returns the texts of the words. It fails with the first that is no version.
-fn texts_of_words<'w>(alloc: Global, words: &[&'w str]) -> Result<Vec<&'w [u8]>, Fault>
-    ensures texts { IfOk result (λ texts. map (λ text. text.now) texts.items
-        ≡ map (λ word. word.now) words.now) }
-    ensures versions { IfOk result (λ texts.
-        All (λ text. IsSome (versioning_of text.now)) texts.items) }
-    ensures faults { IfErr result (ComesOfWords (first_wrong (map (λ word. word.now) words.now))) }
-{
-    let mut texts = Vec::with_capacity(alloc, words.len())?;
-    for word in words {
-        if VersioningRef::new(word).is_none() {
-            return Err(Fault::NotVersion(quoted(alloc, word.as_bytes())?));
-        }
-        add_text(&mut texts, word.as_bytes())?;
-    }
-    Ok(texts)
-}
-
-// Adds a text after the others.
-fn add_text<'a>(texts: &mut Vec<&'a [u8]>, text: &'a [u8]) -> Result<(), AllocError>
-    ensures { OnOk result (texts.new.items ≡ texts.old.items ++ text.entry ∷ []) }
-{
-    texts.push(text)?;
-    Ok(())
-}
-
-// Adds the answer for each text. It fails with the first that none comes next to, if that is asked.
-fn add_answers(
-    alloc: Global,
-    question: Question<'_>,
-    end: u8,
-    texts: &[&[u8]],
-    output: &mut Vec<u8>,
-) -> Result<(), Fault>
-    requires versions { All (λ text. IsSome (versioning_of text.now)) texts.now }
+    words: &[&'w str],
+    head: Vec<u8>,
+) -> Result<Vec<u8>, Fault<'w>>
     requires list { HasList question }
-    ensures answers { OnOk result (Adds (AreAnswered question.entry end (map (λ text. text.now) texts.now))
-        output.old.items output.new.items) }
-    ensures faults { IfErr result (ComesOfAnswering question.entry end (map (λ text. text.now) texts.now)) }
+    requires words { words.now ≡ options.now.versions.items }
+    requires some { 0 < length words.now }
+    ensures answers { IfOk result (λ output. Adds (AreAnswered question.entry options.now.end
+        (map (λ word. word.now) words.now)) head.items output.items) }
+    ensures faults { (old : Option (List ℕ)) → IfErr result (ComesOfAsking question.entry options.now old) }
 {
-    for text in texts {
-        let version = VersioningRef::from_bytes(text).unwrap();
-        if !add_answer(alloc, question, &version, end, output)? {
-            return Err(Fault::NoNext(quoted(alloc, text)?));
+    let mut answers = Answers {
+        alloc,
+        question,
+        end: options.end,
+        crlf: options.crlf,
+        output: head,
+        unanswered: None,
+    };
+    for word in words {
+        let version = version_of_word(word)?;
+        answers.add(word.as_bytes(), &version)?;
+    }
+    answers.finish()
+}
+
+// Answers the question for each line. It fails with the first that is no version.
+fn answer_lines<'w>(
+    alloc: Global,
+    question: Question<'w>,
+    options: &EachOptions<'w>,
+    head: Vec<u8>,
+    input: &[u8],
+) -> Result<Vec<u8>, Fault<'w>>
+    requires list { HasList question }
+    requires words { options.now.versions.items ≡ [] }
+    ensures answers { IfOk result (λ output. Adds (AreAnswered question.entry options.now.end
+        (map (line_text options.now.crlf) (lines_of options.now.end input.now)))
+        head.items output.items) }
+    ensures faults { (old new : Option (List ℕ)) → Consumes old new input.now → IsAtEnd new
+        → IfErr result (ComesOfAsking question.entry options.now old) }
+{
+    let mut answers = Answers {
+        alloc,
+        question,
+        end: options.end,
+        crlf: options.crlf,
+        output: head,
+        unanswered: None,
+    };
+    let bad = pick(alloc, &mut answers, &EveryVersion, options.end, input)?;
+    refuse_first(alloc, options.crlf, &bad)?;
+    answers.finish()
+}
+
+// The answers to versions, one after another.
+#[derive(Drop)]
+struct Answers<'q, 'a> {
+    alloc: Global,
+    question: Question<'q>,
+    end: u8,
+    crlf: bool,
+    output: Vec<u8>,
+    // The first text whose version has no answer. Those after it are not asked.
+    unanswered: Option<&'a [u8]>,
+}
+
+impl<'a> Answers<'_, 'a> {
+    // Adds the answer for a text, which is this version.
+    fn add(&mut self, text: &'a [u8], version: &VersioningRef<'_>) -> Result<(), AllocError>
+        requires list { HasList self.old.question }
+        requires version { versioning_of text.now ≡ Some (plain_versioning_ref version.now) }
+        ensures question { self.new.question ≡ self.old.question }
+        ensures crlf { self.new.crlf ≡ self.old.crlf }
+        ensures answers { OnOk result ((first : Answers) → (texts : List (List ℕ))
+            → HaveAnswered first self.old texts
+            → HaveAnswered first self.new (texts ++ text.now ∷ [])) }
+    {
+        if self.unanswered.is_none()
+            && !add_answer(
+                self.alloc,
+                self.question,
+                version,
+                self.end,
+                &mut self.output,
+            )?
+        {
+            self.unanswered = Some(text);
+        }
+        Ok(())
+    }
+
+    // Returns all of them. It fails with the first text that has none.
+    fn finish<'w>(self) -> Result<Vec<u8>, Fault<'w>>
+        ensures answers { IfOk result (λ output. (first : Answers) → (texts : List (List ℕ))
+            → HaveAnswered first self.entry texts
+            → Adds (AreAnswered first.question first.end texts) first.output.items output.items) }
+        ensures faults { IfErr result (λ fault. (first : Answers) → (texts : List (List ℕ))
+            → HaveAnswered first self.entry texts
+            → ComesOfAnswering first.question first.end texts fault) }
+    {
+        match self.unanswered {
+            None => Ok(self.output),
+            Some(text) => Err(Fault::NoNext(quoted(self.alloc, text)?)),
         }
     }
-    Ok(())
+}
+
+impl<'a> Takes<'a> for Answers<'_, 'a> {
+    ghost use Rattle.std.specs.Prelude.{◌≡◌, ⊤, map};
+    ghost use Rattle.version_commands.specs.Each.{HasList, HaveAnswered};
+    ghost use Rattle.version_commands.specs.Place.{line_text};
+
+    ghost text_of = { λ answers. line_text answers.crlf };
+
+    ghost IsReady = { λ answers. HasList answers.question };
+
+    ghost HasTaken = { λ first now lines.
+        HaveAnswered first now (map (line_text first.crlf) lines) };
+
+    fn version(&self, line: &'a [u8]) -> Option<VersioningRef<'a>> {
+        VersioningRef::from_bytes(line_text(self.crlf, line))
+    }
+
+    fn take(&mut self, version: &VersioningRef<'a>, line: &'a [u8]) -> Result<(), AllocError> {
+        self.add(line_text(self.crlf, line), version)
+    }
 }
 
 // Adds the answer for a version, and returns whether there is one.

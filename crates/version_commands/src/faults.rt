@@ -1,52 +1,51 @@
-//! Why a run fails.
+//! Why a task fails.
 
+use crate::quote::Shown;
 use std::alloc::AllocError;
 use std::error::Error;
 use std::fmt;
+use version_lines::NotWritten;
 
-/// Why a run failed. It prints as the line that the program writes to standard error, after its name; `Untrue` prints
-/// nothing. Of a word, a line or the name of a file it holds what is UTF-8 in front of the first sixty bytes, with control
-/// characters escaped.
+/// Why a task failed. It prints as the line that the program `versions` writes to standard error, after its name;
+/// `Untrue` prints nothing. Of a word, a line or the name of a file a message shows what is UTF-8 in front of the first
+/// sixty bytes, with control characters escaped.
 #[derive(Debug, PartialEq, Eq, Drop)]
-pub enum Fault {
-    /// The words are not a command. What was meant, and how the command is used.
-    Usage(String),
+pub enum Fault<'w> {
     /// The first word that should be a version but is not.
-    NotVersion(String),
+    NotVersion(&'w str),
     /// The word that should be a list of requirements but is not.
-    NotRequirement(String),
+    NotRequirement(&'w str),
     /// The same of the words of `test`, whose status tells them from an answer.
-    NotTested(String),
+    NotTested(&'w str),
     /// The first line that has no version.
     BadLine {
         /// Its number, counted from 1 through all files.
         number: usize,
-        /// Its text.
+        /// Its text, as a message shows it.
         text: String,
         /// Whether it ends in a carriage return that belongs to its end: `--crlf` is missing.
         ends_in_return: bool,
         /// How many more such lines there are.
         more: usize,
     },
-    /// The first version that none comes next to at the place.
+    /// The first version that none comes next to at the place, as a message shows it.
     NoNext(String),
     /// `test` answers no.
     Untrue,
     /// An allocation failed.
     Memory,
     /// The file that could not be read to its end; `-` is standard input.
-    Read(String),
+    Read(&'w str),
     /// The file that could not be written to its end, or None for standard output.
-    Write(Option<String>),
+    Write(Option<&'w str>),
 }
 
-impl Fault {
-    /// Returns the exit status: 1 for an input that is not a version or a requirement, and for `test` if it does not
-    /// hold; 2 for wrong words, and for words of `test` that are no versions or requirements; 3 for a failure of the
-    /// system.
+impl Fault<'_> {
     ghost use Rattle.std.specs.Prelude.{◌≡◌};
     ghost use Rattle.version_commands.specs.Fault.{status_of};
 
+    /// Returns the exit status: 1 for an input that is not a version or a requirement, and for `test` if it does not
+    /// hold; 2 for words of `test` that are no versions or requirements; 3 for a failure of the system.
     pub fn status(&self) -> u8
         ensures { result ≡ status_of self.now }
     {
@@ -56,63 +55,123 @@ impl Fault {
             | Fault::BadLine { .. }
             | Fault::NoNext(_)
             | Fault::Untrue => 1,
-            Fault::Usage(_) | Fault::NotTested(_) => 2,
+            Fault::NotTested(_) => 2,
             Fault::Memory | Fault::Read(_) | Fault::Write(_) => 3,
         }
     }
 }
 
-impl fmt::Display for Fault {
+impl fmt::Display for Fault<'_> {
+    ghost use Rattle.std.specs.Prelude.{Some};
+    ghost use Rattle.version_commands.specs.Fault.{fault_text};
+
+    ghost output = { λ fault. Some (fault_text fault) };
+
     fn fmt<W: fmt::Write>(&self, f: &mut fmt::Formatter<W>) -> fmt::Result {
         match self {
-            Fault::Usage(text) => write!(f, "{text}"),
-            Fault::NotVersion(text) => write!(f, "not a version: {text}"),
-            Fault::NotRequirement(text) => write!(f, "not a requirement: {text}"),
-            Fault::NotTested(text) => write!(f, "neither a version nor a requirement: {text}"),
+            Fault::NotVersion(word) => write!(
+                f,
+                "not a version: {}",
+                Shown {
+                    text: word.as_bytes()
+                }
+            ),
+            Fault::NotRequirement(word) => write!(
+                f,
+                "not a requirement: {}",
+                Shown {
+                    text: word.as_bytes()
+                }
+            ),
+            Fault::NotTested(word) => {
+                write!(
+                    f,
+                    "neither a version nor a requirement: {}",
+                    Shown {
+                        text: word.as_bytes()
+                    }
+                )
+            }
+            Fault::BadLine {
+                number,
+                ends_in_return: true,
+                more,
+                ..
+            } => {
+                let others = Others { more: *more };
+                write!(f, "line {number} ends in a carriage return: --crlf{others}")
+            }
             Fault::BadLine {
                 number,
                 text,
-                ends_in_return,
+                ends_in_return: false,
                 more,
-            } => { write_bad_line(f, *number, text.as_str(), *ends_in_return, *more) }
+            } => {
+                let others = Others { more: *more };
+                write!(f, "line {number} is not a version: {text}{others}")
+            }
             Fault::NoNext(text) => write!(f, "no version comes next at that place: {text}"),
             Fault::Untrue => Ok(()),
             Fault::Memory => write!(f, "no memory"),
-            Fault::Read(name) => write!(f, "cannot be read: {name}"),
-            Fault::Write(Some(name)) => write!(f, "cannot be written: {name}"),
+            Fault::Read(name) => write!(
+                f,
+                "cannot be read: {}",
+                Shown {
+                    text: name.as_bytes()
+                }
+            ),
+            Fault::Write(Some(name)) => write!(
+                f,
+                "cannot be written: {}",
+                Shown {
+                    text: name.as_bytes()
+                }
+            ),
             Fault::Write(None) => write!(f, "write failed"),
         }
     }
 }
 
-// Writes what is wrong with the first line that has no version, and how many more have none.
-fn write_bad_line<W: fmt::Write>(
-    f: &mut fmt::Formatter<W>,
-    number: usize,
-    text: &str,
-    ends_in_return: bool,
+// How many other lines have no version.
+#[derive(Clone, Copy)]
+struct Others {
     more: usize,
-) -> fmt::Result {
-    if ends_in_return {
-        write!(f, "line {number} ends in a carriage return: --crlf")?;
-    } else {
-        write!(f, "line {number} is not a version: {text}")?;
-    }
-    if more > 0 {
-        write!(f, " (and {more} more)")?;
-    }
-    Ok(())
 }
 
-impl Error for Fault {}
+impl fmt::Display for Others {
+    ghost use Rattle.std.specs.Prelude.{Some};
+    ghost use Rattle.version_commands.specs.Fault.{others_text};
 
-impl From<AllocError> for Fault {
+    ghost output = { λ others. Some (others_text others.more) };
+
+    fn fmt<W: fmt::Write>(&self, f: &mut fmt::Formatter<W>) -> fmt::Result {
+        match self.more {
+            0 => Ok(()),
+            more => write!(f, " (and {more} more)"),
+        }
+    }
+}
+
+impl Error for Fault<'_> {}
+
+impl From<AllocError> for Fault<'_> {
     ghost use Rattle.std.specs.Prelude.{◌≡◌};
     ghost use Rattle.version_commands.specs.declared.faults.Fault.TheVariants.{Memory};
 
     ghost from_gives = { λ _ fault. fault ≡ Memory };
 
-    fn from(_refused: AllocError) -> Fault {
+    fn from(_refused: AllocError) -> Self {
         Fault::Memory
+    }
+}
+
+impl From<NotWritten> for Fault<'_> {
+    ghost use Rattle.std.specs.Prelude.{◌≡◌, None};
+    ghost use Rattle.version_commands.specs.declared.faults.Fault.TheVariants.{Write};
+
+    ghost from_gives = { λ _ fault. fault ≡ Write None };
+
+    fn from(_refused: NotWritten) -> Self {
+        Fault::Write(None)
     }
 }

@@ -2,14 +2,7 @@
 
 ghost use Rattle.std.specs.Prelude.{◌≡◌, ℕ, List, Option, None, Some, ◌++◌, IfErr, OnOk};
 
-/// Why a file could not be read or written.
-#[derive(Clone, Copy, Debug)]
-pub enum Trouble {
-    /// An allocation failed.
-    Memory,
-    /// The system refused.
-    System,
-}
+use version_lines::Trouble;
 
 /// How far a run is.
 #[derive(Clone, Copy, Debug)]
@@ -44,4 +37,26 @@ pub trait Files {
 
     /// Tells how far the run is. Only `--progress` asks for it.
     fn tell(&self, stage: Stage);
+}
+
+/// No files: none can be read or written.
+#[derive(Clone, Copy)]
+pub struct NoFiles;
+
+impl Files for NoFiles {
+    ghost use Rattle.std.specs.Prelude.{◌≡◌, None};
+
+    ghost reads = { λ _ _ text. text ≡ None };
+
+    ghost puts = { λ _ _ _ _. ⊥ };
+
+    fn read_onto(&self, _name: &str, _input: &mut Vec<u8>) -> Result<(), Trouble> {
+        Err(Trouble::System)
+    }
+
+    fn put(&mut self, _name: &str, _bytes: &[u8]) -> Result<(), Trouble> {
+        Err(Trouble::System)
+    }
+
+    fn tell(&self, _stage: Stage) {}
 }

@@ -1,24 +1,24 @@
 //! Reading the inputs in turn.
 ghost use Rattle.std.specs.Prelude.{◌≡◌, ◌++◌, ◌∷◌, [], ℕ, List, false, map, IfErr, IfOk, OnOk};
-ghost use Rattle.version_commands.specs.Fault.{ComesOfName, ComesOfReading};
+ghost use Rattle.std.specs.Io.KnownBytes.{Consumes, IsAtEnd};
+ghost use Rattle.version_commands.specs.Fault.{not_read, ComesOfReading, ComesOfStandard};
 ghost use Rattle.version_commands.specs.Inputs.{ended, ends_line, is_standard, joined, names_read, reads_standard, AreInputs, IsInput};
 
 use crate::faults::Fault;
-use crate::files::{Files, Trouble};
-use crate::quote::quoted;
+use crate::files::Files;
 use std::alloc::{AllocError, Global};
 use std::io::Read;
-use version_lines::read_onto;
+use version_lines::{Trouble, read_all, read_onto};
 
 /// Reads the files in turn, each to its end; `-` is the reader, and so is no name at all. An input that does not end
 /// where a line ends gets the byte that ends one.
-pub fn read_inputs<F: Files, R: Read>(
+pub fn read_inputs<'w, F: Files, R: Read>(
     alloc: Global,
-    names: &[&str],
+    names: &[&'w str],
     end: u8,
     files: &F,
     reader: &mut R,
-) -> Result<Vec<u8>, Fault>
+) -> Result<Vec<u8>, Fault<'w>>
     ensures input { IfOk result (λ input. (texts : List (List ℕ))
         × AreInputs (F.reads files.now) (R.remaining reader.old) (R.remaining reader.new)
         (names_read (map (λ name. name.now) names.now)) texts × (input.items ≡ joined end texts)) }
@@ -27,20 +27,22 @@ pub fn read_inputs<F: Files, R: Read>(
     ensures faults { IfErr result (ComesOfReading (F.reads files.now)
         (names_read (map (λ name. name.now) names.now))) }
 {
-    if names.is_empty() {
-        return read_named(alloc, &["-"], end, files, reader);
+    if !names.is_empty() {
+        return read_named(alloc, names, end, files, reader);
     }
-    read_named(alloc, names, end, files, reader)
+    let mut input = Vec::new(alloc);
+    add_input(alloc, "-", files, reader, &mut input, end)?;
+    Ok(input)
 }
 
 // Reads the inputs of these names in turn.
-fn read_named<F: Files, R: Read>(
+fn read_named<'w, F: Files, R: Read>(
     alloc: Global,
-    names: &[&str],
+    names: &[&'w str],
     end: u8,
     files: &F,
     reader: &mut R,
-) -> Result<Vec<u8>, Fault>
+) -> Result<Vec<u8>, Fault<'w>>
     ensures input { IfOk result (λ input. (texts : List (List ℕ))
         × AreInputs (F.reads files.now) (R.remaining reader.old) (R.remaining reader.new)
         (map (λ name. name.now) names.now) texts × (input.items ≡ joined end texts)) }
@@ -57,14 +59,14 @@ fn read_named<F: Files, R: Read>(
 }
 
 // Adds an input, and the byte that ends a line if it does not end where one ends.
-fn add_input<F: Files, R: Read>(
+fn add_input<'w, F: Files, R: Read>(
     alloc: Global,
-    name: &str,
+    name: &'w str,
     files: &F,
     reader: &mut R,
     input: &mut Vec<u8>,
     end: u8,
-) -> Result<(), Fault>
+) -> Result<(), Fault<'w>>
     ensures text { OnOk result ((text : List ℕ)
         × IsInput (F.reads files.now) (R.remaining reader.old) (R.remaining reader.new) name.now text
         × (input.new.items ≡ input.old.items ++ ended end text)) }
@@ -88,13 +90,13 @@ fn add_end(input: &mut Vec<u8>, end: u8) -> Result<(), AllocError>
 }
 
 // Adds what an input holds.
-fn add_text<F: Files, R: Read>(
+fn add_text<'w, F: Files, R: Read>(
     alloc: Global,
-    name: &str,
+    name: &'w str,
     files: &F,
     reader: &mut R,
     input: &mut Vec<u8>,
-) -> Result<(), Fault>
+) -> Result<(), Fault<'w>>
     ensures text { OnOk result ((text : List ℕ)
         × IsInput (F.reads files.now) (R.remaining reader.old) (R.remaining reader.new) name.now text
         × (input.new.items ≡ input.old.items ++ text)) }
@@ -104,24 +106,35 @@ fn add_text<F: Files, R: Read>(
     if name == "-" {
         return match read_onto(alloc, reader, input) {
             Ok(()) => Ok(()),
-            Err(version_lines::Fault::Memory) => Err(Fault::Memory),
-            Err(_) => Err(not_read(alloc, name)),
+            Err(trouble) => Err(not_read(name, trouble)),
         };
     }
     match files.read_onto(name, input) {
         Ok(()) => Ok(()),
-        Err(Trouble::Memory) => Err(Fault::Memory),
-        Err(Trouble::System) => Err(not_read(alloc, name)),
+        Err(trouble) => Err(not_read(name, trouble)),
     }
 }
 
-/// Returns the fault of an input of this name that can't be read.
-pub fn not_read(alloc: Global, name: &str) -> Fault
-    ensures { ComesOfName name.now result }
+/// Reads standard input to its end.
+pub fn read_standard<'w, R: Read>(alloc: Global, reader: &mut R) -> Result<Vec<u8>, Fault<'w>>
+    ensures input { IfOk result (λ input.
+        Consumes (R.remaining reader.old) (R.remaining reader.new) input.items) }
+    ensures end { OnOk result (IsAtEnd (R.remaining reader.new)) }
+    ensures faults { IfErr result ComesOfStandard }
 {
-    match quoted(alloc, name.as_bytes()) {
-        Ok(name) => Fault::Read(name),
-        Err(_) => Fault::Memory,
+    match read_all(alloc, reader) {
+        Ok(input) => Ok(input),
+        Err(trouble) => Err(not_read("-", trouble)),
+    }
+}
+
+// Returns the fault of an input of this name that can't be read for this reason.
+fn not_read(name: &str, trouble: Trouble) -> Fault<'_>
+    ensures { result ≡ not_read name.entry trouble }
+{
+    match trouble {
+        Trouble::Memory => Fault::Memory,
+        Trouble::System => Fault::Read(name),
     }
 }
 

@@ -1,5 +1,5 @@
-//! The tasks of the program `versions` over any files, reader and writer: `serve` reads the inputs of a task, and writes
-//! what it answers. docs/VERSIONS.md has their rules.
+//! The tasks of the programs `versions` and `vers` over any files, reader and writer: `serve` reads the inputs of a task,
+//! and writes what it answers. docs/VERSIONS.md and docs/PROGRAM.md have their rules.
 #![tactic(auto)]
 
 mod arrange;
@@ -13,6 +13,7 @@ mod files;
 mod inputs;
 mod json;
 mod key;
+mod label;
 mod lists;
 mod next;
 mod options;
@@ -25,13 +26,14 @@ mod rows;
 mod show;
 mod test;
 mod why;
+mod word;
 mod write;
 
 pub use faults::Fault;
-pub use files::{Files, Stage, Trouble};
+pub use files::{Files, NoFiles, Stage};
 pub use options::{
-    Arrangement, Choice, EachOptions, Invalid, LineOptions, Lists, Naming, Operator, Question,
-    Task, VersionPlace,
+    Arrangement, Choice, EachOptions, Invalid, Labels, LineOptions, Lists, Naming, Operator,
+    Question, Task, VersionPlace,
 };
 pub use program::serve;
-pub use quote::quoted;
+pub use quote::{Shown, quoted};

@@ -1,7 +1,7 @@
 //! What differs between two lists of names with versions.
-ghost use Rattle.std.specs.Prelude.{◌≡◌, ◌<◌, ◌≤◌, ◌+◌, ◌^◌, ℕ, ◌∷◌, ◌++◌, [], List, IfOk, OnOk};
+ghost use Rattle.std.specs.Prelude.{◌≡◌, ℕ, ◌∷◌, ◌++◌, [], List, IfOk, OnOk};
 ghost use Rattle.std.specs.Option.{option_map};
-ghost use Rattle.version_commands.specs.Lists.{difference_text, first_rows, lines_against, name_line, plain_row, row_text, rows_of, rows_of_line, version_of, AreNames, Row};
+ghost use Rattle.version_commands.specs.Lists.{difference_text, first_rows, lines_against, name_line, plain_row, row_text, rows_of, version_of, AreNames, Row};
 ghost use Rattle.version_commands.specs.Picked.{AreBadOf};
 ghost use Rattle.version_commands.specs.Place.{text_of};
 ghost use Rattle.version_lines.specs.Lines.{lines_of, whole_line};
@@ -9,12 +9,11 @@ ghost use Rattle.version_rules.specs.Versioning.{versioning_text};
 ghost use Rattle.version_texts.specs.VersioningRef.{plain_versioning_ref};
 
 use crate::options::Lists;
-use crate::pick::BadLines;
+use crate::pick::{BadLines, EveryVersion, Takes, pick};
 use crate::place::{column_text, line_text};
 use std::alloc::{AllocError, Global};
 use std::cmp::Ordering;
 use std::collections::BTreeMap;
-use version_lines::split_line;
 use version_texts::VersioningRef;
 
 /// A name, and the version beside it.
@@ -83,39 +82,42 @@ pub fn read_names<'a>(
     ensures bad { IfOk result (λ read.
         AreBadOf (text_of lists.now.place) (lines_of lists.now.end input.now) read.1) }
 {
-    let mut names = Names::new(alloc);
-    let mut bad = BadLines::new(alloc);
-    let mut rest = input;
-    while !rest.is_empty() {
-        let (line, after) = split_line(lists.end, rest);
-        add_line(lists, line, &mut names, &mut bad)?;
-        rest = after;
-    }
-    Ok((names, bad))
+    let mut list = NamedList {
+        lists,
+        names: Names::new(alloc),
+    };
+    let bad = pick(alloc, &mut list, &EveryVersion, lists.end, input)?;
+    Ok((list.names, bad))
 }
 
-// Adds the name of a line, or the line if it has no version.
-fn add_line<'a>(
-    lists: &Lists<'_>,
-    line: &'a [u8],
-    names: &mut Names<'a>,
-    bad: &mut BadLines<'a>,
-) -> Result<(), AllocError>
-    requires { bad.old.before + 1 < 2 ^ 64 }
-    ensures names { OnOk result ((rows : List Row) → AreNames rows names.old
-        → AreNames (rows ++ rows_of_line lists.now line.now) names.new) }
-    ensures bad { OnOk result ((lines : List (List ℕ))
-        → AreBadOf (text_of lists.now.place) lines bad.old
-        → AreBadOf (text_of lists.now.place) (lines ++ line.now ∷ []) bad.new) }
-    ensures before { OnOk result (bad.new.before ≤ bad.old.before + 1) }
-{
-    match lists.place.version(line) {
-        Some(version) => {
-            bad.pass();
-            let name = column_text(Some(lists.name), line_text(lists.place.crlf, line));
-            names.add(name, version)
-        }
-        None => bad.add(line),
+// A list, as its lines are read.
+#[derive(Drop)]
+struct NamedList<'l, 'w, 'a> {
+    lists: &'l Lists<'w>,
+    names: Names<'a>,
+}
+
+impl<'a> Takes<'a> for NamedList<'_, '_, 'a> {
+    ghost use Rattle.std.specs.Prelude.{◌≡◌, ⊤};
+    ghost use Rattle.std.specs.List.{flat_map};
+    ghost use Rattle.version_commands.specs.Lists.{rows_of_line, AreNames};
+    ghost use Rattle.version_commands.specs.Place.{text_of};
+
+    ghost text_of = { λ list. text_of list.lists.now.place };
+
+    ghost IsReady = { λ _. ⊤ };
+
+    ghost HasTaken = { λ first now lines. (now.lists.now ≡ first.lists.now)
+        × AreNames (flat_map (rows_of_line first.lists.now) lines) now.names };
+
+    fn version(&self, line: &'a [u8]) -> Option<VersioningRef<'a>> {
+        self.lists.place.version(line)
+    }
+
+    fn take(&mut self, version: &VersioningRef<'a>, line: &'a [u8]) -> Result<(), AllocError> {
+        let text = line_text(self.lists.place.crlf, line);
+        self.names
+            .add(column_text(Some(self.lists.name), text), *version)
     }
 }
 

@@ -135,6 +135,15 @@ pub struct Lists<'w> {
     pub invalid: Invalid,
 }
 
+/// Which lines of standard input are labelled with their kind; `none` stands for all others.
+#[derive(Clone, Copy, Debug)]
+pub enum Labels {
+    /// Strict versions.
+    Strict,
+    /// Versions of every kind.
+    Every,
+}
+
 /// What a run is asked to do.
 #[derive(Debug, Drop)]
 pub enum Task<'w> {
@@ -156,6 +165,8 @@ pub enum Task<'w> {
     Difference(&'w str, &'w str),
     /// `diff --lists OLD NEW`.
     Lists(Lists<'w>),
+    /// `ideal` and `show` of `vers`.
+    Label(Labels),
     /// `--help` and `--version`: the text that is written.
     Say(String),
 }

@@ -1,14 +1,14 @@
 //! Which lines of an input are kept, and which have no version.
-ghost use Rattle.std.specs.Prelude.{◌≡◌, ◌<◌, ◌≤◌, ◌+◌, ◌^◌, ◌++◌, ◌∷◌, ℕ, Bool, List, [], false, true, map, IfOk, OnOk};
-ghost use Rattle.version_commands.specs.Picked.{bad_lines, kept_lines, AreBadOf};
-ghost use Rattle.version_lines.specs.KeyedLines.{lines_in, AreRead};
+ghost use Rattle.std.specs.Prelude.{◌≡◌, ◌<◌, ◌≤◌, ◌+◌, ◌^◌, ◌++◌, ◌∷◌, ℕ, Bool, List, [], false, true, Some, IfOk, OnOk};
+ghost use Rattle.std.specs.Option.{option_map};
+ghost use Rattle.version_commands.specs.Picked.{kept_lines, AreBadOf};
 ghost use Rattle.version_lines.specs.Lines.{lines_of};
 ghost use Rattle.version_lines.specs.Sort.{is_bad};
-ghost use Rattle.version_rules.specs.Versioning.{PlainVersioning};
+ghost use Rattle.version_rules.specs.Versioning.{versioning_of, PlainVersioning};
 ghost use Rattle.version_texts.specs.VersioningRef.{plain_versioning_ref};
 
 use std::alloc::{AllocError, Global};
-use version_lines::{KeyedLines, SortBy, split_line};
+use version_lines::{KeyedLines, NewestLine, SortBy, split_line};
 use version_texts::VersioningRef;
 
 /// Which versions are kept.
@@ -82,68 +82,106 @@ impl<'a> BadLines<'a> {
     }
 }
 
-/// Returns the lines that are kept, with the keys of their versions, and those that have no version.
-pub fn read_keyed<'a, B: SortBy + Copy, C: Chooses>(
-    alloc: Global,
-    by: B,
-    chooser: &C,
-    end: u8,
-    input: &'a [u8],
-) -> Result<(KeyedLines<'a, B>, BadLines<'a>), AllocError>
-    ensures read { IfOk result (λ picked. AreRead B.text_of picked.0) }
-    ensures kept { IfOk result (λ picked. lines_in picked.0
-        ≡ kept_lines (B.text_of by) (C.keeps chooser.now) (lines_of end input.now)) }
-    ensures by { IfOk result (λ picked. picked.0.by ≡ by) }
-    ensures bad { IfOk result (λ picked.
-        AreBadOf (B.text_of by) (lines_of end input.now) picked.1) }
-{
-    let mut kept = KeyedLines::new(alloc, by, input.len())?;
-    let mut bad = BadLines::new(alloc);
-    let mut rest = input;
-    while !rest.is_empty() {
-        let (line, after) = split_line(end, rest);
-        match by.version(line) {
-            None => bad.add(line)?,
-            Some(version) => {
-                bad.pass();
-                if chooser.keeps(&version) {
-                    kept.add(&version, line)?;
-                }
-            }
-        }
-        rest = after;
-    }
-    Ok((kept, bad))
+/// What takes lines that have a version, one after another.
+pub trait Takes<'a> {
+    // The text in a line that is to be its version.
+    ghost text_of: { Self → List ℕ → List ℕ };
+
+    // Whether it can take a line.
+    ghost IsReady: { Self → Type 0 };
+
+    // Since the first state these lines were taken, in their order.
+    ghost HasTaken: { Self → Self → List (List ℕ) → Type 0 };
+
+    /// Returns the version of a line.
+    fn version(&self, line: &'a [u8]) -> Option<VersioningRef<'a>>
+        ensures { option_map plain_versioning_ref result
+            ≡ versioning_of (text_of self.now line.now) };
+
+    /// Takes a line, whose version this is.
+    fn take(&mut self, version: &VersioningRef<'a>, line: &'a [u8]) -> Result<(), AllocError>
+        requires ready { IsReady self.old }
+        requires version { versioning_of (text_of self.old line.now)
+            ≡ Some (plain_versioning_ref version.now) }
+        ensures ready { IsReady self.new }
+        ensures text { text_of self.new ≡ text_of self.old }
+        ensures taken { OnOk result ((first : Self) → (lines : List (List ℕ))
+            → HasTaken first self.old lines → HasTaken first self.new (lines ++ line.now ∷ [])) };
 }
 
-/// Returns the lines that are kept, and those that have no version.
-pub fn read_kept<'a, B: SortBy, C: Chooses>(
+/// Gives the taker those lines of an input whose versions are kept, and returns the lines that have no version.
+pub fn pick<'a, T: Takes<'a>, C: Chooses>(
     alloc: Global,
-    by: &B,
+    taker: &mut T,
     chooser: &C,
     end: u8,
     input: &'a [u8],
-) -> Result<(Vec<&'a [u8]>, BadLines<'a>), AllocError>
-    ensures kept { IfOk result (λ picked. map (λ line. line.now) picked.0.items
-        ≡ kept_lines (B.text_of by.now) (C.keeps chooser.now) (lines_of end input.now)) }
-    ensures bad { IfOk result (λ picked.
-        AreBadOf (B.text_of by.now) (lines_of end input.now) picked.1) }
+) -> Result<BadLines<'a>, AllocError>
+    requires ready { T.IsReady taker.old }
+    requires none { T.HasTaken taker.old taker.old [] }
+    ensures ready { OnOk result (T.IsReady taker.new) }
+    ensures taken { OnOk result (T.HasTaken taker.old taker.new
+        (kept_lines (T.text_of taker.old) (C.keeps chooser.now) (lines_of end input.now))) }
+    ensures bad { IfOk result (AreBadOf (T.text_of taker.old) (lines_of end input.now)) }
 {
-    let mut kept = Vec::new(alloc);
     let mut bad = BadLines::new(alloc);
     let mut rest = input;
     while !rest.is_empty() {
         let (line, after) = split_line(end, rest);
-        match by.version(line) {
+        match taker.version(line) {
             None => bad.add(line)?,
             Some(version) => {
                 bad.pass();
                 if chooser.keeps(&version) {
-                    kept.push(line)?;
+                    taker.take(&version, line)?;
                 }
             }
         }
         rest = after;
     }
-    Ok((kept, bad))
+    Ok(bad)
+}
+
+impl<'a, B: SortBy> Takes<'a> for KeyedLines<'a, B> {
+    ghost use Rattle.std.specs.Prelude.{◌≡◌};
+    ghost use Rattle.version_lines.specs.KeyedLines.{lines_in, AreRead};
+
+    ghost text_of = { λ lines. B.text_of lines.by };
+
+    ghost IsReady = { λ lines. AreRead B.text_of lines };
+
+    ghost HasTaken = { λ first now lines. (lines_in now ≡ lines) × (now.by ≡ first.by) };
+
+    #[inline(always)]
+    fn version(&self, line: &'a [u8]) -> Option<VersioningRef<'a>> {
+        KeyedLines::version(self, line)
+    }
+
+    #[inline(always)]
+    fn take(&mut self, version: &VersioningRef<'a>, line: &'a [u8]) -> Result<(), AllocError> {
+        self.add(version, line)
+    }
+}
+
+impl<'a, B: SortBy> Takes<'a> for NewestLine<'a, B> {
+    ghost use Rattle.std.specs.Prelude.{◌≡◌, ⊤};
+    ghost use Rattle.version_lines.specs.NewestLine.{IsNewestOf};
+
+    ghost text_of = { λ newest. B.text_of newest.by };
+
+    ghost IsReady = { λ _. ⊤ };
+
+    ghost HasTaken = { λ first now lines. IsNewestOf (B.text_of now.by) lines now.newest
+        × (now.by ≡ first.by) };
+
+    #[inline(always)]
+    fn version(&self, line: &'a [u8]) -> Option<VersioningRef<'a>> {
+        NewestLine::version(self, line)
+    }
+
+    #[inline(always)]
+    fn take(&mut self, version: &VersioningRef<'a>, line: &'a [u8]) -> Result<(), AllocError> {
+        self.add(version, line);
+        Ok(())
+    }
 }

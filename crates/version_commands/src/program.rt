@@ -11,37 +11,34 @@ ghost use Rattle.version_commands.specs.Inputs.{reads_standard};
 ghost use Rattle.version_commands.specs.Lists.{names_of};
 ghost use Rattle.version_commands.specs.Output.{asks_reader, file_of, AreChanges, IsLineOfTwo, IsOutput};
 ghost use Rattle.version_lines.specs.Lines.{line_feed};
-ghost use Rattle.version_lines.specs.Run.{unless_version};
-ghost use Rattle.version_rules.specs.Versioning.{versioning_of};
-ghost use Rattle.version_texts.specs.VersioningRef.{plain_versioning_ref};
 
 use crate::arrange::serve_lines;
 use crate::bad::refuse_if;
-use crate::compare::add_comparison;
+use crate::compare::{add_explained, sign_line};
 use crate::difference::add_difference;
 use crate::each::answer_each;
 use crate::faults::Fault;
 use crate::files::Files;
 use crate::inputs::read_inputs;
+use crate::label::write_labels;
 use crate::lists::{add_lists, read_names};
 use crate::options::{Lists, Task};
-use crate::quote::quoted;
 use crate::test::{WrongWord, test_list, test_two};
+use crate::word::version_of_word;
 use crate::write::write_answer;
 use std::alloc::Global;
 use std::io::{Read, Write};
-use version_texts::VersioningRef;
 
 /// Does a task. What it writes is `IsOutput` of the task and of what its files and the reader hold, and a fault
 /// `ComesOf` the same. At a fault the writer got nothing, or a proper beginning if it takes no more. A task that doesn't
 /// read standard input leaves the reader as it is, and one that names no file for lines without a version the files.
-pub fn serve<F: Files, R: Read, W: Write>(
+pub fn serve<'w, F: Files, R: Read, W: Write>(
     alloc: Global,
-    task: &Task<'_>,
+    task: &Task<'w>,
     files: &mut F,
     reader: &mut R,
     writer: &mut W,
-) -> Result<(), Fault>
+) -> Result<(), Fault<'w>>
     ensures ends { Ends (IsOutput task.now (F.reads files.old) (R.remaining reader.old)
         (R.remaining reader.new) (Leaves F.puts files.old files.new))
         (ComesOf task.now (F.reads files.old) (R.remaining reader.old))
@@ -55,6 +52,7 @@ pub fn serve<F: Files, R: Read, W: Write>(
         Task::Lines(arrangement, options) => {
             return serve_lines(alloc, *arrangement, options, files, reader, writer);
         }
+        Task::Label(labels) => return write_labels(alloc, *labels, reader, writer),
         Task::Say(text) => return write_answer(writer, text.as_bytes()),
         Task::Each(question, options) => answer_each(alloc, *question, options, reader)?,
         Task::TestTwo(first, operator, second) => {
@@ -65,7 +63,12 @@ pub fn serve<F: Files, R: Read, W: Write>(
             first,
             second,
             explain,
-        } => comparison(alloc, first, second, *explain)?,
+        } => {
+            if !*explain {
+                return write_answer(writer, comparison(first, second)?);
+            }
+            explanation(alloc, first, second)?
+        }
         Task::Difference(first, second) => difference(alloc, first, second)?,
         Task::Lists(lists) => changes(alloc, lists, files, reader)?,
     };
@@ -73,12 +76,12 @@ pub fn serve<F: Files, R: Read, W: Write>(
 }
 
 // Ends `test` by its answer, of which nothing is written, or with the word that is wrong.
-fn settle(
+fn settle<'w>(
     alloc: Global,
     answer: Result<bool, WrongWord>,
-    first: &str,
-    second: &str,
-) -> Result<Vec<u8>, Fault>
+    first: &'w str,
+    second: &'w str,
+) -> Result<Vec<u8>, Fault<'w>>
     ensures yes { OnOk result (answer ≡ Ok true) }
     ensures nothing { IfOk result (λ output. output.items ≡ []) }
     ensures faults { IfErr result (ComesOfTest answer first.now second.now) }
@@ -86,55 +89,55 @@ fn settle(
     match answer {
         Ok(true) => Ok(Vec::new(alloc)),
         Ok(false) => Err(Fault::Untrue),
-        Err(WrongWord::First) => Err(Fault::NotTested(quoted(alloc, first.as_bytes())?)),
-        Err(WrongWord::Second) => Err(Fault::NotTested(quoted(alloc, second.as_bytes())?)),
+        Err(WrongWord::First) => Err(Fault::NotTested(first)),
+        Err(WrongWord::Second) => Err(Fault::NotTested(second)),
     }
 }
 
-// Parses a word as a version. Otherwise the fault quotes the word.
-fn version_of_word(alloc: Global, word: &str) -> Result<VersioningRef<'_>, Fault>
-    ensures ok { IfOk result (λ v. versioning_of word.now ≡ Some (plain_versioning_ref v)) }
-    ensures faults { IfErr result (ComesOfWords (unless_version word.now)) }
-{
-    match VersioningRef::new(word) {
-        Some(version) => Ok(version),
-        None => Err(Fault::NotVersion(quoted(alloc, word.as_bytes())?)),
-    }
-}
-
-// Returns the line of `compare`.
-fn comparison(alloc: Global, first: &str, second: &str, explain: bool) -> Result<Vec<u8>, Fault>
-    ensures output { IfOk result (λ output.
-        IsLineOfTwo (comparison_line explain line_feed) first.now second.now output.items) }
+// Returns the line of `compare`. Does not allocate.
+fn comparison<'w>(first: &'w str, second: &'w str) -> Result<&'static [u8], Fault<'w>>
+    ensures output { IfOk result (λ line.
+        IsLineOfTwo (comparison_line false line_feed) first.now second.now line.now) }
     ensures faults { IfErr result (ComesOfWords (first_wrong (first.now ∷ second.now ∷ []))) }
 {
-    let first = version_of_word(alloc, first)?;
-    let second = version_of_word(alloc, second)?;
+    let first = version_of_word(first)?;
+    let second = version_of_word(second)?;
+    Ok(sign_line(first.precedence(&second)))
+}
+
+// Returns the line of `compare --explain`.
+fn explanation<'w>(alloc: Global, first: &'w str, second: &'w str) -> Result<Vec<u8>, Fault<'w>>
+    ensures output { IfOk result (λ output.
+        IsLineOfTwo (comparison_line true line_feed) first.now second.now output.items) }
+    ensures faults { IfErr result (ComesOfWords (first_wrong (first.now ∷ second.now ∷ []))) }
+{
+    let first = version_of_word(first)?;
+    let second = version_of_word(second)?;
     let mut output = Vec::new(alloc);
-    add_comparison(&first, &second, explain, b'\n', &mut output)?;
+    add_explained(&first, &second, b'\n', &mut output)?;
     Ok(output)
 }
 
 // Returns the line of `diff`.
-fn difference(alloc: Global, first: &str, second: &str) -> Result<Vec<u8>, Fault>
+fn difference<'w>(alloc: Global, first: &'w str, second: &'w str) -> Result<Vec<u8>, Fault<'w>>
     ensures output { IfOk result (λ output.
         IsLineOfTwo (difference_line line_feed) first.now second.now output.items) }
     ensures faults { IfErr result (ComesOfWords (first_wrong (first.now ∷ second.now ∷ []))) }
 {
-    let first = version_of_word(alloc, first)?;
-    let second = version_of_word(alloc, second)?;
+    let first = version_of_word(first)?;
+    let second = version_of_word(second)?;
     let mut output = Vec::new(alloc);
     add_difference(&first, &second, b'\n', &mut output)?;
     Ok(output)
 }
 
 // Returns the lines of `diff --lists`.
-fn changes<F: Files, R: Read>(
+fn changes<'w, F: Files, R: Read>(
     alloc: Global,
-    lists: &Lists<'_>,
+    lists: &Lists<'w>,
     files: &F,
     reader: &mut R,
-) -> Result<Vec<u8>, Fault>
+) -> Result<Vec<u8>, Fault<'w>>
     ensures output { IfOk result (λ output. AreChanges lists.now (F.reads files.now)
         (R.remaining reader.old) (R.remaining reader.new) output.items) }
     ensures unread { reads_standard (names_of lists.now) ≡ false → reader.new ≡ reader.old }

@@ -1,21 +1,37 @@
 //! What a message shows of a text that it quotes: a line, a word or the name of a file.
-ghost use Rattle.std.specs.Prelude.{◌≡◌, ◌++◌, string_bytes, IfOk, OnOk};
+ghost use Rattle.std.specs.Prelude.{◌≡◌, Some, string_bytes, IfOk};
+ghost use Rattle.std.specs.Fmt.{DisplaysOnOk};
 ghost use Rattle.version_commands.specs.Quote.{quoted, quoted_character, text_in_front};
 
 use std::alloc::{AllocError, Global};
+use std::fmt;
 
 // How many bytes of a text a message shows.
 const SHOWN: usize = 60;
 
-/// Returns a text as a message shows it: as much of its first sixty bytes as is UTF-8, with control characters escaped.
+/// A text that prints as a message shows it: as much of its first sixty bytes as is UTF-8, with control characters
+/// escaped.
+#[derive(Clone, Copy)]
+pub struct Shown<'a> {
+    pub text: &'a [u8],
+}
+
+impl fmt::Display for Shown<'_> {
+    ghost output = { λ shown. Some (quoted shown.text.now) };
+
+    fn fmt<W: fmt::Write>(&self, f: &mut fmt::Formatter<W>) -> fmt::Result {
+        for character in text_in_front(&self.text[..SHOWN.min(self.text.len())]).chars() {
+            write_quoted(f, character)?;
+        }
+        Ok(())
+    }
+}
+
+/// Returns a text as a message shows it.
 pub fn quoted(alloc: Global, text: &[u8]) -> Result<String, AllocError>
     ensures { IfOk result (λ shown. string_bytes shown ≡ quoted text.now) }
 {
-    let mut shown = String::new(alloc);
-    for character in text_in_front(&text[..SHOWN.min(text.len())]).chars() {
-        add_quoted(&mut shown, character)?;
-    }
-    Ok(shown)
+    format!(in alloc; "{}", Shown { text })
 }
 
 // Returns as much of the front of some bytes as is UTF-8.
@@ -28,15 +44,15 @@ fn text_in_front(bytes: &[u8]) -> &str
     }
 }
 
-// Adds a character as a message shows it.
-fn add_quoted(text: &mut String, character: char) -> Result<(), AllocError>
-    ensures { OnOk result (string_bytes text.new ≡ string_bytes text.old ++ quoted_character character) }
+// Writes a character as a message shows it.
+fn write_quoted<W: fmt::Write>(f: &mut fmt::Formatter<W>, character: char) -> fmt::Result
+    ensures { DisplaysOnOk W.write_str_gives f.old result (Some (quoted_character character)) f.new }
 {
-    if !character.is_control() {
-        return text.push(character);
+    if character.is_control() {
+        for escaped in character.escape_default() {
+            f.write_char(escaped)?;
+        }
+        return Ok(());
     }
-    for escaped in character.escape_default() {
-        text.push(escaped)?;
-    }
-    Ok(())
+    f.write_char(character)
 }

@@ -1,10 +1,10 @@
 //! Writing lines that stand in their order.
-ghost use Rattle.std.specs.Prelude.{◌≡◌, ◌<◌, ◌++◌, ℕ, List, [], get_or, length, IfErr, OnErr, OnOk};
+ghost use Rattle.std.specs.Prelude.{◌≡◌, ◌<◌, ◌++◌, ℕ, List, [], get_or, length, OnErr, OnOk};
 ghost use Rattle.version_lines.specs.Lines.{lines_output, whole_line};
 ghost use Rattle.version_lines.specs.Output.{AppendsProperBeginning, AppendsUpTo};
 
 use std::io::Write;
-use version_lines::{Fault, KeyedLines, SortBy, put_line};
+use version_lines::{KeyedLines, NotWritten, SortBy, put_line};
 
 /// Lines in an order.
 pub trait Rows {
@@ -35,6 +35,23 @@ impl<B: SortBy> Rows for KeyedLines<'_, B> {
     }
 }
 
+impl Rows for Option<&[u8]> {
+    ghost use Rattle.version_lines.specs.NewestLine.{rows_in};
+
+    ghost lines = { rows_in };
+
+    fn count(&self) -> usize {
+        usize::from(self.is_some())
+    }
+
+    fn row(&self, _place: usize) -> &[u8] {
+        match self {
+            Some(line) => line,
+            None => &[],
+        }
+    }
+}
+
 impl Rows for Vec<&[u8]> {
     ghost use Rattle.std.specs.Prelude.{map};
 
@@ -55,14 +72,13 @@ pub fn put_rows<L: Rows, W: Write>(
     buffer: &mut Vec<u8>,
     end: u8,
     rows: &L,
-) -> Result<(), Fault>
+) -> Result<(), NotWritten>
     ensures ok { OnOk result (AppendsUpTo (W.contents writer.old) (W.contents writer.new)
         buffer.new.items
         (buffer.old.items ++ lines_output (whole_line end) (L.lines rows.now))) }
     ensures err { OnErr result (AppendsProperBeginning (W.contents writer.old)
         (W.contents writer.new)
         (buffer.old.items ++ lines_output (whole_line end) (L.lines rows.now))) }
-    ensures fault { IfErr result (λ fault. fault ≡ Fault.Write) }
 {
     for place in 0..rows.count() {
         put_line(writer, buffer, end, b"", rows.row(place))?;

@@ -7,30 +7,29 @@ ghost use Rattle.version_commands.specs.Ends.{Ends};
 ghost use Rattle.version_commands.specs.Fault.{ComesOfPut};
 ghost use Rattle.version_commands.specs.Files.{Leaves};
 ghost use Rattle.version_commands.specs.Ordered.{put_of, IsPlaced};
-ghost use Rattle.version_lines.specs.Lines.{lines_output, whole_line};
+ghost use Rattle.version_lines.specs.Lines.{lines_output, output_by, whole_line};
 ghost use Rattle.version_lines.specs.Output.{AppendsProperBeginning, AppendsUpTo};
 
 use crate::bad::policy;
 use crate::faults::Fault;
-use crate::files::{Files, Trouble};
+use crate::files::Files;
 use crate::options::{Invalid, LineOptions};
 use crate::pick::BadLines;
-use crate::quote::quoted;
 use crate::rows::{Rows, put_rows};
 use std::alloc::{AllocError, Global};
 use std::io::Write;
-use version_lines::{make_buffer, write_whole};
+use version_lines::{LineCommand, NotWritten, Trouble, answer_lines, make_buffer, write_whole};
 
 /// Writes the lines in their order, with those that have no version before or after them, or into the file for these.
 /// All memory is taken before anything is written.
-pub fn write_lines<L: Rows, F: Files, W: Write>(
+pub fn write_lines<'w, L: Rows, F: Files, W: Write>(
     alloc: Global,
-    options: &LineOptions<'_>,
+    options: &LineOptions<'w>,
     bad: &BadLines<'_>,
     rows: &L,
     files: &mut F,
     writer: &mut W,
-) -> Result<(), Fault>
+) -> Result<(), Fault<'w>>
     ensures ends { Ends (IsPlaced options.now (map (λ line. line.now) bad.now.lines.items)
         (L.lines rows.now) (Leaves F.puts files.old files.new)) (ComesOfPut options.now)
         (W.contents writer.old) (W.contents writer.new) result }
@@ -39,10 +38,8 @@ pub fn write_lines<L: Rows, F: Files, W: Write>(
 {
     let mut buffer = make_buffer(alloc)?;
     put_bad(alloc, options, bad, files)?;
-    match write_placed(policy(options), options.end, bad, rows, writer, &mut buffer) {
-        Ok(()) => Ok(()),
-        Err(_) => Err(Fault::Write(None)),
-    }
+    write_placed(policy(options), options.end, bad, rows, writer, &mut buffer)?;
+    Ok(())
 }
 
 // Writes the lines in their order, through an empty buffer.
@@ -53,7 +50,7 @@ fn write_placed<L: Rows, W: Write>(
     rows: &L,
     writer: &mut W,
     buffer: &mut Vec<u8>,
-) -> Result<(), version_lines::Fault>
+) -> Result<(), NotWritten>
     requires { buffer.old.items ≡ [] }
     ensures ok { OnOk result (Appends (W.contents writer.old) (W.contents writer.new)
         (lines_output (whole_line end) (placed invalid
@@ -74,7 +71,7 @@ fn put_placed<L: Rows, W: Write>(
     rows: &L,
     writer: &mut W,
     buffer: &mut Vec<u8>,
-) -> Result<(), version_lines::Fault>
+) -> Result<(), NotWritten>
     ensures ok { OnOk result (AppendsUpTo (W.contents writer.old) (W.contents writer.new)
         buffer.new.items (buffer.old.items ++ lines_output (whole_line end) (placed invalid
         (map (λ line. line.now) bad.now.lines.items) (L.lines rows.now)))) }
@@ -96,7 +93,7 @@ fn put_both<A: Rows, B: Rows, W: Write>(
     second: &B,
     writer: &mut W,
     buffer: &mut Vec<u8>,
-) -> Result<(), version_lines::Fault>
+) -> Result<(), NotWritten>
     ensures ok { OnOk result (AppendsUpTo (W.contents writer.old) (W.contents writer.new)
         buffer.new.items (buffer.old.items
         ++ lines_output (whole_line end) (A.lines first.now ++ B.lines second.now))) }
@@ -109,12 +106,12 @@ fn put_both<A: Rows, B: Rows, W: Write>(
 }
 
 // Writes the lines that have no version into the file for these, if there is one.
-fn put_bad<F: Files>(
+fn put_bad<'w, F: Files>(
     alloc: Global,
-    options: &LineOptions<'_>,
+    options: &LineOptions<'w>,
     bad: &BadLines<'_>,
     files: &mut F,
-) -> Result<(), Fault>
+) -> Result<(), Fault<'w>>
     ensures put { OnOk result (Leaves F.puts files.old files.new
         (put_of options.now (map (λ line. line.now) bad.now.lines.items))) }
     ensures files { options.now.invalid_to ≡ None → files.new ≡ files.old }
@@ -127,7 +124,7 @@ fn put_bad<F: Files>(
     match files.put(name, bytes.as_slice()) {
         Ok(()) => Ok(()),
         Err(Trouble::Memory) => Err(Fault::Memory),
-        Err(Trouble::System) => Err(Fault::Write(Some(quoted(alloc, name.as_bytes())?))),
+        Err(Trouble::System) => Err(Fault::Write(Some(name))),
     }
 }
 
@@ -144,13 +141,28 @@ fn joined_lines(alloc: Global, end: u8, lines: &[&[u8]]) -> Result<Vec<u8>, Allo
     Ok(bytes)
 }
 
+/// Writes what a command answers for each line. Not inlined, so that each of its forms has the registers for itself.
+#[inline(never)]
+pub fn write_answers<'w, C: LineCommand, W: Write>(
+    alloc: Global,
+    command: &C,
+    end: u8,
+    input: &[u8],
+    writer: &mut W,
+) -> Result<(), Fault<'w>>
+    ensures { Ends (λ output. output ≡ output_by end (C.line_output command.now end) input.now)
+        (λ fault. fault ≡ Fault.Memory) (W.contents writer.old) (W.contents writer.new) result }
+{
+    let mut buffer = make_buffer(alloc)?;
+    answer_lines(command, end, input, writer, &mut buffer)?;
+    Ok(())
+}
+
 /// Writes an answer that was gathered.
-pub fn write_answer<W: Write>(writer: &mut W, answer: &[u8]) -> Result<(), Fault>
+pub fn write_answer<'w, W: Write>(writer: &mut W, answer: &[u8]) -> Result<(), Fault<'w>>
     ensures { Ends (λ output. output ≡ answer.now) (λ _. ⊥)
         (W.contents writer.old) (W.contents writer.new) result }
 {
-    match write_whole(writer, answer) {
-        Ok(()) => Ok(()),
-        Err(_) => Err(Fault::Write(None)),
-    }
+    write_whole(writer, answer)?;
+    Ok(())
 }

@@ -1,14 +1,11 @@
 pub mod Column
 pub mod Entry
 pub mod FirstOfEach
-pub mod Grouped
 pub mod Kept
 pub mod KeyBytes
 pub mod KeyedLines
 pub mod Lines
-pub mod Matching
 pub mod Newest
+pub mod NewestLine
 pub mod Output
-pub mod Run
-pub mod Sort
 pub mod Sorting

@@ -1,16 +1,16 @@
 -- A line as it is sorted, and the place of its key.
-use Rattle.std.specs.Prelude.{◌≡◌, ◌<◌, ◌≤◌, ◌+◌, ℕ, List, Some, drop, length, take}
-use Rattle.std.specs.List.{All, AllPairs}
+use Rattle.std.specs.Prelude.{◌≡◌, ◌<◌, ◌≤◌, ◌+◌, ℕ, List, Some, drop, length, slice_index, take}
+use Rattle.std.specs.Int.{from_be_bytes, w64}
+use Rattle.std.specs.List.{AllPairs}
 use Rattle.std.specs.Ordering.{nat_cmp, on, then_cmp}
 use Rattle.std.specs.declared.cmp.Ordering.{Ordering}
-use Rattle.version_texts.specs.Head.{behind_heads_cmp, head_number}
 use Rattle.version_lines.specs.declared.sort.entry.Entry.{Entry}
 use Rattle.version_rules.specs.Key.{key_of}
 use Rattle.version_rules.specs.KeyBytes.{key_bytes}
+use Rattle.version_rules.specs.Lists.{bytes_cmp}
 use Rattle.version_rules.specs.Kind.{versioning_kind}
 use Rattle.version_rules.specs.Versioning.{PlainVersioning, versioning_of}
 use Rattle.version_rules.specs.declared.kind.Kind.{Kind}
-use Rattle.version_rules.specs.declared.kind.Kind.TheVariants.{Ideal}
 use Rattle.version_texts.specs.KeyTies.{kind_on, marked_number, texts_tie}
 
 -- the line of an entry
@@ -34,9 +34,9 @@ pub record HoldsKey (keys : List ℕ) (v : PlainVersioning) (entry : Entry) : Ty
   pub kind : entry_kind entry ≡ versioning_kind v
   pub within : entry.start + key_length entry ≤ length keys
   pub key : entry_key keys entry ≡ key_bytes (key_of v)
-  pub bytes : All (λ byte. byte < 256) (key_bytes (key_of v))
-  pub first : entry.first ≡ head_number (key_bytes (key_of v))
-  pub second : entry.second ≡ head_number (drop 8 (key_bytes (key_of v)))
+  pub bytes : (place : ℕ) → slice_index (key_bytes (key_of v)) place < 256
+  pub first : entry.first ≡ from_be_bytes w64 (key_bytes (key_of v))
+  pub second : entry.second ≡ from_be_bytes w64 (drop 8 (key_bytes (key_of v)))
 
 -- the text in its line is a version, whose kind and key it has
 abbrev pub IsRead : (List ℕ → List ℕ) → List ℕ → Entry → Type 0
@@ -44,18 +44,27 @@ IsRead text_of keys entry =
     (v : PlainVersioning) × (versioning_of (text_of (entry_line entry)) ≡ Some v)
     × HoldsKey keys v entry
 
--- by the second number, then by the bytes after those of the two numbers
-abbrev pub behind_cmp : List ℕ → Entry → Entry → Ordering
-behind_cmp keys =
-    then_cmp (on (λ (entry : Entry). entry.second) nat_cmp) (on (entry_key keys) behind_heads_cmp)
+-- by the two numbers
+abbrev pub heads_cmp : Entry → Entry → Ordering
+heads_cmp =
+    then_cmp (on (λ (entry : Entry). entry.first) nat_cmp)
+    (on (λ (entry : Entry). entry.second) nat_cmp)
 
--- by the first number, then by the second, then by the bytes after them
+-- two keys by the bytes after those of the two numbers, and then by length
+abbrev pub after_heads_cmp : List ℕ → List ℕ → Ordering
+after_heads_cmp = then_cmp (on (drop 16) bytes_cmp) (on length nat_cmp)
+
+-- by the two numbers, and then by the rest of the keys
 abbrev pub entry_cmp : List ℕ → Entry → Entry → Ordering
-entry_cmp keys = then_cmp (on (λ (entry : Entry). entry.first) nat_cmp) (behind_cmp keys)
+entry_cmp keys = then_cmp heads_cmp (on (entry_key keys) after_heads_cmp)
 
--- its version is strict
-abbrev pub IsStrict : Entry → Type 0
-IsStrict entry = entry_kind entry ≡ Ideal
+-- by what breaks ties of keys: the kind and the text in the line
+abbrev pub tie_cmp : (List ℕ → List ℕ) → Entry → Entry → Ordering
+tie_cmp text_of = on (λ entry. (entry_kind entry, text_of (entry_line entry))) texts_tie
+
+-- by the keys, and then by what breaks their ties
+abbrev pub version_cmp : (List ℕ → List ℕ) → List ℕ → Entry → Entry → Ordering
+version_cmp text_of keys = then_cmp (entry_cmp keys) (tie_cmp text_of)
 
 -- by the places of their keys
 abbrev pub turn_cmp : Entry → Entry → Ordering
@@ -64,15 +73,3 @@ turn_cmp = on (λ (entry : Entry). entry.start) nat_cmp
 -- the keys of lines that stand as in the input lie one after another
 abbrev pub AreInTurn : List Entry → Type 0
 AreInTurn = AllPairs (λ (a b : Entry). a.start < b.start)
-
--- its kind and its line
-abbrev pub entry_tie : Entry → Kind × List ℕ
-entry_tie entry = (entry_kind entry, entry_line entry)
-
--- what breaks the tie of its key: its kind and the text in its line
-abbrev pub text_tie : (List ℕ → List ℕ) → Kind × List ℕ → Kind × List ℕ
-text_tie text_of tie = (tie.0, text_of tie.1)
-
--- by what breaks ties of keys
-abbrev pub tie_cmp : (List ℕ → List ℕ) → Entry → Entry → Ordering
-tie_cmp text_of = on (λ (entry : Entry). text_tie text_of (entry_tie entry)) texts_tie

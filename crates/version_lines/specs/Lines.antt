@@ -1,8 +1,10 @@
 -- The lines of an input, and an output that is made line by line.
 use Rattle.std.specs.Prelude.{ℕ, List, [], ◌∷◌, ◌++◌, if◌then◌else◌, ◌==◌}
 use Rattle.std.specs.List.{flat_map}
+use Rattle.version_lines.specs.declared.lines.Answer.{Answer}
+use Rattle.version_lines.specs.declared.lines.Answer.TheVariants.{Line, Text, Nothing}
 
--- the byte that ends the lines of `vers`
+-- the byte that ends a line where nothing else is asked for
 abbrev pub line_feed : ℕ
 line_feed = 10
 
@@ -25,6 +27,12 @@ whole_line end line = line ++ end ∷ []
 -- a label, a line, and the byte that ends it
 abbrev pub labelled_line : ℕ → List ℕ → List ℕ → List ℕ
 labelled_line end label line = label ++ whole_line end line
+
+-- what an answer writes for a line
+abbrev pub answer_text : ℕ → Answer → List ℕ → List ℕ
+answer_text end (Line label) line = labelled_line end label.now line
+answer_text end (Text text) line = whole_line end text.now
+answer_text end Nothing line = []
 
 -- what a command writes for some lines, by what it writes for one
 abbrev pub lines_output : (List ℕ → List ℕ) → List (List ℕ) → List ℕ

@@ -1,9 +1,7 @@
 -- A list in order, and orders in reverse.
-use Rattle.std.specs.List.{All, prefix_len}
-use Rattle.std.specs.Prelude.{◌≡◌, ⊤, ℕ, Bool, ◌+◌, ◌<◌, List, [], ◌∷◌, if◌then◌else◌, not}
+use Rattle.std.specs.Prelude.{Bool, List, [], ◌∷◌, if◌then◌else◌}
 use Rattle.std.specs.Ordering.{is_lt, ordering_reverse}
 use Rattle.std.specs.declared.cmp.Ordering.{Ordering}
-use Rattle.std.specs.declared.cmp.Ordering.TheVariants.{Equal}
 
 -- an answer of an order, or of the reverse of it
 abbrev pub turn : Bool → Ordering → Ordering
@@ -22,14 +20,3 @@ put_in_order cmp x (y ∷ ys) = if is_lt (cmp y x) then y ∷ put_in_order cmp x
 abbrev pub in_order : {X : Type 0} → (X → X → Ordering) → List X → List X
 in_order cmp [] = []
 in_order cmp (x ∷ xs) = put_in_order cmp x (in_order cmp xs)
-
--- how many elements from the first on it is not below: in a list in order, how many tie with it
-abbrev pub run_length : {X : Type 0} → (X → X → Ordering) → List X → ℕ
-run_length cmp [] = 0
-run_length cmp (x ∷ xs) = 1 + prefix_len (λ y. not (is_lt (cmp x y))) xs
-
--- of elements that tie, the earlier has the lower place
-abbrev pub TiesRise : {X : Type 0} → (X → X → Ordering) → (X → ℕ) → List X → Type 0
-TiesRise cmp place [] = ⊤
-TiesRise cmp place (x ∷ xs) =
-    All (λ y. cmp x y ≡ Equal → place x < place y) xs × TiesRise cmp place xs

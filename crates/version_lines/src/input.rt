@@ -1,12 +1,29 @@
 //! Reading the whole input.
-ghost use Rattle.std.specs.Prelude.{◌≡◌, ◌++◌, ℕ, List, vec_len, OnOk, IfOk, IfErr};
+ghost use Rattle.std.specs.Prelude.{◌≡◌, ◌++◌, ℕ, List, vec_len, OnOk, IfOk};
 ghost use Rattle.std.specs.Io.KnownBytes.{Consumes, IsAtEnd};
-ghost use Rattle.version_lines.specs.Fault.{ComesOfReading};
 ghost use Rattle.version_lines.specs.Input.{AddsRest};
 
-use crate::faults::Fault;
 use std::alloc::{AllocError, Global};
 use std::io::Read;
+
+/// Why an input could not be read, or a file written.
+#[derive(Clone, Copy, Debug, PartialEq, Eq)]
+pub enum Trouble {
+    /// An allocation failed.
+    Memory,
+    /// The system refused.
+    System,
+}
+
+impl From<AllocError> for Trouble {
+    ghost use Rattle.version_lines.specs.declared.input.Trouble.TheVariants.{Memory};
+
+    ghost from_gives = { λ _ trouble. trouble ≡ Memory };
+
+    fn from(_refused: AllocError) -> Trouble {
+        Trouble::Memory
+    }
+}
 
 // How many bytes one call of `read` may return.
 const PIECE: usize = 64 * 1024;
@@ -19,11 +36,10 @@ fn zeros(alloc: Global, count: usize) -> Result<Vec<u8>, AllocError>
 }
 
 /// Reads to the end of the reader. It stops at the first call of `read` that fails, interrupted calls included.
-pub fn read_all<R: Read>(alloc: Global, reader: &mut R) -> Result<Vec<u8>, Fault>
+pub fn read_all<R: Read>(alloc: Global, reader: &mut R) -> Result<Vec<u8>, Trouble>
     ensures bytes { IfOk result (λ input.
         Consumes (R.remaining reader.old) (R.remaining reader.new) input.items) }
     ensures end { OnOk result (IsAtEnd (R.remaining reader.new)) }
-    ensures faults { IfErr result ComesOfReading }
 {
     let mut input = Vec::new(alloc);
     read_onto(alloc, reader, &mut input)?;
@@ -32,22 +48,21 @@ pub fn read_all<R: Read>(alloc: Global, reader: &mut R) -> Result<Vec<u8>, Fault
 
 /// Reads to the end of the reader, and adds what it reads after the input so far. It stops as `read_all` does. After an
 /// error, part of it may have been added.
-pub fn read_onto<R: Read>(alloc: Global, reader: &mut R, input: &mut Vec<u8>) -> Result<(), Fault>
+pub fn read_onto<R: Read>(alloc: Global, reader: &mut R, input: &mut Vec<u8>) -> Result<(), Trouble>
     ensures bytes { OnOk result
         (AddsRest (R.remaining reader.old) (R.remaining reader.new) input.old.items input.new.items) }
     ensures end { OnOk result (IsAtEnd (R.remaining reader.new)) }
     ensures begun { (more : List ℕ) × (input.new.items ≡ input.old.items ++ more) }
-    ensures faults { IfErr result ComesOfReading }
 {
     let mut piece = zeros(alloc, PIECE)?;
     for _ in 0..u64::MAX {
         let Ok(given) = reader.read(piece.as_mut_slice()) else {
-            return Err(Fault::Read);
+            return Err(Trouble::System);
         };
         if given == 0 {
             return Ok(());
         }
         input.extend_from_slice(&piece[..given])?;
     }
-    Err(Fault::Read)
+    Err(Trouble::System)
 }

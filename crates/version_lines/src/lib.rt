@@ -1,31 +1,19 @@
-//! The program `vers` over any reader and any writer: `run` reads lines, and writes a command's output.
-//! docs/PROGRAM.md has its rules. What it is made of serves other programs for lines too: reading and splitting lines,
-//! putting them in the order of their versions, and writing them.
+//! What programs over lines of versions are made of: reading inputs, splitting lines and columns, putting lines in the
+//! order of the versions in them, and writing them. It knows no words and no commands.
 #![tactic(auto)]
 
-mod answer;
 mod column;
-mod command;
-mod comparison;
-mod faults;
-mod ideal;
 mod input;
-mod key;
 mod laws;
 mod lines;
-mod matching;
 mod output;
-mod program;
-mod show;
 mod sort;
-mod words;
 
 pub use column::Column;
-pub use faults::Fault;
-pub use input::{read_all, read_onto};
-pub use lines::split_line;
-pub use output::{make_buffer, put, put_line, write_whole};
-pub use program::run;
+pub use input::{Trouble, read_all, read_onto};
+pub use lines::{Answer, LineCommand, answer_lines, split_line};
+pub use output::{NotWritten, make_buffer, put, put_line, write_whole};
 pub use sort::by::{SortBy, WholeLines};
-pub use sort::grouped::GroupBy;
 pub use sort::keyed_lines::KeyedLines;
+pub use sort::newest::GroupBy;
+pub use sort::newest_line::NewestLine;

@@ -1,50 +1,52 @@
-//! Commands whose output for a line depends on that line alone.
-ghost use Rattle.std.specs.Prelude.{◌≡◌, ℕ, ◌<◌, List, ◌∷◌, ◌++◌, length, OnOk, OnErr, IfErr, IsErrOf};
-ghost use Rattle.std.specs.Io.KnownBytes.{Appends, Keeps};
-ghost use Rattle.version_lines.specs.Answer.{answer_text};
-ghost use Rattle.version_lines.specs.Fault.{ComesOfWriting};
-ghost use Rattle.version_lines.specs.Lines.{line_feed, lines_of, lines_output};
+//! The lines of an input, and outputs in which what is written for a line depends on that line alone.
+ghost use Rattle.std.specs.Prelude.{◌≡◌, ℕ, ◌<◌, List, [], ◌∷◌, ◌++◌, length, OnOk, OnErr};
+ghost use Rattle.std.specs.Io.KnownBytes.{Appends};
+ghost use Rattle.version_lines.specs.Lines.{answer_text, lines_of, output_by};
 ghost use Rattle.version_lines.specs.Output.{AppendsProperBeginning, AppendsUpTo};
 
-use crate::answer::{Answer, label};
-use crate::faults::Fault;
-use crate::output::{make_buffer, put, put_line, write_whole};
+use crate::output::{NotWritten, put_line, write_whole};
 use memchr::memchr;
-use std::alloc::Global;
 use std::io::Write;
+
+/// What is written for a line.
+#[derive(Clone, Copy)]
+pub enum Answer {
+    /// The line behind this label.
+    Line(&'static [u8]),
+    /// This text in place of the line.
+    Text(&'static [u8]),
+    /// Nothing.
+    Nothing,
+}
 
 /// A command whose output for a line depends on that line alone.
 pub trait LineCommand {
-    // The output for a line.
-    ghost line_output: { Self → List ℕ → List ℕ };
+    // The output for a line, by the byte that ends lines.
+    ghost line_output: { Self → ℕ → List ℕ → List ℕ };
 
     /// Returns the answer for a line.
     fn answer(&self, line: &[u8]) -> Answer
-        ensures { answer_text result line.now ≡ line_output self.now line.now };
+        ensures { (end : ℕ) → answer_text end result line.now ≡ line_output self.now end line.now };
 }
 
-/// Writes the answer for each line of the input.
-pub fn write_lines<C: LineCommand, W: Write>(
-    alloc: Global,
+/// Writes the answer for each line of the input, through an empty buffer. Does not allocate.
+pub fn answer_lines<C: LineCommand, W: Write>(
     command: &C,
+    end: u8,
     input: &[u8],
     writer: &mut W,
-) -> Result<(), Fault>
+    buffer: &mut Vec<u8>,
+) -> Result<(), NotWritten>
+    requires { buffer.old.items ≡ [] }
     ensures ok { OnOk result (Appends (W.contents writer.old) (W.contents writer.new)
-        (lines_output (C.line_output command.now) (lines_of line_feed input.now))) }
-    ensures memory { IsErrOf result Fault.Memory →
-        Keeps (W.contents writer.old) (W.contents writer.new) }
-    ensures write { IsErrOf result Fault.Write →
-        AppendsProperBeginning (W.contents writer.old) (W.contents writer.new)
-        (lines_output (C.line_output command.now) (lines_of line_feed input.now)) }
-    ensures faults { IfErr result ComesOfWriting }
+        (output_by end (C.line_output command.now end) input.now)) }
+    ensures err { OnErr result (AppendsProperBeginning (W.contents writer.old) (W.contents writer.new)
+        (output_by end (C.line_output command.now end) input.now)) }
 {
-    let mut buffer = make_buffer(alloc)?;
     let mut rest = input;
     while !rest.is_empty() {
-        let (line, after) = split_line(b'\n', rest);
-        let answer = command.answer(line);
-        put_answer(answer, line, writer, &mut buffer)?;
+        let (line, after) = split_line(end, rest);
+        put_answer(command.answer(line), end, line, writer, buffer)?;
         rest = after;
     }
     write_whole(writer, buffer.as_slice())
@@ -56,29 +58,27 @@ pub fn split_line(end: u8, text: &[u8]) -> (&[u8], &[u8])
     ensures lines { lines_of end text.now ≡ result.0.now ∷ lines_of end result.1.now }
     ensures shorter { length result.1.now < length text.now }
 {
-    match memchr(end, text) {
-        Some(place) => (&text[..place], &text[place + 1..]),
-        None => (text, &[]),
-    }
+    let line = memchr(end, text).unwrap_or(text.len());
+    (&text[..line], &text[text.len().min(line + 1)..])
 }
 
 // Adds the answer for a line to the buffer.
+#[inline(always)]
 fn put_answer<W: Write>(
     answer: Answer,
+    end: u8,
     line: &[u8],
     writer: &mut W,
     buffer: &mut Vec<u8>,
-) -> Result<(), Fault>
+) -> Result<(), NotWritten>
     ensures ok { OnOk result (AppendsUpTo (W.contents writer.old) (W.contents writer.new)
-        buffer.new.items (buffer.old.items ++ answer_text answer line.now)) }
+        buffer.new.items (buffer.old.items ++ answer_text end answer line.now)) }
     ensures err { OnErr result (AppendsProperBeginning (W.contents writer.old)
-        (W.contents writer.new) (buffer.old.items ++ answer_text answer line.now)) }
-    ensures fault { IfErr result (λ fault. fault ≡ Fault.Write) }
+        (W.contents writer.new) (buffer.old.items ++ answer_text end answer line.now)) }
 {
     match answer {
-        Answer::OfKind(kind) => put_line(writer, buffer, b'\n', label(kind), line),
-        Answer::NoVersion => put(writer, buffer, b"none\n"),
-        Answer::Whole => put_line(writer, buffer, b'\n', b"", line),
+        Answer::Line(label) => put_line(writer, buffer, end, label, line),
+        Answer::Text(text) => put_line(writer, buffer, end, b"", text),
         Answer::Nothing => Ok(()),
     }
 }

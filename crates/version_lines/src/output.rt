@@ -1,12 +1,15 @@
 //! Writing through a buffer.
-ghost use Rattle.std.specs.Prelude.{[], ◌≡◌, ◌+◌, ◌<◌, ◌++◌, length, vec_capacity, vec_len, IfOk, OnOk, OnErr, IfErr};
+ghost use Rattle.std.specs.Prelude.{[], ◌≡◌, ◌+◌, ◌<◌, ◌++◌, length, vec_capacity, vec_len, IfOk, OnOk, OnErr};
 ghost use Rattle.std.specs.Io.KnownBytes.{Appends};
 ghost use Rattle.version_lines.specs.Lines.{labelled_line};
 ghost use Rattle.version_lines.specs.Output.{AppendsProperBeginning, AppendsUpTo};
 
-use crate::faults::Fault;
 use std::alloc::{AllocError, Global};
 use std::io::Write;
+
+/// The writer failed, or takes no more.
+#[derive(Clone, Copy, Debug, PartialEq, Eq)]
+pub struct NotWritten;
 
 // The capacity of the buffer in bytes.
 const CAPACITY: usize = 64 * 1024;
@@ -19,19 +22,18 @@ pub fn make_buffer(alloc: Global) -> Result<Vec<u8>, AllocError>
 }
 
 /// Writes all bytes. It stops at the first call of `write` that fails or writes nothing, interrupted calls included.
-pub fn write_whole<W: Write>(writer: &mut W, bytes: &[u8]) -> Result<(), Fault>
+pub fn write_whole<W: Write>(writer: &mut W, bytes: &[u8]) -> Result<(), NotWritten>
     ensures ok { OnOk result (Appends (W.contents writer.old) (W.contents writer.new) bytes.now) }
     ensures err { OnErr result
         (AppendsProperBeginning (W.contents writer.old) (W.contents writer.new) bytes.now) }
-    ensures fault { IfErr result (λ fault. fault ≡ Fault.Write) }
 {
     let mut rest = bytes;
     while !rest.is_empty() {
         let Ok(taken) = writer.write(rest) else {
-            return Err(Fault::Write);
+            return Err(NotWritten);
         };
         if taken == 0 {
-            return Err(Fault::Write);
+            return Err(NotWritten);
         }
         rest = &rest[taken..];
     }
@@ -40,12 +42,11 @@ pub fn write_whole<W: Write>(writer: &mut W, bytes: &[u8]) -> Result<(), Fault>
 
 /// Adds the bytes to the buffer. If they do not fit, the buffer is written first; bytes that exceed its capacity are
 /// then written at once. Does not allocate.
-pub fn put<W: Write>(writer: &mut W, buffer: &mut Vec<u8>, bytes: &[u8]) -> Result<(), Fault>
+pub fn put<W: Write>(writer: &mut W, buffer: &mut Vec<u8>, bytes: &[u8]) -> Result<(), NotWritten>
     ensures ok { OnOk result (AppendsUpTo (W.contents writer.old) (W.contents writer.new)
         buffer.new.items (buffer.old.items ++ bytes.now)) }
     ensures err { OnErr result (AppendsProperBeginning (W.contents writer.old)
         (W.contents writer.new) (buffer.old.items ++ bytes.now)) }
-    ensures fault { IfErr result (λ fault. fault ≡ Fault.Write) }
 {
     if bytes.len() > buffer.capacity() - buffer.len() {
         write_whole(writer, buffer.as_slice())?;
@@ -65,12 +66,11 @@ pub fn put_line<W: Write>(
     end: u8,
     label: &[u8],
     line: &[u8],
-) -> Result<(), Fault>
+) -> Result<(), NotWritten>
     ensures ok { OnOk result (AppendsUpTo (W.contents writer.old) (W.contents writer.new)
         buffer.new.items (buffer.old.items ++ labelled_line end label.now line.now)) }
     ensures err { OnErr result (AppendsProperBeginning (W.contents writer.old)
         (W.contents writer.new) (buffer.old.items ++ labelled_line end label.now line.now)) }
-    ensures fault { IfErr result (λ fault. fault ≡ Fault.Write) }
 {
     let room = buffer.capacity() - buffer.len();
     if line.len() < room && label.len() < room - line.len() {

@@ -1,3 +1,4 @@
+pub mod Bytes
 pub mod Class
 pub mod Difference
 pub mod Empty
@@ -7,7 +8,6 @@ pub mod Field
 pub mod FirstFailing
 pub mod Inexact
 pub mod General
-pub mod Head
 pub mod KeyRoom
 pub mod KeyTies
 pub mod Matching

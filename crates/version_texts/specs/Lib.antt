@@ -4,7 +4,6 @@ pub mod Difference
 pub mod Empty
 pub mod EndOrder
 pub mod Field
-pub mod Head
 pub mod Inexact
 pub mod KeyRoom
 pub mod KeyTies

@@ -4,6 +4,7 @@
 //! allocate.
 #![tactic(auto)]
 
+mod bytes;
 mod class;
 mod conflict;
 mod difference;
@@ -32,6 +33,7 @@ mod sinks;
 mod versioning_ref;
 mod why;
 
+pub use bytes::{compare_bytes, first_eight};
 pub use class::{Class, begins_with, split_run};
 pub use conflict::{Conflict, Place, conflict_in};
 pub use difference::Difference;

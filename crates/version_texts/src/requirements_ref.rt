@@ -1,6 +1,7 @@
 //! Lists of requirements that are borrowed from their texts.
 
-ghost use Rattle.std.specs.Prelude.{◌≡◌, ◌↔◌, IfSome, IsTrue};
+ghost use Rattle.std.specs.Prelude.{◌≡◌, ◌↔◌, nat_eq, IfSome, IsTrue};
+ghost use Rattle.std.specs.List.{starts_with};
 ghost use Rattle.std.specs.Option.{is_none, is_some, IsSomeAnd};
 ghost use Rattle.version_texts.specs.RequirementRef.{plain_requirement_ref};
 ghost use Rattle.version_texts.specs.RequirementsRef.{from_second, others_of, wrong_member, IsFront};
@@ -11,6 +12,7 @@ ghost use Rattle.version_rules.specs.RequirementsRef.{Keeps};
 ghost use Rattle.version_rules.specs.Versioning.{versioning_of};
 
 use crate::members::{Members, split_first};
+use crate::order::piece::after_mark;
 use crate::others::Others;
 use crate::requirement_ref::RequirementRef;
 use crate::versioning_ref::VersioningRef;
@@ -96,7 +98,7 @@ impl<'a> RequirementsRef<'a> {
         ensures { IsTrue result ↔ Keeps self.now (versioning_of text.now) }
     {
         // The first bytes decide most texts without a scan.
-        if !text.starts_with(self.front) {
+        if !begins_with(text, self.front) {
             return false;
         }
         match VersioningRef::from_bytes(text) {
@@ -168,6 +170,21 @@ fn front_of<'a>(member: &RequirementRef<'a>) -> &'a [u8]
         Op::Tilde | Op::Caret => version.major(),
         _ => &[],
     }
+}
+
+// Returns whether a text begins with a front. Byte by byte, since the first decides most texts.
+#[inline(always)]
+fn begins_with(text: &[u8], front: &[u8]) -> bool
+    ensures { result ≡ starts_with nat_eq text.now front.now }
+{
+    let mut left = text;
+    for byte in front {
+        match after_mark(*byte, left) {
+            Some(behind) => left = behind,
+            None => return false,
+        }
+    }
+    true
 }
 
 // Returns whether the second member, if there is one, and the others match the version.

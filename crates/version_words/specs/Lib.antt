@@ -1,6 +1,6 @@
+pub mod Fault
 pub mod Grammar
 pub mod Named
 pub mod Rows
-pub mod Run
 pub mod Task
 pub mod Words

@@ -3,22 +3,24 @@ use Rattle.std.specs.Prelude.{◌≡◌, ◌≢◌, ◌⊎◌, ⊤, ℕ, Bool, t
 use Rattle.clap.specs.Words.{fault_of, subcommand_of, IsAmong, Kinds, Row}
 use Rattle.clap.specs.declared.error.kind.ErrorKind.{ErrorKind}
 use Rattle.clap.specs.declared.error.kind.ErrorKind.TheVariants.{DisplayHelp, DisplayVersion, OutOfMemory}
-use Rattle.version_commands.specs.declared.faults.Fault.{Fault}
-use Rattle.version_commands.specs.declared.faults.Fault.TheVariants.{Memory, Usage}
+use Rattle.version_words.specs.declared.faults.WordsFault.{WordsFault}
+use Rattle.version_words.specs.declared.faults.WordsFault.TheVariants.{Memory, Usage}
 use Rattle.version_commands.specs.declared.options.Task.{Task}
 use Rattle.version_commands.specs.declared.options.Task.TheVariants.{Say}
 use Rattle.version_words.specs.Grammar.{program_app}
 use Rattle.version_words.specs.Named.{verb_named}
 use Rattle.version_words.specs.Task.{IsTaskOf, IsWrong}
+use Rattle.version_words.specs.declared.faults.Fault.{Fault}
+use Rattle.version_words.specs.declared.faults.Fault.TheVariants as fault
 use Rattle.version_words.specs.declared.named.Verb.{Verb}
 
 -- the words are no task
-abbrev pub IsUsage : Fault → Type 0
+abbrev pub IsUsage : WordsFault → Type 0
 IsUsage (Usage text) = ⊤
 IsUsage other = ⊥
 
 -- there was no memory, or the words are no task since this is wrong with them
-abbrev pub ComesOfWrong : Type 0 → Fault → Type 0
+abbrev pub ComesOfWrong : Type 0 → WordsFault → Type 0
 ComesOfWrong Wrong fault = (fault ≡ Memory) ⊎ (IsUsage fault × Wrong)
 
 -- the command that `clap` found, with the rows of its words
@@ -73,5 +75,10 @@ module _ (words : List (List ℕ)) where
   AreWrong = HasAnswer false faults ⊎ ((faults ≡ []) × IsWrongIn command_of)
 
   -- the faults that words which mean no task end in
-  abbrev pub ComesOfWords : Fault → Type 0
+  abbrev pub ComesOfWords : WordsFault → Type 0
   ComesOfWords = ComesOfWrong AreWrong
+
+  -- the same of a run
+  abbrev pub IsOfWords : Fault → Type 0
+  IsOfWords (fault.Words wrong) = ComesOfWords wrong
+  IsOfWords (fault.Task failed) = ⊥

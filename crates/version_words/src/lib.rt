@@ -2,6 +2,7 @@
 //! docs/VERSIONS.md has its rules.
 #![tactic(auto)]
 
+mod faults;
 mod grammar;
 mod named;
 mod near;
@@ -11,5 +12,6 @@ mod task;
 mod words;
 mod wrong;
 
+pub use faults::{Fault, WordsFault};
 pub use program::run;
 pub use words::read_words;

@@ -1,28 +1,33 @@
 //! A run of the program over any files, reader and writer.
 
 ghost use Rattle.std.specs.Prelude.{map, string_bytes};
-ghost use Rattle.version_words.specs.Run.{RunsBy};
+ghost use Rattle.version_commands.specs.Run.{RunsBy};
+ghost use Rattle.version_words.specs.Words.{IsOfWords, Means};
+ghost use Rattle.version_words.specs.declared.faults.Fault.TheVariants.{Task};
 
+use crate::faults::Fault;
 use crate::words::read_words;
 use std::alloc::Global;
 use std::io::{Read, Write};
-use version_commands::{Fault, Files, serve};
+use version_commands::{Files, serve};
 
 /// Does what the words ask for. docs/VERSIONS.md has the commands.
 ///
 /// The words are read first, and each that should be a version or a list of requirements is checked before anything is
 /// read. The inputs are read to their ends and checked before anything is written, and all memory is taken before. So at
 /// a fault the writer got nothing, unless it takes no more; the file for lines without a version may have been written.
-pub fn run<F: Files, R: Read, W: Write>(
+pub fn run<'w, F: Files, R: Read, W: Write>(
     alloc: Global,
-    words: &[String],
+    words: &'w [String],
     files: &mut F,
     reader: &mut R,
     writer: &mut W,
-) -> Result<(), Fault>
-    ensures { RunsBy (map string_bytes words.now) F.reads F.puts R.remaining files.old files.new
-        reader.old reader.new (W.contents writer.old) (W.contents writer.new) result }
+) -> Result<(), Fault<'w>>
+    ensures { RunsBy F.reads F.puts R.remaining files.old files.new reader.old reader.new
+        (W.contents writer.old) (W.contents writer.new) (Means (map string_bytes words.now))
+        (IsOfWords (map string_bytes words.now)) Task result }
 {
     let task = read_words(alloc, words)?;
-    serve(alloc, &task, files, reader, writer)
+    serve(alloc, &task, files, reader, writer)?;
+    Ok(())
 }

@@ -5,6 +5,7 @@ ghost use Rattle.clap.specs.Words.{all_of, first_of, subcommand_rows_of};
 ghost use Rattle.version_words.specs.Rows.{column_at, column_of, end_of, has_option_of_lists, invalid_of, invalid_unasked, invalid_word, is_given, is_set, level_of, number_of, rows_in, separator_of, word_of, words_of};
 ghost use Rattle.version_words.specs.Words.{command_in, ComesOfWrong};
 
+use crate::faults::WordsFault;
 use crate::named::{
     Verb, count_named, invalid_asked, invalid_named, may_ask, separator_named, stability_named,
     verb_named,
@@ -12,7 +13,7 @@ use crate::named::{
 use crate::wrong::{wrong, wrong_invalid, wrong_separator, wrong_stability};
 use clap::ArgMatches;
 use std::alloc::{AllocError, Global};
-use version_commands::{Fault, Invalid};
+use version_commands::Invalid;
 use version_lines::Column;
 use version_tasks::Stability;
 
@@ -93,7 +94,7 @@ pub fn end_of(options: &ArgMatches<'_>) -> u8
 }
 
 /// Returns the byte between columns, if it is asked for.
-pub fn separator_of(alloc: Global, options: &ArgMatches<'_>) -> Result<Option<u8>, Fault>
+pub fn separator_of(alloc: Global, options: &ArgMatches<'_>) -> Result<Option<u8>, WordsFault>
     ensures ok { IfOk result (λ separator. separator_of (rows_in options.now) ≡ Some separator) }
     ensures faults { IfErr result (ComesOfWrong (separator_of (rows_in options.now) ≡ None)) }
 {
@@ -124,7 +125,7 @@ pub fn column_at(separator: Option<u8>, number: usize) -> Column
 }
 
 /// Returns the level of the versions that are kept.
-pub fn level_of(alloc: Global, options: &ArgMatches<'_>) -> Result<Stability, Fault>
+pub fn level_of(alloc: Global, options: &ArgMatches<'_>) -> Result<Stability, WordsFault>
     ensures ok { IfOk result (λ level. level_of (rows_in options.now) ≡ Some level) }
     ensures faults { IfErr result (ComesOfWrong (level_of (rows_in options.now) ≡ None)) }
 {
@@ -138,7 +139,11 @@ pub fn level_of(alloc: Global, options: &ArgMatches<'_>) -> Result<Stability, Fa
 }
 
 /// Returns what becomes of lines without a version.
-pub fn invalid_of(alloc: Global, command: Verb, options: &ArgMatches<'_>) -> Result<Invalid, Fault>
+pub fn invalid_of(
+    alloc: Global,
+    command: Verb,
+    options: &ArgMatches<'_>,
+) -> Result<Invalid, WordsFault>
     ensures ok { IfOk result (λ invalid. invalid_of command (rows_in options.now) ≡ Some invalid) }
     ensures faults { IfErr result (ComesOfWrong (invalid_of command (rows_in options.now) ≡ None)) }
 {
@@ -161,7 +166,7 @@ fn invalid_word(
     alloc: Global,
     command: Verb,
     options: &ArgMatches<'_>,
-) -> Result<Option<Invalid>, Fault>
+) -> Result<Option<Invalid>, WordsFault>
     ensures ok { IfOk result (λ asked. invalid_word command (rows_in options.now) ≡ Some asked) }
     ensures faults { IfErr result (ComesOfWrong (invalid_word command (rows_in options.now) ≡ None)) }
 {

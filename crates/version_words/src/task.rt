@@ -7,6 +7,7 @@ ghost use Rattle.version_words.specs.Rows.{column_of, is_given, is_set, rows_in,
 ghost use Rattle.version_words.specs.Task.{AreEachOptions, AreLineOptions, HasWrongDiff, HasWrongLines, HasWrongPlace, HasWrongTest, IsNaming, IsPlace, IsQuestion, IsTaskOf};
 ghost use Rattle.version_words.specs.Words.{command_in, ComesOfWrong, IsTaskIn, IsWrongIn};
 
+use crate::faults::WordsFault;
 use crate::named::{Verb, operator_named, place_named};
 use crate::rows::{
     column_at, column_of, command_in, end_of, has_option_of_lists, invalid_of, is_set, level_of,
@@ -16,13 +17,12 @@ use crate::wrong::{wrong, wrong_operator, wrong_place};
 use clap::ArgMatches;
 use std::alloc::{AllocError, Global};
 use version_commands::{
-    Arrangement, Choice, EachOptions, Fault, LineOptions, Lists, Naming, Question, Task,
-    VersionPlace,
+    Arrangement, Choice, EachOptions, LineOptions, Lists, Naming, Question, Task, VersionPlace,
 };
 use version_lines::Column;
 
 /// Returns the task that the words parse as.
-pub fn task_of<'w>(alloc: Global, matches: &ArgMatches<'w>) -> Result<Task<'w>, Fault>
+pub fn task_of<'w>(alloc: Global, matches: &ArgMatches<'w>) -> Result<Task<'w>, WordsFault>
     ensures task { IfOk result (IsTaskIn (command_in (subcommand_rows_of matches.now))) }
     ensures faults { IfErr result
         (ComesOfWrong (IsWrongIn (command_in (subcommand_rows_of matches.now)))) }
@@ -51,7 +51,7 @@ pub fn task_of<'w>(alloc: Global, matches: &ArgMatches<'w>) -> Result<Task<'w>, 
     }
 }
 
-fn sort_task<'w>(alloc: Global, options: &ArgMatches<'w>) -> Result<Task<'w>, Fault>
+fn sort_task<'w>(alloc: Global, options: &ArgMatches<'w>) -> Result<Task<'w>, WordsFault>
     ensures task { IfOk result (IsTaskOf Verb.Sort (rows_in options.now)) }
     ensures faults { IfErr result (ComesOfWrong (HasWrongLines Verb.Sort (rows_in options.now))) }
 {
@@ -64,7 +64,7 @@ fn sort_task<'w>(alloc: Global, options: &ArgMatches<'w>) -> Result<Task<'w>, Fa
     Ok(Task::Lines(arrangement, line_options))
 }
 
-fn newest_task<'w>(alloc: Global, options: &ArgMatches<'w>) -> Result<Task<'w>, Fault>
+fn newest_task<'w>(alloc: Global, options: &ArgMatches<'w>) -> Result<Task<'w>, WordsFault>
     ensures task { IfOk result (IsTaskOf Verb.Newest (rows_in options.now)) }
     ensures faults { IfErr result (ComesOfWrong (HasWrongLines Verb.Newest (rows_in options.now))) }
 {
@@ -77,7 +77,7 @@ fn newest_task<'w>(alloc: Global, options: &ArgMatches<'w>) -> Result<Task<'w>, 
     Ok(Task::Lines(arrangement, line_options))
 }
 
-fn filter_task<'w>(alloc: Global, options: &ArgMatches<'w>) -> Result<Task<'w>, Fault>
+fn filter_task<'w>(alloc: Global, options: &ArgMatches<'w>) -> Result<Task<'w>, WordsFault>
     ensures task { IfOk result (IsTaskOf Verb.Filter (rows_in options.now)) }
     ensures faults { IfErr result (ComesOfWrong (HasWrongLines Verb.Filter (rows_in options.now))) }
 {
@@ -96,7 +96,7 @@ fn line_options<'w>(
     command: Verb,
     separator: Option<u8>,
     options: &ArgMatches<'w>,
-) -> Result<LineOptions<'w>, Fault>
+) -> Result<LineOptions<'w>, WordsFault>
     ensures options { IfOk result (AreLineOptions command separator (rows_in options.now)) }
     ensures faults { IfErr result (ComesOfWrong (HasWrongLines command (rows_in options.now))) }
 {
@@ -122,7 +122,7 @@ fn place_of<'w>(
     alloc: Global,
     column: Option<Column>,
     options: &ArgMatches<'w>,
-) -> Result<VersionPlace<'w>, Fault>
+) -> Result<VersionPlace<'w>, WordsFault>
     ensures place { IfOk result (IsPlace (rows_in options.now) column) }
     ensures faults { IfErr result (ComesOfWrong (HasWrongPlace (rows_in options.now))) }
 {
@@ -134,7 +134,7 @@ fn place_of<'w>(
 }
 
 // Returns how a version stands in its column.
-fn naming_of<'w>(alloc: Global, options: &ArgMatches<'w>) -> Result<Naming<'w>, Fault>
+fn naming_of<'w>(alloc: Global, options: &ArgMatches<'w>) -> Result<Naming<'w>, WordsFault>
     ensures naming { IfOk result (IsNaming (rows_in options.now)) }
     ensures faults { IfErr result (ComesOfWrong (HasWrongPlace (rows_in options.now))) }
 {
@@ -176,7 +176,7 @@ fn show_question<'w>(options: &ArgMatches<'_>) -> Question<'w>
     }
 }
 
-fn next_task<'w>(alloc: Global, options: &ArgMatches<'w>) -> Result<Task<'w>, Fault>
+fn next_task<'w>(alloc: Global, options: &ArgMatches<'w>) -> Result<Task<'w>, WordsFault>
     ensures task { IfOk result (IsTaskOf Verb.Next (rows_in options.now)) }
     ensures faults { IfErr result
         (ComesOfWrong (place_named (word_of (codes "PLACE") (rows_in options.now)) ≡ None)) }
@@ -191,7 +191,7 @@ fn next_task<'w>(alloc: Global, options: &ArgMatches<'w>) -> Result<Task<'w>, Fa
     }
 }
 
-fn test_task<'w>(alloc: Global, options: &ArgMatches<'w>) -> Result<Task<'w>, Fault>
+fn test_task<'w>(alloc: Global, options: &ArgMatches<'w>) -> Result<Task<'w>, WordsFault>
     ensures task { IfOk result (IsTaskOf Verb.Test (rows_in options.now)) }
     ensures faults { IfErr result
         (ComesOfWrong (HasWrongTest (all_of (codes "WORD") (rows_in options.now)))) }
@@ -206,7 +206,7 @@ fn test_task<'w>(alloc: Global, options: &ArgMatches<'w>) -> Result<Task<'w>, Fa
     }
 }
 
-fn diff_task<'w>(alloc: Global, options: &ArgMatches<'w>) -> Result<Task<'w>, Fault>
+fn diff_task<'w>(alloc: Global, options: &ArgMatches<'w>) -> Result<Task<'w>, WordsFault>
     ensures task { IfOk result (IsTaskOf Verb.Diff (rows_in options.now)) }
     ensures faults { IfErr result (ComesOfWrong (HasWrongDiff (rows_in options.now))) }
 {
@@ -221,7 +221,7 @@ fn diff_task<'w>(alloc: Global, options: &ArgMatches<'w>) -> Result<Task<'w>, Fa
 }
 
 // Returns the task of `diff --lists`.
-fn lists_task<'w>(alloc: Global, options: &ArgMatches<'w>) -> Result<Task<'w>, Fault>
+fn lists_task<'w>(alloc: Global, options: &ArgMatches<'w>) -> Result<Task<'w>, WordsFault>
     requires { is_set (codes "lists") (rows_in options.now) ≡ true }
     ensures task { IfOk result (IsTaskOf Verb.Diff (rows_in options.now)) }
     ensures faults { IfErr result (ComesOfWrong (HasWrongDiff (rows_in options.now))) }

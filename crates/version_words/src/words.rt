@@ -4,6 +4,7 @@ ghost use Rattle.std.specs.Prelude.{map, string_bytes, IfErr, IfOk};
 ghost use Rattle.clap.specs.Words.{kind_of};
 ghost use Rattle.version_words.specs.Words.{ComesOfWords, ComesOfWrong, IsMistake, Means, Shows};
 
+use crate::faults::WordsFault;
 use crate::grammar::{NAMES, program};
 use crate::near::{similar, with_tip};
 use crate::task::task_of;
@@ -11,10 +12,10 @@ use crate::wrong::MORE;
 use clap::Error;
 use clap::error::ErrorKind;
 use std::alloc::{AllocError, Global};
-use version_commands::{Fault, Task, quoted};
+use version_commands::{Task, quoted};
 
 /// Reads the words after the program's name: a task, or what is wrong with them and how they are used.
-pub fn read_words<'w>(alloc: Global, words: &'w [String]) -> Result<Task<'w>, Fault>
+pub fn read_words<'w>(alloc: Global, words: &'w [String]) -> Result<Task<'w>, WordsFault>
     ensures task { IfOk result (Means (map string_bytes words.now)) }
     ensures faults { IfErr result (ComesOfWords (map string_bytes words.now)) }
 {
@@ -26,7 +27,7 @@ pub fn read_words<'w>(alloc: Global, words: &'w [String]) -> Result<Task<'w>, Fa
 }
 
 // Returns what a parse without matches asks for: a text, if the words ask for help or the version.
-fn answer_to<'w>(alloc: Global, error: &Error, words: &[String]) -> Result<Task<'w>, Fault>
+fn answer_to<'w>(alloc: Global, error: &Error, words: &[String]) -> Result<Task<'w>, WordsFault>
     ensures task { IfOk result (Shows (kind_of error.now)) }
     ensures faults { IfErr result (ComesOfWrong (IsMistake (kind_of error.now))) }
 {
@@ -34,8 +35,8 @@ fn answer_to<'w>(alloc: Global, error: &Error, words: &[String]) -> Result<Task<
         ErrorKind::DisplayHelp | ErrorKind::DisplayVersion => {
             Ok(Task::Say(format!(in alloc; "{error}")?))
         }
-        ErrorKind::OutOfMemory => Err(Fault::Memory),
-        kind => Err(Fault::Usage(what_is_wrong(alloc, kind, words)?)),
+        ErrorKind::OutOfMemory => Err(WordsFault::Memory),
+        kind => Err(WordsFault::Usage(what_is_wrong(alloc, kind, words)?)),
     }
 }
 

@@ -3,23 +3,24 @@
 ghost use Rattle.std.specs.Prelude.{⊤};
 ghost use Rattle.version_words.specs.Words.{ComesOfWrong};
 
+use crate::faults::WordsFault;
 use crate::named::Verb;
 use crate::near::{similar, with_tip};
 use std::alloc::{AllocError, Global};
-use version_commands::{Fault, quoted};
+use version_commands::quoted;
 
 /// How the text of wrong words ends.
 pub const MORE: &str = "\n\nFor more information, try '--help'.\n";
 
 /// Returns the fault of words with which this is wrong.
-pub fn wrong(alloc: Global, what: &str) -> Fault
+pub fn wrong(alloc: Global, what: &str) -> WordsFault
     ensures { ComesOfWrong ⊤ result }
 {
     fault_of(format!(in alloc; "error: {what}{MORE}"))
 }
 
 /// Returns the fault of a word of `test` that is no operator.
-pub fn wrong_operator(alloc: Global, word: &str) -> Fault
+pub fn wrong_operator(alloc: Global, word: &str) -> WordsFault
     ensures { ComesOfWrong ⊤ result }
 {
     let argument = "'<OP>'\n  [possible values: <, <=, =, >=, >, lt, le, eq, ge, gt]";
@@ -39,7 +40,7 @@ fn operator_meant(word: &str) -> Option<&'static str> {
 }
 
 /// Returns the fault of a word of `next` that is no place.
-pub fn wrong_place(alloc: Global, word: &str) -> Fault
+pub fn wrong_place(alloc: Global, word: &str) -> WordsFault
     ensures { ComesOfWrong ⊤ result }
 {
     let argument = "'<PLACE>'\n  [possible values: major, minor, patch, a number from 0]";
@@ -47,7 +48,7 @@ pub fn wrong_place(alloc: Global, word: &str) -> Fault
 }
 
 /// Returns the fault of a word that is no level of stability.
-pub fn wrong_stability(alloc: Global, word: &str) -> Fault
+pub fn wrong_stability(alloc: Global, word: &str) -> WordsFault
     ensures { ComesOfWrong ⊤ result }
 {
     let argument = "'--min-stability <LEVEL>'\n  [possible values: dev, alpha, beta, rc, stable]";
@@ -60,7 +61,7 @@ pub fn wrong_stability(alloc: Global, word: &str) -> Fault
 }
 
 /// Returns the fault of a word that doesn't name what a command can do with lines without a version.
-pub fn wrong_invalid(alloc: Global, command: Verb, word: &str) -> Fault
+pub fn wrong_invalid(alloc: Global, command: Verb, word: &str) -> WordsFault
     ensures { ComesOfWrong ⊤ result }
 {
     if matches!(command, Verb::Sort | Verb::Filter) {
@@ -73,7 +74,7 @@ pub fn wrong_invalid(alloc: Global, command: Verb, word: &str) -> Fault
 }
 
 /// Returns the fault of a word that is no byte between columns.
-pub fn wrong_separator(alloc: Global, word: &str) -> Fault
+pub fn wrong_separator(alloc: Global, word: &str) -> WordsFault
     ensures { ComesOfWrong ⊤ result }
 {
     let argument = "'--field-separator <SEP>': it is one byte, \\t or \\0";
@@ -81,7 +82,7 @@ pub fn wrong_separator(alloc: Global, word: &str) -> Fault
 }
 
 // Returns the fault of a word that is none of these names.
-fn wrong_name(alloc: Global, word: &str, argument: &str, names: &[&'static str]) -> Fault
+fn wrong_name(alloc: Global, word: &str, argument: &str, names: &[&'static str]) -> WordsFault
     ensures { ComesOfWrong ⊤ result }
 {
     fault_of(text_of_name(alloc, word, argument, names))
@@ -112,11 +113,11 @@ fn text_of_value(
 }
 
 // Returns the fault of wrong words by its text, if there is memory for that.
-fn fault_of(text: Result<String, AllocError>) -> Fault
+fn fault_of(text: Result<String, AllocError>) -> WordsFault
     ensures { ComesOfWrong ⊤ result }
 {
     match text {
-        Ok(text) => Fault::Usage(text),
-        Err(_) => Fault::Memory,
+        Ok(text) => WordsFault::Usage(text),
+        Err(_) => WordsFault::Memory,
     }
 }

@@ -2,7 +2,6 @@
 //! takes texts as bytes, keeps nothing, and returns a status.
 #![tactic(auto)]
 
-mod bytes;
 mod difference;
 mod fields;
 mod inexact;

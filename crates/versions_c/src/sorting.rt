@@ -7,12 +7,11 @@ ghost use Rattle.versions_c.specs.Offsets.{text_at, AreOffsets};
 ghost use Rattle.version_texts.specs.KeyTies.{marked_number};
 ghost use Rattle.versions_c.specs.Sorting.{keyed_cmp, keys_cmp, tied_cmp, AreInOrder, AreSortOffsets, IsMarked};
 
-use crate::bytes::compare_bytes;
 use crate::keys::{is_always_room, put_keys};
 use crate::offsets::{are_offsets, text_at};
 use crate::status::{BAD_OFFSETS, NO_ROOM, OK};
 use std::cmp::Ordering;
-use version_texts::{compare_key_ties, marked_kind, marked_number};
+use version_texts::{compare_bytes, compare_key_ties, marked_kind, marked_number};
 
 /// Writes the places of all texts, sorted by their versions.
 #[unsafe(no_mangle)]

@@ -1,8 +1,8 @@
 //! The files of the system, as the program reads and writes them.
 
 use std::fs;
-use version_commands::{Files, Stage, Trouble};
-use version_lines::{Fault, read_onto, write_whole};
+use version_commands::{Files, Stage};
+use version_lines::{Trouble, read_onto, write_whole};
 
 /// The files of the system. What they hold is not known to any contract.
 #[derive(Drop)]
@@ -21,11 +21,7 @@ impl Files for SystemFiles<'_> {
         let Ok(mut file) = fs::File::open(self.rt, name) else {
             return Err(Trouble::System);
         };
-        match read_onto(self.rt.alloc(), &mut file, input) {
-            Ok(()) => Ok(()),
-            Err(Fault::Memory) => Err(Trouble::Memory),
-            Err(_) => Err(Trouble::System),
-        }
+        read_onto(self.rt.alloc(), &mut file, input)
     }
 
     fn put(&mut self, name: &str, bytes: &[u8]) -> Result<(), Trouble> {

@@ -4,35 +4,33 @@
 
 ghost use Rattle.std.specs.Prelude.{◌≡◌, MatchResult};
 ghost use Rattle.std.specs.Process.{exit_status};
-ghost use Rattle.version_commands.specs.Fault.{status_of};
+ghost use Rattle.version_words.specs.Fault.{status_of};
 
 mod files;
 mod output;
 
 use files::SystemFiles;
 use output::Output;
-use std::alloc::Global;
 use std::env;
 use std::env::Env;
 use std::process::ExitCode;
-use version_commands::Fault;
-use version_words::run;
+use version_words::{Fault, WordsFault, run};
 
 // The status that a shell gives for a program whose reader has gone: that of the signal SIGPIPE.
 const READER_GONE: u8 = 141;
 
 fn main(rt: HostRuntime) -> ExitCode {
-    let mut output = Output::new(rt.stdout());
-    let outcome = match words(&rt) {
-        Some(words) => run(
-            rt.alloc(),
-            words.as_slice(),
-            &mut SystemFiles { rt: &rt },
-            &mut rt.stdin(),
-            &mut output,
-        ),
-        None => Err(not_text(rt.alloc())),
+    let Some(words) = words(&rt) else {
+        return ending(&rt, Err(not_text(&rt)));
     };
+    let mut output = Output::new(rt.stdout());
+    let outcome = run(
+        rt.alloc(),
+        words.as_slice(),
+        &mut SystemFiles { rt: &rt },
+        &mut rt.stdin(),
+        &mut output,
+    );
     if output.has_no_reader() {
         return ExitCode::from(READER_GONE);
     }
@@ -45,19 +43,17 @@ fn words<R: Env + AllocGlobal>(rt: &R) -> Option<Vec<String>> {
 }
 
 // Returns the fault of words that the system does not provide as text.
-fn not_text(alloc: Global) -> Fault {
-    match String::from_str(
-        alloc,
-        "error: the words are not UTF-8, or too many for the memory\n",
-    ) {
-        Ok(text) => Fault::Usage(text),
-        Err(_) => Fault::Memory,
-    }
+fn not_text<'w>(rt: &impl AllocGlobal) -> Fault<'w> {
+    let text = "error: the words are not UTF-8, or too many for the memory\n";
+    Fault::Words(match String::from_str(rt.alloc(), text) {
+        Ok(text) => WordsFault::Usage(text),
+        Err(_) => WordsFault::Memory,
+    })
 }
 
 // Returns the exit code: a fault is printed, and sets its status, even if it cannot be printed.
-fn ending(rt: &impl Eprint, outcome: Result<(), Fault>) -> ExitCode
-    ensures { MatchResult outcome
+fn ending(rt: &impl Eprint, outcome: Result<(), Fault<'_>>) -> ExitCode
+    ensures { MatchResult outcome.entry
         (λ _. exit_status result ≡ 0) (λ fault. exit_status result ≡ status_of fault) }
 {
     match outcome {
@@ -70,10 +66,10 @@ fn ending(rt: &impl Eprint, outcome: Result<(), Fault>) -> ExitCode
 }
 
 // Prints a fault. What `test` answers is told by its status alone, and what is wrong with words says itself whose it is.
-fn tell(rt: &impl Eprint, fault: &Fault) {
+fn tell(rt: &impl Eprint, fault: &Fault<'_>) {
     let _ = match fault {
-        Fault::Untrue => Ok(()),
-        Fault::Usage(text) => eprint!(rt; "{text}"),
+        Fault::Task(version_commands::Fault::Untrue) => Ok(()),
+        Fault::Words(WordsFault::Usage(text)) => eprint!(rt; "{text}"),
         fault => eprintln!(rt; "versions: {fault}"),
     };
 }

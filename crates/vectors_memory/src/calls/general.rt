@@ -1,8 +1,8 @@
 //! General versions.
 
-use crate::table::Table;
 use std::alloc::{AllocError, Global};
 use std::io;
+use vectors_table::Table;
 use versions::Version;
 
 const TEXT: &str = "1:2.a.3rc4-5.b+six";

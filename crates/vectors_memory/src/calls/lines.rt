@@ -5,14 +5,12 @@ ghost use Rattle.version_rules.specs.Versioning.{versioning_of};
 ghost use Rattle.version_texts.specs.VersioningRef.{plain_versioning_ref};
 
 use crate::calls::scans::begun;
-use crate::table::{Table, begins_not};
-use crate::taker::Taker;
 use std::alloc::{AllocError, Global};
 use std::fmt;
 use std::io::{self, ErrorKind};
+use vectors_table::{Table, begins_not};
 use version_lines::{
-    Fault, GroupBy, KeyedLines, SortBy, WholeLines, make_buffer, put, put_line, read_all,
-    read_onto, write_whole,
+    GroupBy, KeyedLines, SortBy, Trouble, WholeLines, make_buffer, read_all, read_onto,
 };
 use version_texts::VersioningRef;
 
@@ -22,42 +20,19 @@ pub fn make_all(table: &mut Table<'_>) -> io::Result<()> {
     table.reads("read_all", "1.2\n", read_text)?;
     table.changes("read_onto", "1.2\n", begun, read_text_onto)?;
     table.reads("make_buffer", "", |alloc, _| make_buffer(alloc))?;
-    table.changes("put, without memory", "1.2", begun, put_text)?;
-    table.changes("put_line, without memory", "1.2", begun, put_text_line)?;
-    table.reads("write_whole, without memory", "1.2", write_text)?;
     table.reads("KeyedLines::new", LINE, no_lines)?;
     table.prints(add_line)?;
-    table.prints(keep_line)?;
-    table.reads("KeyedLines::write", LINE, write_line)
+    table.prints(keep_line)
 }
 
-fn read_text(alloc: Global, text: &str) -> Result<Vec<u8>, Fault> {
+fn read_text(alloc: Global, text: &str) -> Result<Vec<u8>, Trouble> {
     let mut reader = text.as_bytes();
     read_all(alloc, &mut reader)
 }
 
-fn read_text_onto(alloc: Global, text: &str, input: &mut Vec<u8>) -> Result<(), Fault> {
+fn read_text_onto(alloc: Global, text: &str, input: &mut Vec<u8>) -> Result<(), Trouble> {
     let mut reader = text.as_bytes();
     read_onto(alloc, &mut reader, input)
-}
-
-// These return how many bytes were written.
-fn put_text(_alloc: Global, text: &str, buffer: &mut Vec<u8>) -> Result<usize, Fault> {
-    let mut taker = Taker::of(b"01.2");
-    put(&mut taker, buffer, text.as_bytes())?;
-    Ok(taker.taken)
-}
-
-fn put_text_line(_alloc: Global, text: &str, buffer: &mut Vec<u8>) -> Result<usize, Fault> {
-    let mut taker = Taker::of(b"0=1.2\n");
-    put_line(&mut taker, buffer, b'\n', b"=", text.as_bytes())?;
-    Ok(taker.taken)
-}
-
-fn write_text(_alloc: Global, text: &str) -> Result<usize, Fault> {
-    let mut taker = Taker::of(b"1.2");
-    write_whole(&mut taker, text.as_bytes())?;
-    Ok(taker.taken)
 }
 
 fn no_lines(alloc: Global, text: &str) -> Result<usize, AllocError> {
@@ -138,17 +113,4 @@ impl fmt::Debug for Shown<'_, '_> {
         }
         write!(f, "]")
     }
-}
-
-// Writes a line, which has to be that of the row. Returns how many bytes were written.
-fn write_line(alloc: Global, text: &str) -> Result<usize, Fault> {
-    let line = text.as_bytes();
-    let mut lines = KeyedLines::new(alloc, WholeLines, text.len())?;
-    let Some(version) = VersioningRef::from_bytes(line) else {
-        return Err(Fault::BadLine(1));
-    };
-    lines.add(&version, line)?;
-    let mut taker = Taker::of(b"1.2.3-rc.1+b\n");
-    lines.write(alloc, b'\n', &mut taker)?;
-    Ok(taker.taken)
 }

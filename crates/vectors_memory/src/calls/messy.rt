@@ -1,8 +1,8 @@
 //! Messy versions.
 
-use crate::table::Table;
 use std::alloc::{AllocError, Global};
 use std::io;
+use vectors_table::Table;
 use versions::Mess;
 
 const TEXT: &str = "007.r26.x_0-2+93";

@@ -1,7 +1,7 @@
 //! Strict versions.
 
-use crate::table::Table;
 use std::io;
+use vectors_table::Table;
 use versions::SemVer;
 
 const TEXT: &str = "1.2.3-rc.1+x86";

@@ -1,5 +1,5 @@
 -- What is written at a fault, and what it comes of.
-use Rattle.std.proofs.Common.{ℕ, Bool, List, String, Global, subst}
+use Rattle.std.proofs.Common.{ℕ, Bool, Bor, List, String, Global, subst}
 use Rattle.version_commands.specs.Fault.{ComesOfBad, ComesOfBadAfter, ComesOfLines, ComesOfReading}
 use Rattle.version_commands.specs.Picked.{bad_lines, AreBadOf}
 use Rattle.std.specs.List.{Contains}
@@ -7,7 +7,7 @@ use Rattle.version_commands.specs.Inputs.{Reading}
 use Rattle.version_commands.specs.declared.options.Invalid.{Invalid}
 use Rattle.version_commands.specs.declared.pick.BadLines.{BadLines}
 use Rattle.version_commands.specs.declared.faults.Fault.{Fault}
-use Rattle.version_commands.specs.declared.faults.Fault.TheVariants.{Usage, NotVersion, NotRequirement, NotTested, BadLine, NoNext, Untrue, Memory, Read, Write}
+use Rattle.version_commands.specs.declared.faults.Fault.TheVariants.{NotVersion, NotRequirement, NotTested, BadLine, NoNext, Untrue, Memory, Read, Write}
 
 -- the faults of lines without a version, by the lines themselves
 pub lines-bad : (invalid : Invalid) (crlf : Bool) (at : List ℕ → List ℕ) (lines : List (List ℕ))
@@ -25,7 +25,6 @@ pub bad-cases : (Follows : Fault → Type 0) (policy : Invalid) (crlf : Bool) (b
     → ComesOfBadAfter policy crlf before bad (BadLine number text ends more)
     → Follows (BadLine number text ends more))
     → (fault : Fault) → ComesOfBadAfter policy crlf before bad fault → Follows fault
-bad-cases Follows policy crlf before bad memory line (Usage text) is = absurd is
 bad-cases Follows policy crlf before bad memory line (NotVersion text) is = absurd is
 bad-cases Follows policy crlf before bad memory line (NotRequirement text) is = absurd is
 bad-cases Follows policy crlf before bad memory line (NotTested text) is = absurd is
@@ -41,9 +40,8 @@ bad-cases Follows policy crlf before bad memory line (Write name) is = absurd is
 -- reading.
 pub reading-cases : (Follows : Fault → Type 0) (reads : Reading) (names : List (List ℕ))
     → Follows Memory
-    → ((name : String Global) → ComesOfReading reads names (Read name) → Follows (Read name))
+    → ((name : Bor (List ℕ)) → ComesOfReading reads names (Read name) → Follows (Read name))
     → (fault : Fault) → ComesOfReading reads names fault → Follows fault
-reading-cases Follows reads names memory read (Usage text) is = absurd is
 reading-cases Follows reads names memory read (NotVersion text) is = absurd is
 reading-cases Follows reads names memory read (NotRequirement text) is = absurd is
 reading-cases Follows reads names memory read (NotTested text) is = absurd is
@@ -60,5 +58,4 @@ pub reading-weaker : (reads : Reading) (names others : List (List ℕ))
     → ComesOfReading reads names fault → ComesOfReading reads others fault
 reading-weaker reads names others among =
     reading-cases (ComesOfReading reads others) reads names tt
-    (λ shown (name, refused, quotes).
-    (name, record { among = among name refused.among; failed = refused.failed }, quotes))
+    (λ name refused. record { among = among name.now refused.among; failed = refused.failed })

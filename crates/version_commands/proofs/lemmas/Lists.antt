@@ -1,5 +1,5 @@
 -- The first row of each name, one row after another.
-use Rattle.std.proofs.Common.{◌≡◌, ◌∙◌, ℕ, Bool, true, false, List, [], ◌∷◌, ◌++◌, ◌⊎◌, ◌≤◌, ◌<◌, ◌+◌, arith, subst, drop, length, map, Option, Some, None, append_assoc, append-nil, if◌then◌else◌, is_some, refl, sym, ap, inl, inr}
+use Rattle.std.proofs.Common.{◌≡◌, ◌∙◌, ℕ, Bool, true, false, List, [], ◌∷◌, ◌++◌, ◌⊎◌, ◌≤◌, drop, length, map, Option, Some, None, append_assoc, append-nil, if◌then◌else◌, is_some, refl, sym, ap, inl, inr}
 use Rattle.std.proofs.lemmas.Bool.{cases_Bool}
 use Rattle.std.proofs.lemmas.List.{drop_all, map-append}
 use Rattle.std.proofs.lemmas.List.Folds.{flat_map-map}
@@ -12,15 +12,12 @@ use Rattle.std.specs.Option.{option_map, option_or}
 use Rattle.std.specs.Ordering.{nat_cmp}
 use Rattle.std.specs.Str.{bytes_eq}
 use Rattle.version_commands.specs.Lists.{AreNames, Row, first_after, first_rows, lines_against, plain_row, rows_of_line, version_of}
-use Rattle.version_commands.specs.Picked.{AreBadOf}
+use Rattle.version_commands.specs.Picked.{has, kept_lines}
 use Rattle.version_commands.specs.Place.{text_of}
 use Rattle.version_commands.specs.declared.options.Lists.{Lists}
-use Rattle.version_commands.specs.declared.pick.BadLines.{BadLines}
-use Rattle.version_lines.specs.Lines.{lines_of}
-use Rattle.std.proofs.lemmas.Grind.{flat_map-append}
 use Rattle.version_commands.specs.declared.lists.Named.{Named}
 use Rattle.version_commands.specs.declared.lists.Names.{Names}
-use Rattle.version_rules.specs.Versioning.{PlainVersioning}
+use Rattle.version_rules.specs.Versioning.{PlainVersioning, versioning_of}
 use Rattle.version_texts.specs.VersioningRef.{plain_versioning_ref}
 use Rattle.version_texts.specs.declared.versioning_ref.VersioningRef.{VersioningRef}
 
@@ -192,44 +189,21 @@ all_lines line others rows names i before now are end whole =
 
 -- ---- a list, read line by line
 
--- the lines before a place are read, the lines after it are not yet
-pub record AreReadUpTo (lists : Lists) (input rest : List ℕ) (names : Names) (bad : BadLines) :
-    Type 0 where
-  pub done : List (List ℕ)
-  pub lines : lines_of lists.end input ≡ done ++ lines_of lists.end rest
-  pub named : AreNames (flat_map (rows_of_line lists) done) names
-  pub unnamed : AreBadOf (text_of lists.place) done bad
-  pub fits : bad.before + length rest ≤ length input
+row-kept : (lists : Lists) (line : List ℕ) (others : List (List ℕ)) (v : Option PlainVersioning)
+    → versioning_of (text_of lists.place line) ≡ v
+    → flat_map (rows_of_line lists) (kept_lines (text_of lists.place) (λ w. true) others)
+    ≡ flat_map (rows_of_line lists) others
+    → flat_map (rows_of_line lists) (kept_lines (text_of lists.place) (λ w. true) (line ∷ others))
+    ≡ flat_map (rows_of_line lists) (line ∷ others)
+row-kept lists line others None is rest = rw is rest
+row-kept lists line others (Some v) is rest =
+    let kept : has (λ w. true) (text_of lists.place line) ≡ true = rw is refl in
+    rw kept (ap (λ (l : List Row). rows_of_line lists line ++ l) rest)
 
-pub read-start : (lists : Lists) (input : List ℕ) (names : Names) (bad : BadLines)
-    → AreNames [] names → AreBadOf (text_of lists.place) [] bad
-    → AreReadUpTo lists input input names bad
-read-start lists input names bad named unnamed = record {
-  done = [];
-  lines = refl;
-  named = named;
-  unnamed = unnamed;
-  fits = omega (arith, unnamed.1);
-}
-
-pub read-next : (lists : Lists) (input rest line after : List ℕ) (names more_names : Names)
-    (bad more_bad : BadLines) → AreReadUpTo lists input rest names bad
-    → lines_of lists.end rest ≡ line ∷ lines_of lists.end after → length after < length rest
-    → ((rows : List Row) → AreNames rows names
-    → AreNames (rows ++ rows_of_line lists line) more_names)
-    → ((lines : List (List ℕ)) → AreBadOf (text_of lists.place) lines bad
-    → AreBadOf (text_of lists.place) (lines ++ line ∷ []) more_bad)
-    → more_bad.before ≤ bad.before + 1 → AreReadUpTo lists input after more_names more_bad
-read-next lists input rest line after names more_names bad more_bad so_far first shorter name leave
-    step = record {
-      done = so_far.done ++ line ∷ [];
-      lines = so_far.lines ∙ ap (λ (l : List (List ℕ)). so_far.done ++ l) first
-          ∙ sym (append_assoc so_far.done (line ∷ []) (lines_of lists.end after));
-      named = subst (λ (rows : List Row). AreNames rows more_names)
-          (ap (λ (l : List Row). flat_map (rows_of_line lists) so_far.done ++ l)
-          (sym (append-nil (rows_of_line lists line)))
-          ∙ sym (flat_map-append (rows_of_line lists) so_far.done (line ∷ [])))
-          (name (flat_map (rows_of_line lists) so_far.done) so_far.named);
-      unnamed = leave so_far.done so_far.unnamed;
-      fits = omega (arith, so_far.fits, shorter, step);
-    }
+-- lines without a version name nothing
+pub rows-kept : (lists : Lists) (lines : List (List ℕ))
+    → flat_map (rows_of_line lists) (kept_lines (text_of lists.place) (λ w. true) lines)
+    ≡ flat_map (rows_of_line lists) lines
+rows-kept lists [] = refl
+rows-kept lists (line ∷ lines) =
+    row-kept lists line lines (versioning_of (text_of lists.place line)) refl (rows-kept lists lines)

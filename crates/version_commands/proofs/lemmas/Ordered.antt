@@ -1,20 +1,23 @@
 -- The lines that are written, in their order.
-use Rattle.std.proofs.Common.{◌≡◌, ◌∙◌, List, [], ℕ, true, Option, Some, map, subst, sym, Bor}
+use Rattle.std.proofs.Common.{◌≡◌, ◌∙◌, ◌++◌, ◌∷◌, List, [], ℕ, Bool, true, Option, None, Some, Result, flat_map, map, refl, subst, sym, ap, Bor}
 use Rattle.version_commands.specs.Arranged.{policy}
 use Rattle.version_commands.specs.Cause.{ComesOfArranged, ComesOfArranging}
 use Rattle.version_commands.specs.Choice.{chooser_of, is_kept}
+use Rattle.version_commands.specs.Ends.{Ends}
 use Rattle.version_commands.specs.Fault.{ComesOfPut}
 use Rattle.version_commands.specs.Inputs.{joined, names_read, AreInputs, Reading}
-use Rattle.version_commands.specs.Ordered.{arranged_in, IsArranged, IsOrdered, IsPlaced}
-use Rattle.version_commands.specs.Picked.{bad_lines}
+use Rattle.version_commands.specs.Ordered.{arranged_in, kept_in, kept_line, IsArranged, IsOrdered, IsPlaced}
+use Rattle.version_commands.specs.Picked.{bad_lines, has, kept_lines}
 use Rattle.version_commands.specs.Place.{text_of}
 use Rattle.version_commands.specs.declared.choice.Chooser.{Chooser}
 use Rattle.version_commands.specs.declared.faults.Fault.{Fault}
-use Rattle.version_commands.specs.declared.faults.Fault.TheVariants.{Usage, NotVersion, NotRequirement, NotTested, BadLine, NoNext, Untrue, Memory, Read, Write}
+use Rattle.version_commands.specs.declared.faults.Fault.TheVariants.{NotVersion, NotRequirement, NotTested, BadLine, NoNext, Untrue, Memory, Read, Write}
 use Rattle.version_commands.specs.declared.options.Arrangement.{Arrangement}
-use Rattle.version_commands.specs.declared.options.Invalid.TheVariants.{Fail}
+use Rattle.version_commands.specs.declared.options.Invalid.TheVariants.{Fail, Skip}
 use Rattle.version_commands.specs.declared.options.LineOptions.{LineOptions}
-use Rattle.version_lines.specs.Lines.{lines_of}
+use Rattle.version_commands.proofs.lemmas.Ends.{ends-weaker}
+use Rattle.version_lines.specs.Lines.{lines_of, lines_output, output_by, whole_line}
+use Rattle.version_lines.proofs.lemmas.Sorting.{by_test}
 use Rattle.version_rules.specs.Versioning.{PlainVersioning}
 
 -- the lines without a version that were found, and those that stand in order, are those of the input
@@ -29,10 +32,52 @@ is-arranged text_of options input bad rows lines leaves output none are good pla
       (subst (λ (r : List (List ℕ)). IsPlaced options bad r leaves output) are placed);
 }
 
+-- lines that are written as they are read are those that are kept
+written-at-once : (text_of : List ℕ → List ℕ) (keeps : PlainVersioning → Bool) (end : ℕ)
+    (lines : List (List ℕ))
+    → flat_map (kept_line text_of keeps end) lines
+    ≡ lines_output (whole_line end) (kept_lines text_of keeps lines)
+written-at-once text_of keeps end [] = refl
+written-at-once text_of keeps end (line ∷ lines) =
+    let others = written-at-once text_of keeps end lines in
+    by_test (has keeps (text_of line))
+    (λ passes. rw passes (ap (λ (l : List ℕ). whole_line end line ++ l) others))
+    (λ fails. rw fails others)
+
+-- where each line is its version and a list alone decides, nothing else has to be asked
+pub ends-listed : {T : Type 0} (text_of : List ℕ → List ℕ) (keeps matched : PlainVersioning → Bool)
+    → ((line : List ℕ) → text_of line ≡ line) → ((v : PlainVersioning) → keeps v ≡ matched v)
+    → (end : ℕ) (input : List ℕ) (Comes : Fault → Type 0) (old new : Option (List ℕ))
+    (result : Result T Fault)
+    → Ends (λ output. output ≡ output_by end (kept_line (λ line. line) matched end) input)
+    Comes old new result
+    → Ends (λ output. output ≡ output_by end (kept_line text_of keeps end) input) Comes old new result
+ends-listed text_of keeps matched whole alike end input Comes old new result =
+    ends-weaker _ _ Comes Comes old new result
+    (λ output is. is
+    ∙ sym (λ i. output_by end (kept_line (λ line. whole line i) (λ v. alike v i) end) input))
+    (λ fault comes. comes)
+
+pub at-once : (text_of : List ℕ → List ℕ) (keeps : PlainVersioning → Bool) (options : LineOptions)
+    (input : List ℕ) (leaves : Option (List ℕ × List ℕ) → Type 0) → options.invalid ≡ Skip
+    → options.invalid_to ≡ None → leaves None → (output : List ℕ)
+    → output ≡ output_by options.end (kept_line text_of keeps options.end) input
+    → IsArranged text_of options input (kept_in text_of keeps options input) leaves output
+at-once text_of keeps options input leaves skips no_file left output is =
+    let lines = lines_of options.end input in
+    let skipped : policy options ≡ Skip = rw (no_file, skips) refl in
+    record {
+      good = λ fail. cc (sym skipped ∙ fail);
+      is_placed = record {
+        put = rw no_file left;
+        output_is = is ∙ written-at-once text_of keeps options.end lines
+            ∙ rw skipped refl;
+      };
+    }
+
 -- the file for lines without a version is to blame
 pub put-faults : (options : LineOptions) (text_of : List ℕ → List ℕ) (input : List ℕ)
     (fault : Fault) → ComesOfPut options fault → ComesOfArranged options text_of input fault
-put-faults options text_of input (Usage text) is = absurd is
 put-faults options text_of input (NotVersion text) is = absurd is
 put-faults options text_of input (NotRequirement text) is = absurd is
 put-faults options text_of input (NotTested text) is = absurd is
@@ -91,7 +136,6 @@ module _ (arrangement : Arrangement) (options : LineOptions) (reads : Reading)
 
   pub ordered-faults : (fault : Fault) → ComesOfArranged options (text_of options.place) input fault
       → ComesOfArranging arrangement options reads old fault
-  ordered-faults (Usage text) comes = since-read (Usage text) comes
   ordered-faults (NotVersion text) comes = since-read (NotVersion text) comes
   ordered-faults (NotRequirement text) comes = absurd comes
   ordered-faults (NotTested text) comes = since-read (NotTested text) comes

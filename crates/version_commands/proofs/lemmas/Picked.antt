@@ -1,5 +1,5 @@
 -- Lines without a version, counted one by one.
-use Rattle.std.proofs.Common.{◌≡◌, ◌+◌, ◌<◌, ◌≤◌, ℕ, Bool, true, false, not, List, [], ◌∷◌, ◌++◌, length, Option, None, Some, refl, sym, subst, ap, ◌∙◌, arith, append-nil, append_assoc}
+use Rattle.std.proofs.Common.{◌≡◌, ◌+◌, ◌<◌, ◌≤◌, ℕ, Bool, true, false, not, List, [], ◌∷◌, ◌++◌, length, Option, None, Some, refl, sym, ap, ◌∙◌, arith, append-nil, append_assoc}
 use Rattle.std.specs.List.{filter, prefix_len}
 use Rattle.std.proofs.lemmas.List.Elements.{filter-append}
 use Rattle.version_commands.specs.Picked.{AreBadOf, bad_lines, kept_lines, has}
@@ -89,23 +89,6 @@ picked-next text_of keeps end input rest after line kept longer bad now so_far f
       fits = omega (arith, so_far.fits, shorter, step);
     }
 
--- one without a version
-pub picked-bad : (text_of : List ℕ → List ℕ) (keeps : PlainVersioning → Bool) (end : ℕ)
-    (input rest after line : List ℕ) (kept : List (List ℕ)) (bad now : BadLines)
-    → IsPicked text_of keeps end input rest kept bad
-    → lines_of end rest ≡ line ∷ lines_of end after → length after < length rest
-    → versioning_of (text_of line) ≡ None
-    → ((of : List ℕ → List ℕ) → (lines : List (List ℕ)) → is_bad (of line) ≡ true
-    → AreBadOf of lines bad → AreBadOf of (lines ++ line ∷ []) now)
-    → now.before ≡ bad.before → IsPicked text_of keeps end input after kept now
-picked-bad text_of keeps end input rest after line kept bad now so_far first shorter none added step =
-    let is : is_bad (text_of line) ≡ true = rw none refl in
-    let left : has keeps (text_of line) ≡ false = rw none refl in
-    picked-next text_of keeps end input rest after line kept kept bad now so_far first shorter
-    (so_far.kept_are
-    ∙ sym (filter-fail (λ l. has keeps (text_of l)) so_far.done line left))
-    (added text_of so_far.done is so_far.bad_are) (omega (arith, step))
-
 -- one that is left out
 pub picked-left : (text_of : List ℕ → List ℕ) (keeps : PlainVersioning → Bool) (end : ℕ)
     (input rest after line : List ℕ) (kept : List (List ℕ)) (bad now : BadLines)
@@ -141,20 +124,6 @@ picked-kept text_of keeps end input rest after line kept longer bad now v so_far
     (added ∙ ap (λ (l : List (List ℕ)). l ++ line ∷ []) so_far.kept_are
     ∙ sym (filter-pass (λ l. has keeps (text_of l)) so_far.done line here))
     (passed text_of so_far.done line good so_far.bad_are) step
-
--- all are picked
-pub picked-end : (text_of : List ℕ → List ℕ) (keeps : PlainVersioning → Bool) (end : ℕ)
-    (input rest : List ℕ) (kept : List (List ℕ)) (bad : BadLines)
-    → IsPicked text_of keeps end input rest kept bad → rest ≡ []
-    → (kept ≡ kept_lines text_of keeps (lines_of end input))
-    × AreBadOf text_of (lines_of end input) bad
-picked-end text_of keeps end input rest kept bad so_far nothing =
-    let all : so_far.done ≡ lines_of end input =
-    sym (so_far.lines ∙ ap (λ (r : List ℕ). so_far.done ++ lines_of end r) nothing
-    ∙ append-nil so_far.done) in (
-      so_far.kept_are ∙ ap (kept_lines text_of keeps) all,
-      subst (λ (lines : List (List ℕ)). AreBadOf text_of lines bad) all so_far.bad_are,
-    )
 
 -- where no line is bad, each has a version
 kept-first : (text_of : List ℕ → List ℕ) (line : List ℕ) (lines : List (List ℕ))

@@ -1,26 +1,24 @@
 -- What is kept of the elements that are the same: the first of them, in their order.
-use Rattle.std.proofs.Common.{◌≡◌, ℕ, suc, ◌-◌, Bool, true, false, cond, nat_lt, List, [], ◌∷◌, length, take, refl, sym, ap, ◌∙◌, arith}
+use Rattle.std.proofs.Common.{◌≡◌, ◌&&◌, not, ℕ, suc, ◌-◌, Bool, true, false, cond, nat_lt, List, [], ◌∷◌, length, take, refl, sym, ap, ◌∙◌, arith}
 use Rattle.std.specs.Cmp.{IsEquivalence, IsTotalOrder}
 use Rattle.std.specs.List.{All, filter, position_or_len}
-use Rattle.std.specs.Ordering.{eq_by_cmp, nat_cmp, on}
+use Rattle.std.specs.List.Sorted.{ties}
+use Rattle.std.specs.Ordering.{eq_by_cmp, is_eq, is_lt, nat_cmp, on, ordering_reverse, ordering_then, then_cmp}
 use Rattle.std.specs.Str.{bytes_eq}
 use Rattle.std.specs.declared.cmp.Ordering.{Ordering}
-use Rattle.std.specs.declared.cmp.Ordering.TheVariants.{Equal}
+use Rattle.std.specs.declared.cmp.Ordering.TheVariants.{Less, Equal, Greater}
 use Rattle.std.specs.Cmp.Lexicographic.{options_total}
 use Rattle.std.proofs.lemmas.Bool.{ltb-false, ltb-true}
 use Rattle.std.proofs.lemmas.Cmp.{eq_by_cmp_equiv, nat_cmp_total, nat_list_eq_equiv, on_equiv, on_total, then_total, tied_itself}
-use Rattle.std.proofs.lemmas.List.{take_all}
+use Rattle.std.proofs.lemmas.List.{map-id, take_all}
 use Rattle.std.proofs.lemmas.List.Elements.{filter_passes}
 use Rattle.std.proofs.lemmas.List.Sorted.{ranks_by}
 use Rattle.std.proofs.lemmas.Slice.Eq.{bytes_eq-Decides}
 use Rattle.version_lines.specs.Newest.{are_of_one_group, first_after, first_of_each, first_of_ties, group_place, newest, newest_cmp}
 use Rattle.version_lines.specs.Sort.{lines_precedence}
 use Rattle.version_lines.specs.Sorting.{in_order, put_in_order, turned}
-use Rattle.version_lines.proofs.lemmas.Grouped.{ties-test}
-use Rattle.version_lines.proofs.lemmas.Newest.{turn-tie}
-use Rattle.version_lines.proofs.lemmas.Sorting.{AtLeast, Rises, below, by_test, in_order-rises, in_order-stable}
-use Rattle.version_lines.proofs.lemmas.Sorting.Ties.{in_order-tied}
-use Rattle.version_lines.proofs.lemmas.Sorting.Turned.{turned_total}
+use Rattle.version_lines.proofs.lemmas.Sorting.{AtLeast, Rises, below, by_test, in_order-map, in_order-rises, in_order-stable}
+use Rattle.version_lines.proofs.lemmas.Sorting.Turned.{turn-tie, turned_total}
 use Rattle.version_rules.specs.laws.Key.{precedence_total}
 use Rattle.version_rules.specs.Key.{key_of}
 use Rattle.version_rules.specs.Versioning.{versioning_of}
@@ -62,6 +60,18 @@ pub first_of_each-first : {X : Type 0} (E : X → X → Bool) → IsEquivalence 
 first_of_each-first E equiv count z xs =
     kept-first E equiv count z [] xs
     ∙ ap (λ (n : ℕ). take n (filter (E z) xs)) (omega arith)
+
+-- elements that tie, by an order or by its test
+
+ties_tested : (o : Ordering)
+    → (not (is_lt o) && not (is_lt (ordering_reverse o))) ≡ is_eq o
+ties_tested Less = refl
+ties_tested Equal = refl
+ties_tested Greater = refl
+
+ties-test : {X : Type 0} (R : X → X → Ordering) → IsTotalOrder R → (x y : X)
+    → ties (below R) x y ≡ eq_by_cmp R x y
+ties-test R total x y = rw (total.antisymm y x) (ties_tested (R x y))
 
 -- sorting what passes a test
 
@@ -113,9 +123,20 @@ in_order-filter R total p (x ∷ xs) =
     (λ passes. rw passes (ap (put_in_order R x) more))
     (λ fails. rw fails more)
 
+-- among elements that tie in the first order, the second order decides
+in_order-tied : {X : Type 0} (R S : X → X → Ordering) → IsTotalOrder R → (x : X) (run : List X)
+    → All (λ y. R x y ≡ Equal) run → in_order (then_cmp R S) run ≡ in_order S run
+in_order-tied {X} R S total x run tied =
+    let alike = λ (y z : X) (y_tied : R x y ≡ Equal) (z_tied : R x z ≡ Equal).
+    let same : R y z ≡ Equal =
+    sym (total.congr x y z y_tied) ∙ z_tied in ap (λ o. ordering_then o (S y z)) same in
+    sym (map-id (in_order (then_cmp R S) run))
+    ∙ in_order-map (λ y. R x y ≡ Equal) (λ y. y) (then_cmp R S) S alike run tied
+    ∙ ap (in_order S) (map-id run)
+
 -- the lines that are kept
 
-precedences_total : (text_of : List ℕ → List ℕ) → IsTotalOrder (lines_precedence text_of)
+pub precedences_total : (text_of : List ℕ → List ℕ) → IsTotalOrder (lines_precedence text_of)
 precedences_total text_of =
     on_total (λ line. versioning_of (text_of line)) (options_total (on_total key_of precedence_total))
 

@@ -6,13 +6,9 @@ use Rattle.version_lines.specs.KeyedLines.{AreRead}
 -- lines are read as before if their keys and entries are the same, wherever these lie
 pub stay_read : {B : Type 0} (text_of : B → List ℕ → List ℕ) (before after : KeyedLines B)
     → after.by ≡ before.by → after.keys.items ≡ before.keys.items
-    → after.entries.items ≡ before.entries.items → after.are_strict ≡ before.are_strict
-    → AreRead text_of before → AreRead text_of after
-stay_read text_of before after by_is keys_are entries_are strict_is are_read =
+    → after.entries.items ≡ before.entries.items → AreRead text_of before → AreRead text_of after
+stay_read text_of before after by_is keys_are entries_are are_read =
     record {
-      read =
-          rw (by_is, keys_are, entries_are) are_read.read;
-      in_turn =
-          rw entries_are are_read.in_turn;
-      strict = rw (strict_is, entries_are) are_read.strict;
+      read = rw (by_is, keys_are, entries_are) are_read.read;
+      in_turn = rw entries_are are_read.in_turn;
     }

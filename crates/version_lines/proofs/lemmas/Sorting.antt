@@ -1,7 +1,6 @@
 -- A sorted list has the elements of the list, rises, and keeps the order of elements that tie; no
 -- other list does.
 pub mod Places
-pub mod Ties
 pub mod Turned
 use Rattle.std.proofs.Common.{◌≡◌, ℕ, zero, suc, ◌<◌, Bool, true, false, not, cond, ◌&&◌, List, [], ◌∷◌, length, map, get_or, refl, sym, ap, ◌∙◌, arith, add-one}
 use Rattle.std.specs.Cmp.{IsStrictWeakOrder}

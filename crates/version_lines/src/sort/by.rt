@@ -57,14 +57,10 @@ impl SortBy for WholeLines {
     }
 }
 
-/// Returns an answer of an order as it counts for the sort.
+/// Returns an answer of an order, or of the reverse of it.
 #[inline(always)]
-pub fn turn<B: SortBy>(by: &B, order: Ordering) -> Ordering
-    ensures { result ≡ turn (B.is_reversed by.now) order }
+pub fn turn(reversed: bool, order: Ordering) -> Ordering
+    ensures { result ≡ turn reversed order }
 {
-    if by.is_reversed() {
-        order.reverse()
-    } else {
-        order
-    }
+    if reversed { order.reverse() } else { order }
 }

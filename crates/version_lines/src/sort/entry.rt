@@ -1,18 +1,20 @@
 //! A line as it is sorted.
 ghost use Rattle.std.specs.Prelude.{◌≡◌, ◌++◌, drop, length, IfOk, IsTrue, OnErr, OnOk};
-ghost use Rattle.std.specs.Ordering.{then_cmp};
-ghost use Rattle.version_texts.specs.Head.{behind_heads_cmp};
+ghost use Rattle.std.specs.Ordering.{on, then_cmp};
+ghost use Rattle.version_lines.specs.Entry.{after_heads_cmp};
 ghost use Rattle.version_lines.specs.Sorting.{turned};
 ghost use Rattle.version_rules.specs.Key.{key_of};
 ghost use Rattle.version_rules.specs.KeyBytes.{key_bytes};
 ghost use Rattle.version_texts.specs.VersioningRef.{plain_versioning_ref};
 
 use crate::sort::by::{SortBy, turn};
-use crate::sort::head::head;
 use std::alloc::AllocError;
 use std::cmp::Ordering;
 use version_rules::Kind;
-use version_texts::{VersioningRef, compare_key_ties, mark_kind, marked_kind, marked_number};
+use version_texts::{
+    VersioningRef, compare_bytes, compare_key_ties, first_eight, mark_kind, marked_kind,
+    marked_number,
+};
 
 /// A line that has a version, the place of the key of this in the one list of all keys, the key's length with the kind
 /// marked on it, and the key's first bytes, by which most lines differ.
@@ -29,7 +31,7 @@ pub struct Entry<'a> {
 const LENGTH_LIMIT: u64 = 1 << 62;
 
 impl<'a> Entry<'a> {
-    ghost use Rattle.version_lines.specs.Entry.{behind_cmp, entry_cmp, entry_key, entry_kind, entry_line, entry_tie, tie_cmp, turn_cmp, HoldsKey, IsStrict};
+    ghost use Rattle.version_lines.specs.Entry.{entry_cmp, entry_key, entry_kind, entry_line, heads_cmp, tie_cmp, turn_cmp, version_cmp, HoldsKey};
 
     /// Returns an entry for the line, whose version was parsed. The key of this is added to `keys`. Fails if the key
     /// cannot be allocated; the keys are then unchanged.
@@ -54,12 +56,49 @@ impl<'a> Entry<'a> {
             return Err(AllocError);
         }
         Ok(Entry {
-            first: head(key),
-            second: head(behind_head(key)),
+            first: first_eight(key),
+            second: first_eight(after(8, key)),
             line,
             start,
             length: mark_kind(length, version.kind()),
         })
+    }
+
+    /// Compares by the versions, as they count for the sort, then by the places of the keys: of two lines that compare
+    /// Equal, the line that was read first comes first.
+    #[inline(always)]
+    pub fn compare_in_turn<B: SortBy>(&self, other: &Entry<'_>, by: &B, keys: &[u8]) -> Ordering
+        ensures { result
+            ≡ then_cmp (turned (B.is_reversed by.now) (version_cmp (B.text_of by.now) keys.now))
+            turn_cmp self.now other.now }
+    {
+        match self.compare_heads(other) {
+            Ordering::Equal => self.compare_tied_in_turn(other, by, keys),
+            order => turn(by.is_reversed(), order),
+        }
+    }
+
+    // Compares two lines whose keys begin alike. Never inlined, so that a sort inlines the usual case.
+    #[inline(never)]
+    fn compare_tied_in_turn<B: SortBy>(&self, other: &Entry<'_>, by: &B, keys: &[u8]) -> Ordering
+        ensures { result ≡ then_cmp (turned (B.is_reversed by.now)
+            (then_cmp (on (entry_key keys.now) after_heads_cmp) (tie_cmp (B.text_of by.now))))
+            turn_cmp self.now other.now }
+    {
+        let order = match compare_after_heads(self.key(keys), other.key(keys)) {
+            Ordering::Equal => self.compare_ties(other, by),
+            order => order,
+        };
+        turn(by.is_reversed(), order).then(self.start.cmp(&other.start))
+    }
+
+    /// Compares by the keys alone, or in the reverse of their order, and then by the places of the keys.
+    #[inline(always)]
+    pub fn compare_keys_in_turn(&self, other: &Entry<'_>, reversed: bool, keys: &[u8]) -> Ordering
+        ensures { result ≡ then_cmp (turned reversed (entry_cmp keys.now)) turn_cmp
+            self.now other.now }
+    {
+        turn(reversed, self.compare(other, keys)).then(self.start.cmp(&other.start))
     }
 
     /// Compares by the keys, their first bytes first.
@@ -67,34 +106,41 @@ impl<'a> Entry<'a> {
     pub fn compare(&self, other: &Entry<'_>, keys: &[u8]) -> Ordering
         ensures { result ≡ entry_cmp keys.now self.now other.now }
     {
-        match self.first.cmp(&other.first) {
-            Ordering::Equal => self.compare_behind(other, keys),
+        match self.compare_heads(other) {
+            Ordering::Equal => self.compare_rest(other, keys),
             order => order,
         }
     }
 
-    /// Compares by the keys, as they count for the sort, then by the places of the keys: of two lines that tie, the
-    /// line that was read first comes first.
-    #[inline(always)]
-    pub fn compare_in_turn<B: SortBy>(&self, other: &Entry<'_>, by: &B, keys: &[u8]) -> Ordering
-        ensures { result ≡ then_cmp (turned (B.is_reversed by.now) (entry_cmp keys.now)) turn_cmp
-            self.now other.now }
+    // Compares two lines whose keys begin alike by the rest of these. Never inlined, as above.
+    #[inline(never)]
+    fn compare_rest(&self, other: &Entry<'_>, keys: &[u8]) -> Ordering
+        ensures { result ≡ on (entry_key keys.now) after_heads_cmp self.now other.now }
     {
-        turn(by, self.compare(other, keys)).then(self.start.cmp(&other.start))
+        compare_after_heads(self.key(keys), other.key(keys))
     }
 
-    /// Compares by what breaks the ties of keys, as it counts for the sort, then by the places of the keys.
-    pub fn compare_ties_in_turn<B: SortBy>(&self, other: &Entry<'_>, by: &B) -> Ordering
-        ensures { result ≡ then_cmp (turned (B.is_reversed by.now) (tie_cmp (B.text_of by.now)))
-            turn_cmp self.now other.now }
+    // Compares by the first bytes of the keys.
+    #[inline(always)]
+    fn compare_heads(&self, other: &Entry<'_>) -> Ordering
+        ensures { result ≡ heads_cmp self.now other.now }
     {
-        turn(by, self.compare_ties(other, by)).then(self.start.cmp(&other.start))
+        match self.first.cmp(&other.first) {
+            Ordering::Equal => self.second.cmp(&other.second),
+            order => order,
+        }
     }
 
     // Compares by what breaks the ties of keys: the kinds and the texts.
     fn compare_ties<B: SortBy>(&self, other: &Entry<'_>, by: &B) -> Ordering
         ensures { result ≡ tie_cmp (B.text_of by.now) self.now other.now }
     {
+        if self.is_strict() && other.is_strict() {
+            return Ordering::Equal;
+        }
+        if self.length == other.length && self.line == other.line {
+            return Ordering::Equal;
+        }
         compare_key_ties(
             self.kind(),
             by.text(self.line),
@@ -103,32 +149,20 @@ impl<'a> Entry<'a> {
         )
     }
 
-    // Compares by the second eight bytes of the keys, then by the rest.
+    // Returns whether its version is strict: nothing breaks the tie of two such.
     #[inline(always)]
-    fn compare_behind(&self, other: &Entry<'_>, keys: &[u8]) -> Ordering
-        ensures { result ≡ behind_cmp keys.now self.now other.now }
+    fn is_strict(&self) -> bool
+        ensures { IsTrue result → entry_kind self.now ≡ Kind.Ideal }
     {
-        match self.second.cmp(&other.second) {
-            Ordering::Equal => self.compare_rest(other, keys),
-            order => order,
-        }
-    }
-
-    // Compares by the rest of the keys, after their first bytes. Never inlined, so that a sort inlines the usual case.
-    #[inline(never)]
-    fn compare_rest(&self, other: &Entry<'_>, keys: &[u8]) -> Ordering
-        ensures { result ≡ behind_heads_cmp
-            (entry_key keys.now self.now) (entry_key keys.now other.now) }
-    {
-        compare_behind_heads(self.key(keys), other.key(keys))
+        matches!(self.kind(), Kind::Ideal)
     }
 
     // Returns its key from the list of all keys.
     fn key<'k>(&self, keys: &'k [u8]) -> &'k [u8]
         ensures { result.now ≡ entry_key keys.now self.now }
     {
-        let behind = &keys[self.start.min(keys.len())..];
-        &behind[..(marked_number(self.length) as usize).min(behind.len())]
+        let rest = &keys[self.start.min(keys.len())..];
+        &rest[..(marked_number(self.length) as usize).min(rest.len())]
     }
 
     // Returns the kind of its version.
@@ -139,23 +173,6 @@ impl<'a> Entry<'a> {
         marked_kind(self.length)
     }
 
-    /// Returns whether its version is strict.
-    pub fn is_strict(&self) -> bool
-        ensures { IsTrue result → IsStrict self.now }
-    {
-        match self.kind() {
-            Kind::Ideal => true,
-            Kind::General | Kind::Complex => false,
-        }
-    }
-
-    /// Returns whether two lines are identical, and their keys equally long.
-    pub fn is_same(&self, other: &Entry<'_>) -> bool
-        ensures { IsTrue result → entry_tie self.now ≡ entry_tie other.now }
-    {
-        self.length == other.length && self.line == other.line
-    }
-
     /// Returns the line.
     pub fn line(&self) -> &'a [u8]
         ensures { result.now ≡ entry_line self.now }
@@ -164,30 +181,23 @@ impl<'a> Entry<'a> {
     }
 }
 
-// Compares two keys with the same first sixteen bytes, where missing bytes count as 0: by the rest, then by length.
+// Compares two keys by the bytes after the first sixteen, then by length.
 #[inline(always)]
-fn compare_behind_heads(a: &[u8], b: &[u8]) -> Ordering
-    ensures { result ≡ behind_heads_cmp a.now b.now }
+fn compare_after_heads(a: &[u8], b: &[u8]) -> Ordering
+    ensures { result ≡ after_heads_cmp a.now b.now }
 {
     if a.len() <= 16 && b.len() <= 16 {
         return a.len().cmp(&b.len());
     }
-    match behind_heads(a).cmp(behind_heads(b)) {
+    match compare_bytes(after(16, a), after(16, b)) {
         Ordering::Equal => a.len().cmp(&b.len()),
         order => order,
     }
 }
 
-// Returns a key without its first eight bytes.
-fn behind_head(key: &[u8]) -> &[u8]
-    ensures { result.now ≡ drop 8 key.now }
+// Returns a key without so many first bytes.
+fn after(count: usize, key: &[u8]) -> &[u8]
+    ensures { result.now ≡ drop count key.now }
 {
-    key.get(8..).unwrap_or(&[])
-}
-
-// Returns a key without its first sixteen bytes.
-fn behind_heads(key: &[u8]) -> &[u8]
-    ensures { result.now ≡ drop 16 key.now }
-{
-    key.get(16..).unwrap_or(&[])
+    key.get(count..).unwrap_or(&[])
 }

@@ -4,9 +4,9 @@ use Rattle.clap.specs.Words.{fault_of, is_simple_and_free, kind_of, subcommand_r
 use Rattle.clap.specs.declared.error.Error.{Error}
 use Rattle.clap.specs.declared.error.kind.ErrorKind.{ErrorKind}
 use Rattle.clap.specs.declared.parser.matches.ArgMatches.{ArgMatches}
-use Rattle.version_commands.specs.declared.faults.Fault.{Fault}
+use Rattle.version_words.specs.declared.faults.WordsFault.{WordsFault}
 use Rattle.version_commands.specs.declared.options.Task.{Task}
-use Rattle.version_commands.specs.declared.options.Task.TheVariants.{Compare, Difference, Each, Lines, Lists, Say, TestList, TestTwo}
+use Rattle.version_commands.specs.declared.options.Task.TheVariants.{Compare, Difference, Each, Label, Lines, Lists, Say, TestList, TestTwo}
 use Rattle.version_words.specs.Grammar.{program_app}
 use Rattle.version_words.specs.Task.{IsTaskOf}
 use Rattle.version_words.specs.Words.{command_in, command_of, faults, shows, AreWrong, ComesOfWrong, HasAnswer, IsMistake, IsTaskIn, IsWrongIn, Means, Shows}
@@ -15,7 +15,7 @@ use Rattle.version_words.specs.declared.named.Verb.TheVariants as verb
 use Rattle.version_words.proofs.lemmas.Grammar.{program-is-free, program-is-simple}
 
 -- what is wrong is also wrong in another way
-pub wrong_so : (fault : Fault) (Wrong Other : Type 0) → (Wrong → Other) → ComesOfWrong Wrong fault
+pub wrong_so : (fault : WordsFault) (Wrong Other : Type 0) → (Wrong → Other) → ComesOfWrong Wrong fault
     → ComesOfWrong Other fault
 wrong_so fault Wrong Other so (inl memory) = inl memory
 wrong_so fault Wrong Other so (inr (usage, wrong)) = inr (usage, so wrong)
@@ -46,6 +46,7 @@ module _ (words : List (List ℕ)) where
   meant (Compare first second explain) right is = (right, is)
   meant (Difference first second) right is = (right, is)
   meant (Lists lists) right is = (right, is)
+  meant (Label labels) right is = (right, is)
   meant (Say text) right is = absurd (unsaid-in (command_of words) text is)
 
   -- an error that shows a text
@@ -59,6 +60,7 @@ module _ (words : List (List ℕ)) where
   shown (Compare first second explain) kind answers never = absurd never
   shown (Difference first second) kind answers never = absurd never
   shown (Lists lists) kind answers never = absurd never
+  shown (Label labels) kind answers never = absurd never
 
   module _ (app : App) (same : app ≡ program_app) where
     -- a parse that found matches

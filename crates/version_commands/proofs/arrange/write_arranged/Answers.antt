@@ -1,11 +1,11 @@
-use Rattle.std.proofs.Common.{◌≡◌, ℕ, List, rules, sym, subst}
+use Rattle.std.proofs.Common.{◌≡◌, ℕ, List, refl, rules, sym, subst}
 use Rattle.version_commands.specs.Cause.{ComesOfArranged}
 use Rattle.version_commands.specs.Choice.{is_kept}
 use Rattle.version_commands.specs.Files.{Leaves}
 use Rattle.version_commands.specs.Ordered.{arranged_in, IsArranged}
 use Rattle.version_commands.specs.Place.{text_of}
 use Rattle.version_commands.proofs.lemmas.Ends.{ends-weaker}
-use Rattle.version_commands.proofs.lemmas.Ordered.{lines-alike}
+use Rattle.version_commands.proofs.lemmas.Ordered.{at-once, lines-alike}
 use Rattle.version_commands.proofs.arrange.write_arranged.Goals as goal
 
 pub returns-then-not-reverse : goal.returns-then-not-reverse
@@ -29,3 +29,15 @@ returns-then-not-reverse g c =
       files = c.write_keyed.ensures.files;
       kept = c.write_keyed.ensures.kept;
     }
+
+pub returns-then-leaves_others_out-clause-ends : goal.returns-then-leaves_others_out-clause-ends
+returns-then-leaves_others_out-clause-ends g c =
+    let options = c.args.options.now in
+    let (skips, no_file) = c.leaves_others_out.ensures (search rules) in
+    ends-weaker _ _ _ _ _ _ c.write_at_once.result
+    (λ output is. rw c.in-Filter.is
+    (at-once (text_of options.place) (is_kept c.args.chooser.now) options c.args.input.now
+    (Leaves g.F.Files.puts c.args.files.now c.args.files.now) skips no_file refl output is))
+    (λ fault memory. subst (ComesOfArranged options (text_of options.place) c.args.input.now)
+    (sym memory) tt)
+    c.write_at_once.ensures

@@ -1,6 +1,8 @@
 use Rattle.std.proofs.Common.{ℕ, List, Bor, map, ap, ◌∙◌}
 use Rattle.version_commands.specs.Arranged.{arranged}
+use Rattle.version_commands.specs.Picked.{bad_lines, kept_lines}
 use Rattle.version_commands.specs.Place.{group_text}
+use Rattle.version_lines.specs.Lines.{lines_of}
 use Rattle.version_commands.proofs.lemmas.Ends.{ends-weaker}
 use Rattle.version_commands.proofs.lemmas.Ordered.{is-arranged, put-faults}
 use Rattle.version_commands.proofs.arrange.write_keyed.Goals as goal
@@ -9,13 +11,16 @@ pub returns-clause-ends : goal.returns-clause-ends
 returns-clause-ends g c =
     let options = c.args.options.now in
     let text_of = g.B.SortBy.text_of c.args.by in
+    let lines = lines_of options.end c.args.input.now in
+    let (kept, stays) = c.in_ok-bad.ensures.taken in
     let by = c.in_ok-kept.ensures.by in
-    let kept = c.in_ok-kept.ensures.kept in
     let rows = c.in_ok-arrange.ensures
+    ∙ (λ i. arranged (g.B.SortBy.text_of (stays i)) (group_text options.place.crlf)
+    c.args.arrangement (kept i))
     ∙ (λ i. arranged (g.B.SortBy.text_of (by i)) (group_text options.place.crlf) c.args.arrangement
-    (kept i)) in
+    (kept_lines (g.B.SortBy.text_of (by i)) (g.C.Chooses.keeps c.args.chooser.now) lines)) in
     ends-weaker _ _ _ _ _ _ c.write_lines.result
     (λ output. is-arranged text_of options c.args.input.now _ _ _ _ output
-    c.in_ok-kept.ensures.bad.0 rows
+    (c.in_ok-bad.ensures.bad.0 ∙ (λ i. bad_lines (g.B.SortBy.text_of (by i)) lines)) rows
     (λ fail. ap (map (λ (line : Bor (List ℕ)). line.now)) (c.in_ok-refuse_bad.ensures.none fail)))
     (put-faults options text_of c.args.input.now) c.write_lines.ensures.ends

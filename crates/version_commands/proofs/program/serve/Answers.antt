@@ -1,9 +1,11 @@
-use Rattle.std.proofs.Common.{◌∙◌, sym, subst}
+use Rattle.std.proofs.Common.{◌≡◌, Bool, true, rules, ◌∙◌, sym, subst}
+use Rattle.version_commands.specs.Compare.{comparison_line}
 use Rattle.version_commands.specs.Files.{Leaves}
-use Rattle.version_commands.specs.Output.{IsOutput}
+use Rattle.version_commands.specs.Output.{IsLineOfTwo, IsOutput}
+use Rattle.version_lines.specs.Lines.{line_feed}
 use Rattle.version_commands.proofs.lemmas.Ends.{ends-weaker}
 use Rattle.version_commands.proofs.program.serve.Goals as goal
-use Rattle.version_commands.proofs.program.serve.Goals.{in-Each+in_ok-output-in-Each, in-TestTwo+in_ok-output-in-TestTwo, in-TestList+in_ok-output-in-TestList, in-Compare+in_ok-output-in-Compare, in-Difference+in_ok-output-in-Difference, in-Lists+in_ok-output-in-Lists}
+use Rattle.version_commands.proofs.program.serve.Goals.{in-Each+in_ok-output-in-Each, in-TestTwo+in_ok-output-in-TestTwo, in-TestList+in_ok-output-in-TestList, in-Compare+else-not-explain+in_ok-output-in-Compare, in-Difference+in_ok-output-in-Difference, in-Lists+in_ok-output-in-Lists}
 
 pub returns-in-Lines-clause-ends : goal.returns-in-Lines-clause-ends
 returns-in-Lines-clause-ends g c = rw c.in-Lines.is c.serve_lines.ensures.ends
@@ -22,8 +24,12 @@ returns-clause-ends g c =
       | in-TestList+in_ok-output-in-TestList w ↦
           rw (w.in-TestList.is, w.output-is)
           (w.in_ok-output-in-TestList.ensures.nothing, rw w.in_ok-output-in-TestList.ensures.yes at w.test_list.ensures)
-      | in-Compare+in_ok-output-in-Compare w ↦
-          rw (w.in-Compare.is, w.output-is) w.in_ok-output-in-Compare.ensures.output
+      | in-Compare+else-not-explain+in_ok-output-in-Compare w ↦
+          let explained : w.in-Compare.explain ≡ true = search rules in
+          rw (w.in-Compare.is, w.output-is)
+          (subst (λ (explain : Bool). IsLineOfTwo (comparison_line explain line_feed)
+          w.in-Compare.first.now w.in-Compare.second.now w.in_ok-output-in-Compare.output.items)
+          (sym explained) w.in_ok-output-in-Compare.ensures.output)
       | in-Difference+in_ok-output-in-Difference w ↦
           rw (w.in-Difference.is, w.output-is) w.in_ok-output-in-Difference.ensures.output
       | in-Lists+in_ok-output-in-Lists w ↦

@@ -1,12 +1,11 @@
-use Rattle.std.proofs.lemmas.Result.{on_err_weaker, on_ok_weaker}
-use Rattle.version_lines.proofs.lemmas.Run.{OnErr-always}
+use Rattle.std.proofs.lemmas.Result.{err_from_is_err_and, on_err_weaker, on_ok_weaker}
 use Rattle.version_commands.proofs.lemmas.Rows.{both-written, first-part, second-part}
 use Rattle.version_commands.proofs.write.put_both.Goals as goal
 
 pub returns-in_err-put_rows-clause-err : goal.returns-in_err-put_rows-clause-err
 returns-in_err-put_rows-clause-err g c =
-    OnErr-always _ _
-    (first-part c.args.end (g.A.Rows.lines c.args.first.now) (g.B.Rows.lines c.args.second.now) _ _
+    let p = err_from_is_err_and c.from_residual.result c.from_residual.ensures.1 in
+    rw p.1 (first-part c.args.end (g.A.Rows.lines c.args.first.now) (g.B.Rows.lines c.args.second.now) _ _
     c.args.buffer.now.items c.in_err-put_rows.ensures.err)
 
 pub returns-clause-ok : goal.returns-clause-ok

@@ -1,21 +1,21 @@
 -- Elements sorted by an order and then by their places are stably sorted, if the places rise from
 -- the first element on. So an unstable sort suffices.
-use Rattle.std.proofs.Common.{◌≡◌, ℕ, zero, suc, ◌+◌, ◌-◌, ◌<◌, Bool, true, not, List, [], ◌∷◌, length, take, drop, cond, refl, sym, ap, ◌∙◌, subst, arith}
-use Rattle.std.proofs.Math.Numerals.{one-add}
+use Rattle.std.proofs.Common.{◌≡◌, ℕ, suc, ◌<◌, Bool, true, false, List, [], ◌∷◌, length, cond, refl, sym, ap, ◌∙◌, subst, arith}
 use Rattle.std.specs.Cmp.{IsTotalOrder, nat_cmp_is}
-use Rattle.std.specs.List.{All, AllPairs, filter, prefix_len}
+use Rattle.std.specs.List.{All, AllPairs, filter}
 use Rattle.std.specs.List.Sorted.{IsPermutation, IsSortedBy, IsStableBy, ties}
-use Rattle.std.specs.Ordering.{is_lt, nat_cmp, on, ordering_then, then_cmp}
+use Rattle.std.specs.Ordering.{is_lt, nat_cmp, on, ordering_reverse, ordering_then, then_cmp}
 use Rattle.std.specs.declared.cmp.Ordering.{Ordering}
 use Rattle.std.specs.declared.cmp.Ordering.TheVariants.{Less, Equal, Greater}
-use Rattle.std.proofs.lemmas.Cmp.{by_ranked, nat_cmp_total, on_total, ranked, then_total, tied_itself}
-use Rattle.std.proofs.lemmas.List.Elements.{All-cons, All-filter, All-head, All-nil, All-tail, All-take, All-weaker, filter_passes}
-use Rattle.std.proofs.lemmas.List.Kept.{AllPairs-cons, AllPairs-filter}
+use Rattle.std.proofs.lemmas.Cmp.{nat_cmp_total, on_total, then_total}
+use Rattle.std.proofs.lemmas.List.Elements.{All-cons, All-filter, All-head, All-nil, All-tail, filter_passes}
+use Rattle.std.proofs.lemmas.List.Kept.{AllPairs-filter}
 use Rattle.std.proofs.lemmas.List.Sorted.{All-permutation, ranks_by, sum_by-IsPermutation}
 use Rattle.std.proofs.lemmas.List.Sums.{length-filter}
-use Rattle.version_lines.specs.Sorting.{in_order, put_in_order, run_length, TiesRise}
-use Rattle.version_lines.proofs.lemmas.Sorting.{Rises, below, by_test, head-is, in_order-only, in_order-permutes, neither, put-permutes, tail-is}
-use Rattle.version_lines.proofs.lemmas.Sorting.Ties.{IsDoneTo, not_less, run_ties}
+use Rattle.std.proofs.lemmas.Map.Lookups.{exact_unsigned}
+use Rattle.version_rules.specs.laws.Order.{then_second}
+use Rattle.version_lines.specs.Sorting.{in_order, put_in_order}
+use Rattle.version_lines.proofs.lemmas.Sorting.{below, by_test, head-is, in_order-only, in_order-permutes, neither, tail-is}
 
 -- the places rise
 abbrev Rising : {X : Type 0} → (X → ℕ) → List X → Type 0
@@ -62,15 +62,10 @@ in_order-placed R place (x ∷ xs) rise =
 
 -- elements that tie have one place
 
-second_tie : (o s : Ordering) → ordering_then o s ≡ Equal → s ≡ Equal
-second_tie Less s tied = cc
-second_tie Equal s tied = tied
-second_tie Greater s tied = cc
-
-same_number : (m n : ℕ) → nat_cmp m n ≡ Equal → m ≡ n
-same_number m n tied =
-    by_ranked (m < n) (m ≡ n) (n < m) (nat_cmp m n) (ranked m n _ refl)
-    (λ e less. cc (sym e ∙ tied)) (λ e same. same) (λ e more. cc (sym e ∙ tied))
+not_less : (o : Ordering) → is_lt o ≡ false → is_lt (ordering_reverse o) ≡ false → o ≡ Equal
+not_less Less not_below not_above = cc
+not_less Equal not_below not_above = refl
+not_less Greater not_below not_above = cc
 
 pub placed_total : {X : Type 0} (R : X → X → Ordering) (place : X → ℕ) → IsTotalOrder R
     → IsTotalOrder (placed R place)
@@ -83,7 +78,7 @@ ties-placed R place total x y tied =
     let both : placed R place x y ≡ Equal =
     not_less (placed R place x y) apart.0
     (ap is_lt (sym ((placed_total R place total).antisymm y x)) ∙ apart.1) in
-    sym (same_number (place x) (place y) (second_tie (R x y) (nat_cmp (place x) (place y)) both))
+    sym (exact_unsigned (place x) (place y) (then_second (R x y) (nat_cmp (place x) (place y)) both))
 
 -- a filter that leaves at most one element leaves the same of the elements in another order
 
@@ -148,85 +143,3 @@ in_order-by_place {X} R place total xs ys rise moved sorted =
     in_order-only (placed R place)
     (ranks_by (placed_total R place total) (λ (x : X). x)) xs ys sorted stays
     ∙ in_order-placed R place xs rise
-
--- in a sorted list, the places of elements that tie rise
-
-ties_rise-put : {X : Type 0} (R : X → X → Ordering) (place : X → ℕ) (x : X) (xs : List X)
-    → All (λ y. place x < place y) xs → TiesRise R place xs → TiesRise R place (put_in_order R x xs)
-ties_rise-put R place x [] later others_rise =
-    (All-nil (λ y. R x y ≡ Equal → place x < place y), tt)
-ties_rise-put {X} R place x (y ∷ ys) later (first, others_rise) =
-    by_test (below R y x)
-    (λ up. let P : X → Type 0 = λ z. R y z ≡ Equal → place y < place z in
-    let apart : P x = λ tied. cc (sym up ∙ ap is_lt tied) in
-    rw up (
-      All-permutation P (x ∷ ys) (put_in_order R x ys) (put-permutes R x ys)
-          (All-cons P x ys apart first),
-      ties_rise-put R place x ys (All-tail (λ z. place x < place z) y ys later) others_rise,
-    ))
-    (λ other. rw other (
-      All-weaker (λ z. place x < place z) (λ z. R x z ≡ Equal → place x < place z)
-          (λ z up tied. up) (y ∷ ys) later,
-      (first, others_rise),
-    ))
-
-pub ties_rise-in_order : {X : Type 0} (R : X → X → Ordering) (place : X → ℕ) (xs : List X)
-    → AllPairs (λ x y. place x < place y) xs → TiesRise R place (in_order R xs)
-ties_rise-in_order R place [] rise = tt
-ties_rise-in_order R place (x ∷ xs) rise =
-    ties_rise-put R place x (in_order R xs)
-    (All-permutation (λ y. place x < place y) xs (in_order R xs) (in_order-permutes R xs)
-    (rising-head place x xs rise))
-    (ties_rise-in_order R place xs (rising-tail place x xs rise))
-
--- so the places of a run rise
-
-ties_rise-drop : {X : Type 0} (R : X → X → Ordering) (place : X → ℕ) (n : ℕ) (xs : List X)
-    → TiesRise R place xs → TiesRise R place (drop n xs)
-ties_rise-drop R place zero xs others_rise = others_rise
-ties_rise-drop R place (suc n) [] others_rise = tt
-ties_rise-drop R place (suc n) (x ∷ xs) (first, others_rise) =
-    ties_rise-drop R place n xs others_rise
-
-ties_rise-take : {X : Type 0} (R : X → X → Ordering) (place : X → ℕ) (n : ℕ) (xs : List X)
-    → TiesRise R place xs → TiesRise R place (take n xs)
-ties_rise-take R place zero xs others_rise = tt
-ties_rise-take R place (suc n) [] others_rise = tt
-ties_rise-take R place (suc n) (x ∷ xs) (first, others_rise) = (
-  All-take (λ y. R x y ≡ Equal → place x < place y) n xs first,
-  ties_rise-take R place n xs others_rise,
-)
-
-rising-tied : {X : Type 0} (R : X → X → Ordering) (place : X → ℕ) → IsTotalOrder R
-    → (x : X) (xs : List X) → All (λ y. R x y ≡ Equal) xs → TiesRise R place xs → Rising place xs
-rising-tied R place total x [] tied others_rise = λ i j d up inside. absurd (omega arith)
-rising-tied R place total x (y ∷ ys) tied (first, others_rise) =
-    let one : R x y ≡ Equal = All-head (λ z. R x z ≡ Equal) y ys tied in
-    let others = All-tail (λ z. R x z ≡ Equal) y ys tied in
-    AllPairs-cons (λ a b. place a < place b) y ys
-    (λ k d inside. first k d inside (sym (total.congr x y _ one) ∙ others k d inside))
-    (rising-tied R place total x ys others others_rise)
-
-run_rising : {X : Type 0} (R : X → X → Ordering) (place : X → ℕ) → IsTotalOrder R → (xs : List X)
-    → Rises (below R) xs → TiesRise R place xs → Rising place (take (run_length R xs) xs)
-run_rising R place total [] up others_rise = λ i j d up inside. absurd (omega arith)
-run_rising R place total (x ∷ xs) (least, up) others_rise =
-    let n = prefix_len (λ y. not (is_lt (R x y))) xs in
-    let tied : All (λ y. R x y ≡ Equal) (x ∷ take n xs) =
-    All-cons (λ y. R x y ≡ Equal) x (take n xs) (tied_itself total x)
-    (run_ties R total x xs least) in
-    rw (one-add n)
-    (rising-tied R place total x (x ∷ take n xs) tied
-    (ties_rise-take R place (suc n) (x ∷ xs) others_rise))
-
-pub rising-run : {X : Type 0} (R S : X → X → Ordering) (place : X → ℕ) → IsTotalOrder R
-    → (list now : List X) (start end : ℕ) → IsDoneTo R S list now start
-    → TiesRise R place list → end ≡ start + run_length R (drop start now)
-    → AllPairs (λ x y. place x < place y) (take (end - start) (drop start now))
-rising-run R S place total list now start end so_far others_rise ends =
-    let many : end - start ≡ run_length R (drop start now) = omega (arith, ends) in
-    let left : TiesRise R place (drop start now) =
-    subst (TiesRise R place) (sym so_far.stays)
-    (ties_rise-drop R place start list others_rise) in
-    subst (λ (n : ℕ). Rising place (take n (drop start now))) (sym many)
-    (run_rising R place total (drop start now) so_far.rises left)

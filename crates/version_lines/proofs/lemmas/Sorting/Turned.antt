@@ -1,7 +1,7 @@
 -- An order in reverse is an order.
 use Rattle.std.proofs.Common.{◌≡◌, Bool, true, false, refl, sym, ap, ◌∙◌}
 use Rattle.std.specs.Cmp.{IsTotalOrder}
-use Rattle.std.specs.Ordering.{ordering_reverse, ordering_then}
+use Rattle.std.specs.Ordering.{is_eq, ordering_reverse}
 use Rattle.std.specs.declared.cmp.Ordering.{Ordering}
 use Rattle.std.specs.declared.cmp.Ordering.TheVariants.{Less, Equal, Greater}
 use Rattle.version_lines.specs.Sorting.{turn, turned}
@@ -23,15 +23,9 @@ turned_total true cmp total = record {
       ap ordering_reverse (total.congr x y z (reversed_equal (cmp x y) tied));
 }
 
--- an order that breaks the ties of another, both in reverse
-pub turn-then : (reversed : Bool) (o s : Ordering)
-    → ordering_then (turn reversed o) (turn reversed s) ≡ turn reversed (ordering_then o s)
-turn-then false o s = refl
-turn-then true Less s = refl
-turn-then true Equal s = refl
-turn-then true Greater s = refl
-
--- elements that are Equal are so in reverse
-pub turned-equal : (reversed : Bool) (o : Ordering) → o ≡ Equal → turn reversed o ≡ Equal
-turned-equal false o same = same
-turned-equal true o same = ap ordering_reverse same
+-- elements that tie do so in reverse
+pub turn-tie : (reversed : Bool) (o : Ordering) → is_eq (turn reversed o) ≡ is_eq o
+turn-tie false o = refl
+turn-tie true Less = refl
+turn-tie true Equal = refl
+turn-tie true Greater = refl

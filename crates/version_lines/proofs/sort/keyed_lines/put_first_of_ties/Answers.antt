@@ -1,30 +1,35 @@
-use Rattle.std.proofs.Common.{Bool, sym, subst, ap, ◌∙◌}
-use Rattle.std.specs.List.Sorted.{IsSorted}
+use Rattle.std.proofs.Common.{Bool, rules, ap, subst, ◌≡◌, ◌∙◌}
+use Rattle.std.specs.List.{dedup}
 use Rattle.std.specs.Ordering.{eq_by_cmp}
+use Rattle.std.proofs.lemmas.Fn.{always_returns_same, dedup_same}
+use Rattle.std.proofs.lemmas.List.Sorted.{ranks_by}
 use Rattle.version_lines.specs.Entry.{entry_cmp}
 use Rattle.version_lines.specs.Newest.{first_of_each}
-use Rattle.version_lines.specs.Sorting.{turned}
-use Rattle.version_lines.proofs.lemmas.Entry.{entries-sorted, keys_total}
+use Rattle.version_lines.specs.Sorting.{in_order, turned}
+use Rattle.version_lines.specs.declared.sort.entry.Entry.{Entry}
+use Rattle.version_lines.proofs.lemmas.Entry.{entry_total}
+use Rattle.version_lines.proofs.lemmas.FirstOfEach.{firsts-dedup}
+use Rattle.version_lines.proofs.lemmas.Sorting.{in_order-rises}
+use Rattle.version_lines.proofs.lemmas.Sorting.Places.{in_order-by_place, placed_total}
+use Rattle.version_lines.proofs.lemmas.Sorting.Turned.{turn-tie, turned_total}
 use Rattle.version_lines.proofs.sort.keyed_lines.put_first_of_ties.Goals as goal
-
-pub keep_first_of_each-requires-clause-total : goal.keep_first_of_each-requires-clause-total
-keep_first_of_each-requires-clause-total g c =
-    keys_total c.is_reversed-reversed.result c.args.keys.now
-
-pub keep_first_of_each-requires-clause-sorted : goal.keep_first_of_each-requires-clause-sorted
-keep_first_of_each-requires-clause-sorted g c =
-    let sorted = c.sort_by_keys.new.entries.items in
-    subst (λ (reversed : Bool). IsSorted (turned reversed (entry_cmp c.args.keys.now)) sorted)
-    (sym c.is_reversed-reversed.ensures)
-    (entries-sorted (g.B.SortBy.is_reversed c.args.by.now) c.args.keys.now
-    c.args.entries.now.items sorted c.sort_by_keys.ensures)
 
 pub returns : goal.returns
 returns g c =
+    let reversed = g.B.SortBy.is_reversed c.args.by.now in
     let cmp = entry_cmp c.args.keys.now in
-    let sorted = c.sort_by_keys.new.entries.items in
-    c.keep_first_of_each.ensures
-    ∙ ap (λ (reversed : Bool). first_of_each 1 (eq_by_cmp (turned reversed cmp)) sorted)
-    c.is_reversed-reversed.ensures
-    ∙ ap (first_of_each 1 (eq_by_cmp (turned (g.B.SortBy.is_reversed c.args.by.now) cmp)))
-    c.sort_by_keys.ensures
+    let R = turned reversed cmp in
+    let total = turned_total reversed cmp (entry_total c.args.keys.now) in
+    let ranks = ranks_by (placed_total R (λ (entry : Entry). entry.start) total)
+    (λ (entry : Entry). entry) in
+    let sorted = in_order R c.args.entries.now.items in
+    dedup_same _ (eq_by_cmp cmp) _ (λ x y b f x2 y2 called. search rules) _ _
+    c.dedup_by.ensures.filtered
+    ∙ ap (dedup (eq_by_cmp cmp))
+    (in_order-by_place R (λ (entry : Entry). entry.start) total _ _ c.requires
+    c.sort_unstable_by.ensures.permutation
+    (c.sort_unstable_by.ensures.sorted _ ranks
+    (always_returns_same _ _ _ (λ a r f2 called. search rules))))
+    ∙ subst (λ (same : Entry → Entry → Bool). dedup same sorted ≡ first_of_each 1 same sorted)
+    (λ i x y. turn-tie reversed (cmp x y) i)
+    (firsts-dedup R total sorted (in_order-rises R (ranks_by total (λ x. x)) c.args.entries.now.items))

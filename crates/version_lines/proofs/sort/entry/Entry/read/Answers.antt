@@ -1,6 +1,6 @@
-use Rattle.std.proofs.Common.{◌≡◌, ◌∙◌, ◌-◌, ◌<◌, ap, drop, length, rules, subst, take}
-use Rattle.std.specs.List.{All}
-use Rattle.version_texts.specs.Head.{head_number}
+use Rattle.std.proofs.Common.{◌≡◌, ◌∙◌, ◌-◌, ap, drop, length, rules, subst, take}
+use Rattle.std.specs.Int.{from_be_bytes, w64}
+use Rattle.version_texts.proofs.lemmas.Bytes.{AreBytes}
 use Rattle.version_lines.proofs.lemmas.Entry.{holds-last, key-part}
 use Rattle.version_rules.specs.Key.{key_of}
 use Rattle.version_rules.specs.KeyBytes.{key_bytes}
@@ -20,6 +20,6 @@ returns-clause-key c =
     key-part keys all key c.len-start.result (c.as_slice.ensures.value ∙ added) last in
     holds-last keys kept v _ added last (c.mark_kind.ensures.number ∙ ap length whole)
     (c.mark_kind.ensures.kind ∙ c.kind.ensures)
-    (subst (All (λ byte. byte < 256)) whole c.head.ensures.bytes)
-    (c.head.ensures.value ∙ ap head_number whole)
-    (c.head-2.ensures.value ∙ ap head_number (c.behind_head.ensures ∙ ap (drop 8) whole))
+    (subst AreBytes whole c.first_eight.ensures.bytes)
+    (c.first_eight.ensures.value ∙ ap (from_be_bytes w64) whole)
+    (c.first_eight-2.ensures.value ∙ ap (from_be_bytes w64) (c.after.ensures ∙ ap (drop 8) whole))

@@ -5,7 +5,6 @@ use Rattle.version_lines.specs.declared.sort.entry.Entry.{Entry}
 use Rattle.version_lines.specs.Entry.{entry_line, IsRead}
 use Rattle.version_lines.proofs.lemmas.KeyedLines.{stay_read}
 use Rattle.version_lines.proofs.lemmas.Entry.{in_turn-added, read-more}
-use Rattle.version_lines.proofs.lemmas.Entry.Tied.{all_strict-added}
 use Rattle.version_rules.specs.Key.{key_of}
 use Rattle.version_rules.specs.KeyBytes.{key_bytes}
 use Rattle.version_rules.specs.Versioning.{versioning_of}
@@ -14,13 +13,13 @@ use Rattle.version_lines.proofs.sort.keyed_lines.KeyedLines.add.Goals as goal
 
 pub returns-in_err-reserve-clause-read : goal.returns-in_err-reserve-clause-read
 returns-in_err-reserve-clause-read g c =
-    stay_read g.B.SortBy.text_of c.args.self.now _ refl refl c.reserve.ensures.items refl
+    stay_read g.B.SortBy.text_of c.args.self.now _ refl refl c.reserve.ensures.items
     c.requires.read
 
 pub returns-in_err-entry-clause-read : goal.returns-in_err-entry-clause-read
 returns-in_err-entry-clause-read g c =
     stay_read g.B.SortBy.text_of c.args.self.now _ refl c.in_err-entry.ensures.err
-    c.reserve.ensures.items refl c.requires.read
+    c.reserve.ensures.items c.requires.read
 
 pub returns-clause-read : goal.returns-clause-read
 returns-clause-read g c =
@@ -47,6 +46,4 @@ returns-clause-read g c =
           (All-push (IsRead text_of after) entries entry kept it);
       in_turn = in_turn-added text_of _ entries entry keys c.requires.read.in_turn
           c.requires.read.read c.in_ok-entry.ensures.last pushed;
-      strict = λ both. all_strict-added _ entries entry lines.are_strict c.is_strict.result both
-          c.requires.read.strict c.is_strict.ensures pushed;
     }

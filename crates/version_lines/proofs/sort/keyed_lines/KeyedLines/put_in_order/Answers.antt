@@ -1,6 +1,6 @@
-use Rattle.std.proofs.Common.{ℕ, List, subst, sym}
+use Rattle.std.proofs.Common.{ℕ, List, map, ap, subst, sym, ◌∙◌}
 use Rattle.std.specs.List.{All}
-use Rattle.version_lines.specs.Entry.{IsRead}
+use Rattle.version_lines.specs.Entry.{entry_line, IsRead}
 use Rattle.version_lines.proofs.lemmas.Entry.{lines-ordered}
 use Rattle.version_lines.proofs.sort.keyed_lines.KeyedLines.put_in_order.Goals as goal
 
@@ -8,8 +8,8 @@ pub returns-clause-lines : goal.returns-clause-lines
 returns-clause-lines g c =
     let lines = c.args.self.now in
     let text_of = g.B.SortBy.text_of lines.by in
-    lines-ordered (g.B.SortBy.is_reversed lines.by) text_of c.as_slice.result.now
-    lines.entries.items _
+    ap (map entry_line) c.put_in_order.ensures
+    ∙ lines-ordered (g.B.SortBy.is_reversed lines.by) text_of c.as_slice.result.now
+    lines.entries.items
     (subst (λ (ks : List ℕ). All (IsRead text_of ks) lines.entries.items)
     (sym c.as_slice.ensures.value) c.requires.read)
-    c.put_in_order.ensures

@@ -1,0 +1,94 @@
+//! The task that the words of a run mean.
+ghost use Rattle.std.specs.Prelude.{◌≡◌, ◌∷◌, [], codes, false, map, string_bytes, IfOk, MatchOption};
+ghost use Rattle.vers_words.specs.Words.{are_command, ArePlain, Means};
+
+use std::alloc::{AllocError, Global};
+use version_commands::{
+    Arrangement, Choice, EachOptions, Invalid, Labels, LineOptions, Naming, Question, Task,
+    VersionPlace,
+};
+use version_tasks::Stability;
+
+/// Returns the task that the words mean, or None if they mean none.
+pub fn task_of<'w>(alloc: Global, words: &'w [String]) -> Result<Option<Task<'w>>, AllocError>
+    ensures { IfOk result (λ found. MatchOption found
+        (are_command (map string_bytes words.now) ≡ false) (Means (map string_bytes words.now))) }
+{
+    match words {
+        [] => Ok(Some(Task::Label(Labels::Strict))),
+        [name] => Ok(task_of_name(alloc, name.as_str())),
+        [name, word] if name.as_str() == "key" => Ok(Some(key_task(alloc, word.as_str())?)),
+        [name, word] if name.as_str() == "match" => Ok(Some(match_task(alloc, word.as_str()))),
+        [name, first, second] if name.as_str() == "cmp" => Ok(Some(Task::Compare {
+            first: first.as_str(),
+            second: second.as_str(),
+            explain: false,
+        })),
+        _ => Ok(None),
+    }
+}
+
+// Returns the task of a single word.
+fn task_of_name<'w>(alloc: Global, name: &str) -> Option<Task<'w>>
+    ensures { MatchOption result (are_command (name.now ∷ []) ≡ false) (Means (name.now ∷ [])) }
+{
+    match name {
+        "ideal" => Some(Task::Label(Labels::Strict)),
+        "show" => Some(Task::Label(Labels::Every)),
+        "sort" => {
+            let arrangement = Arrangement::Sort {
+                reverse: false,
+                unique: false,
+            };
+            Some(Task::Lines(arrangement, options(alloc, Invalid::Fail)))
+        }
+        _ => None,
+    }
+}
+
+// Returns the task to write the sort key of a version.
+fn key_task<'w>(alloc: Global, version: &'w str) -> Result<Task<'w>, AllocError>
+    ensures { IfOk result (Means (codes "key" ∷ version.now ∷ [])) }
+{
+    let mut versions = Vec::new(alloc);
+    versions.push(version)?;
+    let options = EachOptions {
+        versions,
+        end: b'\n',
+        crlf: false,
+    };
+    Ok(Task::Each(Question::Key, options))
+}
+
+// Returns the task to write the lines that a list matches.
+fn match_task<'w>(alloc: Global, list: &'w str) -> Task<'w>
+    ensures { Means (codes "match" ∷ list.now ∷ []) result }
+{
+    let arrangement = Arrangement::Filter {
+        list,
+        inverted: false,
+    };
+    Task::Lines(arrangement, options(alloc, Invalid::Skip))
+}
+
+// Returns the options of a command over lines, each of which is a version or none.
+fn options<'w>(alloc: Global, invalid: Invalid) -> LineOptions<'w>
+    ensures { ArePlain invalid result }
+{
+    LineOptions {
+        end: b'\n',
+        place: VersionPlace {
+            crlf: false,
+            column: None,
+            naming: Naming::Bare,
+        },
+        choice: Choice {
+            least: Stability::Dev,
+            wanted: None,
+        },
+        invalid,
+        invalid_to: None,
+        progress: false,
+        files: Vec::new(alloc),
+    }
+}

@@ -1,0 +1,24 @@
+use Rattle.std.proofs.Common.{ℕ, List, Bor, map, ap, ◌∙◌}
+use Rattle.version_commands.specs.Picked.{bad_lines, kept_lines}
+use Rattle.version_lines.specs.Lines.{lines_of}
+use Rattle.version_lines.specs.NewestLine.{newest_alone}
+use Rattle.version_commands.proofs.lemmas.Ends.{ends-weaker}
+use Rattle.version_commands.proofs.lemmas.Ordered.{is-arranged, put-faults}
+use Rattle.version_commands.proofs.arrange.write_newest.Goals as goal
+
+pub returns-clause-ends : goal.returns-clause-ends
+returns-clause-ends g c =
+    let options = c.args.options.now in
+    let lines = lines_of options.end c.args.input.now in
+    let (newest, stays) = c.in_ok-bad.ensures.taken in
+    let by = c.new-newest.ensures.by in
+    let rows = c.line.ensures _ newest
+    ∙ (λ i. newest_alone (g.B.SortBy.text_of (stays i))
+    (kept_lines (g.B.SortBy.text_of c.new-newest.result.by) (g.C.Chooses.keeps c.args.chooser.now) lines))
+    ∙ (λ i. newest_alone (g.B.SortBy.text_of (by i))
+    (kept_lines (g.B.SortBy.text_of (by i)) (g.C.Chooses.keeps c.args.chooser.now) lines)) in
+    ends-weaker _ _ _ _ _ _ c.write_lines.result
+    (λ output. is-arranged (g.B.SortBy.text_of c.args.by) options c.args.input.now _ _ _ _ output
+    (c.in_ok-bad.ensures.bad.0 ∙ (λ i. bad_lines (g.B.SortBy.text_of (by i)) lines)) rows
+    (λ fail. ap (map (λ (line : Bor (List ℕ)). line.now)) (c.in_ok-refuse_bad.ensures.none fail)))
+    (put-faults options (g.B.SortBy.text_of c.args.by) c.args.input.now) c.write_lines.ensures.ends

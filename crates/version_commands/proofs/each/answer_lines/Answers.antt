@@ -1,0 +1,32 @@
+use Rattle.std.proofs.Common.{◌≡◌, [], ℕ, List, Bor, map, sym, ap, ◌∙◌}
+use Rattle.std.proofs.lemmas.Result.{IfErr-weaker, IfOk-weaker}
+use Rattle.version_commands.specs.Picked.{bad_lines}
+use Rattle.version_commands.specs.Place.{line_text}
+use Rattle.version_lines.specs.Lines.{lines_of}
+use Rattle.version_commands.proofs.lemmas.Each.{asking-answering, line-texts}
+use Rattle.version_commands.proofs.lemmas.Picked.{all-kept}
+use Rattle.version_commands.proofs.each.answer_lines.Goals as goal
+
+pub returns-clause-answers : goal.returns-clause-answers
+returns-clause-answers c =
+    let options = c.args.options.now in
+    let lines = lines_of options.end c.args.input.now in
+    let none : bad_lines (line_text options.crlf) lines ≡ [] =
+    sym c.in_ok-bad.ensures.bad.0
+    ∙ ap (map (λ (line : Bor (List ℕ)). line.now)) c.in_ok-refuse_first.ensures.none in
+    let have = rw (all-kept (line_text options.crlf) lines none) at c.in_ok-bad.ensures.taken in
+    IfOk-weaker c.finish.result _ _ (λ output adds. adds _ _ have) c.finish.ensures.answers
+
+pub returns-clause-faults : goal.returns-clause-faults
+returns-clause-faults c = λ old new read end.
+    let options = c.args.options.now in
+    let lines = lines_of options.end c.args.input.now in
+    let none : bad_lines (line_text options.crlf) lines ≡ [] =
+    sym c.in_ok-bad.ensures.bad.0
+    ∙ ap (map (λ (line : Bor (List ℕ)). line.now)) c.in_ok-refuse_first.ensures.none in
+    let have = rw (all-kept (line_text options.crlf) lines none) at c.in_ok-bad.ensures.taken in
+    IfErr-weaker c.finish.result _ _
+    (λ fault comes. asking-answering c.args.question options old new
+    (map (line_text options.crlf) lines)
+    (line-texts options old new c.args.input.now c.requires.words read end) fault (comes _ _ have))
+    c.finish.ensures.faults

@@ -1,0 +1,68 @@
+use Rattle.std.proofs.Common.{◌≡◌, ◌<◌, ◌++◌, ◌∷◌, [], ℕ, List, Bor, Some, None, length, map, get_or, take, rules, sym, subst, ap, ◌∙◌}
+use Rattle.std.proofs.lemmas.List.{take_all}
+use Rattle.std.proofs.lemmas.Result.{IfErr-weaker, IfOk-weaker}
+use Rattle.version_commands.specs.Cause.{ComesOfAsking}
+use Rattle.version_commands.specs.Each.{HasList, HaveAnswered}
+use Rattle.version_commands.specs.Fault.{first_wrong}
+use Rattle.version_commands.specs.declared.faults.Fault.TheVariants.{NotVersion}
+use Rattle.version_rules.specs.Versioning.{versioning_of}
+use Rattle.version_texts.specs.VersioningRef.{plain_versioning_ref}
+use Rattle.version_commands.proofs.lemmas.Each.{asking-answering, word-texts, wrong-here, wrong-next}
+use Rattle.version_commands.proofs.lemmas.Pieces.{texts-next}
+use Rattle.version_commands.proofs.each.answer_words.Goals as goal
+
+pub loop-word-preserved : goal.loop-word-preserved
+loop-word-preserved c =
+    let (list, have, wrong) = c.loop-word.invariant in
+    let words = c.args.words.now in
+    let i = c.loop-word.word-index in
+    let d : Bor (List ℕ) = record { ref_ptr = (0, 0); now = [] } in
+    let inside : i < length words = search rules in
+    let here : versioning_of (get_or words i d).now
+    ≡ Some (plain_versioning_ref c.in_ok-version.version) = search rules in
+    let text : c.as_bytes.result.now ≡ (get_or words i d).now = search rules in (
+      subst HasList (sym c.in_ok-add.ensures.question) list,
+      subst (HaveAnswered _ c.add.new.self)
+          (ap (λ (t : List ℕ). map (λ (word : Bor (List ℕ)). word.now) (take i words) ++ t ∷ []) text
+          ∙ sym (texts-next (λ (word : Bor (List ℕ)). word.now) words i d inside))
+          (c.in_ok-add.ensures.answers _ _ have),
+      wrong ∙ wrong-next words i d _ inside here,
+    )
+
+pub returns-clause-answers : goal.returns-clause-answers
+returns-clause-answers c =
+    let (list, have, wrong) = c.loop-word.invariant in
+    let words = c.args.words.now in
+    let all : take c.loop-word.word-index words ≡ words =
+    take_all c.loop-word.word-index words (search rules) in
+    IfOk-weaker c.finish.result _ _ (λ output adds. adds _ _ (rw all at have))
+    c.finish.ensures.answers
+
+pub returns-clause-faults : goal.returns-clause-faults
+returns-clause-faults c = λ old.
+    let (list, have, wrong) = c.loop-word.invariant in
+    let words = c.args.words.now in
+    let all : take c.loop-word.word-index words ≡ words =
+    take_all c.loop-word.word-index words (search rules) in
+    IfErr-weaker c.finish.result _ _
+    (λ fault comes. asking-answering c.args.question c.args.options.now old old
+    (map (λ (word : Bor (List ℕ)). word.now) words)
+    (word-texts c.args.options.now old words c.requires.words c.requires.some) fault
+    (comes _ _ (rw all at have)))
+    c.finish.ensures.faults
+
+pub returns-in_err-version-clause-faults : goal.returns-in_err-version-clause-faults
+returns-in_err-version-clause-faults c = λ old.
+    let (list, have, wrong) = c.loop-word.invariant in
+    let options = c.args.options.now in
+    let words = c.args.words.now in
+    let i = c.loop-word.word-index in
+    let d : Bor (List ℕ) = record { ref_ptr = (0, 0); now = [] } in
+    let inside : i < length words = search rules in
+    IfErr-weaker c.from_residual.result
+    (λ fault. (fault ≡ NotVersion (get_or words i d)) × (versioning_of (get_or words i d).now ≡ None)) _
+    (λ fault (is, none). subst (ComesOfAsking c.args.question options old) (sym is)
+    (subst (λ (w : List (Bor (List ℕ))). first_wrong (map (λ word. word.now) w)
+    ≡ Some (get_or words i d).now) c.requires.words
+    (wrong ∙ wrong-here words i d inside none)))
+    (search rules)

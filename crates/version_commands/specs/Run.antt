@@ -1,0 +1,43 @@
+-- How a run of a program ends, by the task that its words mean.
+use Rattle.std.specs.Prelude.{◌≡◌, ◌⊎◌, ℕ, false, List, Option, None, Result, Ok, Err, IsErrAnd, MatchResult}
+use Rattle.std.specs.Io.KnownBytes.{Keeps}
+use Rattle.version_commands.specs.Cause.{ComesOf}
+use Rattle.version_commands.specs.Early.{IfOfWord, UnlessLate}
+use Rattle.version_commands.specs.Ends.{Ends}
+use Rattle.version_commands.specs.Files.{Leaves}
+use Rattle.version_commands.specs.Inputs.{Reading}
+use Rattle.version_commands.specs.Output.{asks_reader, file_of, IsOutput}
+use Rattle.version_commands.specs.declared.faults.Fault.{Fault}
+use Rattle.version_commands.specs.declared.options.Task.{Task}
+
+-- a run ends as its task did, and has its fault
+abbrev pub EndsAs : {T E : Type 0} → (Fault → E) → Result T Fault → Result T E → Type 0
+EndsAs of_task served result =
+    MatchResult served (λ value. result ≡ Ok value) (λ fault. result ≡ Err (of_task fault))
+
+module _ {F R : Type 0} (reads : F → Reading) (puts : F → F → List ℕ → List ℕ → Type 0)
+    (remaining : R → Option (List ℕ)) (files left : F) (reader after : R) (old new : Option (List ℕ))
+  where
+    -- A task was done: it wrote what the task asks for, and left the reader and the files as they were
+    -- where the task doesn't ask for these, or a fault came before.
+    pub record Does {T : Type 0} (task : Task) (result : Result T Fault) : Type 0 where
+      pub ends : Ends (IsOutput task (reads files) (remaining reader) (remaining after)
+          (Leaves puts files left)) (ComesOf task (reads files) (remaining reader)) old new result
+      pub unread : asks_reader task ≡ false → after ≡ reader
+      pub files_are : file_of task ≡ None → left ≡ files
+      pub kept : UnlessLate (left ≡ files) result
+      pub early : IfOfWord (after ≡ reader) result
+
+    -- nothing was done
+    pub record DoesNothing : Type 0 where
+      pub unread : after ≡ reader
+      pub files_are : left ≡ files
+      pub unwritten : Keeps old new
+
+    -- The words mean a task, which was done, and its fault is that of the run; or they mean none, this
+    -- fault says why, and nothing was done.
+    abbrev pub RunsBy : {T E : Type 0} → (Task → Type 0) → (E → Type 0) → (Fault → E) → Result T E → Type 0
+    RunsBy {T} Means IsWrong of_task result =
+        (IsErrAnd result IsWrong × DoesNothing)
+        ⊎ ((task : Task) × (served : Result T Fault) × Means task × Does task served
+        × EndsAs of_task served result)

@@ -1,0 +1,113 @@
+-- The newest of lines that come one after another.
+use Rattle.std.proofs.Common.{◌≡◌, ℕ, true, false, cond, Bor, List, [], ◌∷◌, ◌++◌, take, Some, refl, sym, ap, ◌∙◌}
+use Rattle.std.specs.Cmp.{IsStrictWeakOrder}
+use Rattle.std.specs.List.{filter}
+use Rattle.std.specs.Ordering.{is_gt, is_lt, ordering_reverse}
+use Rattle.std.specs.declared.cmp.Ordering.{Ordering}
+use Rattle.std.specs.declared.cmp.Ordering.TheVariants.{Less, Equal, Greater}
+use Rattle.std.proofs.lemmas.Bool.{true≢false}
+use Rattle.std.proofs.lemmas.List.Sorted.{ranks_by}
+use Rattle.version_lines.specs.NewestLine.{newest_alone, IsNewestOf}
+use Rattle.version_lines.specs.Sort.{lines_precedence}
+use Rattle.version_lines.specs.Sorting.{in_order, put_in_order, turned}
+use Rattle.version_lines.proofs.lemmas.Kept.{newest-first, precedences_total}
+use Rattle.version_lines.proofs.lemmas.Sorting.{below, by_test, head-is}
+use Rattle.version_lines.proofs.lemmas.Sorting.Turned.{turned_total}
+use Rattle.version_rules.specs.Key.{key_of, precedence}
+use Rattle.version_rules.specs.Versioning.{versioning_of}
+use Rattle.version_texts.specs.VersioningRef.{plain_versioning_ref}
+use Rattle.version_texts.specs.declared.versioning_ref.VersioningRef.{VersioningRef}
+
+-- the first of two in an order: the second only if it is below
+abbrev better : {X : Type 0} → (X → X → Ordering) → X → X → X
+better R b y = cond (below R y b) y b
+
+module _ {X : Type 0} (R : X → X → Ordering) (order : IsStrictWeakOrder (below R)) where
+  first-put : (x h : X) (t : List X) → take 1 (put_in_order R x (h ∷ t)) ≡ better R x h ∷ []
+  first-put x h t = by_test (below R h x) (λ up. rw up refl) (λ no. rw no refl)
+
+  -- a list in order begins with an element, if there is one
+  has-first : (x : X) (xs : List X) → (h : X) × (t : List X) × (in_order R (x ∷ xs) ≡ h ∷ t)
+  has-first x xs = put (in_order R xs)
+    where
+      put : (l : List X) → (h : X) × (t : List X) × (put_in_order R x l ≡ h ∷ t)
+      put [] = (x, [], refl)
+      put (y ∷ ys) = by_test (below R y x)
+          (λ up. (y, put_in_order R x ys, rw up refl)) (λ no. (x, y ∷ ys, rw no refl))
+
+  -- which of three is first, two at a time
+  better-twice : (x b y : X) → better R x (better R b y) ≡ better R (better R x b) y
+  better-twice x b y =
+      by_test (below R b x)
+      (λ lower. by_test (below R y b)
+      (λ up. let below_x : below R y x ≡ true =
+      by_test (below R y x) (λ is. is)
+      (λ no. absurd (true≢false (sym up ∙ order.chain y x b no (order.one_way b x lower)))) in
+      rw (up, lower, up, below_x) refl)
+      (λ no. rw (no, lower, no) refl))
+      (λ higher. by_test (below R y b)
+      (λ up. rw (up, higher) refl)
+      (λ no. let not_below : below R y x ≡ false = order.chain y b x no higher in
+      rw (no, higher, not_below) refl))
+
+  -- one more element comes first only if it is below all others
+  pub first-more : (xs : List X) (y b : X) → take 1 (in_order R xs) ≡ b ∷ []
+      → take 1 (in_order R (xs ++ y ∷ [])) ≡ better R b y ∷ []
+  first-more [] y b is = cc is
+  first-more (x ∷ []) y b is =
+      first-put x y [] ∙ ap (λ (a : X). better R a y ∷ []) (head-is is)
+  first-more (x ∷ x' ∷ xs) y b is =
+      let (h, t, tail) = has-first x' xs in
+      let was : better R x h ≡ b =
+      head-is (sym (ap (λ l. take 1 (put_in_order R x l)) tail ∙ first-put x h t) ∙ is) in
+      let next = first-more (x' ∷ xs) y h (ap (take 1) tail) in
+      let (g, s, longer) = has-first x' (xs ++ y ∷ []) in
+      let now : g ≡ better R h y = head-is (sym (ap (take 1) longer) ∙ next) in
+      ap (λ l. take 1 (put_in_order R x l)) longer ∙ first-put x g s
+      ∙ ap (λ (a : X). better R x a ∷ []) now
+      ∙ ap (λ (a : X). a ∷ []) (better-twice x h y ∙ ap (λ (a : X). better R a y) was)
+
+-- where all are of one group, the newest is the first in the order
+all_pass : {X : Type 0} (xs : List X) → filter (λ x. true) xs ≡ xs
+all_pass [] = refl
+all_pass (x ∷ xs) = ap (λ l. x ∷ l) (all_pass xs)
+
+alone-first : (text_of : List ℕ → List ℕ) (lines : List (List ℕ))
+    → newest_alone text_of lines
+    ≡ take 1 (in_order (turned true (lines_precedence text_of)) lines)
+alone-first text_of lines =
+    sym (all_pass (newest_alone text_of lines))
+    ∙ newest-first 1 (λ line. []) text_of lines []
+    ∙ ap (λ l. take 1 (in_order (turned true (lines_precedence text_of)) l)) (all_pass lines)
+
+above_turned : (o : Ordering) → is_lt (ordering_reverse o) ≡ is_gt o
+above_turned Less = refl
+above_turned Equal = refl
+above_turned Greater = refl
+
+module _ (text_of : List ℕ → List ℕ) (lines : List (List ℕ)) (best line : Bor (List ℕ))
+    (newest version : VersioningRef) (so_far : IsNewestOf text_of lines (Some (best, newest)))
+    (some : versioning_of (text_of line.now) ≡ Some (plain_versioning_ref version)) where
+  abbrev P : List ℕ → List ℕ → Ordering
+  P = lines_precedence text_of
+
+  later : is_lt (turned true P line.now best.now)
+      ≡ is_gt (precedence (key_of (plain_versioning_ref version)) (key_of (plain_versioning_ref newest)))
+  later = above_turned (P line.now best.now) ∙ rw (some, so_far.1) refl
+
+  first : newest_alone text_of (lines ++ line.now ∷ []) ≡ better (turned true P) best.now line.now ∷ []
+  first = alone-first text_of (lines ++ line.now ∷ [])
+      ∙ first-more (turned true P)
+      (ranks_by (turned_total true P (precedences_total text_of)) (λ (l : List ℕ). l))
+      lines line.now best.now (sym (alone-first text_of lines) ∙ so_far.0)
+
+  -- one more line is the newest if it is above the newest so far
+  pub newest-above : is_gt (precedence (key_of (plain_versioning_ref version))
+      (key_of (plain_versioning_ref newest))) ≡ true
+      → IsNewestOf text_of (lines ++ line.now ∷ []) (Some (line, version))
+  newest-above above = (first ∙ rw (later ∙ above) refl, some)
+
+  pub newest-stays : is_gt (precedence (key_of (plain_versioning_ref version))
+      (key_of (plain_versioning_ref newest))) ≡ false
+      → IsNewestOf text_of (lines ++ line.now ∷ []) (Some (best, newest))
+  newest-stays other = (first ∙ rw (later ∙ other) refl, so_far.1)
