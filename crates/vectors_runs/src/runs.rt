@@ -7,20 +7,17 @@ use vectors_table::{Taker, begins_not};
 
 /// The words of a run, its input, and the output that it may write.
 #[derive(Clone, Copy)]
-pub struct Run<'a> {
-    pub words: &'a [&'a str],
-    pub input: &'a [u8],
-    pub wanted: &'a [u8],
-}
+pub struct Run<'a>(pub &'a [&'a str], pub &'a str, pub &'a str);
 
 impl Run<'_> {
     /// Runs `vers`, and prints the row.
     pub fn of_vers(&self, rt: &HostRuntime, name: &str) -> io::Result<()> {
-        let Ok(words) = owned(rt.alloc(), self.words) else {
+        let Run(words, input, wanted) = self;
+        let Ok(words) = owned(rt.alloc(), words) else {
             return begins_not(rt, name);
         };
-        let mut reader = self.input;
-        let mut taker = Taker::of(self.wanted);
+        let mut reader = input.as_bytes();
+        let mut taker = Taker::of(wanted.as_bytes());
         print!(rt; "{name}: {words:?}")?;
         let outcome = vers_words::run(rt.alloc(), words.as_slice(), &mut reader, &mut taker);
         let taken = taker.taken;
@@ -30,11 +27,12 @@ impl Run<'_> {
     /// Runs `versions` over the files that are held, and prints the row. What is written is counted with what is put into
     /// a file.
     pub fn of_versions(&self, rt: &HostRuntime, name: &str) -> io::Result<()> {
-        let Ok(words) = owned(rt.alloc(), self.words) else {
+        let Run(words, input, wanted) = self;
+        let Ok(words) = owned(rt.alloc(), words) else {
             return begins_not(rt, name);
         };
-        let mut reader = self.input;
-        let mut taker = Taker::of(self.wanted);
+        let mut reader = input.as_bytes();
+        let mut taker = Taker::of(wanted.as_bytes());
         let mut files = HeldFiles {
             others: Taker::of(b"x y\n"),
         };

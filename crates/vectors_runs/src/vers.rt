@@ -5,37 +5,33 @@ use std::alloc::{AllocError, Global};
 use std::io;
 use vectors_table::{Table, begins_not};
 
-// Words, an input and the expected output.
-#[derive(Clone, Copy)]
-struct Row(&'static [&'static str], &'static str, &'static str);
-
-static ROWS: [Row; 7] = [
-    Row(&[], "1.2.3\n1.2\n", "ideal 1.2.3\nnone\n"),
-    Row(
+static ROWS: [Run<'static>; 7] = [
+    Run(&[], "1.2.3\n1.2\n", "ideal 1.2.3\nnone\n"),
+    Run(
         &["show"],
         "1.2.3-1\n1.2.3r1\n000.007-1",
         "ideal 1.2.3-1\ngeneral 1.2.3r1\ncomplex 000.007-1\n",
     ),
-    Row(
+    Run(
         &["sort"],
         "1.2.3.0\n1.2.3.git\n000.007-1\n1.2.3\n",
         "000.007-1\n1.2.3.git\n1.2.3\n1.2.3.0\n",
     ),
-    Row(
+    Run(
         &["match", ">=1.1.1,<2.0.0"],
         "1.1.0\n1.1.1\n2.0.0\n2.0.0-rc.1\n1.5",
         "1.1.1\n2.0.0-rc.1\n1.5\n",
     ),
-    Row(&["key", "1.2.3"], "", "000301310203013202030133020202\n"),
-    Row(&["sort"], "1\n1 2", ""),
-    Row(&["key", "1..2"], "", ""),
+    Run(&["key", "1.2.3"], "", "000301310203013202030133020202\n"),
+    Run(&["sort"], "1\n1 2", ""),
+    Run(&["key", "1..2"], "", ""),
 ];
 
-static WITHOUT_MEMORY: [Row; 4] = [
-    Row(&["cmp", "1.2.3", "1.2.3-rc.1"], "", ">\n"),
-    Row(&["cmp", "1", "."], "", ""),
-    Row(&["match", ">=1.0,"], "", ""),
-    Row(&["ideal", "ideal"], "", ""),
+static WITHOUT_MEMORY: [Run<'static>; 4] = [
+    Run(&["cmp", "1.2.3", "1.2.3-rc.1"], "", ">\n"),
+    Run(&["cmp", "1", "."], "", ""),
+    Run(&["match", ">=1.0,"], "", ""),
+    Run(&["ideal", "ideal"], "", ""),
 ];
 
 pub fn make_all(table: &mut Table<'_>) -> io::Result<()> {
@@ -44,13 +40,8 @@ pub fn make_all(table: &mut Table<'_>) -> io::Result<()> {
     table.prints(over_long_lines)
 }
 
-fn make_each(table: &mut Table<'_>, name: &str, rows: &[Row]) -> io::Result<()> {
-    for Row(words, input, wanted) in rows {
-        let run = Run {
-            words,
-            input: input.as_bytes(),
-            wanted: wanted.as_bytes(),
-        };
+fn make_each(table: &mut Table<'_>, name: &str, runs: &[Run<'_>]) -> io::Result<()> {
+    for run in runs {
         table.prints(|rt| run.of_vers(rt, name))?;
     }
     Ok(())
@@ -62,12 +53,7 @@ fn over_long_lines(rt: &HostRuntime) -> io::Result<()> {
     let Ok(lines) = long_lines(rt.alloc()) else {
         return begins_not(rt, name);
     };
-    let run = Run {
-        words: &["match", "^7"],
-        input: lines.as_bytes(),
-        wanted: lines.as_bytes(),
-    };
-    run.of_vers(rt, name)
+    Run(&["match", "^7"], lines.as_str(), lines.as_str()).of_vers(rt, name)
 }
 
 // Returns two general versions, of which the first is longer than a buffer.

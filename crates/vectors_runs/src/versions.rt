@@ -9,133 +9,129 @@ use vectors_table::{Table, Taker};
 use version_commands::{Fault, Task, quoted, serve};
 use version_words::{WordsFault, read_words};
 
-// The words, the input and the expected output of a run.
-#[derive(Clone, Copy)]
-struct Row(&'static [&'static str], &'static str, &'static str);
-
-static ROWS: [Row; 40] = [
-    Row(&["sort"], "1.10\n1.9\n1.10rc1", "1.9\n1.10rc1\n1.10\n"),
-    Row(
+static ROWS: [Run<'static>; 40] = [
+    Run(&["sort"], "1.10\n1.9\n1.10rc1", "1.9\n1.10rc1\n1.10\n"),
+    Run(
         &["sort", "-r", "-u", "-k", "2", "-t", ","],
         "a,1.0\nb,1.10\nc,0:1.0\nd,1.9\n",
         "b,1.10\nd,1.9\na,1.0\n",
     ),
-    Row(
+    Run(
         &["sort", "-t,", "-k2", "table", "-"],
         "down,1.2",
         "down,1.2\nright,1.9\nup,1.10rc1\nleft,1.10\n",
     ),
-    Row(
+    Run(
         &["sort", "--tags"],
         "v2.0.0-beta.1\nv1.10.0\nv1.9.0\n",
         "v1.9.0\nv1.10.0\nv2.0.0-beta.1\n",
     ),
-    Row(
+    Run(
         &["sort", "-z", "--prefix", "go"],
         "go1.20.3\0go1.9\0",
         "go1.9\0go1.20.3\0",
     ),
-    Row(
+    Run(
         &["sort", "--invalid", "first"],
         "1.1\nx y\n1.0\n",
         "x y\n1.0\n1.1\n",
     ),
-    Row(
+    Run(
         &["sort", "--invalid", "last"],
         "1.1\nx y\n1.0\n",
         "1.0\n1.1\nx y\n",
     ),
-    Row(
+    Run(
         &["sort", "--invalid-to", "others"],
         "1.1\nx y\n1.0\n",
         "1.0\n1.1\n",
     ),
-    Row(
+    Run(
         &["newest", "-n", "2", "-g", "1", "-k", "2"],
         "left 1.9\nup 2.0\nleft 1.10\nleft 1.8\n",
         "left 1.10\nleft 1.9\nup 2.0\n",
     ),
-    Row(
+    Run(
         &["newest", "-n", "2", "--match", "<2"],
         "1.9\n1.11\n1.10\n2.0\n",
         "1.11\n1.10\n",
     ),
-    Row(
+    Run(
         &["newest", "--tags", "--min-stability", "stable"],
         "v1.9.0\nv2.0.0-beta.1\nv1.10.0\n",
         "v1.10.0\n",
     ),
-    Row(&["filter", ">=1.2,<2"], "1.1\n1.2\nx y\n2.0\n", "1.2\n"),
-    Row(
+    Run(&["filter", ">=1.2,<2"], "1.1\n1.2\nx y\n2.0\n", "1.2\n"),
+    Run(
         &["filter", "-v", ">=1.2,<2"],
         "1.1\n1.2\nx y\n2.0\n",
         "1.1\n2.0\n",
     ),
-    Row(
+    Run(
         &["show", "1:2.0-3"],
         "",
         "1:2.0-3\n  kind: general\n  epoch: 1\n  major: 2\n  minor: 0\n  release: 3\n  stability: stable\n",
     ),
-    Row(
+    Run(
         &["show", "--json", "1.2.0-rc.1"],
         "",
         "{\"version\":\"1.2.0-rc.1\",\"kind\":\"ideal\",\"epoch\":null,\"major\":1,\"minor\":2,\"patch\":0,\"pre_release\":\"rc.1\",\"release\":null,\"metadata\":null,\"stability\":\"rc\"}\n",
     ),
-    Row(
+    Run(
         &["key", "--crlf"],
         "1.2.3\r\n",
         "000301310203013202030133020202\n",
     ),
-    Row(
+    Run(
         &["why", ">=1.5,<2", "1.4", "1.6"],
         "",
         "1.4 is below >=1.5\n1.6 matches\n",
     ),
-    Row(&["next", "minor", "1.2.5"], "", "1.3.0\n"),
-    Row(&["test", "1.10", "gt", "1.9"], "", ""),
-    Row(&["test", "1.10", ">=1.2,<2"], "", ""),
-    Row(
+    Run(&["next", "minor", "1.2.5"], "", "1.3.0\n"),
+    Run(&["test", "1.10", "gt", "1.9"], "", ""),
+    Run(&["test", "1.10", ">=1.2,<2"], "", ""),
+    Run(
         &["compare", "--explain", "1.10", "1.9"],
         "",
         "> they differ first in part 1\n",
     ),
-    Row(&["diff", "1.2.3", "1.2.3-rc.1"], "", "tail\n"),
-    Row(
+    Run(&["diff", "1.2.3", "1.2.3-rc.1"], "", "tail\n"),
+    Run(
         &["diff", "--lists", "old", "new"],
         "",
         "raised left 1.2 1.3\nlowered right 2.0 1.9\nremoved up 1.0\nadded down 0.1\n",
     ),
-    Row(&["--version"], "", "versions 0.1.0\n"),
-    Row(&["key", "--help"], "", HELP_OF_KEY),
-    Row(&["--help"], "", HELP),
-    Row(&["sort", "-t", "ab"], "", ""),
-    Row(
+    Run(&["--version"], "", "versions 0.1.0\n"),
+    Run(&["key", "--help"], "", HELP_OF_KEY),
+    Run(&["--help"], "", HELP),
+    Run(&["sort", "-t", "ab"], "", ""),
+    Run(
         &["sort", "--invalid-to", "others", "--invalid", "last"],
         "",
         "",
     ),
-    Row(&["test", "1", "gte", "1"], "", ""),
-    Row(&["test", "1.9", ">", "1.10"], "", ""),
-    Row(&["test", "1", "lt", "x y"], "", ""),
-    Row(&["sort"], "1.1\nx y\n1.0\n", ""),
-    Row(&["show"], "1.0\r\n", ""),
-    Row(&["key", "1..2"], "", ""),
-    Row(&["filter", ">=1.0,"], "1.0\n", ""),
-    Row(&["next", "3", "1.2.3"], "", ""),
-    Row(&["compare", "1", "."], "", ""),
-    Row(&["sort", "missing"], "", ""),
-    Row(&["diff", "--lists", "old", "missing"], "", ""),
-    Row(&["sort", "--invalid-to", "full"], "1.0\n", ""),
+    Run(&["test", "1", "gte", "1"], "", ""),
+    Run(&["test", "1.9", ">", "1.10"], "", ""),
+    Run(&["test", "1", "lt", "x y"], "", ""),
+    Run(&["sort"], "1.1\nx y\n1.0\n", ""),
+    Run(&["show"], "1.0\r\n", ""),
+    Run(&["key", "1..2"], "", ""),
+    Run(&["filter", ">=1.0,"], "1.0\n", ""),
+    Run(&["next", "3", "1.2.3"], "", ""),
+    Run(&["compare", "1", "."], "", ""),
+    Run(&["sort", "missing"], "", ""),
+    Run(&["diff", "--lists", "old", "missing"], "", ""),
+    Run(&["sort", "--invalid-to", "full"], "1.0\n", ""),
 ];
 
 // Words of which one is nearly right. Where a similar one is looked for, letters are collected, and a list of them that
 // is refused is tried again with room for fewer.
-static MISSPELT: [&[&str]; 5] = [
-    &["sotr"],
-    &["kye", "1"],
-    &["sort", "--revers"],
-    &["sort", "--min-stability", "tc"],
-    &["next", "mino", "1.2"],
+static MISSPELT: [Run<'static>; 5] = [
+    Run(&["sotr"], "", ""),
+    Run(&["kye", "1"], "", ""),
+    Run(&["sort", "--revers"], "", ""),
+    Run(&["sort", "--min-stability", "tc"], "", ""),
+    Run(&["next", "mino", "1.2"], "", ""),
 ];
 
 const HELP: &str = "Sorts, filters and explains version numbers of mixed shapes
@@ -181,25 +177,18 @@ Example:
 ";
 
 pub fn make_all(table: &mut Table<'_>) -> io::Result<()> {
-    for Row(words, input, wanted) in &ROWS {
-        let run = Run {
-            words,
-            input: input.as_bytes(),
-            wanted: wanted.as_bytes(),
-        };
-        table.prints(|rt| run.of_versions(rt, "version_words::run"))?;
-    }
-    for words in &MISSPELT {
-        let run = Run {
-            words,
-            input: b"",
-            wanted: b"",
-        };
-        table.prints(|rt| run.of_versions(rt, "version_words::run, with retries"))?;
-    }
+    make_each(table, "version_words::run", &ROWS)?;
+    make_each(table, "version_words::run, with retries", &MISSPELT)?;
     table.reads("version_commands::quoted", "1.2\t", quoted_text)?;
     table.borrows("version_words::read_words", "1.2", key_words, task_text)?;
     table.borrows("version_commands::serve", "1.9", comparison, serve_task)
+}
+
+fn make_each(table: &mut Table<'_>, name: &str, runs: &[Run<'_>]) -> io::Result<()> {
+    for run in runs {
+        table.prints(|rt| run.of_versions(rt, name))?;
+    }
+    Ok(())
 }
 
 fn quoted_text(alloc: Global, text: &str) -> Result<String, AllocError> {

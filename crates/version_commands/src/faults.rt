@@ -1,4 +1,7 @@
 //! Why a task fails.
+ghost use Rattle.std.specs.Prelude.{◌++◌, Some};
+ghost use Rattle.std.specs.Fmt.{DisplaysOnOk};
+ghost use Rattle.version_commands.specs.Quote.{quoted};
 
 use crate::quote::Shown;
 use std::alloc::AllocError;
@@ -69,28 +72,10 @@ impl fmt::Display for Fault<'_> {
 
     fn fmt<W: fmt::Write>(&self, f: &mut fmt::Formatter<W>) -> fmt::Result {
         match self {
-            Fault::NotVersion(word) => write!(
-                f,
-                "not a version: {}",
-                Shown {
-                    text: word.as_bytes()
-                }
-            ),
-            Fault::NotRequirement(word) => write!(
-                f,
-                "not a requirement: {}",
-                Shown {
-                    text: word.as_bytes()
-                }
-            ),
+            Fault::NotVersion(word) => write_word(f, "not a version: ", word),
+            Fault::NotRequirement(word) => write_word(f, "not a requirement: ", word),
             Fault::NotTested(word) => {
-                write!(
-                    f,
-                    "neither a version nor a requirement: {}",
-                    Shown {
-                        text: word.as_bytes()
-                    }
-                )
+                write_word(f, "neither a version nor a requirement: ", word)
             }
             Fault::BadLine {
                 number,
@@ -113,23 +98,25 @@ impl fmt::Display for Fault<'_> {
             Fault::NoNext(text) => write!(f, "no version comes next at that place: {text}"),
             Fault::Untrue => Ok(()),
             Fault::Memory => write!(f, "no memory"),
-            Fault::Read(name) => write!(
-                f,
-                "cannot be read: {}",
-                Shown {
-                    text: name.as_bytes()
-                }
-            ),
-            Fault::Write(Some(name)) => write!(
-                f,
-                "cannot be written: {}",
-                Shown {
-                    text: name.as_bytes()
-                }
-            ),
+            Fault::Read(name) => write_word(f, "cannot be read: ", name),
+            Fault::Write(Some(name)) => write_word(f, "cannot be written: ", name),
             Fault::Write(None) => write!(f, "write failed"),
         }
     }
+}
+
+// Writes what is wrong with a word, and the word as a message shows it.
+fn write_word<W: fmt::Write>(
+    f: &mut fmt::Formatter<W>,
+    wrong: &'static str,
+    word: &str,
+) -> fmt::Result
+    ensures { DisplaysOnOk W.write_str_gives f.old result (Some (wrong.now ++ quoted word.now)) f.new }
+{
+    let shown = Shown {
+        text: word.as_bytes(),
+    };
+    write!(f, "{wrong}{shown}")
 }
 
 // How many other lines have no version.

@@ -1,5 +1,5 @@
 -- The grammar of the words: the commands, and the arguments that each takes.
-use Rattle.std.specs.Prelude.{◌≡◌, ◌^◌, ◌-◌, ℕ, true, false, List, [], ◌∷◌, Option, Some, None, codes}
+use Rattle.std.specs.Prelude.{◌≡◌, ◌^◌, ◌-◌, ℕ, true, false, List, [], ◌∷◌, Option, Some, None, codes, map}
 use Rattle.clap.specs.Lexer.{usize_max}
 use Rattle.clap.specs.Simple.{new_shape, App, Shape}
 use Rattle.clap.specs.Words.{new_rule, Rule}
@@ -9,6 +9,8 @@ use Rattle.clap.specs.declared.builder.command.Command.{Command}
 use Rattle.clap.specs.declared.builder.command.Command.TheViews.{out-Command}
 use Rattle.clap.specs.declared.builder.value_parser.ValueParser.{ValueParser}
 use Rattle.clap.specs.declared.builder.value_parser.ValueParser.TheVariants.{String, Unsigned}
+use Rattle.version_words.specs.declared.named.Verb.{Verb}
+use Rattle.version_words.specs.declared.named.Verb.TheVariants as verb
 
 -- a word that has to be there
 abbrev pub word_rule : List ℕ → Rule
@@ -122,9 +124,23 @@ diff_shape = command_shape (codes "diff") (word_rule (codes "A") ∷ word_rule (
 abbrev pub next_shape : Shape
 next_shape = command_shape (codes "next") (word_rule (codes "PLACE") ∷ words_rule ∷ ending_rules)
 
-abbrev pub command_shapes : List Shape
-command_shapes = sort_shape ∷ newest_shape ∷ filter_shape ∷ show_shape ∷ key_shape ∷ test_shape
-    ∷ compare_shape ∷ why_shape ∷ diff_shape ∷ next_shape ∷ []
+-- what each command takes
+abbrev pub shape_named : Verb → Shape
+shape_named verb.Sort = sort_shape
+shape_named verb.Newest = newest_shape
+shape_named verb.Filter = filter_shape
+shape_named verb.Show = show_shape
+shape_named verb.Key = key_shape
+shape_named verb.Test = test_shape
+shape_named verb.Compare = compare_shape
+shape_named verb.Why = why_shape
+shape_named verb.Diff = diff_shape
+shape_named verb.Next = next_shape
+
+-- the commands, in the order in which help has them
+abbrev pub commands : List Verb
+commands = verb.Sort ∷ verb.Newest ∷ verb.Filter ∷ verb.Show ∷ verb.Key ∷ verb.Test ∷ verb.Compare
+    ∷ verb.Why ∷ verb.Diff ∷ verb.Next ∷ []
 
 -- the program alone
 abbrev pub program_shape : Shape
@@ -138,7 +154,7 @@ program_shape = record (new_shape (codes "versions")) {
 
 -- the program with its commands
 abbrev pub program_app : App
-program_app = record { top = record program_shape { is_leaf = false }; subs = command_shapes }
+program_app = record { top = record program_shape { is_leaf = false }; subs = map shape_named commands }
 
 -- the argument is its command's alone
 abbrev pub IsLocal : Arg → Type 0

@@ -1,12 +1,13 @@
 //! The commands and the arguments that they take, as `clap` reads them, with the text of their help.
 
 ghost use Rattle.std.specs.Prelude.{◌≡◌, ◌++◌, [], false, map, IfOk};
-ghost use Rattle.std.specs.List.{All, AllByRecursion};
+ghost use Rattle.std.specs.List.{All};
 ghost use Rattle.clap.specs.Words.{app_of, rule_of, shape_of};
-ghost use Rattle.version_words.specs.Grammar.{command_app, command_shape, command_shapes, compare_shape, crlf_rule, diff_shape, filter_shape, key_shape, lines_rules, newest_shape, next_shape, prefix_rule, program_app, program_shape, separator_rule, show_shape, sort_shape, tags_rule, test_shape, why_shape, words_rule, zero_rule, HasNoGlobal, IsLocal};
+ghost use Rattle.version_words.specs.Grammar.{command_app, command_shape, compare_shape, crlf_rule, diff_shape, filter_shape, key_shape, lines_rules, newest_shape, next_shape, prefix_rule, program_app, program_shape, separator_rule, shape_named, show_shape, sort_shape, tags_rule, test_shape, why_shape, words_rule, zero_rule, HasNoGlobal, IsLocal};
 
 mod arguments;
 
+use crate::named::Verb;
 use arguments::{flag, number, text, two_or_three, word, words};
 use clap::{Arg, Command};
 use std::alloc::{AllocError, Global};
@@ -22,19 +23,42 @@ const STATUSES: &str =
     "Status: 0 for an answer, even an empty one; 1 for a text that is no version or requirement, and for
 a no of test; 2 for wrong words; 3 if there is no memory, or a file can't be read or written.";
 
+// The commands, in the order in which help has them.
+const COMMANDS: [Verb; 10] = [
+    Verb::Sort,
+    Verb::Newest,
+    Verb::Filter,
+    Verb::Show,
+    Verb::Key,
+    Verb::Test,
+    Verb::Compare,
+    Verb::Why,
+    Verb::Diff,
+    Verb::Next,
+];
+
 /// The names of the commands.
 pub const NAMES: [&str; 10] = [
     "sort", "newest", "filter", "show", "key", "test", "compare", "why", "diff", "next",
 ];
 
+// What help says of a command: its name, what it does, and an example.
+#[derive(Clone, Copy)]
+struct Help {
+    name: &'static str,
+    about: &'static str,
+    example: &'static str,
+}
+
 /// Returns the program with all its commands. The words that it reads begin after its name.
 pub fn program<'a>(alloc: Global) -> Result<Command<'a>, AllocError>
     ensures { IfOk result (λ program. app_of program ≡ program_app) }
 {
-    let commands = commands(alloc)?;
-    program_alone(alloc)
-        .bin_name("versions")?
-        .subcommands(commands)
+    let mut program = program_alone(alloc).bin_name("versions")?;
+    for command in COMMANDS {
+        program = program.subcommand(command_of(alloc, command)?)?;
+    }
+    Ok(program)
 }
 
 // Returns the program without its commands.
@@ -52,29 +76,38 @@ fn program_alone<'a>(alloc: Global) -> Command<'a>
         .arg_required_else_help(true)
 }
 
-// Returns the commands, in the order in which help has them.
-fn commands<'a>(alloc: Global) -> Result<Vec<Command<'a>>, AllocError>
-    ensures shapes { IfOk result (λ commands. map shape_of commands.items ≡ command_shapes) }
-    ensures local { IfOk result (λ commands. AllByRecursion HasNoGlobal commands.items) }
+// Returns a command.
+fn command_of<'a>(alloc: Global, command: Verb) -> Result<Command<'a>, AllocError>
+    ensures shape { IfOk result (λ made. shape_of made ≡ shape_named command) }
+    ensures local { IfOk result HasNoGlobal }
 {
-    Ok(vec![in alloc;
-        sort(alloc)?,
-        newest(alloc)?,
-        filter(alloc)?,
-        show(alloc)?,
-        key(alloc)?,
-        test(alloc)?,
-        compare(alloc)?,
-        why(alloc)?,
-        diff(alloc)?,
-        next(alloc)?,
-    ]?)
+    match command {
+        Verb::Sort => sort(alloc),
+        Verb::Newest => newest(alloc),
+        Verb::Filter => filter(alloc),
+        Verb::Show => show(alloc),
+        Verb::Key => key(alloc),
+        Verb::Test => test(alloc),
+        Verb::Compare => compare(alloc),
+        Verb::Why => why(alloc),
+        Verb::Diff => diff(alloc),
+        Verb::Next => next(alloc),
+    }
 }
 
 fn sort<'a>(alloc: Global) -> Result<Command<'a>, AllocError>
     ensures shape { IfOk result (λ command. shape_of command ≡ sort_shape) }
     ensures local { IfOk result HasNoGlobal }
 {
+    let help = Help {
+        name: "sort",
+        about: "Write lines in the order of their versions",
+        example: "Example:
+  $ printf '%s\\n' 'tool 1.10' 'tool 1.9' 'tool 1.10rc1' | versions sort -k 2
+  tool 1.9
+  tool 1.10rc1
+  tool 1.10",
+    };
     let own = vec![in alloc;
         files(alloc),
         flag(
@@ -90,22 +123,11 @@ fn sort<'a>(alloc: Global) -> Result<Command<'a>, AllocError>
             "Of lines whose versions tie in precedence, the first of the input alone",
         ),
     ]?;
-    let command = lines_command(
+    lines_command(
         alloc,
-        "sort",
+        help,
         own,
         "What becomes of lines without a version; fail unless it is given [possible values: fail, skip, first, last]",
-    )?;
-    Ok(
-        command
-            .about("Write lines in the order of their versions")
-            .after_help(
-                "Example:
-  $ printf '%s\\n' 'tool 1.10' 'tool 1.9' 'tool 1.10rc1' | versions sort -k 2
-  tool 1.9
-  tool 1.10rc1
-  tool 1.10",
-            ),
     )
 }
 
@@ -113,6 +135,13 @@ fn newest<'a>(alloc: Global) -> Result<Command<'a>, AllocError>
     ensures shape { IfOk result (λ command. shape_of command ≡ newest_shape) }
     ensures local { IfOk result HasNoGlobal }
 {
+    let help = Help {
+        name: "newest",
+        about: "Write the line with the newest version, or that of each group",
+        example: "Example:
+  $ printf '%s\\n' v1.9.0 v1.10.0 v2.0.0-rc.1 | versions newest --tags --min-stability stable
+  v1.10.0",
+    };
     let own = vec![in alloc;
         files(alloc),
         number(
@@ -128,20 +157,11 @@ fn newest<'a>(alloc: Global) -> Result<Command<'a>, AllocError>
             "Of each value of column N, the groups as they first appear",
         ),
     ]?;
-    let command = lines_command(
+    lines_command(
         alloc,
-        "newest",
+        help,
         own,
         "What becomes of lines without a version; fail unless it is given [possible values: fail, skip]",
-    )?;
-    Ok(
-        command
-            .about("Write the line with the newest version, or that of each group")
-            .after_help(
-                "Example:
-  $ printf '%s\\n' v1.9.0 v1.10.0 v2.0.0-rc.1 | versions newest --tags --min-stability stable
-  v1.10.0",
-            ),
     )
 }
 
@@ -149,6 +169,14 @@ fn filter<'a>(alloc: Global) -> Result<Command<'a>, AllocError>
     ensures shape { IfOk result (λ command. shape_of command ≡ filter_shape) }
     ensures local { IfOk result HasNoGlobal }
 {
+    let help = Help {
+        name: "filter",
+        about: "Write lines whose versions a list of requirements matches",
+        example: "Example:
+  $ printf '%s\\n' 1.1.9 1.2 1.10.0 2.0.0 | versions filter '>=1.2,<2'
+  1.2
+  1.10.0",
+    };
     let own = vec![in alloc;
         word(
             alloc,
@@ -163,21 +191,11 @@ fn filter<'a>(alloc: Global) -> Result<Command<'a>, AllocError>
             "Write the lines that the list doesn't match",
         ),
     ]?;
-    let command = lines_command(
+    lines_command(
         alloc,
-        "filter",
+        help,
         own,
         "What becomes of lines without a version; skip unless it is given [possible values: fail, skip, first, last]",
-    )?;
-    Ok(
-        command
-            .about("Write lines whose versions a list of requirements matches")
-            .after_help(
-                "Example:
-  $ printf '%s\\n' 1.1.9 1.2 1.10.0 2.0.0 | versions filter '>=1.2,<2'
-  1.2
-  1.10.0",
-            ),
     )
 }
 
@@ -185,18 +203,10 @@ fn show<'a>(alloc: Global) -> Result<Command<'a>, AllocError>
     ensures shape { IfOk result (λ command. shape_of command ≡ show_shape) }
     ensures local { IfOk result HasNoGlobal }
 {
-    let arguments = vec![in alloc;
-        versions(alloc),
-        flag(alloc, None, "json", "Write a JSON object for each"),
-        zero_terminated(alloc),
-        crlf(alloc),
-    ]?;
-    let command = command(alloc, "show", arguments)?;
-    Ok(
-        command
-            .about("Write the kind of versions, their numbers and other fields")
-            .after_help(
-                "Example:
+    let help = Help {
+        name: "show",
+        about: "Write the kind of versions, their numbers and other fields",
+        example: "Example:
   $ versions show 1.2.0-rc.1
   1.2.0-rc.1
     kind: ideal
@@ -205,31 +215,42 @@ fn show<'a>(alloc: Global) -> Result<Command<'a>, AllocError>
     patch: 0
     pre-release: rc.1
     stability: rc",
-            ),
-    )
+    };
+    let arguments = vec![in alloc;
+        versions(alloc),
+        flag(alloc, None, "json", "Write a JSON object for each"),
+        zero_terminated(alloc),
+        crlf(alloc),
+    ]?;
+    command(alloc, help, arguments)
 }
 
 fn key<'a>(alloc: Global) -> Result<Command<'a>, AllocError>
     ensures shape { IfOk result (λ command. shape_of command ≡ key_shape) }
     ensures local { IfOk result HasNoGlobal }
 {
-    let arguments = vec![in alloc; versions(alloc), zero_terminated(alloc), crlf(alloc)]?;
-    let command = command(alloc, "key", arguments)?;
-    Ok(
-        command
-            .about("Write sort keys in hexadecimal, whose order as bytes is that of the versions")
-            .after_help(
-                "Example:
+    let help = Help {
+        name: "key",
+        about: "Write sort keys in hexadecimal, whose order as bytes is that of the versions",
+        example: "Example:
   $ versions key 1.9 1.10 | sort -c && echo in order
   in order",
-            ),
-    )
+    };
+    let arguments = vec![in alloc; versions(alloc), zero_terminated(alloc), crlf(alloc)]?;
+    command(alloc, help, arguments)
 }
 
 fn test<'a>(alloc: Global) -> Result<Command<'a>, AllocError>
     ensures shape { IfOk result (λ command. shape_of command ≡ test_shape) }
     ensures local { IfOk result HasNoGlobal }
 {
+    let help = Help {
+        name: "test",
+        about: "End with 0 if it is so, 1 if not, and 2 if a word is wrong; write nothing",
+        example: "Example:
+  $ versions test 1.10 gt 1.9 && versions test 1.10 '>=1.2,<2' && echo yes
+  yes",
+    };
     let arguments = vec![in alloc;
         two_or_three(
             alloc,
@@ -237,26 +258,23 @@ fn test<'a>(alloc: Global) -> Result<Command<'a>, AllocError>
             "Two versions with <, <=, =, >=, > or lt, le, eq, ge, gt between them, or a version and a list of requirements",
         ),
     ]?;
-    let command = command(alloc, "test", arguments)?;
-    Ok(
-        command
-            .about("End with 0 if it is so, 1 if not, and 2 if a word is wrong; write nothing")
-            .override_usage(
-                "versions test A OP B
+    Ok(command(alloc, help, arguments)?.override_usage(
+        "versions test A OP B
        versions test VERSION LIST",
-            )
-            .after_help(
-                "Example:
-  $ versions test 1.10 gt 1.9 && versions test 1.10 '>=1.2,<2' && echo yes
-  yes",
-            ),
-    )
+    ))
 }
 
 fn compare<'a>(alloc: Global) -> Result<Command<'a>, AllocError>
     ensures shape { IfOk result (λ command. shape_of command ≡ compare_shape) }
     ensures local { IfOk result HasNoGlobal }
 {
+    let help = Help {
+        name: "compare",
+        about: "Write <, = or > between two versions",
+        example: "Example:
+  $ versions compare --explain 1.10 1.9
+  > they differ first in part 1",
+    };
     let arguments = vec![in alloc;
         word(alloc, "A", "A version"),
         word(alloc, "B", "Another"),
@@ -267,46 +285,42 @@ fn compare<'a>(alloc: Global) -> Result<Command<'a>, AllocError>
             "Write in which part they differ first",
         ),
     ]?;
-    let command = command(alloc, "compare", arguments)?;
-    Ok(
-        command
-            .about("Write <, = or > between two versions")
-            .after_help(
-                "Example:
-  $ versions compare --explain 1.10 1.9
-  > they differ first in part 1",
-            ),
-    )
+    command(alloc, help, arguments)
 }
 
 fn why<'a>(alloc: Global) -> Result<Command<'a>, AllocError>
     ensures shape { IfOk result (λ command. shape_of command ≡ why_shape) }
     ensures local { IfOk result HasNoGlobal }
 {
+    let help = Help {
+        name: "why",
+        about: "Write which requirement excludes each version, and on which side",
+        example: "Example:
+  $ versions why '>=1.5,<2' 1.4 1.6 2.0
+  1.4 is below >=1.5
+  1.6 matches
+  2.0 is above <2",
+    };
     let arguments = vec![in alloc;
         word(alloc, "LIST", "Requirements, such as '>=1.2,<2'"),
         versions(alloc),
         zero_terminated(alloc),
         crlf(alloc),
     ]?;
-    let command = command(alloc, "why", arguments)?;
-    Ok(
-        command
-            .about("Write which requirement excludes each version, and on which side")
-            .after_help(
-                "Example:
-  $ versions why '>=1.5,<2' 1.4 1.6 2.0
-  1.4 is below >=1.5
-  1.6 matches
-  2.0 is above <2",
-            ),
-    )
+    command(alloc, help, arguments)
 }
 
 fn diff<'a>(alloc: Global) -> Result<Command<'a>, AllocError>
     ensures shape { IfOk result (λ command. shape_of command ≡ diff_shape) }
     ensures local { IfOk result HasNoGlobal }
 {
+    let help = Help {
+        name: "diff",
+        about: "Write where two versions differ first, or what changed between two lists of names",
+        example: "Example:
+  $ versions diff 1.2.5 1.3.0
+  part 1",
+    };
     let arguments = vec![in alloc;
         word(
             alloc,
@@ -349,24 +363,21 @@ fn diff<'a>(alloc: Global) -> Result<Command<'a>, AllocError>
         zero_terminated(alloc),
         crlf(alloc),
     ]?;
-    let command = command(alloc, "diff", arguments)?;
-    Ok(
-        command
-            .about(
-                "Write where two versions differ first, or what changed between two lists of names",
-            )
-            .after_help(
-                "Example:
-  $ versions diff 1.2.5 1.3.0
-  part 1",
-            ),
-    )
+    command(alloc, help, arguments)
 }
 
 fn next<'a>(alloc: Global) -> Result<Command<'a>, AllocError>
     ensures shape { IfOk result (λ command. shape_of command ≡ next_shape) }
     ensures local { IfOk result HasNoGlobal }
 {
+    let help = Help {
+        name: "next",
+        about: "Write the version that comes next at a place",
+        example: "Example:
+  $ versions next minor 1.2.5 2.0
+  1.3.0
+  2.1",
+    };
     let arguments = vec![in alloc;
         word(
             alloc,
@@ -377,33 +388,23 @@ fn next<'a>(alloc: Global) -> Result<Command<'a>, AllocError>
         zero_terminated(alloc),
         crlf(alloc),
     ]?;
-    let command = command(alloc, "next", arguments)?;
-    Ok(
-        command
-            .about("Write the version that comes next at a place")
-            .after_help(
-                "Example:
-  $ versions next minor 1.2.5 2.0
-  1.3.0
-  2.1",
-            ),
-    )
+    command(alloc, help, arguments)
 }
 
 // Returns a command that answers with lines of its input: with its own arguments, and then those that all of them have.
 fn lines_command<'a>(
     alloc: Global,
-    name: &'static str,
+    help: Help,
     own: Vec<Arg<'a>>,
     invalid: &'static str,
 ) -> Result<Command<'a>, AllocError>
     requires { All IsLocal own.items }
     ensures shape { IfOk result (λ command. shape_of command
-        ≡ command_shape name.now (map rule_of own.entry.items ++ lines_rules)) }
+        ≡ command_shape help.name.now (map rule_of own.entry.items ++ lines_rules)) }
     ensures local { IfOk result HasNoGlobal }
 {
     let options = line_options(alloc, invalid)?;
-    command(alloc, name, own)?.args(options)
+    command(alloc, help, own)?.args(options)
 }
 
 // Returns the options of the commands that answer with lines of their input.
@@ -457,15 +458,25 @@ fn line_options<'a>(alloc: Global, invalid: &'static str) -> Result<Vec<Arg<'a>>
 // Returns a command with its arguments.
 fn command<'a>(
     alloc: Global,
-    name: &'static str,
+    help: Help,
     arguments: Vec<Arg<'a>>,
 ) -> Result<Command<'a>, AllocError>
     requires { All IsLocal arguments.items }
     ensures app { IfOk result (λ command. app_of command
-        ≡ command_app name.now (map rule_of arguments.entry.items)) }
+        ≡ command_app help.name.now (map rule_of arguments.entry.items)) }
     ensures local { IfOk result HasNoGlobal }
 {
-    Command::new(alloc, name).args(arguments)
+    command_alone(alloc, help).args(arguments)
+}
+
+// Returns a command without its arguments.
+fn command_alone<'a>(alloc: Global, help: Help) -> Command<'a>
+    ensures app { app_of result ≡ command_app help.name.now [] }
+    ensures local { HasNoGlobal result }
+{
+    Command::new(alloc, help.name)
+        .about(help.about)
+        .after_help(help.example)
 }
 
 fn files<'a>(alloc: Global) -> Arg<'a>

@@ -1,7 +1,7 @@
 -- What a command is after arguments and commands were added to it.
 use Rattle.std.proofs.Common.{◌≡◌, ◌∙◌, List, [], ◌∷◌, ◌++◌, true, map, ap, refl, sym, append-nil, append_assoc}
 use Rattle.std.proofs.lemmas.List.Elements.{All-head, All-tail}
-use Rattle.std.specs.List.{All, AllByRecursion}
+use Rattle.std.specs.List.{All}
 use Rattle.clap.specs.Simple.{on_top}
 use Rattle.clap.specs.Words.{app_of, is_simple, is_simple_and_free, rule_of, shape_of, with_rule, with_subcommand, AddsArg, AddsInTurn, AddsSubcommand, App, Rule, Shape}
 use Rattle.clap.specs.declared.builder.arg.Arg.{Arg}
@@ -47,13 +47,13 @@ abbrev pub with_subcommands : App → List Shape → App
 with_subcommands a [] = a
 with_subcommands a (shape ∷ shapes) = with_subcommands (with_subcommand a shape) shapes
 
-pub with-commands : (old new : Command) (commands : List Command) → AllByRecursion HasNoGlobal commands
-    → HasNoGlobal old → AddsInTurn AddsSubcommand old commands new
-    → app_of new ≡ with_subcommands (app_of old) (map shape_of commands)
-with-commands old new [] local plain same = ap app_of (sym same)
-with-commands old new (x ∷ xs) (first, others) plain (between, adds, rest) =
-    with-commands between new xs others (adds.globals ∙ rw plain first) rest
-    ∙ ap (λ a. with_subcommands a (map shape_of xs)) (adds.shape first)
+pub with-command : (old command new : Command) {shape : Shape} → HasNoGlobal old
+    → shape_of command ≡ shape → HasNoGlobal command → AddsSubcommand old command new
+    → Reads (with_subcommand (app_of old) shape) new
+with-command old command new plain shape_is local adds = record {
+  app_is = adds.shape local ∙ ap (with_subcommand (app_of old)) shape_is;
+  is_local = adds.globals ∙ (rw plain local);
+}
 
 -- it is a command whose matches and faults `clap` tells
 pub program-is-simple : is_simple program_app ≡ true

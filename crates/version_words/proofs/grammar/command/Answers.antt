@@ -6,11 +6,11 @@ use Rattle.version_words.proofs.grammar.command.Goals as goal
 
 pub returns-clause-app : goal.returns-clause-app
 returns-clause-app c = IfOk-weaker c.args-2.result _ _
-    (λ command adds. (with-arguments _ command _ c.requires c.new.ensures.local adds).app_is
-    ∙ ap (λ a. with_rules a (map rule_of c.args.arguments.items)) c.new.ensures.app)
+    (λ command adds. (with-arguments _ command _ c.requires c.command_alone.ensures.local adds).app_is
+    ∙ ap (λ a. with_rules a (map rule_of c.args.arguments.items)) c.command_alone.ensures.app)
     c.args-2.ensures
 
 pub returns-clause-local : goal.returns-clause-local
 returns-clause-local c = IfOk-weaker c.args-2.result _ _
-    (λ command adds. (with-arguments _ command _ c.requires c.new.ensures.local adds).is_local)
+    (λ command adds. (with-arguments _ command _ c.requires c.command_alone.ensures.local adds).is_local)
     c.args-2.ensures

@@ -10,7 +10,7 @@ returns-clause-shape c = IfOk-weaker c.args-2.result _ _
     (λ command adds. ap (λ a. a.top)
     ((with-arguments _ command _ c.in_ok-options.ensures.local c.in_ok-command.ensures.local adds).app_is
     ∙ ap (λ a. with_rules a (map rule_of c.in_ok-options.options.items)) c.in_ok-command.ensures.app
-    ∙ ap (with_rules (command_app c.args.name.now (map rule_of c.args.own.items))) c.in_ok-options.ensures.rules))
+    ∙ ap (with_rules (command_app c.args.help.name.now (map rule_of c.args.own.items))) c.in_ok-options.ensures.rules))
     c.args-2.ensures
 
 pub returns-clause-local : goal.returns-clause-local
