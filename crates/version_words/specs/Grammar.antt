@@ -1,7 +1,7 @@
 -- The grammar of the words: the commands, and the arguments that each takes.
-use Rattle.std.specs.Prelude.{◌≡◌, ◌^◌, ◌-◌, ℕ, true, false, List, [], ◌∷◌, Option, Some, None, codes, map}
+use Rattle.std.specs.Prelude.{◌≡◌, ◌^◌, ◌-◌, ℕ, true, false, List, [], ◌∷◌, ◌++◌, Option, Some, None, codes, map}
 use Rattle.clap.specs.Lexer.{usize_max}
-use Rattle.clap.specs.Simple.{new_shape, App, Shape}
+use Rattle.clap.specs.Simple.{new_shape, on_top, App, Shape}
 use Rattle.clap.specs.Words.{new_rule, Rule}
 use Rattle.clap.specs.declared.builder.action.ArgAction.TheVariants.{Append, Set, SetTrue}
 use Rattle.clap.specs.declared.builder.arg.Arg.{Arg}
@@ -11,6 +11,9 @@ use Rattle.clap.specs.declared.builder.value_parser.ValueParser.{ValueParser}
 use Rattle.clap.specs.declared.builder.value_parser.ValueParser.TheVariants.{String, Unsigned}
 use Rattle.version_words.specs.declared.named.Verb.{Verb}
 use Rattle.version_words.specs.declared.named.Verb.TheVariants as verb
+use Rattle.version_words.specs.declared.table.Argument.{Argument}
+use Rattle.version_words.specs.declared.table.Form.{Form}
+use Rattle.version_words.specs.declared.table.Form.TheVariants as form
 
 -- a word that has to be there
 abbrev pub word_rule : List ℕ → Rule
@@ -46,12 +49,25 @@ valued_rule letter name parser = record (new_rule name) {
 }
 
 -- an option with a number from 1 on
-abbrev pub number_rule : ℕ → List ℕ → Rule
-number_rule letter name = valued_rule (Some letter) name (Unsigned 1 (2 ^ 64 - 1))
+abbrev pub number_rule : Option ℕ → List ℕ → Rule
+number_rule letter name = valued_rule letter name (Unsigned 1 (2 ^ 64 - 1))
 
 -- an option with any text
 abbrev pub text_rule : Option ℕ → List ℕ → Rule
 text_rule letter name = valued_rule letter name String
+
+-- what an argument of a form takes, by its letter and its name
+abbrev pub rule_of_form : Form → Option ℕ → List ℕ → Rule
+rule_of_form form.Word letter name = word_rule name
+rule_of_form form.TwoOrThree letter name = two_or_three_rule name
+rule_of_form form.Words letter name = words_rule
+rule_of_form form.Flag letter name = flag_rule letter name
+rule_of_form form.Number letter name = number_rule letter name
+rule_of_form (form.Text value) letter name = text_rule letter name
+
+-- the same of an argument of the table
+abbrev pub rule_of_argument : Argument → Rule
+rule_of_argument argument = rule_of_form argument.form argument.letter argument.name.now
 
 abbrev pub separator_rule : Rule
 separator_rule = text_rule (Some 116) (codes "field-separator")
@@ -72,10 +88,14 @@ crlf_rule = flag_rule None (codes "crlf")
 abbrev pub ending_rules : List Rule
 ending_rules = zero_rule ∷ crlf_rule ∷ []
 
+-- what becomes of lines without a version
+abbrev pub invalid_rule : Rule
+invalid_rule = text_rule None (codes "invalid")
+
 -- the options of each command that answers with lines of its input
 abbrev pub lines_rules : List Rule
-lines_rules = text_rule None (codes "invalid") ∷ text_rule None (codes "invalid-to")
-    ∷ number_rule 107 (codes "key") ∷ separator_rule ∷ tags_rule ∷ prefix_rule
+lines_rules = invalid_rule ∷ text_rule None (codes "invalid-to")
+    ∷ number_rule (Some 107) (codes "key") ∷ separator_rule ∷ tags_rule ∷ prefix_rule
     ∷ text_rule None (codes "min-stability") ∷ text_rule None (codes "match") ∷ zero_rule
     ∷ crlf_rule ∷ flag_rule None (codes "progress") ∷ []
 
@@ -86,61 +106,49 @@ command_shape name rules = record (new_shape name) { rules = rules }
 abbrev pub command_app : List ℕ → List Rule → App
 command_app name rules = record { top = command_shape name rules; subs = [] }
 
-abbrev pub sort_shape : Shape
-sort_shape = command_shape (codes "sort") (words_rule ∷ flag_rule (Some 114) (codes "reverse")
-    ∷ flag_rule (Some 117) (codes "unique") ∷ lines_rules)
+-- the name of a command
+abbrev pub name_of : Verb → List ℕ
+name_of verb.Sort = codes "sort"
+name_of verb.Newest = codes "newest"
+name_of verb.Filter = codes "filter"
+name_of verb.Show = codes "show"
+name_of verb.Key = codes "key"
+name_of verb.Test = codes "test"
+name_of verb.Compare = codes "compare"
+name_of verb.Why = codes "why"
+name_of verb.Diff = codes "diff"
+name_of verb.Next = codes "next"
 
-abbrev pub newest_shape : Shape
-newest_shape = command_shape (codes "newest") (words_rule ∷ number_rule 110 (codes "count")
-    ∷ number_rule 103 (codes "group") ∷ lines_rules)
+-- what a command takes
+abbrev pub rules_of : Verb → List Rule
+rules_of verb.Sort =
+    words_rule ∷ flag_rule (Some 114) (codes "reverse") ∷ flag_rule (Some 117) (codes "unique") ∷ lines_rules
+rules_of verb.Newest =
+    words_rule ∷ number_rule (Some 110) (codes "count") ∷ number_rule (Some 103) (codes "group") ∷ lines_rules
+rules_of verb.Filter =
+    word_rule (codes "LIST") ∷ words_rule ∷ flag_rule (Some 118) (codes "invert-match") ∷ lines_rules
+rules_of verb.Show = words_rule ∷ flag_rule None (codes "json") ∷ ending_rules
+rules_of verb.Key = words_rule ∷ ending_rules
+rules_of verb.Test = two_or_three_rule (codes "WORD") ∷ []
+rules_of verb.Compare = word_rule (codes "A") ∷ word_rule (codes "B") ∷ flag_rule None (codes "explain") ∷ []
+rules_of verb.Why = word_rule (codes "LIST") ∷ words_rule ∷ ending_rules
+rules_of verb.Diff = word_rule (codes "A") ∷ word_rule (codes "B") ∷ flag_rule None (codes "lists")
+    ∷ number_rule (Some 103) (codes "group") ∷ number_rule (Some 107) (codes "key") ∷ separator_rule
+    ∷ tags_rule ∷ prefix_rule ∷ invalid_rule ∷ ending_rules
+rules_of verb.Next = word_rule (codes "PLACE") ∷ words_rule ∷ ending_rules
 
-abbrev pub filter_shape : Shape
-filter_shape = command_shape (codes "filter") (word_rule (codes "LIST") ∷ words_rule
-    ∷ flag_rule (Some 118) (codes "invert-match") ∷ lines_rules)
-
-abbrev pub show_shape : Shape
-show_shape =
-    command_shape (codes "show") (words_rule ∷ flag_rule None (codes "json") ∷ ending_rules)
-
-abbrev pub key_shape : Shape
-key_shape = command_shape (codes "key") (words_rule ∷ ending_rules)
-
-abbrev pub test_shape : Shape
-test_shape = command_shape (codes "test") (two_or_three_rule (codes "WORD") ∷ [])
-
-abbrev pub compare_shape : Shape
-compare_shape = command_shape (codes "compare") (word_rule (codes "A") ∷ word_rule (codes "B")
-    ∷ flag_rule None (codes "explain") ∷ [])
-
-abbrev pub why_shape : Shape
-why_shape = command_shape (codes "why") (word_rule (codes "LIST") ∷ words_rule ∷ ending_rules)
-
-abbrev pub diff_shape : Shape
-diff_shape = command_shape (codes "diff") (word_rule (codes "A") ∷ word_rule (codes "B")
-    ∷ flag_rule None (codes "lists") ∷ number_rule 103 (codes "group")
-    ∷ number_rule 107 (codes "key") ∷ separator_rule ∷ tags_rule ∷ prefix_rule
-    ∷ text_rule None (codes "invalid") ∷ ending_rules)
-
-abbrev pub next_shape : Shape
-next_shape = command_shape (codes "next") (word_rule (codes "PLACE") ∷ words_rule ∷ ending_rules)
-
--- what each command takes
-abbrev pub shape_named : Verb → Shape
-shape_named verb.Sort = sort_shape
-shape_named verb.Newest = newest_shape
-shape_named verb.Filter = filter_shape
-shape_named verb.Show = show_shape
-shape_named verb.Key = key_shape
-shape_named verb.Test = test_shape
-shape_named verb.Compare = compare_shape
-shape_named verb.Why = why_shape
-shape_named verb.Diff = diff_shape
-shape_named verb.Next = next_shape
+-- a command, as `clap` has it
+abbrev pub shape_of_command : Verb → Shape
+shape_of_command command = command_shape (name_of command) (rules_of command)
 
 -- the commands, in the order in which help has them
 abbrev pub commands : List Verb
 commands = verb.Sort ∷ verb.Newest ∷ verb.Filter ∷ verb.Show ∷ verb.Key ∷ verb.Test ∷ verb.Compare
     ∷ verb.Why ∷ verb.Diff ∷ verb.Next ∷ []
+
+-- a command with more arguments
+abbrev pub with_rules : App → List Rule → App
+with_rules a rules = on_top (λ s. record s { rules = s.rules ++ rules }) a
 
 -- the program alone
 abbrev pub program_shape : Shape
@@ -154,7 +162,7 @@ program_shape = record (new_shape (codes "versions")) {
 
 -- the program with its commands
 abbrev pub program_app : App
-program_app = record { top = record program_shape { is_leaf = false }; subs = map shape_named commands }
+program_app = record { top = record program_shape { is_leaf = false }; subs = map shape_of_command commands }
 
 -- the argument is its command's alone
 abbrev pub IsLocal : Arg → Type 0

@@ -8,6 +8,7 @@ mod named;
 mod near;
 mod program;
 mod rows;
+mod table;
 mod task;
 mod words;
 mod wrong;

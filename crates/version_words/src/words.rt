@@ -5,8 +5,9 @@ ghost use Rattle.clap.specs.Words.{kind_of};
 ghost use Rattle.version_words.specs.Words.{ComesOfWords, ComesOfWrong, IsMistake, Means, Shows};
 
 use crate::faults::WordsFault;
-use crate::grammar::{NAMES, program};
+use crate::grammar::program;
 use crate::near::{similar, with_tip};
+use crate::table::NAMES;
 use crate::task::task_of;
 use crate::wrong::MORE;
 use clap::Error;
