@@ -18,6 +18,8 @@ impl<'a> Files for HeldFiles<'a> {
 
     ghost puts = { λ _ _ _ _. ⊤ };
 
+    ghost alters = { λ _ _ _. ⊤ };
+
     fn read_onto(&self, name: &str, input: &mut Vec<u8>) -> Result<(), Trouble> {
         let Some(text) = held(name) else {
             return Err(Trouble::System);

@@ -30,7 +30,7 @@ pub fn run<'w, R: Read, W: Write>(
     reader: &mut R,
     writer: &mut W,
 ) -> Result<(), Fault<'w>>
-    ensures { RunsBy ⟦<NoFiles as Files>⟧.reads ⟦<NoFiles as Files>⟧.puts R.remaining no_files no_files
+    ensures { RunsBy ⟦<NoFiles as Files>⟧.reads ⟦<NoFiles as Files>⟧.puts ⟦<NoFiles as Files>⟧.alters R.remaining no_files no_files
         reader.old reader.new
         (W.contents writer.old) (W.contents writer.new) (Means (map string_bytes words.now))
         (IsOfWords (map string_bytes words.now)) Task result }

@@ -28,11 +28,15 @@ abbrev pub arranged_in : (List ℕ → List ℕ) → (PlainVersioning → Bool) 
 arranged_in text_of keeps arrangement options input =
     arranged text_of (group_text options.place.crlf) arrangement (kept_in text_of keeps options input)
 
+-- the name of the file for lines without a version, if there is one
+abbrev pub bad_file : LineOptions → Option (List ℕ)
+bad_file options = option_map (λ name. name.now) options.invalid_to
+
 -- what is put into the file for lines without a version, if there is one: the name of the file and
 -- these lines
 abbrev pub put_of : LineOptions → List (List ℕ) → Option (List ℕ × List ℕ)
 put_of options bad =
-    option_map (λ name. (name.now, lines_output (whole_line options.end) bad)) options.invalid_to
+    option_map (λ name. (name, lines_output (whole_line options.end) bad)) (bad_file options)
 
 -- lines are written, with those that have no version before or after them or in their file
 pub record IsPlaced (options : LineOptions) (bad lines : List (List ℕ))

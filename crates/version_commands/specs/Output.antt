@@ -1,13 +1,12 @@
 -- What a task writes.
 use Rattle.std.specs.Prelude.{◌≡◌, ◌==◌, ℕ, Bool, false, true, List, [], ◌∷◌, length, map, Option, None, Some, Ok, string_bytes}
-use Rattle.std.specs.Option.{option_map}
 use Rattle.version_commands.specs.Compare.{comparison_line}
 use Rattle.version_commands.specs.Difference.{difference_line}
 use Rattle.version_commands.specs.Each.{IsAnswered}
 use Rattle.version_commands.specs.Inputs.{joined, names_read, reads_standard, AreInputs, Reading}
 use Rattle.version_commands.specs.Label.{AreLabelled}
 use Rattle.version_commands.specs.Lists.{bad_lines_of, difference_text, names_of, rows_of}
-use Rattle.version_commands.specs.Ordered.{IsOrdered}
+use Rattle.version_commands.specs.Ordered.{bad_file, IsOrdered}
 use Rattle.version_commands.specs.Test.{answer_of_two, IsAnswerOfList}
 use Rattle.version_commands.specs.declared.options.Invalid.TheVariants.{Fail}
 use Rattle.version_commands.specs.declared.options.Lists.{Lists}
@@ -69,5 +68,5 @@ asks_reader other = false
 
 -- the file that a task writes: no other task changes the files
 abbrev pub file_of : Task → Option (List ℕ)
-file_of (task.Lines arrangement options) = option_map (λ name. name.now) options.invalid_to
+file_of (task.Lines arrangement options) = bad_file options
 file_of other = None

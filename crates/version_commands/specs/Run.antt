@@ -1,10 +1,10 @@
 -- How a run of a program ends, by the task that its words mean.
-use Rattle.std.specs.Prelude.{◌≡◌, ◌⊎◌, ℕ, false, List, Option, None, Result, Ok, Err, IsErrAnd, MatchResult}
+use Rattle.std.specs.Prelude.{◌≡◌, ◌⊎◌, ℕ, false, List, Option, Result, Ok, Err, IsErrAnd, MatchResult}
 use Rattle.std.specs.Io.KnownBytes.{Keeps}
 use Rattle.version_commands.specs.Cause.{ComesOf}
 use Rattle.version_commands.specs.Early.{IfOfWord, UnlessLate}
 use Rattle.version_commands.specs.Ends.{Ends}
-use Rattle.version_commands.specs.Files.{Leaves}
+use Rattle.version_commands.specs.Files.{AltersAtMost, Leaves}
 use Rattle.version_commands.specs.Inputs.{Reading}
 use Rattle.version_commands.specs.Output.{asks_reader, file_of, IsOutput}
 use Rattle.version_commands.specs.declared.faults.Fault.{Fault}
@@ -16,6 +16,7 @@ EndsAs of_task served result =
     MatchResult served (λ value. result ≡ Ok value) (λ fault. result ≡ Err (of_task fault))
 
 module _ {F R : Type 0} (reads : F → Reading) (puts : F → F → List ℕ → List ℕ → Type 0)
+    (alters : F → F → List ℕ → Type 0)
     (remaining : R → Option (List ℕ)) (files left : F) (reader after : R) (old new : Option (List ℕ))
   where
     -- A task was done: it wrote what the task asks for, and left the reader and the files as they were
@@ -24,7 +25,7 @@ module _ {F R : Type 0} (reads : F → Reading) (puts : F → F → List ℕ →
       pub ends : Ends (IsOutput task (reads files) (remaining reader) (remaining after)
           (Leaves puts files left)) (ComesOf task (reads files) (remaining reader)) old new result
       pub unread : asks_reader task ≡ false → after ≡ reader
-      pub files_are : file_of task ≡ None → left ≡ files
+      pub files_are : AltersAtMost alters (file_of task) files left
       pub kept : UnlessLate (left ≡ files) result
       pub early : IfOfWord (after ≡ reader) result
 

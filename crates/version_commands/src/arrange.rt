@@ -6,9 +6,9 @@ ghost use Rattle.version_commands.specs.Choice.{chooser_of, is_kept, wrong_list}
 ghost use Rattle.version_commands.specs.Early.{IfOfWord, UnlessLate};
 ghost use Rattle.version_commands.specs.Ends.{Ends};
 ghost use Rattle.version_commands.specs.Fault.{ComesOfLists};
-ghost use Rattle.version_commands.specs.Files.{Leaves};
+ghost use Rattle.version_commands.specs.Files.{AltersAtMost, Leaves};
 ghost use Rattle.version_commands.specs.Inputs.{names_read, reads_standard};
-ghost use Rattle.version_commands.specs.Ordered.{arranged_in, kept_in, kept_line, IsArranged, IsOrdered};
+ghost use Rattle.version_commands.specs.Ordered.{bad_file, arranged_in, kept_in, kept_line, IsArranged, IsOrdered};
 ghost use Rattle.version_commands.specs.Place.{group_text, text_of};
 ghost use Rattle.version_lines.specs.KeyedLines.{lines_in, AreRead};
 ghost use Rattle.version_lines.specs.Lines.{answer_text, output_by, whole_line};
@@ -43,7 +43,7 @@ pub fn serve_lines<'w, F: Files, R: Read, W: Write>(
         (W.contents writer.old) (W.contents writer.new) result }
     ensures unread { reads_standard (names_read (map (λ name. name.now) options.now.files.items)) ≡ false
         → reader.new ≡ reader.old }
-    ensures files { options.now.invalid_to ≡ None → files.new ≡ files.old }
+    ensures files { AltersAtMost F.alters (bad_file options.now) files.old files.new }
     ensures kept { UnlessLate (files.new ≡ files.old) result }
     ensures early { IfOfWord (reader.new ≡ reader.old) result }
 {
@@ -88,7 +88,7 @@ fn write_arranged<'w, F: Files, W: Write>(
         input.now) (Leaves F.puts files.old files.new))
         (ComesOfArranged options.now (text_of options.now.place) input.now)
         (W.contents writer.old) (W.contents writer.new) result }
-    ensures files { options.now.invalid_to ≡ None → files.new ≡ files.old }
+    ensures files { AltersAtMost F.alters (bad_file options.now) files.old files.new }
     ensures kept { UnlessLate (files.new ≡ files.old) result }
 {
     if let Arrangement::Filter { .. } = arrangement {
@@ -145,7 +145,7 @@ fn write_keyed<'w, B: SortBy + Copy, C: Chooses, F: Files, W: Write>(
         (Leaves F.puts files.old files.new))
         (ComesOfArranged options.now (B.text_of by) input.now)
         (W.contents writer.old) (W.contents writer.new) result }
-    ensures files { options.now.invalid_to ≡ None → files.new ≡ files.old }
+    ensures files { AltersAtMost F.alters (bad_file options.now) files.old files.new }
     ensures kept { UnlessLate (files.new ≡ files.old) result }
 {
     if asks_for_one(&arrangement, options) {
@@ -189,7 +189,7 @@ fn write_newest<'w, B: SortBy, C: Chooses, F: Files, W: Write>(
         (Leaves F.puts files.old files.new))
         (ComesOfArranged options.now (B.text_of by) input.now)
         (W.contents writer.old) (W.contents writer.new) result }
-    ensures files { options.now.invalid_to ≡ None → files.new ≡ files.old }
+    ensures files { AltersAtMost F.alters (bad_file options.now) files.old files.new }
     ensures kept { UnlessLate (files.new ≡ files.old) result }
 {
     let mut newest = NewestLine::new(by);
@@ -251,7 +251,7 @@ fn write_kept<'w, F: Files, W: Write>(
         (Leaves F.puts files.old files.new))
         (ComesOfArranged options.now (text_of options.now.place) input.now)
         (W.contents writer.old) (W.contents writer.new) result }
-    ensures files { options.now.invalid_to ≡ None → files.new ≡ files.old }
+    ensures files { AltersAtMost F.alters (bad_file options.now) files.old files.new }
     ensures kept { UnlessLate (files.new ≡ files.old) result }
 {
     let mut kept = KeptLines {

@@ -23,6 +23,9 @@ pub trait Files {
     // Between the two states the bytes were written to the file of this name, in place of what it held.
     ghost puts: { Self → Self → List ℕ → List ℕ → Type 0 };
 
+    // Between the two states at most the file of this name changed.
+    ghost alters: { Self → Self → List ℕ → Type 0 };
+
     /// Adds what the file holds to the input. After an error, part of it may have been added.
     fn read_onto(&self, name: &str, input: &mut Vec<u8>) -> Result<(), Trouble>
         ensures text { OnOk result ((text : List ℕ) × (input.new.items ≡ input.old.items ++ text)
@@ -31,9 +34,10 @@ pub trait Files {
             (λ trouble. trouble ≡ Trouble.System → reads self.now name.now None) }
         ensures begun { (more : List ℕ) × (input.new.items ≡ input.old.items ++ more) };
 
-    /// Writes the bytes to the file, in place of what it holds.
+    /// Writes the bytes to the file, in place of what it holds. After an error, it may hold anything.
     fn put(&mut self, name: &str, bytes: &[u8]) -> Result<(), Trouble>
-        ensures { OnOk result (puts self.old self.new name.now bytes.now) };
+        ensures put { OnOk result (puts self.old self.new name.now bytes.now) }
+        ensures others { alters self.old self.new name.now };
 
     /// Tells how far the run is. Only `--progress` asks for it.
     fn tell(&self, stage: Stage);
@@ -49,6 +53,8 @@ impl Files for NoFiles {
     ghost reads = { λ _ _ text. text ≡ None };
 
     ghost puts = { λ _ _ _ _. ⊥ };
+
+    ghost alters = { λ old new _. new ≡ old };
 
     fn read_onto(&self, _name: &str, _input: &mut Vec<u8>) -> Result<(), Trouble> {
         Err(Trouble::System)

@@ -6,7 +6,7 @@ ghost use Rattle.version_commands.specs.Difference.{difference_line};
 ghost use Rattle.version_commands.specs.Early.{IfOfWord, UnlessLate};
 ghost use Rattle.version_commands.specs.Ends.{Ends};
 ghost use Rattle.version_commands.specs.Fault.{first_wrong, ComesOfTest, ComesOfWords};
-ghost use Rattle.version_commands.specs.Files.{Leaves};
+ghost use Rattle.version_commands.specs.Files.{AltersAtMost, Leaves};
 ghost use Rattle.version_commands.specs.Inputs.{reads_standard};
 ghost use Rattle.version_commands.specs.Lists.{names_of};
 ghost use Rattle.version_commands.specs.Output.{asks_reader, file_of, AreChanges, IsLineOfTwo, IsOutput};
@@ -31,7 +31,8 @@ use std::io::{Read, Write};
 
 /// Does a task. What it writes is `IsOutput` of the task and of what its files and the reader hold, and a fault
 /// `ComesOf` the same. At a fault the writer got nothing, or a proper beginning if it takes no more. A task that doesn't
-/// read standard input leaves the reader as it is, and one that names no file for lines without a version the files.
+/// read standard input leaves the reader as it is. Each leaves all files as they are but the one for lines without a
+/// version, at a fault too.
 pub fn serve<'w, F: Files, R: Read, W: Write>(
     alloc: Global,
     task: &Task<'w>,
@@ -44,7 +45,7 @@ pub fn serve<'w, F: Files, R: Read, W: Write>(
         (ComesOf task.now (F.reads files.old) (R.remaining reader.old))
         (W.contents writer.old) (W.contents writer.new) result }
     ensures unread { asks_reader task.now ≡ false → reader.new ≡ reader.old }
-    ensures files { file_of task.now ≡ None → files.new ≡ files.old }
+    ensures files { AltersAtMost F.alters (file_of task.now) files.old files.new }
     ensures kept { UnlessLate (files.new ≡ files.old) result }
     ensures early { IfOfWord (reader.new ≡ reader.old) result }
 {

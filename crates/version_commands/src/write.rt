@@ -5,8 +5,8 @@ ghost use Rattle.version_commands.specs.Arranged.{placed, policy};
 ghost use Rattle.version_commands.specs.Early.{UnlessLate};
 ghost use Rattle.version_commands.specs.Ends.{Ends};
 ghost use Rattle.version_commands.specs.Fault.{ComesOfPut};
-ghost use Rattle.version_commands.specs.Files.{Leaves};
-ghost use Rattle.version_commands.specs.Ordered.{put_of, IsPlaced};
+ghost use Rattle.version_commands.specs.Files.{AltersAtMost, Leaves};
+ghost use Rattle.version_commands.specs.Ordered.{bad_file, put_of, IsPlaced};
 ghost use Rattle.version_lines.specs.Lines.{lines_output, output_by, whole_line};
 ghost use Rattle.version_lines.specs.Output.{AppendsProperBeginning, AppendsUpTo};
 
@@ -33,7 +33,7 @@ pub fn write_lines<'w, L: Rows, F: Files, W: Write>(
     ensures ends { Ends (IsPlaced options.now (map (λ line. line.now) bad.now.lines.items)
         (L.lines rows.now) (Leaves F.puts files.old files.new)) (ComesOfPut options.now)
         (W.contents writer.old) (W.contents writer.new) result }
-    ensures files { options.now.invalid_to ≡ None → files.new ≡ files.old }
+    ensures files { AltersAtMost F.alters (bad_file options.now) files.old files.new }
     ensures kept { UnlessLate (files.new ≡ files.old) result }
 {
     let mut buffer = make_buffer(alloc)?;
@@ -114,7 +114,7 @@ fn put_bad<'w, F: Files>(
 ) -> Result<(), Fault<'w>>
     ensures put { OnOk result (Leaves F.puts files.old files.new
         (put_of options.now (map (λ line. line.now) bad.now.lines.items))) }
-    ensures files { options.now.invalid_to ≡ None → files.new ≡ files.old }
+    ensures files { AltersAtMost F.alters (bad_file options.now) files.old files.new }
     ensures faults { IfErr result (ComesOfPut options.now) }
 {
     let Some(name) = options.invalid_to else {

@@ -23,7 +23,7 @@ pub fn run<'w, F: Files, R: Read, W: Write>(
     reader: &mut R,
     writer: &mut W,
 ) -> Result<(), Fault<'w>>
-    ensures { RunsBy F.reads F.puts R.remaining files.old files.new reader.old reader.new
+    ensures { RunsBy F.reads F.puts F.alters R.remaining files.old files.new reader.old reader.new
         (W.contents writer.old) (W.contents writer.new) (Means (map string_bytes words.now))
         (IsOfWords (map string_bytes words.now)) Task result }
 {

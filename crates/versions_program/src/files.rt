@@ -17,6 +17,8 @@ impl Files for SystemFiles<'_> {
 
     ghost puts = { λ _ _ _ _. ⊤ };
 
+    ghost alters = { λ _ _ _. ⊤ };
+
     fn read_onto(&self, name: &str, input: &mut Vec<u8>) -> Result<(), Trouble> {
         let Ok(mut file) = fs::File::open(self.rt, name) else {
             return Err(Trouble::System);
