@@ -37,7 +37,7 @@ ifndef C_LIBRARY
 C_LIBRARY := c/out$(of_target)
 header := c/versions.h
 built := $(C_LIBRARY)/versions.pc
-$(built): crates.txt c/build c/target c/pkg-config-file c/versions.c c/versions.h \
+$(built): crates.txt c/build c/target c/pkg-config-file c/declarations.py c/versions.3.in c/versions.c c/versions.h \
   $(call sources,version_rules version_texts version_tasks versions_c)
 	c/build --target $(TARGET) $(C_LIBRARY)
 else
@@ -99,7 +99,7 @@ install: folders all
 	$(pc) | install -m 644 /dev/stdin $(lib)/pkgconfig/versions.pc
 	install -m 644 "$$EXTENSION" $(lib)/sqlite3/versions.so
 	install -m 644 docs/man/vers.1 $(man)/man1/vers.1
-	install -m 644 docs/man/versions.3 $(man)/man3/versions.3
+	install -m 644 "$$C_LIBRARY/versions.3" $(man)/man3/versions.3
 	install -m 755 "$$VERSIONS" $(bin)/versions
 	install -m 644 docs/man/versions.1 $(man)/man1/versions.1
 	install -d $(data)/bash-completion/completions $(data)/fish/vendor_completions.d $(zsh)

@@ -49,16 +49,16 @@ extern "C" {
 #define VERSIONS_VERSION_PATCH 0
 
 /* The statuses. */
-#define VERSIONS_OK 0
+#define VERSIONS_OK 0               /* success */
 #define VERSIONS_NO_VERSION 1       /* the text is not a version */
-#define VERSIONS_NO_VERSION_A 2     /* the first of two texts is not a version */
-#define VERSIONS_NO_VERSION_B 3     /* the second of two texts is not a version */
-#define VERSIONS_NO_VERSION_AB 4    /* neither of two texts is a version */
+#define VERSIONS_NO_VERSION_A 2     /* the first text is not a version */
+#define VERSIONS_NO_VERSION_B 3     /* the second text is not a version */
+#define VERSIONS_NO_VERSION_AB 4    /* neither text is a version */
 #define VERSIONS_NO_REQUIREMENTS 5  /* the list does not parse as a list of requirements */
 #define VERSIONS_NO_NUMBER 6        /* the version has no number at that place, or no epoch */
 #define VERSIONS_NO_ROOM 7          /* a buffer for keys, for a bound or for a text is too small */
 #define VERSIONS_BAD_OFFSETS 8      /* an offset is bad, or the lengths of two arrays do not match */
-#define VERSIONS_NO_MEMORY 9        /* reserved for an allocation failure; no call allocates, and none returns this */
+#define VERSIONS_NO_MEMORY 9        /* memory allocation failed; reserved: no call allocates, and none returns this */
 #define VERSIONS_NULL 10            /* a pointer is null, and what it should point to is not empty */
 #define VERSIONS_NO_FIELD 11        /* the version has no such field */
 #define VERSIONS_NO_WRONG_MEMBER 12 /* each member of the list is a requirement */

@@ -1416,8 +1416,9 @@ static void bad_offsets(void) {
   refused_offsets(good, 0, 0);
 }
 
-// Every status has its own text.
+// Every status has its own text, its comment in the header up to a semicolon.
 static void statuses(void) {
+  CHECK(strcmp(versions_status_text(VERSIONS_NO_MEMORY), "memory allocation failed") == 0);
   for (int a = VERSIONS_OK; a <= VERSIONS_NO_NEXT + 1; a++) {
     CHECK(strlen(versions_status_text(a)) > 5);
     for (int b = VERSIONS_OK; b < a; b++) CHECK(strcmp(versions_status_text(a), versions_status_text(b)) != 0);

@@ -58,6 +58,7 @@ use std::cmp::Ordering;
 struct Readme;
 
 mod bytes;
+mod declarations;
 mod difference;
 mod error;
 mod key;

@@ -1,0 +1,197 @@
+#!/usr/bin/env python3
+"""Reads c/versions.h, and writes what follows from its declarations:
+  c/declarations.py FORM
+FORM is one of these:
+  calls       the names of the calls
+  prototypes  those of the proved functions, for c/versions.c
+  functions   the calls, which refuse null pointers and call the proved functions, for c/versions.c
+  statuses    the texts of the statuses, for c/versions.c
+  symbols     debian/libversions0.symbols
+  rust        rust/src/declarations.rs
+  manual      the manual page versions(3), within c/versions.3.in
+What isn't written as the rest of the header is an error.
+"""
+import re
+import sys
+from pathlib import Path
+from typing import NamedTuple
+
+HERE = Path(__file__).resolve().parent
+FIRST = "0.1.0"  # the first version of the library that has a call, if its comment doesn't end with one: `Since 0.2.0.`
+# The types of C, and those of Rust. A `bool *` is a `*mut u8` there, which may get any byte.
+TYPES = {
+    "const char *": "*const c_char", "char *": "*mut c_char", "const uint8_t *": "*const u8", "uint8_t *": "*mut u8",
+    "const int64_t *": "*const i64", "int64_t *": "*mut i64", "uint64_t *": "*mut u64", "int32_t *": "*mut i32",
+    "uint32_t *": "*mut u32", "size_t *": "*mut usize", "bool *": "*mut u8", "size_t": "usize", "uint32_t": "u32",
+    "int": "c_int",
+}
+RETURNED = ("The statuses.", "The kinds.", "The stabilities, in their order.")  # the numbers that calls return
+PARAMETER = f"({'|'.join(re.escape(kind if kind.endswith('*') else kind + ' ') for kind in TYPES)})(\\w+)"
+CALL = re.compile(rf"(int |size_t |const char \*)(versions_\w+)\((void|{PARAMETER}(?:, {PARAMETER})*)\)")
+ITEM = re.compile(
+    r"\s*(?:#define (?P<number>VERSIONS_\w+) (?P<value>\d+) +/\* (?P<meaning>[^\n]*) \*/"
+    r"|#(?:define VERSIONS_(?:H|VERSION\w*)\b|if|endif|include)[^\n]*|extern \"C\" \{|\}"
+    r"|/\*(?P<comment>.*?)\*/|(?P<call>\w[^;{}#]*);)\s*",
+    re.S,
+)
+
+
+class Call(NamedTuple):
+    name: str
+    result: str
+    parameters: list  # the type and the name of each
+    paragraphs: list
+
+    def prototype(self, prefix=""):
+        parameters = ", ".join(spaced(*parameter) for parameter in self.parameters) or "void"
+        return f"{spaced(self.result, prefix + self.name)}({parameters})"
+
+    def since(self):
+        """The first version of the library that has the call."""
+        found = re.fullmatch(r"Since (\d+\.\d+\.\d+)\.", self.paragraphs[-1])
+        return found[1] if found else FIRST
+
+
+class Header:
+    """What is declared in a text that is written as versions.h."""
+
+    def __init__(self, text):
+        self.paragraphs = []  # of the comment at the head
+        self.numbers = {}  # by what stands above some: the name, the value and the meaning of each
+        self.calls = {}  # by their names
+        above, heading, at = [], "", 0
+        while at < len(text):
+            item = ITEM.match(text, at)
+            call = item and CALL.fullmatch(" ".join((item["call"] or "").split()))
+            if not item or not self.fits(item, call, above, heading):
+                raise ValueError(f"versions.h: this isn't as the rest of the header: {text[at:].strip()[:200]}")
+            heading = item["number"] and (above[0] if above else heading)
+            if heading:
+                self.numbers.setdefault(heading, []).append((item["number"], item["value"], item["meaning"]))
+            if call:
+                parameters = [(kind.strip(), name) for kind, name in re.findall(PARAMETER, call[3])]
+                self.calls[call[2]] = Call(call[2], call[1].strip(), parameters, above)
+            above = paragraphs_of(item["comment"] or "")
+            if not self.paragraphs:
+                self.paragraphs, above = above, []
+            at = item.end()
+
+    def fits(self, item, call, above, heading):
+        """Whether each call has a comment, and each run of numbers; what follows a comment isn't another."""
+        if item["call"]:
+            return call and above and call[2] not in self.calls
+        return above or heading if item["number"] else not (item["comment"] and above)
+
+    def proved(self):
+        """The calls that crates/versions_c exports; the others return a text."""
+        return [call for call in self.calls.values() if call.result != "const char *"]
+
+
+def spaced(kind, name):
+    return kind + name if kind.endswith("*") else f"{kind} {name}"
+
+
+def paragraphs_of(comment):
+    text = re.sub(r"^ \* ?", "", comment.strip(), flags=re.M).removeprefix("* ")
+    return text.split("\n\n") if text else []
+
+
+def calls(header):
+    return sorted(header.calls)
+
+
+def prototypes(header):
+    return [f"{call.prototype('proved_')};" for call in header.proved()]
+
+
+def functions(header):
+    """The calls. A pointer before a length is to an array, and may be null where the length is 0; another may not be
+    null. A call that writes nothing returns its answer, which is no status, so it returns -VERSIONS_NULL.
+    """
+    made = []
+    for call in header.proved():
+        null, passed, refused = [], [], "-VERSIONS_NULL"
+        for (kind, name), (next_kind, next_name) in zip(call.parameters, [*call.parameters[1:], ("", "")]):
+            is_pointer, is_const = kind.endswith("*"), kind.startswith("const ")
+            is_array = is_pointer and next_kind == "size_t"
+            passed.append(f"{'from' if is_const else 'to'}({name})" if is_array else name)
+            if is_pointer:
+                null.append(f"lacks({name}, {next_name})" if is_array else f"{name} == NULL")
+                if not is_const:
+                    refused = "VERSIONS_NULL"
+        made += [call.prototype() + " {"]
+        made += [f"  if ({' || '.join(null)}) return {refused};"] if null else []
+        made += [f"  return proved_{call.name}({', '.join(passed)});", "}"]
+    return made
+
+
+def statuses(header):
+    """The text of a status is what the header says of it, up to a semicolon."""
+    return [f'case {name}: return "{meaning.split(";")[0]}";' for name, _, meaning in header.numbers["The statuses."]]
+
+
+def symbols(header):
+    lines = [f" {call.name}@Base {call.since()}" for _, call in sorted(header.calls.items())]
+    return ["libversions.so.0 libversions0 #MINVER#", *lines]
+
+
+def rust(header):
+    """In the layout of rustfmt."""
+    made = [
+        "//! What `versions.h` declares, as `c/declarations.py rust` writes it. A `bool *` of C is a",
+        "//! `*mut u8`, which may get any byte without undefined behavior.", "#![allow(dead_code)]", "",
+        "use std::os::raw::{c_char, c_int};",
+    ]
+    for heading, numbers in header.numbers.items():
+        kind = "c_int" if heading in RETURNED else "u32"
+        made += ["", *(f"pub const {name.removeprefix('VERSIONS_')}: {kind} = {value};" for name, value, _ in numbers)]
+    made += ["", 'extern "C" {']
+    for call in header.calls.values():
+        parameters = [f"{name}: {TYPES[kind]}" for kind, name in call.parameters]
+        opening, end = f"    pub fn {call.name}(", f") -> {TYPES[call.result]};"
+        line = opening + ", ".join(parameters) + end
+        made += [line] if len(line) <= 100 else [opening, *(f"        {each}," for each in parameters), "    " + end]
+    return [*made, "}"]
+
+
+def manual(header):
+    made = {"texts": [], "calls": [], "statuses": listed(header.numbers["The statuses."]), "numbers": []}
+    for heading, numbers in list(header.numbers.items())[1:]:
+        made["numbers"] += [".SS " + heading.rstrip("."), *listed(numbers)]
+    for paragraph in header.paragraphs[1:]:
+        title, text = re.fullmatch(r"(?:(\w+(?: \w+)?)\. )?(.*)", paragraph, re.S).groups()
+        made["texts"] += [f".SS {title}" if title else ".PP", roff(text)]
+    for call in header.calls.values():
+        # Each parameter is one word, so that lines end between them.
+        parameters = [rf"{spaced(kind, '')}\fI{name}\fB".replace(" ", r"\ ") for kind, name in call.parameters]
+        made["calls"] += [".HP 4", rf"\fB{spaced(call.result, call.name)}({', '.join(parameters) or 'void'});\fR"]
+        for paragraph in call.paragraphs:
+            made["calls"] += [".IP", roff(paragraph, [name for _, name in call.parameters if "_" in name])]
+    page = (HERE / "versions.3.in").read_text(encoding="ascii").splitlines()
+    return sum((made[line.strip("@")] if line.startswith("@") else [line] for line in page), [])
+
+
+def listed(numbers):
+    return [f'.TP\n.BR {name} " ({value})"\n{roff(meaning)}' for name, value, meaning in numbers]
+
+
+def roff(text, parameters=()):
+    """A paragraph, with calls and numbers in bold, and in italics what is quoted, pointed to or a parameter."""
+    for sign, escaped in ("\\", r"\e"), ("-", r"\-"), ("'", r"\(aq"), ("^", r"\(ha"), ("~", r"\(ti"):
+        text = text.replace(sign, escaped)
+    if text.startswith("    "):
+        return "\n".join([".nf", *(line[4:] for line in text.splitlines()), ".fi"])
+    text = re.sub(r"(\\-)?\bVERSIONS_\w+|\bversions_\w+", r"\\fB\g<0>\\fR", " ".join(text.split()))
+    passed = "|".join([r"`[^`]+`", r"\*\w+", r"\b\w+\[[^]]+\]", *(rf"\b{name}\b" for name in parameters)])
+    return re.sub(passed, lambda found: rf"\fI{found[0].strip('`')}\fR", text)
+
+
+FORMS = {form.__name__: form for form in (calls, prototypes, functions, statuses, symbols, rust, manual)}
+
+if __name__ == "__main__":
+    if len(sys.argv) != 2 or sys.argv[1] not in FORMS:
+        sys.exit(__doc__)
+    try:
+        print(*FORMS[sys.argv[1]](Header((HERE / "versions.h").read_text(encoding="ascii"))), sep="\n")
+    except ValueError as error:
+        sys.exit(f"c/declarations.py: {error}")
