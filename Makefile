@@ -5,8 +5,9 @@
 # BINDIR, LIBDIR, INCLUDEDIR, MANDIR, DATADIR and ZSHDIR choose other folders than those below PREFIX. DESTDIR is
 # prepended to each path, and no installed file contains it. TARGET is what is built for, as c/target says. C_LIBRARY is
 # a folder of c/build, and VERS and VERSIONS are the programs; if set, they are installed unchanged. EXTENSION is the
-# file that the SQLite extension is built into. A release has all of these built, in a folder `built` beside this file,
-# and installs that.
+# file that the SQLite extension is built into. FROM_HELP is the folder for the manual page and the completions of
+# `versions`, which docs/man/from-help makes; VERSIONS_HERE is the program that it asks, which runs on this machine. A
+# release has all of these built, in a folder `built` beside this file, and installs that.
 PREFIX ?= /usr/local
 BINDIR ?= $(PREFIX)/bin
 LIBDIR ?= $(PREFIX)/lib
@@ -28,9 +29,11 @@ C_LIBRARY ?= built
 VERS ?= built/vers
 VERSIONS ?= built/versions
 EXTENSION ?= built/versions.so
+FROM_HELP ?= built
 else
 EXTENSION ?= sqlite/out$(of_target)/versions.so
-compiled := extension
+FROM_HELP ?= docs/man/out
+made := extension from_help
 endif
 
 ifndef C_LIBRARY
@@ -53,26 +56,40 @@ $(VERS): crates.txt c/program c/target $(call sources,version_rules version_text
 endif
 
 # The program for people.
+of_versions = crates.txt c/program c/target $(call sources,version_rules version_texts version_tasks version_lines \
+  version_commands version_words versions_program)
 ifndef VERSIONS
 VERSIONS := c/out$(of_target)/versions
 built += $(VERSIONS)
-$(VERSIONS): crates.txt c/program c/target $(call sources,version_rules version_texts version_tasks version_lines \
-  version_commands version_words versions_program)
+$(VERSIONS): $(of_versions)
 	c/program --target $(TARGET) versions_program $(VERSIONS)
+endif
+ifeq ($(of_target),)
+VERSIONS_HERE ?= $(VERSIONS)
+endif
+ifndef VERSIONS_HERE
+VERSIONS_HERE := c/out/versions
+built += $(VERSIONS_HERE)
+$(VERSIONS_HERE): $(of_versions)
+	c/program versions_program $(VERSIONS_HERE)
 endif
 
 # Two proofs cannot run in one crate at once.
 .NOTPARALLEL:
 .DEFAULT_GOAL := all
-.PHONY: all extension folders install uninstall
-all: $(compiled)
+.PHONY: all extension from_help folders install uninstall
+all: $(made)
 
 # It takes a second and contains the library, which may be another one each time: so it is built each time.
 extension: $(built)
 	C_LIBRARY="$$C_LIBRARY" sqlite/build --target $(TARGET) "$$(dirname "$$EXTENSION")"
 
+from_help: $(built)
+	docs/man/from-help "$$VERSIONS_HERE" "$$FROM_HELP"
+
 # Folders reach the shell as variables, so that it takes each as it is.
 export PREFIX BINDIR LIBDIR INCLUDEDIR MANDIR DATADIR ZSHDIR DESTDIR C_LIBRARY VERS VERSIONS EXTENSION
+export VERSIONS_HERE FROM_HELP
 bin := "$$DESTDIR$$BINDIR"
 lib := "$$DESTDIR$$LIBDIR"
 include := "$$DESTDIR$$INCLUDEDIR"
@@ -101,11 +118,11 @@ install: folders all
 	install -m 644 docs/man/vers.1 $(man)/man1/vers.1
 	install -m 644 "$$C_LIBRARY/versions.3" $(man)/man3/versions.3
 	install -m 755 "$$VERSIONS" $(bin)/versions
-	install -m 644 docs/man/versions.1 $(man)/man1/versions.1
+	install -m 644 "$$FROM_HELP/versions.1" $(man)/man1/versions.1
 	install -d $(data)/bash-completion/completions $(data)/fish/vendor_completions.d $(zsh)
-	install -m 644 completions/versions.bash $(data)/bash-completion/completions/versions
-	install -m 644 completions/versions.fish $(data)/fish/vendor_completions.d/versions.fish
-	install -m 644 completions/_versions $(zsh)/_versions
+	install -m 644 "$$FROM_HELP/versions.bash" $(data)/bash-completion/completions/versions
+	install -m 644 "$$FROM_HELP/versions.fish" $(data)/fish/vendor_completions.d/versions.fish
+	install -m 644 "$$FROM_HELP/_versions" $(zsh)/_versions
 
 uninstall:
 	rm -f $(bin)/vers $(include)/versions.h $(lib)/libversions.a $(lib)/libversions.so $(lib)/libversions.so.0 \

@@ -8,7 +8,6 @@ import os
 import re
 import subprocess
 import sys
-import unittest
 
 import versions
 from lists import LongLists
@@ -18,7 +17,6 @@ sys.path.insert(0, os.path.join(HERE, "..", "..", "tests", "support"))
 from shapes import Shapes  # noqa: E402
 
 VERS = os.environ["VERS"]
-MODULE = [sys.executable, "-I", "-m", "versions"]
 SEED = os.environ.get("SEED", "one")
 TEXTS = 10_000
 SINGLE = 200  # how many `vers key` and `vers cmp` are asked for, a process each
@@ -26,47 +24,12 @@ PAIRS = int(os.environ.get("PAIRS", 20_000))
 LISTS = int(os.environ.get("LISTS", 600))
 PAIRS_OF_ONE = 500  # how many versions one `vers match` compares with another
 LINES_OF_LIST = 60  # and how many it matches against one list
-# Words, lines, and what a shell makes of the streams. The commands of the second line only write.
-COMMANDS = (
-    *((), ("ideal",), ("show",), ("sort",), ("match", "*"), ("match", ">9")),
-    *(("cmp", "1", "2"), ("cmp", "2", "1"), ("cmp", "1.0.0+a", "1.0.0+b"), ("key", "1.2.3"), ("key", "1:2_r3")),
-)
-WRONG_WORDS = (
-    *(("",), ("Show",), ("1.2",), ("--help",), ("ideal", "1"), ("show", "1"), ("sort", "1"), ("sort", "..")),
-    *(("match",), ("match", ""), ("match", "1"), ("match", "*,"), ("match", "é\n"), ("match", "*", "*")),
-    *(("cmp",), ("cmp", "1"), ("cmp", "", "1"), ("cmp", "1", ".."), ("cmp", "..", "."), ("cmp", "1", "2", "..")),
-    *(("key",), ("key", ""), ("key", "é\n"), ("key", "1", "2")),
-    *((b"\xff",), (b"show\xff",), ("match", b"\xe9"), ("cmp", "..", b"1\xff"), ("key", b"\xed\xa0\x80")),
-)
-LINES = (b"", b"\n", b"1.2.3\n1.2\n1_2\n1.2.3-1", b"1\n\n1\0\n1.2.3\r\n1.2-\xff\n1.2.3-\xc3\xa9\n1..2\n")
-STREAMS = ("</dev/null", "<&-", "0>/dev/null", ">&-", ">/dev/full", "1</dev/null", "2>&-", "2>/dev/full")
 SIGNS = {b"<\n": -1, b"=\n": 0, b">\n": 1}
 
 
-def drawn():
-    """The shapes, and lines of them."""
-    shapes = Shapes(SEED)
-    return shapes, [shapes.line() for _ in range(TEXTS)]
-
-
-def written(command, lines):
-    given = b"".join(line + b"\n" for line in lines)
-    return subprocess.run(command, input=given, stdout=subprocess.PIPE, check=True).stdout
-
-
 def vers(*words, lines=()):
-    return written([VERS, *words], lines)
-
-
-def here(*words, lines=()):
-    return written([*MODULE, *words], lines)
-
-
-def outcome(program, words, given=b"1.2.3\n", streams="", stdout=subprocess.PIPE):
-    """The status, the output and the complaint of a program, whose name the usage has."""
-    command = ["sh", "-c", f'exec "$@" {streams}', "sh", *program, *words]
-    done = subprocess.run(command, input=given, stdout=stdout, stderr=subprocess.PIPE)
-    return done.returncode, done.stdout, done.stderr.replace(b"usage: python -m versions ", b"usage: vers ")
+    given = b"".join(line + b"\n" for line in lines)
+    return subprocess.run([VERS, *words], input=given, stdout=subprocess.PIPE, check=True).stdout
 
 
 def is_accepted(requirement):
@@ -78,49 +41,11 @@ def text_of(line):
     return line.decode("utf-8", "surrogateescape")
 
 
-class Program(unittest.TestCase):
-    """`python -m versions` beside `vers`: what they write, and how they end."""
-
-    def assert_same(self, words, *how, **more):
-        wanted = outcome([VERS], words, *how, **more)
-        self.assertEqual(outcome(MODULE, words, *how, **more), wanted, (words, how))
-        return wanted
-
-    def test_lines(self):
-        ends = {self.assert_same(words, given)[0] for words in COMMANDS for given in LINES}
-        self.assertEqual(ends, {0, 1})
-
-    def test_wrong_words(self):
-        """The input can't be read. The words are checked before that is found."""
-        for words in WRONG_WORDS:
-            status, output, complaint = self.assert_same(words, b"", "0>/dev/null")
-            self.assertIn((status, output), {(1, b""), (2, b"")}, words)
-            self.assertNotEqual(complaint, b"", words)
-
-    def test_streams(self):
-        ends = {self.assert_same(words, b"1.2.3\n", how)[0] for words in (*COMMANDS, ("match",)) for how in STREAMS}
-        self.assertEqual(ends, {0, 2, 3})
-
-    def test_a_pipe_without_a_reader(self):
-        read, write = os.pipe()
-        os.close(read)
-        with os.fdopen(write, "wb") as unread:
-            ends = {self.assert_same(words, stdout=unread)[::2] for words in COMMANDS}
-        self.assertEqual(ends, {(0, b""), (3, b"write failed\n")})
-
-    def test_drawn_words(self):
-        shapes, lines = drawn()
-        short = [line for line in lines if len(line) < 1000 and b"\0" not in line]
-        for _ in range(SINGLE // 10):
-            a, b = shapes.random.sample(short, 2)
-            self.assert_same(("cmp", a, b))
-            self.assert_same(("key", a))
-
-
 class BesideVers(LongLists):
     @classmethod
     def setUpClass(cls):
-        cls.shapes, cls.lines = drawn()
+        cls.shapes = Shapes(SEED)
+        cls.lines = [cls.shapes.line() for _ in range(TEXTS)]
         cls.texts = [text_of(line) for line in cls.lines]
         cls.kinds = versions.kinds(cls.texts)
         cls.good = [line for line, kind in zip(cls.lines, cls.kinds) if kind is not None]
@@ -130,12 +55,9 @@ class BesideVers(LongLists):
         self.assertAlike([kind or "none" for kind in self.kinds], said)
         self.assertAlike(list(map(versions.kind, self.texts)), self.kinds)
         self.assertEqual({"ideal", "general", "complex", "none"}, set(said))
-        self.assertAlike(here("show", lines=self.lines), vers("show", lines=self.lines))
-        self.assertAlike(here(lines=self.lines), vers(lines=self.lines))
 
     def test_order(self):
         said = vers("sort", lines=self.good)
-        self.assertAlike(here("sort", lines=self.good), said)
         texts = [text_of(line) for line in said.split(b"\n")[:-1]]
         keys = versions.sort_keys(texts)
         self.assertAlike(keys, sorted(keys))
@@ -247,7 +169,6 @@ class BesideVers(LongLists):
             answers = versions.match_all(text, self.texts)
             self.assertAlike(b"".join(l + b"\n" for l, answer in zip(self.lines, answers) if answer), said, text)
             self.assertAlike([answer is None for answer in answers], [kind is None for kind in self.kinds])
-        self.assertAlike(here("match", text, lines=self.lines), said)
         wanted = versions.Requirement("^1.1.1")
         for text, kind, answer in zip(self.texts, self.kinds, versions.match_all(wanted, self.texts)):
             self.assertIs(text in wanted, answer is True)

@@ -20,7 +20,7 @@ SCRIPTS = ("tests/examples", "tests/unused")
 # The crates whose rows `tests/refused_memory` runs.
 MEMORY = ("vectors_memory", "vectors_runs")
 
-# Faults of docs/PROGRAM.md: the words, the input and the status. Nothing is written.
+# Faults of docs/VERS.md: the words, the input and the status. Nothing is written.
 FAULTS = (
     (["foo"], "", 2),
     (["ideal", "ideal"], "", 2),
@@ -38,8 +38,8 @@ COUNT = re.compile(r"(\d+) passed, (\d+) failed\n\Z")
 
 
 def examples_of_page():
-    """The examples of docs/PROGRAM.md with a prompt: the words, the input and the output."""
-    page = (TOP / "docs/PROGRAM.md").read_text()
+    """The examples of docs/VERS.md with a prompt: the words, the input and the output."""
+    page = (TOP / "docs/VERS.md").read_text()
     shown = re.search(r"```text\n(\$ .*?)```", page, re.S)[1]
     for command, output in re.findall(r"^\$ (.*)\n((?:(?!\$ ).*\n)*)", shown, re.M):
         words = shlex.split(command)

@@ -1,5 +1,5 @@
 //! The program `vers`: reads lines from standard input, and writes a command's output to standard output.
-//! docs/PROGRAM.md has its rules.
+//! docs/VERS.md has its rules.
 #![tactic(auto)]
 
 ghost use Rattle.std.specs.Prelude.{◌≡◌, MatchResult};

@@ -1,5 +1,5 @@
 //! The program `vers` over any reader and writer: `run` reads the words of a command, and does what they mean.
-//! docs/PROGRAM.md has its rules.
+//! docs/VERS.md has its rules.
 #![tactic(auto)]
 
 mod faults;

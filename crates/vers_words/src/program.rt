@@ -12,7 +12,7 @@ use version_commands::{Files, NoFiles, serve};
 
 /// Runs the command that the words name. `ideal`, `show`, `sort` and `match R` read the whole input and write their
 /// output for its lines; without words, the command is `ideal`. `cmp A B` and `key V` compare and key their words, and
-/// read nothing. docs/PROGRAM.md has their rules.
+/// read nothing. docs/VERS.md has their rules.
 ///
 /// It fails before it reads anything with [`Fault::Usage`] if the words are not a command, and with the first word that
 /// is not what it should be. The whole input is read and checked before anything is written, and all memory is taken

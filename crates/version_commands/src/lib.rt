@@ -1,5 +1,5 @@
 //! The tasks of the programs `versions` and `vers` over any files, reader and writer: `serve` reads the inputs of a task,
-//! and writes what it answers. docs/VERSIONS.md and docs/PROGRAM.md have their rules.
+//! and writes what it answers. docs/VERSIONS.md and docs/VERS.md have their rules.
 #![tactic(auto)]
 
 mod arrange;
