@@ -399,6 +399,19 @@ int versions_why_not(const char *list, size_t list_len, const char *text, size_t
                      uint32_t *why);
 
 /*
+ * Writes why the first member of a list of requirements that does not match a version does not, as a sentence in
+ * English: 1.4 is below >=1.5. It begins with the text of the version, and has no full stop.
+ *
+ * Writes the sentence into the first bytes of `why`, which has `room` bytes, without a byte 0 after it, and its length
+ * to *why_len, also with VERSIONS_NO_ROOM. To get the length alone, pass room 0 and a null pointer.
+ *
+ * Returns VERSIONS_OK, VERSIONS_NO_REQUIREMENTS (whatever the text is), VERSIONS_NO_VERSION, VERSIONS_ALL_MATCH if each
+ * member matches, or VERSIONS_NO_ROOM.
+ */
+int versions_why_text(const char *list, size_t list_len, const char *text, size_t text_len, char *why, size_t room,
+                      size_t *why_len);
+
+/*
  * Finds two members of a list of requirements that exclude each other, so that the list matches no version. The ranges
  * of the two have no version in common, as those of >=2 and <1: they have no kind in common, or the low bound of one is
  * not below the high bound of the other. If one member alone excludes every version, as ~1_2 does, it is given twice.

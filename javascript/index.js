@@ -34,6 +34,7 @@ const OK = 0;
 const NO_VERSION_B = 3;
 const NO_REQUIREMENTS = 5;
 const NO_NUMBER = 6;
+const NO_ROOM = 7;
 const ALL_MATCH = 15;
 const [PRE_RELEASE, RELEASE, METADATA] = [2, 3, 4];
 const [HAS_HIGH, IS_EXACT] = [8, 16];
@@ -385,12 +386,15 @@ export class Mismatch {
   }
 
   toString() {
-    return {
-      kind: `${this.version} is not of a kind that ${this.member} matches`,
-      below: `${this.version} is below ${this.member}`,
-      above: `${this.version} is above ${this.member}`,
-      parts: `${this.version} is within the bounds of ${this.member}, but its parts or fields differ`,
-    }[this.reason];
+    writeTwo(this.member, this.version);
+    const end = one + two;
+    const ask = (room) => call.versions_why_text(FROM, big(one), after(one), big(two), after(end), big(room), SLOTS[0]);
+    // Without room the library says how long the sentence is.
+    if (ask(0) !== NO_ROOM) return "";
+    const length = slot(0);
+    reserve(FIRST + end + length);
+    ask(length);
+    return binary(FIRST + end, FIRST + end + length);
   }
 }
 

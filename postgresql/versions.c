@@ -345,28 +345,26 @@ FUNCTIONS(version_next) {
   PG_RETURN_TEXT_P(next);
 }
 
-/* Why a version does not match a list, in a sentence, by the first member that does not match; NULL if it matches. */
-static Datum reason(FunctionCallInfo fcinfo, int status, Span list, Span version, const size_t *member, uint32_t why) {
-  static const char *const middles[] = {NULL, " is not of a kind that ", " is below ", " is above ",
-                                        " is within the bounds of "};
-  static const char *const ends[] = {NULL, " matches", "", "", ", but its parts or fields differ"};
-  StringInfoData said;
-  if (status != VERSIONS_OK) PG_RETURN_NULL();
-  initStringInfo(&said);
-  appendBinaryStringInfo(&said, version.bytes, (int)version.len);
-  appendStringInfoString(&said, middles[why]);
-  appendBinaryStringInfo(&said, list.bytes + member[0], (int)(member[1] - member[0]));
-  appendStringInfoString(&said, ends[why]);
-  PG_RETURN_TEXT_P(cstring_to_text_with_len(said.data, said.len));
+/* Why a version does not match a list, in a sentence; without the room for it the length alone. Returns the status. */
+static int why_not(Span list, Span version, char *why, size_t room, size_t *len) {
+  return versions_why_text(list.bytes, list.len, version.bytes, version.len, why, room, len);
+}
+
+/* That sentence, of a length that was told. */
+static Datum sentence(Span list, Span version, size_t len) {
+  text *why = palloc(VARHDRSZ + len);
+  SET_VARSIZE(why, VARHDRSZ + len);
+  why_not(list, version, VARDATA(why), len, &len);
+  return PointerGetDatum(why);
 }
 
 SQL_FUNCTION(version_why_not_text) {
   Span list = span_of(PG_GETARG_TEXT_PP(0)), span = span_of(PG_GETARG_TEXT_PP(1));
-  size_t member[2] = {0, 0};
-  uint32_t why = 0;
-  int status = versions_why_not(list.bytes, list.len, span.bytes, span.len, &member[0], &member[1], &why);
+  size_t len;
+  int status = why_not(list, span, NULL, 0, &len);
   if (status == VERSIONS_NO_REQUIREMENTS) report_no_requirement(list);
-  return reason(fcinfo, status, list, span, member, why);
+  if (status != VERSIONS_NO_ROOM) PG_RETURN_NULL();
+  return sentence(list, span, len);
 }
 
 SQL_FUNCTION(version_of_library) { PG_RETURN_TEXT_P(cstring_to_text(versions_version())); }
@@ -833,12 +831,12 @@ SQL_FUNCTION(version_matched_by) { return matches(PG_GETARG_DATUM(0), PG_GETARG_
 
 SQL_FUNCTION(version_why_not) {
   Span list = requirement_of(PG_GETARG_BYTEA_PP(0)).list, span = span_of(PG_GETARG_TEXT_PP(1));
-  size_t member[2] = {0, 0};
-  uint32_t why = 0;
-  int status = versions_why_not(list.bytes, list.len, span.bytes, span.len, &member[0], &member[1], &why);
+  size_t len;
+  int status = why_not(list, span, NULL, 0, &len);
   if (status == VERSIONS_NO_REQUIREMENTS) report_damaged_requirement();
   if (status == VERSIONS_NO_VERSION) report_damage(span);
-  return reason(fcinfo, status, list, span, member, why);
+  if (status != VERSIONS_NO_ROOM) PG_RETURN_NULL();
+  return sentence(list, span, len);
 }
 
 /*

@@ -355,23 +355,20 @@ static void version_matches(sqlite3_context *context, int count, sqlite3_value *
   }
 }
 
-/* Gives why a version does not match, by the first member of the list that does not. */
-static void give_reason(sqlite3_context *context, struct text text, struct text member, uint32_t why) {
-  static const char *const middles[] = {NULL, " is not of a kind that ", " is below ", " is above ",
-                                        " is within the bounds of "};
-  static const char *const ends[] = {NULL, " matches", "", "", ", but its parts or fields differ"};
-  sqlite3_str *sentence = sqlite3_str_new(NULL);
-  sqlite3_str_append(sentence, text.bytes, (int)text.len);
-  sqlite3_str_appendall(sentence, middles[why]);
-  sqlite3_str_append(sentence, member.bytes, (int)member.len);
-  sqlite3_str_appendall(sentence, ends[why]);
-  give_text(context, sqlite3_str_finish(sentence));
+/* Gives why a version does not match a list, of a length that versions_why_text has told. */
+static void give_why(sqlite3_context *context, struct text list, struct text text, size_t len) {
+  char *why = sqlite3_malloc64(len);
+  if (why && versions_why_text(list.bytes, list.len, text.bytes, text.len, why, len, &len) == VERSIONS_OK) {
+    sqlite3_result_text64(context, why, len, sqlite3_free, SQLITE_UTF8);
+  } else {
+    sqlite3_free(why);
+    sqlite3_result_error_nomem(context);
+  }
 }
 
 static void version_why_not(sqlite3_context *context, int count, sqlite3_value **values) {
-  struct text list = text_of(values[0]), text = text_of(values[1]), member;
-  size_t start, end;
-  uint32_t why;
+  struct text list = text_of(values[0]), text = text_of(values[1]);
+  size_t len;
   (void)count;
   if (!list.bytes || !text.bytes) {
     sqlite3_result_error_nomem(context);
@@ -381,12 +378,8 @@ static void version_why_not(sqlite3_context *context, int count, sqlite3_value *
     sqlite3_result_null(context);
     return;
   }
-  switch (versions_why_not(list.bytes, list.len, text.bytes, text.len, &start, &end, &why)) {
-    case VERSIONS_OK:
-      member.bytes = list.bytes + start;
-      member.len = end - start;
-      give_reason(context, text, member, why);
-      break;
+  switch (versions_why_text(list.bytes, list.len, text.bytes, text.len, NULL, 0, &len)) {
+    case VERSIONS_NO_ROOM: give_why(context, list, text, len); break;
     case VERSIONS_NO_REQUIREMENTS: give_no_requirement(context, list, sqlite3_value_type(values[0])); break;
     default: sqlite3_result_null(context);
   }

@@ -1270,6 +1270,37 @@ static void worked_exclusions(void) {
   CHECK(start == 77 && end == 77 && why == 77);
 }
 
+// The same as a sentence. An empty one stands for a list that matches.
+static void worked_sentences(void) {
+  static const struct {
+    const char *list, *text, *why;
+  } worked[] = {
+      {">=1.5", "1.4", "1.4 is below >=1.5"},
+      {">=1,<2", "2.0", "2.0 is above <2"},
+      {"*,^1.2", "1.2.5", "1.2.5 is not of a kind that ^1.2 matches"},
+      {"=1.0", "0:1.0", "0:1.0 is within the bounds of =1.0, but its parts or fields differ"},
+      {">=1,<2", "1.5", ""},
+  };
+  for (size_t i = 0; i < sizeof worked / sizeof *worked; i++) {
+    const char *list = worked[i].list, *text = worked[i].text, *why = worked[i].why;
+    char said[80];
+    size_t length = strlen(why), len = 77;
+    memset(said, '#', sizeof said);
+    int status = versions_why_text(list, strlen(list), text, strlen(text), NULL, 0, &len);
+    CHECK(status == (length == 0 ? VERSIONS_ALL_MATCH : VERSIONS_NO_ROOM) && len == (length == 0 ? 77 : length));
+    if (length == 0) continue;
+    status = versions_why_text(list, strlen(list), text, strlen(text), said, length - 1, &len);
+    CHECK(status == VERSIONS_NO_ROOM && len == length && said[0] == '#');
+    status = versions_why_text(list, strlen(list), text, strlen(text), said, sizeof said, &len);
+    CHECK(status == VERSIONS_OK && len == length && memcmp(said, why, length) == 0 && said[length] == '#');
+  }
+  size_t len = 77;
+  char said[80] = "#";
+  CHECK(versions_why_text(">2,", 3, "1..2", 4, said, sizeof said, &len) == VERSIONS_NO_REQUIREMENTS);
+  CHECK(versions_why_text(">2", 2, "1..2", 4, said, sizeof said, &len) == VERSIONS_NO_VERSION);
+  CHECK(len == 77 && said[0] == '#');
+}
+
 // Two members that exclude each other. A place of 77 stands for none.
 static void worked_conflicts(void) {
   static const struct {
@@ -1871,6 +1902,7 @@ int main(int count, char **words) {
     worked_next();
     worked_members();
     worked_exclusions();
+    worked_sentences();
     worked_conflicts();
     worked_fields();
     worked_epochs();

@@ -1,5 +1,5 @@
-// Makes every call of versions.h on the lines of standard input, and writes what each returns and writes: tests/arm
-// compares that on two processors, whose numbers have the same bytes.
+// Makes every call of versions.h on the lines of standard input, and writes what each returns and writes:
+// tests/processors compares that on two processors, whose numbers have the same bytes.
 #include <stdio.h>
 #include <stdlib.h>
 #include <string.h>
@@ -83,12 +83,15 @@ static void of_two(const char *a, size_t a_len, const char *b, size_t b_len) {
 }
 
 static void of_list(const char *list, size_t list_len, const char *text, size_t text_len) {
-  size_t low_len = 0, high_len = 0, members_len = 0;
+  size_t why_len = 0, low_len = 0, high_len = 0, members_len = 0;
   uint32_t flags = 0;
   answer(versions_matches(list, list_len, text, text_len, NUMBER(bool, 0)));
   answer(versions_why_not(list, list_len, text, text_len, NUMBER(size_t, 0), NUMBER(size_t, 1), NUMBER(uint32_t, 2)));
+  int status = versions_why_text(list, list_len, text, text_len, (char *)buffer, ROOM, &why_len);
+  numbers[0] = why_len;
+  answer_with(status, why_len);
   answer(versions_conflict(list, list_len, NUMBER(size_t, 0), NUMBER(size_t, 1), NUMBER(size_t, 2), NUMBER(size_t, 3)));
-  int status = versions_inexact(list, list_len, (char *)buffer, ROOM, &members_len);
+  status = versions_inexact(list, list_len, (char *)buffer, ROOM, &members_len);
   numbers[0] = members_len;
   answer_with(status, members_len);
   status = versions_range(list, list_len, buffer, ROOM, &low_len, other_buffer, ROOM, &high_len, &flags);

@@ -100,6 +100,9 @@ static void digest_one(struct text a, struct text b, struct text list) {
   CLEAR, digest_slots("wrong_member", versions_wrong_member(list.at, list.length, SIZE(0), SIZE(1)), 2, 8);
   CLEAR, digest_slots("wrong_member", versions_wrong_member(a.at, a.length, SIZE(0), SIZE(1)), 2, 8);
   CLEAR, digest_slots("why_not", versions_why_not(list.at, list.length, a.at, a.length, SIZE(0), SIZE(1), U32(2)), 3, 8);
+  CLEAR;
+  if (digest_slots("why_text", versions_why_text(list.at, list.length, a.at, a.length, (char *)out, room, SIZE(0)), 1, 8))
+    digest("why_text", out, slots[0]);
   CLEAR, digest_slots("conflict", versions_conflict(list.at, list.length, SIZE(0), SIZE(1), SIZE(2), SIZE(3)), 4, 8);
   CLEAR;
   int status = versions_range(list.at, list.length, out, room, SIZE(0), high, room, SIZE(1), U32(2));

@@ -76,6 +76,7 @@ export function digest(library, lines, lists) {
     ask("wrong_member", [...wanted, SLOTS[0], SLOTS[1]], 2);
     ask("wrong_member", [...a, SLOTS[0], SLOTS[1]], 2);
     ask("why_not", [...wanted, ...a, SLOTS[0], SLOTS[1], SLOTS[2]], 3);
+    written("why_text", ask("why_text", [...wanted, ...a, ...key, SLOTS[0]], 1), slot(0));
     ask("conflict", [...wanted, SLOTS[0], SLOTS[1], SLOTS[2], SLOTS[3]], 4);
     const high = [BigInt(out + room), BigInt(room)];
     if (ask("range", [...wanted, ...key, SLOTS[0], ...high, SLOTS[1], SLOTS[2]], 3) === 0) {

@@ -228,6 +228,36 @@ static PyObject *next(PyObject *Py_UNUSED(module), PyObject *args) {
   return none_or_raise(status, object);
 }
 
+static int ask_why(const struct text *list, const struct text *version, char *room, size_t *size) {
+  PyThreadState *thread = let_go(list->size + version->size);
+  int status = versions_why_text(list->bytes, list->size, version->bytes, version->size, room, *size, size);
+
+  take_again(thread);
+  return status;
+}
+
+/* why_text(list, version): a sentence that says why the version doesn't match; it is empty where it does */
+static PyObject *why_text(PyObject *Py_UNUSED(module), PyObject *args) {
+  PyObject *of_list, *of_version, *said = NULL;
+  struct text list, version;
+  size_t size = 0;
+  char *room;
+  int status;
+
+  if (!PyArg_ParseTuple(args, "OO:why_text", &of_list, &of_version)) return NULL;
+  if (read_text(of_list, &list) < 0 || read_text(of_version, &version) < 0) return NULL;
+  status = ask_why(&list, &version, NULL, &size);
+  if (status == VERSIONS_ALL_MATCH) return PyUnicode_FromStringAndSize(NULL, 0);
+  if (status == VERSIONS_NO_REQUIREMENTS) return raise_invalid("InvalidRequirement", of_list);
+  if (status != VERSIONS_NO_ROOM) return none_or_raise(status, of_version);
+  room = allocated(size, 1);
+  if (room == NULL) return PyErr_NoMemory();
+  status = ask_why(&list, &version, room, &size);
+  if (status == VERSIONS_OK) said = PyUnicode_FromStringAndSize(room, (Py_ssize_t)size);
+  PyMem_Free(room);
+  return status == VERSIONS_OK ? said : raise_status(status);
+}
+
 /* in_tag(tag, prefix): the text of the version in a tag, after the prefix where that is not None */
 static PyObject *in_tag(PyObject *Py_UNUSED(module), PyObject *args) {
   PyObject *object, *before;
@@ -1080,6 +1110,7 @@ static PyMethodDef functions[] = {
     {"stability", stability, METH_O, NULL},
     {"wrong_member", wrong_member, METH_O, NULL},
     {"conflict", conflict, METH_O, NULL},
+    {"why_text", why_text, METH_VARARGS, NULL},
     {NULL, NULL, 0, NULL},
 };
 

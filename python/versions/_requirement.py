@@ -43,7 +43,7 @@ class Reason(enum.Enum):
 
 
 class Mismatch(NamedTuple):
-    """Why a requirement doesn't match a version, with a sentence as its `str`.
+    """Why a requirement doesn't match a version, with a sentence as its `str`, which the library writes.
 
     `member` is the first member that doesn't match. It is the requirement's text from `start` up to `end`.
     """
@@ -55,15 +55,7 @@ class Mismatch(NamedTuple):
     reason: Reason
 
     def __str__(self) -> str:
-        return _SENTENCES[self.reason].format(self)
-
-
-_SENTENCES = {
-    Reason.KIND: "{0.version} is not of a kind that {0.member} matches",
-    Reason.BELOW: "{0.version} is below {0.member}",
-    Reason.ABOVE: "{0.version} is above {0.member}",
-    Reason.PARTS: "{0.version} is within the bounds of {0.member}, but its parts or fields differ",
-}
+        return _library.why_text(self.member, self.version)
 
 
 class Requirement(Value, _library.Ranged):

@@ -179,6 +179,15 @@ extern "C" {
         end: *mut usize,
         why: *mut u32,
     ) -> c_int;
+    pub fn versions_why_text(
+        list: *const c_char,
+        list_len: usize,
+        text: *const c_char,
+        text_len: usize,
+        why: *mut c_char,
+        room: usize,
+        why_len: *mut usize,
+    ) -> c_int;
     pub fn versions_conflict(
         list: *const c_char,
         list_len: usize,

@@ -386,13 +386,7 @@ pub fn next(text: &str, place: usize) -> Option<String> {
         (status, length) = next_into(text, place, &mut room);
     }
     match status {
-        OK => {
-            room.truncate(fitting("versions_next", length, room.len()));
-            match String::from_utf8(room) {
-                Ok(next) => Some(next),
-                Err(error) => unexpected("versions_next", "text", error),
-            }
-        }
+        OK => Some(written("versions_next", room, length)),
         NO_NEXT => None,
         _ => unexpected("versions_next", "status", status),
     }
@@ -443,6 +437,46 @@ pub fn why_not(list: &str, text: &str) -> Option<(Range<usize>, Reason)> {
         _ => unexpected("versions_why_not", "status", status),
     };
     Some((member("versions_why_not", list, from, to), reason))
+}
+
+/// Why a version does not match a list, in a sentence. Panics where it does match, `list` is not a list
+/// of requirements, or the text is not a version.
+pub fn why_text(list: &str, text: &str) -> String {
+    let (_, length) = why_text_into(list, text, &mut []);
+    let mut room = vec![0; length];
+    match why_text_into(list, text, &mut room) {
+        (OK, length) => written("versions_why_text", room, length),
+        (status, _) => unexpected("versions_why_text", "status", status),
+    }
+}
+
+/// Writes that sentence to the beginning of `room`, if it has the room. The status, and the
+/// sentence's length.
+fn why_text_into(list: &str, text: &str, room: &mut [u8]) -> (c_int, usize) {
+    let mut length = 0;
+    // SAFETY: each pointer has the length of its text, which is only read. `room` and `length` are
+    // written, and overlap with nothing, as they are borrowed mutably.
+    let status = unsafe {
+        versions_why_text(
+            start(list),
+            list.len(),
+            start(text),
+            text.len(),
+            room.as_mut_ptr().cast(),
+            room.len(),
+            &mut length,
+        )
+    };
+    (status, length)
+}
+
+/// The text that a call has written to the beginning of `room`.
+fn written(call: &str, mut room: Vec<u8>, length: usize) -> String {
+    room.truncate(fitting(call, length, room.len()));
+    match String::from_utf8(room) {
+        Ok(text) => text,
+        Err(error) => unexpected(call, "text", error),
+    }
 }
 
 /// Where two members of a list lie that exclude each other; `None` where there are none. Panics where

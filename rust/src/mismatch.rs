@@ -1,6 +1,8 @@
 use std::fmt;
 use std::ops::Range;
 
+use crate::library;
+
 /// Why a requirement doesn't match a version: what
 /// [`Requirement::why_not`](crate::Requirement::why_not) returns. It lends the texts of both.
 ///
@@ -57,18 +59,10 @@ impl<'a> Mismatch<'a> {
     }
 }
 
-/// A sentence, as `1.4 is below >=1.5`.
+/// A sentence, as `1.4 is below >=1.5`, which the library writes. Width and precision apply as to a
+/// `str`.
 impl fmt::Display for Mismatch<'_> {
     fn fmt(&self, f: &mut fmt::Formatter<'_>) -> fmt::Result {
-        let (version, member) = (self.version(), self.member());
-        match self.reason {
-            Reason::Kind => write!(f, "{version} is not of a kind that {member} matches"),
-            Reason::Below => write!(f, "{version} is below {member}"),
-            Reason::Above => write!(f, "{version} is above {member}"),
-            Reason::Parts => write!(
-                f,
-                "{version} is within the bounds of {member}, but its parts or fields differ"
-            ),
-        }
+        f.pad(&library::why_text(self.member(), self.version()))
     }
 }

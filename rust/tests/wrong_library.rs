@@ -182,6 +182,13 @@ fn statuses_of_other_calls() {
             unexpected("versions_conflict", status)
         );
     }
+    // The member is what follows the `d`.
+    let (list, general) = (requirement("v0d9"), version("v1"));
+    let mismatch = list.why_not(&general).unwrap();
+    assert_eq!(
+        panic(|| mismatch.to_string()),
+        unexpected("versions_why_text", "status 9")
+    );
     let status = unexpected("versions_match_all", "status 5");
     assert_eq!(panic(|| match_all(&wanted, &["v5"])), status);
     for (text, status) in [("v5", "status 5"), ("v7", "status 7"), ("v10", "status 10")] {

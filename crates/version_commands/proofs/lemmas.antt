@@ -5,7 +5,6 @@ pub mod Fault
 pub mod Fields
 pub mod Inputs
 pub mod Lists
-pub mod Members
 pub mod Ordered
 pub mod Picked
 pub mod Pieces

@@ -1,15 +1,16 @@
 //! The command `why`: which member of a list of requirements excludes a version, and which two exclude each other.
 
-ghost use Rattle.std.specs.Prelude.{◌≡◌, ◌≤◌, ◌++◌, length, IsSome, OnOk};
+ghost use Rattle.std.specs.Prelude.{◌≡◌, ◌∷◌, ◌++◌, [], IsSome, OnOk};
 ghost use Rattle.version_commands.specs.Pieces.{Adds};
-ghost use Rattle.version_commands.specs.Why.{conflict_line, reason_line, text_between, IsConflictText, IsWhyLine};
+ghost use Rattle.version_commands.specs.Why.{conflict_line, IsConflictText, IsWhyLine};
 ghost use Rattle.version_rules.specs.Requirements.{requirements_of};
 ghost use Rattle.version_texts.specs.Conflict.{ExcludeEachOther};
 ghost use Rattle.version_texts.specs.VersioningRef.{plain_versioning_ref};
+ghost use Rattle.version_texts.specs.Why.{reason_text};
 
 use crate::pieces::add_pieces;
 use std::alloc::AllocError;
-use version_texts::{Conflict, VersioningRef, Why, conflict_in, why_not};
+use version_texts::{Conflict, VersioningRef, Why, conflict_in, text_between, why_not};
 
 /// Adds the line for a version: that a list matches it, or which member is the first that does not, and why.
 pub(crate) fn add_why(
@@ -55,32 +56,14 @@ fn add_reason(
     output: &mut Vec<u8>,
 ) -> Result<(), AllocError>
     ensures { OnOk result (output.new.items
-        ≡ output.old.items ++ reason_line end why version.now member.now) }
+        ≡ output.old.items ++ (reason_text why version.now member.now ++ end ∷ [])) }
 {
-    match why {
-        Why::Kind => add_pieces(
-            output,
-            &[
-                version,
-                b" is not of a kind that ",
-                member,
-                b" matches",
-                &[end],
-            ],
-        ),
-        Why::Below => add_pieces(output, &[version, b" is below ", member, &[end]]),
-        Why::Above => add_pieces(output, &[version, b" is above ", member, &[end]]),
-        Why::Parts => add_pieces(
-            output,
-            &[
-                version,
-                b" is within the bounds of ",
-                member,
-                b", but its parts or fields differ",
-                &[end],
-            ],
-        ),
-    }
+    let (between, after) = why.words();
+    output.extend_from_slice(version)?;
+    output.extend_from_slice(between.as_bytes())?;
+    output.extend_from_slice(member)?;
+    output.extend_from_slice(after.as_bytes())?;
+    output.extend_from_slice(&[end])
 }
 
 // Adds the line for members that exclude each other.
@@ -103,13 +86,4 @@ fn add_conflict_line(
         output,
         &[one, b" and ", other, b" exclude each other", &[end]],
     )
-}
-
-// Returns the text between two places of another.
-fn text_between(text: &[u8], start: usize, end: usize) -> &[u8]
-    requires order { start ≤ end }
-    requires within { end ≤ length text.now }
-    ensures { result.now ≡ text_between text.now start end }
-{
-    &text[start..end]
 }

@@ -11,6 +11,7 @@ pub mod General
 pub mod KeyRoom
 pub mod KeyTies
 pub mod Matching
+pub mod MemberPlace
 pub mod Numbers
 pub mod Parts
 pub mod Piece

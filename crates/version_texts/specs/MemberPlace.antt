@@ -1,8 +1,12 @@
 -- Where a member of a list of requirements lies in its text.
-use Rattle.std.specs.Prelude.{◌≡◌, ℕ, ◌+◌, List, ◌∷◌, ◌++◌, length, Option, Some, IsSomeAnd}
+use Rattle.std.specs.Prelude.{◌≡◌, ℕ, ◌+◌, ◌-◌, List, ◌∷◌, ◌++◌, drop, length, take, Option, Some, IsSomeAnd}
 use Rattle.std.specs.List.{All, sum_by}
 use Rattle.version_rules.specs.Requirement.{PlainRequirement, requirement_of}
 use Rattle.version_texts.specs.Members.{cut_at_commas}
+
+-- the text between two places of another
+abbrev pub text_between : List ℕ → ℕ → ℕ → List ℕ
+text_between text start end = take (end - start) (drop start text)
 
 -- how many bytes pieces take, each with the comma that follows it
 abbrev pub length_with_commas : List (List ℕ) → ℕ

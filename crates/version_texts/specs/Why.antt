@@ -1,13 +1,13 @@
 -- Which member of a list of requirements doesn't match a version, and why.
-use Rattle.std.specs.Prelude.{◌≡◌, ℕ, ◌+◌, IsTrue, IfSome, List, length}
+use Rattle.std.specs.Prelude.{◌≡◌, ℕ, ◌+◌, IsTrue, IfSome, List, ◌++◌, codes, length}
 use Rattle.std.specs.declared.cmp.Ordering.TheVariants.{Less}
 use Rattle.version_rules.specs.Kind.{versioning_kind}
 use Rattle.version_rules.specs.Lists.{bytes_cmp}
 use Rattle.version_rules.specs.Matching.{Matches}
 use Rattle.version_rules.specs.Range.{PlainRange, IsIn, bytes_of, has_kind, requirement_range}
 use Rattle.version_rules.specs.Requirement.{PlainRequirement}
-use Rattle.version_rules.specs.Versioning.{PlainVersioning}
-use Rattle.version_texts.specs.MemberPlace.{IsFirstFailing}
+use Rattle.version_rules.specs.Versioning.{PlainVersioning, versioning_text}
+use Rattle.version_texts.specs.MemberPlace.{IsFirstFailing, text_between}
 use Rattle.version_texts.specs.declared.why.Excluded.{Excluded}
 use Rattle.version_texts.specs.declared.why.Why.{Why}
 use Rattle.version_texts.specs.declared.why.Why.TheVariants.{Kind, Below, Above, Parts}
@@ -40,3 +40,26 @@ pub record IsExcluded (text : List ℕ) (v : PlainVersioning) (excluded : Exclud
   pub first : IsFirstFailing (λ r. Matches r v) text excluded.start member requirement
   pub end_is : excluded.end ≡ excluded.start + length member
   pub why : IsWhy (requirement_range requirement) v excluded.why
+
+-- what the sentence that says why has between the version and the member
+abbrev pub words_between : Why → List ℕ
+words_between Kind = codes " is not of a kind that "
+words_between Below = codes " is below "
+words_between Above = codes " is above "
+words_between Parts = codes " is within the bounds of "
+
+-- what it has after the member
+abbrev pub words_after : Why → List ℕ
+words_after Kind = codes " matches"
+words_after Below = codes ""
+words_after Above = codes ""
+words_after Parts = codes ", but its parts or fields differ"
+
+-- the sentence that says why a member does not match a version
+abbrev pub reason_text : Why → List ℕ → List ℕ → List ℕ
+reason_text why version member = version ++ words_between why ++ member ++ words_after why
+
+-- the sentence about the first member of a list that does not match a version
+abbrev pub excluded_text : List ℕ → PlainVersioning → Excluded → List ℕ
+excluded_text list v excluded =
+    reason_text excluded.why (versioning_text v) (text_between list excluded.start excluded.end)

@@ -40,6 +40,7 @@ pub use difference::Difference;
 pub use field::Field;
 pub use inexact::write_inexact;
 pub use key_room::room_for;
+pub use members::text_between;
 pub use key_ties::{compare_key_ties, mark_kind, marked_kind, marked_number};
 pub use numbers::{LARGEST_EPOCH, from_piece};
 pub use numeral::{is_digits, numeral_value, spells_numeral};

@@ -1,6 +1,7 @@
 //! The members of a list of requirements.
 
 ghost use Rattle.std.specs.Prelude.{◌≡◌, ◌<◌, ◌≤◌, ◌+◌, ◌∷◌, [], IfNone, IfSome, length};
+ghost use Rattle.version_texts.specs.MemberPlace.{text_between};
 ghost use Rattle.version_texts.specs.Members.{cut_at_commas, list_of, pieces_of};
 ghost use Rattle.std.specs.Option.{is_some};
 
@@ -44,6 +45,15 @@ impl<'a> Members<'a> {
         }
         true
     }
+}
+
+/// Returns the text between two places of another. Does not allocate.
+pub fn text_between(text: &[u8], start: usize, end: usize) -> &[u8]
+    requires order { start ≤ end }
+    requires within { end ≤ length text.now }
+    ensures { result.now ≡ text_between text.now start end }
+{
+    &text[start..end]
 }
 
 // Returns the text before the first comma, and the text after it, if there is one.

@@ -1,16 +1,20 @@
 //! Which member of a list of requirements does not match a version, and why.
 
-ghost use Rattle.std.specs.Prelude.{◌≡◌, ◌↔◌, is_some, IfSome, IsNone, IsSomeAnd};
+ghost use Rattle.std.specs.Prelude.{◌≡◌, ◌↔◌, is_some, length, IfSome, IsNone, IsSomeAnd};
 ghost use Rattle.version_rules.specs.Matching.{Matches, MatchesAll};
 ghost use Rattle.version_rules.specs.Requirements.{requirements_of};
 ghost use Rattle.version_texts.specs.RangeRef.{plain_range_ref};
+ghost use Rattle.version_texts.specs.Sinks.{saturated, IsWritten};
 ghost use Rattle.version_texts.specs.VersioningRef.{plain_versioning_ref};
-ghost use Rattle.version_texts.specs.Why.{IsExcluded, IsWhy};
+ghost use Rattle.version_texts.specs.Why.{excluded_text, reason_text, words_after, words_between, IsExcluded, IsWhy};
 
 use crate::first_failing::{ListTest, first_failing};
+use crate::members::text_between;
 use crate::range_ref::{RangeRef, is_below, is_from};
 use crate::requirement_ref::RequirementRef;
 use crate::requirements_ref::list_matches;
+use crate::sink::{Sink, put_all};
+use crate::sinks::{Count, Room};
 use crate::versioning_ref::VersioningRef;
 
 /// Why a requirement does not match a version: the first of these that is so.
@@ -35,6 +39,67 @@ pub struct Excluded {
     pub end: usize,
     /// Why it does not match.
     pub why: Why,
+}
+
+impl Why {
+    /// Returns what the sentence that says why has between the version and the member, and what it has after the
+    /// member. Does not allocate.
+    pub fn words(self) -> (&'static str, &'static str)
+        ensures between { result.0.now ≡ words_between self }
+        ensures after { result.1.now ≡ words_after self }
+    {
+        match self {
+            Why::Kind => (" is not of a kind that ", " matches"),
+            Why::Below => (" is below ", ""),
+            Why::Above => (" is above ", ""),
+            Why::Parts => (
+                " is within the bounds of ",
+                ", but its parts or fields differ",
+            ),
+        }
+    }
+}
+
+impl Excluded {
+    /// Writes the sentence that says why the member does not match the version into a buffer, if it fits there.
+    /// Returns how many bytes it has. Does not allocate.
+    pub fn write(&self, list: &[u8], version: &VersioningRef<'_>, room: &mut [u8]) -> usize
+        requires { IsExcluded list.now (plain_versioning_ref version.now) self.now }
+        ensures bytes { IsWritten room.old 0
+            (excluded_text list.now (plain_versioning_ref version.now) self.now) room.new }
+        ensures length { result ≡ saturated (length
+            (excluded_text list.now (plain_versioning_ref version.now) self.now)) }
+    {
+        let member = text_between(list, self.start, self.end);
+        write_reason(self.why, version.bytes(), member, room)
+    }
+}
+
+// Writes the sentence that says why a member does not match a version into a buffer, if it fits there, and returns how
+// many bytes it has.
+fn write_reason(why: Why, version: &[u8], member: &[u8], room: &mut [u8]) -> usize
+    ensures bytes { IsWritten room.old 0 (reason_text why version.now member.now) room.new }
+    ensures length { result ≡ saturated (length (reason_text why version.now member.now)) }
+{
+    let mut count = Count { length: 0 };
+    put_reason(&mut count, why, version, member);
+    let length = count.length();
+    if length <= room.len() {
+        put_reason(&mut Room { room, end: 0 }, why, version, member);
+    }
+    length
+}
+
+// Writes the sentence that says why a member does not match a version.
+fn put_reason<S: Sink>(sink: &mut S, why: Why, version: &[u8], member: &[u8])
+    requires { S.fits sink.old (reason_text why version.now member.now) }
+    ensures { S.takes sink.old (reason_text why version.now member.now) sink.new }
+{
+    let (between, after) = why.words();
+    put_all(sink, version);
+    put_all(sink, between.as_bytes());
+    put_all(sink, member);
+    put_all(sink, after.as_bytes());
 }
 
 // Whether the members of a list match a version.

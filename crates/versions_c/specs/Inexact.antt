@@ -2,7 +2,7 @@
 use Rattle.std.specs.Prelude.{ℕ, ℤ, List, Option, Some, None}
 use Rattle.version_rules.specs.Inexact.{inexact_text}
 use Rattle.version_rules.specs.Requirement.{PlainRequirement}
-use Rattle.versions_c.specs.Keys.{room_status}
+use Rattle.versions_c.specs.Written.{room_status}
 use Rattle.versions_c.specs.declared.status.TheConstants.{NO_REQUIREMENTS}
 
 -- the status for a list and the size of a buffer: whether the text of these members fits

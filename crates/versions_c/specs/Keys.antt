@@ -1,12 +1,13 @@
 -- Sort keys in the caller's buffer.
-use Rattle.std.specs.Prelude.{◌≡◌, ℕ, zero, suc, ◌+◌, ◌*◌, ◌-◌, ◌^◌, min, ℤ, nat_le, List, [], ◌++◌, length, Option, Some, None, if◌then◌else◌}
+use Rattle.std.specs.Prelude.{◌≡◌, ℕ, zero, suc, ◌+◌, ◌*◌, ◌-◌, ◌^◌, min, ℤ, List, [], ◌++◌, length, Option, Some, None}
 use Rattle.std.specs.Option.{option_map, unwrap_or}
 use Rattle.version_rules.specs.Key.{key_of}
 use Rattle.version_rules.specs.KeyBytes.{key_bytes}
 use Rattle.version_rules.specs.Versioning.{versioning_of}
 use Rattle.version_texts.specs.Sinks.{saturated}
 use Rattle.versions_c.specs.Offsets.{AreOffsets, text_at}
-use Rattle.versions_c.specs.declared.status.TheConstants.{OK, NO_ROOM, NO_VERSION}
+use Rattle.versions_c.specs.Written.{room_status}
+use Rattle.versions_c.specs.declared.status.TheConstants.{NO_VERSION}
 
 -- the key of a text's version
 abbrev pub spelled_key : List ℕ → Option (List ℕ)
@@ -30,10 +31,6 @@ pub record AreKeyOffsets (offsets : List ℕ) (buffer key_offsets : ℕ) : Type 
 -- a number, or the largest signed number of 64 bits if it is larger
 abbrev pub saturated_signed : ℕ → ℕ
 saturated_signed n = min n (2 ^ 63 - 1)
-
--- the status for bytes and the size of their buffer
-abbrev pub room_status : List ℕ → ℕ → ℤ
-room_status bytes room = if nat_le (length bytes) room then OK else NO_ROOM
 
 -- the status for a key, if there is a key, and the size of its buffer
 abbrev pub key_status : Option (List ℕ) → ℕ → ℤ

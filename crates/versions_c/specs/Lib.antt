@@ -14,3 +14,4 @@ pub mod Sorting
 pub mod Stabilities
 pub mod Tags
 pub mod Why
+pub mod Written

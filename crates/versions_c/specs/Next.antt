@@ -1,16 +1,9 @@
 -- The version that comes next after another, in the caller's buffer.
-use Rattle.std.specs.Prelude.{◌≡◌, ◌⊎◌, ℕ, ℤ, List, ◌++◌, drop, length, Option, Some, None}
+use Rattle.std.specs.Prelude.{◌≡◌, ◌⊎◌, ℕ, ℤ, List, Option, Some, None}
 use Rattle.version_rules.specs.Versioning.{PlainVersioning, versioning_text}
 use Rattle.version_tasks.specs.Next.{IsNext, NoNext}
-use Rattle.version_texts.specs.Sinks.{saturated}
-use Rattle.versions_c.specs.Keys.{room_status}
-use Rattle.versions_c.specs.declared.status.TheConstants.{OK, NO_NEXT, NO_VERSION}
-
--- A text is written into a buffer if it fits, and its length is reported also if it does not.
-pub record IsWritten (text old new : List ℕ) (len : ℕ) (status : ℤ) : Type 0 where
-  pub status_is : status ≡ room_status text (length old)
-  pub length_is : len ≡ saturated (length text)
-  pub text_is : status ≡ OK → new ≡ text ++ drop (length text) old
+use Rattle.versions_c.specs.Written.{IsWritten}
+use Rattle.versions_c.specs.declared.status.TheConstants.{NO_NEXT, NO_VERSION}
 
 -- what is answered for a text: that it is no version, or the text of the version that comes next at
 -- the place, or that there is none

@@ -1,15 +1,18 @@
 -- What is said of a list of requirements that doesn't match a version, or any version.
-use Rattle.std.proofs.Common.{◌≡◌, ◌⊎◌, inl, inr, ℕ, ℤ, List, Option, Some, None}
+use Rattle.std.proofs.Common.{◌≡◌, ◌⊎◌, inl, inr, ℕ, ℤ, List, Option, Some, None, IsSomeAnd}
+use Rattle.version_rules.specs.Matching.{MatchesAll}
 use Rattle.version_rules.specs.laws.Matching.{matches_all_or_not}
 use Rattle.version_rules.specs.Range.{range_of}
 use Rattle.version_rules.specs.Requirement.{PlainRequirement}
+use Rattle.version_rules.specs.Requirements.{requirements_of}
 use Rattle.version_rules.specs.Versioning.{PlainVersioning}
 use Rattle.version_texts.specs.Empty.{IsEmpty}
-use Rattle.version_texts.specs.Why.{IsExcluded}
+use Rattle.version_texts.specs.Why.{IsExcluded, excluded_text}
 use Rattle.version_texts.specs.declared.why.Excluded.{Excluded}
 use Rattle.version_texts.specs.declared.why.Why.{Why}
 use Rattle.version_texts.specs.declared.why.Why.TheVariants.{Kind, Below, Above, Parts}
 use Rattle.versions_c.specs.Matching.{match_status}
+use Rattle.versions_c.specs.Written.{IsWritten}
 use Rattle.versions_c.specs.declared.status.TheConstants.{ALL_MATCH, NO_CONFLICT, NO_REQUIREMENTS, OK}
 use Rattle.versions_c.specs.declared.why.TheConstants.{KIND, BELOW, ABOVE, PARTS}
 
@@ -38,6 +41,16 @@ pub record IsExplained (text : List ℕ) (v : PlainVersioning) (start end code :
   pub start_is : start ≡ excluded.start
   pub end_is : end ≡ excluded.end
   pub code_is : code ≡ why_code excluded.why
+
+-- What is answered for a list and a text: the sentence about the first member that doesn't match the
+-- version, or that each matches, or that there is no list or no version.
+abbrev pub IsToldWhy : List ℕ → Option PlainVersioning → List ℕ → List ℕ → ℕ → ℤ → Type 0
+IsToldWhy list None old new len status = status ≡ match_status (requirements_of list) None
+IsToldWhy list (Some v) old new len status =
+    ((excluded : Excluded) × IsExcluded list v excluded
+    × IsWritten (excluded_text list v excluded) old new len status)
+    ⊎ (IsSomeAnd (requirements_of list) (λ wanted. MatchesAll wanted v) × (status ≡ ALL_MATCH))
+    ⊎ ((requirements_of list ≡ None) × (status ≡ NO_REQUIREMENTS))
 
 -- the status for a list whose range is empty, or isn't
 abbrev pub IsConflictStatus : Option (List PlainRequirement) → ℤ → Type 0

@@ -6,10 +6,10 @@ ghost use Rattle.version_rules.specs.Requirements.{requirements_of};
 ghost use Rattle.version_rules.specs.Versioning.{versioning_of};
 ghost use Rattle.version_texts.specs.Conflict.{ExcludeEachOther, IsByEnds};
 ghost use Rattle.version_texts.specs.Empty.{IsCrossed};
-ghost use Rattle.versions_c.specs.Why.{why_code, why_status, IsConflictStatus, IsExplained};
+ghost use Rattle.versions_c.specs.Why.{why_code, why_status, IsConflictStatus, IsExplained, IsToldWhy};
 
 use crate::matching::status_without_version;
-use crate::status::{ALL_MATCH, NO_CONFLICT, NO_REQUIREMENTS, OK};
+use crate::status::{ALL_MATCH, NO_CONFLICT, NO_REQUIREMENTS, NO_ROOM, OK};
 use version_texts::{Conflict, VersioningRef, Why, conflict_in, why_not};
 
 /// The version's kind is not one of the requirement's.
@@ -49,6 +49,36 @@ pub extern "C" fn versions_why_not(
     *start = excluded.start;
     *end = excluded.end;
     *why = why_code(excluded.why);
+    OK
+}
+
+/// Writes why the first member of a list that does not match a version does not, as a sentence.
+#[unsafe(no_mangle)]
+pub extern "C" fn versions_why_text(
+    list: &[u8],
+    text: &[u8],
+    why: &mut [u8],
+    why_len: &mut usize,
+) -> i32
+    ensures why { IsToldWhy list.now (versioning_of text.now) why.old why.new why_len.new result }
+    ensures kept { result ≢ OK → why.new ≡ why.old }
+
+    // Where there is no sentence there is no length.
+    ensures no_length { result ≢ OK → result ≢ NO_ROOM → why_len.new ≡ why_len.old }
+{
+    let Some(version) = VersioningRef::from_bytes(text) else {
+        return status_without_version(list);
+    };
+    let Some(found) = why_not(list, &version) else {
+        return NO_REQUIREMENTS;
+    };
+    let Some(excluded) = found else {
+        return ALL_MATCH;
+    };
+    *why_len = excluded.write(list, &version, why);
+    if *why_len > why.len() {
+        return NO_ROOM;
+    }
     OK
 }
 

@@ -1,8 +1,9 @@
 -- Bytes written into a buffer.
-use Rattle.std.proofs.Common.{◌≡◌, ◌∙◌, ◌+◌, ◌-◌, ◌<◌, ◌≤◌, ℕ, zero, suc, List, [], ◌∷◌, ◌++◌, drop, length, replicate, set, take, refl, ap, sym, arith}
+use Rattle.std.proofs.Common.{◌≡◌, ◌∙◌, ◌+◌, ◌-◌, ◌<◌, ◌≤◌, ℕ, zero, suc, List, [], ◌∷◌, ◌++◌, append-nil, drop, length, replicate, set, take, refl, ap, sym, arith, zero-add}
 use Rattle.std.proofs.lemmas.List.{length-append, length-replicate, take_all}
 use Rattle.std.proofs.Math.Seq.{take-append-add, take-append_seam}
-use Rattle.version_texts.specs.Sinks.{length-put, put_at}
+use Rattle.version_texts.specs.Sinks.{count_with, length-put, put_at, saturated, Leads}
+use Rattle.version_texts.specs.declared.sinks.Count.{Count}
 
 -- the first byte, and then the others
 pub put_first : (room : List ℕ) (start b : ℕ) (bytes : List ℕ) → start < length room
@@ -55,3 +56,11 @@ appended old items room bytes n len end i l r fits e =
     ∙ ap (λ k. take k (old ++ (bytes ++ drop (length bytes) zeros))) e
     ∙ take-append-add old (bytes ++ drop (length bytes) zeros) (length bytes)
     ∙ ap (λ (xs : List ℕ). old ++ xs) (take-append_seam bytes (drop (length bytes) zeros))
+
+-- the count of bytes that are written to a sink that had none
+pub counted : (bytes : List ℕ) (last : Count) {count : ℕ}
+    → Leads count_with (record { length = 0 }) bytes last → count ≡ count_with last []
+    → count ≡ saturated (length bytes)
+counted bytes last written count =
+    count ∙ written [] ∙ ap (λ (l : List ℕ). saturated (0 + length l)) (append-nil bytes)
+    ∙ ap saturated (zero-add (length bytes))

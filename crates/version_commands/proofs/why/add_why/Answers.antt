@@ -1,5 +1,5 @@
 use Rattle.std.proofs.Common.{arith}
-use Rattle.version_commands.proofs.lemmas.Members.{member_within}
+use Rattle.version_texts.proofs.lemmas.MemberPlace.{member_within}
 use Rattle.version_texts.specs.VersioningRef.{plain_versioning_ref}
 use Rattle.version_texts.specs.Why.{IsExcluded}
 use Rattle.version_commands.proofs.why.add_why.Goals as goal
