@@ -3,7 +3,6 @@ pub mod Keys
 pub mod Matching
 pub mod Newest
 pub mod Next
-pub mod Written
 pub mod Ranges
 pub mod Sorting
 pub mod Tags

@@ -2,7 +2,7 @@
 use Rattle.std.proofs.Common.{◌≡◌, ℕ, zero, suc, arith, List, [], ◌∷◌, Option, map, refl, sym, subst, ap, ◌∙◌, Bor}
 use Rattle.std.specs.List.{Contains}
 use Rattle.version_commands.specs.Cause.{ComesOfChanges, ComesOfEither, ComesOfOne}
-use Rattle.version_commands.specs.Fault.{ComesOfBad, ComesOfLines, ComesOfReading}
+use Rattle.version_commands.specs.Fault.{ComesOfBad, ComesOfReading}
 use Rattle.version_commands.specs.Inputs.{joined, AreInputs, IsInput, Reading}
 use Rattle.version_commands.specs.Lists.{bad_lines_of, difference_text, names_of, rows_of}
 use Rattle.version_commands.specs.Output.{AreChanges}
@@ -50,11 +50,7 @@ pub input-bad : (lists : Lists) (text input : List ℕ) (bad : BadLines)
     → AreBadOf (text_of lists.place) (lines_of lists.end input) bad
     → (fault : Fault) → ComesOfBad lists.invalid lists.place.crlf bad fault
     → ComesOfOne lists text fault
-input-bad lists text input bad whole are fault is =
-    subst (λ (i : List ℕ). ComesOfLines lists.invalid lists.place.crlf (text_of lists.place)
-    (lines_of lists.end i) fault)
-    whole (lines-bad lists.invalid lists.place.crlf (text_of lists.place)
-    (lines_of lists.end input) bad are fault is)
+input-bad lists text input bad whole are fault is = grind (arith, lines-bad)
 
 -- where none is left, each line of the list has a version
 pub input-good : (lists : Lists) (text input : List ℕ) (bad : BadLines)

@@ -1,5 +1,5 @@
 -- What is written at a fault, and what it comes of.
-use Rattle.std.proofs.Common.{ℕ, Bool, Bor, List, String, Global, subst}
+use Rattle.std.proofs.Common.{ℕ, Bool, Bor, List, String, Global, subst, arith}
 use Rattle.version_commands.specs.Fault.{ComesOfBad, ComesOfBadAfter, ComesOfLines, ComesOfReading}
 use Rattle.version_commands.specs.Picked.{bad_lines, AreBadOf}
 use Rattle.std.specs.List.{Contains}
@@ -56,6 +56,4 @@ reading-cases Follows reads names memory read (Write name) is = absurd is
 pub reading-weaker : (reads : Reading) (names others : List (List ℕ))
     → ((name : List ℕ) → Contains names name → Contains others name) → (fault : Fault)
     → ComesOfReading reads names fault → ComesOfReading reads others fault
-reading-weaker reads names others among =
-    reading-cases (ComesOfReading reads others) reads names tt
-    (λ name refused. record { among = among name.now refused.among; failed = refused.failed })
+reading-weaker reads names others among = grind (arith, reading-cases)

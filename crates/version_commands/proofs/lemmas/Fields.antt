@@ -1,5 +1,5 @@
 -- A field of a version lies in its text where its place says.
-use Rattle.std.proofs.Common.{◌≡◌, ◌+◌, ◌-◌, ◌∙◌, ℕ, List, [], ◌∷◌, ◌++◌, drop, length, take, Option, Some, None, ap, arith, append_assoc, append-nil, refl, sym}
+use Rattle.std.proofs.Common.{◌≡◌, ◌-◌, ◌∙◌, ℕ, List, [], ◌∷◌, ◌++◌, drop, take, Option, Some, None, ap, arith, append_assoc, append-nil, refl, sym}
 use Rattle.std.proofs.Math.Seq.{drop-append_seam}
 use Rattle.std.proofs.lemmas.List.{take_at}
 use Rattle.std.specs.Fmt.{decimal}
@@ -19,13 +19,7 @@ use Rattle.version_texts.specs.declared.field.Field.TheVariants.{Epoch, PreRelea
 -- a text between others lies where its place says
 between : (before text after : List ℕ) (start end : ℕ) → place_behind before text ≡ (start, end)
     → take (end - start) (drop start (before ++ (text ++ after))) ≡ text
-between before text after start end place =
-    let starts : length before ≡ start = ap (λ (p : ℕ × ℕ). p.0) place in
-    let ends : length before + length text ≡ end = ap (λ (p : ℕ × ℕ). p.1) place in
-    ap (take (end - start))
-    (sym (ap (λ (n : ℕ). drop n (before ++ (text ++ after))) starts)
-    ∙ drop-append_seam before (text ++ after))
-    ∙ take_at text after (end - start) (omega (arith, starts, ends))
+between before text after start end place = grind (arith, drop-append_seam, take_at)
 
 -- ---- a field after its mark
 

@@ -22,10 +22,7 @@ inputs-push reads old now new (n ∷ names) (t ∷ texts) name text (between, he
 pub joined-next : (end : ℕ) (texts : List (List ℕ)) (text input longer : List ℕ)
     → input ≡ joined end texts → longer ≡ input ++ ended end text
     → longer ≡ joined end (texts ++ text ∷ [])
-joined-next end texts text input longer so_far added =
-    added ∙ ap (λ (i : List ℕ). i ++ ended end text) so_far
-    ∙ ap (λ (e : List ℕ). joined end texts ++ e) (sym (append-nil (ended end text)))
-    ∙ sym (flat_map-append (ended end) texts (text ∷ []))
+joined-next end texts text input longer so_far added = grind (arith, append-nil, flat_map-append)
 
 -- the last byte decides whether some bytes end where a line ends
 pub ends_line-last : (end : ℕ) (bytes : List ℕ) → ends_line end bytes

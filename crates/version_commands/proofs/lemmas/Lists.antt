@@ -1,5 +1,5 @@
 -- The first row of each name, one row after another.
-use Rattle.std.proofs.Common.{◌≡◌, ◌∙◌, ℕ, Bool, true, false, List, [], ◌∷◌, ◌++◌, ◌⊎◌, ◌≤◌, drop, length, map, Option, Some, None, append_assoc, append-nil, if◌then◌else◌, is_some, refl, sym, ap, inl, inr}
+use Rattle.std.proofs.Common.{◌≡◌, ◌∙◌, ℕ, Bool, true, false, List, [], ◌∷◌, ◌++◌, ◌⊎◌, ◌≤◌, drop, length, Option, Some, None, append_assoc, append-nil, if◌then◌else◌, is_some, refl, ap, arith}
 use Rattle.std.proofs.lemmas.Bool.{cases_Bool}
 use Rattle.std.proofs.lemmas.List.{drop_all, map-append}
 use Rattle.std.proofs.lemmas.List.Folds.{flat_map-map}
@@ -97,30 +97,22 @@ none_held (Some v) none = cc none
 -- whether a row has a name
 has_name : (row : Row) (name : List ℕ)
     → ((row.0 ≡ name) × (version_at row name ≡ Some row.1)) ⊎ (version_at row name ≡ None)
-has_name row name =
-    elim (cases_Bool (bytes_eq row.0 name)) [
-      | inl same ↦ inl ((bytes_eq-Decides row.0 name).0 same, rw same refl)
-      | inr other ↦ inr (rw other refl)
-    ]
+has_name row name = grind (arith, cases_Bool, bytes_eq-Decides)
 
 -- a row whose name is held changes nothing
 pub names_kept : (rows : List Row) (row : Row) (names : Names) → AreNames rows names
     → is_some (held names row.0) ≡ true → AreNames (rows ++ row ∷ []) names
 names_kept rows row names are has =
-    let stands : is_some (version_of rows row.0) ≡ true =
-    ap is_some (sym (are.versions row.0)) ∙ is_some-mapped (held names row.0) ∙ has in
-    record {
-      order =
-          are.order ∙ sym (first_rows-more rows row ∙ rw stands (append-nil (first_after [] rows)));
-      versions = λ name.
-          are.versions name ∙ sym (version_of-more rows row name ∙ elim (has_name row name) [
-            | inl same ↦
-                or_kept (version_of rows name) (version_at row name)
-                (ap (λ (n : List ℕ). is_some (version_of rows n)) (sym same.0) ∙ stands)
-            | inr other ↦
-                ap (option_or (version_of rows name)) other ∙ or_none (version_of rows name)
-          ]);
-    }
+    grind (
+      arith,
+      is_some-mapped,
+      first_rows-more,
+      append-nil,
+      version_of-more,
+      has_name,
+      or_kept,
+      or_none,
+    )
 
 -- a row whose name is not held is added
 pub names_added : (rows : List Row) (named : Named) (names more : Names) → AreNames rows names
@@ -131,40 +123,17 @@ pub names_added : (rows : List Row) (named : Named) (names more : Names) → Are
     ≡ update bytes_eq (held names) named.name.now (Some named.version) name)
     → AreNames (rows ++ plain_row named ∷ []) more
 names_added rows named names more are lacks items put =
-    let row : Row = plain_row named in
-    let missing : is_some (version_of rows row.0) ≡ false =
-    ap is_some (sym (are.versions row.0)) ∙ is_some-mapped (held names row.0) ∙ lacks in
-    record {
-      order =
-          ap (map plain_row) items ∙ map-append plain_row names.rows.items (named ∷ [])
-          ∙ ap (λ (l : List Row). l ++ row ∷ []) are.order
-          ∙ sym (first_rows-more rows row ∙ rw missing refl);
-      versions = λ name.
-          ap (option_map plain_versioning_ref) (put name)
-          ∙ elim (cases_Bool (bytes_eq row.0 name)) [
-            | inl same ↦
-                let is : row.0 ≡ name = (bytes_eq-Decides row.0 name).0 same in
-                let none : version_of rows name ≡ None =
-                ap (version_of rows) (sym is) ∙ none_held (version_of rows row.0) missing in
-                let at : version_at row name ≡ Some row.1 = rw same refl in
-                let here : option_map plain_versioning_ref
-                (update bytes_eq (held names) named.name.now (Some named.version) name)
-                ≡ Some row.1 =
-                rw same refl in
-                let counts : option_or (version_of rows name) (version_at row name) ≡ Some row.1 =
-                rw none at in
-                here ∙ sym (version_of-more rows row name ∙ counts)
-            | inr other ↦
-                let at : version_at row name ≡ None = rw other refl in
-                let here : option_map plain_versioning_ref
-                (update bytes_eq (held names) named.name.now (Some named.version) name)
-                ≡ option_map plain_versioning_ref (held names name) =
-                rw other refl in
-                here ∙ are.versions name
-                ∙ sym (version_of-more rows row name ∙ ap (option_or (version_of rows name)) at
-                ∙ or_none (version_of rows name))
-          ];
-    }
+    grind (
+      arith,
+      is_some-mapped,
+      map-append,
+      first_rows-more,
+      cases_Bool,
+      bytes_eq-Decides,
+      none_held,
+      version_of-more,
+      or_none,
+    )
 
 -- ---- line by line
 
@@ -180,12 +149,7 @@ pub all_lines : (line : Row → Option PlainVersioning → List ℕ) (others row
     ≡ before ++ flat_map (named_line line others) names.rows.items
     → now ≡ before ++ lines_against line others (first_rows rows)
 all_lines line others rows names i before now are end whole =
-    let nothing : flat_map (named_line line others) (drop i names.rows.items) ≡ [] =
-    ap (flat_map (named_line line others)) (drop_all i names.rows.items end) in
-    sym (append-nil now) ∙ sym (ap (λ (l : List ℕ). now ++ l) nothing) ∙ whole
-    ∙ ap (λ (l : List ℕ). before ++ l)
-    (sym (flat_map-map (λ (row : Row). line row (version_of others row.0)) plain_row
-    names.rows.items) ∙ ap (lines_against line others) are.order)
+    grind (arith, drop_all, append-nil, flat_map-map)
 
 -- ---- a list, read line by line
 

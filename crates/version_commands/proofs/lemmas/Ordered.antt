@@ -1,5 +1,5 @@
 -- The lines that are written, in their order.
-use Rattle.std.proofs.Common.{◌≡◌, ◌∙◌, ◌++◌, ◌∷◌, List, [], ℕ, Bool, true, Option, None, Some, Result, flat_map, map, refl, subst, sym, ap, Bor}
+use Rattle.std.proofs.Common.{◌≡◌, ◌++◌, ◌∷◌, List, [], ℕ, Bool, true, Option, None, Some, Result, flat_map, map, refl, subst, sym, ap, Bor, arith}
 use Rattle.version_commands.specs.Arranged.{policy}
 use Rattle.version_commands.specs.Cause.{ComesOfArranged, ComesOfArranging}
 use Rattle.version_commands.specs.Choice.{chooser_of, is_kept}
@@ -26,11 +26,7 @@ pub is-arranged : (text_of : List ℕ → List ℕ) (options : LineOptions) (inp
     (output : List ℕ) → bad ≡ bad_lines text_of (lines_of options.end input) → rows ≡ lines
     → (policy options ≡ Fail → bad ≡ []) → IsPlaced options bad rows leaves output
     → IsArranged text_of options input lines leaves output
-is-arranged text_of options input bad rows lines leaves output none are good placed = record {
-  good = λ fail. sym none ∙ good fail;
-  is_placed = subst (λ (b : List (List ℕ)). IsPlaced options b lines leaves output) none
-      (subst (λ (r : List (List ℕ)). IsPlaced options bad r leaves output) are placed);
-}
+is-arranged text_of options input bad rows lines leaves output none are good placed = grind arith
 
 -- lines that are written as they are read are those that are kept
 written-at-once : (text_of : List ℕ → List ℕ) (keeps : PlainVersioning → Bool) (end : ℕ)
@@ -53,10 +49,7 @@ pub ends-listed : {T : Type 0} (text_of : List ℕ → List ℕ) (keeps matched 
     Comes old new result
     → Ends (λ output. output ≡ output_by end (kept_line text_of keeps end) input) Comes old new result
 ends-listed text_of keeps matched whole alike end input Comes old new result =
-    ends-weaker _ _ Comes Comes old new result
-    (λ output is. is
-    ∙ sym (λ i. output_by end (kept_line (λ line. whole line i) (λ v. alike v i) end) input))
-    (λ fault comes. comes)
+    grind (arith, ends-weaker)
 
 pub at-once : (text_of : List ℕ → List ℕ) (keeps : PlainVersioning → Bool) (options : LineOptions)
     (input : List ℕ) (leaves : Option (List ℕ × List ℕ) → Type 0) → options.invalid ≡ Skip
@@ -64,16 +57,7 @@ pub at-once : (text_of : List ℕ → List ℕ) (keeps : PlainVersioning → Boo
     → output ≡ output_by options.end (kept_line text_of keeps options.end) input
     → IsArranged text_of options input (kept_in text_of keeps options input) leaves output
 at-once text_of keeps options input leaves skips no_file left output is =
-    let lines = lines_of options.end input in
-    let skipped : policy options ≡ Skip = rw (no_file, skips) refl in
-    record {
-      good = λ fail. cc (sym skipped ∙ fail);
-      is_placed = record {
-        put = rw no_file left;
-        output_is = is ∙ written-at-once text_of keeps options.end lines
-            ∙ rw skipped refl;
-      };
-    }
+    grind (arith, written-at-once)
 
 -- the file for lines without a version is to blame
 pub put-faults : (options : LineOptions) (text_of : List ℕ → List ℕ) (input : List ℕ)
@@ -112,27 +96,13 @@ module _ (arrangement : Arrangement) (options : LineOptions) (reads : Reading)
   pub is-ordered : (output : List ℕ) → IsArranged (text_of options.place) options input
       (arranged_in (text_of options.place) (is_kept chooser) arrangement options input) leaves output
       → IsOrdered arrangement options reads old new leaves output
-  is-ordered output arranged = record {
-    texts = texts;
-    chooser = chooser;
-    texts_are = read;
-    chooser_is = is;
-    is_arranged = subst (λ (i : List ℕ). IsArranged (text_of options.place) options i
-        (arranged_in (text_of options.place) (is_kept chooser) arrangement options i) leaves output)
-        whole arranged;
-  }
+  is-ordered output arranged = grind (arith, read)
 
   since-read : (fault : Fault) → ComesOfArranged options (text_of options.place) input fault
       → (end : Option (List ℕ)) × (given : List (List ℕ))
       × AreInputs reads old end (names_read (map (λ name. name.now) options.files.items)) given
       × ComesOfArranged options (text_of options.place) (joined options.end given) fault
-  since-read fault comes = (
-    new,
-    texts,
-    read,
-    subst (λ (i : List ℕ).
-        ComesOfArranged options (text_of options.place) i fault) whole comes,
-  )
+  since-read fault comes = grind (arith, read)
 
   pub ordered-faults : (fault : Fault) → ComesOfArranged options (text_of options.place) input fault
       → ComesOfArranging arrangement options reads old fault

@@ -63,13 +63,7 @@ pub record IsPicked (text_of : List ℕ → List ℕ) (keeps : PlainVersioning �
 pub picked-start : (text_of : List ℕ → List ℕ) (keeps : PlainVersioning → Bool) (end : ℕ)
     (input : List ℕ) (kept : List (List ℕ)) (bad : BadLines) → kept ≡ []
     → AreBadOf text_of [] bad → IsPicked text_of keeps end input input kept bad
-picked-start text_of keeps end input kept bad none bad_are = record {
-  done = [];
-  lines = refl;
-  kept_are = none;
-  bad_are = bad_are;
-  fits = omega (arith, bad_are.1);
-}
+picked-start text_of keeps end input kept bad none bad_are = grind arith
 
 -- one line more
 picked-next : (text_of : List ℕ → List ℕ) (keeps : PlainVersioning → Bool) (end : ℕ)

@@ -1,14 +1,12 @@
 -- Texts that are added to others, one after another.
-use Rattle.std.proofs.Common.{◌≡◌, ◌+◌, ◌<◌, ◌∙◌, ap, ℕ, Bor, List, [], ◌∷◌, ◌++◌, append_assoc, append-nil, get_or, length, map, sym, take}
+use Rattle.std.proofs.Common.{◌≡◌, ◌+◌, ◌<◌, ◌∙◌, ap, ℕ, Bor, List, [], ◌∷◌, ◌++◌, append_assoc, append-nil, get_or, length, map, sym, take, arith}
 use Rattle.std.proofs.lemmas.List.{flat_map_more, map-append, take_more}
 use Rattle.std.specs.List.{flat_map}
 
 -- a text added to a list, and then more
 pub then : (old : List ℕ) {between new text same : List ℕ} (more : List ℕ) → between ≡ old ++ text → text ≡ same
     → new ≡ between ++ more → new ≡ old ++ (same ++ more)
-then old {between} {new} {text} {same} more first is second =
-    second ∙ ap (λ (l : List ℕ). l ++ more) (first ∙ ap (λ (l : List ℕ). old ++ l) is)
-    ∙ append_assoc old same more
+then old {between} {new} {text} {same} more first is second = grind (arith, append_assoc)
 
 -- the last one
 pub last : (old : List ℕ) {new text same : List ℕ} → new ≡ old ++ text → text ≡ same

@@ -1,5 +1,5 @@
 -- Lines that are written one by one.
-use Rattle.std.proofs.Common.{◌≡◌, ◌<◌, ◌+◌, ℕ, List, [], ◌∷◌, ◌++◌, Option, length, drop, get_or, refl, sym, subst, ap, ◌∙◌, add-one, append_assoc}
+use Rattle.std.proofs.Common.{◌≡◌, ◌<◌, ◌+◌, ℕ, List, [], ◌∷◌, ◌++◌, Option, length, drop, get_or, refl, sym, subst, ap, ◌∙◌, add-one, append_assoc, arith}
 use Rattle.std.proofs.lemmas.Grind.{flat_map-append}
 use Rattle.std.proofs.Math.Seq.{drop-cons}
 use Rattle.version_lines.specs.Lines.{lines_output, whole_line}
@@ -26,9 +26,7 @@ module _ (end : ℕ) (first second : List (List ℕ)) (a b c : Option (List ℕ)
   pub both-written : AppendsUpTo a b between (waiting ++ lines_output (whole_line end) first)
       → AppendsUpTo b c left (between ++ lines_output (whole_line end) second)
       → AppendsUpTo a c left (waiting ++ lines_output (whole_line end) (first ++ second))
-  both-written one two =
-      subst (AppendsUpTo a c left) (sym (output-both end first second waiting))
-      (AppendsUpTo-then a b c waiting _ between _ left one two)
+  both-written one two = grind (arith, output-both, AppendsUpTo-then)
 
   pub second-part : AppendsUpTo a b between (waiting ++ lines_output (whole_line end) first)
       → AppendsProperBeginning b c (between ++ lines_output (whole_line end) second)
@@ -51,6 +49,4 @@ pub joined-next : (end : ℕ) (old between new line more rest output : List ℕ)
     → between ≡ old ++ line → new ≡ between ++ end ∷ [] → more ≡ whole_line end line ++ rest
     → old ++ more ≡ output → new ++ rest ≡ output
 joined-next end old between new line more rest output extended pushed next so_far =
-    ap (λ (n : List ℕ). n ++ rest)
-    (pushed ∙ ap (λ (b : List ℕ). b ++ end ∷ []) extended ∙ append_assoc old line (end ∷ []))
-    ∙ append_assoc old (line ++ end ∷ []) rest ∙ ap (λ (m : List ℕ). old ++ m) (sym next) ∙ so_far
+    grind (arith, append_assoc)

@@ -34,9 +34,7 @@ pub pieces-cut : (separator : ℕ) (text : List ℕ) (k : ℕ) → k < length te
     → ((j : ℕ) → 0 ≤ j → j < k → ¬ (IsSeparatorAt separator text j))
     → pieces separator text
     ≡ take k text ∷ pieces separator (take (length text - (k + 1)) (drop (k + 1) text))
-pieces-cut separator text k inside here before =
-    rw (take_rest text (k + 1), add-one)
-    (pieces-before separator text k inside here (λ j below. before j (omega arith) below))
+pieces-cut separator text k inside here before = grind (arith, take_rest, add-one, pieces-before)
 
 -- a text without a separator is one piece
 pub pieces-last : (separator : ℕ) (text : List ℕ)
@@ -129,18 +127,7 @@ pub words-between : (text : List ℕ) (start end : ℕ) → start ≡ 0 + prefix
     → start < length text → end ≡ start + prefix_len no_blank (drop start text)
     → words_of text
     ≡ take (end - start) (drop start text) ∷ words_of (take (length text - end) (drop end text))
-words-between text start end begins some ends =
-    let starts : start ≡ prefix_len is_blank text = omega (arith, begins) in
-    let less : prefix_len is_blank text < length text = omega (arith, starts, some) in
-    let length_is : end - start ≡ prefix_len no_blank (drop start text) = omega (arith, ends) in
-    let cut : words_of text
-    ≡ take (prefix_len no_blank (drop start text)) (drop start text)
-    ∷ words_of (drop (prefix_len no_blank (drop start text)) (drop start text)) =
-    rw starts (words-cut text less) in
-    cut
-    ∙ rw (take_rest text end, length_is, drop-drop (prefix_len no_blank (drop start text)) start text)
-    (ap (λ (n : ℕ). take (prefix_len no_blank (drop start text)) (drop start text)
-    ∷ words_of (drop n text)) (sym ends))
+words-between text start end begins some ends = grind (arith, words-cut, take_rest, drop-drop)
 
 -- a text of blanks has no word
 pub words-none : (text : List ℕ) → 0 + prefix_len is_blank text ≡ length text → words_of text ≡ []

@@ -1,5 +1,5 @@
 -- Lines as they are sorted: their keys stay in place, and sorted entries are the sorted lines.
-use Rattle.std.proofs.Common.{◌≡◌, ℕ, ◌-◌, ◌<◌, ◌≤◌, Bool, List, ◌∷◌, ◌++◌, [], length, take, drop, map, refl, sym, subst, ap, ◌∙◌, arith, length-append, length-drop}
+use Rattle.std.proofs.Common.{◌≡◌, ℕ, ◌-◌, ◌<◌, Bool, List, ◌∷◌, ◌++◌, [], length, take, drop, map, refl, sym, subst, ap, ◌∙◌, arith, length-append, length-drop}
 use Rattle.std.specs.Cmp.{IsStrictWeakOrder, IsTotalOrder}
 use Rattle.std.specs.Cmp.Lexicographic.{options_total, slice_cmp}
 use Rattle.std.specs.Int.{from_be_bytes, w64}
@@ -34,11 +34,7 @@ key-last keys kept key added = ap (drop (length keys)) added ∙ drop-append_sea
 
 pub key-part : (keys kept key : List ℕ) (start : ℕ) → kept ≡ keys ++ key → start ≡ length keys
     → take (length kept - start) (drop start kept) ≡ key
-key-part keys kept key start added last =
-    let many : length key ≤ length kept - start =
-    omega (arith, ap length added, length-append keys key, last) in
-    ap (take (length kept - start)) (ap (λ n. drop n kept) last ∙ key-last keys kept key added)
-    ∙ take_all (length kept - start) key many
+key-part keys kept key start added last = grind (arith, length-append, key-last, take_all)
 
 pub holds-last : (keys kept : List ℕ) (v : PlainVersioning) (entry : Entry)
     → kept ≡ keys ++ key_bytes (key_of v) → entry.start ≡ length keys
@@ -46,33 +42,13 @@ pub holds-last : (keys kept : List ℕ) (v : PlainVersioning) (entry : Entry)
     → AreBytes (key_bytes (key_of v)) → entry.first ≡ from_be_bytes w64 (key_bytes (key_of v))
     → entry.second ≡ from_be_bytes w64 (drop 8 (key_bytes (key_of v))) → HoldsKey kept v entry
 holds-last keys kept v entry added last many same small one two =
-    let key = key_bytes (key_of v) in
-    record {
-      kind = same;
-      within = omega (arith, ap length added, length-append keys key, last, many);
-      key = ap (take (key_length entry)) (ap (λ n. drop n kept) last ∙ key-last keys kept key added)
-          ∙ take_all (key_length entry) key (omega (arith, many));
-      bytes = small;
-      first = one;
-      second = two;
-    }
+    grind (arith, length-append, key-last, take_all)
 
 -- a key stays at its place when more keys are added
 key-stays : (keys more : List ℕ) (v : PlainVersioning) (entry : Entry) → HoldsKey keys v entry
     → HoldsKey (keys ++ more) v entry
 key-stays keys more v entry read =
-    let start : entry.start ≤ length keys = omega (arith, read.within) in
-    let inside : key_length entry ≤ length (drop entry.start keys) =
-    omega (arith, read.within, length-drop entry.start keys) in
-    record {
-      kind = read.kind;
-      within = omega (arith, read.within, length-append keys more);
-      key = ap (take (key_length entry)) (drop-append-le entry.start keys more start)
-          ∙ take-append-le (key_length entry) (drop entry.start keys) more inside ∙ read.key;
-      bytes = read.bytes;
-      first = read.first;
-      second = read.second;
-    }
+    grind (arith, length-drop, length-append, drop-append-le, take-append-le)
 
 pub read-more : (text_of : List ℕ → List ℕ) (keys more : List ℕ) (entry : Entry)
     → IsRead text_of keys entry → IsRead text_of (keys ++ more) entry

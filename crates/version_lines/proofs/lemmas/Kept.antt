@@ -31,17 +31,7 @@ kept-next : {X : Type 0} (E : X → X → Bool) → IsEquivalence E → (count :
     ≡ take (count - suc (length (filter (E z) before))) (filter (E z) xs)
     → filter (E z) (first_after count E before (x ∷ xs))
     ≡ take (count - length (filter (E z) before)) (x ∷ filter (E z) xs)
-kept-next E equiv count z x before xs same more =
-    let many = length (filter (E z) before) in
-    let alike : length (filter (E x) before) ≡ many =
-    λ i. length (filter (λ y. sym (equiv.congr z x y same) i) before) in
-    by_test (nat_lt (length (filter (E x) before)) count)
-    (λ few. let left : count - many ≡ suc (count - suc many) =
-    omega (arith, ltb-true _ _ few, alike) in
-    rw (few, same, left) (ap (λ l. x ∷ l) more))
-    (λ enough. let none : count - many ≡ 0 = omega (arith, ltb-false _ _ enough, alike) in
-    let rest : count - suc many ≡ 0 = omega (arith, none) in
-    rw (enough, none) (rw rest at more))
+kept-next E equiv count z x before xs same more = grind (arith, by_test, ltb-true, ltb-false)
 
 pub kept-first : {X : Type 0} (E : X → X → Bool) → IsEquivalence E → (count : ℕ) (z : X)
     (before xs : List X)
@@ -57,9 +47,7 @@ kept-first E equiv count z before (x ∷ xs) =
 
 pub first_of_each-first : {X : Type 0} (E : X → X → Bool) → IsEquivalence E → (count : ℕ) (z : X)
     (xs : List X) → filter (E z) (first_of_each count E xs) ≡ take count (filter (E z) xs)
-first_of_each-first E equiv count z xs =
-    kept-first E equiv count z [] xs
-    ∙ ap (λ (n : ℕ). take n (filter (E z) xs)) (omega arith)
+first_of_each-first E equiv count z xs = grind (arith, kept-first)
 
 -- elements that tie, by an order or by its test
 

@@ -1,5 +1,5 @@
 -- The first line of some bytes, and the lines after it.
-use Rattle.std.proofs.Common.{◌≡◌, ℕ, zero, suc, ◌<◌, ◌≤◌, ◌+◌, ◌-◌, true, List, [], ◌∷◌, ◌++◌, length, take, drop, get_or, append-nil, ap, ◌∙◌, sym, arith, nat_eq, add-one}
+use Rattle.std.proofs.Common.{◌≡◌, ℕ, zero, suc, ◌<◌, ◌≤◌, ◌+◌, ◌-◌, true, List, [], ◌∷◌, ◌++◌, length, take, drop, get_or, append-nil, ap, ◌∙◌, arith, nat_eq, add-one}
 use Rattle.std.proofs.lemmas.Bool.{false_from_ne_true}
 use Rattle.std.proofs.lemmas.List.{take_rest}
 use Rattle.version_lines.specs.Lines.{lines_of, before_lines, lines_output}
@@ -29,9 +29,7 @@ pub lines_of-split : (end : ℕ) (text : List ℕ) (k : ℕ) → k < length text
     → ((j : ℕ) → 0 ≤ j → j < k → ¬ (IsEndAt end text j))
     → lines_of end text
     ≡ take k text ∷ lines_of end (take (length text - (k + 1)) (drop (k + 1) text))
-lines_of-split end text k inside here before =
-    rw (take_rest text (k + 1), add-one)
-    (lines_of-before end text k inside here (λ j below. before j (omega arith) below))
+lines_of-split end text k inside here before = grind (arith, take_rest, add-one, lines_of-before)
 
 -- bytes none of which ends a line are one line, if there are any
 pub lines_of-last : (end : ℕ) (text : List ℕ) → 0 < length text
@@ -51,13 +49,9 @@ pub lines_output-first : (end : ℕ) (line_output : List ℕ → List ℕ) (text
     → lines_of end text ≡ line ∷ lines_of end after → answer ≡ line_output line
     → lines_output line_output (lines_of end text)
     ≡ answer ++ lines_output line_output (lines_of end after)
-lines_output-first end line_output text line after answer first answered =
-    ap (lines_output line_output) first
-    ∙ ap (λ (a : List ℕ). a ++ lines_output line_output (lines_of end after)) (sym answered)
+lines_output-first end line_output text line after answer first answered = grind arith
 
 -- nothing is written for nothing
 pub lines_output-nil : (end : ℕ) (line_output : List ℕ → List ℕ) (text waiting : List ℕ) → text ≡ []
     → waiting ++ lines_output line_output (lines_of end text) ≡ waiting
-lines_output-nil end line_output text waiting nothing =
-    ap (λ (t : List ℕ). waiting ++ lines_output line_output (lines_of end t)) nothing
-    ∙ append-nil waiting
+lines_output-nil end line_output text waiting nothing = grind (arith, append-nil)

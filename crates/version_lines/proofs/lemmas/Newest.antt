@@ -6,7 +6,7 @@ use Rattle.std.specs.Cmp.Lexicographic.{slice_cmp}
 use Rattle.std.specs.List.Sorted.{IsPermutation}
 use Rattle.std.specs.List.{All, AllPairs, filter, position, position_or_len, prefix_len}
 use Rattle.std.specs.Option.{unwrap_or}
-use Rattle.std.specs.Ordering.{eq_by_cmp, is_eq, nat_cmp, ordering_then}
+use Rattle.std.specs.Ordering.{eq_by_cmp, is_eq, nat_cmp}
 use Rattle.std.specs.Str.{bytes_eq}
 use Rattle.std.proofs.lemmas.Bool.{eq-eqb, eqb-true, le-ltb, lt-ltb, ltb-false, ltb-true, true≢false}
 use Rattle.std.proofs.lemmas.Bool.Decides.{nat_tests}
@@ -80,10 +80,7 @@ module _ {X : Type 0} (p : X → Bool) (xs : List X) (i : ℕ) (d : X) (inside :
       )
 
   position-le : p (get_or xs i d) ≡ true → position_or_len p xs ≤ i
-  position-le passes =
-      by_test (nat_lt i (position_or_len p xs))
-      (λ before. absurd (true≢false (sym passes ∙ fails_before_first p xs i d (ltb-true _ _ before))))
-      (λ reached. ltb-false _ _ reached)
+  position-le passes = grind (arith, by_test, true≢false, fails_before_first, ltb-true, ltb-false)
 
 -- going over lines: the place of a line's group is where it first was, or here
 
@@ -92,26 +89,16 @@ module _ (group_of : List ℕ → List ℕ) (entries : List Entry) (i : ℕ) (d 
   -- a line is of its group
   own_group : are_of_one_group group_of (entry_line (get_or entries i d))
       (get_or (map entry_line entries) i (entry_line d)) ≡ true
-  own_group =
-      (bytes_eq-Decides _ _).1
-      (ap group_of (sym (get_or-map entry_line entries i d (entry_line d) inside)))
+  own_group = grind (arith, bytes_eq-Decides, get_or-map)
 
   pub place-here : group_place group_of (map entry_line entries) (entry_line (get_or entries i d))
       ≡ unwrap_or (position (are_of_one_group group_of (entry_line (get_or entries i d)))
       (take i (map entry_line entries))) i
-  place-here =
-      position-here _ (map entry_line entries) i (entry_line d)
-      (omega (arith, length-map entries entry_line)) own_group
+  place-here = grind (arith, position-here, length-map, own_group)
 
   place-within : group_place group_of (map entry_line entries) (entry_line (get_or entries i d))
       < length entries
-  place-within =
-      omega (
-        arith,
-        position-le (are_of_one_group group_of (entry_line (get_or entries i d)))
-            (map entry_line entries) i (entry_line d)
-            (omega (arith, length-map entries entry_line)) own_group,
-      )
+  place-within = grind (arith, position-le, length-map, own_group)
 
 pub all_within : (group_of : List ℕ → List ℕ) (entries : List Entry)
     → All (λ (line : Placed). line.place < length entries)
@@ -219,9 +206,7 @@ placed_line line = entry_line line.entry
 placed_alike : (group_of text_of : List ℕ → List ℕ) (keys : List ℕ) (lines : List (List ℕ))
     → AreAlike (IsPlaced group_of text_of keys lines) placed_line
     (placed_cmp keys) (newest_cmp group_of text_of lines)
-placed_alike group_of text_of keys lines a b a_placed b_placed =
-    λ i. ordering_then (nat_cmp (a_placed.place i) (b_placed.place i))
-    (turn true (keys_alike text_of keys a.entry b.entry a_placed.read b_placed.read i))
+placed_alike group_of text_of keys lines a b a_placed b_placed = grind (arith, keys_alike)
 
 -- and have one place if they are of one group
 

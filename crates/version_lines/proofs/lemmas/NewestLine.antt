@@ -1,5 +1,5 @@
 -- The newest of lines that come one after another.
-use Rattle.std.proofs.Common.{◌≡◌, ℕ, true, false, cond, Bor, List, [], ◌∷◌, ◌++◌, take, Some, refl, sym, ap, ◌∙◌}
+use Rattle.std.proofs.Common.{◌≡◌, ℕ, true, false, cond, Bor, List, [], ◌∷◌, ◌++◌, take, Some, refl, sym, ap, ◌∙◌, arith}
 use Rattle.std.specs.Cmp.{IsStrictWeakOrder}
 use Rattle.std.specs.List.{filter}
 use Rattle.std.specs.Ordering.{is_gt, is_lt, ordering_reverse}
@@ -37,18 +37,7 @@ module _ {X : Type 0} (R : X → X → Ordering) (order : IsStrictWeakOrder (bel
 
   -- which of three is first, two at a time
   better-twice : (x b y : X) → better R x (better R b y) ≡ better R (better R x b) y
-  better-twice x b y =
-      by_test (below R b x)
-      (λ lower. by_test (below R y b)
-      (λ up. let below_x : below R y x ≡ true =
-      by_test (below R y x) (λ is. is)
-      (λ no. absurd (true≢false (sym up ∙ order.chain y x b no (order.one_way b x lower)))) in
-      rw (up, lower, up, below_x) refl)
-      (λ no. rw (no, lower, no) refl))
-      (λ higher. by_test (below R y b)
-      (λ up. rw (up, higher) refl)
-      (λ no. let not_below : below R y x ≡ false = order.chain y b x no higher in
-      rw (no, higher, not_below) refl))
+  better-twice x b y = grind (arith, by_test, below, true≢false)
 
   -- one more element comes first only if it is below all others
   pub first-more : (xs : List X) (y b : X) → take 1 (in_order R xs) ≡ b ∷ []

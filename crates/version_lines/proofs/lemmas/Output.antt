@@ -1,5 +1,5 @@
 -- How successive writes add up to a prefix of the output.
-use Rattle.std.proofs.Common.{◌≡◌, ℕ, ◌<◌, List, [], ◌++◌, Option, length, sym, ap, ◌∙◌, subst, take, drop, take-append-drop, ◌-◌, arith, append_assoc, append-nil, length-append}
+use Rattle.std.proofs.Common.{◌≡◌, ℕ, ◌<◌, List, [], ◌++◌, Option, length, sym, subst, take, drop, take-append-drop, ◌-◌, arith, append_assoc, append-nil, length-append}
 use Rattle.std.specs.Io.KnownBytes.{Appends}
 use Rattle.std.proofs.lemmas.List.{take_rest}
 use Rattle.std.proofs.KnownBytes.{Appends-trans}
@@ -14,31 +14,19 @@ AppendsUpTo-all a b output all =
 -- two writes in a row leave what the second leaves
 pub AppendsUpTo-trans : (a b c : Option (List ℕ)) (later left output : List ℕ)
     → AppendsUpTo a b left output → AppendsUpTo b c later left → AppendsUpTo a c later output
-AppendsUpTo-trans a b c later left output first second = record {
-  written = first.written ++ second.written;
-  whole = first.whole ∙ ap (λ l. first.written ++ l) second.whole
-      ∙ sym (append_assoc first.written second.written later);
-  appended = Appends-trans a b c first.written second.written first.appended second.appended;
-}
+AppendsUpTo-trans a b c later left output first second = grind (arith, append_assoc, Appends-trans)
 
 -- a write took the first n bytes of what was left
 pub AppendsUpTo-taken : (a b c : Option (List ℕ)) (left output : List ℕ) (n : ℕ)
     → AppendsUpTo a b left output → Appends b c (take n left)
     → AppendsUpTo a c (take (length left - n) (drop n left)) output
 AppendsUpTo-taken a b c left output n first taken =
-    let parts : left ≡ take n left ++ take (length left - n) (drop n left) =
-    sym (take-append-drop n left) ∙ ap (λ l. take n left ++ l) (sym (take_rest left n)) in
-    AppendsUpTo-trans a b c _ left output first
-    (record { written = take n left; whole = parts; appended = taken })
+    grind (arith, take-append-drop, take_rest, AppendsUpTo-trans)
 
 -- more output leaves more
 pub AppendsUpTo-more : (a b : Option (List ℕ)) (left output more : List ℕ)
     → AppendsUpTo a b left output → AppendsUpTo a b (left ++ more) (output ++ more)
-AppendsUpTo-more a b left output more part = record {
-  written = part.written;
-  whole = ap (λ l. l ++ more) part.whole ∙ append_assoc part.written left more;
-  appended = part.appended;
-}
+AppendsUpTo-more a b left output more part = grind (arith, append_assoc)
 
 -- a proper prefix of what was left
 pub AppendsProperBeginning-after : (a b c : Option (List ℕ)) (left output : List ℕ)
@@ -59,8 +47,7 @@ pub AppendsUpTo-with_more : (a b : Option (List ℕ)) (waiting came now_waiting 
     → AppendsUpTo a b now_waiting (waiting ++ came)
     → AppendsUpTo a b (now_waiting ++ more) (waiting ++ (came ++ more))
 AppendsUpTo-with_more a b waiting came now_waiting more part =
-    subst (AppendsUpTo a b (now_waiting ++ more)) (append_assoc waiting came more)
-    (AppendsUpTo-more a b now_waiting (waiting ++ came) more part)
+    grind (arith, append_assoc, AppendsUpTo-more)
 
 -- first bytes and then others were added
 pub AppendsUpTo-then : (a b c : Option (List ℕ)) (waiting first between second left : List ℕ)
@@ -106,9 +93,7 @@ pub AppendsUpTo-step : (a b c : Option (List ℕ)) (waiting more came later left
     → AppendsUpTo a b (waiting ++ more) output → more ≡ came ++ later
     → AppendsUpTo b c left (waiting ++ came) → AppendsUpTo a c (left ++ later) output
 AppendsUpTo-step a b c waiting more came later left output before parts next =
-    AppendsUpTo-trans a b c (left ++ later) (waiting ++ more) output before
-    (subst (λ (l : List ℕ). AppendsUpTo b c (left ++ later) (waiting ++ l)) (sym parts)
-    (AppendsUpTo-with_more b c waiting came left later next))
+    grind (arith, AppendsUpTo-trans, AppendsUpTo-with_more)
 
 -- the same, if that part was not written whole
 pub AppendsProperBeginning-step : (a b c : Option (List ℕ))

@@ -77,11 +77,7 @@ ties_itself cmp order x = rw (below_itself cmp order x) refl
 -- an element below x does not tie with an element that ties with x
 ties_apart : {X : Type 0} (cmp : X → X → Ordering) → IsStrictWeakOrder (below cmp) → (z x y : X)
     → below cmp y x ≡ true → ties (below cmp) z x ≡ true → ties (below cmp) z y ≡ false
-ties_apart cmp order z x y up tied =
-    false_from_ne_true _ (λ same.
-    let not_above = neither (below cmp z y) (below cmp y z) same in
-    let not_below = neither (below cmp z x) (below cmp x z) tied in
-    true≢false (sym up ∙ order.chain y z x not_above.1 not_below.0))
+ties_apart cmp order z x y up tied = grind (arith, false_from_ne_true, neither, true≢false)
 
 -- two elements of which at most one passes a filter may be exchanged
 filter-swap : {X : Type 0} (p : X → Bool) (x y : X) (xs : List X) → (p x ≡ true → p y ≡ false)
@@ -195,9 +191,7 @@ tails_kept p x xs ys kept =
 heads_tie : {X : Type 0} (cmp : X → X → Ordering) → IsStrictWeakOrder (below cmp)
     → (x y : X) (xs ys : List X) → AtLeast (below cmp) y ys
     → IsStableBy (below cmp) (x ∷ xs) (y ∷ ys) → below cmp x y ≡ false
-heads_tie cmp order x y xs ys least same =
-    first_kept cmp (ties (below cmp) x) y x (y ∷ ys) (filter (ties (below cmp) x) xs)
-    (below_itself cmp order y, least) (same x ∙ rw (ties_itself cmp order x) refl)
+heads_tie cmp order x y xs ys least same = grind (arith, first_kept, below_itself, ties_itself)
 
 same_heads : {X : Type 0} (cmp : X → X → Ordering) → IsStrictWeakOrder (below cmp)
     → (x y : X) (xs ys : List X) → AtLeast (below cmp) x xs → AtLeast (below cmp) y ys

@@ -116,7 +116,4 @@ behind_chunks (c ∷ d ∷ chunks) part =
     ∙ behind_chunks (d ∷ chunks) part)
 
 pub body_printed : IsPrinted SpellsBody body_text
-body_printed text body s =
-    ap (λ (l : List ℕ). chunks_text body.0 ++ l) (last_printed s.part body.1 s.last_is)
-    ∙ behind_chunks body.0 s.part
-    ∙ parts_printed text (body.0 ++ s.part ∷ []) s.parts_are
+body_printed text body s = grind (arith, last_printed, behind_chunks, parts_printed)

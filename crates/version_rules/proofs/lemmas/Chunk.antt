@@ -1,5 +1,5 @@
 -- Chunks, releases and metadata: each front reads what is spelled, and nothing else.
-use Rattle.std.proofs.Common.{◌≡◌, ◌==◌, ℕ, Bool, true, false, List, [], ◌∷◌, ◌++◌, drop, map, Option, Some, None, refl, sym, ap, ◌∙◌, inl, inr}
+use Rattle.std.proofs.Common.{◌≡◌, ◌==◌, ℕ, Bool, true, false, List, [], ◌∷◌, ◌++◌, drop, map, Option, Some, None, refl, sym, ap, ◌∙◌, inl, inr, arith}
 use Rattle.std.proofs.lemmas.Bool.{cases_Bool}
 use Rattle.std.proofs.lemmas.List.{drop_at, take-append-drop, take_at}
 use Rattle.std.specs.Char.{is_ascii_alphanumeric, is_ascii_digit}
@@ -73,9 +73,7 @@ module _ (test : ℕ → Bool) (digits_pass : (b : ℕ) → is_ascii_digit b ≡
   whole_run : (run rest : List ℕ) → list_all test run ≡ true → EndsRun test rest
       → (take_while test (run ++ rest) ≡ run)
       × (drop (prefix_len test (run ++ rest)) (run ++ rest) ≡ rest)
-  whole_run run rest all ends =
-      let len = prefix_len-append test run rest all ends in
-      (rw len (take_at run rest _ refl), rw len (drop_at run rest _ refl))
+  whole_run run rest all ends = grind (arith, prefix_len-append, take_at, drop_at)
 
   pub chunk_complete_of : IsComplete (SpellsChunkOf test) (EndsRun test) (chunk_front_of test)
   chunk_complete_of piece (Numeric n) rest s ends =

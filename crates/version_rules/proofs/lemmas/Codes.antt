@@ -1,5 +1,5 @@
 -- What a code that writes an order gives, and how such codes are put together.
-use Rattle.std.proofs.Common.{◌≡◌, ◌↔◌, ℕ, List, [], ◌∷◌, ◌++◌, Option, Some, None, refl, sym, ap, ◌∙◌, subst, append_assoc}
+use Rattle.std.proofs.Common.{◌≡◌, ◌↔◌, ℕ, List, [], ◌∷◌, ◌++◌, Option, Some, None, refl, sym, ap, ◌∙◌, append_assoc, arith}
 use Rattle.std.proofs.lemmas.List.{append-nil}
 use Rattle.std.specs.Cmp.{tied_itself}
 use Rattle.std.specs.Cmp.Lexicographic.{nat_list_cmp_total, slice_cmp}
@@ -90,9 +90,7 @@ ended_first R (a ∷ more) (b ∷ bs) = ap (ordering_then (R a b)) (ended_first 
 
 pub writes_slice : {A : Type 0} {R : A → A → Ordering} {code : Option A → List ℕ}
     → IsAntisymmetric R → Writes (option_cmp R) code → Writes (slice_cmp R) (list_bytes code)
-writes_slice {A} {R} {code} same w =
-    subst (λ S. Writes S (list_bytes code)) (λ i xs ys. ended_first R xs ys i)
-    (writes_list (options_same same) w)
+writes_slice {A} {R} {code} same w = grind (arith, ended_first, writes_list, options_same)
 
 -- ---- what a code that writes an order gives
 

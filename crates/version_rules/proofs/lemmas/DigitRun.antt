@@ -23,14 +23,7 @@ pub number_front-digits : (digits rest : List ℕ) → is_digits digits ≡ true
     → starts_with_digit rest ≡ false
     → number_front (digits ++ rest) ≡ Some (digits_value 10 digits, rest)
 number_front-digits digits rest run ends =
-    let first = first_so (starts_with_digit digits) (list_all is_ascii_digit digits) run in
-    let all = second_so (starts_with_digit digits) (list_all is_ascii_digit digits) run in
-    rw (
-      begins digits rest first,
-      prefix_len-append is_ascii_digit digits rest all ends,
-      take_at digits rest (length digits) refl,
-      drop_at digits rest (length digits) refl,
-    ) refl
+    grind (arith, begins, prefix_len-append, take_at, drop_at)
 
 pub number_front-none : (text : List ℕ) → starts_with_digit text ≡ false → number_front text ≡ None
 number_front-none text e = rw e refl
@@ -63,14 +56,7 @@ pub split_of-digits : (before digits rest : List ℕ) → list_any is_ascii_digi
     → split_of (before ++ (digits ++ rest))
     ≡ record { before = before; number = Some (digits_value 10 digits, rest) }
 split_of-digits before digits rest none run ends =
-    let first = begins digits rest
-    (first_so (starts_with_digit digits) (list_all is_ascii_digit digits) run) in
-    rw (
-      before_end before (digits ++ rest) none (inr first),
-      take_at before (digits ++ rest) (length before) refl,
-      drop_at before (digits ++ rest) (length before) refl,
-      number_front-digits digits rest run ends,
-    ) refl
+    grind (arith, begins, before_end, take_at, drop_at, number_front-digits)
 
 -- ---- what `decimal` writes is a run of digits
 

@@ -1,11 +1,11 @@
 -- What holds of each text that is spelled: whatever holds of the empty text, of runs of letters,
 -- digits, hyphens and dots, and of two texts joined if it holds of both.
-use Rattle.std.proofs.Common.{◌≡◌, ℕ, Bool, true, List, [], ◌∷◌, ◌++◌, Option, Some, None, refl}
+use Rattle.std.proofs.Common.{◌≡◌, ℕ, Bool, true, List, [], ◌∷◌, ◌++◌, Option, Some, None, refl, arith}
 use Rattle.std.specs.Char.{is_ascii_alphanumeric, is_ascii_digit}
 use Rattle.std.specs.List.{list_all}
 use Rattle.version_rules.specs.Body.{PlainBody, SpellsBody}
 use Rattle.version_rules.specs.Bytes.{dot, is_identifier_byte, is_metadata_byte}
-use Rattle.version_rules.specs.Chunk.{Numeric, Alphanum, PlainChunk, SpellsChunk, SpellsChunkOf, SpellsPart}
+use Rattle.version_rules.specs.Chunk.{Numeric, Alphanum, PlainChunk, SpellsChunk, SpellsChunkOf}
 use Rattle.version_rules.specs.Grammar.{SpellsDotted, SpellsEach, SpellsOptional}
 use Rattle.version_rules.specs.MChunk.{PlainMChunk, SpellsMChunk}
 use Rattle.version_rules.specs.Metadata.{SpellsMetadata}
@@ -50,9 +50,7 @@ module _ (Holds : List ℕ → Type 0) (nothing : Holds [])
   of_release = of_list SpellsChunk (of_chunk is_identifier_byte identifier_byte)
 
   pub of_body : (text : List ℕ) (body : PlainBody) → SpellsBody text body → Holds text
-  of_body text body s =
-      of_list SpellsPart (of_chunk is_ascii_alphanumeric alphanumeric_byte) text
-      (body.0 ++ s.part ∷ []) s.parts_are
+  of_body text body s = grind (arith, of_list, of_chunk, alphanumeric_byte)
 
   pub of_metadata : (text meta : List ℕ) → SpellsMetadata text meta → Holds text
   of_metadata text meta s = rw s.0 (run meta s.1)
@@ -74,6 +72,4 @@ module _ (Holds : List ℕ → Type 0) (nothing : Holds [])
       rw s.2 (together s.0 s.1 (each s.0 x s.3) (of_each Spells each s.1 xs s.4))
 
   pub of_mchunk : (text : List ℕ) (x : PlainMChunk) → SpellsMChunk text x → Holds text
-  of_mchunk text x s =
-      run text (all_weaker is_ascii_alphanumeric is_metadata_byte alphanumeric_byte text
-      (spelled_run text x s))
+  of_mchunk text x s = grind (arith, all_weaker, alphanumeric_byte, spelled_run)

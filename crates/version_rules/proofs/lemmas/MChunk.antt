@@ -1,15 +1,14 @@
 -- Messy chunks, sections of them, and signs: their fronts read what is spelled, and nothing else if
 -- a dot, a sign or the end follows.
-use Rattle.std.proofs.Common.{◌≡◌, ◌==◌, ◌^◌, ℕ, ◌<◌, true, List, [], ◌∷◌, ◌++◌, length, map, Option, Some, None, nat_lt, if◌then◌else◌, refl, sym, ap, ◌∙◌, arith, inl, inr, subst}
+use Rattle.std.proofs.Common.{◌≡◌, ◌==◌, ◌^◌, ℕ, ◌<◌, true, List, [], ◌∷◌, ◌++◌, length, map, Option, Some, None, if◌then◌else◌, refl, sym, ap, ◌∙◌, arith, inl, inr, subst}
 use Rattle.std.proofs.lemmas.Bool.{cases_Bool, eqb-true, ltb-true, lt-ltb}
 use Rattle.std.proofs.lemmas.Bool.Decides.{nat_tests}
 use Rattle.std.specs.Char.{is_ascii_alphanumeric}
 use Rattle.std.specs.Cmp.{second_so}
 use Rattle.std.specs.List.{join_with_byte, list_all}
-use Rattle.std.specs.Str.Parse.{digits_value}
-use Rattle.version_rules.specs.Bytes.{colon, dot, hyphen, plus, tilde, underscore}
+use Rattle.version_rules.specs.Bytes.{dot}
 use Rattle.version_rules.specs.DigitRun.{is_digits}
-use Rattle.version_rules.specs.Front.{Consumes, after_mark, dotted_front, run_front}
+use Rattle.version_rules.specs.Front.{Consumes, dotted_front, run_front}
 use Rattle.version_rules.specs.laws.Front.{mchunk_consumes}
 use Rattle.version_rules.specs.Grammar.{SpellsDotted}
 use Rattle.version_rules.specs.MChunk.{Digits, Rev, Plain, EndsChunk, PlainMChunk, SpellsDigits, SpellsMChunk, SpellsRevision, chunk_before, ends_chunk, mchunk_front, mchunk_text, value_of_digits, value_of_revision, variant_of}
@@ -28,15 +27,7 @@ digits-Some text value s = rw (s.digits, s.value_is, lt-ltb value (2 ^ 32) s.fit
 
 digits_spelled : (text : List ℕ) (value : ℕ) → value_of_digits text ≡ Some value
     → SpellsDigits text value
-digits_spelled text value e = elim (cases_Bool (is_digits text)) [
-  | inl digits ↦ elim (cases_Bool (nat_lt (digits_value 10 text) (2 ^ 32))) [
-    | inl fits ↦
-        let same : digits_value 10 text ≡ value = cc (rw (digits, fits) at e) in
-        record { digits = digits; value_is = same; fits = rw same at (ltb-true _ _ fits) }
-    | inr large ↦ cc (rw (digits, large) at e)
-  ]
-  | inr other ↦ cc (rw other at e)
-]
+digits_spelled text value e = grind (arith, cases_Bool, ltb-true)
 
 revision-Some : (text : List ℕ) (value : ℕ) → SpellsRevision text value
     → value_of_revision text ≡ Some value
@@ -44,14 +35,7 @@ revision-Some text value s = rw s.1 (digits-Some s.0 value s.2)
 
 revision_spelled : (text : List ℕ) (value : ℕ) → value_of_revision text ≡ Some value
     → SpellsRevision text value
-revision_spelled text value e = elim (cases_Option (after_mark 114 text)) [
-  | inl none ↦ cc (rw none at e)
-  | inr tail ↦ (
-    tail.0,
-    after_mark-Some 114 text tail.0 tail.1,
-    digits_spelled tail.0 value (rw tail.1 at e),
-  )
-]
+revision_spelled text value e = grind (arith, cases_Option, after_mark-Some, digits_spelled)
 
 -- nothing is read if nothing is spelled
 none_read : (Spells : ℕ → Type 0) (o : Option ℕ) → ((value : ℕ) → o ≡ Some value → Spells value)
@@ -198,12 +182,7 @@ variant_text run = elim (cases_Option (value_of_digits run)) [
 ]
 
 pub chunk_text : (run : List ℕ × List ℕ) → mchunk_text (chunk_before run) ≡ run.0
-chunk_text run =
-    elim (cases_Bool (ends_chunk run.1)) [
-      | inl ended ↦
-          rw ended (variant_text run.0)
-      | inr other ↦ rw other refl
-    ]
+chunk_text run = grind (arith, cases_Bool, variant_text)
 
 pub mchunk_kept : IsKept mchunk_text mchunk_front
 mchunk_kept text chunk rest e = elim (cases_Option (run_front is_ascii_alphanumeric text)) [
@@ -250,19 +229,10 @@ sep_of_byte Tilde = refl
 byte_tried : (mark b : ℕ) (here sign : PlainSep) (others : Option PlainSep) → sep_byte here ≡ mark
     → (others ≡ Some sign → b ≡ sep_byte sign)
     → (if b == mark then Some here else others) ≡ Some sign → b ≡ sep_byte sign
-byte_tried mark b here sign others is further e = elim (cases_Bool (b == mark)) [
-  | inl same ↦
-      let found : here ≡ sign = cc (rw same at e) in
-      eqb-true b mark same ∙ sym is ∙ ap sep_byte found
-  | inr other ↦ further (rw other at e)
-]
+byte_tried mark b here sign others is further e = grind (arith, cases_Bool, eqb-true)
 
 pub byte_of_sep : (b : ℕ) (sign : PlainSep) → sep_of b ≡ Some sign → b ≡ sep_byte sign
-byte_of_sep b sign =
-    byte_tried colon b Colon sign _ refl
-    (byte_tried hyphen b Hyphen sign _ refl (byte_tried plus b Plus sign _ refl
-    (byte_tried underscore b Underscore sign _ refl
-    (byte_tried tilde b Tilde sign None refl (λ e. cc e)))))
+byte_of_sep b sign = grind (arith, byte_tried)
 
 pub sep_front-Some : (text : List ℕ) (sign : PlainSep) (rest : List ℕ)
     → sep_front text ≡ Some (sign, rest) → text ≡ sep_byte sign ∷ rest

@@ -218,17 +218,10 @@ mess_unique text m n s t =
 -- if no rest is left, the whole text spells the version
 pub mess_whole : (text : List ℕ) (m : PlainMess) → mess_front text ≡ Some (m, [])
     → SpellsMess text m
-mess_whole text m e =
-    let read = mess_sound text m [] e refl in
-    subst (λ (t : List ℕ). SpellsMess t m) (sym (read.1 ∙ append-nil read.0)) read.2
+mess_whole text m e = grind (arith, mess_sound, append-nil)
 
 pub mess_printed : IsPrinted SpellsMess mess_text
-mess_printed text m s =
-    rw (
-      section_printed s.first m.first s.first_is,
-      each_printed SpellsFurther further_text further_printed s.more m.more s.more_is,
-    )
-    (sym s.whole_is)
+mess_printed text m s = grind (arith, section_printed, each_printed, further_printed)
 
 pub mess_ascii : (text : List ℕ) (m : PlainMess) → SpellsMess text m → IsAscii text
 mess_ascii = of_mess IsAscii IsAscii-nil IsAscii-append metadata_run_ascii sign_ascii

@@ -61,17 +61,11 @@ nat_cmp-by m n p q r s f g h = by (nat_cmp p q) (ranks p q)
 
 by_tens : (m n : ℕ)
     → nat_cmp m n ≡ ordering_then (nat_cmp (m / 10) (n / 10)) (nat_cmp (m % 10) (n % 10))
-by_tens m n =
-    nat_cmp-by m n (m / 10) (n / 10) (m % 10) (n % 10) (λ h. omega arith) (λ h. omega arith)
-    (λ e. along m n (m % 10) (n % 10) (ranks (m % 10) (n % 10)) (λ h. omega arith)
-    (λ h. omega arith) (λ h. omega arith))
+by_tens m n = grind (arith, nat_cmp-by, along)
 
 by_255s : (m n : ℕ)
     → nat_cmp m n ≡ ordering_then (nat_cmp (m / 255) (n / 255)) (nat_cmp (m % 255) (n % 255))
-by_255s m n =
-    nat_cmp-by m n (m / 255) (n / 255) (m % 255) (n % 255) (λ h. omega arith) (λ h. omega arith)
-    (λ e. along m n (m % 255) (n % 255) (ranks (m % 255) (n % 255)) (λ h. omega arith)
-    (λ h. omega arith) (λ h. omega arith))
+by_255s m n = grind (arith, nat_cmp-by, along)
 
 -- ---- lengths
 
@@ -84,17 +78,7 @@ runs (suc p) zero r s x y h k = rw (above 255 s k, above (suc p) zero (omega ari
 runs (suc p) (suc q) r s x y h k = rw (nat_cmp-suc p q) (runs p q r s x y h k)
 
 pub length_writes : Writes nat_cmp length_bytes
-length_writes = record {
-  compares = λ m n x y.
-      rw (
-        append_assoc (replicate (m / 255) 255) ((m % 255) ∷ []) x,
-        append_assoc (replicate (n / 255) 255) ((n % 255) ∷ []) y,
-        by_255s m n,
-      )
-      (runs (m / 255) (n / 255) (m % 255) (n % 255) x y (omega arith) (omega arith)
-      ∙ sym (then_assoc (nat_cmp (m / 255) (n / 255)) (nat_cmp (m % 255) (n % 255))
-      (bytes_cmp x y)));
-}
+length_writes = grind (arith, append_assoc, by_255s, runs, then_assoc)
 
 -- ---- digits
 
@@ -105,18 +89,12 @@ abbrev digit_count : ℕ → ℕ
 digit_count n = length (digits_of 10 n)
 
 digit_char-cmp : (a b : ℕ) → a < 10 → b < 10 → nat_cmp (digit_char a) (digit_char b) ≡ nat_cmp a b
-digit_char-cmp a b h k =
-    rw (lt-ltb a 10 h, lt-ltb b 10 k)
-    (along (48 + a) (48 + b) a b (ranks a b) (λ l. omega arith) (λ l. omega arith)
-    (λ l. omega arith))
+digit_char-cmp a b h k = grind (arith, lt-ltb, along)
 
 -- the last digit of a number follows the digits of its tenth
 pub digit_bytes_step : (n : ℕ) (x : List ℕ) → 0 < n
     → digit_bytes n ++ x ≡ digit_bytes (n / 10) ++ (digit_char (n % 10) ∷ x)
-digit_bytes_step n x h =
-    ap (λ ds. map digit_char ds ++ x) (digits_of_step 10 n (lit≤ tt) h)
-    ∙ ap (λ ds. ds ++ x) (map-append digit_char (digits_of 10 (n / 10)) ((n % 10) ∷ []))
-    ∙ append_assoc (digit_bytes (n / 10)) (digit_char (n % 10) ∷ []) x
+digit_bytes_step n x h = grind (arith, digits_of_step, map-append, append_assoc)
 
 digit_count_step : (n : ℕ) → 0 < n → digit_count n ≡ digit_count (n / 10) + 1
 digit_count_step n h = length-digits_of_step 10 n (lit≤ tt) h
@@ -155,11 +133,7 @@ tens_step : (m n : ℕ) (x y : List ℕ)
     → ordering_then (nat_cmp (m / 10) (n / 10))
     (bytes_cmp (digit_char (m % 10) ∷ x) (digit_char (n % 10) ∷ y))
     ≡ ordering_then (nat_cmp m n) (bytes_cmp x y)
-tens_step m n x y =
-    ap (λ o. ordering_then (nat_cmp (m / 10) (n / 10)) (ordering_then o (bytes_cmp x y)))
-    (digit_char-cmp (m % 10) (n % 10) (omega arith) (omega arith))
-    ∙ sym (then_assoc (nat_cmp (m / 10) (n / 10)) (nat_cmp (m % 10) (n % 10)) (bytes_cmp x y))
-    ∙ ap (λ o. ordering_then o (bytes_cmp x y)) (sym (by_tens m n))
+tens_step m n x y = grind (arith, digit_char-cmp, then_assoc, by_tens)
 
 -- more digits make a greater number, and as many digits compare as their numbers do
 counted : (fuel m n : ℕ) (x y : List ℕ) → m ≤ fuel → n ≤ fuel
@@ -211,25 +185,16 @@ number_writes = record {
 -- ---- the bytes of a length, one 255 at a time
 
 pub length_bytes-short : (n : ℕ) → n < 255 → length_bytes n ≡ n ∷ []
-length_bytes-short n h =
-    let none : n / 255 ≡ 0 = omega arith in
-    let all : n % 255 ≡ n = omega arith in
-    rw (none, all) refl
+length_bytes-short n h = grind arith
 
 pub length_bytes-long : (n : ℕ) → length_bytes (255 + n) ≡ 255 ∷ length_bytes n
-length_bytes-long n =
-    let once_more : (255 + n) / 255 ≡ suc (n / 255) = omega arith in
-    let left : (255 + n) % 255 ≡ n % 255 = omega arith in
-    rw (once_more, left) refl
+length_bytes-long n = grind arith
 
 -- ---- the bytes of a number, by the text of its digits
 
 pub number_bytes-digits : (n : ℕ) (text : List ℕ) → digit_bytes n ≡ text
     → number_bytes n ≡ length_bytes (length text) ++ text
-number_bytes-digits n text same =
-    let counts : digit_count n ≡ length text =
-    sym (length-map (digits_of 10 n) digit_char) ∙ ap length same in
-    λ i. length_bytes (counts i) ++ same i
+number_bytes-digits n text same = grind (arith, length-map)
 
 -- ---- the bytes of a number that fits a machine's, by what `decimal` writes
 

@@ -32,13 +32,7 @@ no_leading_zero (d ∷ c ∷ digits) rest e some = elim (cases_Bool (d == 48)) [
 value_of_run-Some : (run : List ℕ × List ℕ) (n : ℕ) (rest : List ℕ)
     → value_of_run run ≡ Some (n, rest)
     → (digits_value 10 run.0 ≡ n) × (n < 2 ^ 32) × (run.1 ≡ rest)
-value_of_run-Some run n rest e = elim (cases_Bool (nat_lt (digits_value 10 run.0) (2 ^ 32))) [
-  | inl fits ↦
-      let same : (digits_value 10 run.0, run.1) ≡ (n, rest) = cc (rw fits at e) in
-      let value : digits_value 10 run.0 ≡ n = ap (λ (p : ℕ × List ℕ). p.0) same in
-      (value, rw value at (ltb-true _ _ fits), ap (λ (p : ℕ × List ℕ). p.1) same)
-  | inr large ↦ cc (rw large at e)
-]
+value_of_run-Some run n rest e = grind (arith, cases_Bool, ltb-true)
 
 -- what the front gives if the text begins with 0, and if it does not
 unsigned-zero : (text tail : List ℕ) → after_mark 48 text ≡ Some tail
@@ -89,9 +83,7 @@ only_zero d (c ∷ digits) same h = cc (h, same)
 
 only_digit : (d : ℕ) (digits : List ℕ) → d ≡ 48 → HasNoLeadingZero (d ∷ digits)
     → length (d ∷ digits) ≡ 1
-only_digit d digits e h =
-    let none : digits ≡ [] = only_zero d digits (rw e refl) h in
-    rw none refl
+only_digit d digits e h = grind (arith, only_zero)
 
 pub unsigned_complete : IsComplete SpellsNumeral (EndsRun is_ascii_digit) unsigned_front
 unsigned_complete [] n rest s ends = absurd s.canonical

@@ -1,5 +1,5 @@
 -- The laws that the contracts of `src/laws/order.rt` state, from the laws of the codes.
-use Rattle.std.proofs.Common.{◌≡◌, ◌↔◌, ℕ, List, ◌∷◌, ◌++◌, Option, refl, ◌∙◌}
+use Rattle.std.proofs.Common.{◌≡◌, ◌↔◌, ℕ, List, ◌∷◌, ◌++◌, Option, refl, ◌∙◌, arith}
 use Rattle.std.specs.Cmp.{tied_itself}
 use Rattle.std.specs.Ordering.{on, ordering_then}
 use Rattle.std.specs.declared.cmp.Ordering.TheVariants.{Equal}
@@ -54,9 +54,7 @@ key_bytes_equal = writes_canonical keys_same key_writes
 
 pub key_bytes_apart : (k l : Key) (x y : List ℕ) → ¬ (precedence k l ≡ Equal)
     → bytes_cmp (key_bytes k ++ x) (key_bytes l ++ y) ≡ precedence k l
-key_bytes_apart k l x y differ =
-    key_writes.compares k l x y ∙ then_decided (precedence k l) (bytes_cmp x y) Equal differ
-    ∙ then_equal (precedence k l)
+key_bytes_apart k l x y differ = grind (arith, key_writes, then_decided, then_equal)
 
 pub no_key_begins_another : (k l : Key) (x y : List ℕ) → key_bytes k ++ x ≡ key_bytes l ++ y → k ≡ l
 no_key_begins_another = writes_no_prefix keys_same key_writes
@@ -95,10 +93,7 @@ mess_cmp_equal = equal_where_same mess_cmp_total (then_same (on key_of_mess prec
 
 pub versioning_cmp_equal : (a b : PlainVersioning)
     → (versioning_cmp a b ≡ Equal) ↔ SameVersioning a b
-versioning_cmp_equal a b = (
-  λ tied. (versioning_equal a b).0 (then_second _ _ tied),
-  λ same. let tied = (versioning_equal a b).1 same in rw (keys_tied a b tied, tied) refl,
-)
+versioning_cmp_equal a b = grind (arith, versioning_equal, then_second, keys_tied)
 
 pub versioning_cmp_refines : (a b : PlainVersioning) → ¬ (precedence (key_of a) (key_of b) ≡ Equal)
     → versioning_cmp a b ≡ precedence (key_of a) (key_of b)

@@ -76,6 +76,4 @@ part_key-decimal n h =
 -- ---- plain numbers
 
 pub plain_number : (n : ℕ) → n < 2 ^ 32 → part_key (decimal n) ≡ Number n None
-plain_number n small =
-    let fits : n < 2 ^ 64 = omega arith in
-    part_key-decimal n fits
+plain_number n small = grind (arith, part_key-decimal)

@@ -1,9 +1,9 @@
 -- The bytes of the pieces of keys are below 256 if the bytes of the texts are.
 use borrow.Author.Tests.{lt-ltb}
-use Rattle.std.proofs.Common.{ℕ, zero, suc, ◌/◌, ◌%◌, ◌<◌, List, [], ◌∷◌, ◌++◌, map, replicate, Option, Some, None, arith, lit≤, lit<}
+use Rattle.std.proofs.Common.{ℕ, zero, suc, ◌<◌, List, [], ◌∷◌, ◌++◌, map, replicate, Option, Some, None, arith, lit<}
 use Rattle.std.proofs.lemmas.Int.Digits.{all_below_base_digits_of}
 use Rattle.std.specs.Char.{digit_char}
-use Rattle.std.specs.Int.Digits.{AllBelowBase, digits_of}
+use Rattle.std.specs.Int.Digits.{AllBelowBase}
 use Rattle.std.specs.List.{AllByRecursion, flat_map}
 use Rattle.version_rules.specs.Chunk.{PlainChunk, Numeric, Alphanum}
 use Rattle.version_rules.specs.Codes.{list_bytes}
@@ -49,14 +49,11 @@ digits_are_bytes [] h = tt
 digits_are_bytes (d ∷ ds) h = (rw (lt-ltb d 10 h.0) (omega arith), digits_are_bytes ds h.1)
 
 length_are_bytes : (n : ℕ) → Bytes (length_bytes n)
-length_are_bytes n =
-    append_are_bytes (replicate (n / 255) 255) ((n % 255) ∷ [])
-    (copies_are_bytes (n / 255) 255 (lit< tt)) (omega arith, tt)
+length_are_bytes n = grind (arith, append_are_bytes, copies_are_bytes)
 
 pub number_are_bytes : (n : ℕ) → Bytes (number_bytes n)
 number_are_bytes n =
-    append_are_bytes (length_bytes _) (map digit_char (digits_of 10 n)) (length_are_bytes _)
-    (digits_are_bytes (digits_of 10 n) (all_below_base_digits_of 10 n (lit≤ tt)))
+    grind (arith, append_are_bytes, length_are_bytes, digits_are_bytes, all_below_base_digits_of)
 
 text_byte_are_bytes : (b : ℕ) → Bytes (b ∷ []) → Bytes (text_byte (Some b))
 text_byte_are_bytes zero h = (lit< tt, (lit< tt, tt))

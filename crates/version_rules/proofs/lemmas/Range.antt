@@ -127,10 +127,7 @@ none_inside (General v) inside = cc inside.of_kind
 none_inside (Complex m) inside = cc inside.of_kind
 
 all_inside : (v : PlainVersioning) → IsIn everything v
-all_inside v = record {
-  between = record { from_low = from_empty (bytes_of v); below_high = tt };
-  of_kind = of_all_kinds (versioning_kind v);
-}
+all_inside v = grind (arith, from_empty, of_all_kinds)
 
 -- versions that tie in the plain order are of one kind
 kinds_tied : (a b : PlainVersioning) → versioning_plain_cmp a b ≡ Equal
@@ -202,33 +199,18 @@ tied_between Greater h k = absurd (k refl)
 -- a key is below the bytes after another's exactly if precedence is not Greater
 pub below_after : (k l : Key)
     → IsBelow (after (key_bytes l)) (key_bytes k) ↔ (¬ (precedence k l ≡ Greater))
-below_after k l = (
-  λ below. (less_unless_greater (precedence k l)).0 (sym (after_compares k l) ∙ below),
-  λ h. after_compares k l ∙ (less_unless_greater (precedence k l)).1 h,
-)
+below_after k l = grind (arith, less_unless_greater, after_compares)
 
 -- and it is not below them exactly if precedence is Greater
 from_after : (k l : Key) → IsFrom (after (key_bytes l)) (key_bytes k) ↔ (precedence k l ≡ Greater)
-from_after k l = (
-  λ h. greater_unless_less (precedence k l) (λ less. h (after_compares k l ∙ less)),
-  λ greater below. (below_after k l).0 below greater,
-)
+from_after k l = grind (arith, greater_unless_less, after_compares, below_after)
 
 -- ---- operators
 
 -- `=`: equal versions have one key and one kind
 exact_in : (wanted v : PlainVersioning) → MatchesOp op.Exact wanted v
     → IsIn (op_range op.Exact wanted) v
-exact_in wanted v m =
-    let tied = (Equal-is (versioning_plain_cmp v wanted)).0 m in
-    let level = keys_tied v wanted tied in
-    record {
-      between = record {
-        from_low = (from_key (key_of v) (key_of wanted)).1 (λ less. cc (less, level));
-        below_high = (below_after (key_of v) (key_of wanted)).1 (λ greater. cc (greater, level));
-      };
-      of_kind = kinds_tied v wanted tied;
-    }
+exact_in wanted v m = grind (arith, keys_tied, from_key, below_after, kinds_tied)
 
 -- and strict versions with one key are equal
 exact_exact : (wanted v : PlainVersioning) → IsTrue (op_range op.Exact wanted).is_exact

@@ -1,5 +1,5 @@
 -- Whole texts: what follows if a front reads what is spelled and nothing else.
-use Rattle.std.proofs.Common.{◌≡◌, ◌==◌, ◌∙◌, List, ℕ, [], length, Option, Some, None, refl, sym, ap, subst, inl, inr, append-nil}
+use Rattle.std.proofs.Common.{◌≡◌, ◌==◌, List, ℕ, [], length, Option, Some, None, refl, ap, inl, inr, append-nil, arith}
 use Rattle.std.proofs.lemmas.Bool.{cases_Bool, eqb-true}
 use Rattle.std.proofs.lemmas.List.{nil_from_length}
 use Rattle.version_rules.specs.Front.{Front, whole}
@@ -22,15 +22,11 @@ module _ {X : Type 0} (Spells : List ℕ → X → Type 0) (front : Front X)
     (complete : (text : List ℕ) (x : X) → Spells text x → front text ≡ Some (x, [])) where
   -- a text spells one value at most
   pub spelled_once : (text : List ℕ) (x y : X) → Spells text x → Spells text y → x ≡ y
-  spelled_once text x y s t =
-      let same : (x, []) ≡ (y, []) = cc (sym (complete text x s) ∙ complete text y t) in
-      ap (λ (p : X × List ℕ). p.0) same
+  spelled_once text x y s t = grind arith
 
   -- the whole text spells a value that the front reads without a rest
   pub whole_spelled : (text : List ℕ) (x : X) → front text ≡ Some (x, []) → Spells text x
-  whole_spelled text x e =
-      let read = sound text x [] e in
-      subst (λ (t : List ℕ). Spells t x) (sym (read.1 ∙ append-nil read.0)) read.2
+  whole_spelled text x e = grind (arith, append-nil)
 
   -- what the whole text spells is what is read from all of it
   pub whole_read : (text : List ℕ) (x : X) → Spells text x → whole (front text) ≡ Some x

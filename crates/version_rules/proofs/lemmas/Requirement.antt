@@ -95,11 +95,15 @@ each_no_comma (b ∷ text) h =
 pub requirement_without_comma : (text : List ℕ) (r : PlainRequirement) → SpellsRequirement text r
     → All (λ b. eqb b comma ≡ false) text
 requirement_without_comma text r s =
-    let operand =
-    all_weaker is_version_byte is_no_comma version_byte_no_comma s.operand
-    (operand_bytes r.op s.operand r.version s.operand_is) in
-    rw s.whole (each_no_comma (op_text r.op ++ s.operand)
-    (together is_no_comma (op_text r.op) s.operand (op_bytes r.op) operand))
+    grind (
+      arith,
+      all_weaker,
+      version_byte_no_comma,
+      operand_bytes,
+      each_no_comma,
+      together,
+      op_bytes,
+    )
 
 -- ---- what follows an operator
 
@@ -122,12 +126,7 @@ operand_of-Some o text (Some v) s =
 
 version_spells : (o : Op) (text : List ℕ) (version : Option PlainVersioning) → ¬ (o ≡ op.Wildcard)
     → option_map Some (versioning_of text) ≡ Some version → SpellsOperand o text version
-version_spells o text version other e = elim (cases_Option (versioning_of text)) [
-  | inl none ↦ cc (rw none at e)
-  | inr v ↦
-      let same : Some v.0 ≡ version = cc (rw v.1 at e) in
-      rw (← same) (other, versioning_of-spells text v.0 v.1)
-]
+version_spells o text version other e = grind (arith, cases_Option, versioning_of-spells)
 
 operand_of-spells : (o : Op) (text : List ℕ) (version : Option PlainVersioning)
     → operand_of o text ≡ Some version → SpellsOperand o text version
@@ -148,12 +147,7 @@ operand_of-spells op.Wildcard (b ∷ text) version e = cc e
 pub requirement_of-Some : (text : List ℕ) (r : PlainRequirement) → SpellsRequirement text r
     → requirement_of text ≡ Some r
 requirement_of-Some text r s =
-    let bytes = operand_bytes r.op s.operand r.version s.operand_is in
-    rw (
-      s.whole,
-      op_front-reads r.op s.operand (begins_so s.operand bytes),
-      operand_of-Some r.op s.operand r.version s.operand_is,
-    ) refl
+    grind (arith, operand_bytes, op_front-reads, begins_so, operand_of-Some)
 
 -- after an operator other than `*`, a requirement owns what its version owns
 pub requirement_owns : (text rest : List ℕ) (o : Op) (v : Option PlainVersioning)

@@ -1,5 +1,5 @@
 -- A scanned list of requirements: what its members match, one after another.
-use Rattle.std.proofs.Common.{◌≡◌, ◌↔◌, List, ◌∷◌, Option, Some, None}
+use Rattle.std.proofs.Common.{◌↔◌, List, ◌∷◌, Option, Some, None}
 use Rattle.std.proofs.lemmas.List.Elements.{All-cons, All-head, All-tail}
 use Rattle.std.specs.Option.{IsSomeAnd}
 use Rattle.version_rules.specs.Matching.{Matches, MatchesAll}

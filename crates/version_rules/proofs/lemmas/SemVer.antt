@@ -1,6 +1,6 @@
 -- Strict versions. A prefix spells the version that it parses as, a text that spells a version
 -- parses as that version, and the version prints that text.
-use Rattle.std.proofs.Common.{◌≡◌, ◌==◌, ℕ, Bool, false, List, [], ◌∷◌, ◌++◌, Option, Some, None, refl, sym, ap, subst, ◌∙◌, inl, inr, append-nil, append_assoc}
+use Rattle.std.proofs.Common.{◌≡◌, ◌==◌, ℕ, Bool, false, List, [], ◌∷◌, ◌++◌, Option, Some, None, refl, sym, ap, subst, ◌∙◌, inl, inr, append-nil, append_assoc, arith}
 use Rattle.std.proofs.lemmas.Str.{IsAscii-append}
 use Rattle.std.specs.Char.{is_ascii_digit}
 use Rattle.std.specs.Str.{IsAscii}
@@ -11,7 +11,7 @@ use Rattle.version_rules.specs.Grammar.{SpellsOptional}
 use Rattle.version_rules.specs.Metadata.{SpellsMetadata, meta_front}
 use Rattle.version_rules.specs.Numeral.{unsigned_front}
 use Rattle.version_rules.specs.Reading.{EndsList, EndsRun, IsPrinted, IsSound}
-use Rattle.version_rules.specs.Release.{SpellsRelease, release_front, release_text}
+use Rattle.version_rules.specs.Release.{SpellsRelease, release_front}
 use Rattle.version_rules.proofs.lemmas.Bytes.{IsAscii-nil, metadata_run_ascii, sign_ascii}
 use Rattle.version_rules.proofs.lemmas.Chunk.{metadata_complete, metadata_sound, optional_complete, optional_sound, release_complete, release_printed, release_sound}
 use Rattle.version_rules.proofs.lemmas.Front.Dotted.{behind-Some}
@@ -170,19 +170,7 @@ optional_printed mark Spells text_of printed text (Some x) s =
     rw s.1 (ap (λ (l : List ℕ). mark ∷ l) (printed s.0 x s.2))
 
 pub semver_printed : IsPrinted SpellsSemVer semver_text
-semver_printed text v s =
-    let pre_rel =
-    optional_printed hyphen SpellsRelease release_text release_printed s.pre_rel v.pre_rel
-    s.pre_rel_is in
-    let meta = optional_printed plus SpellsMetadata (λ t. t)
-    (λ t x h. sym h.0) s.meta v.meta s.meta_is in
-    rw (
-      numeral_printed s.major v.major s.major_is,
-      numeral_printed s.minor v.minor s.minor_is,
-      numeral_printed s.patch v.patch s.patch_is,
-      pre_rel,
-      meta,
-    ) (sym s.whole)
+semver_printed text v s = grind (arith, optional_printed, release_printed, numeral_printed)
 
 -- a text that spells a version parses as that version
 pub semver_of-Some : (text : List ℕ) (v : PlainSemVer) → SpellsSemVer text v

@@ -1,8 +1,8 @@
 -- The bytes of keys are below 256 if the bytes of the texts are.
-use Rattle.std.proofs.Common.{ℕ, zero, suc, ◌<◌, List, [], ◌∷◌, ◌++◌, map, take, drop, Bool, true, false, if◌then◌else◌, Option, Some, None, lit<}
+use Rattle.std.proofs.Common.{ℕ, zero, suc, List, [], ◌∷◌, ◌++◌, map, take, drop, Bool, true, false, if◌then◌else◌, Option, Some, None, lit<, arith}
 use Rattle.std.proofs.lemmas.List.Elements.{All-from_recursion, recursion_from_All}
 use Rattle.std.specs.Char.{is_ascii_digit}
-use Rattle.std.specs.List.{flat_map, position_or_len, prefix_len, take_while}
+use Rattle.std.specs.List.{flat_map, prefix_len, take_while}
 use Rattle.std.specs.Option.{option_map_or}
 use Rattle.std.specs.Str.Parse.{digits_value}
 use Rattle.version_rules.proofs.lemmas.PartTexts.{Bytes, append_are_bytes, left_are_bytes, list_are_bytes, number_are_bytes, parts_are_bytes, release_are_bytes, right_are_bytes}
@@ -10,8 +10,7 @@ use Rattle.version_rules.specs.Chunk.{PlainChunk, chunk_text}
 use Rattle.version_rules.specs.DigitRun.{number_front, starts_with_digit}
 use Rattle.version_rules.specs.Last.{last_text}
 use Rattle.version_rules.specs.MChunk.{PlainMChunk, mchunk_text}
-use Rattle.version_rules.specs.NumberBytes.{number_bytes}
-use Rattle.version_rules.specs.PartKey.{PartKey, Word, Number, part_key, chunk_parts, parts_bytes, section_parts, suffix_of}
+use Rattle.version_rules.specs.PartKey.{PartKey, Word, Number, part_key, chunk_parts, section_parts, suffix_of}
 use Rattle.version_rules.specs.Split.{split_of}
 use Rattle.version_rules.specs.PartTexts.{AreBytes, held_texts, part_text, parts_text, rest_text, split_text}
 use Rattle.version_rules.specs.Key.{Key, key_behind_epoch, key_of, key_of_sections, section_epoch, sections_tail}
@@ -38,16 +37,18 @@ tail_are_bytes (Sections first more) h = (
 
 key_are_bytes : (k : Key) → Bytes (key_text k) → Bytes (key_bytes k)
 key_are_bytes k h =
-    let body = parts_are_bytes k.body (left_are_bytes (parts_text k.body) (tail_text k.tail) h) in
-    let tail = tail_are_bytes k.tail (right_are_bytes (parts_text k.body) (tail_text k.tail) h) in
-    append_are_bytes (number_bytes k.epoch) (parts_bytes k.body ++ tail_bytes k.tail)
-    (number_are_bytes k.epoch)
-    (append_are_bytes (parts_bytes k.body) (tail_bytes k.tail) body tail)
+    grind (
+      arith,
+      parts_are_bytes,
+      left_are_bytes,
+      tail_are_bytes,
+      right_are_bytes,
+      append_are_bytes,
+      number_are_bytes,
+    )
 
 pub keys_are_bytes : (k : Key) → AreBytes (key_text k) → AreBytes (key_bytes k)
-keys_are_bytes k h =
-    All-from_recursion (λ b. b < 256) (key_bytes k)
-    (key_are_bytes k (recursion_from_All (λ b. b < 256) (key_text k) h))
+keys_are_bytes k h = grind (arith, All-from_recursion, key_are_bytes, recursion_from_All)
 
 -- ---- the texts of a key are pieces of the texts of the version
 
@@ -74,10 +75,7 @@ rest_pieces text h = by (starts_with_digit text)
     by false = tt
 
 split_pieces : (text : List ℕ) → Bytes text → Bytes (split_text (split_of text))
-split_pieces text h =
-    let first = position_or_len is_ascii_digit text in
-    append_are_bytes (take first text) (rest_text (number_front (drop first text)))
-    (take_are_bytes first text h) (rest_pieces (drop first text) (drop_are_bytes first text h))
+split_pieces text h = grind (arith, append_are_bytes, take_are_bytes, rest_pieces, drop_are_bytes)
 
 part_pieces : (text : List ℕ) → Bytes text → Bytes (part_text (part_key text))
 part_pieces text h = by (number_front text) (rest_pieces text h)
@@ -139,9 +137,7 @@ mess_pieces : (epoch : ℕ) (first : List PlainMChunk) (more : List (PlainSep ×
     → Bytes (section_text first ++ further_text more)
     → Bytes (key_text (key_of_sections epoch first more))
 mess_pieces epoch first more h =
-    append_are_bytes (parts_text (section_parts first)) (tail_text (sections_tail more))
-    (parts_pieces mchunk_text first (left_are_bytes (section_text first) (further_text more) h))
-    (further_pieces more (right_are_bytes (section_text first) (further_text more) h))
+    grind (arith, append_are_bytes, parts_pieces, left_are_bytes, further_pieces, right_are_bytes)
 
 epoch_pieces : (epoch : Option ℕ) (first : List PlainMChunk)
     (more : List (PlainSep × List PlainMChunk)) → Bytes (section_text first ++ further_text more)
@@ -169,5 +165,4 @@ key_pieces (Complex m) h = epoch_pieces (section_epoch m.first) m.first m.more h
 pub versions_are_bytes : (v : PlainVersioning) → AreBytes (texts_of v)
     → AreBytes (key_bytes (key_of v))
 versions_are_bytes v h =
-    All-from_recursion (λ b. b < 256) (key_bytes (key_of v))
-    (key_are_bytes (key_of v) (key_pieces v (recursion_from_All (λ b. b < 256) (texts_of v) h)))
+    grind (arith, All-from_recursion, key_are_bytes, key_pieces, recursion_from_All)

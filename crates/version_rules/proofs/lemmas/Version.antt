@@ -138,13 +138,7 @@ epoch_body text epoch e = elim (cases_Option (unsigned_front text)) [
 
 no_epoch : (text : List ℕ) (body : PlainBody × List ℕ) → body_front text ≡ Some body
     → after_mark colon body.1 ≡ None → optional epoch_front text ≡ (None, text)
-no_epoch text body e ends = elim (cases_Option (epoch_front text)) [
-  | inl none ↦ optional-None epoch_front text none
-  | inr epoch ↦
-      let same : (([], last.Numeric epoch.0.0), colon ∷ epoch.0.1) ≡ body =
-      cc (sym (epoch_body text epoch.0 epoch.1) ∙ e) in
-      cc (rw (← same) at ends)
-]
+no_epoch text body e ends = grind (arith, cases_Option, optional-None, epoch_body)
 
 pub epoch_unread : (text : List ℕ) (body : PlainBody × List ℕ) → Some body ≡ body_front text
     → None ≡ after_mark colon body.1 → None ≡ (optional epoch_front text).0
@@ -157,10 +151,7 @@ body_alone text body e ends = rw (no_epoch text body (sym e) (sym ends)) e
 -- if a text begins with no body, no body follows its epoch
 pub body_unread : (text : List ℕ) → None ≡ body_front text
     → None ≡ body_front (optional epoch_front text).1
-body_unread text e = elim (cases_Option (epoch_front text)) [
-  | inl none ↦ rw (optional-None epoch_front text none) e
-  | inr epoch ↦ cc (sym (epoch_body text epoch.0 epoch.1) ∙ sym e)
-]
+body_unread text e = grind (arith, cases_Option, optional-None, epoch_body)
 
 -- a text without a colon
 abbrev HasNoColon : List ℕ → Type 0
@@ -179,10 +170,7 @@ both_parts test (x ∷ a) b g h =
     rw first (both_parts test a b (second_so _ _ g) h)
 
 no_mark : (text : List ℕ) → HasNoColon text → after_mark colon text ≡ None
-no_mark text h = elim (cases_Option (after_mark colon text)) [
-  | inl none ↦ none
-  | inr rest ↦ cc (rw (marked colon text rest.0 rest.1) at h)
-]
+no_mark text h = grind (arith, cases_Option, marked)
 
 -- without a colon no epoch parses
 epoch_absent : (text : List ℕ) → HasNoColon text → epoch_front text ≡ None

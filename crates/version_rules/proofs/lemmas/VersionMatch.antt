@@ -1,5 +1,5 @@
 -- What `~` and `^` need of parts, tested part by part.
-use Rattle.std.proofs.Common.{◌≡◌, ◌&&◌, ℕ, suc, zero, Bool, cond, true, false, List, [], ◌∷◌, ◌++◌, Some, None, arith, nat_cmp, refl, sym, ap, ◌∙◌}
+use Rattle.std.proofs.Common.{◌≡◌, ◌&&◌, ℕ, suc, zero, Bool, cond, true, false, List, [], ◌∷◌, ◌++◌, Some, None, arith, nat_cmp, refl, sym, ap}
 use Rattle.std.proofs.lemmas.Bool.{and_from, and_parts}
 use Rattle.std.proofs.lemmas.Bool.Decides.{Decides-and, nat_tests}
 use Rattle.std.specs.Bool.{Decides, MatchBool}
@@ -28,9 +28,7 @@ number_tied (Number (suc n) suffix) = rw (above n) refl
 -- a part that ties with the plain 0 is the plain 0
 pub zero_tied : (part : PartKey)
     → is_eq (part_cmp (Some part) (Some (part_key (decimal 0)))) ≡ is_plain_zero part
-zero_tied part =
-    ap (λ number. is_eq (part_cmp (Some part) (Some number))) (part_key-decimal 0 (omega arith))
-    ∙ number_tied part
+zero_tied part = grind (arith, part_key-decimal, number_tied)
 
 pub same_decides : (w p : PartKey) → Decides (is_eq (part_cmp (Some p) (Some w))) (w ≡ p)
 same_decides w p =
@@ -90,11 +88,7 @@ tilde_tested (b ∷ c ∷ before) w p not_below =
 
 pub tilde_decides : (wanted parts : List PartKey)
     → Decides (tilde_test wanted parts) (PartsMatchTilde wanted parts)
-tilde_decides wanted parts = (
-  tilde_holds wanted parts,
-  λ match. rw (match.wanted_whole, match.whole)
-      (tilde_tested match.before match.wanted_final match.final match.not_below),
-)
+tilde_decides wanted parts = grind (arith, tilde_holds, tilde_tested)
 
 -- ---- a caret
 

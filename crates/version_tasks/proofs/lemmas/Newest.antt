@@ -1,5 +1,5 @@
 -- The newest of the candidates so far, and one more.
-use Rattle.std.proofs.Common.{◌≡◌, ◌∙◌, ◌<◌, ◌+◌, ◌==◌, ◌⊎◌, ℕ, Option, Some, None, IfSome, IfNone, arith, inl, inr, refl, sym, ap}
+use Rattle.std.proofs.Common.{◌≡◌, ◌∙◌, ◌<◌, ◌+◌, ◌⊎◌, ℕ, Option, Some, None, IfSome, IfNone, arith, inl, inr, refl, sym, ap}
 use Rattle.std.proofs.lemmas.Bool.{cases_Bool, eqb-false, eqb-true}
 use Rattle.std.specs.Ordering.{ordering_reverse}
 use Rattle.std.specs.declared.cmp.Ordering.{Ordering}
@@ -22,10 +22,7 @@ pub record Holds (candidates : ℕ → PlainVersioning → Type 0) (count : ℕ)
   pub none : IfNone held (NoVersion candidates count)
 
 last_or_before : (m count : ℕ) → m < count + 1 → (m ≡ count) ⊎ (m < count)
-last_or_before m count h = elim (cases_Bool (m == count)) [
-  | inl same ↦ inl (eqb-true m count same)
-  | inr other ↦ let apart = eqb-false m count other in inr (omega (arith, h, apart))
-]
+last_or_before m count h = grind (arith, cases_Bool, eqb-true, eqb-false)
 
 -- the order of a version behind another, seen from that one
 seen_back : (k l : Key) → precedence k l ≡ Greater → precedence l k ≡ Less
@@ -50,25 +47,14 @@ less_not_greater o less greater = cc (sym less ∙ greater)
 module _ (candidates : ℕ → PlainVersioning → Type 0) (count : ℕ) where
   none_more : NoVersion candidates count → ((v : PlainVersioning) → ¬ (candidates count v))
       → NoVersion candidates (count + 1)
-  none_more none last m v h is = elim (last_or_before m count h) [
-    | inl same ↦ last v (rw same at is)
-    | inr before ↦ none m v before is
-  ]
+  none_more none last m v h is = grind (arith, last_or_before)
 
   newest_more : (place : ℕ) (version : PlainVersioning)
       → IsNewest candidates count place version
       → ((v : PlainVersioning) → candidates count v
       → ¬ (precedence (key_of v) (key_of version) ≡ Greater))
       → IsNewest candidates (count + 1) place version
-  newest_more place version newest last = record {
-    within = let within = newest.within in omega (arith, within);
-    is = newest.is;
-    none_after = λ m v h is. elim (last_or_before m count h) [
-      | inl same ↦ last v (rw same at is)
-      | inr before ↦ newest.none_after m v before is
-    ];
-    is_first = newest.is_first;
-  }
+  newest_more place version newest last = grind (arith, last_or_before)
 
   -- one that is passed over
   pub passed_over : (held : Option (ℕ × VersioningRef)) → Holds candidates count held

@@ -155,11 +155,7 @@ pub eight_decide : (o : Ordering) (xs ys : List ℕ) → AreBytes xs → AreByte
     → o ≡ nat_cmp (from_be_bytes w64 xs) (from_be_bytes w64 ys) → ¬ (o ≡ Equal)
     → o ≡ bytes_cmp xs ys
 eight_decide o xs ys xs_bytes ys_bytes is apart =
-    let m = from_be_bytes w64 xs in
-    let n = from_be_bytes w64 ys in
-    by_ranked (m < n) (m ≡ n) (n < m) o (ranked m n o is)
-    (λ e less. e ∙ sym (eight_less xs ys xs_bytes ys_bytes less)) (λ e same. absurd (apart e))
-    (λ e more. e ∙ sym (turned xs ys (eight_less ys xs ys_bytes xs_bytes more)))
+    grind (arith, by_ranked, ranked, eight_less, turned)
 
 -- and by the next eight, if they don't
 
@@ -175,9 +171,7 @@ next_less xs ys xs_bytes ys_bytes tie less =
 -- two numbers first, and then an order, make another order if they do so in each case
 by_first : (m n : ℕ) (o whole : Ordering) → (m < n → whole ≡ Less) → (m ≡ n → o ≡ whole)
     → (n < m → whole ≡ Greater) → ordering_then (nat_cmp m n) o ≡ whole
-by_first m n o whole less same more =
-    by_ranked (m < n) (m ≡ n) (n < m) (nat_cmp m n) (ranked m n _ refl)
-    (λ e up. rw e (sym (less up))) (λ e tie. rw e (same tie)) (λ e down. rw e (sym (more down)))
+by_first m n o whole less same more = grind (arith, by_ranked, ranked)
 
 eight_tied : (xs ys : List ℕ) → AreBytes xs → AreBytes ys
     → from_be_bytes w64 xs ≡ from_be_bytes w64 ys
@@ -226,11 +220,13 @@ pub eight_same : (xs ys : List ℕ) → AreBytes xs → AreBytes ys → 8 ≤ le
     → bytes_cmp (take (length xs - 8) (drop 8 xs)) (take (length ys - 8) (drop 8 ys))
     ≡ bytes_cmp xs ys
 eight_same xs ys xs_bytes ys_bytes xs_long ys_long tie =
-    let rest : (zs : List ℕ) → take (length zs - 8) (drop 8 zs) ≡ drop 8 zs =
-    λ zs. take_all (length zs - 8) (drop 8 zs) (omega (arith, length-drop 8 zs)) in
-    let same : nat_cmp (length (drop 8 xs)) (length (drop 8 ys)) ≡ nat_cmp (length xs) (length ys) =
-    simp length-drop (grind (arith, nat_tests)) in
-    (λ i. bytes_cmp (rest xs i) (rest ys i))
-    ∙ sym (length_last (drop 8 xs) (drop 8 ys))
-    ∙ ap (ordering_then (bytes_cmp (drop 8 xs) (drop 8 ys))) (lengths (drop 8 xs) (drop 8 ys) ∙ same)
-    ∙ eight_tied xs ys xs_bytes ys_bytes (exact_unsigned _ _ tie)
+    grind (
+      arith,
+      take_all,
+      length-drop,
+      nat_tests,
+      length_last,
+      lengths,
+      eight_tied,
+      exact_unsigned,
+    )

@@ -1,7 +1,7 @@
 -- Where two versions differ first, by their keys, and two lists of parts, by their first parts and
 -- what follows these.
 pub mod Laws
-use Rattle.std.proofs.Common.{if◌then◌else◌, ◌≡◌, ◌∙◌, ◌+◌, ◌<◌, ℕ, suc, true, false, List, [], ◌∷◌, Option, Some, None, length, length-drop, refl, ap, arith}
+use Rattle.std.proofs.Common.{sym, if◌then◌else◌, ◌≡◌, ◌∙◌, ◌+◌, ◌<◌, ℕ, suc, true, false, List, [], ◌∷◌, Option, Some, None, length, length-drop, refl, ap, arith}
 use Rattle.std.specs.List.{position_or_len}
 use Rattle.std.specs.Option.{option_map, unwrap_or}
 use Rattle.std.specs.Ordering.{is_eq, is_ne}
@@ -59,15 +59,16 @@ module _ (n : ℕ) (a b : List ℕ) (o : Ordering)
       by_first (behind_piece a) (behind_piece b) refl refl ∙ first_counted n o _ differ
 
   -- two lists whose first parts are equal
-  pub differ_later : (rest other : List ℕ) → (o ≡ Equal → rest ≡ behind_piece a)
-      → (o ≡ Equal → other ≡ behind_piece b) → is_ne o ≡ false
-      → counted_from n (first_differing (parts_of a) (parts_of b))
-      ≡ counted_from (n + 1) (first_differing (further rest) (further other))
-  differ_later rest other left left_too equal =
+  pub differ_later : {rest other : List ℕ} {whole : Option ℕ}
+      → (o ≡ Equal → rest ≡ behind_piece a) → (o ≡ Equal → other ≡ behind_piece b)
+      → is_ne o ≡ false
+      → counted_from n (first_differing (parts_of a) (parts_of b)) ≡ whole
+      → counted_from (n + 1) (first_differing (further rest) (further other)) ≡ whole
+  differ_later {rest} {other} left left_too equal is =
       let same = is_tied o equal in
       let later = first_differing (further rest) (further other) in
-      by_first rest other (left same) (left_too same)
-      ∙ ap (λ o. counted_from n (first_or_later o later)) same ∙ later_counted n later
+      sym (by_first rest other (left same) (left_too same)
+      ∙ ap (λ o. counted_from n (first_or_later o later)) same ∙ later_counted n later) ∙ is
 
 -- what follows two parts: a list that goes on differs from one that has ended
 pub both_go_on : (rest other more others : List ℕ) → (b : ℕ) × (rest ≡ b ∷ more)
@@ -84,23 +85,12 @@ both_end rest other none none_too =
 
 pub first_goes_on : (n : ℕ) (rest other more : List ℕ) → (b : ℕ) × (rest ≡ b ∷ more) → other ≡ []
     → counted_from n (first_differing (further rest) (further other)) ≡ Some n
-first_goes_on n rest other more p none =
-    rw (
-      further_of_more is_dot rest more p,
-      further_of_none is_dot other none,
-      pieces_are is_dot more,
-    )
-    (ap Some (omega arith))
+first_goes_on n rest other more p none = grind (arith, further_of_more, further_of_none, pieces_are)
 
 pub second_goes_on : (n : ℕ) (rest other more : List ℕ) → rest ≡ [] → (b : ℕ) × (other ≡ b ∷ more)
     → counted_from n (first_differing (further rest) (further other)) ≡ Some n
 second_goes_on n rest other more none p =
-    rw (
-      further_of_none is_dot rest none,
-      further_of_more is_dot other more p,
-      pieces_are is_dot more,
-    )
-    (ap Some (omega arith))
+    grind (arith, further_of_none, further_of_more, pieces_are)
 
 -- what follows the first part is shorter
 pub is_shorter : (text rest more : List ℕ) (o : Ordering) → (o ≡ Equal → rest ≡ behind_piece text)

@@ -72,10 +72,7 @@ module _ (Is : PlainRange → Type 0)
       )
 
   of_each : Is everything → (list : List PlainRequirement) → Is (range_of list) ↔ All OfMember list
-  of_each all list = (
-    λ is. ((narrowed_each list everything).0 is).1,
-    λ each. (narrowed_each list everything).1 (all, each),
-  )
+  of_each all list = grind (arith, narrowed_each)
 
   module _ (spelled : Option (List PlainRequirement)) (range : PlainRange)
       (read : option_map range_of spelled ≡ Some range)
@@ -249,10 +246,7 @@ crossed_alone range = by range.high
 -- the ends of a crossed range
 pub crossed_ends : (range : PlainRange) (low high : List ℕ) → range.low ≡ low
     → range.high ≡ Some high → IsCrossed range → ¬ (bytes_cmp low high ≡ Less)
-crossed_ends range low high is_low is_high crossed less =
-    let apart : ¬ (bytes_cmp range.low high ≡ Less) =
-    subst (λ end. IsSomeAnd end (λ h. ¬ (bytes_cmp range.low h ≡ Less))) is_high crossed in
-    apart (ap (λ bytes. bytes_cmp bytes high) is_low ∙ less)
+crossed_ends range low high is_low is_high crossed less = grind arith
 
 -- what begins not below a low end, and what ends not above a high end, where these are crossed
 pub ends_crossed : (low high : List ℕ) (a b : PlainRange) → ¬ (bytes_cmp low high ≡ Less)

@@ -77,9 +77,7 @@ one_ended m n mark behind other (Some text) no_part some none same e =
 -- a text of parts is its first part, and those that follow it
 pub parts_are : (text rest : List ℕ) → rest ≡ behind_piece text
     → parts_of text ≡ part_key (first_piece text) ∷ further rest
-parts_are text rest e =
-    ap (map part_key) (pieces_are is_dot text)
-    ∙ ap (λ r. part_key (first_piece text) ∷ further r) (sym e)
+parts_are text rest e = grind (arith, pieces_are)
 
 -- what decides two first parts decides their lists; if they are equal, what follows does
 pub fronts_compare : (a b rest other x y : List ℕ) (o : Ordering)
@@ -87,10 +85,7 @@ pub fronts_compare : (a b rest other x y : List ℕ) (o : Ordering)
     → rest ≡ behind_piece a → other ≡ behind_piece b
     → bytes_cmp (front (parts_of a) x) (front (parts_of b) y)
     ≡ ordering_then o (bytes_cmp (front (further rest) x) (front (further other) y))
-fronts_compare a b rest other x y o e left left_too =
-    rw (parts_are a rest left, parts_are b other left_too, e)
-    (first_parts (part_key (first_piece a)) (part_key (first_piece b)) (further rest)
-    (further other) x y)
+fronts_compare a b rest other x y o e left left_too = grind (arith, parts_are, first_parts)
 
 -- what follows a part, by the text after the dot
 pub further_is : (more : Option (Bor (List ℕ))) (rest : List ℕ)
@@ -140,9 +135,7 @@ by_epochs : (a b : End) (k l : Key) → fixed_bytes a ≡ None → fixed_bytes b
     ≡ ordering_then (nat_cmp k.epoch l.epoch)
     (bytes_cmp (front (kept_parts (kept_of a) k.body) (behind_parts a k))
     (front (kept_parts (kept_of b) l.body) (behind_parts b l)))
-by_epochs a b k l of_version of_version_too =
-    rw (end_parts a k of_version, end_parts b l of_version_too)
-    (number_writes.compares k.epoch l.epoch _ _)
+by_epochs a b k l of_version of_version_too = grind (arith, end_parts, number_writes)
 
 -- epochs that differ decide; after equal ones what follows does
 pub epochs_decide : (a b : End) (k l : Key) (o : Ordering) → fixed_bytes a ≡ None
@@ -168,9 +161,7 @@ key_end _ k whole = cc whole
 pub by_keys : (a b : End) (k l : Key) → is_key a ≡ true → is_key b ≡ true
     → bytes_cmp (end_bytes a k) (end_bytes b l)
     ≡ ordering_then (precedence k l) (bytes_cmp (after_key a) (after_key b))
-by_keys a b k l whole whole_too =
-    rw (key_end a k whole, key_end b l whole_too)
-    (key_writes.compares k l (after_key a) (after_key b))
+by_keys a b k l whole whole_too = grind (arith, key_end, key_writes)
 
 -- what follows the parts of an end begins with its mark, which no part begins with
 pub begins_with_mark : (end : End) (k : Key) → Begins (mark_of end) (behind_parts end k)

@@ -73,10 +73,7 @@ module _ (text : List ℕ) (s : Shape) (e : shape_of text ≡ Some s) where
   pub texts_are : ¬ (s.kind ≡ kind.Complex)
       → Some (take s.body (take s.end text), drop s.body (take s.end text))
       ≡ epoch_and_parts (version_in text)
-  texts_are other =
-      rw (spelled text s e).1
-      (texts_by_kind text (version_in text) (spells-is text s e)
-      (λ is. other (kind-is text s e ∙ is)))
+  texts_are other = grind (arith, spelled, texts_by_kind, spells-is, kind-is)
 
   -- the body ends within the text
   pub body_within : s.end ≤ length text

@@ -217,13 +217,7 @@ module _ (text : List ℕ) (v : PlainVersion) (s : SpellsVersion text v) where
   pub meta_placed : option_map (place_behind (version_text (bare_version v) ++ plus ∷ [])) v.meta
       ≡ metadata_place text
   meta_placed =
-      metadata_placed text _ s.meta v.meta s.meta_is bare_length
-      (omega (
-        arith,
-        length_cut text s.epoch s.body (s.release ++ s.meta) cut,
-        length-append s.release s.meta,
-        tail_length,
-      ))
+      grind (arith, metadata_placed, bare_length, length_cut, cut, length-append, tail_length)
 
 -- ---- versions of any kind
 
@@ -263,9 +257,7 @@ without is_one false t u x e f = rw f refl
 -- no metadata follows the end of a text
 behind_end : (n : ℕ)
     → ◌≡◌ {A = Option (ℕ × ℕ)} None (if nat_lt n n then Some (n + 1, n) else None)
-behind_end n =
-    let none : nat_lt n n ≡ false = grind (arith, nat_tests) in
-    rw none refl
+behind_end n = grind (arith, nat_tests)
 
 strict_placed : (text : List ℕ) (v : PlainSemVer) → SpellsSemVer text v
     → ArePlaced text (shape_at kind.Ideal text) (Ideal v)

@@ -1,5 +1,5 @@
 -- The members of a text that the range of its list leaves open.
-use Rattle.std.proofs.Common.{◌≡◌, ℕ, List, [], ◌∷◌, ◌++◌, map, Some, refl, sym, ap, append-nil, inl, inr}
+use Rattle.std.proofs.Common.{◌≡◌, ℕ, List, [], ◌∷◌, ◌++◌, map, Some, refl, sym, ap, append-nil, inl, inr, arith}
 use Rattle.std.proofs.lemmas.Bool.{cases_Bool}
 use Rattle.std.specs.List.{AllZip, join_with_byte}
 use Rattle.version_rules.proofs.lemmas.Requirement.{requirement_of-Some, requirement_printed}
@@ -9,7 +9,6 @@ use Rattle.version_rules.specs.Range.{requirement_range}
 use Rattle.version_rules.specs.Requirement.{PlainRequirement, SpellsRequirement, requirement_text}
 use Rattle.version_rules.specs.Requirements.{comma, requirements_of}
 use Rattle.version_texts.specs.Inexact.{inexact_part, inexact_pieces}
-use Rattle.version_texts.specs.Members.{cut_at_commas}
 
 pieces_printed : (texts : List (List ℕ)) (list : List PlainRequirement)
     → AllZip SpellsRequirement texts list
@@ -30,9 +29,7 @@ pieces_printed (text ∷ texts) (r ∷ list) z = elim (cases_Bool (requirement_r
 -- where a text parses as a list, they are the text of its members that aren't exact
 pub part_is : (text : List ℕ) (list : List PlainRequirement) → requirements_of text ≡ Some list
     → inexact_part text ≡ inexact_text list
-part_is text list e =
-    let pieces = cut_at_commas text in
-    ap (join_with_byte comma) (pieces_printed pieces list (every_spells pieces list e))
+part_is text list e = grind (arith, pieces_printed, every_spells)
 
 -- pieces, each after a comma
 abbrev pub after_commas : List (List ℕ) → List ℕ

@@ -87,9 +87,7 @@ run_some test (b ∷ text) (Alphanum run) s = omega arith
 part_spelled : (text : List ℕ) (part : PlainChunk) → SpellsPart text part
     → length (part_bytes (Some (part_key (chunk_text part)))) ≤ 3 * length text + 1
 part_spelled text part s =
-    let high = chunk_high is_ascii_alphanumeric alphanumeric_byte text part s in
-    rw (part_printed text part s)
-    (part_length text high (run_some is_ascii_alphanumeric text part s))
+    grind (arith, chunk_high, alphanumeric_byte, part_printed, part_length, run_some)
 
 digits_some : (text : List ℕ) → is_digits text ≡ true → 0 < length text
 digits_some [] e = cc e
@@ -137,10 +135,7 @@ items_length code key Spells each text (x ∷ y ∷ xs) s =
 
 section_length : (text : List ℕ) (section : Section) → SpellsSection text section
     → length (parts_bytes (section_parts section)) ≤ 3 * length text + 2
-section_length text section s =
-    let items = items_length part_bytes
-    (λ chunk. part_key (mchunk_text chunk)) SpellsMChunk mchunk_spelled text section s in
-    omega (arith, items, list_length part_bytes (section_parts section))
+section_length text section s = grind (arith, items_length, mchunk_spelled, list_length)
 
 release_length : (text : List ℕ) (chunks : List PlainChunk) → SpellsRelease text chunks
     → length (release_bytes chunks) ≤ 3 * length text + 2
@@ -194,10 +189,7 @@ tail_length Of one_more text (Some chunks) s =
 
 further_length : (text : List ℕ) (further : Further) → SpellsFurther text further
     → length (section_bytes (Some (section_parts further.1))) ≤ 3 * length text
-further_length text further s =
-    let section = section_length s.0 further.1 s.2 in
-    let long : length text ≡ length s.0 + 1 = rw s.1 (omega arith) in
-    omega (arith, section, long)
+further_length text further s = grind (arith, section_length)
 
 all_further_length : (text : List ℕ) (more : List Further) → SpellsEach SpellsFurther text more
     → length (items_bytes section_bytes (map (λ (further : Further). section_parts further.1) more))
@@ -228,58 +220,15 @@ sections_length text (further ∷ more) s =
 pub key_length : (epoch : ℕ) (body : List PartKey) (tail : Tail)
     → length (key_bytes (record { epoch = epoch; body = body; tail = tail }))
     ≡ length (number_bytes epoch) + (length (parts_bytes body) + length (tail_bytes tail))
-key_length epoch body tail =
-    omega (
-      arith,
-      length-append (number_bytes epoch) (parts_bytes body ++ tail_bytes tail),
-      length-append (parts_bytes body) (tail_bytes tail),
-    )
+key_length epoch body tail = grind (arith, length-append)
 
 plain_length : (text : List ℕ) (n : ℕ) → SpellsNumeral text n
     → length (part_bytes (Some (plain n))) ≤ 3 * length text + 1
-plain_length text n s =
-    omega (
-      arith,
-      numeral_length text n s,
-      numeral_some text n s,
-      length-append (number_bytes n) (2 ∷ []),
-    )
+plain_length text n s = grind (arith, numeral_length, numeral_some, length-append)
 
 semver_length : (text : List ℕ) (v : PlainSemVer) → SpellsSemVer text v
     → length (key_bytes (key_of_semver v)) ≤ room_for (length text)
-semver_length text v s =
-    let major = plain_length s.major v.major s.major_is in
-    let minor = plain_length s.minor v.minor s.minor_is in
-    let patch = plain_length s.patch v.patch s.patch_is in
-    let tail = tail_length PreReleased (λ chunks. omega arith) s.pre_rel v.pre_rel s.pre_rel_is in
-    let last = length-append (part_bytes (Some (plain v.patch))) (2 ∷ []) in
-    let last_two =
-    length-append (part_bytes (Some (plain v.minor))) (parts_bytes (plain v.patch ∷ [])) in
-    let all_three =
-    length-append (part_bytes (Some (plain v.major)))
-    (parts_bytes (plain v.minor ∷ plain v.patch ∷ [])) in
-    let whole = key_length 0 (plain v.major ∷ plain v.minor ∷ plain v.patch ∷ [])
-    (option_map_or PreReleased v.pre_rel Bare) in
-    let behind_patch = length-append s.patch (s.pre_rel ++ s.meta) in
-    let behind_minor = length-append s.minor (dot ∷ (s.patch ++ (s.pre_rel ++ s.meta))) in
-    let behind_major =
-    ap length s.whole
-    ∙ length-append s.major (dot ∷ (s.minor ++ dot ∷ (s.patch ++ (s.pre_rel ++ s.meta)))) in
-    omega (
-      arith,
-      major,
-      minor,
-      patch,
-      tail,
-      last,
-      last_two,
-      all_three,
-      whole,
-      length-append s.pre_rel s.meta,
-      behind_patch,
-      behind_minor,
-      behind_major,
-    )
+semver_length text v s = grind (arith, plain_length, tail_length, length-append, key_length)
 
 epoch_length : (text : List ℕ) (o : Option ℕ) → SpellsEpoch text o
     → length (number_bytes (unwrap_or o 0)) ≤ 3 * length text + 1
@@ -382,11 +331,7 @@ behind_length (Some epoch) first_text more_text first ((Tilde, body) ∷ more) e
 
 mess_length : (text : List ℕ) (m : PlainMess) → SpellsMess text m
     → length (key_bytes (key_of_mess m)) ≤ room_for (length text)
-mess_length text m s =
-    let key = behind_length
-    (section_epoch m.first) s.first s.more m.first m.more refl s.first_is s.more_is in
-    let long = ap length s.whole_is ∙ length-append s.first s.more in
-    omega (arith, key, long)
+mess_length text m s = grind (arith, behind_length, length-append)
 
 pub spelled_length : (text : List ℕ) (v : PlainVersioning) → SpellsVersioning text v
     → length (key_bytes (key_of v)) ≤ room_for (length text)

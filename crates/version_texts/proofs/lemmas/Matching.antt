@@ -1,5 +1,5 @@
 -- What `~` and `^` ask of two versions, by their texts and shapes.
-use Rattle.std.proofs.Common.{◌≡◌, ◌↔◌, ◌∙◌, ℕ, Bool, List, Some, IsTrue, ap, refl, subst, sym}
+use Rattle.std.proofs.Common.{◌≡◌, ◌↔◌, ◌∙◌, ℕ, Bool, List, Some, IsTrue, ap, refl, subst, sym, arith}
 use Rattle.version_rules.specs.PartKey.{PartKey}
 use Rattle.version_rules.specs.declared.kind.Kind.{Kind}
 use Rattle.version_rules.specs.Key.{Key, key_of, strict_body}
@@ -86,10 +86,7 @@ module _ (wanted text : List ℕ) (wanted_shape shape : Shape)
     (text_is : versioning_of text ≡ Some v) where
   kinds_as : (k : Kind) → wanted_shape.kind ≡ k → shape.kind ≡ k
       → (k ≡ versioning_kind w) × (k ≡ versioning_kind v)
-  kinds_as k e f = (
-    kind_as wanted wanted_shape w wanted_shaped wanted_is k e,
-    kind_as text shape v shaped text_is k f,
-  )
+  kinds_as k e f = grind (arith, kind_as)
 
   module _ (k : wanted_shape.kind ≡ kind.Ideal) (l : shape.kind ≡ kind.Ideal) (xs ys : List PartKey)
       (e : xs ≡ parts_of (body_in wanted wanted_shape))

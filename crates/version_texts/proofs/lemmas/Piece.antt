@@ -5,7 +5,7 @@ pub mod Kept
 pub mod Order
 pub mod Spelled
 pub mod Words
-use Rattle.std.proofs.Common.{◌≡◌, ◌==◌, ◌∙◌, ℕ, Bool, true, false, List, [], ◌∷◌, length, not, Some, refl, sym, ap, inl, inr, one-add}
+use Rattle.std.proofs.Common.{◌≡◌, ◌==◌, ◌∙◌, ℕ, Bool, true, false, List, [], ◌∷◌, length, not, Some, refl, sym, ap, inl, inr, one-add, arith}
 use Rattle.std.proofs.Math.Dec.{eqb-suc-zero}
 use Rattle.std.proofs.lemmas.Bool.{cases_Bool, eqb-true}
 use Rattle.std.specs.Char.{is_ascii_digit}
@@ -102,9 +102,7 @@ module _ (ends : ℕ → Bool) (apart : (b : ℕ) → is_ascii_digit b ≡ true 
   pub front_of_number : (text : List ℕ) → starts_with_digit text ≡ true
       → number_front (before_first ends text)
       ≡ Some (run_value text, before_first ends (behind_digits text))
-  front_of_number text e =
-      let same = digits_same text in
-      rw (starts_same text, e, same.0, same.1) refl
+  front_of_number text e = grind (arith, digits_same, starts_same)
 
   pub part_of_number : (text : List ℕ) → starts_with_digit text ≡ true
       → part_key (before_first ends text)

@@ -1,5 +1,5 @@
 -- The bounds of a range, as it is narrowed member by member.
-use Rattle.std.proofs.Common.{◌≡◌, ◌↔◌, ◌∙◌, ◌++◌, ◌≤◌, ◌&&◌, Bool, true, false, if◌then◌else◌, ℕ, List, [], ◌∷◌, Option, Some, None, IfSome, IsTrue, length, take, drop, fold, eqb, inl, inr, refl, subst, sym, ap}
+use Rattle.std.proofs.Common.{◌≡◌, ◌↔◌, ◌∙◌, ◌++◌, ◌≤◌, ◌&&◌, Bool, true, false, if◌then◌else◌, ℕ, List, [], ◌∷◌, Option, Some, None, IfSome, IsTrue, length, take, drop, fold, refl, subst, sym, ap, arith}
 use Rattle.std.proofs.Math.Seq.{take-append_seam}
 use Rattle.std.proofs.lemmas.List.Elements.{All-cons, All-head, All-nil, All-tail}
 use Rattle.std.specs.List.{All}
@@ -19,7 +19,7 @@ use Rattle.version_rules.specs.Requirement.{PlainRequirement, requirement_of}
 use Rattle.version_rules.specs.Versioning.{PlainVersioning}
 use Rattle.version_texts.proofs.lemmas.Sinks.{put_fits}
 use Rattle.version_texts.proofs.lemmas.General.Splits.{split-append}
-use Rattle.version_texts.specs.Members.{cut_at_commas, list_of}
+use Rattle.version_texts.specs.Members.{list_of}
 use Rattle.version_rules.specs.Requirements.{comma, requirements_of}
 use Rattle.version_texts.specs.Sinks.{put_at}
 
@@ -40,16 +40,7 @@ module _ (test : List ℕ → List ℕ → Bool)
     (fails : (a b c : List ℕ) → test a b ≡ false → test b c ≡ false → test a c ≡ false) where
   choose_in_turn : (a b c : List ℕ)
       → choose test (choose test a b) c ≡ choose test a (choose test b c)
-  choose_in_turn a b c = elim (cases_Bool (test a b)) [
-    | inl first ↦ elim (cases_Bool (test b c)) [
-      | inl second ↦ rw (first, second, holds a b c first second) refl
-      | inr second ↦ rw (first, second, first) refl
-    ]
-    | inr first ↦ elim (cases_Bool (test b c)) [
-      | inl second ↦ rw (first, second) refl
-      | inr second ↦ rw (first, second, first, fails a b c first second) refl
-    ]
-  ]
+  choose_in_turn a b c = grind (arith, cases_Bool)
 
 less : (a b : List ℕ) → is_lt (bytes_cmp a b) ≡ true → bytes_cmp a b ≡ Less
 less a b = by (bytes_cmp a b)
@@ -99,16 +90,7 @@ and_in_turn false b c = refl
 
 -- of three ranges either two may be taken first
 common_in_turn : (a b c : PlainRange) → common (common a b) c ≡ common a (common b c)
-common_in_turn a b c = λ i. record {
-  low = later_in_turn a.low b.low c.low i;
-  high = high_in_turn a.high b.high c.high i;
-  kinds = record {
-    ideal = and_in_turn a.kinds.ideal b.kinds.ideal c.kinds.ideal i;
-    general = and_in_turn a.kinds.general b.kinds.general c.kinds.general i;
-    complex = and_in_turn a.kinds.complex b.kinds.complex c.kinds.complex i;
-  };
-  is_exact = and_in_turn a.is_exact b.is_exact c.is_exact i;
-}
+common_in_turn a b c = grind (arith, later_in_turn, high_in_turn, and_in_turn)
 
 -- the range of every version narrows nothing
 pub later_none : (a : List ℕ) → later a [] ≡ a
@@ -128,24 +110,10 @@ and_all true = refl
 and_all false = refl
 
 common_everything : (range : PlainRange) → common range everything ≡ range
-common_everything range = λ i. record {
-  low = later_none range.low i;
-  high = high_none range.high i;
-  kinds = record {
-    ideal = and_all range.kinds.ideal i;
-    general = and_all range.kinds.general i;
-    complex = and_all range.kinds.complex i;
-  };
-  is_exact = and_all range.is_exact i;
-}
+common_everything range = grind (arith, later_none, high_none, and_all)
 
 everything_common : (range : PlainRange) → common everything range ≡ range
-everything_common range = λ i. record {
-  low = none_later range.low i;
-  high = range.high;
-  kinds = range.kinds;
-  is_exact = range.is_exact;
-}
+everything_common range = grind (arith, none_later)
 
 -- ---- a list, member by member
 
@@ -215,10 +183,7 @@ list_of-append (piece ∷ xs) ys =
 -- the ranges of the halves of a text, which may not parse, give that of the text
 module _ (text front behind : List ℕ) (halved : text ≡ front ++ comma ∷ behind) where
   pub read_both : requirements_of text ≡ both (requirements_of front) (requirements_of behind)
-  read_both =
-      ap requirements_of halved
-      ∙ ap list_of (split-append (λ b. eqb b comma) front comma behind refl)
-      ∙ list_of-append (cut_at_commas front) (cut_at_commas behind)
+  read_both = grind (arith, split-append, list_of-append)
 
   pub front_fails : None ≡ option_map range_of (requirements_of front)
       → None ≡ option_map range_of (requirements_of text)

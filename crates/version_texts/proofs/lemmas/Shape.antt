@@ -47,10 +47,7 @@ is_hyphen b = b == hyphen
 module _ (text epoch body rest : List ℕ) (cut : IsCut text epoch body rest) where
   -- the bytes of the body
   pub body_taken : slice_range text (body_start text) (body_end text) ≡ body
-  body_taken =
-      let count : body_end text - body_start text ≡ length body =
-      omega (arith, body_end-is text epoch body rest cut, cut.starts) in
-      rw (count, from_body-is text epoch body rest cut) (take_at body rest (length body) refl)
+  body_taken = grind (arith, body_end-is, from_body-is, take_at)
 
   -- the body begins before its end
   pub body_ordered : body_start text ≤ body_end text
@@ -58,14 +55,7 @@ module _ (text epoch body rest : List ℕ) (cut : IsCut text epoch body rest) wh
 
   -- the rest lies behind the body
   pub length_cut : length text ≡ body_end text + length rest
-  length_cut =
-      omega (
-        arith,
-        ap (λ (l : List ℕ). length l) cut.whole,
-        length-append epoch (body ++ rest),
-        length-append body rest,
-        body_end-is text epoch body rest cut,
-      )
+  length_cut = grind (arith, length-append, body_end-is)
 
   -- what follows the byte behind the body
   pub behind_taken : drop (body_end text + 1) text ≡ drop 1 rest
@@ -74,9 +64,7 @@ module _ (text epoch body rest : List ℕ) (cut : IsCut text epoch body rest) wh
 
   -- no bytes lie behind the body up to its end
   pub none_taken : slice_range text (body_end text + 1) (body_end text) ≡ []
-  none_taken =
-      let count : body_end text - (body_end text + 1) ≡ 0 = omega arith in
-      rw count refl
+  none_taken = grind arith
 
 -- the bytes of a tail behind its mark
 pub tail_taken : (text epoch body : List ℕ) (mark : ℕ) (tail after : List ℕ) (end : ℕ)
@@ -90,11 +78,7 @@ tail_taken text epoch body mark tail after end cut e =
 -- the bytes before the colon of an epoch
 pub epoch_taken : (text numeral body rest : List ℕ) → IsCut text (numeral ++ colon ∷ []) body rest
     → take (body_start text - 1) text ≡ numeral
-epoch_taken text numeral body rest cut =
-    let count : body_start text - 1 ≡ length numeral =
-    omega (arith, cut.starts, length-append numeral (colon ∷ [])) in
-    rw (count, cut.whole, append_assoc numeral (colon ∷ []) (body ++ rest))
-    (take_at numeral (colon ∷ (body ++ rest)) (length numeral) refl)
+epoch_taken text numeral body rest cut = grind (arith, length-append, append_assoc, take_at)
 
 -- no bytes lie before a body at the start of the text
 pub no_epoch_taken : (text body rest : List ℕ) → IsCut text [] body rest
@@ -124,9 +108,7 @@ module _ (text : List ℕ) (v : PlainVersion) (s : SpellsVersion text v) where
 
   no_tail : (test : ℕ → Bool) → test plus ≡ false → test hyphen ≡ false
       → begins test (s.release ++ s.meta) ≡ false
-  no_tail test other mark =
-      optional_begins hyphen SpellsRelease test s.release v.release s.meta s.release_is mark
-      (no_meta test other)
+  no_tail test other mark = grind (arith, optional_begins, no_meta)
 
   -- a general version is cut behind its epoch and its body
   pub version_cut : IsCut text s.epoch s.body (s.release ++ s.meta)

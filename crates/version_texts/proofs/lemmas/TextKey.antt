@@ -5,7 +5,7 @@ pub mod Runs
 pub mod SectionPieces
 pub mod Sections
 pub mod Taking
-use Rattle.std.proofs.Common.{◌≡◌, ◌∙◌, ℕ, List, [], ◌∷◌, ◌++◌, Option, Some, None, refl, sym, ap}
+use Rattle.std.proofs.Common.{◌≡◌, ◌∙◌, ℕ, List, [], ◌∷◌, ◌++◌, Option, Some, None, refl, sym, ap, arith}
 use Rattle.std.specs.Option.{option_map_or}
 use Rattle.version_rules.specs.Chunk.{PlainChunk}
 use Rattle.version_rules.specs.Last.{last_text}
@@ -73,9 +73,7 @@ three_parts : (v : PlainSemVer) (text : List ℕ) → SpellsSemVer text v
     → chunk_parts (version_of_semver v).chunks
     ++ part_key (last_text (version_of_semver v).last) ∷ []
     ≡ strict_body v.major v.minor v.patch
-three_parts v text s =
-    λ i. plain_number v.major s.major_is.fits i ∷ plain_number v.minor s.minor_is.fits i
-    ∷ plain_number v.patch s.patch_is.fits i ∷ []
+three_parts v text s = grind (arith, plain_number)
 
 -- the key of a strict version
 pub strict_key : (text : List ℕ) (v : PlainSemVer) → SpellsSemVer text v

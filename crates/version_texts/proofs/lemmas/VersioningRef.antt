@@ -1,7 +1,7 @@
 -- What the text and the shape of a borrowed version say of the version that it is.
 pub mod PlainOrder
 pub mod SameText
-use Rattle.std.proofs.Common.{if◌then◌else◌, ◌≡◌, ◌==◌, ◌≤◌, ◌∙◌, ℕ, Bool, true, false, List, length, Option, Some, None, refl, sym, ap, inl, inr}
+use Rattle.std.proofs.Common.{if◌then◌else◌, ◌≡◌, ◌==◌, ◌≤◌, ◌∙◌, ℕ, Bool, true, false, List, length, Option, Some, None, refl, sym, ap, inl, inr, arith}
 use Rattle.std.proofs.lemmas.Str.{IsUtf8-from_ascii}
 use Rattle.std.specs.Cmp.{tied_itself}
 use Rattle.std.specs.Option.{is_some, option_map}
@@ -47,10 +47,7 @@ spells-is text s e = versioning_of-spells text (version_in text) (spelled text s
 
 -- a text without shape spells no version
 pub unspelled : (text : List ℕ) → shape_of text ≡ None → versioning_of text ≡ None
-unspelled text e = elim (cases_Option (versioning_of text)) [
-  | inl none ↦ none
-  | inr some ↦ cc (ap (option_map (λ v. shape_at (versioning_kind v) text)) some.1, e)
-]
+unspelled text e = grind (arith, cases_Option)
 
 -- its version prints the text
 pub printed-is : (text : List ℕ) (s : Shape) → shape_of text ≡ Some s
@@ -129,7 +126,4 @@ tail_prerelease text (Complex m) s =
 -- a version is a pre-release exactly if its tail is one
 pub prerelease-is : (text : List ℕ) (s : Shape) → shape_of text ≡ Some s
     → is_prerelease (version_in text) ≡ is_prerelease_tail s.tail
-prerelease-is text s e =
-    let here = spelled text s e in
-    tail_prerelease text (version_in text) (spells-is text s e)
-    ∙ ap (λ (s : Shape). is_prerelease_tail s.tail) (sym here.1)
+prerelease-is text s e = grind (arith, spelled, tail_prerelease, spells-is)

@@ -35,10 +35,7 @@ within text = parsed text (λ list. length (inexact_text list) ≤ length text) 
 length_of : (text : List ℕ) (n : ℕ) → length text < 2 ^ 63
     → n ≡ saturated (length (inexact_part text)) → (list : List PlainRequirement)
     → requirements_of text ≡ Some list → n ≡ length (inexact_text list)
-length_of text n small e list read =
-    let same : length (inexact_part text) ≡ length (inexact_text list) =
-    ap (λ (l : List ℕ). length l) (part_is text list read) in
-    omega (arith, e, same, inexact_within text list read, small)
+length_of text n small e list read = grind (arith, part_is, inexact_within)
 
 pub told : (text : List ℕ) (n : ℕ) → length text < 2 ^ 63
     → n ≡ saturated (length (inexact_part text))
@@ -51,10 +48,7 @@ pub written : (text : List ℕ) (n : ℕ) (old new : List ℕ) → length text <
     → new ≡ put_at old 0 (inexact_part text)
     → IfSome (requirements_of text)
     (λ list. new ≡ inexact_text list ++ drop (length (inexact_text list)) old)
-written text n old new small e fits is =
-    parsed text (λ list. new ≡ inexact_text list ++ drop (length (inexact_text list)) old)
-    (λ list read. is ∙ ap (put_at old 0) (part_is text list read)
-    ∙ put_fits old (inexact_text list) (omega (arith, fits, length_of text n small e list read)))
+written text n old new small e fits is = grind (arith, parsed, part_is, put_fits, length_of)
 
 -- a text without a wrong member parses
 pub no_wrong : {X : Type 0} (wrong : Option X) (parses : Bool) → is_none wrong ≡ parses

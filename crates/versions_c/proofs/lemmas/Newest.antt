@@ -1,10 +1,10 @@
 -- The texts that are wanted are those that a caller asks for by numbers.
-use Rattle.std.proofs.Common.{◌≡◌, ◌↔◌, ◌≤◌, ◌+◌, ℕ, List, IfSome}
+use Rattle.std.proofs.Common.{◌≡◌, ◌↔◌, ◌≤◌, ◌+◌, ℕ, List, IfSome, arith}
 use Rattle.version_rules.specs.Matching.{MatchesAll}
 use Rattle.version_rules.specs.Requirement.{PlainRequirement}
 use Rattle.version_rules.specs.Versioning.{PlainVersioning}
 use Rattle.version_tasks.specs.Newest.{IsWanted}
-use Rattle.version_tasks.specs.Stability.{rank, stability_of}
+use Rattle.version_tasks.specs.Stability.{rank}
 use Rattle.version_tasks.specs.declared.newest.Wanted.{Wanted}
 use Rattle.version_tasks.specs.declared.stability.Stability.{Stability}
 use Rattle.versions_c.specs.Newest.{IsAsked, IsNewestPlace}
@@ -19,30 +19,11 @@ pub asked_alike : (wanted : Wanted) (list : List PlainRequirement) (least flags 
     ↔ (least ≤ rank s + 1))
     → (text : List ℕ) (v : PlainVersioning) → IsWanted wanted text v
     ↔ IsAsked list least flags text v
-asked_alike wanted list least flags in_tags matched stable text v = (
-  λ is. record {
-    given = rw in_tags at is.given;
-    matched = (matched v).0 is.matched;
-    stable = (stable (stability_of v)).0 is.stable;
-  },
-  λ is. record {
-    given = rw in_tags is.given;
-    matched = (matched v).1 is.matched;
-    stable = (stable (stability_of v)).1 is.stable;
-  },
-)
+asked_alike wanted list least flags in_tags matched stable text v = grind arith
 
 -- candidates that are alike have one newest
 pub newest_alike : (one other : ℕ → PlainVersioning → Type 0)
     → ((i : ℕ) (v : PlainVersioning) → one i v → other i v)
     → ((i : ℕ) (v : PlainVersioning) → other i v → one i v)
     → (count place : ℕ) → IsNewestPlace one count place → IsNewestPlace other count place
-newest_alike one other there back count place found = record {
-  version = found.version;
-  newest = record {
-    within = found.newest.within;
-    is = there place found.version found.newest.is;
-    none_after = λ m v below is. found.newest.none_after m v below (back m v is);
-    is_first = λ m v before is. found.newest.is_first m v before (back m v is);
-  };
-}
+newest_alike one other there back count place found = grind arith

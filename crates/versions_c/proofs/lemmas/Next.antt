@@ -1,11 +1,12 @@
 -- What is answered about the version that comes next.
-use Rattle.std.proofs.Common.{◌≡◌, ◌<◌, ◌≤◌, ◌^◌, ℕ, List, Option, Some, inl, length, subst}
+use Rattle.std.proofs.Common.{◌≡◌, ◌<◌, ◌≤◌, ◌^◌, ℕ, List, Option, Some, arith, length}
+use Rattle.std.proofs.lemmas.Bool.Decides.{nat_tests}
 use Rattle.version_rules.specs.Versioning.{PlainVersioning, versioning_text}
 use Rattle.version_tasks.specs.Next.{IsNext}
 use Rattle.version_texts.specs.Sinks.{put_at, saturated}
+use Rattle.version_texts.proofs.lemmas.Sinks.{put_fits}
 use Rattle.versions_c.specs.Next.{IsAnswered}
 use Rattle.versions_c.specs.declared.status.TheConstants.{OK}
-use Rattle.versions_c.proofs.lemmas.Written.{written}
 
 -- a text that fits is written
 pub next_written : (spelled : Option PlainVersioning) (v : PlainVersioning) → Some v ≡ spelled
@@ -14,5 +15,4 @@ pub next_written : (spelled : Option PlainVersioning) (v : PlainVersioning) → 
     → (new : List ℕ) → new ≡ put_at old 0 (versioning_text w)
     → IsAnswered spelled place old new len OK
 next_written spelled v is place old w next len counted small within new put =
-    subst (λ (o : Option PlainVersioning). IsAnswered o place old new len OK) is
-    (inl (w, next, written (versioning_text w) old new len counted small within put))
+    grind (arith, nat_tests, put_fits)

@@ -13,10 +13,8 @@ use Rattle.version_texts.specs.RangeRef.{high_length}
 use Rattle.version_rules.proofs.lemmas.Requirements.{requirements_of-spells}
 use Rattle.version_rules.specs.declared.op.Op.{Op}
 use Rattle.version_rules.specs.declared.op.Op.TheVariants.{Exact, Greater, GreaterEq, Less, LessEq, Tilde, Caret, Wildcard}
-use Rattle.version_rules.specs.Key.{key_of}
-use Rattle.version_rules.specs.KeyBytes.{key_bytes}
 use Rattle.version_rules.specs.Op.{op_text}
-use Rattle.version_rules.specs.Range.{PlainRange, alike_from, begun, but_last, bytes_of, common, earlier_high, everything, later, op_range, range_of, range_without_version, requirement_range, series_range, through_other}
+use Rattle.version_rules.specs.Range.{PlainRange, alike_from, but_last, bytes_of, common, earlier_high, everything, later, op_range, range_of, range_without_version, requirement_range, series_range, through_other}
 use Rattle.version_rules.specs.Requirement.{PlainRequirement, SpellsOperand, SpellsRequirement}
 use Rattle.version_rules.specs.Requirements.{comma, requirements_of}
 use Rattle.version_rules.specs.Versioning.{PlainVersioning, Ideal, General, Complex}
@@ -34,20 +32,7 @@ pub record IsShort (n : ℕ) (range : PlainRange) : Type 0 where
 alike_short : (kept : List PartKey → List PartKey)
     → ((parts : List PartKey) → length_of (kept parts) ≤ length_of parts)
     → (v : PlainVersioning) (n : ℕ) → length (bytes_of v) ≤ n → IsShort (n + 1) (alike_from kept v)
-alike_short kept fewer v n short =
-    let k = key_of v in
-    let last = length-append (begun k.epoch (kept k.body)) (4 ∷ []) in
-    record {
-      low = omega (arith, begun_length k.epoch k.body, below_key k, short);
-      high = omega (
-        arith,
-        last,
-        begun_length k.epoch (kept k.body),
-        fewer k.body,
-        below_key k,
-        short,
-      );
-    }
+alike_short kept fewer v n short = grind (arith, length-append, begun_length, below_key)
 
 series_short : (kept : List PartKey → List PartKey)
     → ((parts : List PartKey) → length_of (kept parts) ≤ length_of parts)
@@ -126,10 +111,7 @@ high_short (Some a) (Some b) n short short_too = by (is_lt (bytes_cmp b a))
     by false = short
 
 common_short : (n : ℕ) (a b : PlainRange) → IsShort n a → IsShort n b → IsShort n (common a b)
-common_short n a b short short_too = record {
-  low = later_short a.low b.low n short.low short_too.low;
-  high = high_short a.high b.high n short.high short_too.high;
-}
+common_short n a b short short_too = grind (arith, later_short, high_short)
 
 -- the members of a text are no longer than the text
 members_short : (members : List (List ℕ)) (list : List PlainRequirement) (range : PlainRange) (n : ℕ)

@@ -1,6 +1,6 @@
 -- Places in the order of the keys that lie there, and in the order of their texts.
 pub mod OneOrder
-use Rattle.std.proofs.Common.{◌≡◌, ◌∙◌, ℕ, ◌+◌, ◌-◌, ◌/◌, ◌%◌, ◌<◌, ◌≤◌, ◌^◌, ◌==◌, zero, suc, false, if◌then◌else◌, List, [], ◌∷◌, ◌++◌, length, take, drop, get_or, map, replicate, Option, Some, None, refl, sym, ap, arith, append-nil, append_assoc, length-append}
+use Rattle.std.proofs.Common.{◌≡◌, ◌∙◌, ℕ, ◌+◌, ◌-◌, ◌<◌, ◌≤◌, ◌^◌, ◌==◌, zero, suc, false, List, [], ◌++◌, length, take, drop, get_or, map, Option, Some, None, refl, sym, ap, arith, append-nil, append_assoc, length-append}
 use Rattle.std.proofs.Math.Dec.{eqb}
 use Rattle.std.proofs.Math.Seq.{drop-append_seam, take-append_seam}
 use Rattle.std.proofs.lemmas.Bool.{eqb-false}
@@ -12,32 +12,27 @@ use Rattle.std.proofs.lemmas.List.Elements.{All-from_get_or, All-get_or}
 use Rattle.std.proofs.lemmas.List.FromFn.{fill_by_all, get_or-range_with_len, length-range_with_len}
 use Rattle.std.proofs.lemmas.List.Sorted.{All-permutation, IsPermutation-map, ranks_by}
 use Rattle.std.proofs.lemmas.Map.Keys.{apart_from_distinct, IsDistinct-from_apart, IsDistinct-IsPermutation}
-use Rattle.std.specs.Char.{digit_char}
 use Rattle.std.specs.Cmp.{IsStrictWeakOrder, IsTotalOrder, bool_cmp_total, nat_cmp_total, nat_eq_equiv}
 use Rattle.std.specs.FinMap.{nat_cmp-IsAntisymmetric}
-use Rattle.std.specs.Int.Digits.{digits_of}
 use Rattle.std.specs.List.{All, IsDistinct, range_with_len}
 use Rattle.std.specs.List.Sorted.{IsPermutation, IsSorted}
 use Rattle.std.specs.Option.{option_map, option_map_or, unwrap_or}
-use Rattle.std.specs.Ordering.{is_lt, nat_cmp, on, ordering_reverse, ordering_then}
+use Rattle.std.specs.Ordering.{is_lt, ordering_reverse, ordering_then}
 use Rattle.std.specs.declared.cmp.Ordering.{Ordering}
 use Rattle.std.specs.declared.cmp.Ordering.TheVariants.{Less, Equal, Greater}
 use Rattle.version_rules.proofs.lemmas.Orders.{then_assoc}
 use Rattle.version_rules.specs.Lists.{none_last_cmp}
-use Rattle.version_rules.specs.NumberBytes.{length_bytes, number_bytes}
-use Rattle.version_rules.specs.PartKey.{parts_bytes}
 use Rattle.version_rules.proofs.lemmas.OrdersLaws.{key_bytes_alone}
 use Rattle.version_rules.specs.Key.{Key, key_of, precedence}
 use Rattle.version_rules.specs.KeyBytes.{key_bytes}
 use Rattle.version_rules.specs.Orders.{versioning_cmp}
-use Rattle.version_rules.specs.Tail.{tail_bytes}
 use Rattle.version_rules.specs.Versioning.{PlainVersioning, versioning_of}
 use Rattle.versions_c.specs.Keys.{keys_before, saturated_signed}
 use Rattle.versions_c.specs.Offsets.{AreOffsets, text_at}
 use Rattle.version_rules.specs.Kind.{versioning_kind}
 use Rattle.version_rules.specs.declared.kind.Kind.{Kind}
 use Rattle.version_rules.specs.declared.kind.Kind.TheVariants.{Ideal}
-use Rattle.version_texts.specs.KeyTies.{kind_on, marked_number, texts_tie}
+use Rattle.version_texts.specs.KeyTies.{marked_number, texts_tie}
 use Rattle.version_texts.proofs.lemmas.KeyTies.{texts_alike, texts_tie_total}
 use Rattle.versions_c.specs.Sorting.{AreInOrder, IsMarked, keyed_cmp, keys_cmp, marked_tie, place_cmp}
 
@@ -179,14 +174,7 @@ key_lies texts offsets keys key_offsets rest count written small told i below =
 -- ---- the order by keys is that of the texts
 
 no_key_empty : (k : Key) → (length (key_bytes k) == 0) ≡ false
-no_key_empty k =
-    let behind = parts_bytes k.body ++ tail_bytes k.tail in
-    let digits = digits_of 10 k.epoch in
-    let number = length-append (length_bytes (length digits)) (map digit_char digits) in
-    let last = length-append (replicate (length digits / 255) 255) ((length digits % 255) ∷ []) in
-    let whole = length-append (number_bytes k.epoch) behind in
-    let some : 0 < length (key_bytes k) = omega (arith, number, last, whole) in
-    grind (arith, nat_tests)
+no_key_empty k = grind (arith, length-append, nat_tests)
 
 -- the kind of a text by its version, as it is marked
 abbrev marked_as : Option PlainVersioning → Kind
@@ -216,12 +204,7 @@ pub places_alike : (texts offsets keys key_offsets : List ℕ) (m n : ℕ)
     → keyed_cmp texts offsets keys key_offsets m n
     ≡ place_cmp texts offsets (marked_number m) (marked_number n)
 places_alike texts offsets keys key_offsets m n m_marked n_marked m_lies n_lies =
-    let a = text_at texts offsets (marked_number m) in
-    let b = text_at texts offsets (marked_number n) in
-    let o = nat_cmp (marked_number m) (marked_number n) in
-    (λ i. ordering_then (keys_cmp (m_lies i) (n_lies i))
-    (ordering_then (texts_tie (m_marked.kind i, a) (n_marked.kind i, b)) o))
-    ∙ alike a b (versioning_of a) (versioning_of b) o refl refl
+    grind (arith, alike)
 
 -- ---- places in order
 
@@ -231,11 +214,15 @@ eqb_flips : (x y : ℕ) → eqb x y ≡ eqb y x
 eqb_flips = nat_eq_equiv.symm
 
 range_distinct : (n : ℕ) → IsDistinct eqb (range_with_len 0 n)
-range_distinct n = IsDistinct-from_apart eqb (range_with_len 0 n) (λ i j d before inside.
-    let within : j < n = omega (arith, inside, length-range_with_len 0 n) in
-    let first = get_or-range_with_len 0 n i d (omega (arith, before, within)) in
-    let second = get_or-range_with_len 0 n j d within in
-    rw (first, second) (grind (arith, nat_tests)))
+range_distinct n =
+    grind (
+      arith,
+      IsDistinct-from_apart,
+      eqb,
+      length-range_with_len,
+      get_or-range_with_len,
+      nat_tests,
+    )
 
 places_differ : (order : List ℕ) (n : ℕ) → IsPermutation (range_with_len 0 n) order → (k : ℕ)
     → k + 1 < length order → ¬ (get_or order k 0 ≡ get_or order (k + 1) 0)

@@ -28,16 +28,4 @@ pub start_found : (texts offsets : List ℕ) (i start : ℕ)
     start < length tag
     → Some (drop start tag) ≡ option_map versioning_text (version_in_tag tag)
     → IsStart texts offsets i (slice_index offsets i + start)
-start_found texts offsets i start within version =
-    let from = slice_index offsets i in
-    let until = slice_index offsets (i + 1) in
-    let tag = slice_range texts from until in
-    let short : length tag ≤ until - from =
-    omega (arith, length-take (until - from) (drop from texts)) in
-    let before : from + start ≤ until = omega (arith, within, short) in
-    record {
-      from = omega arith;
-      until = before;
-      rest = rest_of_piece texts from until start before
-          ∙ found (version_in_tag tag) (drop start tag) version;
-    }
+start_found texts offsets i start within version = grind (arith, length-take, rest_of_piece, found)

@@ -1,10 +1,7 @@
-use Rattle.std.proofs.Common.{◌≡◌, ◌<◌, ◌++◌, ◌∷◌, [], ℕ, List, Bor, Some, None, length, map, get_or, take, rules, sym, subst, ap, ◌∙◌}
+use Rattle.std.proofs.Common.{◌≡◌, ◌<◌, ◌++◌, ◌∷◌, [], ℕ, List, Bor, Some, length, map, get_or, take, rules, sym, subst, ap, ◌∙◌, arith}
 use Rattle.std.proofs.lemmas.List.{take_all}
 use Rattle.std.proofs.lemmas.Result.{IfErr-weaker, IfOk-weaker}
-use Rattle.version_commands.specs.Cause.{ComesOfAsking}
 use Rattle.version_commands.specs.Each.{HasList, HaveAnswered}
-use Rattle.version_commands.specs.Fault.{first_wrong}
-use Rattle.version_commands.specs.declared.faults.Fault.TheVariants.{NotVersion}
 use Rattle.version_rules.specs.Versioning.{versioning_of}
 use Rattle.version_texts.specs.VersioningRef.{plain_versioning_ref}
 use Rattle.version_commands.proofs.lemmas.Each.{asking-answering, word-texts, wrong-here, wrong-next}
@@ -52,17 +49,4 @@ returns-clause-faults c = λ old.
     c.finish.ensures.faults
 
 pub returns-in_err-version-clause-faults : goal.returns-in_err-version-clause-faults
-returns-in_err-version-clause-faults c = λ old.
-    let (list, have, wrong) = c.loop-word.invariant in
-    let options = c.args.options.now in
-    let words = c.args.words.now in
-    let i = c.loop-word.word-index in
-    let d : Bor (List ℕ) = record { ref_ptr = (0, 0); now = [] } in
-    let inside : i < length words = search rules in
-    IfErr-weaker c.from_residual.result
-    (λ fault. (fault ≡ NotVersion (get_or words i d)) × (versioning_of (get_or words i d).now ≡ None)) _
-    (λ fault (is, none). subst (ComesOfAsking c.args.question options old) (sym is)
-    (subst (λ (w : List (Bor (List ℕ))). first_wrong (map (λ word. word.now) w)
-    ≡ Some (get_or words i d).now) c.requires.words
-    (wrong ∙ wrong-here words i d inside none)))
-    (search rules)
+returns-in_err-version-clause-faults c = grind (arith, IfErr-weaker, wrong-here)

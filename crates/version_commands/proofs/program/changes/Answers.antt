@@ -1,6 +1,6 @@
-use Rattle.std.proofs.Common.{◌++◌, ◌∷◌, [], ℕ, List, rules, ap, inl, inr, ◌∙◌}
+use Rattle.std.proofs.Common.{◌++◌, ◌∷◌, [], ℕ, List, rules, ap, ◌∙◌, arith}
 use Rattle.std.proofs.lemmas.Result.{IfErr-weaker}
-use Rattle.version_commands.specs.Fault.{ComesOfBad, ComesOfReading}
+use Rattle.version_commands.specs.Fault.{ComesOfReading}
 use Rattle.version_commands.specs.Lists.{difference_text, names_of, rows_of}
 use Rattle.version_commands.proofs.lemmas.Fault.{reading-weaker}
 use Rattle.version_commands.proofs.lemmas.Changes.{are-changes, changes-bad, changes-reading, input-bad, input-good, of-first, of-second, one-input}
@@ -37,13 +37,7 @@ returns-clause-output g c =
 
 pub returns-in_err-old-clause-faults : goal.returns-in_err-old-clause-faults
 returns-in_err-old-clause-faults g c =
-    let lists = c.args.lists.now in
-    let reads = g.F.Files.reads c.args.files.now in
-    let old = lists.old.now in
-    IfErr-weaker c.from_residual.result (ComesOfReading reads (old ∷ [])) _
-    (λ fault is. changes-reading lists reads (g.R.Read.remaining c.args.reader.now) fault
-    (reading-weaker reads (old ∷ []) (names_of lists) (of-first old lists.new.now) fault is))
-    (search rules)
+    grind (arith, IfErr-weaker, changes-reading, reading-weaker, of-first)
 
 pub returns-in_err-new-clause-faults : goal.returns-in_err-new-clause-faults
 returns-in_err-new-clause-faults g c =
@@ -57,42 +51,8 @@ returns-in_err-new-clause-faults g c =
 
 pub returns-in_err-refuse_if-clause-faults : goal.returns-in_err-refuse_if-clause-faults
 returns-in_err-refuse_if-clause-faults g c =
-    let lists = c.args.lists.now in
-    let reads = g.F.Files.reads c.args.files.now in
-    let start = g.R.Read.remaining c.args.reader.now in
-    let between = g.R.Read.remaining c.read_inputs.new.reader in
-    let end = g.R.Read.remaining c.read_inputs-2.new.reader in
-    let bad = c.in_ok-old_names.old_bad in
-    let (olds, read_old, old_is) = c.in_ok-old.ensures.input in
-    let (news, read_new, new_is) = c.in_ok-new.ensures.input in
-    let (first, one, first_is) = one-input reads start between lists.old.now lists.end olds
-    c.as_slice.result.now read_old (c.as_slice.ensures.value ∙ old_is) in
-    let (second, other, second_is) = one-input reads between end lists.new.now lists.end news
-    c.as_slice-2.result.now read_new (c.as_slice-2.ensures.value ∙ new_is) in
-    IfErr-weaker c.from_residual-in_err-refuse_if.result (ComesOfBad lists.invalid lists.place.crlf bad) _
-    (changes-bad lists reads start between end first second bad one other
-    (λ fault fail is. inl (input-bad lists first c.as_slice.result.now bad first_is
-    c.in_ok-old_names.ensures.bad fault is))) (search rules)
+    grind (arith, one-input, IfErr-weaker, changes-bad, input-bad)
 
 pub returns-in_err-refuse_if-2-clause-faults : goal.returns-in_err-refuse_if-2-clause-faults
 returns-in_err-refuse_if-2-clause-faults g c =
-    let lists = c.args.lists.now in
-    let reads = g.F.Files.reads c.args.files.now in
-    let start = g.R.Read.remaining c.args.reader.now in
-    let between = g.R.Read.remaining c.read_inputs.new.reader in
-    let end = g.R.Read.remaining c.read_inputs-2.new.reader in
-    let bad = c.in_ok-new_names.new_bad in
-    let (olds, read_old, old_is) = c.in_ok-old.ensures.input in
-    let (news, read_new, new_is) = c.in_ok-new.ensures.input in
-    let (first, one, first_is) = one-input reads start between lists.old.now lists.end olds
-    c.as_slice.result.now read_old (c.as_slice.ensures.value ∙ old_is) in
-    let (second, other, second_is) = one-input reads between end lists.new.now lists.end news
-    c.as_slice-2.result.now read_new (c.as_slice-2.ensures.value ∙ new_is) in
-    IfErr-weaker c.from_residual-in_err-refuse_if-2.result (ComesOfBad lists.invalid lists.place.crlf bad) _
-    (changes-bad lists reads start between end first second bad one other
-    (λ fault fail is. inr (
-      input-good lists first c.as_slice.result.now c.in_ok-old_names.old_bad first_is
-          c.in_ok-old_names.ensures.bad (c.in_ok-refuse_if.ensures.none fail),
-      input-bad lists second c.as_slice-2.result.now bad second_is
-          c.in_ok-new_names.ensures.bad fault is,
-    ))) (search rules)
+    grind (arith, one-input, IfErr-weaker, changes-bad, input-good, input-bad)

@@ -1,4 +1,4 @@
-use Rattle.std.proofs.Common.{◌∙◌, ◌-◌, ap, drop, subst, sym, take, List, ℕ, Some}
+use Rattle.std.proofs.Common.{◌-◌, drop, subst, sym, take, arith}
 use Rattle.std.proofs.lemmas.Str.{IsAscii-drop, IsAscii-take, IsUtf8-from_ascii}
 use Rattle.std.specs.Str.{IsAscii}
 use Rattle.version_rules.proofs.lemmas.Utf8.{is_read, same_bytes}
@@ -23,12 +23,4 @@ unwrap-requires c =
     c.from_utf8.ensures.cases
 
 pub returns : goal.returns
-returns c =
-    let start = c.in_ok-start.start in
-    let length = c.in_ok-start.end - start in
-    ap Some
-    (same_bytes _ (take length (drop start c.as_bytes.result.now)) c.from_utf8.result _ c.from_utf8.ensures.cases
-    c.unwrap.ensures
-    ∙ ap (λ (l : List ℕ). take length (drop start l)) (c.as_bytes.ensures.value ∙ c.text.ensures.printed))
-    ∙ field_taken c.args.field (plain_versioning_ref c.args.version.now) start c.in_ok-start.end
-    (sym c.place.ensures ∙ c.in_ok-start.was)
+returns c = grind (arith, same_bytes, field_taken)

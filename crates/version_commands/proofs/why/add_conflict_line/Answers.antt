@@ -13,21 +13,13 @@ module _ (end : ℕ) (list : List ℕ) (conflict : Conflict) (one other : List �
   line_for_one : conflict.one.start ≡ conflict.other.start
       → concat (one ∷ codes " excludes every version" ∷ (end ∷ []) ∷ [])
       ≡ conflict_line end list conflict
-  line_for_one same =
-      rw (eq-eqb conflict.one.start conflict.other.start same)
-      (ap (λ (l : List ℕ). concat (l ∷ codes " excludes every version" ∷ (end ∷ []) ∷ [])) one_is)
+  line_for_one same = grind (arith, eq-eqb)
 
   line_for_two : conflict.one.start ≢ conflict.other.start
       → other ≡ text_between list conflict.other.start conflict.other.end
       → concat (one ∷ codes " and " ∷ other ∷ codes " exclude each other" ∷ (end ∷ []) ∷ [])
       ≡ conflict_line end list conflict
-  line_for_two others other_is =
-      rw (ne_eqb conflict.one.start conflict.other.start others)
-      (ap (λ (l : List ℕ). concat
-      (l ∷ codes " and " ∷ other ∷ codes " exclude each other" ∷ (end ∷ []) ∷ [])) one_is
-      ∙ ap (λ (l : List ℕ). concat
-      (text_between list conflict.one.start conflict.one.end ∷ codes " and " ∷ l
-      ∷ codes " exclude each other" ∷ (end ∷ []) ∷ [])) other_is)
+  line_for_two others other_is = grind (arith, ne_eqb)
 
 pub text_between-one-requires-clause-within : goal.text_between-one-requires-clause-within
 text_between-one-requires-clause-within c =

@@ -74,11 +74,7 @@ placed_total R place total = then_total total (on_total place nat_cmp_total)
 ties-placed : {X : Type 0} (R : X → X → Ordering) (place : X → ℕ) → IsTotalOrder R → (x y : X)
     → ties (below (placed R place)) x y ≡ true → place y ≡ place x
 ties-placed R place total x y tied =
-    let apart = neither (below (placed R place) x y) (below (placed R place) y x) tied in
-    let both : placed R place x y ≡ Equal =
-    not_less (placed R place x y) apart.0
-    (ap is_lt (sym ((placed_total R place total).antisymm y x)) ∙ apart.1) in
-    sym (exact_unsigned (place x) (place y) (then_second (R x y) (nat_cmp (place x) (place y)) both))
+    grind (arith, neither, below, not_less, placed_total, exact_unsigned, then_second)
 
 -- a filter that leaves at most one element leaves the same of the elements in another order
 

@@ -1,5 +1,5 @@
 -- What the front of a run reads, and that it reads each run that ends.
-use Rattle.std.proofs.Common.{◌≡◌, ◌≢◌, ◌==◌, ℕ, ◌<◌, Bool, true, false, List, [], ◌∷◌, ◌++◌, length, drop, Some, None, refl, sym, ap, ◌∙◌, arith, inl, inr, one-add}
+use Rattle.std.proofs.Common.{◌≡◌, ◌==◌, ℕ, ◌<◌, Bool, true, false, List, [], ◌∷◌, ◌++◌, length, drop, Some, None, refl, sym, ap, ◌∙◌, arith, inl, inr, one-add}
 use Rattle.std.proofs.lemmas.Bool.{cases_Bool, eqb-false, eqb-true, ne_eqb}
 use Rattle.std.proofs.lemmas.List.{drop_at, take-append-drop, take_at}
 use Rattle.std.specs.Cmp.{first_so, second_so}
@@ -56,17 +56,7 @@ begins-drop test (b ∷ text) = elim (cases_Bool (test b)) [
 -- a run that is not empty is read as it is
 unless_empty-Some : (p : List ℕ × List ℕ) (run rest : List ℕ) → unless_empty p ≡ Some (run, rest)
     → (p.0 ≡ run) × (p.1 ≡ rest) × (0 < length run)
-unless_empty-Some p run rest e = elim (cases_Bool (length p.0 == 0)) [
-  | inl none ↦ cc (rw none at e)
-  | inr some ↦
-      let same : p ≡ (run, rest) = cc (rw some at e) in
-      let first : p.0 ≡ run = ap (λ (q : List ℕ × List ℕ). q.0) same in
-      let apart : length p.0 ≢ 0 = eqb-false _ _ some in (
-        first,
-        ap (λ (q : List ℕ × List ℕ). q.1) same,
-        omega (arith, ap (λ (l : List ℕ). length l) first),
-      )
-]
+unless_empty-Some p run rest e = grind (arith, cases_Bool, eqb-false)
 
 pub reads_run : (test : ℕ → Bool) (text run rest : List ℕ) → run_front test text ≡ Some (run, rest)
     → ReadsRun test text run rest

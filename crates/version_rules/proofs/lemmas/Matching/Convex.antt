@@ -64,9 +64,7 @@ module _ {K : Type 0} (R : K → K → Ordering) (total : IsTotalOrder R) where
       by Greater same = cc (turned, upto total w b c (rw (total.antisymm w b, same) refl) h)
 
   pub not_below_stays : (w a b : K) → ¬ (R a w ≡ Less) → UpTo a b → ¬ (R b w ≡ Less)
-  not_below_stays w a b h upward below =
-      let still : is_gt (R w b) ≡ false = upto total w a b (back w a h) upward in
-      cc (rw (total.antisymm w b, below) at still)
+  not_below_stays w a b h upward below = grind (arith, back)
 
   not_above_stays : (w b c : K) → ¬ (R c w ≡ Greater) → UpTo b c → ¬ (R b w ≡ Greater)
   not_above_stays w b c h upward greater =
@@ -101,37 +99,17 @@ number_last m n rest h =
 
 numbers_up_to : (a b : PlainSemVer) → is_gt (semver_cmp a b) ≡ false
     → NumbersUpTo (numbers a) (numbers b)
-numbers_up_to a b h = elim (number_first a.major b.major _ h) [
-  | inl less ↦ inl less
-  | inr major ↦ elim (number_first a.minor b.minor _ major.1) [
-    | inl less ↦ inr (major.0, inl less)
-    | inr minor ↦ inr (major.0, inr (minor.0, number_last a.patch b.patch _ minor.1))
-  ]
-]
+numbers_up_to a b h = grind (arith, number_first, number_last)
 
 -- if the first and the last of three ordered numbers are the same, so is the middle one, and what
 -- follows decides
 same_first : (x y z : ℕ) (P Q : Type 0) → x ≡ z → (x < y) ⊎ ((x ≡ y) × P) → (y < z) ⊎ ((y ≡ z) × Q)
     → (x ≡ y) × P × Q
-same_first x y z P Q same first second = elim first [
-  | inl less ↦ elim second [
-    | inl less_2 ↦
-        absurd (omega (arith, same))
-    | inr other ↦ absurd (omega (arith, same, other.0))
-  ]
-  | inr one ↦ elim second [
-    | inl less_2 ↦
-        absurd (omega (arith, same, one.0))
-    | inr other ↦ (one.0, one.1, other.1)
-  ]
-]
+same_first x y z P Q same first second = grind arith
 
 tilde_between : (w a b c : Numbers) → MatchesTilde w a → MatchesTilde w c → NumbersUpTo a b
     → NumbersUpTo b c → MatchesTilde w b
-tilde_between w a b c low high first second =
-    let major = same_first a.0 b.0 c.0 _ _ (sym low.0 ∙ high.0) first second in
-    let minor = same_first a.1 b.1 c.1 _ _ (sym low.1 ∙ high.1) major.1 major.2 in
-    (low.0 ∙ major.0, low.1 ∙ minor.0, omega (arith, low.2, minor.1))
+tilde_between w a b c low high first second = grind (arith, same_first)
 
 -- ---- carets
 
@@ -149,20 +127,10 @@ abbrev MatchesZeroMajor : Numbers → Numbers → Type 0
 MatchesZeroMajor w v = MatchBool (both_zero w.1 v.1) (w.2 ≡ v.2) (MatchesMinor w v)
 
 caret_major : (w v : Numbers) → MatchesCaret w v → w.0 ≡ v.0
-caret_major w v m =
-    elim (cases_Bool (both_zero w.0 v.0)) [
-      | inl zero ↦
-          both_zero-same w.0 v.0 zero
-      | inr other ↦ (rw other at m).0
-    ]
+caret_major w v m = grind (arith, cases_Bool, both_zero-same)
 
 caret_minor : (w v : Numbers) → MatchesZeroMajor w v → w.1 ≡ v.1
-caret_minor w v m =
-    elim (cases_Bool (both_zero w.1 v.1)) [
-      | inl zero ↦
-          both_zero-same w.1 v.1 zero
-      | inr other ↦ (rw other at m).0
-    ]
+caret_minor w v m = grind (arith, cases_Bool, both_zero-same)
 
 -- the minor and the patch, if the majors are the same
 PairUpTo : Numbers → Numbers → Type 0

@@ -1,5 +1,5 @@
 -- The value of a run of digits, digit by digit.
-use Rattle.std.proofs.Common.{◌≡◌, ◌+◌, ◌*◌, ◌-◌, ◌<◌, ◌≤◌, ◌^◌, ℕ, true, List, get_or, length, take, sym, arith, inl, inr}
+use Rattle.std.proofs.Common.{◌≡◌, ◌+◌, ◌*◌, ◌-◌, ◌<◌, ◌^◌, ℕ, true, List, get_or, length, take, arith}
 use Rattle.std.proofs.lemmas.Bool.{cases_Bool}
 use Rattle.std.proofs.lemmas.Bool.Decides.{nat_tests}
 use Rattle.std.proofs.lemmas.Int.Digits.{digits_value_more}
@@ -14,25 +14,16 @@ digit_less c digit = grind (arith, nat_tests)
 
 digit_at : (text : List ℕ) (i : ℕ) → list_all is_ascii_digit text ≡ true → i < length text
     → is_ascii_digit (get_or text i 0) ≡ true
-digit_at text i all inside = elim (cases_Bool (is_ascii_digit (get_or text i 0))) [
-  | inl digit ↦ digit
-  | inr other ↦ cc (all, list_all_at is_ascii_digit text i 0 inside other)
-]
+digit_at text i all inside = grind (arith, cases_Bool, list_all_at)
 
 -- the value of the digits up to the next one, from the value before it
 pub next_value : (text : List ℕ) (i value : ℕ) → list_all is_ascii_digit text ≡ true
     → i < length text → value ≡ digits_value 10 (take i text)
     → value * 10 + (get_or text i 0 - 48) ≡ digits_value 10 (take (i + 1) text)
-next_value text i value all inside e =
-    let d = digit_less (get_or text i 0) (digit_at text i all inside) in
-    rw (e, ← d) (sym (digits_value_more 10 text i inside))
+next_value text i value all inside e = grind (arith, digit_less, digit_at, digits_value_more)
 
 -- it fits if the whole value does
 pub next_fits : (text : List ℕ) (i value : ℕ) → list_all is_ascii_digit text ≡ true
     → i < length text → value ≡ digits_value 10 (take i text)
     → digits_value 10 text < 2 ^ 32 → value * 10 + (get_or text i 0 - 48) < 2 ^ 32
-next_fits text i value all inside e fits =
-    let next = next_value text i value all inside e in
-    let within : digits_value 10 (take (i + 1) text) ≤ digits_value 10 text =
-    digits_value-take-le 10 text (i + 1) (omega arith) in
-    omega (arith, next, within, fits)
+next_fits text i value all inside e fits = grind (arith, next_value, digits_value-take-le)

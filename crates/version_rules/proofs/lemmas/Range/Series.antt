@@ -62,16 +62,12 @@ same_epoch epoch x y =
 -- a key and a bound of its epoch compare as the parts of the key and those of the bound
 key_low : (k : Key) (begin : List PartKey)
     → bytes_cmp (key_bytes k) (begun k.epoch begin) ≡ fronts_cmp k.body (tail_bytes k.tail) begin []
-key_low k begin =
-    rw (append-nil (items_bytes part_bytes begin))
-    (same_epoch k.epoch _ (items_bytes part_bytes begin))
+key_low k begin = grind (arith, append-nil, same_epoch)
 
 key_high : (k : Key) (begin : List PartKey)
     → bytes_cmp (key_bytes k) (above_begun k.epoch begin)
     ≡ fronts_cmp k.body (tail_bytes k.tail) begin (4 ∷ [])
-key_high k begin =
-    rw (append_assoc (number_bytes k.epoch) (items_bytes part_bytes begin) (4 ∷ []))
-    (same_epoch k.epoch _ (items_bytes part_bytes begin ++ 4 ∷ []))
+key_high k begin = grind (arith, append_assoc, same_epoch)
 
 not_below_none : (x : List ℕ) → ¬ (bytes_cmp x [] ≡ Less)
 not_below_none [] e = cc e
@@ -108,18 +104,7 @@ record Within (wanted kept parts : List PartKey) (x : List ℕ) : Type 0 where
 between : (k l : Key) (kept : List PartKey) → k.epoch ≡ l.epoch
     → Within k.body kept l.body (tail_bytes l.tail)
     ↔ AreBetween (begun k.epoch k.body) (Some (above_begun k.epoch kept)) (key_bytes l)
-between k l kept same = rw same (
-  λ w. record {
-    from_low =
-        rw (key_low l k.body) w.from_low;
-    below_high = key_high l kept ∙ w.below_high;
-  },
-  λ b. record {
-    from_low =
-        rw (key_low l k.body) at b.from_low;
-    below_high = sym (key_high l kept) ∙ b.below_high;
-  },
-)
+between k l kept same = grind (arith, key_low, key_high)
 
 -- parts that are not below the wanted ones, and begin with the kept ones, lie between the bounds
 starts_within : {wanted kept parts : List PartKey} (more : List PartKey) (x : List ℕ)

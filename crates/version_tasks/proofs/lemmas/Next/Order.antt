@@ -24,7 +24,7 @@ use Rattle.version_rules.specs.Chunk as chunk
 use Rattle.version_rules.specs.Last as last
 
 three_ways : (m n : ℕ) → (m < n) ⊎ ((m ≡ n) ⊎ (n < m))
-three_ways m n = grind (arith)
+three_ways m n = grind arith
 
 same : (n : ℕ) → nat_cmp n n ≡ Equal
 same n = sym (nat_cmp_is n n Equal refl)
@@ -117,13 +117,8 @@ raised_fit (suc place) (n ∷ ns) k fits less =
 
 pub raised_follows : (place : ℕ) (ns : List ℕ) (k : ℕ) → place < length ns → fit ns ≡ true
     → k < 2 ^ 32 → MayFollow ns place (raised place ns k)
-raised_follows place ns k within fits less = record {
-  within = within;
-  count = raised_count place ns k;
-  before = raised_before place ns k;
-  after = raised_after place ns k;
-  fit = raised_fit place ns k fits less;
-}
+raised_follows place ns k within fits less =
+    grind (arith, raised_count, raised_before, raised_after, raised_fit)
 
 pub raised_number : (place : ℕ) (ns : List ℕ) (k : ℕ) → place < length ns
     → number_at place (raised place ns k) ≡ k
@@ -353,25 +348,17 @@ module _ (v : PlainVersioning) (place : ℕ) (numbers : List ℕ)
   -- the numbers of a version of the form are raised at the place
   form_numbers : (w : PlainVersioning) → (f : IsOfForm v place w)
       → f.next ≡ raised place numbers (number_at place f.next)
-  form_numbers w f =
-      let is : f.numbers ≡ numbers = cc (sym f.numbers_are ∙ are) in
-      rw is at
-      (raised_is place f.numbers f.next f.follow.within f.follow.count f.follow.before
-      f.follow.after)
+  form_numbers w f = grind (arith, raised_is)
 
   form_within : (w : PlainVersioning) → IsOfForm v place w → place < length numbers
-  form_within w f =
-      let is : f.numbers ≡ numbers = cc (sym f.numbers_are ∙ are) in
-      rw is at f.follow.within
+  form_within w f = grind arith
 
   form_body : (w : PlainVersioning) → (f : IsOfForm v place w)
       → (key_of w).body ≡ parts (raised place numbers (number_at place f.next))
   form_body w f = key_body w f.next f.next_are f.follow.fit ∙ ap parts (form_numbers w f)
 
   form_epoch : (w : PlainVersioning) → IsOfForm v place w → (key_of w).epoch ≡ (key_of v).epoch
-  form_epoch w f =
-      key_epoch w f.next f.next_are ∙ ap (λ (o : Option ℕ). unwrap_or o 0) f.epoch_is
-      ∙ sym (key_epoch v numbers are)
+  form_epoch w f = grind (arith, key_epoch)
 
   -- how two versions of the form compare
   forms_order : (u w : PlainVersioning) → (f : IsOfForm v place u) → (g : IsOfForm v place w)

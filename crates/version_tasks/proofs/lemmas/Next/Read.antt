@@ -298,14 +298,14 @@ module _ (text : List ℕ) (v : PlainVersioning) (s : SpellsVersioning text v)
           unfolding version_in
           holds = rw version_is refl
 
-          pub parses : versioning_of written ≡ Some (version_in written)
+          parses : versioning_of written ≡ Some (version_in written)
           parses = version_is ∙ ap (λ w. Some w) (sym holds)
 
-          pub reads_back : versioning_of (versioning_text (version_in written))
+          reads_back : versioning_of (versioning_text (version_in written))
               ≡ Some (version_in written)
           reads_back = ap versioning_of (printed _ _ parses) ∙ parses
 
-          pub comes_next : IsNext v place (version_in written)
+          comes_next : IsNext v place (version_in written)
           comes_next =
               let form =
               numbered_form v place numbers comes are
@@ -315,3 +315,8 @@ module _ (text : List ℕ) (v : PlainVersioning) (s : SpellsVersioning text v)
               rw holds
               (is_next v place numbers are (values_fit ps all) (numbered v comes) form.0
               (next_is ∙ sym next ∙ sym at_place))
+
+          pub follows : (versioning_of written ≡ Some (version_in written))
+              × (versioning_of (versioning_text (version_in written)) ≡ Some (version_in written))
+              × IsNext v place (version_in written)
+          follows = (parses, reads_back, comes_next)

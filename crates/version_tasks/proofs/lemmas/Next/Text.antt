@@ -39,10 +39,7 @@ printed text v read = versioning_printed text v (versioning_of-spells text v rea
 -- the pieces of the text, one after another
 pub in_pieces : (epoch front digits zeros e f z : List ℕ) → e ≡ epoch → f ≡ front → z ≡ zeros
     → (e ++ (f ++ digits)) ++ z ≡ epoch ++ (front ++ (digits ++ zeros))
-in_pieces epoch front digits zeros e f z first next last =
-    rw (first, next, last)
-    (append_assoc epoch (front ++ digits) zeros
-    ∙ ap (λ (l : List ℕ). epoch ++ l) (append_assoc front digits zeros))
+in_pieces epoch front digits zeros e f z first next last = grind (arith, append_assoc)
 
 -- the pieces of an ASCII text are ASCII, so they are UTF-8
 ascii_left : (xs ys : List ℕ) → IsAscii (xs ++ ys) → IsAscii xs
@@ -130,9 +127,7 @@ another_zero zero = refl
 another_zero (suc zeros) = ap (λ (l : List ℕ). dot ∷ 48 ∷ l) (another_zero zeros)
 
 pub one_more_zero : (zeros : ℕ) → zeros_text zeros ++ dot ∷ 48 ∷ [] ≡ zeros_text (zeros + 1)
-one_more_zero zeros =
-    let same : suc zeros ≡ zeros + 1 = omega arith in
-    another_zero zeros ∙ ap zeros_text same
+one_more_zero zeros = grind (arith, another_zero)
 
 -- zeros one after another
 zeros_both : (m n : ℕ) → zeros_text (m + n) ≡ zeros_text m ++ zeros_text n
@@ -376,9 +371,7 @@ still_general text other v w s not_strict numbers ns are count some spelled epoc
 
 -- two texts that are the same two
 pub both_same : (p q : List ℕ × List ℕ) → Some p ≡ Some q → (p.0 ≡ q.0) × (p.1 ≡ q.1)
-both_same p q e =
-    let same : p ≡ q = cc e in
-    (ap (λ (p : List ℕ × List ℕ). p.0) same, ap (λ (p : List ℕ × List ℕ). p.1) same)
+both_same p q e = grind arith
 
 pub numbered_spelled : (text : List ℕ) (v : PlainVersioning) → SpellsVersioning text v
     → (numbers ns : List ℕ) → numbers_of v ≡ Some numbers → length ns ≡ length numbers

@@ -1,4 +1,4 @@
-use Rattle.std.proofs.Common.{◌∙◌, ◌&&◌, if◌then◌else◌, Bool, List, ℕ, ap, arith, length, suc, sym}
+use Rattle.std.proofs.Common.{◌∙◌, ◌&&◌, if◌then◌else◌, Bool, List, ℕ, ap, arith, length, suc, sym, rules}
 use Rattle.std.specs.List.{list_all}
 use Rattle.version_rules.specs.Versioning.{is_prerelease}
 use Rattle.version_texts.specs.Numbers.{numeral_value}
@@ -6,7 +6,7 @@ use Rattle.version_texts.specs.Piece.{further_pieces, is_dot}
 use Rattle.version_texts.specs.VersioningRef.{plain_versioning_ref}
 use Rattle.version_texts.proofs.lemmas.VersioningRef.{spells-is}
 use Rattle.version_tasks.specs.NextText.{is_zero}
-use Rattle.version_tasks.proofs.lemmas.Next.Read.{beyond, comes_next, has_number, left_within, other_parts, parses, past, reads_back}
+use Rattle.version_tasks.proofs.lemmas.Next.Read.{beyond, follows, has_number, left_within, other_parts, past}
 use Rattle.version_tasks.proofs.next.next_of.Goals as goal
 
 pub returns-then-not-are_numerals-clause-none : goal.returns-then-not-are_numerals-clause-none
@@ -48,45 +48,32 @@ pub invariant_of-result : goal.invariant_of-result
 invariant_of-result c =
     let v = plain_versioning_ref c.args.version.now in
     let n = c.in_ok-numeral_value.field-0 in
+    let rest = c.split_piece.ensures.rest in
     let stays = c.may_stay.ensures ∙ ap (λ (l : List ℕ). is_prerelease v && list_all is_zero
-    (further_pieces is_dot l)) c.split_piece.ensures.rest in
+    (further_pieces is_dot l)) rest in
     let next = c.in_ok-number.ensures.some ∙ ap (λ (b : Bool). if b then n else suc n) stays in
-    let count = c.count_parts.ensures ∙ ap (λ (l : List ℕ). length (further_pieces is_dot l))
-    c.split_piece.ensures.rest in
+    let count = c.count_parts.ensures ∙ ap (λ (l : List ℕ). length (further_pieces is_dot l)) rest in
+    let is = follows _ _ (spells-is _ _ c.args.version.now.read) _ _ c.in_ok-epoch.ensures
+    c.args.place (sym c.if-not-are_numerals.ensures) c.in_ok-left.left.now c.in_ok-left.ensures n
+    (c.in_ok-numeral_value.ensures ∙ ap numeral_value c.split_piece.ensures.piece)
+    c.in_ok-number.number c.count_parts.result next (omega arith) count in
+    record { read = is.0 }
+
+pub returns : goal.returns
+returns c =
+    let v = plain_versioning_ref c.args.version.now in
+    let n = c.in_ok-numeral_value.field-0 in
+    let rest = c.split_piece.ensures.rest in
+    let stays = c.may_stay.ensures ∙ ap (λ (l : List ℕ). is_prerelease v && list_all is_zero
+    (further_pieces is_dot l)) rest in
+    let next = c.in_ok-number.ensures.some ∙ ap (λ (b : Bool). if b then n else suc n) stays in
+    let count = c.count_parts.ensures ∙ ap (λ (l : List ℕ). length (further_pieces is_dot l)) rest in
+    let is = follows _ _ (spells-is _ _ c.args.version.now.read) _ _ c.in_ok-epoch.ensures
+    c.args.place (sym c.if-not-are_numerals.ensures) c.in_ok-left.left.now c.in_ok-left.ensures n
+    (c.in_ok-numeral_value.ensures ∙ ap numeral_value c.split_piece.ensures.piece)
+    c.in_ok-number.number c.count_parts.result next (omega arith) count in
     record {
-      read = parses _ _ (spells-is _ _ c.args.version.now.read) _ _ c.in_ok-epoch.ensures
-          c.args.place (sym c.if-not-are_numerals.ensures) c.in_ok-left.left.now
-          c.in_ok-left.ensures n
-          (c.in_ok-numeral_value.ensures ∙ ap numeral_value c.split_piece.ensures.piece)
-          c.in_ok-number.number c.count_parts.result next (omega arith) count;
+      some = is.2;
+      none = search rules;
+      read = is.1;
     }
-
-pub returns-clause-some : goal.returns-clause-some
-returns-clause-some c =
-    let v = plain_versioning_ref c.args.version.now in
-    let n = c.in_ok-numeral_value.field-0 in
-    let stays = c.may_stay.ensures ∙ ap (λ (l : List ℕ). is_prerelease v && list_all is_zero
-    (further_pieces is_dot l)) c.split_piece.ensures.rest in
-    let next = c.in_ok-number.ensures.some ∙ ap (λ (b : Bool). if b then n else suc n) stays in
-    let count = c.count_parts.ensures ∙ ap (λ (l : List ℕ). length (further_pieces is_dot l))
-    c.split_piece.ensures.rest in
-    comes_next _ _ (spells-is _ _ c.args.version.now.read) _ _ c.in_ok-epoch.ensures
-    c.args.place (sym c.if-not-are_numerals.ensures) c.in_ok-left.left.now
-    c.in_ok-left.ensures n
-    (c.in_ok-numeral_value.ensures ∙ ap numeral_value c.split_piece.ensures.piece)
-    c.in_ok-number.number c.count_parts.result next (omega arith) count
-
-pub returns-clause-read : goal.returns-clause-read
-returns-clause-read c =
-    let v = plain_versioning_ref c.args.version.now in
-    let n = c.in_ok-numeral_value.field-0 in
-    let stays = c.may_stay.ensures ∙ ap (λ (l : List ℕ). is_prerelease v && list_all is_zero
-    (further_pieces is_dot l)) c.split_piece.ensures.rest in
-    let next = c.in_ok-number.ensures.some ∙ ap (λ (b : Bool). if b then n else suc n) stays in
-    let count = c.count_parts.ensures ∙ ap (λ (l : List ℕ). length (further_pieces is_dot l))
-    c.split_piece.ensures.rest in
-    reads_back _ _ (spells-is _ _ c.args.version.now.read) _ _ c.in_ok-epoch.ensures
-    c.args.place (sym c.if-not-are_numerals.ensures) c.in_ok-left.left.now
-    c.in_ok-left.ensures n
-    (c.in_ok-numeral_value.ensures ∙ ap numeral_value c.split_piece.ensures.piece)
-    c.in_ok-number.number c.count_parts.result next (omega arith) count

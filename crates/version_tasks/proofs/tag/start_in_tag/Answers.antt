@@ -9,19 +9,13 @@ overflow_sub-result c =
     rw c.bytes.ensures.printed
     (in_tag c.args.tag.now _ c.in_ok-version.ensures.text).within
 
-pub returns-clause-version : goal.returns-clause-version
-returns-clause-version c =
-    rw c.bytes.ensures.printed
-    (ap Some (in_tag c.args.tag.now _ c.in_ok-version.ensures.text).is)
-    ∙ ap (option_map versioning_text) c.in_ok-version.ensures.version
-
-pub returns-clause-text : goal.returns-clause-text
-returns-clause-text c =
-    c.in_ok-version.ensures.text
-    ∙ sym (rw c.bytes.ensures.printed
-    (ap Some (in_tag c.args.tag.now _ c.in_ok-version.ensures.text).is))
-
-pub returns-clause-within : goal.returns-clause-within
-returns-clause-within c =
-    let rest = in_tag c.args.tag.now _ c.in_ok-version.ensures.text in
-    rw c.bytes.ensures.printed (omega (arith, rest.some, rest.within))
+pub returns : goal.returns
+returns c =
+    let tag = c.args.tag.now in
+    let rest = in_tag tag _ c.in_ok-version.ensures.text in
+    record {
+      version = rw c.bytes.ensures.printed (ap Some rest.is)
+          ∙ ap (option_map versioning_text) c.in_ok-version.ensures.version;
+      text = c.in_ok-version.ensures.text ∙ sym (rw c.bytes.ensures.printed (ap Some rest.is));
+      within = rw c.bytes.ensures.printed (omega (arith, rest.some, rest.within));
+    }

@@ -12,13 +12,12 @@ pub parts-preserved : goal.parts-preserved
 parts-preserved c =
     let firsts = c.compare_parts_to-firsts.ensures in
     let more = c.in-Some-Some.ensures.some in
-    let others = c.in-Some-Some.ensures'.some in
     let equal = sym c.is_ne.ensures ∙ c.if-is_ne.false in
-    let later = differ_later c.parts.place c.parts.a.now c.parts.b.now _ firsts.order _ _ firsts.rest firsts.other_rest
-    equal in
+    let later = differ_later c.parts.place c.parts.a.now c.parts.b.now _ firsts.order firsts.rest
+    firsts.other_rest equal c.parts.invariant.0 in
     let shorter = is_shorter c.parts.a.now _ _ _ firsts.rest equal more in (
-      ap (counted_from (c.parts.place + 1)) (sym (both_go_on _ _ _ _ more others)) ∙ sym later
-          ∙ c.parts.invariant.0,
+      ap (counted_from (c.parts.place + 1))
+          (sym (both_go_on _ _ _ _ more c.in-Some-Some.ensures'.some)) ∙ later,
       omega (arith, shorter, c.parts.invariant.1),
     )
 
@@ -27,24 +26,21 @@ returns-in-Some-None c =
     let firsts = c.compare_parts_to-firsts.ensures in
     let ends = c.in-Some-None in
     sym (first_goes_on (c.parts.place + 1) _ _ _ ends.ensures.some ends.ensures'.none)
-    ∙ sym (differ_later c.parts.place c.parts.a.now c.parts.b.now _ firsts.order _ _ firsts.rest firsts.other_rest
-    (sym c.is_ne.ensures ∙ c.if-is_ne.false))
-    ∙ c.parts.invariant.0
+    ∙ differ_later c.parts.place c.parts.a.now c.parts.b.now _ firsts.order firsts.rest
+    firsts.other_rest (sym c.is_ne.ensures ∙ c.if-is_ne.false) c.parts.invariant.0
 
 pub returns-in-None-Some : goal.returns-in-None-Some
 returns-in-None-Some c =
     let firsts = c.compare_parts_to-firsts.ensures in
     let ends = c.in-None-Some in
     sym (second_goes_on (c.parts.place + 1) _ _ _ ends.ensures.none ends.ensures'.some)
-    ∙ sym (differ_later c.parts.place c.parts.a.now c.parts.b.now _ firsts.order _ _ firsts.rest firsts.other_rest
-    (sym c.is_ne.ensures ∙ c.if-is_ne.false))
-    ∙ c.parts.invariant.0
+    ∙ differ_later c.parts.place c.parts.a.now c.parts.b.now _ firsts.order firsts.rest
+    firsts.other_rest (sym c.is_ne.ensures ∙ c.if-is_ne.false) c.parts.invariant.0
 
 pub returns-in-None-None : goal.returns-in-None-None
 returns-in-None-None c =
     let firsts = c.compare_parts_to-firsts.ensures in
     let ends = c.in-None-None in
     ap (counted_from (c.parts.place + 1)) (sym (both_end _ _ ends.ensures.none ends.ensures'.none))
-    ∙ sym (differ_later c.parts.place c.parts.a.now c.parts.b.now _ firsts.order _ _ firsts.rest firsts.other_rest
-    (sym c.is_ne.ensures ∙ c.if-is_ne.false))
-    ∙ c.parts.invariant.0
+    ∙ differ_later c.parts.place c.parts.a.now c.parts.b.now _ firsts.order firsts.rest
+    firsts.other_rest (sym c.is_ne.ensures ∙ c.if-is_ne.false) c.parts.invariant.0

@@ -1,8 +1,8 @@
-use Rattle.std.proofs.Common.{◌≡◌, ◌==◌, ◌∙◌, ℕ, List, ap, false, length, sym, true, ◌++◌, ◌∷◌, [], Bool, append-nil, drop}
+use Rattle.std.proofs.Common.{◌≡◌, ◌==◌, ◌∙◌, ℕ, List, ap, length, sym, ◌∷◌, [], Bool, drop}
 use Rattle.std.specs.Char.{is_ascii_digit}
 use Rattle.std.specs.List.{list_all}
 use Rattle.version_texts.proofs.lemmas.TextKey.DotPieces.{is_run, number_chunk, text_chunk}
-use Rattle.version_texts.proofs.lemmas.TextKey.Taking.{fits_front, fits_next, takes_same}
+use Rattle.version_texts.proofs.lemmas.TextKey.Taking.{next_fits, owes_all, owes_rest}
 use Rattle.std.specs.List.{prefix_len}
 use Rattle.version_texts.proofs.key.put_chunk.Goals as goal
 
@@ -12,64 +12,56 @@ all_digits : (text rest : List ℕ) (is_empty : Bool) → rest ≡ drop (prefix_
 all_digits text rest is_empty r e =
     sym (is_run is_ascii_digit text) ∙ ap (λ (l : List ℕ). length l == 0) (sym r) ∙ sym e
 
-pub returns-then-is_empty : goal.returns-then-is_empty
-returns-then-is_empty g c =
-    let text = c.args.text.now in
-    let all : list_all is_ascii_digit text ≡ true =
-    all_digits text c.split_run.result.1.now _ c.split_run.ensures.rest c.if-is_empty.ensures in
-    takes_same g.S.Sink.takes _ _ _ _ (number_chunk text all)
-    (g.met.S.Sink.takes_both _ _ _ _ _ c.put.ensures c.put_number.ensures.bytes)
-
-pub returns : goal.returns
-returns g c =
-    let text = c.args.text.now in
-    let other : list_all is_ascii_digit text ≡ false =
-    all_digits text c.split_run.result.1.now _ c.split_run.ensures.rest c.if-is_empty.ensures in
-    let both = g.met.S.Sink.takes_both in
-    takes_same g.S.Sink.takes _ _ _ _ (text_chunk text other c.requires.text)
-    (both _ _ _ _ _ (both _ _ _ _ _ c.put-2.ensures c.put_all.ensures) c.put-3.ensures)
-
 pub put-requires : goal.put-requires
 put-requires g c =
-    fits_front g.S.Sink.fits g.met.S.Sink.fits_first _ _ (2 ∷ []) _
-    (number_chunk c.args.text.now
-    (all_digits c.args.text.now c.split_run.result.1.now _ c.split_run.ensures.rest
-    c.if-is_empty.ensures)) c.requires.fits
+    let laws = g.met.S.Sink in
+    let all = all_digits c.args.text.now _ _ c.split_run.ensures.rest c.if-is_empty.ensures in
+    next_fits (2 ∷ []) _ (owes_all laws.fits_first laws.fits_then laws.takes_both
+    (number_chunk c.args.text.now all) c.requires.fits)
 
 pub put_number-requires : goal.put_number-requires
 put_number-requires g c =
-    fits_next g.S.Sink.takes g.S.Sink.fits g.met.S.Sink.fits_first g.met.S.Sink.fits_then
-    _ _ _ (2 ∷ []) _ []
-    (number_chunk c.args.text.now
-    (all_digits c.args.text.now c.split_run.result.1.now _ c.split_run.ensures.rest
-    c.if-is_empty.ensures)
-    ∙ ap (λ (l : List ℕ). (2 ∷ []) ++ l) (sym (append-nil _)))
-    c.put.ensures c.requires.fits
+    let laws = g.met.S.Sink in
+    let all = all_digits c.args.text.now _ _ c.split_run.ensures.rest c.if-is_empty.ensures in
+    (owes_rest (2 ∷ []) _ (owes_all laws.fits_first laws.fits_then laws.takes_both
+    (number_chunk c.args.text.now all) c.requires.fits) c.put.ensures).room
+
+pub returns-then-is_empty : goal.returns-then-is_empty
+returns-then-is_empty g c =
+    let laws = g.met.S.Sink in
+    let all = all_digits c.args.text.now _ _ c.split_run.ensures.rest c.if-is_empty.ensures in
+    (owes_rest (2 ∷ []) _ (owes_all laws.fits_first laws.fits_then laws.takes_both
+    (number_chunk c.args.text.now all) c.requires.fits) c.put.ensures).ends _
+    c.put_number.ensures.bytes
 
 pub put-requires-2 : goal.put-requires-2
 put-requires-2 g c =
-    let text = c.args.text.now in
-    fits_front g.S.Sink.fits g.met.S.Sink.fits_first _ _ (3 ∷ []) (text ++ 0 ∷ [])
-    (text_chunk text (all_digits c.args.text.now c.split_run.result.1.now _ c.split_run.ensures.rest
-    c.if-is_empty.ensures)
-    c.requires.text) c.requires.fits
+    let laws = g.met.S.Sink in
+    let other = all_digits c.args.text.now _ _ c.split_run.ensures.rest c.if-is_empty.ensures in
+    next_fits (3 ∷ []) _ (owes_all laws.fits_first laws.fits_then laws.takes_both
+    (text_chunk c.args.text.now other c.requires.text) c.requires.fits)
 
 pub put_all-requires : goal.put_all-requires
 put_all-requires g c =
-    let text = c.args.text.now in
-    fits_next g.S.Sink.takes g.S.Sink.fits g.met.S.Sink.fits_first g.met.S.Sink.fits_then
-    _ _ _ (3 ∷ []) text (0 ∷ [])
-    (text_chunk text (all_digits c.args.text.now c.split_run.result.1.now _ c.split_run.ensures.rest
-    c.if-is_empty.ensures)
-    c.requires.text)
-    c.put-2.ensures c.requires.fits
+    let laws = g.met.S.Sink in
+    let other = all_digits c.args.text.now _ _ c.split_run.ensures.rest c.if-is_empty.ensures in
+    let chunk = text_chunk c.args.text.now other c.requires.text in
+    let all = owes_all laws.fits_first laws.fits_then laws.takes_both chunk c.requires.fits in
+    next_fits _ _ (owes_rest (3 ∷ []) _ all c.put-2.ensures)
 
 pub put-requires-3 : goal.put-requires-3
 put-requires-3 g c =
-    let text = c.args.text.now in
-    fits_next g.S.Sink.takes g.S.Sink.fits g.met.S.Sink.fits_first g.met.S.Sink.fits_then
-    _ _ _ ((3 ∷ []) ++ text) (0 ∷ []) []
-    (text_chunk text (all_digits c.args.text.now c.split_run.result.1.now _ c.split_run.ensures.rest
-    c.if-is_empty.ensures)
-    c.requires.text)
-    (g.met.S.Sink.takes_both _ _ _ _ _ c.put-2.ensures c.put_all.ensures) c.requires.fits
+    let laws = g.met.S.Sink in
+    let other = all_digits c.args.text.now _ _ c.split_run.ensures.rest c.if-is_empty.ensures in
+    let chunk = text_chunk c.args.text.now other c.requires.text in
+    let all = owes_all laws.fits_first laws.fits_then laws.takes_both chunk c.requires.fits in
+    (owes_rest _ _ (owes_rest (3 ∷ []) _ all c.put-2.ensures) c.put_all.ensures).room
+
+pub returns : goal.returns
+returns g c =
+    let laws = g.met.S.Sink in
+    let other = all_digits c.args.text.now _ _ c.split_run.ensures.rest c.if-is_empty.ensures in
+    let chunk = text_chunk c.args.text.now other c.requires.text in
+    let all = owes_all laws.fits_first laws.fits_then laws.takes_both chunk c.requires.fits in
+    (owes_rest _ _ (owes_rest (3 ∷ []) _ all c.put-2.ensures) c.put_all.ensures).ends _
+    c.put-3.ensures

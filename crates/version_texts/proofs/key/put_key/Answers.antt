@@ -1,31 +1,34 @@
-use Rattle.std.proofs.Common.{◌∙◌, ◌++◌, [], ℕ, List, ap, append-nil, sym}
 use Rattle.version_rules.specs.Tail.{tail_bytes}
 use Rattle.version_texts.specs.Shape.{tail_in}
-use Rattle.version_texts.specs.TextKey.{front_bytes, tail_of, text_key}
-use Rattle.version_texts.proofs.lemmas.TextKey.Taking.{fits_front, fits_next, key_halves, takes_same}
+use Rattle.version_texts.specs.TextKey.{tail_of, text_key}
+use Rattle.version_texts.proofs.lemmas.TextKey.Taking.{key_halves, next_fits, owes_all, owes_rest}
 use Rattle.version_texts.proofs.key.put_key.Goals as goal
-
-pub returns-then-put_front : goal.returns-then-put_front
-returns-then-put_front g c =
-    takes_same g.S.Sink.takes _ _ _ _ (key_halves (text_key c.args.text.now c.args.shape))
-    (g.met.S.Sink.takes_both _ _ _ _ _ c.put_front.ensures.bytes
-    (rw c.tail_at.ensures at c.put_tail.ensures))
-
-pub returns-else-put_front : goal.returns-else-put_front
-returns-else-put_front g c =
-    let tail = tail_bytes (tail_of c.args.shape.tail (tail_in c.args.text.now c.args.shape)) in
-    takes_same g.S.Sink.takes _ _ _ _ (key_halves (text_key c.args.text.now c.args.shape))
-    (g.met.S.Sink.takes_both _ _ _ _ _ c.put_front.ensures.bytes
-    (c.put_front.ensures.decided c.if-put_front.false tail))
 
 pub put_front-requires-clause-fits : goal.put_front-requires-clause-fits
 put_front-requires-clause-fits g c =
-    fits_front g.S.Sink.fits g.met.S.Sink.fits_first _ _ _ _ (key_halves (text_key c.args.text.now c.args.shape)) c.requires.fits
+    let laws = g.met.S.Sink in
+    let key = text_key c.args.text.now c.args.shape in
+    next_fits _ _ (owes_all laws.fits_first laws.fits_then laws.takes_both (key_halves key) c.requires.fits)
 
 pub put_tail-requires-clause-fits : goal.put_tail-requires-clause-fits
 put_tail-requires-clause-fits g c =
+    let laws = g.met.S.Sink in
     let key = text_key c.args.text.now c.args.shape in
-    rw c.tail_at.ensures
-    (fits_next g.S.Sink.takes g.S.Sink.fits g.met.S.Sink.fits_first g.met.S.Sink.fits_then
-    _ _ _ _ _ [] (key_halves key ∙ ap (λ (l : List ℕ). front_bytes key ++ l) (sym (append-nil _)))
-    c.put_front.ensures.bytes c.requires.fits)
+    let all = owes_all laws.fits_first laws.fits_then laws.takes_both (key_halves key) c.requires.fits in
+    rw c.tail_at.ensures (owes_rest _ _ all c.put_front.ensures.bytes).room
+
+pub returns-then-put_front : goal.returns-then-put_front
+returns-then-put_front g c =
+    let laws = g.met.S.Sink in
+    let key = text_key c.args.text.now c.args.shape in
+    let all = owes_all laws.fits_first laws.fits_then laws.takes_both (key_halves key) c.requires.fits in
+    (owes_rest _ _ all c.put_front.ensures.bytes).ends _ (rw c.tail_at.ensures at c.put_tail.ensures)
+
+pub returns-else-put_front : goal.returns-else-put_front
+returns-else-put_front g c =
+    let laws = g.met.S.Sink in
+    let key = text_key c.args.text.now c.args.shape in
+    let all = owes_all laws.fits_first laws.fits_then laws.takes_both (key_halves key) c.requires.fits in
+    (owes_rest _ _ all c.put_front.ensures.bytes).ends _
+    (c.put_front.ensures.decided c.if-put_front.false
+    (tail_bytes (tail_of c.args.shape.tail (tail_in c.args.text.now c.args.shape))))

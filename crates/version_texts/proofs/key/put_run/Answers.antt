@@ -1,20 +1,22 @@
-use Rattle.std.proofs.Common.{◌∙◌, ◌∷◌, ◌++◌, [], ℕ, List, ap, append_assoc, drop, sym}
+use Rattle.std.proofs.Common.{◌∙◌, ◌∷◌, [], ℕ, List, ap, drop, refl, sym}
 use Rattle.std.specs.List.{prefix_len, take_while}
 use Rattle.version_texts.specs.Class.{contains}
 use Rattle.version_texts.proofs.lemmas.General.Runs.{run_cons}
-use Rattle.version_texts.proofs.lemmas.TextKey.Taking.{fits_next}
+use Rattle.version_texts.proofs.lemmas.TextKey.Taking.{next_fits, owes_all, owes_rest, owes_same}
 use Rattle.version_texts.proofs.key.put_run.Goals as goal
+
+pub loop-first-init : goal.loop-first-init
+loop-first-init g c =
+    let laws = g.met.S.Sink in
+    (owes_all laws.fits_first laws.fits_then laws.takes_both refl c.requires, refl)
 
 pub put-requires : goal.put-requires
 put-requires g c =
-    let so_far = c.loop-first.invariant in
     let byte = c.in-Some.ensures.some in
     let test = contains c.args.class in
     let next = ap (take_while test) byte.0
     ∙ (run_cons test c.in-Some.first c.in-Some.rest.now byte.1).0 in
-    fits_next g.S.Sink.takes g.S.Sink.fits g.met.S.Sink.fits_first g.met.S.Sink.fits_then
-    _ _ _ so_far.0 (c.in-Some.first ∷ []) (take_while test c.in-Some.rest.now)
-    (so_far.1 ∙ ap (λ (l : List ℕ). so_far.0 ++ l) next) so_far.2 c.requires
+    next_fits (c.in-Some.first ∷ []) _ (owes_same next c.loop-first.invariant.0)
 
 pub loop-first-preserved : goal.loop-first-preserved
 loop-first-preserved g c =
@@ -22,9 +24,7 @@ loop-first-preserved g c =
     let byte = c.in-Some.ensures.some in
     let test = contains c.args.class in
     let next = run_cons test c.in-Some.first c.in-Some.rest.now byte.1 in (
-      so_far.0 ++ c.in-Some.first ∷ [],
-      so_far.1 ∙ ap (λ (l : List ℕ). so_far.0 ++ l) (ap (take_while test) byte.0 ∙ next.0)
-          ∙ sym (append_assoc so_far.0 (c.in-Some.first ∷ []) _),
-      g.met.S.Sink.takes_both _ _ _ _ _ so_far.2 c.put.ensures,
-      sym (ap (λ (l : List ℕ). drop (prefix_len test l) l) byte.0 ∙ next.1) ∙ so_far.3,
+      owes_rest (c.in-Some.first ∷ []) _ (owes_same (ap (take_while test) byte.0 ∙ next.0) so_far.0)
+          c.put.ensures,
+      sym (ap (λ (l : List ℕ). drop (prefix_len test l) l) byte.0 ∙ next.1) ∙ so_far.1,
     )

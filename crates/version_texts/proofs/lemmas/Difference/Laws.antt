@@ -1,7 +1,6 @@
 -- The laws of where two versions differ first: what each answer says, and that it is the same either
 -- way.
-use Rattle.std.proofs.Common.{if◌then◌else◌, ◌≡◌, ◌↔◌, ◌⊎◌, ◌==◌, ◌∙◌, ℕ, zero, suc, Bool, true, false, List, [], ◌∷◌, Option, Some, None, eqb-true, eq-eqb, inl, inr, refl, ap, sym, take}
-use Rattle.std.specs.Bool.{one_answer}
+use Rattle.std.proofs.Common.{if◌then◌else◌, ◌≡◌, ◌↔◌, ◌⊎◌, ◌==◌, ◌∙◌, ℕ, zero, suc, Bool, true, false, List, [], ◌∷◌, Option, Some, None, eqb-true, eq-eqb, inl, inr, refl, ap, take, arith}
 use Rattle.std.specs.Cmp.{Equal-is, IsTotalOrder, tied_itself}
 use Rattle.std.specs.Option.{option_map, option_or, unwrap_or}
 use Rattle.std.specs.Ordering.{is_eq, ordering_reverse}
@@ -27,10 +26,7 @@ both : {P Q R S : Type 0} → (P ↔ Q) → (R ↔ S) → ((P × R) ↔ (Q × S)
 both first second = (λ p. (first.0 p.0, second.0 p.1), λ q. (first.1 q.0, second.1 q.1))
 
 all : {P Q R S T U : Type 0} → (P ↔ Q) → (R ↔ S) → (T ↔ U) → ((P × R × T) ↔ (Q × S × U))
-all first second third = (
-  λ p. (first.0 p.0, second.0 p.1, third.0 p.2),
-  λ q. (first.1 q.0, second.1 q.1, third.1 q.2),
-)
+all first second third = grind arith
 
 in_a_row : {P Q R : Type 0} → ((P × (Q × R)) ↔ (P × Q × R))
 in_a_row = (λ p. (p.0, p.1.0, p.1.1), λ q. (q.0, (q.1, q.2)))
@@ -220,39 +216,30 @@ module _ (a b : PlainVersioning) where
   same_fields = chain (Equal-is (versioning_plain_cmp a b)) (versioning_equal a b)
 
   fields_of_keys : ((k.epoch ≡ l.epoch) × (k.body ≡ l.body) × (k.tail ≡ l.tail)) ↔ (k ≡ l)
-  fields_of_keys = (
-    λ same i. record { epoch = same.0 i; body = same.1 i; tail = same.2 i },
-    λ same. (
-      ap (λ (k : Key). k.epoch) same,
-      ap (λ (k : Key). k.body) same,
-      ap (λ (k : Key). k.tail) same,
-    ),
-  )
+  fields_of_keys = grind arith
 
   equal_keys : AreEqual epochs part rest ↔ (precedence k l ≡ Equal)
   equal_keys =
-      let by_key = precedence_equal k l in
-      chain (all same_epochs same_bodies same_tails)
-      (chain fields_of_keys (by_key.1, by_key.0))
+      grind (
+        arith,
+        precedence_equal,
+        chain,
+        all,
+        same_epochs,
+        same_bodies,
+        same_tails,
+        fields_of_keys,
+      )
 
   pub tie_law : (difference_of a b ≡ Tie) ↔ ((precedence k l ≡ Equal) × ¬ (SameVersioning a b))
   tie_law = chain (answers_tie epochs part rest fields) (both equal_keys (fails fields same_fields))
 
   pub same_law : (difference_of a b ≡ Same) ↔ SameVersioning a b
-  same_law =
-      let answers = answers_same epochs part rest fields in (
-        λ d. same_fields.0 (answers.0 d).1,
-        λ same.
-            let tied = keys_tied a b ((versioning_equal a b).1 same) in
-            answers.1 (equal_keys.1 tied, same_fields.1 same),
-      )
+  same_law = grind (arith, answers_same, same_fields, keys_tied, versioning_equal, equal_keys)
 
   pub equal_law : ((difference_of a b ≡ Same) ⊎ (difference_of a b ≡ Tie))
       ↔ (precedence k l ≡ Equal)
-  equal_law =
-      chain
-      (either fields (answers_same epochs part rest fields) (answers_tie epochs part rest fields))
-      equal_keys
+  equal_law = grind (arith, chain, either, answers_same, answers_tie, equal_keys)
 
   pub epoch_law : (difference_of a b ≡ Epoch) ↔ (¬ (k.epoch ≡ l.epoch))
   epoch_law = chain (answers_epoch epochs part rest fields) (fails epochs same_epochs)
@@ -282,9 +269,7 @@ either_way {R = R} total x y = ap is_eq (total.antisymm x y) ∙ reversed (R y x
     reversed Greater = refl
 
 numbers_either_way : (m n : ℕ) → (m == n) ≡ (n == m)
-numbers_either_way m n =
-    one_answer (m == n) (n == m) (eqb-true m n, eq-eqb m n)
-    (λ e. sym (eqb-true n m e), λ e. eq-eqb n m (sym e))
+numbers_either_way m n = grind (arith, eqb-true, eq-eqb)
 
 lists_either_way : (ps qs : List PartKey) → first_differing ps qs ≡ first_differing qs ps
 lists_either_way [] [] = refl

@@ -15,10 +15,7 @@ Within inner outer = (b : ℕ) → inner b ≡ true → outer b ≡ true
 -- a byte outside the outer class is outside the inner class
 outside : (inner outer : ℕ → Bool) → Within inner outer → (b : ℕ) → outer b ≡ false
     → inner b ≡ false
-outside inner outer within b fails = elim (cases_Bool (inner b)) [
-  | inl passes ↦ cc (within b passes)
-  | inr other ↦ other
-]
+outside inner outer within b fails = grind (arith, cases_Bool)
 
 -- a text that does not begin with a byte of the class has no run
 pub no_run : (test : ℕ → Bool) (text : List ℕ) → begins test text ≡ false

@@ -63,9 +63,7 @@ pub both_pass : (cut : ℕ → Bool) (test : List ℕ → Bool) (a : List ℕ) (
     → cut mark ≡ true
     → list_all test (slice_split cut a) ≡ true → list_all test (slice_split cut b) ≡ true
     → list_all test (slice_split cut (a ++ mark ∷ b)) ≡ true
-both_pass cut test a mark b h first others =
-    ap (list_all test) (split-append cut a mark b h)
-    ∙ list_all-append test (slice_split cut a) (slice_split cut b) ∙ and_from _ _ first others
+both_pass cut test a mark b h first others = grind (arith, split-append, list_all-append, and_from)
 
 -- a text of bytes that pass one test, which no byte to split at passes, is its one piece
 pub split_run : (run cut : ℕ → Bool) → ((b : ℕ) → run b ≡ true → cut b ≡ false) → (text : List ℕ)

@@ -1,18 +1,17 @@
 -- The length of a part's bytes: at most three for each byte of its text, and one more.
-use Rattle.std.proofs.Common.{◌≡◌, ◌∙◌, ◌+◌, ◌*◌, ◌/◌, ◌%◌, ◌<◌, ◌≤◌, ℕ, zero, suc, Bool, true, false, List, [], ◌∷◌, length, map, replicate, take, drop, Option, Some, None, refl, sym, ap, arith, lit≤, if◌then◌else◌}
+use Rattle.std.proofs.Common.{◌≡◌, ◌∙◌, ◌+◌, ◌*◌, ◌<◌, ◌≤◌, ℕ, zero, suc, Bool, true, false, List, [], ◌∷◌, length, take, drop, Option, Some, None, refl, sym, ap, arith, if◌then◌else◌}
 use Rattle.std.proofs.lemmas.Bool.Decides.{nat_tests}
 use Rattle.std.proofs.lemmas.Int.Digits.{digits_value-lt, length-digits_of-le}
 use Rattle.std.proofs.lemmas.List.{length-append, length-map, length-replicate, length-take, take-append-drop}
 use Rattle.std.proofs.lemmas.List.Elements.{All-drop, All-head, All-rest, All-take}
-use Rattle.std.specs.Char.{digit_char, digit_value, is_ascii_digit}
+use Rattle.std.specs.Char.{digit_value, is_ascii_digit}
 use Rattle.std.specs.Cmp.{first_so, second_so}
-use Rattle.std.specs.Int.Digits.{digits_of}
 use Rattle.std.specs.List.{All, list_all, position_or_len, prefix_len, take_while}
 use Rattle.std.specs.Str.Parse.{AllDigits, digits_value}
 use Rattle.version_rules.proofs.lemmas.Front.Runs.{list_all-take_while}
 use Rattle.version_rules.specs.Codes.{items_bytes, list_bytes}
 use Rattle.version_rules.specs.DigitRun.{number_front, starts_with_digit}
-use Rattle.version_rules.specs.NumberBytes.{length_bytes, number_bytes}
+use Rattle.version_rules.specs.NumberBytes.{number_bytes}
 use Rattle.version_rules.specs.PartKey.{part_bytes, part_key, suffix_bytes, suffix_of}
 use Rattle.version_rules.specs.Split.{numbered_bytes, split_bytes, split_of}
 use Rattle.version_rules.specs.TextBytes.{text_bytes}
@@ -45,21 +44,15 @@ all_digits (b ∷ digits) all =
 pub number_length : (digits : List ℕ) → list_all is_ascii_digit digits ≡ true → 0 < length digits
     → length (number_bytes (digits_value 10 digits)) ≤ 2 * length digits
 number_length digits all some =
-    let n = digits_value 10 digits in
-    let count = length (digits_of 10 n) in
-    let fewer : count ≤ length digits =
-    length-digits_of-le 10 (length digits) n (lit≤ tt)
-    (digits_value-lt 10 digits (all_digits digits all)) in
-    let whole : length (number_bytes n)
-    ≡ length (length_bytes count) + length (map digit_char (digits_of 10 n)) =
-    length-append (length_bytes count) (map digit_char (digits_of 10 n)) in
-    let full : List ℕ = replicate (count / 255) 255 in
-    let counted : length (length_bytes count) ≡ length full + 1 =
-    length-append full ((count % 255) ∷ []) in
-    let times : length full ≡ count / 255 = length-replicate (count / 255) 255 in
-    let written : length (map digit_char (digits_of 10 n)) ≡ count =
-    length-map (digits_of 10 n) digit_char in
-    omega (arith, fewer, whole, counted, times, written)
+    grind (
+      arith,
+      length-digits_of-le,
+      digits_value-lt,
+      all_digits,
+      length-append,
+      length-replicate,
+      length-map,
+    )
 
 -- ---- splits
 

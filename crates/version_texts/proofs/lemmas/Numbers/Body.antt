@@ -48,9 +48,7 @@ run_cut : (test : ℕ → Bool) (run rest : List ℕ) → list_all test run ≡ 
     → begins test rest ≡ false
     → (take_while test (run ++ rest) ≡ run)
     × (drop (prefix_len test (run ++ rest)) (run ++ rest) ≡ rest)
-run_cut test run rest all ends =
-    let count = sym (prefix_len-append test run rest all ends) in
-    (take_at run rest _ count, drop_at run rest _ count)
+run_cut test run rest all ends = grind (arith, prefix_len-append, take_at, drop_at)
 
 -- a numeral, letters, and a numeral or nothing
 numbered : (digits letters end : List ℕ) (n : ℕ) → SpellsNumeral digits n
@@ -69,10 +67,7 @@ letters_other [] end h = absurd (omega (arith, h.1))
 letters_other (b ∷ letters) end h = letter_other b (first_so _ _ h.0)
 
 digit_other : (b : ℕ) → is_ascii_digit b ≡ true → is_ascii_alphabetic b ≡ false
-digit_other b digit = elim (cases_Bool (is_ascii_alphabetic b)) [
-  | inl letter ↦ cc (letter_other b letter, digit)
-  | inr other ↦ other
-]
+digit_other b digit = grind (arith, cases_Bool, letter_other)
 
 numeral_other : (text : List ℕ) (n : ℕ) → SpellsNumeral text n
     → begins is_ascii_alphabetic text ≡ false
@@ -113,21 +108,13 @@ module _ (text : List ℕ) (other : list_all is_ascii_digit text ≡ false) (is 
   end = after_letters (behind_digits text)
 
   rest_is : behind_digits text ≡ letters ++ end
-  rest_is =
-      sym (take-append-drop (prefix_len is_ascii_alphabetic (behind_digits text))
-      (behind_digits text))
+  rest_is = grind (arith, take-append-drop)
 
   whole : text ≡ digits ++ (letters ++ end)
-  whole =
-      sym (take-append-drop (prefix_len is_ascii_digit text) text)
-      ∙ ap (λ (l : List ℕ). digits ++ l) rest_is
+  whole = grind (arith, take-append-drop, rest_is)
 
   letters_are : is_numeral_or_empty end ≡ true → IsLetters letters
-  letters_are last =
-      some_letters digits letters end (sym (ap (list_all is_ascii_digit) whole) ∙ other)
-      (list_all-take_while is_ascii_digit text)
-      (list_all-take_while is_ascii_alphabetic (behind_digits text))
-      (sym (ap (begins is_ascii_digit) rest_is) ∙ begins-drop is_ascii_digit text) last
+  letters_are last = grind (arith, some_letters, whole, list_all-take_while, rest_is, begins-drop)
 
   not_numbered : is_numeral_or_empty end ≡ true → is_numeral digits ≡ true → ⊥
   not_numbered last first =
@@ -149,13 +136,7 @@ module _ (text : List ℕ) (other : list_all is_ascii_digit text ≡ false) (is 
       ]
 
   no_first_number : last_number text ≡ None
-  no_first_number = elim (cases_Bool (is_numeral_or_empty end)) [
-    | inr more ↦ rw more refl
-    | inl last ↦ elim (cases_Bool (is_numeral digits)) [
-      | inr apart ↦ rw (last, apart) refl
-      | inl first ↦ absurd (not_numbered last first)
-    ]
-  ]
+  no_first_number = grind (arith, cases_Bool, not_numbered)
 
 -- the first number of a last part
 last_value : (text : List ℕ) (x : PlainChunk) (last : PlainLast) → SpellsPart text x

@@ -16,9 +16,7 @@ one_dropped x (suc k) some = drop-nil k
 -- what is left of a text, from its first piece on
 module _ (left rest : List ℕ) (behind : rest ≡ behind_piece left) where
   pieces_by : pieces left ≡ first_piece left ∷ further_pieces is_dot rest
-  pieces_by =
-      pieces_are is_dot left
-      ∙ ap (λ (l : List ℕ). first_piece left ∷ further_pieces is_dot l) (sym behind)
+  pieces_by = grind (arith, pieces_are)
 
   pub next_left : (all : List (List ℕ)) (place : ℕ) → pieces left ≡ drop place all
       → (more : List ℕ) → (b : ℕ) × (rest ≡ b ∷ more) → pieces more ≡ drop (place + 1) all

@@ -149,9 +149,7 @@ module _ (first rest : List ℕ) (chunks : Section) (more : List Further)
     (s : SpellsSection first chunks) (each : SpellsEach SpellsFurther rest more) where
   count : length first ≡ prefix_len unsigned (first ++ rest)
   count =
-      sym (prefix_len-append unsigned first rest
-      (all_weaker is_section_byte unsigned section_unsigned first (section_bytes first chunks s))
-      (sign_follows rest more each))
+      grind (arith, prefix_len-append, all_weaker, section_unsigned, section_bytes, sign_follows)
 
   section_cut : before_first is_sep (first ++ rest) ≡ first
   section_cut = take_at first rest _ count
@@ -197,7 +195,4 @@ spelled_section first rest chunks ((Tilde, section) ∷ more) s each =
 
 pub number_of_mess : (text : List ℕ) (m : PlainMess) → SpellsMess text m → (n : ℕ)
     → chunk_number (drop n (pieces (section_in text))) ≡ nth_number m n
-number_of_mess text m s n =
-    rw s.whole_is
-    (number_of_section (section_in (s.first ++ s.more)) (behind_colons m.first m.more)
-    (spelled_section s.first s.more m.first m.more s.first_is s.more_is) n)
+number_of_mess text m s n = grind (arith, number_of_section, spelled_section)

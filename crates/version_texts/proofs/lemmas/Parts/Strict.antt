@@ -1,9 +1,9 @@
 -- Whether three plain numbers match, as numbers and as lists of parts.
-use Rattle.std.proofs.Common.{◌≡◌, ◌↔◌, ◌⊎◌, ◌∙◌, ◌<◌, ◌≤◌, ◌==◌, ℕ, suc, zero, true, false, List, [], ◌∷◌, Some, IsTrue, ap, arith, inl, inr, refl, subst, sym}
+use Rattle.std.proofs.Common.{◌≡◌, ◌↔◌, ◌⊎◌, ◌∙◌, ◌<◌, ◌≤◌, ◌==◌, ℕ, suc, zero, true, false, List, [], ◌∷◌, Some, IsTrue, ap, arith, inl, inr, refl, sym}
 use Rattle.std.proofs.Math.Dec.{eqb-suc-zero}
 use Rattle.std.proofs.lemmas.Bool.Decides.{Decides-and, Decides-like}
 use Rattle.std.specs.Bool.{Decides, MatchBool, ⊤}
-use Rattle.std.specs.Cmp.{Equal-is, nat_cmp_is}
+use Rattle.std.specs.Cmp.{Equal-is}
 use Rattle.std.specs.Ordering.{is_eq, is_ge, nat_cmp, ordering_then}
 use Rattle.std.specs.declared.cmp.Ordering.TheVariants.{Equal}
 use Rattle.version_rules.proofs.lemmas.NumberBytes.{above, below}
@@ -23,20 +23,11 @@ plain_same m n e = cc e
 
 -- how two numbers lie
 three_ways : (m n : ℕ) → (m < n) ⊎ ((m ≡ n) ⊎ (n < m))
-three_ways m n = grind (arith)
+three_ways m n = grind arith
 
 -- a number is not before another exactly if it is not less
 not_below : (m n : ℕ) → IsNotBelow (plain m) (plain n) ↔ (m ≤ n)
-not_below m n = elim (three_ways n m) [
-  | inl less ↦ (λ above. absurd (above (plain_cmp n m ∙ below n m less)), λ e. absurd (omega arith))
-  | inr (inl same) ↦ (
-    λ e. omega arith,
-    λ e less. let there =
-        sym (nat_cmp_is n m Equal same) in cc (plain_cmp n m ∙ there, less),
-  )
-  | inr (inr more) ↦
-      (λ e. omega arith, λ e less. let there = above n m more in cc (plain_cmp n m ∙ there, less))
-]
+not_below m n = grind (arith, three_ways, plain_cmp, below)
 
 -- ---- a tilde
 
@@ -91,28 +82,7 @@ majors_caret b c (suc x) y z =
 pairs_not_less : (b c y z : ℕ)
     → IsTrue (is_ge (ordering_then (nat_cmp y b) (nat_cmp z c)))
     ↔ ((b < y) ⊎ MatchesMinor (0, b, c) (0, y, z))
-pairs_not_less b c y z = elim (three_ways y b) [
-  | inl less ↦ rw (below y b less) (
-    λ e. cc e,
-    λ more. elim more [
-      | inl above ↦ absurd (omega arith)
-      | inr same ↦ absurd (omega (arith, same.0))
-    ],
-  )
-  | inr (inl same) ↦ rw (sym (nat_cmp_is y b Equal same)) (elim (three_ways z c) [
-    | inl less ↦ rw (below z c less) (
-      λ e. cc e,
-      λ more. elim more [
-        | inl above ↦ absurd (omega arith)
-        | inr minor ↦ absurd (omega (arith, minor.1))
-      ],
-    )
-    | inr (inl tied) ↦
-        rw (sym (nat_cmp_is z c Equal tied)) (λ e. inr (sym same, omega arith), λ more. refl)
-    | inr (inr more) ↦ rw (above z c more) (λ e. inr (sym same, omega arith), λ more. refl)
-  ])
-  | inr (inr more) ↦ rw (above y b more) (λ e. inl more, λ more. refl)
-]
+pairs_not_less b c y z = grind (arith, three_ways, below, above)
 
 bodies_cmp : (a b c x y z : ℕ) → list_cmp (strict_body x y z) (strict_body a b c)
     ≡ ordering_then (nat_cmp x a) (ordering_then (nat_cmp y b) (nat_cmp z c))
@@ -139,21 +109,12 @@ module _ (w p : PartKey) (wanted_more more : List PartKey) (wanted v : Numbers)
   -- the wanted major is 0
   pub caret_of_zero : is_plain_zero w ≡ true
       → PartsMatchCaret (w ∷ wanted_more) (p ∷ more) ↔ MatchesCaret wanted v
-  caret_of_zero is_none =
-      let none = is_zero wanted.0 (rw first_wanted at is_none) in
-      subst (λ (l : List PartKey × List PartKey). PartsMatchCaret l.0 l.1 ↔ MatchesCaret wanted v)
-      (λ i. (sym wanted_numbers i, sym numbers i))
-      (rw none (majors_caret wanted.1 wanted.2 v.0 v.1 v.2))
+  caret_of_zero is_none = grind (arith, is_zero, first_wanted, majors_caret)
 
   -- the majors differ
   pub caret_differs : is_plain_zero w ≡ false → is_eq (part_cmp (Some p) (Some w)) ≡ false
       → ¬ MatchesCaret wanted v
-  caret_differs other differ =
-      rw (no_plain_zero wanted.0 (rw first_wanted at other)) (λ match.
-      let tied : part_cmp (Some p) (Some w) ≡ Equal =
-      rw (first_wanted, first)
-      (plain_cmp v.0 wanted.0 ∙ sym (nat_cmp_is v.0 wanted.0 Equal (sym match.0))) in
-      cc (rw tied at differ))
+  caret_differs other differ = grind (arith, no_plain_zero, first_wanted, first, plain_cmp)
 
   -- they are equal
   pub caret_of_major : is_plain_zero w ≡ false → is_eq (part_cmp (Some p) (Some w)) ≡ true

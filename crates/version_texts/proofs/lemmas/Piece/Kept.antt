@@ -1,5 +1,5 @@
 -- The parts of a text before its last dot, and through its first part that is not a plain zero.
-use Rattle.std.proofs.Common.{◌≡◌, ◌+◌, ◌-◌, ◌<◌, ◌≤◌, ◌∙◌, ℕ, Bool, Bor, true, false, IfSome, List, [], ◌∷◌, ◌++◌, get_or, length, map, take, Option, Some, None, refl, sym, ap, arith, inl, inr, append-nil, append_assoc, length-append}
+use Rattle.std.proofs.Common.{◌≡◌, ◌-◌, ◌<◌, ◌≤◌, ◌∙◌, ℕ, Bool, Bor, true, false, IfSome, List, [], ◌∷◌, ◌++◌, get_or, length, map, take, Option, Some, None, refl, sym, ap, arith, inl, inr, append-nil, append_assoc, length-append}
 use Rattle.std.proofs.lemmas.Bool.{cases_Bool}
 use Rattle.std.proofs.lemmas.List.{map-append, take-append-drop, take_all, take_at}
 use Rattle.std.proofs.lemmas.Grind.{take_at_read}
@@ -7,7 +7,7 @@ use Rattle.std.proofs.lemmas.List.Elements.{All-cons, All-nil}
 use Rattle.std.proofs.lemmas.List.Splits.{slice_split_none}
 use Rattle.std.proofs.lemmas.List.Folds.{list_all-append}
 use Rattle.std.specs.Cmp.{first_so}
-use Rattle.std.specs.List.{list_all, position_or_len}
+use Rattle.std.specs.List.{list_all}
 use Rattle.version_rules.specs.PartKey.{PartKey, part_key}
 use Rattle.version_rules.proofs.lemmas.Lists.{split_last-append}
 use Rattle.version_rules.specs.Range.{but_last, through_other}
@@ -34,10 +34,7 @@ parts_joined a mark b h =
 -- a text is what stands before its last byte, and that byte
 pub front_and_last : (text : List ℕ) → 1 ≤ length text
     → text ≡ take (length text - 1) text ++ get_or text (length text - 1) 0 ∷ []
-front_and_last text some =
-    let size : length text ≡ length text - 1 + 1 = omega arith in
-    sym (take_all (length text) text (omega arith)) ∙ ap (λ n. take n text) size
-    ∙ (take_at_read text (length text - 1) 0 (omega arith)).1
+front_and_last text some = grind (arith, take_all, take_at_read)
 
 -- a text has more text behind it, without dots
 pub record Undotted (text left : List ℕ) : Type 0 where
@@ -90,9 +87,7 @@ dot_follows (b ∷ text) mark more e = elim (cases_Bool (is_dot b)) [
 ]
 
 piece_and_behind : (text rest : List ℕ) → rest ≡ behind_piece text → text ≡ first_piece text ++ rest
-piece_and_behind text rest left =
-    sym (take-append-drop (position_or_len is_dot text) text)
-    ∙ ap (λ (l : List ℕ). first_piece text ++ l) (sym left)
+piece_and_behind text rest left = grind (arith, take-append-drop)
 
 -- the parts so far are plain zeros, and these parts are left
 pub record Zeros (text left : List ℕ) : Type 0 where

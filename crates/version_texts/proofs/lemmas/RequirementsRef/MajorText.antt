@@ -1,5 +1,5 @@
 -- The versions that `~` or `^` matches begin as the wanted version does, if that is strict.
-use Rattle.std.proofs.Common.{◌≡◌, ◌⊎◌, ◌∙◌, ◌+◌, ℕ, suc, true, false, List, [], ◌∷◌, ◌++◌, length, take, Some, refl, sym, ap, arith, inl, inr, nat_eq, one-add, append_assoc, length-append}
+use Rattle.std.proofs.Common.{◌≡◌, ◌⊎◌, ◌∙◌, ◌+◌, ℕ, suc, true, false, List, [], ◌∷◌, ◌++◌, length, take, Some, refl, sym, ap, arith, nat_eq, one-add, append_assoc, length-append}
 use Rattle.std.proofs.lemmas.Bool.{cases_Bool, eqb-true}
 use Rattle.std.proofs.lemmas.List.{take_at}
 use Rattle.std.proofs.lemmas.List.Elements.{All-head}
@@ -82,9 +82,7 @@ no_major (Complex m) e = refl
 module _ (text : List ℕ) (s : Shape) (shaped : shape_of text ≡ Some s) where
   pub strict_major : s.kind ≡ kind.Ideal
       → take (suc (position_or_len is_dot text)) text ≡ major_text (version_in text)
-  strict_major e =
-      strict_text text (version_in text) (spells-is text s shaped)
-      (sym e ∙ kind-is text s shaped)
+  strict_major e = grind (arith, strict_text, spells-is, kind-is)
 
   pub other_major : ¬ (s.kind ≡ kind.Ideal) → [] ≡ major_text (version_in text)
   other_major e =
@@ -92,11 +90,7 @@ module _ (text : List ℕ) (s : Shape) (shaped : shape_of text ≡ Some s) where
 
 -- a caret matches versions with the wanted major number
 caret_major : (w v : Numbers) → strict.MatchesCaret w v → w.0 ≡ v.0
-caret_major w v match = elim (cases_Bool (both_zero w.0 v.0)) [
-  | inl zeros ↦
-      eqb-true w.0 0 (first_so _ _ zeros) ∙ sym (eqb-true v.0 0 (second_so _ _ zeros))
-  | inr other ↦ (rw other at match).0
-]
+caret_major w v match = grind (arith, cases_Bool, eqb-true)
 
 -- a version with the wanted major number begins as the wanted one does
 same_major : (w v : PlainSemVer) (text : List ℕ) → w.major ≡ v.major
@@ -124,10 +118,7 @@ caret_begins (Complex w) v text e match = (text, refl)
 pub front_begins : (r : PlainRequirement) (w v : PlainVersioning) (text : List ℕ)
     → r.version ≡ Some w → (r.op ≡ op.Tilde) ⊎ (r.op ≡ op.Caret) → versioning_of text ≡ Some v
     → Matches r v → Begins (major_text w) text
-front_begins r w v text some asks e match = elim asks [
-  | inl tilde ↦ tilde_begins w v text e (rw (some, tilde) at match)
-  | inr caret ↦ caret_begins w v text e (rw (some, caret) at match)
-]
+front_begins r w v text some asks e match = grind (arith, tilde_begins, caret_begins)
 
 -- a list keeps no text that does not begin as its first member asks
 unbegun : (front text : List ℕ) → starts_with nat_eq text front ≡ false → ¬ (Begins front text)
@@ -138,8 +129,4 @@ unbegun front text differ begun =
 pub not_kept : (r : PlainRequirement) (more : List PlainRequirement) (front text : List ℕ)
     → IsFront r front → starts_with nat_eq text front ≡ false
     → ¬ (Keeps (r ∷ more) (versioning_of text))
-not_kept r more front text begins differ = elim (cases_Option (versioning_of text)) [
-  | inl none ↦ rw none (λ kept. absurd kept)
-  | inr some ↦ rw some.1 (λ kept. unbegun front text differ
-      (begins text some.0 some.1 (All-head (λ q. Matches q some.0) r more kept)))
-]
+not_kept r more front text begins differ = grind (arith, cases_Option, unbegun, All-head)

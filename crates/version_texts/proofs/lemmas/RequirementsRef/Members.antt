@@ -1,10 +1,10 @@
 -- The members of a list of requirements, by the place of its first comma.
-use Rattle.std.proofs.Common.{◌≡◌, ◌==◌, ◌<◌, ◌+◌, ◌-◌, ◌∙◌, ℕ, false, List, [], ◌∷◌, map, ap, Option, Some, None, arith, drop, if◌then◌else◌, length, length-drop, refl, sym, take}
+use Rattle.std.proofs.Common.{◌≡◌, ◌==◌, ◌<◌, ◌+◌, ◌-◌, ◌∙◌, ℕ, List, [], ◌∷◌, map, ap, Option, Some, None, arith, drop, if◌then◌else◌, length, length-drop, refl, sym, take}
 use Rattle.std.proofs.lemmas.List.{take_all}
 use Rattle.std.proofs.lemmas.List.Elements.{All-from_get_or}
 use Rattle.std.proofs.lemmas.List.Splits.{slice_split_first, slice_split_none}
 use Rattle.std.proofs.lemmas.List.Sums.{fails_before_first}
-use Rattle.std.specs.List.{after_first, before_first, position_or_len}
+use Rattle.std.specs.List.{position_or_len}
 use Rattle.std.specs.Option.{is_none, is_some}
 use Rattle.version_texts.specs.Members.{cut_at_commas, list_of}
 use Rattle.version_texts.specs.RequirementsRef.{first_wrong}
@@ -15,25 +15,14 @@ use Rattle.version_rules.specs.RequirementsRef.{before_others}
 -- a text without a comma is one piece
 pub one_piece : (text : List ℕ) → position_or_len (λ b. b == comma) text ≡ length text
     → cut_at_commas text ≡ text ∷ []
-one_piece text none =
-    slice_split_none (λ b. b == comma) text
-    (All-from_get_or (λ b. (b == comma) ≡ false) text 0
-    (λ i fits. fails_before_first (λ b. b == comma) text i 0 (omega (arith, none))))
+one_piece text none = grind (arith, slice_split_none, All-from_get_or, fails_before_first)
 
 -- a text with a comma is a piece and those of the others
 pub pieces_cut : (text : List ℕ) (n : ℕ) → n ≡ position_or_len (λ b. b == comma) text
     → n < length text
     → cut_at_commas text ≡ take n text
     ∷ cut_at_commas (take (length text - (n + 1)) (drop (n + 1) text))
-pieces_cut text n e some =
-    let first : before_first (λ b. b == comma) text ≡ take n text = ap (λ n. take n text) (sym e) in
-    let others : after_first (λ b. b == comma) text
-    ≡ take (length text - (n + 1)) (drop (n + 1) text) =
-    ap (λ n. drop (n + 1) text) (sym e)
-    ∙ sym (take_all (length text - (n + 1)) (drop (n + 1) text)
-    (omega (arith, length-drop (n + 1) text))) in
-    slice_split_first (λ b. b == comma) text 0 (omega (arith, e))
-    ∙ (λ i. first i ∷ cut_at_commas (others i))
+pieces_cut text n e some = grind (arith, take_all, length-drop, slice_split_first)
 
 -- what pieces are read as, by the first one and the others
 pub list_split : (pieces next : List (List ℕ)) (piece : List ℕ) (r : PlainRequirement)

@@ -50,22 +50,7 @@ without_epoch : (text first rest : List ℕ) (chunks : Section) (more : List Fur
     → key_from_first chunks more ≡ key_of_sections 0 chunks more → mess_epoch chunks more ≡ None
     → IsMessCut text chunks more
 without_epoch text first rest chunks more whole s each none key uncounted =
-    let bytes = section_bytes first chunks s in
-    let cut = cut_without_epoch text first rest whole bytes (sections_end rest more each) none in
-    record {
-      epoch = [];
-      body = first;
-      rest = rest;
-      value = 0;
-      chunks = chunks;
-      more = more;
-      cut = cut;
-      epoch_is = rw (no_epoch_taken text first rest cut) (refl, refl);
-      counts = rw uncounted refl;
-      body_is = s;
-      more_is = each;
-      key_is = key;
-    }
+    grind (arith, section_bytes, cut_without_epoch, sections_end, no_epoch_taken)
 
 -- without a colon the first section is the body
 pub alone : (epoch : Option ℕ) (first : Section)

@@ -68,10 +68,7 @@ module _ (text : List ℕ) (epoch : has_epoch text ≡ true) where
 
   pub epoch_chunk : list_all (is_chunk is_ascii_alphanumeric) (section_pieces text 0)
       ≡ is_numeral (take_while is_ascii_digit text)
-  epoch_chunk =
-      let of_run = chunk_digits is_ascii_alphanumeric text (rw run_len (some_digits text digit))
-      (rw run_len all) in
-      rw epoch_piece (and-true _) ∙ rw run_len at of_run
+  epoch_chunk = grind (arith, chunk_digits, run_len, some_digits, digit, all, epoch_piece, and-true)
 
   pub epoch_runs : list_all (is_run is_ascii_alphanumeric) (section_pieces text 0) ≡ true
   epoch_runs = rw (
@@ -201,10 +198,7 @@ module _ (text : List ℕ) (none : has_epoch text ≡ false) where
 
   pub first_numbers : ((length (section_pieces text 0) == 3) && list_all is_digits
       (section_pieces text 0)) ≡ has_three_numbers text
-  first_numbers =
-      rw starts_at_zero
-      (ap (λ (ps : List (List ℕ)). (length ps == 3) && list_all is_digits ps)
-      (same_pieces text none))
+  first_numbers = grind (arith, starts_at_zero, same_pieces)
 
   pub first_runs : list_all (is_run is_ascii_alphanumeric) (section_pieces text 0) ≡ true
       → list_all (is_run is_ascii_alphanumeric) (pieces (body_of text)) ≡ true

@@ -1,5 +1,5 @@
 -- The pieces of a section, from a place of a text on.
-use Rattle.std.proofs.Common.{◌≡◌, ◌==◌, ◌&&◌, ◌+◌, ◌<◌, ℕ, Bool, true, false, List, [], ◌∷◌, drop, length, refl, sym, ◌∙◌, arith, inl, inr}
+use Rattle.std.proofs.Common.{◌≡◌, ◌==◌, ◌&&◌, ◌+◌, ◌<◌, ℕ, Bool, true, false, List, [], ◌∷◌, drop, length, refl, sym, ◌∙◌, arith}
 use Rattle.std.proofs.lemmas.Bool.{cases_Bool}
 use Rattle.std.proofs.lemmas.Bool.Decides.{nat_tests}
 use Rattle.std.proofs.lemmas.List.{length-drop}
@@ -54,9 +54,7 @@ module _ (text : List ℕ) (place end : ℕ)
   pub pieces_last : begins (λ b. b == dot) (drop end text) ≡ false
       → section_pieces text place ≡ take_while is_ascii_alphanumeric (drop place text) ∷ []
   pieces_last e =
-      let after = rw behind at (begins-drop is_ascii_alphanumeric (drop place text)) in
-      last_piece is_ascii_alphanumeric is_section_byte run_in_section (λ b. b == dot) no_dot_in_run
-      (drop place text) (rw behind (neither (drop end text) after e))
+      grind (arith, behind, begins-drop, last_piece, run_in_section, no_dot_in_run, neither)
 
   pub end_next : begins (λ b. b == dot) (drop end text) ≡ true
       → section_end text place ≡ section_end text (end + 1)
@@ -77,13 +75,7 @@ module _ (text : List ℕ) (place end : ℕ)
 pub empty_piece : (text : List ℕ) (place : ℕ)
     → prefix_len is_ascii_alphanumeric (drop place text) ≡ 0
     → list_all (is_run is_ascii_alphanumeric) (section_pieces text place) ≡ false
-empty_piece text place none =
-    let end_is : place ≡ place + prefix_len is_ascii_alphanumeric (drop place text) =
-    omega (arith, none) in
-    elim (cases_Bool (begins (λ b. b == dot) (drop place text))) [
-      | inl dots ↦ rw (pieces_next text place place end_is dots, none) refl
-      | inr other ↦ rw (pieces_last text place place end_is other, none) refl
-    ]
+empty_piece text place none = grind (arith, cases_Bool)
 
 -- ---- a test of all pieces, piece by piece
 

@@ -7,7 +7,6 @@ use Rattle.std.proofs.lemmas.List.Concat.{flat_map-cons}
 use Rattle.std.specs.Char.{is_ascii_alphanumeric, is_ascii_digit}
 use Rattle.std.specs.Cmp.{first_so, second_so}
 use Rattle.std.specs.List.{list_all, prefix_len, take_while}
-use Rattle.std.specs.Str.Parse.{digits_value}
 use Rattle.version_rules.specs.Bytes.{dot, is_identifier_byte, is_metadata_byte}
 use Rattle.version_rules.specs.Codes.{items_bytes, list_bytes}
 use Rattle.version_rules.specs.DigitRun.{run_value}
@@ -33,9 +32,7 @@ more_items code x xs = flat_map-cons code (Some x) (with_end xs)
 
 pub last_item : {A : Type 0} (code : Option A → List ℕ) (x : A)
     → list_bytes code (x ∷ []) ≡ code (Some x) ++ code None
-last_item code x =
-    more_items code x []
-    ∙ ap (λ (l : List ℕ). code (Some x) ++ l) (flat_map-cons code None [] ∙ append-nil (code None))
+last_item code x = grind (arith, more_items, flat_map-cons, append-nil)
 
 -- ---- the classes
 
@@ -52,20 +49,14 @@ pub next_part : (text rest behind : List ℕ)
     → pieces (take_while is_section_byte text)
     ≡ take_while is_ascii_alphanumeric text ∷ pieces (take_while is_section_byte behind)
 next_part text rest behind r d =
-    next_piece is_ascii_alphanumeric is_section_byte alphanumeric_section
-    (λ b. b == dot) alphanumeric_no_dot text dot behind (sym r ∙ d) refl refl
+    grind (arith, next_piece, alphanumeric_section, alphanumeric_no_dot)
 
 pub part_and_more : (text rest behind : List ℕ)
     → rest ≡ drop (prefix_len is_ascii_alphanumeric text) text → rest ≡ dot ∷ behind
     → items_bytes part_bytes (parts_of (take_while is_section_byte text))
     ≡ part_bytes (Some (part_key (take_while is_ascii_alphanumeric text))) ++ items_bytes part_bytes
     (parts_of (take_while is_section_byte behind))
-part_and_more text rest behind r d =
-    let run = take_while is_ascii_alphanumeric text in
-    let left = take_while is_section_byte behind in
-    ap (λ (l : List (List ℕ)). items_bytes part_bytes (map part_key l))
-    (next_part text rest behind r d)
-    ∙ flat_map-cons part_bytes (Some (part_key run)) (map Some (parts_of left))
+part_and_more text rest behind r d = grind (arith, next_part, flat_map-cons)
 
 pub rest_and_more : (text rest behind : List ℕ)
     → rest ≡ drop (prefix_len is_ascii_alphanumeric text) text → rest ≡ dot ∷ behind
@@ -91,20 +82,13 @@ pub only_part : (text rest : List ℕ) → rest ≡ drop (prefix_len is_ascii_al
     → begins (λ b. b == dot) rest ≡ false
     → pieces (take_while is_section_byte text) ≡ take_while is_ascii_alphanumeric text ∷ []
 only_part text rest r other =
-    last_piece is_ascii_alphanumeric is_section_byte alphanumeric_section
-    (λ b. b == dot) alphanumeric_no_dot text
-    (ap (begins is_section_byte) (sym r) ∙ nothing_more text rest r other)
+    grind (arith, last_piece, alphanumeric_section, alphanumeric_no_dot, nothing_more)
 
 pub last_part : (text rest : List ℕ) → rest ≡ drop (prefix_len is_ascii_alphanumeric text) text
     → begins (λ b. b == dot) rest ≡ false
     → items_bytes part_bytes (parts_of (take_while is_section_byte text))
     ≡ part_bytes (Some (part_key (take_while is_ascii_alphanumeric text)))
-last_part text rest r other =
-    let run = take_while is_ascii_alphanumeric text in
-    ap (λ (l : List (List ℕ)). items_bytes part_bytes (map part_key l))
-    (only_part text rest r other)
-    ∙ flat_map-cons part_bytes (Some (part_key run)) []
-    ∙ append-nil (part_bytes (Some (part_key run)))
+last_part text rest r other = grind (arith, only_part, flat_map-cons, append-nil)
 
 pub rest_of_last : (text rest : List ℕ) → rest ≡ drop (prefix_len is_ascii_alphanumeric text) text
     → begins (λ b. b == dot) rest ≡ false
@@ -143,10 +127,7 @@ is_run test (b ∷ text) = elim (cases_Bool (test b)) [
 -- a chunk of digits
 pub number_chunk : (text : List ℕ) → list_all is_ascii_digit text ≡ true
     → chunk_bytes (Some (chunk_of text)) ≡ (2 ∷ []) ++ number_bytes (run_value text)
-number_chunk text all =
-    rw all
-    (ap (λ (l : List ℕ). 2 ∷ number_bytes (digits_value 10 l))
-    (sym (take_while-all is_ascii_digit text all)))
+number_chunk text all = grind (arith, take_while-all)
 
 -- any other chunk
 pub text_chunk : (text : List ℕ) → list_all is_ascii_digit text ≡ false
@@ -210,12 +191,7 @@ chunk_and_more text chunk rest behind b c r d =
 pub last_chunk : (text chunk rest : List ℕ) → chunk ≡ take_while not_dot text
     → rest ≡ drop (prefix_len not_dot text) text → rest ≡ []
     → release_bytes (chunks_of text) ≡ chunk_bytes (Some (chunk_of chunk)) ++ 1 ∷ []
-last_chunk text chunk rest c r none =
-    let cut : pieces text ≡ chunk ∷ [] =
-    split_end not_dot (λ b. b == dot) not_dot_apart text (sym r ∙ none)
-    ∙ ap (λ (l : List ℕ). l ∷ []) (sym c) in
-    ap (λ (l : List (List ℕ)). release_bytes (map chunk_of l)) cut
-    ∙ last_item chunk_bytes (chunk_of chunk)
+last_chunk text chunk rest c r none = grind (arith, split_end, not_dot_apart, last_item)
 
 -- a release begins with its first chunk, whatever follows
 pub first_chunk : (text chunk : List ℕ) → chunk ≡ take_while not_dot text

@@ -1,16 +1,15 @@
 -- Lists of parts, of chunks and of sections, compared by their first pieces and what follows these.
-use Rattle.std.proofs.Common.{refl, ◌≡◌, ◌∙◌, ◌<◌, ℕ, Bool, List, [], ◌∷◌, drop, length, map, ap, arith, sym}
+use Rattle.std.proofs.Common.{◌≡◌, ◌∙◌, ◌<◌, ℕ, Bool, List, [], ◌∷◌, drop, length, map, ap, arith, sym}
 use Rattle.std.proofs.lemmas.List.{length-drop}
 use Rattle.std.specs.List.{before_first, prefix_len, slice_split}
 use Rattle.std.specs.Cmp.Lexicographic.{slice_cmp}
 use Rattle.std.specs.Ordering.{ordering_then}
 use Rattle.std.specs.declared.cmp.Ordering.{Ordering}
 use Rattle.std.specs.declared.cmp.Ordering.TheVariants.{Less, Equal, Greater}
-use Rattle.version_rules.specs.Sep.{is_sep}
 use Rattle.version_rules.specs.Tail.{tail_rank}
 use Rattle.version_texts.proofs.lemmas.Piece.{pieces_are}
 use Rattle.version_texts.specs.Piece.{from_first, further_pieces}
-use Rattle.version_texts.specs.TextKey.{parts_of, sections_of, tail_of_sections}
+use Rattle.version_texts.specs.TextKey.{sections_of, tail_of_sections}
 
 -- what follows the byte that divides two pieces, and that nothing does
 pub further_of_more : (test : ℕ → Bool) (rest more : List ℕ) → (b : ℕ) × (rest ≡ b ∷ more)
@@ -38,9 +37,7 @@ module _ {X : Type 0} (test : ℕ → Bool) (item : List ℕ → X) (first_cmp :
       → rest ≡ from_first test a → other ≡ from_first test b
       → cmp (map item (slice_split test a)) (map item (slice_split test b))
       ≡ ordering_then o (cmp (further rest) (further other))
-  compared a b rest other o e left left_too =
-      (λ i. cmp (map item (pieces_are test a i)) (map item (pieces_are test b i))) ∙ step _ _ _ _
-      ∙ (λ i. ordering_then (sym e i) (cmp (further (sym left i)) (further (sym left_too i))))
+  compared a b rest other o e left left_too = grind (arith, pieces_are)
 
   -- two lists that begin alike compare as what follows
   pub left : (a b rest other : List ℕ) (o : Ordering)
@@ -58,18 +55,11 @@ module _ {X : Type 0} (test : ℕ → Bool) (item : List ℕ → X) (cmp : X →
       slice_cmp cmp (map item (further_pieces test rest)) (map item (further_pieces test other))
 
   pub above : (b : ℕ) × (rest ≡ b ∷ more) → other ≡ [] → of_rest ≡ Greater
-  above p none =
-      rw (further_of_more test rest more p, further_of_none test other none, pieces_are test more)
-      refl
+  above p none = grind (arith, further_of_more, further_of_none, pieces_are)
 
   pub below : rest ≡ [] → (b : ℕ) × (other ≡ b ∷ more) → of_rest ≡ Less
-  below none p =
-      rw (further_of_none test rest none, further_of_more test other more p, pieces_are test more)
-      refl
+  below none p = grind (arith, further_of_none, further_of_more, pieces_are)
 
 -- the rank of a tail that has sections
 pub rank_of_sections : (text : List ℕ) → 4 ≡ tail_rank (tail_of_sections (sections_of text))
-rank_of_sections text =
-    sym
-    (ap (λ (l : List (List ℕ)). tail_rank (tail_of_sections (map parts_of l)))
-    (pieces_are is_sep text))
+rank_of_sections text = grind (arith, pieces_are)

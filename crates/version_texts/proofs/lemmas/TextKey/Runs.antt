@@ -70,9 +70,7 @@ no_digit text rest r = ap (begins is_ascii_digit) r ∙ begins-drop is_ascii_dig
 -- a text that begins with a digit begins with a run of digits
 run_is_digits : (text : List ℕ) → begins is_ascii_digit text ≡ true
     → is_digits (take_while is_ascii_digit text) ≡ true
-run_is_digits text digit =
-    and_from _ _ (begins_inner is_ascii_digit is_ascii_digit (λ b h. h) text ∙ digit)
-    (list_all-take_while is_ascii_digit text)
+run_is_digits text digit = grind (arith, and_from, begins_inner, list_all-take_while)
 
 -- ---- texts
 
@@ -96,9 +94,7 @@ text_of_run (b ∷ run) all =
 -- the same of letters and digits alone
 plain_text : (run : List ℕ) → list_all is_ascii_alphanumeric run ≡ true
     → text_bytes run ≡ run ++ 0 ∷ []
-plain_text run all =
-    text_of_run run
-    (all_weaker is_ascii_alphanumeric is_identifier_byte alphanumeric_identifier run all)
+plain_text run all = grind (arith, text_of_run, all_weaker, alphanumeric_identifier)
 
 -- ---- splits
 
@@ -116,9 +112,7 @@ no_digits (b ∷ letters) all =
 letters_first : (text letters rest : List ℕ) → letters ≡ take_while is_ascii_alphabetic text
     → rest ≡ drop (prefix_len is_ascii_alphabetic text) text
     → take_while is_ascii_alphanumeric text ≡ letters ++ take_while is_ascii_alphanumeric rest
-letters_first text letters rest l r =
-    run_and_more is_ascii_alphabetic is_ascii_alphanumeric letter_alphanumeric text
-    ∙ sym (λ i. l i ++ take_while is_ascii_alphanumeric (r i))
+letters_first text letters rest l r = grind (arith, run_and_more, letter_alphanumeric)
 
 -- they have no digit, and are written as they are
 letters_alone : (text letters : List ℕ) → letters ≡ take_while is_ascii_alphabetic text
@@ -134,23 +128,22 @@ letters_alone text letters l =
 -- no letter or digit follows letters that no digit follows
 nothing_after : (text rest : List ℕ) → rest ≡ drop (prefix_len is_ascii_alphabetic text) text
     → begins is_ascii_digit rest ≡ false → begins is_ascii_alphanumeric rest ≡ false
-nothing_after text rest r other =
-    begins_neither rest
-    (ap (begins is_ascii_alphabetic) r ∙ begins-drop is_ascii_alphabetic text) other
+nothing_after text rest r other = grind (arith, begins_neither, begins-drop)
 
-pub split_of_letters : (text letters rest : List ℕ) → letters ≡ take_while is_ascii_alphabetic text
-    → rest ≡ drop (prefix_len is_ascii_alphabetic text) text
+pub split_of_letters : (text rest : List ℕ) → rest ≡ drop (prefix_len is_ascii_alphabetic text) text
     → begins is_ascii_digit rest ≡ false
-    → split_bytes (split_of (take_while is_ascii_alphanumeric text)) ≡ (letters ++ 0 ∷ []) ++ 0 ∷ []
-split_of_letters text letters rest l r other =
-    let alone = letters_alone text letters l in
+    → split_bytes (split_of (take_while is_ascii_alphanumeric text))
+    ≡ take_while is_ascii_alphabetic text ++ (0 ∷ 0 ∷ [])
+split_of_letters text rest r other =
+    let letters = take_while is_ascii_alphabetic text in
+    let alone = letters_alone text letters refl in
     let none = (no_run is_ascii_alphanumeric rest (nothing_after text rest r other)).0 in
     let whole : take_while is_ascii_alphanumeric text ≡ letters =
-    letters_first text letters rest l r ∙ ap (λ (xs : List ℕ). letters ++ xs) none
+    letters_first text letters rest refl r ∙ ap (λ (xs : List ℕ). letters ++ xs) none
     ∙ append-nil letters in
     ap (λ (xs : List ℕ). split_bytes (split_of xs)) whole
     ∙ ap split_bytes (split_of-no_digit letters alone.0)
-    ∙ ap (λ (xs : List ℕ). xs ++ 0 ∷ []) alone.1
+    ∙ ap (λ (xs : List ℕ). xs ++ 0 ∷ []) alone.1 ∙ append_assoc letters (0 ∷ []) (0 ∷ [])
 
 -- the rest after the run is what follows its letters
 pub rest_of_letters : (text rest : List ℕ) → rest ≡ drop (prefix_len is_ascii_alphabetic text) text
@@ -159,40 +152,40 @@ pub rest_of_letters : (text rest : List ℕ) → rest ≡ drop (prefix_len is_as
 rest_of_letters text rest r other =
     (no_run is_ascii_alphanumeric rest (nothing_after text rest r other)).1
 
-pub split_of_number : (text letters rest behind run : List ℕ)
-    → letters ≡ take_while is_ascii_alphabetic text
+pub split_of_number : (text rest behind : List ℕ)
     → rest ≡ drop (prefix_len is_ascii_alphabetic text) text
     → begins is_ascii_digit rest ≡ true → behind ≡ drop (prefix_len is_ascii_digit rest) rest
-    → run ≡ take_while is_ascii_alphanumeric behind
     → split_bytes (split_of (take_while is_ascii_alphanumeric text))
-    ≡ (letters ++ 0 ∷ []) ++ (1 ∷ (number_bytes (run_value rest) ++ (run ++ 0 ∷ [])))
-split_of_number text letters rest behind run l r digit b n =
+    ≡ take_while is_ascii_alphabetic text ++ (0 ∷ 1 ∷ (number_bytes (run_value rest)
+    ++ (take_while is_ascii_alphanumeric behind ++ 0 ∷ [])))
+split_of_number text rest behind r digit b =
+    let letters = take_while is_ascii_alphabetic text in
     let digits = take_while is_ascii_digit rest in
-    let alone = letters_alone text letters l in
+    let run = take_while is_ascii_alphanumeric behind in
+    let alone = letters_alone text letters refl in
     let whole : take_while is_ascii_alphanumeric text ≡ letters ++ (digits ++ run) =
-    letters_first text letters rest l r
+    letters_first text letters rest refl r
     ∙ ap (λ (xs : List ℕ). letters ++ xs)
     (run_and_more is_ascii_digit is_ascii_alphanumeric digit_alphanumeric rest
-    ∙ ap (λ (xs : List ℕ). digits ++ xs) (ap (take_while is_ascii_alphanumeric) (sym b) ∙ sym n)) in
+    ∙ ap (λ (xs : List ℕ). digits ++ take_while is_ascii_alphanumeric xs) (sym b)) in
     let ends : begins is_ascii_digit run ≡ false =
-    ap (begins is_ascii_digit) n
-    ∙ begins_inner is_ascii_digit is_ascii_alphanumeric digit_alphanumeric behind
+    begins_inner is_ascii_digit is_ascii_alphanumeric digit_alphanumeric behind
     ∙ no_digit rest behind b in
     let written : text_bytes run ≡ run ++ 0 ∷ [] =
-    plain_text run (rw n (list_all-take_while is_ascii_alphanumeric behind)) in
+    plain_text run (list_all-take_while is_ascii_alphanumeric behind) in
     ap (λ (xs : List ℕ). split_bytes (split_of xs)) whole
     ∙ ap split_bytes (split_of-digits letters digits run alone.0 (run_is_digits rest digit) ends)
     ∙ (λ i. alone.1 i ++ (1 ∷ (number_bytes (run_value rest) ++ written i)))
+    ∙ append_assoc letters (0 ∷ []) _
 
 -- a split begins with its letters and their end, whatever follows
-pub split_begun : (text letters rest : List ℕ) → letters ≡ take_while is_ascii_alphabetic text
-    → rest ≡ drop (prefix_len is_ascii_alphabetic text) text
+pub split_begun : (text rest : List ℕ) → rest ≡ drop (prefix_len is_ascii_alphabetic text) text
     → (more : List ℕ)
     × (split_bytes (split_of (take_while is_ascii_alphanumeric text))
-    ≡ (letters ++ 0 ∷ []) ++ more)
-split_begun text letters rest l r = elim (cases_Bool (begins is_ascii_digit rest)) [
-  | inl digit ↦ (_, split_of_number text letters rest _ _ l r digit refl refl)
-  | inr other ↦ (_, split_of_letters text letters rest l r other)
+    ≡ take_while is_ascii_alphabetic text ++ (0 ∷ more))
+split_begun text rest r = elim (cases_Bool (begins is_ascii_digit rest)) [
+  | inl digit ↦ (_, split_of_number text rest _ r digit refl)
+  | inr other ↦ (_, split_of_letters text rest r other)
 ]
 
 -- ---- parts
@@ -200,10 +193,7 @@ split_begun text letters rest l r = elim (cases_Bool (begins is_ascii_digit rest
 pub word_of_run : (text : List ℕ) → begins is_ascii_digit text ≡ false
     → part_bytes (Some (part_key (take_while is_ascii_alphanumeric text)))
     ≡ (1 ∷ []) ++ split_bytes (split_of (take_while is_ascii_alphanumeric text))
-word_of_run text other =
-    ap (λ (k : PartKey). part_bytes (Some k))
-    (part_key-word (take_while is_ascii_alphanumeric text)
-    (begins_inner is_ascii_digit is_ascii_alphanumeric digit_alphanumeric text ∙ other))
+word_of_run text other = grind (arith, part_key-word, begins_inner, digit_alphanumeric)
 
 -- a number, and the suffix after it
 pub number_and_suffix : (text rest : List ℕ) → begins is_ascii_digit text ≡ true
@@ -228,7 +218,7 @@ number_and_suffix text rest digit r =
 pub plain_of_run : (text rest : List ℕ) → begins is_ascii_digit text ≡ true
     → rest ≡ drop (prefix_len is_ascii_digit text) text → begins is_ascii_alphabetic rest ≡ false
     → part_bytes (Some (part_key (take_while is_ascii_alphanumeric text)))
-    ≡ ((3 ∷ []) ++ number_bytes (run_value text)) ++ 2 ∷ []
+    ≡ 3 ∷ (number_bytes (run_value text) ++ 2 ∷ [])
 plain_of_run text rest digit r other =
     let none =
     (no_run is_ascii_alphanumeric rest (begins_neither rest other (no_digit text rest r))).0 in
@@ -244,15 +234,12 @@ rest_of_plain text rest r other =
 pub suffixed_of_run : (text rest : List ℕ) → begins is_ascii_digit text ≡ true
     → rest ≡ drop (prefix_len is_ascii_digit text) text → begins is_ascii_alphabetic rest ≡ true
     → part_bytes (Some (part_key (take_while is_ascii_alphanumeric text)))
-    ≡ (((3 ∷ []) ++ number_bytes (run_value text)) ++ 1 ∷ []) ++ split_bytes
-    (split_of (take_while is_ascii_alphanumeric rest))
+    ≡ 3 ∷ (number_bytes (run_value text)
+    ++ (1 ∷ split_bytes (split_of (take_while is_ascii_alphanumeric rest))))
 suffixed_of_run text rest digit r letter =
     number_and_suffix text rest digit r
     ∙ ap (λ (xs : List ℕ). 3 ∷ (number_bytes (run_value text) ++ xs))
     (suffix (take_while is_ascii_alphanumeric rest) begun)
-    ∙ ap (λ (xs : List ℕ). 3 ∷ xs)
-    (sym (append_assoc (number_bytes (run_value text)) (1 ∷ [])
-    (split_bytes (split_of (take_while is_ascii_alphanumeric rest)))))
   where
     begun : begins is_ascii_alphabetic (take_while is_ascii_alphanumeric rest) ≡ true
     begun = begins_inner is_ascii_alphabetic is_ascii_alphanumeric letter_alphanumeric rest ∙ letter

@@ -1,5 +1,5 @@
 -- The sections of a text between its signs, and the bytes of tails.
-use Rattle.std.proofs.Common.{◌≡◌, ◌∙◌, ◌||◌, ℕ, Bool, true, false, List, [], ◌∷◌, ◌++◌, drop, map, refl, sym, ap}
+use Rattle.std.proofs.Common.{◌≡◌, ◌∙◌, ◌||◌, ℕ, Bool, true, false, List, [], ◌∷◌, ◌++◌, drop, map, refl, sym, ap, arith}
 use Rattle.std.specs.Cmp.{first_so, second_so}
 use Rattle.std.specs.List.{list_all, prefix_len, slice_split, take_while}
 use Rattle.version_rules.specs.Codes.{list_bytes}
@@ -55,10 +55,7 @@ pub last_section : (text rest : List ℕ) → rest ≡ drop (prefix_len is_secti
     → rest ≡ []
     → list_bytes section_bytes (sections_of text)
     ≡ ((2 ∷ []) ++ parts_bytes (parts_of (take_while is_section_byte text))) ++ 1 ∷ []
-last_section text rest r none =
-    ap (λ (l : List (List ℕ)). list_bytes section_bytes (map parts_of l))
-    (split_end is_section_byte is_sep section_no_sep text (sym r ∙ none))
-    ∙ last_item section_bytes (parts_of (take_while is_section_byte text))
+last_section text rest r none = grind (arith, split_end, section_no_sep, last_item)
 
 -- sections begin with their first one, whatever follows
 pub first_section : (text : List ℕ) → list_all (is_tail_byte Sections) text ≡ true

@@ -1,13 +1,12 @@
 -- The sections of a messy version are the pieces of its text between its signs.
-use Rattle.std.proofs.Common.{◌≡◌, ◌&&◌, ◌∙◌, if◌then◌else◌, ℕ, true, false, List, [], ◌∷◌, ◌++◌, map, Some, None, refl, ap, append-nil, arith}
+use Rattle.std.proofs.Common.{◌≡◌, ◌∙◌, if◌then◌else◌, ℕ, true, false, List, [], ◌∷◌, ◌++◌, map, Some, None, refl, ap, append-nil, arith}
 use Rattle.std.proofs.lemmas.Bool.Decides.{nat_tests}
 use Rattle.std.proofs.lemmas.List.Folds.{list_all-append}
 use Rattle.std.proofs.lemmas.List.Splits.{slice_split_at, slice_split_none}
-use Rattle.std.specs.Char.{is_ascii_digit}
 use Rattle.std.specs.List.{list_all}
 use Rattle.std.specs.Str.Parse.{digits_value}
 use Rattle.version_rules.specs.Bytes.{dot}
-use Rattle.version_rules.specs.DigitRun.{is_digits, starts_with_digit}
+use Rattle.version_rules.specs.DigitRun.{is_digits}
 use Rattle.version_rules.specs.Grammar.{SpellsDotted, SpellsEach}
 use Rattle.version_rules.specs.PartKey.{section_parts}
 use Rattle.version_rules.specs.Reading.{EndsRun}
@@ -88,9 +87,7 @@ sections_are text rest chunks (f ∷ more) s others =
 -- and their bytes
 tail_bytes_of : (text : List ℕ) (chunks : Section) → SpellsSection text chunks
     → list_all (is_tail_byte Sections) text ≡ true
-tail_bytes_of text chunks s =
-    all_weaker is_section_byte (is_tail_byte Sections) section_tail text
-    (section_bytes text chunks s)
+tail_bytes_of text chunks s = grind (arith, all_weaker, section_tail, section_bytes)
 
 pub sections_bytes : (text rest : List ℕ) (chunks : Section) (more : List Further)
     → SpellsSection text chunks → SpellsEach SpellsFurther rest more
@@ -107,12 +104,7 @@ sections_bytes text rest chunks (f ∷ more) s others =
 
 -- a text with a dot is not a run of digits
 dot_no_digits : (first others : List ℕ) → is_digits (first ++ dot ∷ others) ≡ false
-dot_no_digits first others =
-    let none : list_all is_ascii_digit (first ++ dot ∷ others) ≡ false =
-    list_all-append is_ascii_digit first (dot ∷ others)
-    ∙ and_false (list_all is_ascii_digit first) in
-    ap (λ t. starts_with_digit (first ++ dot ∷ others) && t) none
-    ∙ and_false (starts_with_digit (first ++ dot ∷ others))
+dot_no_digits first others = grind (arith, list_all-append, and_false)
 
 -- a section may be the epoch if its text is a run of digits
 pub section_epoch-is : (text : List ℕ) (chunks : Section) → SpellsSection text chunks

@@ -1,6 +1,6 @@
 -- A text is a numeral, a chunk, or a list of chunks with dots between, exactly if it passes the
 -- test of one.
-use Rattle.std.proofs.Common.{Option, Some, None, ◌≡◌, ◌==◌, ◌&&◌, ◌||◌, ◌∙◌, ◌<◌, ◌^◌, ℕ, Bool, true, false, not, List, [], ◌∷◌, ◌++◌, length, nat_lt, refl, sym, ap, subst, arith, inl, inr}
+use Rattle.std.proofs.Common.{Option, Some, None, ◌≡◌, ◌==◌, ◌&&◌, ◌||◌, ◌<◌, ◌^◌, ℕ, Bool, true, false, not, List, [], ◌∷◌, ◌++◌, length, nat_lt, refl, sym, subst, arith, inl, inr}
 use Rattle.std.proofs.lemmas.Bool.{eqb-false, ne_eqb, and_from, and_parts, eqb-true, lt-ltb, ltb-true, not-true, or_cases, or_left, or_right}
 use Rattle.std.specs.Char.{is_ascii_digit}
 use Rattle.std.specs.Cmp.{first_so, second_so}
@@ -25,15 +25,10 @@ use Rattle.version_texts.proofs.lemmas.General.Splits.{JoinedBy, dotted_more, do
 -- a nonempty text of bytes that pass
 pub run_from : (test : ℕ → Bool) (text : List ℕ) → 0 < length text → list_all test text ≡ true
     → is_run test text ≡ true
-run_from test text some all =
-    let apart : (length text == 0) ≡ false = ne_eqb (length text) 0 (omega arith) in
-    rw (apart, all) refl
+run_from test text some all = grind (arith, ne_eqb)
 
 pub run_some : (test : ℕ → Bool) (text : List ℕ) → is_run test text ≡ true → 0 < length text
-run_some test text passes =
-    let apart : length text ≡ 0 → ⊥ =
-    eqb-false (length text) 0 (not-true _ (first_so _ _ passes)) in
-    omega arith
+run_some test text passes = grind (arith, eqb-false, not-true)
 
 -- ---- numerals
 
@@ -102,16 +97,11 @@ module _ (test : ℕ → Bool) (digits_pass : (b : ℕ) → is_ascii_digit b ≡
 
   chunk_passes : (text : List ℕ) (x : PlainChunk) → SpellsChunkOf test text x
       → is_chunk test text ≡ true
-  chunk_passes text x s =
-      let run = run_from test text (chunk_some text x s) (chunk_bytes test digits_pass text x s) in
-      and_from _ _ run (chunk_told text x s)
+  chunk_passes text x s = grind (arith, run_from, chunk_some, chunk_bytes, and_from, chunk_told)
 
   lone_passes : (text : List ℕ) (x : PlainChunk) → SpellsChunkOf test text x
       → list_all (is_chunk test) (pieces text) ≡ true
-  lone_passes text x s =
-      ap (list_all (is_chunk test))
-      (split_run test is_dot no_dot text (chunk_bytes test digits_pass text x s))
-      ∙ and_from _ _ (chunk_passes text x s) refl
+  lone_passes text x s = grind (arith, split_run, chunk_bytes, and_from, chunk_passes)
 
   pub dotted_passes : (text : List ℕ) (xs : List PlainChunk)
       → SpellsDotted (SpellsChunkOf test) text xs → list_all (is_chunk test) (pieces text) ≡ true

@@ -1,5 +1,5 @@
 -- A text spells a general version exactly if its pieces pass the tests of one.
-use Rattle.std.proofs.Common.{◌≡◌, ◌==◌, ◌&&◌, ◌+◌, Bool, ◌∙◌, ℕ, true, false, List, [], ◌∷◌, ◌++◌, length, take, length-append, Option, Some, None, refl, sym, ap, subst, arith, inl, inr, append_assoc}
+use Rattle.std.proofs.Common.{◌≡◌, ◌+◌, Bool, ◌∙◌, ℕ, true, false, List, [], ◌∷◌, ◌++◌, length, take, length-append, Option, Some, None, refl, sym, ap, subst, arith, inl, inr, append_assoc}
 use Rattle.std.proofs.lemmas.Bool.{and_from, and_parts, cases_Bool, eq-eqb, eqb-true, or_cases, or_left, or_right}
 use Rattle.std.proofs.lemmas.List.{drop-drop, take-append-drop, take_at}
 use Rattle.std.proofs.lemmas.List.Folds.{length-prefix_len}
@@ -42,9 +42,7 @@ from_body-whole text =
 
 pub cut_at_body : (text : List ℕ)
     → text ≡ take (body_start text) text ++ (body_of text ++ behind_body text)
-cut_at_body text =
-    sym (take-append-drop (body_start text) text)
-    ∙ ap (λ (l : List ℕ). take (body_start text) text ++ l) (from_body-whole text)
+cut_at_body text = grind (arith, take-append-drop, from_body-whole)
 
 -- where the body begins, with an epoch and without
 with_epoch : (text : List ℕ) → has_epoch text ≡ true → body_start text ≡ digits_len text + 1
@@ -76,13 +74,7 @@ epoch_taken text here =
 
 epoch_numeral : (text : List ℕ) → has_epoch text ≡ true → epoch_is_numeral text ≡ true
     → is_numeral (take_while is_ascii_digit text) ≡ true
-epoch_numeral text here passes =
-    elim (or_cases (body_start text == 0) (is_numeral (take_while is_ascii_digit text)) passes) [
-      | inl none ↦
-          let start : body_start text ≡ 0 = eqb-true (body_start text) 0 none in
-          absurd (omega (arith, with_epoch text here))
-      | inr numeral ↦ numeral
-    ]
+epoch_numeral text here passes = grind (arith, or_cases, eqb-true, with_epoch)
 
 -- an epoch that passes is spelled
 pub epoch_spells : (text : List ℕ) → epoch_is_numeral text ≡ true
@@ -125,9 +117,7 @@ parts_spell text xs s = elim (cases_Option (split_last xs)) [
 pub body_spells : (text : List ℕ) → are_parts text ≡ true
     → (body : PlainBody) × SpellsBody text body
 body_spells text passes =
-    let parts =
-    dotted_spells is_ascii_alphanumeric digit_alphanumeric alphanumeric_no_dot text passes in
-    parts_spell text parts.0 parts.1
+    grind (arith, dotted_spells, digit_alphanumeric, alphanumeric_no_dot, parts_spell)
 
 -- ---- both directions
 
@@ -138,11 +128,7 @@ pub record Passes (text : List ℕ) : Type 0 where
   pub tail : is_tail (behind_body text) ≡ true
 
 pub general_parts : (text : List ℕ) → is_general text ≡ true → Passes text
-general_parts text passes =
-    let head = epoch_is_numeral text && are_parts (body_of text) in
-    let both = and_parts head (is_tail (behind_body text)) passes in
-    let first = and_parts (epoch_is_numeral text) (are_parts (body_of text)) both.0 in
-    record { epoch = first.0; body = first.1; tail = both.1 }
+general_parts text passes = grind (arith, and_parts)
 
 pub general_is_spelled : (text : List ℕ) → is_general text ≡ true
     → (v : PlainVersion) × SpellsVersion text v
@@ -173,10 +159,7 @@ general_is_spelled text passes =
     )
 
 pub body_of-is : (text epoch body rest : List ℕ) → IsCut text epoch body rest → body_of text ≡ body
-body_of-is text epoch body rest cut =
-    ap (take_while is_section_byte) (from_body-is text epoch body rest cut)
-    ∙ rw (prefix_len-append is_section_byte body rest cut.bytes cut.ends)
-    (take_at body rest (length body) refl)
+body_of-is text epoch body rest cut = grind (arith, from_body-is, prefix_len-append, take_at)
 
 epoch_passes : (text epoch body rest : List ℕ) (o : Option ℕ) → IsCut text epoch body rest
     → SpellsEpoch epoch o → epoch_is_numeral text ≡ true

@@ -84,7 +84,4 @@ metadata_by_end text start end plus some end_is =
 -- no metadata follows the last byte
 pub lone_plus : (text : List ℕ) (start : ℕ) → start + 1 ≡ length text
     → false ≡ is_metadata_tail (drop start text)
-lone_plus text start last =
-    let none : drop (start + 1) text ≡ [] = drop_all (start + 1) text (omega arith) in
-    rw (at_byte text start (omega arith), none)
-    (sym (and-false (get_or text start 0 == 43) false refl))
+lone_plus text start last = grind (arith, drop_all, at_byte, and-false)

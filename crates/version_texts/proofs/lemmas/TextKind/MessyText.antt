@@ -1,6 +1,6 @@
 -- A text spells a messy version exactly if it is runs of letters and digits with single dots and
 -- signs between.
-use Rattle.std.proofs.Common.{◌≡◌, ◌==◌, ◌∙◌, ℕ, true, List, [], ◌∷◌, ◌++◌, Some, refl, sym, ap, subst, inl, inr, append-nil, append_assoc}
+use Rattle.std.proofs.Common.{◌≡◌, ◌==◌, ◌∙◌, ℕ, true, List, [], ◌∷◌, ◌++◌, Some, refl, sym, ap, subst, inl, inr, append-nil, append_assoc, arith}
 use Rattle.std.proofs.lemmas.Bool.{and_parts, eqb-true, or_cases}
 use Rattle.std.specs.Char.{is_ascii_alphanumeric}
 use Rattle.std.specs.Cmp.{second_so}
@@ -10,7 +10,7 @@ use Rattle.version_rules.specs.Bytes.{dot}
 use Rattle.version_rules.specs.Front.{run_front}
 use Rattle.version_rules.specs.Grammar.{SpellsEach}
 use Rattle.version_rules.specs.MChunk.{PlainMChunk, SpellsMChunk, chunk_before, mchunk_front}
-use Rattle.version_rules.specs.Sep.{PlainSep, is_sep, sep_byte, sep_of}
+use Rattle.version_rules.specs.Sep.{PlainSep, is_sep, sep_byte}
 use Rattle.version_rules.proofs.lemmas.Front.Repeated.{cases_Option}
 use Rattle.version_rules.proofs.lemmas.MChunk.{byte_of_sep, mchunk_sound, spelled_run, spelled_some}
 use Rattle.version_rules.proofs.lemmas.Front.Runs.{run_front-reads}
@@ -28,10 +28,7 @@ use Rattle.version_texts.proofs.lemmas.General.Splits.{JoinedBy, both_pass, dott
 chunk_passes : (text : List ℕ) (chunk : PlainMChunk) → SpellsMChunk text chunk
     → is_messy text ≡ true
 chunk_passes text chunk s =
-    let all = spelled_run text chunk s in
-    ap (list_all (is_run is_ascii_alphanumeric))
-    (split_run is_ascii_alphanumeric is_mark no_mark_in_run text all)
-    ∙ rw (run_from is_ascii_alphanumeric text (spelled_some text chunk s) all) refl
+    grind (arith, spelled_run, split_run, no_mark_in_run, run_from, spelled_some)
 
 section_passes : (text : List ℕ) (chunks : Section) → SpellsSection text chunks
     → is_messy text ≡ true
@@ -56,9 +53,7 @@ behind_passes text more (further ∷ sections) passes s =
     ap is_messy whole ∙ behind_passes (text ++ mark ∷ section.0) s.1 sections joined s.4
 
 pub spelled_is_messy : (text : List ℕ) (m : PlainMess) → SpellsMess text m → is_messy text ≡ true
-spelled_is_messy text m s =
-    ap is_messy s.whole_is
-    ∙ behind_passes s.first s.more m.more (section_passes s.first m.first s.first_is) s.more_is
+spelled_is_messy text m s = grind (arith, behind_passes, section_passes)
 
 -- ---- what passes spells a messy version
 
@@ -81,10 +76,7 @@ run_spells text passes =
 
 -- the sign of a byte that is one
 sign_of : (b : ℕ) → is_sep b ≡ true → (sign : PlainSep) × (b ≡ sep_byte sign)
-sign_of b h = elim (cases_Option (sep_of b)) [
-  | inl none ↦ cc (rw none at h)
-  | inr one ↦ (one.0, byte_of_sep b one.0 one.1)
-]
+sign_of b h = grind (arith, cases_Option, byte_of_sep)
 
 -- a version that the text spells
 abbrev Spelled : List ℕ → Type 0

@@ -1,5 +1,5 @@
 -- Numerals, by their digits.
-use Rattle.std.proofs.Common.{◌≡◌, ◌≢◌, ◌==◌, ◌^◌, ◌<◌, ◌≤◌, ◌&&◌, ◌||◌, not, ℕ, true, false, List, [], ◌∷◌, get_or, length, nat_lt, take, refl, sym, arith}
+use Rattle.std.proofs.Common.{◌≡◌, ◌≢◌, ◌==◌, ◌^◌, ◌<◌, ◌≤◌, ◌&&◌, ◌||◌, not, ℕ, true, false, List, [], ◌∷◌, get_or, length, nat_lt, take, refl, arith}
 use Rattle.std.proofs.lemmas.Bool.{eq-eqb, le-ltb, ne_eqb}
 use Rattle.std.proofs.lemmas.Str.Parse.{digits_value-take-le}
 use Rattle.std.specs.Char.{is_ascii_digit}
@@ -21,10 +21,7 @@ some_digits (b ∷ text) digits = omega arith
 -- a run of digits whose prefix is too large is too large
 pub too_large : (digits : List ℕ) (i : ℕ) → 2 ^ 32 ≤ digits_value 10 (take i digits)
     → false ≡ nat_lt (digits_value 10 digits) (2 ^ 32)
-too_large digits i large =
-    let whole : digits_value 10 (take i digits) ≤ digits_value 10 digits =
-    digits_value-take-le 10 digits i (omega arith) in
-    sym (le-ltb _ _ (omega arith))
+too_large digits i large = grind (arith, digits_value-take-le, le-ltb)
 
 pub one_digit : (digits : List ℕ) → is_digits digits ≡ true → length digits ≡ 1
     → true ≡ is_numeral digits

@@ -1,5 +1,5 @@
 -- What the pieces of a text are, by its runs.
-use Rattle.std.proofs.Common.{◌≡◌, ◌==◌, ◌<◌, ℕ, Bool, true, false, List, [], ◌∷◌, length, refl, arith}
+use Rattle.std.proofs.Common.{◌≡◌, ◌<◌, ℕ, Bool, true, false, List, [], ◌∷◌, length, refl, arith}
 use Rattle.std.proofs.Math.Bool.{or-false}
 use Rattle.std.proofs.lemmas.Bool.{and_from, ne_eqb, or_right}
 use Rattle.std.proofs.lemmas.List.Folds.{length-prefix_len}
@@ -23,10 +23,7 @@ module _ (test : ℕ → Bool) where
   -- the run that a text begins with is a run if it is not empty
   pub run_some : (text : List ℕ) → 0 < prefix_len test text
       → is_run test (take_while test text) ≡ true
-  run_some text some =
-      let apart : (length (take_while test text) == 0) ≡ false =
-      rw (length-prefix_len test text) (ne_eqb (prefix_len test text) 0 (omega arith)) in
-      rw (apart, list_all-take_while test text) refl
+  run_some text some = grind (arith, length-prefix_len, ne_eqb, list_all-take_while)
 
   pub run_empty : (text : List ℕ) → prefix_len test text ≡ 0
       → is_run test (take_while test text) ≡ false

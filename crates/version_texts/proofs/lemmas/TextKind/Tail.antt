@@ -1,6 +1,6 @@
 -- What follows the body of a strict or general version is a release and metadata exactly if it
 -- passes the test.
-use Rattle.std.proofs.Common.{◌≡◌, ◌==◌, ◌∙◌, ℕ, true, false, List, [], ◌∷◌, ◌++◌, drop, length, Option, Some, None, refl, sym, ap, arith, inl, inr}
+use Rattle.std.proofs.Common.{◌≡◌, ◌==◌, ◌∙◌, ℕ, true, false, List, [], ◌∷◌, ◌++◌, drop, Option, Some, None, refl, sym, ap, arith, inl, inr}
 use Rattle.std.proofs.lemmas.Bool.{and_from, and_parts, cases_Bool, eqb-true}
 use Rattle.std.proofs.lemmas.Bool.Decides.{nat_tests}
 use Rattle.std.proofs.lemmas.List.{drop_at, take-append-drop, take_at}
@@ -58,17 +58,7 @@ unfolding SpellsOptional
 one_release text chunks s = (text, refl, s)
 
 without_release : (text : List ℕ) → is_metadata_tail text ≡ true → SpellsTail text
-without_release text passes =
-    let meta = metadata_tail_spells text passes in
-    record {
-      release = [];
-      meta = text;
-      whole = refl;
-      chunks = None;
-      bytes = meta.0;
-      release_is = no_release;
-      meta_is = meta.1;
-    }
+without_release text passes = grind (arith, metadata_tail_spells, no_release)
 
 pub tail_spells : (text : List ℕ) → is_tail text ≡ true → SpellsTail text
 tail_spells [] passes = without_release [] refl
@@ -118,18 +108,21 @@ release_is_tail : (tail meta : List ℕ) (chunks : List PlainChunk) (o : Option 
     → SpellsRelease tail chunks → SpellsOptional plus SpellsMetadata meta o
     → is_tail (hyphen ∷ (tail ++ meta)) ≡ true
 release_is_tail tail meta chunks o s m =
-    let all =
-    all_weaker is_metadata_byte is_not_plus metadata_not_plus tail (release_bytes tail chunks s) in
-    let count = prefix_len-append is_not_plus tail meta all (meta_begins meta o m) in
-    let taken : take_while is_not_plus (tail ++ meta) ≡ tail =
-    rw count (take_at tail meta (length tail) refl) in
-    let left : drop (prefix_len is_not_plus (tail ++ meta)) (tail ++ meta) ≡ meta =
-    rw count (drop_at tail meta (length tail) refl) in
-    let release =
-    dotted_passes is_identifier_byte digit_identifier identifier_no_dot tail chunks s in
-    and_from _ _
-    (ap (λ (l : List ℕ). list_all (is_chunk is_identifier_byte) (pieces l)) taken ∙ release)
-    (ap is_metadata_tail left ∙ metadata_tail_passes meta o m)
+    grind (
+      arith,
+      all_weaker,
+      metadata_not_plus,
+      release_bytes,
+      prefix_len-append,
+      meta_begins,
+      take_at,
+      drop_at,
+      dotted_passes,
+      digit_identifier,
+      identifier_no_dot,
+      and_from,
+      metadata_tail_passes,
+    )
 
 pub tail_passes : (release meta : List ℕ) (chunks : Option (List PlainChunk)) (o : Option (List ℕ))
     → SpellsOptional hyphen SpellsRelease release chunks

@@ -112,14 +112,7 @@ bodies_decide : (text other : List ℕ) (a b : PlainBody) → SpellsBody text a 
     → parts_of text ≡ parts_of other
     → parts_tie (pieces text) (pieces other)
     ≡ ordering_then (release_cmp a.0 b.0) (last_plain_cmp a.1 b.1)
-bodies_decide text other a b s t e =
-    let here = body_pieces text a s in
-    let there = body_pieces other b t in
-    (λ i. parts_tie (here i) (there i))
-    ∙ parts_decide a.0 b.0 s.part t.part a.1 b.1
-    (spelled_parts text (a.0 ++ s.part ∷ []) s.parts_are)
-    (spelled_parts other (b.0 ++ t.part ∷ []) t.parts_are) s.last_is t.last_is
-    (sym (ap (map part_key) here) ∙ e ∙ ap (map part_key) there)
+bodies_decide text other a b s t e = grind (arith, body_pieces, parts_decide, spelled_parts)
 
 -- ---- epochs
 

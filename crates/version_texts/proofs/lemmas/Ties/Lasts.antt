@@ -8,7 +8,6 @@ use Rattle.std.specs.Char.{is_ascii_alphabetic, is_ascii_digit}
 use Rattle.std.specs.Cmp.{first_so, second_so}
 use Rattle.std.specs.Fmt.{decimal}
 use Rattle.std.specs.List.{list_all, list_any, prefix_len, take_while}
-use Rattle.std.specs.Option.{option_map_or}
 use Rattle.std.specs.Str.Parse.{digits_value}
 use Rattle.std.specs.declared.cmp.Ordering.TheVariants.{Equal}
 use Rattle.version_rules.specs.Chunk.{PlainChunk, SpellsPart, chunk_text}
@@ -55,9 +54,7 @@ numbered_key : (first letters rest : List ℕ) (a : ℕ) (split : Split) → Spe
     → IsLetters letters → split_of (letters ++ rest) ≡ split
     → part_key (first ++ (letters ++ rest)) ≡ Number a (Some split)
 numbered_key first letters rest a split numeral s e =
-    let start = letters_start letters rest s in
-    part_key-digits first (letters ++ rest) (digits_from first a numeral) start.0
-    ∙ (λ i. Number (numeral.value i) ((start.1 ∙ ap Some e) i))
+    grind (arith, letters_start, part_key-digits, digits_from)
 
 rc_key : (text : List ℕ) (a : ℕ) (letters : List ℕ) (b : ℕ) → SpellsRc text a letters b
     → part_key text
@@ -86,9 +83,7 @@ pub run_cut : (test : ℕ → Bool) (run rest : List ℕ) → list_all test run 
     → begins test rest ≡ false
     → (take_while test (run ++ rest) ≡ run)
     × (drop (prefix_len test (run ++ rest)) (run ++ rest) ≡ rest)
-run_cut test run rest all ends =
-    let count = prefix_len-append test run rest all ends in
-    rw count (take_at run rest (length run) refl, drop_at run rest (length run) refl)
+run_cut test run rest all ends = grind (arith, prefix_len-append, take_at, drop_at)
 
 lettered : (letters last : List ℕ) → IsLetters letters → begins is_ascii_alphabetic last ≡ false
     → (length last == 0 || is_numeral last) ≡ true → is_lettered (letters ++ last) ≡ true
@@ -161,21 +156,11 @@ module _ (text : List ℕ) (numbered : is_numbered text ≡ true) where
       some (b ∷ l) e = rw (run_cons is_ascii_alphabetic b l e).0 (omega arith)
 
   whole : text ≡ take_while is_ascii_digit text ++ (letters ++ last)
-  whole =
-      sym (take-append-drop (prefix_len is_ascii_digit text) text)
-      ∙ ap (λ (l : List ℕ). take_while is_ascii_digit text ++ l)
-      (sym (take-append-drop (prefix_len is_ascii_alphabetic rest) rest))
+  whole = grind (arith, take-append-drop)
 
   post_spelled : last ≡ [] → SpellsPost text (digits_value 10 (take_while is_ascii_digit text))
       letters
-  post_spelled none = (
-    take_while is_ascii_digit text,
-    whole
-        ∙ ap (λ (l : List ℕ). take_while is_ascii_digit text ++ (letters ++ l)) none
-        ∙ ap (λ (l : List ℕ). take_while is_ascii_digit text ++ l) (append-nil letters),
-    first_is,
-    letters_are,
-  )
+  post_spelled none = grind (arith, whole, append-nil, first_is, letters_are)
 
   rc_spelled : is_numeral last ≡ true
       → SpellsRc text (digits_value 10 (take_while is_ascii_digit text)) letters
@@ -224,9 +209,7 @@ number_in (Word word) = 0
 rc_same : (a b c d : ℕ) (x y : List ℕ)
     → Number a (Some (record { before = x; number = Some (b, []) }))
     ≡ Number c (Some (record { before = y; number = Some (d, []) })) → Rc a x b ≡ Rc c y d
-rc_same a b c d x y e =
-    λ i. Rc (number_in (e i)) ((suffix_in (e i)).before)
-    (option_map_or (λ (n : ℕ × List ℕ). n.0) ((suffix_in (e i)).number) 0)
+rc_same a b c d x y e = grind arith
 
 post_same : (a c : ℕ) (x y : List ℕ)
     → Number a (Some (record { before = x; number = None }))

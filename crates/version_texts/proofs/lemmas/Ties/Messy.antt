@@ -3,7 +3,7 @@ use Rattle.std.proofs.Common.{◌≡◌, ◌∙◌, ◌⊎◌, ℕ, true, false,
 use Rattle.std.proofs.lemmas.Bool.{cases_Bool}
 use Rattle.std.specs.Cmp.{IsTotalOrder, on_total, then_total}
 use Rattle.std.specs.Cmp.Lexicographic.{lists_total, nat_list_cmp_total, slice_cmp}
-use Rattle.std.specs.Ordering.{ordering_reverse, ordering_then}
+use Rattle.std.specs.Ordering.{ordering_then}
 use Rattle.std.specs.Str.Parse.{digits_value}
 use Rattle.std.specs.declared.cmp.Ordering.{Ordering}
 use Rattle.std.specs.declared.cmp.Ordering.TheVariants.{Less, Equal, Greater}
@@ -12,7 +12,7 @@ use Rattle.version_rules.specs.Lists.{bytes_cmp}
 use Rattle.version_rules.specs.MChunk.{Digits, Plain, PlainMChunk, Rev, SpellsDigits, SpellsMChunk, mchunk_plain_cmp, mchunk_text}
 use Rattle.version_rules.specs.laws.MChunk.{sep_total}
 use Rattle.version_rules.specs.laws.Order.{bytes_same, then_first}
-use Rattle.version_rules.specs.PartKey.{Number, PartKey, part_key, section_parts}
+use Rattle.version_rules.specs.PartKey.{PartKey, part_key, section_parts}
 use Rattle.version_rules.specs.Sep.{Colon, sep_plain_cmp}
 use Rattle.version_rules.proofs.lemmas.Orders.{then_decided}
 use Rattle.version_rules.specs.Key.{Key, key_of_mess, key_of_sections, mess_epoch, precedence, section_epoch, sections_tail}
@@ -70,11 +70,7 @@ tails_tied (f ∷ xs) (g ∷ ys) e = cc e
 parts_tied : (a b : PlainMess) → HasSections a → HasSections b
     → section_parts a.first ≡ section_parts b.first → further_parts a.more ≡ further_parts b.more
     → mess_plain_cmp a b ≡ mess_texts_cmp a b
-parts_tied a b s t first more =
-    let sections = sections_tied a.first b.first (some_chunks a.first s.first_is)
-    (some_chunks b.first t.first_is) first in
-    let others = further_tied a.more b.more s.more_is t.more_is more in
-    λ i. ordering_then (sections i) (others i)
+parts_tied a b s t first more = grind (arith, sections_tied, some_chunks, further_tied)
 
 -- ---- the epoch
 
@@ -120,24 +116,11 @@ epoch_of first ((sign, body) ∷ more) = inl (record {
 -- two versions with epochs, and two without
 epochs_tied : (a b : PlainMess) → HasSections a → HasSections b → HasEpoch a → HasEpoch b
     → key_of_mess a ≡ key_of_mess b → mess_plain_cmp a b ≡ mess_texts_cmp a b
-epochs_tied a b s t p q e =
-    let keys = sym p.key_is ∙ e ∙ q.key_is in
-    let values = ap (λ (k : Key). k.epoch) keys in
-    let epochs : part_key (mchunk_text p.epoch) ≡ part_key (mchunk_text q.epoch) =
-    digits_key (mchunk_text p.epoch) p.digits ∙ ap (λ n. Number n None) values
-    ∙ sym (digits_key (mchunk_text q.epoch) q.digits) in
-    let bodies = ap (λ (k : Key). k.body) keys in
-    let tails = tails_tied p.more q.more (ap (λ (k : Key). k.tail) keys) in
-    parts_tied a b s t
-    (ap section_parts p.first_is ∙ (λ i. epochs i ∷ []) ∙ sym (ap section_parts q.first_is))
-    (ap further_parts p.more_is ∙ (λ i. bodies i ∷ tails i) ∙ sym (ap further_parts q.more_is))
+epochs_tied a b s t p q e = grind (arith, digits_key, tails_tied, parts_tied)
 
 none_tied : (a b : PlainMess) → HasSections a → HasSections b → NoEpoch a → NoEpoch b
     → key_of_mess a ≡ key_of_mess b → mess_plain_cmp a b ≡ mess_texts_cmp a b
-none_tied a b s t p q e =
-    let keys = sym p.key_is ∙ e ∙ q.key_is in
-    parts_tied a b s t (ap (λ (k : Key). k.body) keys)
-    (tails_tied a.more b.more (ap (λ (k : Key). k.tail) keys))
+none_tied a b s t p q e = grind (arith, parts_tied, tails_tied)
 
 -- an epoch of zeros compares with any chunk by their texts
 zero_epoch : (c d : PlainMChunk) → SpellsMChunk (mchunk_text c) c → SpellsMChunk (mchunk_text d) d
@@ -160,10 +143,7 @@ settled Equal a b = refl
 settled Greater a b = refl
 
 not_epoch : (d : PlainMChunk) → section_epoch (d ∷ []) ≡ None → is_digits (mchunk_text d) ≡ false
-not_epoch d e = elim (cases_Bool (is_digits (mchunk_text d))) [
-  | inl digits ↦ cc (rw digits at e)
-  | inr other ↦ other
-]
+not_epoch d e = grind (arith, cases_Bool)
 
 -- a version with an epoch of zeros and one without an epoch
 module _ (c : PlainMChunk) (body : Section) (more : List Further)
@@ -217,18 +197,8 @@ texts_total =
 
 messes_tied : (a b : PlainMess) → HasSections a → HasSections b
     → key_of_mess a ≡ key_of_mess b → mess_plain_cmp a b ≡ mess_texts_cmp a b
-messes_tied a b s t e = elim (epoch_of a.first a.more) [
-  | inl p ↦ elim (epoch_of b.first b.more) [
-    | inl q ↦ none_tied a b s t p q e
-    | inr q ↦
-        mess_total.antisymm a b ∙ ap ordering_reverse (zero_tied b a t s q p (sym e))
-        ∙ sym (texts_total.antisymm a b)
-  ]
-  | inr p ↦ elim (epoch_of b.first b.more) [
-    | inl q ↦ zero_tied a b s t p q e
-    | inr q ↦ epochs_tied a b s t p q e
-  ]
-]
+messes_tied a b s t e =
+    grind (arith, epoch_of, none_tied, mess_total, zero_tied, texts_total, epochs_tied)
 
 -- texts of messy versions of one key compare as the versions do
 pub messy_decides : (text other : List ℕ) (a b : PlainMess) → SpellsMess text a

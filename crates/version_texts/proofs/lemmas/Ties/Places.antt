@@ -1,11 +1,11 @@
 -- The texts of messy versions compare by the places of their bytes as their chunks and signs do.
-use Rattle.std.proofs.Common.{◌≡◌, ◌==◌, ◌∙◌, ◌<◌, ◌≤◌, if◌then◌else◌, ℕ, false, true, List, [], ◌∷◌, ◌++◌, Option, Some, None, refl, sym, ap, subst, arith, append-nil, append_assoc}
+use Rattle.std.proofs.Common.{◌≡◌, ◌==◌, ◌∙◌, ◌<◌, ◌≤◌, ℕ, false, true, List, [], ◌∷◌, ◌++◌, Option, Some, None, refl, sym, ap, subst, arith, append-nil, append_assoc}
 use Rattle.std.proofs.lemmas.Bool.Decides.{nat_tests}
 use Rattle.std.specs.Char.{is_ascii_alphanumeric}
 use Rattle.std.specs.Cmp.{first_so, nat_cmp_is, second_so}
 use Rattle.std.specs.Cmp.Lexicographic.{slice_cmp}
 use Rattle.std.specs.List.{flat_map, list_all}
-use Rattle.std.specs.Option.{is_some, option_map_or}
+use Rattle.std.specs.Option.{is_some}
 use Rattle.std.specs.Ordering.{nat_cmp, on, ordering_then, then_cmp}
 use Rattle.std.specs.declared.cmp.Ordering.{Ordering}
 use Rattle.std.specs.declared.cmp.Ordering.TheVariants.{Less, Greater}
@@ -13,7 +13,7 @@ use Rattle.version_rules.specs.Bytes.{dot}
 use Rattle.version_rules.specs.Grammar.{SpellsDotted, SpellsEach}
 use Rattle.version_rules.specs.Lists.{bytes_cmp}
 use Rattle.version_rules.specs.MChunk.{PlainMChunk, SpellsMChunk, mchunk_text}
-use Rattle.version_rules.specs.Sep.{PlainSep, Colon, Hyphen, Plus, Underscore, Tilde, is_sep, sep_byte, sep_of, sep_plain_cmp, sep_rank}
+use Rattle.version_rules.specs.Sep.{PlainSep, Colon, Hyphen, Plus, Underscore, Tilde, is_sep, sep_byte, sep_plain_cmp, sep_rank}
 use Rattle.version_rules.proofs.lemmas.Orders.{then_assoc}
 use Rattle.version_rules.proofs.lemmas.MChunk.{mchunk_printed, spelled_run}
 use Rattle.version_rules.specs.Mess.{Further, PlainMess, Section, SpellsFurther, SpellsMess, SpellsSection, further_text, joined_section, mess_text}
@@ -34,10 +34,7 @@ no_sign (Some sign) e = cc e
 
 -- a letter or a digit has its own place, above those of signs and dots
 own_place : (b : ℕ) → is_ascii_alphanumeric b ≡ true → byte_place b ≡ b
-own_place b h =
-    let none : sep_of b ≡ None = no_sign (sep_of b) (alphanumeric_no_sep b h) in
-    ap (λ (o : Option PlainSep). option_map_or sep_rank o (if b == dot then 5 else b)) none
-    ∙ ap (λ t. if t then 5 else b) (alphanumeric_no_dot b h)
+own_place b h = grind (arith, no_sign, alphanumeric_no_sep, alphanumeric_no_dot)
 
 above : (b : ℕ) → is_ascii_alphanumeric b ≡ true → 48 ≤ b
 above b h = grind (arith, nat_tests)
@@ -91,9 +88,7 @@ abbrev IsRun : List ℕ → Type 0
 IsRun text = list_all is_ascii_alphanumeric text ≡ true
 
 run_above : (b : ℕ) (text : List ℕ) → IsRun (b ∷ text) → 48 ≤ byte_place b
-run_above b text all =
-    let here = first_so _ _ all in
-    rw (own_place b here) (above b here)
+run_above b text all = grind (arith, own_place, above)
 
 -- two runs compare by their bytes, and then what follows them
 runs_first : (a b x y : List ℕ) → IsRun a → IsRun b → BeginsBelow 48 x → BeginsBelow 48 y
@@ -152,13 +147,7 @@ chunks_first : (c d : PlainMChunk) (cs ds : List PlainMChunk) (x y : List ℕ)
     → messy_tie ((mchunk_text c ++ dotted cs) ++ x) ((mchunk_text d ++ dotted ds) ++ y)
     ≡ ordering_then (texts_cmp (c ∷ cs) (d ∷ ds)) (messy_tie x y)
 chunks_first c d cs ds x y s t below_x below_y more =
-    let first = bytes_cmp (mchunk_text c) (mchunk_text d) in
-    (λ i. messy_tie (append_assoc (mchunk_text c) (dotted cs) x i)
-    (append_assoc (mchunk_text d) (dotted ds) y i))
-    ∙ runs_first (mchunk_text c) (mchunk_text d) (dotted cs ++ x) (dotted ds ++ y) (chunk_run c s)
-    (chunk_run d t) (dotted_below cs x below_x) (dotted_below ds y below_y)
-    ∙ ap (ordering_then first) more
-    ∙ sym (then_assoc first (texts_cmp cs ds) (messy_tie x y))
+    grind (arith, append_assoc, runs_first, chunk_run, dotted_below, then_assoc)
 
 chunks_compare : (cs ds : List PlainMChunk) (x y : List ℕ) → AreChunks cs → AreChunks ds
     → BeginsBelow 5 x → BeginsBelow 5 y
@@ -232,11 +221,7 @@ mess_texts_cmp =
 -- two printed versions compare by the texts of their chunks and by their signs
 pub texts_compare : (a b : PlainMess) → HasSections a → HasSections b
     → messy_tie (mess_text a) (mess_text b) ≡ mess_texts_cmp a b
-texts_compare a b s t =
-    sections_compare a.first b.first (flat_map further_text a.more) (flat_map further_text b.more)
-    s.first_is t.first_is (further_below a.more) (further_below b.more)
-    ∙ ap (ordering_then (texts_cmp a.first b.first))
-    (further_compare a.more b.more s.more_is t.more_is)
+texts_compare a b s t = grind (arith, sections_compare, further_below, further_compare)
 
 -- ---- what is spelled has such sections
 
@@ -260,7 +245,4 @@ spelled_further text (f ∷ more) s =
     (spelled_section next.0 f.1 next.3, spelled_further next.1 more next.4)
 
 pub spelled_sections : (text : List ℕ) (m : PlainMess) → SpellsMess text m → HasSections m
-spelled_sections text m s = record {
-  first_is = spelled_section s.first m.first s.first_is;
-  more_is = spelled_further s.more m.more s.more_is;
-}
+spelled_sections text m s = grind (arith, spelled_section, spelled_further)

@@ -1,15 +1,13 @@
 -- The orders of general versions of one key are total.
-use Rattle.std.proofs.Common.{◌≡◌, if◌then◌else◌, ℕ, List, Option, Some, None, drop, inl, inr, refl, sym, subst}
+use Rattle.std.proofs.Common.{◌≡◌, if◌then◌else◌, ℕ, List, Option, Some, None, inl, inr, refl, sym, subst, arith}
 use Rattle.std.proofs.lemmas.Bool.{cases_Bool}
 use Rattle.std.proofs.lemmas.Cmp.{lists_total, nat_cmp_total, nat_list_cmp_total, on_total, then_total}
 use Rattle.std.specs.Cmp.{IsTotalOrder, tied_itself}
 use Rattle.std.specs.Cmp.Lexicographic.{options_total}
-use Rattle.std.specs.List.{prefix_len, take_while}
 use Rattle.std.specs.Option.{option_cmp}
 use Rattle.std.specs.declared.cmp.Ordering.TheVariants.{Equal}
 use Rattle.version_rules.specs.Lists.{bytes_cmp, split_last}
-use Rattle.version_texts.specs.Shape.{body_start, from_body, is_section_byte}
-use Rattle.version_texts.specs.TextKey.{pieces}
+use Rattle.version_texts.specs.Shape.{body_start, from_body}
 use Rattle.version_texts.specs.Ties.{bodies_tie, general_tie, is_numbered, last_tie, parts_tie}
 
 -- a last part, if it is not decomposed
@@ -43,9 +41,7 @@ parts_total =
     (on_total (λ (split : List (List ℕ) × List ℕ). split.1) last_total)))
 
 bodies_total : IsTotalOrder bodies_tie
-bodies_total =
-    then_total (on_total (λ text. pieces (take_while is_section_byte text)) parts_total)
-    (on_total (λ text. drop (prefix_len is_section_byte text) text) nat_list_cmp_total)
+bodies_total = grind (arith, then_total, on_total, parts_total, nat_list_cmp_total)
 
 pub general_total : IsTotalOrder general_tie
 general_total = then_total (on_total body_start nat_cmp_total) (on_total from_body bodies_total)

@@ -55,23 +55,11 @@ digits_key text digits = rw append-nil at (part_key-digits text [] digits refl)
 
 pub number_key : (text : List ℕ) (n : ℕ) → part_key text ≡ Number n None
     → (is_digits text ≡ true) × (digits_value 10 text ≡ n)
-number_key text n e = elim (cases_Bool (starts_with_digit text)) [
-  | inl digit ↦
-      let key : Number (run_value text) (suffix_of (behind_digits text)) ≡ Number n None =
-      rw digit at e in
-      let value : run_value text ≡ n = cc key in
-      let none : suffix_of (behind_digits text) ≡ None = cc key in
-      let rest = no_suffix (behind_digits text) none in
-      whole_number text n (rw digit (λ i. Some (value i, rest i)))
-  | inr other ↦ cc (part_key-word text other, e)
-]
+number_key text n e = grind (arith, cases_Bool, no_suffix, whole_number, part_key-word)
 
 -- the key of a word, and that only a text that begins with no digit has it
 word_key : (text : List ℕ) (split : Split) → part_key text ≡ Word split → split_of text ≡ split
-word_key text split e = elim (cases_Bool (starts_with_digit text)) [
-  | inl digit ↦ cc (rw digit at e)
-  | inr other ↦ cc (part_key-word text other, e)
-]
+word_key text split e = grind (arith, cases_Bool, part_key-word)
 
 -- ---- variants
 
@@ -111,9 +99,7 @@ revision_alike text other n s e =
     (tail, whole, record { digits = both.0; value_is = both.1; fits = s.2.fits })
 
 revision_no_digits : (text : List ℕ) (m n : ℕ) → SpellsRevision text m → ¬ SpellsDigits text n
-revision_no_digits text m n s d =
-    let digits : is_digits (114 ∷ s.0) ≡ true = rw s.1 at d.digits in
-    cc digits
+revision_no_digits text m n s d = grind arith
 
 same_value : (text : List ℕ) (m n : ℕ) → SpellsDigits text m → SpellsDigits text n → m ≡ n
 same_value text m n s t = sym s.value_is ∙ t.value_is
@@ -121,9 +107,7 @@ same_value text m n s t = sym s.value_is ∙ t.value_is
 -- numbers that are the same do not count before what follows
 values_tied : (m n : ℕ) (xs ys : List ℕ) → m ≡ n
     → ordering_then (nat_cmp m n) (bytes_cmp xs ys) ≡ bytes_cmp xs ys
-values_tied m n xs ys e =
-    ap (λ o. ordering_then o (bytes_cmp xs ys))
-    (ap (λ k. nat_cmp k n) e ∙ tied_itself nat_cmp_total n)
+values_tied m n xs ys e = grind (arith, tied_itself, nat_cmp_total)
 
 -- chunks that have one key compare by their texts
 pub tied_chunks : (c d : PlainMChunk) → SpellsMChunk (mchunk_text c) c

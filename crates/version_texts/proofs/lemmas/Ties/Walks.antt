@@ -50,20 +50,7 @@ module _ (a b part other rest other_rest : List ℕ) (e : part ≡ take_while is
   pub bodies_go_on : (more others : List ℕ) → rest ≡ dot ∷ more → other_rest ≡ dot ∷ others
       → bodies_tie a b ≡ ordering_then (bytes_cmp part other) (bodies_tie more others)
   bodies_go_on more others p q =
-      let here : parts a ≡ part ∷ parts more =
-      next_part a rest more r p ∙ ap (λ (l : List ℕ). l ∷ parts more) (sym e) in
-      let there : parts b ≡ other ∷ parts others =
-      next_part b other_rest others s q ∙ ap (λ (l : List ℕ). l ∷ parts others) (sym f) in
-      let of_parts : parts_tie (parts a) (parts b)
-      ≡ ordering_then (bytes_cmp part other) (parts_tie (parts more) (parts others)) =
-      (λ i. parts_tie (here i) (there i))
-      ∙ parts_then part other (parts more) (parts others)
-      (some_pieces (take_while is_section_byte more))
-      (some_pieces (take_while is_section_byte others)) in
-      let left : after a ≡ after more = sym (rest_and_more a rest more r p) in
-      let left_too : after b ≡ after others = sym (rest_and_more b other_rest others s q) in
-      (λ i. ordering_then (of_parts i) (bytes_cmp (left i) (left_too i)))
-      ∙ then_assoc (bytes_cmp part other) _ _
+      grind (arith, next_part, parts_then, some_pieces, rest_and_more, then_assoc)
 
   -- where one goes on and the other doesn't, it comes last
   pub bodies_above : (more : List ℕ) → rest ≡ dot ∷ more → begins (λ b. b == dot) other_rest ≡ false
@@ -89,14 +76,7 @@ module _ (a b part other rest other_rest : List ℕ) (e : part ≡ take_while is
   -- where both end, the last parts compare, and then what follows them
   pub bodies_end : begins (λ b. b == dot) rest ≡ false → begins (λ b. b == dot) other_rest ≡ false
       → ordering_then (last_tie part other) (bytes_cmp rest other_rest) ≡ bodies_tie a b
-  bodies_end ends ends_too =
-      let here : parts a ≡ part ∷ [] =
-      only_part a rest r ends ∙ ap (λ (l : List ℕ). l ∷ []) (sym e) in
-      let there : parts b ≡ other ∷ [] =
-      only_part b other_rest s ends_too ∙ ap (λ (l : List ℕ). l ∷ []) (sym f) in
-      let left : after a ≡ rest = sym (rest_of_last a rest r ends) in
-      let left_too : after b ≡ other_rest = sym (rest_of_last b other_rest s ends_too) in
-      sym (λ i. ordering_then (parts_tie (here i) (there i)) (bytes_cmp (left i) (left_too i)))
+  bodies_end ends ends_too = grind (arith, only_part, rest_of_last)
 
 -- ---- bytes
 
@@ -121,13 +101,4 @@ lengths_from m n k =
 pub bytes_end : (x y : List ℕ) (n : ℕ) → n ≤ length x → n ≤ length y
     → (length x ≤ n) ⊎ (length y ≤ n)
     → messy_tie (drop n x) (drop n y) ≡ nat_cmp (length x) (length y)
-bytes_end x y n in_x in_y end =
-    let ends : (drop n x ≡ []) ⊎ (drop n y ≡ []) = elim end [
-      | inl all ↦ inl (drop_all n x all)
-      | inr all ↦ inr (drop_all n y all)
-    ] in
-    let here : length (drop n x) + n ≡ length x = omega (arith, length-drop n x) in
-    let there : length (drop n y) + n ≡ length y = omega (arith, length-drop n y) in
-    one_ends (drop n x) (drop n y) ends
-    ∙ lengths_from (length (drop n x)) (length (drop n y)) n
-    ∙ (λ i. nat_cmp (here i) (there i))
+bytes_end x y n in_x in_y end = grind (arith, drop_all, length-drop, one_ends, lengths_from)

@@ -1,5 +1,5 @@
 -- The plain order of two versions, by their kinds and their keys.
-use Rattle.std.proofs.Common.{◌≡◌, ◌∙◌, List, ℕ, Some, refl, sym}
+use Rattle.std.proofs.Common.{◌≡◌, List, ℕ, Some, refl, arith}
 use Rattle.std.specs.Ordering.{nat_cmp}
 use Rattle.version_rules.proofs.lemmas.SemVerOrder.{precedence_of_semvers}
 use Rattle.version_rules.specs.Key.{key_of, precedence}
@@ -39,13 +39,9 @@ module _ (text other : List ℕ) (s t : Shape) (e : shape_of text ≡ Some s)
   pub strict_decides : s.kind ≡ kind.Ideal → t.kind ≡ kind.Ideal
       → precedence (key_of (version_in text)) (key_of (version_in other))
       ≡ versioning_plain_cmp (version_in text) (version_in other)
-  strict_decides k l =
-      strict_order (version_in text) (version_in other) (sym k ∙ kind-is text s e)
-      (sym l ∙ kind-is other t f)
+  strict_decides k l = grind (arith, strict_order, kind-is)
 
   pub kinds_decide : ¬ (s.kind ≡ t.kind)
       → nat_cmp (kind_rank (version_in text)) (kind_rank (version_in other))
       ≡ versioning_plain_cmp (version_in text) (version_in other)
-  kinds_decide differ =
-      kinds_order (version_in text) (version_in other)
-      (λ same. differ (kind-is text s e ∙ same ∙ sym (kind-is other t f)))
+  kinds_decide differ = grind (arith, kinds_order, kind-is)

@@ -13,7 +13,6 @@ use Rattle.version_rules.specs.Chunk.{PlainChunk}
 use Rattle.version_rules.specs.Grammar.{SpellsOptional}
 use Rattle.version_rules.specs.Release.{SpellsRelease}
 use Rattle.version_rules.proofs.lemmas.Front.Runs.{prefix_len-append}
-use Rattle.version_rules.specs.declared.kind.Kind.{Kind}
 use Rattle.version_rules.specs.Conversions.{version_of_semver}
 use Rattle.version_rules.specs.Kind.{versioning_kind}
 use Rattle.version_rules.specs.laws.Mess.{messes_same}
@@ -28,7 +27,7 @@ use Rattle.version_rules.proofs.lemmas.Version.{version_printed, version_unique}
 use Rattle.version_rules.proofs.lemmas.Versioning.{versioning_printed}
 use Rattle.version_rules.proofs.lemmas.Conversions.{strict_is_general}
 use Rattle.version_texts.specs.declared.shape.Shape.{Shape}
-use Rattle.version_texts.specs.Shape.{behind_body, shape_of, tail_end}
+use Rattle.version_texts.specs.Shape.{behind_body, shape_of}
 use Rattle.version_texts.specs.TextKind.{is_not_plus}
 use Rattle.version_texts.specs.VersioningRef.{version_in}
 use Rattle.version_texts.proofs.lemmas.VersioningRef.{kind-is, same_text-ties, spelled, spells-is}
@@ -75,15 +74,11 @@ module _ (text : List ℕ) (v : PlainVersion) (s : SpellsVersion text v) where
 
   -- the text is what stands before the metadata, and the metadata
   front_and_meta : text ≡ (s.epoch ++ (s.body ++ s.release)) ++ s.meta
-  front_and_meta =
-      s.whole ∙ ap (λ l. s.epoch ++ l) (sym (append_assoc s.body s.release s.meta))
-      ∙ sym (append_assoc s.epoch (s.body ++ s.release) s.meta)
+  front_and_meta = grind (arith, append_assoc)
 
   -- the text before the metadata is the epoch, the body and the release
   front_taken : plain_front text ≡ s.epoch ++ (s.body ++ s.release)
-  front_taken =
-      ap (take (dashed_end text)) front_and_meta
-      ∙ take_at (s.epoch ++ (s.body ++ s.release)) s.meta (dashed_end text) (sym front_len)
+  front_taken = grind (arith, dashed_end, front_and_meta, take_at, front_len)
 
   -- the text before the metadata spells the version without its metadata
   front_spells : SpellsVersion (plain_front text) (without_metadata v)
@@ -112,11 +107,7 @@ core_spells text v s = front_spells text (version_of_semver v) (strict_is_genera
 
 -- a strict version of which only the metadata is not known
 same_core : (a b : PlainSemVer) → core a ≡ core b → SameButMetadata a b
-same_core a b e =
-    let chunks : (core a).chunks ≡ (core b).chunks = ap (λ (v : PlainVersion). v.chunks) e in
-    let last : (core a).last ≡ (core b).last = ap (λ (v : PlainVersion). v.last) e in
-    let release : a.pre_rel ≡ b.pre_rel = ap (λ (v : PlainVersion). v.release) e in
-    record { major = cc; minor = cc; patch = cc; pre_rel = release }
+same_core a b e = grind arith
 
 -- strict versions have the same texts before their metadata exactly if they tie
 same_fronts : (text other : List ℕ) (a b : PlainSemVer) → SpellsSemVer text a
@@ -212,9 +203,7 @@ module _ (text other : List ℕ) (s t : Shape) (e : shape_of text ≡ Some s)
   -- the tail of a strict version ends before its metadata
   strict_end : (text : List ℕ) (s : Shape) → shape_of text ≡ Some s → s.kind ≡ kind.Ideal
       → s.tail_end ≡ dashed_end text
-  strict_end text s e k =
-      ap (λ (s : Shape). s.tail_end) (spelled text s e).1
-      ∙ ap (λ (k : Kind). tail_end k text) (sym (kind-is text s e) ∙ k)
+  strict_end text s e k = grind (arith, spelled, kind-is)
 
   -- strict versions tie exactly if their texts before their metadata are the same
   pub told_by_fronts : s.kind ≡ kind.Ideal → t.kind ≡ kind.Ideal

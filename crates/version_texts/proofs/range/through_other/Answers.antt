@@ -5,17 +5,14 @@ use Rattle.version_texts.proofs.range.through_other.Goals as goal
 pub parts-init : goal.parts-init
 parts-init c = zeros_none c.args.text.now
 
-pub returns-then-not-begins_with_zero-clause-parts :
-    goal.returns-then-not-begins_with_zero-clause-parts
-returns-then-not-begins_with_zero-clause-parts c =
-    (zeros_and_other c.args.text.now _ _ c.parts.invariant c.split_piece.ensures.rest _ refl
-    (sym c.if-not-begins_with_zero.ensures)).0
-
-pub returns-then-not-begins_with_zero-clause-front :
-    goal.returns-then-not-begins_with_zero-clause-front
-returns-then-not-begins_with_zero-clause-front c =
-    (zeros_and_other c.args.text.now _ _ c.parts.invariant c.split_piece.ensures.rest _ refl
-    (sym c.if-not-begins_with_zero.ensures)).1
+pub returns-then-not-begins_with_zero : goal.returns-then-not-begins_with_zero
+returns-then-not-begins_with_zero c =
+    record {
+      parts = (zeros_and_other c.args.text.now _ _ c.parts.invariant c.split_piece.ensures.rest _
+          refl (sym c.if-not-begins_with_zero.ensures)).0;
+      front = (zeros_and_other c.args.text.now _ _ c.parts.invariant c.split_piece.ensures.rest _
+          refl (sym c.if-not-begins_with_zero.ensures)).1;
+    }
 
 pub parts-preserved : goal.parts-preserved
 parts-preserved c =

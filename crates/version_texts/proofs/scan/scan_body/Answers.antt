@@ -1,4 +1,5 @@
-use Rattle.std.proofs.Common.{◌≡◌, ◌==◌, ◌&&◌, ◌+◌, ◌∙◌, ℕ, Bool, List, true, drop, length, refl, sym, ap}
+use Rattle.std.proofs.Common.{◌≡◌, ◌==◌, ◌&&◌, ◌+◌, ◌∙◌, ℕ, Bool, List, true, drop, length, refl, sym, ap, arith}
+use Rattle.std.proofs.lemmas.Grind.{common_steps}
 use Rattle.std.specs.Char.{is_ascii_alphanumeric}
 use Rattle.std.specs.List.{list_all}
 use Rattle.version_rules.specs.DigitRun.{is_digits}
@@ -19,6 +20,9 @@ epoch_told text dots dots_are digits_are end_is next_is told =
     sym (section_is_epoch text)
     ∙ rw (← one_by_dots dots _ dots_are, ← digits_are, ← end_is, ← next_colon, ← next_is) told
 
+abbrev all_runs : List ℕ → ℕ → Bool
+all_runs text place = list_all (is_run is_ascii_alphanumeric) (section_pieces text place)
+
 -- the body begins behind the colon of an epoch
 begins_behind : (text : List ℕ) (end : ℕ) → end ≡ section_end text 0 → has_epoch text ≡ true
     → end + 1 ≡ body_start text
@@ -31,96 +35,45 @@ returns-in_err-first-clause-runs c =
 
 pub returns-in_err-section-clause-runs : goal.returns-in_err-section-clause-runs
 returns-in_err-section-clause-runs c =
-    let epoch = epoch_told c.args.text.now c.in_ok-first.first.dots c.in_ok-first.ensures.dots
-    c.in_ok-first.ensures.digits c.in_ok-first.ensures.end c.in_ok-first.ensures.next
-    c.if-epoch.true in
-    let begins_at = begins_behind c.args.text.now _ c.in_ok-first.ensures.end epoch in
+    let text = c.args.text.now in
+    let first = c.in_ok-first.ensures in
+    let epoch = epoch_told text _ first.dots first.digits first.end first.next c.if-epoch.true in
     rw c.from_residual-in_err-section.ensures
-    (c.in_err-section.ensures.runs
-    ∙ ap (λ (place : ℕ). list_all (is_run is_ascii_alphanumeric)
-    (section_pieces c.args.text.now place)) begins_at)
+    (c.in_err-section.ensures.runs ∙ ap (all_runs text) (begins_behind text _ first.end epoch))
 
-pub returns-then-epoch-clause-start : goal.returns-then-epoch-clause-start
-returns-then-epoch-clause-start c =
-    let epoch = epoch_told c.args.text.now c.in_ok-first.first.dots c.in_ok-first.ensures.dots
-    c.in_ok-first.ensures.digits c.in_ok-first.ensures.end c.in_ok-first.ensures.next
-    c.if-epoch.true in
-    let begins_at = begins_behind c.args.text.now _ c.in_ok-first.ensures.end epoch in
-    begins_at
+pub returns-then-epoch : goal.returns-then-epoch
+returns-then-epoch c =
+    let text = c.args.text.now in
+    let first = c.in_ok-first.ensures in
+    let section = c.in_ok-section.ensures in
+    let epoch = epoch_told text _ first.dots first.digits first.end first.next c.if-epoch.true in
+    let begins_at = begins_behind text _ first.end epoch in
+    let numeral = first.chunks ∙ epoch_chunk text epoch ∙ numeral_epoch text epoch in
+    let rest = section.chunks
+    ∙ ap (λ (place : ℕ). list_all (is_chunk is_ascii_alphanumeric) (section_pieces text place))
+    begins_at in
+    record {
+      start = begins_at;
+      end = section.end ∙ ap (section_end text) begins_at ∙ body_end-section text;
+      within = grind (arith, common_steps);
+      next = section.next;
+      chunks = rw (numeral, rest) refl;
+      three_numbers = not_three text epoch;
+      runs = section.runs ∙ ap (all_runs text) begins_at;
+    }
 
-pub returns-then-epoch-clause-end : goal.returns-then-epoch-clause-end
-returns-then-epoch-clause-end c =
-    let epoch = epoch_told c.args.text.now c.in_ok-first.first.dots c.in_ok-first.ensures.dots
-    c.in_ok-first.ensures.digits c.in_ok-first.ensures.end c.in_ok-first.ensures.next
-    c.if-epoch.true in
-    let begins_at = begins_behind c.args.text.now _ c.in_ok-first.ensures.end epoch in
-    c.in_ok-section.ensures.end ∙ ap (section_end c.args.text.now) begins_at
-    ∙ body_end-section c.args.text.now
-
-pub returns-then-epoch-clause-chunks : goal.returns-then-epoch-clause-chunks
-returns-then-epoch-clause-chunks c =
-    let epoch = epoch_told c.args.text.now c.in_ok-first.first.dots c.in_ok-first.ensures.dots
-    c.in_ok-first.ensures.digits c.in_ok-first.ensures.end c.in_ok-first.ensures.next
-    c.if-epoch.true in
-    let begins_at = begins_behind c.args.text.now _ c.in_ok-first.ensures.end epoch in
-    let numeral =
-    c.in_ok-first.ensures.chunks ∙ epoch_chunk c.args.text.now epoch
-    ∙ numeral_epoch c.args.text.now epoch in
-    let rest =
-    c.in_ok-section.ensures.chunks
-    ∙ ap (λ (place : ℕ). list_all (is_chunk is_ascii_alphanumeric)
-    (section_pieces c.args.text.now place)) begins_at in
-    rw (numeral, rest) refl
-
-pub returns-then-epoch-clause-three_numbers : goal.returns-then-epoch-clause-three_numbers
-returns-then-epoch-clause-three_numbers c =
-    let epoch = epoch_told c.args.text.now c.in_ok-first.first.dots c.in_ok-first.ensures.dots
-    c.in_ok-first.ensures.digits c.in_ok-first.ensures.end c.in_ok-first.ensures.next
-    c.if-epoch.true in
-    not_three c.args.text.now epoch
-
-pub returns-then-epoch-clause-runs : goal.returns-then-epoch-clause-runs
-returns-then-epoch-clause-runs c =
-    let epoch = epoch_told c.args.text.now c.in_ok-first.first.dots c.in_ok-first.ensures.dots
-    c.in_ok-first.ensures.digits c.in_ok-first.ensures.end c.in_ok-first.ensures.next
-    c.if-epoch.true in
-    let begins_at = begins_behind c.args.text.now _ c.in_ok-first.ensures.end epoch in
-    c.in_ok-section.ensures.runs
-    ∙ ap (λ (place : ℕ). list_all (is_run is_ascii_alphanumeric)
-    (section_pieces c.args.text.now place)) begins_at
-
-pub returns-clause-start : goal.returns-clause-start
-returns-clause-start c =
-    let epoch = epoch_told c.args.text.now c.in_ok-first.first.dots c.in_ok-first.ensures.dots
-    c.in_ok-first.ensures.digits c.in_ok-first.ensures.end c.in_ok-first.ensures.next
-    c.if-epoch.false in
-    no_epoch c.args.text.now epoch
-
-pub returns-clause-end : goal.returns-clause-end
-returns-clause-end c =
-    let epoch = epoch_told c.args.text.now c.in_ok-first.first.dots c.in_ok-first.ensures.dots
-    c.in_ok-first.ensures.digits c.in_ok-first.ensures.end c.in_ok-first.ensures.next
-    c.if-epoch.false in
-    c.in_ok-first.ensures.end ∙ first_end c.args.text.now epoch
-
-pub returns-clause-chunks : goal.returns-clause-chunks
-returns-clause-chunks c =
-    let epoch = epoch_told c.args.text.now c.in_ok-first.first.dots c.in_ok-first.ensures.dots
-    c.in_ok-first.ensures.digits c.in_ok-first.ensures.end c.in_ok-first.ensures.next
-    c.if-epoch.false in
-    c.in_ok-first.ensures.chunks ∙ first_chunks c.args.text.now epoch
-
-pub returns-clause-three_numbers : goal.returns-clause-three_numbers
-returns-clause-three_numbers c =
-    let epoch = epoch_told c.args.text.now c.in_ok-first.first.dots c.in_ok-first.ensures.dots
-    c.in_ok-first.ensures.digits c.in_ok-first.ensures.end c.in_ok-first.ensures.next
-    c.if-epoch.false in
-    let three = three_by_dots c.in_ok-first.first.dots _ c.in_ok-first.ensures.dots in
-    rw (three, c.in_ok-first.ensures.digits) (first_numbers c.args.text.now epoch)
-
-pub returns-clause-runs : goal.returns-clause-runs
-returns-clause-runs c =
-    let epoch = epoch_told c.args.text.now c.in_ok-first.first.dots c.in_ok-first.ensures.dots
-    c.in_ok-first.ensures.digits c.in_ok-first.ensures.end c.in_ok-first.ensures.next
-    c.if-epoch.false in
-    sym (first_runs c.args.text.now epoch (sym c.in_ok-first.ensures.runs))
+pub returns : goal.returns
+returns c =
+    let text = c.args.text.now in
+    let first = c.in_ok-first.ensures in
+    let epoch = epoch_told text _ first.dots first.digits first.end first.next c.if-epoch.false in
+    let three = three_by_dots c.in_ok-first.first.dots _ first.dots in
+    record {
+      start = no_epoch text epoch;
+      end = first.end ∙ first_end text epoch;
+      within = grind (arith, common_steps);
+      next = first.next;
+      chunks = first.chunks ∙ first_chunks text epoch;
+      three_numbers = rw (three, first.digits) (first_numbers text epoch);
+      runs = sym (first_runs text epoch (sym first.runs));
+    }

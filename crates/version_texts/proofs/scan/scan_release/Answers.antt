@@ -38,21 +38,19 @@ chunks-preserved c =
           (arith, begins_within (λ b. b == dot) c.args.text.now c.in_ok-run.run'.end goes_on);
     }
 
-pub returns-then-is_metadata_tail-clause-end : goal.returns-then-is_metadata_tail-clause-end
-returns-then-is_metadata_tail-clause-end c =
-    sym (c.chunks.invariant.end
-    ∙ place_last c.args.text.now c.chunks.place c.in_ok-run.run'.end c.in_ok-run.ensures.end
-    (sym c.is_metadata_tail.ensures ∙ c.if-is_metadata_tail.true))
-
-pub returns-then-is_metadata_tail-clause-whole : goal.returns-then-is_metadata_tail-clause-whole
-returns-then-is_metadata_tail-clause-whole c =
+pub returns-then-is_metadata_tail : goal.returns-then-is_metadata_tail
+returns-then-is_metadata_tail c =
+    let text = c.args.text.now in
     let good = sym c.in_ok-run.ensures.chunk ∙ not_false _ c.if-not-run.false in
-    let ends = no_dot
-    (drop c.in_ok-run.run'.end c.args.text.now) c.in_ok-run.run'.next c.in_ok-run.ensures.next
-    c.if-run-ne-DOT.true in
-    sym (c.chunks.invariant.same
-    ∙ from_last c.args.text.now c.chunks.place c.in_ok-run.run'.end c.in_ok-run.ensures.end good
-    ends ∙ sym c.is_metadata_tail.ensures ∙ c.if-is_metadata_tail.true)
+    let ends = no_dot (drop c.in_ok-run.run'.end text) c.in_ok-run.run'.next
+    c.in_ok-run.ensures.next c.if-run-ne-DOT.true in
+    record {
+      end = sym (c.chunks.invariant.end ∙ place_last text c.chunks.place c.in_ok-run.run'.end
+          c.in_ok-run.ensures.end (sym c.is_metadata_tail.ensures ∙ c.if-is_metadata_tail.true));
+      whole = sym (c.chunks.invariant.same ∙ from_last text c.chunks.place c.in_ok-run.run'.end
+          c.in_ok-run.ensures.end good ends ∙ sym c.is_metadata_tail.ensures
+          ∙ c.if-is_metadata_tail.true);
+    }
 
 pub returns-then-run-ne-DOT-clause-whole : goal.returns-then-run-ne-DOT-clause-whole
 returns-then-run-ne-DOT-clause-whole c =

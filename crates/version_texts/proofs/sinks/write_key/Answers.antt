@@ -31,25 +31,23 @@ write_tail-requires-clause-room c =
       length-put c.args.room.now c.args.start (front_bytes key),
     )
 
-pub returns-clause-bytes : goal.returns-clause-bytes
-returns-clause-bytes c =
+pub returns : goal.returns
+returns c =
     let key = text_key c.args.text.now c.args.shape in
     let front = c.put_front.ensures.bytes in
     let last = c.put_front.new.sink in
-    let written : put_at last.room.now last.end (tail_bytes key.tail)
-    ≡ put_at c.args.room.now c.args.start (key_bytes key) =
-    (λ i. put_at (front.bytes_are i) (front.end_is i) (tail_bytes key.tail))
-    ∙ put_both c.args.room.now c.args.start (front_bytes key) (tail_bytes key.tail)
-    ∙ ap (put_at c.args.room.now c.args.start) (sym (key_halves key)) in
-    rw (← written) (search rules)
-
-pub returns-clause-end : goal.returns-clause-end
-returns-clause-end c =
-    let key = text_key c.args.text.now c.args.shape in
-    omega (
-      arith,
-      c.put_front.ensures.bytes.end_is,
-      c.write_tail.ensures.end,
-      ap length (key_halves key),
-      length-append (front_bytes key) (tail_bytes key.tail),
-    )
+    let written : put_at last.room.now last.end (tail_bytes key.tail) ≡ put_at c.args.room.now
+    c.args.start (key_bytes key) = (λ i. put_at (front.bytes_are i) (front.end_is i) (tail_bytes
+    key.tail)) ∙ put_both c.args.room.now c.args.start (front_bytes key) (tail_bytes key.tail) ∙ ap
+    (put_at c.args.room.now c.args.start) (sym (key_halves key)) in
+    record {
+      bytes = rw (← written) (search rules);
+      end = omega (
+        arith,
+        c.put_front.ensures.bytes.end_is,
+        c.write_tail.ensures.end,
+        ap length
+            (key_halves key),
+        length-append (front_bytes key) (tail_bytes key.tail),
+      );
+    }

@@ -1,5 +1,5 @@
 -- Keys written into a buffer, one after another.
-use Rattle.std.proofs.Common.{◌≡◌, ◌∙◌, ◌+◌, ◌-◌, ◌<◌, ◌≤◌, ◌^◌, ℕ, zero, suc, Bool, true, false, List, [], ◌∷◌, ◌++◌, drop, get_or, length, nat_eq, set, Option, Some, None, IfSome, nat_le, if◌then◌else◌, refl, ap, subst, sym, arith}
+use Rattle.std.proofs.Common.{◌≡◌, ◌∙◌, ◌+◌, ◌<◌, ◌≤◌, ◌^◌, ℕ, zero, suc, Bool, true, false, List, [], ◌∷◌, ◌++◌, drop, get_or, length, nat_eq, set, Option, Some, None, IfSome, refl, ap, sym, arith}
 use Rattle.std.proofs.lemmas.Bool.Decides.{nat_tests}
 use Rattle.std.proofs.lemmas.List.{append-nil, get_or-set_other, get_or-set_same, length-append}
 use Rattle.std.specs.Option.{unwrap_or}
@@ -25,23 +25,16 @@ fitting_key (Some b) bytes room new e put fits =
 keys_step : (texts offsets : List ℕ) (i : ℕ)
     → keys_before texts offsets (i + 1)
     ≡ keys_before texts offsets i ++ unwrap_or (spelled_key (text_at texts offsets i)) []
-keys_step texts offsets i =
-    let one_more : i + 1 ≡ suc i = omega arith in
-    ap (keys_before texts offsets) one_more
+keys_step texts offsets i = grind arith
 
 pub keys_with : (texts offsets : List ℕ) (i : ℕ) (key : List ℕ)
     → Some key ≡ spelled_key (text_at texts offsets i)
     → keys_before texts offsets (i + 1) ≡ keys_before texts offsets i ++ key
-keys_with texts offsets i key e =
-    keys_step texts offsets i
-    ∙ ap (λ (o : Option (List ℕ)). keys_before texts offsets i ++ unwrap_or o []) (sym e)
+keys_with texts offsets i key e = grind (arith, keys_step)
 
 pub keys_without : (texts offsets : List ℕ) (i : ℕ) → None ≡ spelled_key (text_at texts offsets i)
     → keys_before texts offsets (i + 1) ≡ keys_before texts offsets i
-keys_without texts offsets i e =
-    keys_step texts offsets i
-    ∙ ap (λ (o : Option (List ℕ)). keys_before texts offsets i ++ unwrap_or o []) (sym e)
-    ∙ append-nil (keys_before texts offsets i)
+keys_without texts offsets i e = grind (arith, keys_step, append-nil)
 
 -- the place after one more key
 pub behind_key : (before key : List ℕ)
@@ -83,9 +76,7 @@ pub no_more_key : (texts offsets room : List ℕ) (i : ℕ) (text keys : List �
     → text ≡ text_at texts offsets i → None ≡ spelled_key text
     → ArePut room (keys_before texts offsets i) end keys
     → ArePut room (keys_before texts offsets (i + 1)) end keys
-no_more_key texts offsets room i text keys end is spells put =
-    let all = keys_without texts offsets i (spells ∙ ap spelled_key is) in
-    subst (λ (before : List ℕ). ArePut room before end keys) (sym all) put
+no_more_key texts offsets room i text keys end is spells put = grind (arith, keys_without)
 
 -- ---- where keys begin and end
 

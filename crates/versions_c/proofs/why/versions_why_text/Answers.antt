@@ -1,10 +1,11 @@
-use Rattle.std.proofs.Common.{◌≡◌, ◌<◌, ◌≤◌, ◌^◌, ℕ, List, Option, Some, arith, inl, length, subst}
+use Rattle.std.proofs.Common.{◌≡◌, ◌<◌, ◌≤◌, ◌^◌, ℕ, List, Option, Some, arith, length}
+use Rattle.std.proofs.lemmas.Bool.Decides.{nat_tests}
 use Rattle.version_rules.specs.Versioning.{PlainVersioning}
 use Rattle.version_texts.specs.Sinks.{put_at, saturated}
 use Rattle.version_texts.specs.VersioningRef.{plain_versioning_ref}
 use Rattle.version_texts.specs.Why.{IsExcluded, excluded_text}
 use Rattle.version_texts.specs.declared.why.Excluded.{Excluded}
-use Rattle.versions_c.proofs.lemmas.Written.{written}
+use Rattle.version_texts.proofs.lemmas.Sinks.{put_fits}
 use Rattle.versions_c.specs.Why.{IsToldWhy}
 use Rattle.versions_c.specs.declared.status.TheConstants.{OK}
 use Rattle.versions_c.proofs.why.versions_why_text.Goals as goal
@@ -16,12 +17,7 @@ why_written : (spelled : Option PlainVersioning) (v : PlainVersioning) → Some 
     → len ≤ length old → (new : List ℕ) → new ≡ put_at old 0 (excluded_text list v excluded)
     → IsToldWhy list spelled old new len OK
 why_written spelled v is list old excluded first len counted small within new put =
-    subst (λ (o : Option PlainVersioning). IsToldWhy list o old new len OK) is
-    (inl (
-      excluded,
-      first,
-      written (excluded_text list v excluded) old new len counted small within put,
-    ))
+    grind (arith, nat_tests, put_fits)
 
 pub returns-clause-why : goal.returns-clause-why
 returns-clause-why c =

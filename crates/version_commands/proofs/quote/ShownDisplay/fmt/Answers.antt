@@ -1,4 +1,4 @@
-use Rattle.std.proofs.Common.{◌≡◌, ◌++◌, ◌∷◌, [], ℕ, List, take, chars, flat_map, rules, ap, sym, ◌∙◌, append-nil, map-id}
+use Rattle.std.proofs.Common.{◌≡◌, ℕ, List, take, chars, flat_map, rules, ap, sym, ◌∙◌, append-nil, map-id, arith}
 use Rattle.std.proofs.Output.{has_written_append, has_written_of_eq}
 use Rattle.std.proofs.lemmas.Grind.{flat_map-append}
 use Rattle.std.proofs.lemmas.Iterator.{YieldsList-from_chars}
@@ -8,13 +8,8 @@ use Rattle.version_commands.specs.Quote.{quoted_character, text_in_front}
 use Rattle.version_commands.proofs.quote.ShownDisplay.fmt.Goals as goal
 
 pub loop-character-preserved : goal.loop-character-preserved
-loop-character-preserved g c = λ plain.
-    let so_far = flat_map quoted_character c.loop-character.yielded in
-    let one = quoted_character c.in-Some.character in
-    has_written_of_eq _ _ _ _ _
-    (ap (λ (l : List ℕ). so_far ++ l) (sym (append-nil one))
-    ∙ sym (flat_map-append quoted_character c.loop-character.yielded (c.in-Some.character ∷ [])))
-    (has_written_append _ _ _ _ _ _ (c.loop-character.invariant plain) (search rules))
+loop-character-preserved g c =
+    grind (arith, has_written_of_eq, append-nil, flat_map-append, has_written_append)
 
 pub returns-clause-writes : goal.returns-clause-writes
 returns-clause-writes g c = λ plain _.

@@ -1,6 +1,6 @@
 use Rattle.std.proofs.Common.{◌≡◌, arith, sym}
 use Rattle.version_tasks.proofs.lemmas.Next.Text.{one_more_zero, zeros_begun}
-use Rattle.version_texts.proofs.lemmas.TextKey.Taking.{fits_next, takes_same}
+use Rattle.version_texts.proofs.lemmas.TextKey.Taking.{next_fits, owes_all, owes_rest, takes_same}
 use Rattle.version_tasks.proofs.next.text.put_zeros.Goals as goal
 
 pub loop-init : goal.loop-init
@@ -13,9 +13,10 @@ loop-preserved g c =
 
 pub put_all-requires : goal.put_all-requires
 put_all-requires g c =
-    fits_next g.S.Sink.takes g.S.Sink.fits g.met.S.Sink.fits_first g.met.S.Sink.fits_then
-    _ _ _ _ _ _ (zeros_begun c.loop.counter c.args.zeros c.loop-test.true) c.loop.invariant
-    c.requires
+    let laws = g.met.S.Sink in
+    let all = owes_all laws.fits_first laws.fits_then laws.takes_both
+    (zeros_begun c.loop.counter c.args.zeros c.loop-test.true) c.requires in
+    next_fits _ _ (owes_rest _ _ all c.loop.invariant)
 
 pub returns : goal.returns
 returns g c =

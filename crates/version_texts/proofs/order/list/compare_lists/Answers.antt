@@ -14,43 +14,35 @@ returns-then-ne c =
 pub parts-preserved-in-Some-Some : goal.parts-preserved-in-Some-Some
 parts-preserved-in-Some-Some c =
     let ends = c.args.ends in
-    let parts = c.compare_parts_to-parts in
-    let left = first_equal ends c.parts.a.now c.parts.b.now _ _ _ _ parts.ensures.order
-    (sym c.if-ne.false ∙ c.ne.ensures) parts.ensures.rest parts.ensures.other_rest
-    c.parts.invariant in
+    let left = first_equal ends c.parts.a.now c.parts.b.now _ _ _ _
+    c.compare_parts_to-parts.ensures (sym c.if-ne.false ∙ c.ne.ensures) c.parts.invariant in
     sym (parts_follow ends c.in-Some-Some.more.now c.in-Some-Some.others.now)
     ∙ (λ i. others_cmp ends (sym c.in-Some-Some.ensures i) (sym c.in-Some-Some.ensures' i)) ∙ left.0
 
 pub returns-in-Some-None : goal.returns-in-Some-None
 returns-in-Some-None c =
     let ends = c.args.ends in
-    let parts = c.compare_parts_to-parts in
-    let left = first_equal ends c.parts.a.now c.parts.b.now _ _ _ _ parts.ensures.order
-    (sym c.if-ne.false ∙ c.ne.ensures) parts.ensures.rest parts.ensures.other_rest
-    c.parts.invariant in
+    let left = first_equal ends c.parts.a.now c.parts.b.now _ _ _ _
+    c.compare_parts_to-parts.ensures (sym c.if-ne.false ∙ c.ne.ensures) c.parts.invariant in
     let above = part_and_end ends c.in-Some-None.more.now _ left.2 c.in-Some-None.ensures' in
     c.compare_with_end.ensures ∙ sym above.0
-    ∙ ap (λ rest. others_cmp ends rest parts.result.other_rest.now) (sym c.in-Some-None.ensures)
+    ∙ ap (λ rest. others_cmp ends rest c.compare_parts_to-parts.result.other_rest.now) (sym c.in-Some-None.ensures)
     ∙ left.0
 
 pub returns-in-None-Some : goal.returns-in-None-Some
 returns-in-None-Some c =
     let ends = c.args.ends in
-    let parts = c.compare_parts_to-parts in
-    let left = first_equal ends c.parts.a.now c.parts.b.now _ _ _ _ parts.ensures.order
-    (sym c.if-ne.false ∙ c.ne.ensures) parts.ensures.rest parts.ensures.other_rest
-    c.parts.invariant in
+    let left = first_equal ends c.parts.a.now c.parts.b.now _ _ _ _
+    c.compare_parts_to-parts.ensures (sym c.if-ne.false ∙ c.ne.ensures) c.parts.invariant in
     let below = part_and_end ends c.in-None-Some.others.now _ left.1 c.in-None-Some.ensures in
     c.reverse.ensures ∙ ap ordering_reverse c.compare_with_end-in-None-Some.ensures ∙ sym below.1
-    ∙ ap (λ rest. others_cmp ends parts.result.rest.now rest) (sym c.in-None-Some.ensures') ∙ left.0
+    ∙ ap (λ rest. others_cmp ends c.compare_parts_to-parts.result.rest.now rest) (sym c.in-None-Some.ensures') ∙ left.0
 
 pub parts-preserved : goal.parts-preserved
 parts-preserved c =
     let ends = c.args.ends in
-    let parts = c.compare_parts_to-parts in
-    let left = first_equal ends c.parts.a.now c.parts.b.now _ _ _ _ parts.ensures.order
-    (sym c.if-ne.false ∙ c.ne.ensures) parts.ensures.rest parts.ensures.other_rest
-    c.parts.invariant in
+    let left = first_equal ends c.parts.a.now c.parts.b.now _ _ _ _
+    c.compare_parts_to-parts.ensures (sym c.if-ne.false ∙ c.ne.ensures) c.parts.invariant in
     let first = c.in-Some-Some-2.ensures.some in
     let second = c.in-Some-Some-2.ensures'.some in
     let sign = signed ends _ _ first left.1 c.in-None-None.ensures in
@@ -61,10 +53,8 @@ parts-preserved c =
 pub returns-in-Some-None-2 : goal.returns-in-Some-None-2
 returns-in-Some-None-2 c =
     let ends = c.args.ends in
-    let parts = c.compare_parts_to-parts in
-    let left = first_equal ends c.parts.a.now c.parts.b.now _ _ _ _ parts.ensures.order
-    (sym c.if-ne.false ∙ c.ne.ensures) parts.ensures.rest parts.ensures.other_rest
-    c.parts.invariant in
+    let left = first_equal ends c.parts.a.now c.parts.b.now _ _ _ _
+    c.compare_parts_to-parts.ensures (sym c.if-ne.false ∙ c.ne.ensures) c.parts.invariant in
     let first = c.in-Some-None-2.ensures.some in
     let sign = signed ends _ _ first left.1 c.in-None-None.ensures in
     sym (section_above_end ends first.0 _ sign).0
@@ -73,10 +63,8 @@ returns-in-Some-None-2 c =
 pub returns-in-None-Some-2 : goal.returns-in-None-Some-2
 returns-in-None-Some-2 c =
     let ends = c.args.ends in
-    let parts = c.compare_parts_to-parts in
-    let left = first_equal ends c.parts.a.now c.parts.b.now _ _ _ _ parts.ensures.order
-    (sym c.if-ne.false ∙ c.ne.ensures) parts.ensures.rest parts.ensures.other_rest
-    c.parts.invariant in
+    let left = first_equal ends c.parts.a.now c.parts.b.now _ _ _ _
+    c.compare_parts_to-parts.ensures (sym c.if-ne.false ∙ c.ne.ensures) c.parts.invariant in
     let second = c.in-None-Some-2.ensures'.some in
     let sign = signed ends _ _ second left.2 c.in-None-None.ensures' in
     sym (section_above_end ends second.0 _ sign).1
@@ -85,9 +73,7 @@ returns-in-None-Some-2 c =
 pub returns-in-None-None-2 : goal.returns-in-None-None-2
 returns-in-None-None-2 c =
     let ends = c.args.ends in
-    let parts = c.compare_parts_to-parts in
-    let left = first_equal ends c.parts.a.now c.parts.b.now _ _ _ _ parts.ensures.order
-    (sym c.if-ne.false ∙ c.ne.ensures) parts.ensures.rest parts.ensures.other_rest
-    c.parts.invariant in
+    let left = first_equal ends c.parts.a.now c.parts.b.now _ _ _ _
+    c.compare_parts_to-parts.ensures (sym c.if-ne.false ∙ c.ne.ensures) c.parts.invariant in
     (λ i. others_cmp ends (sym c.in-None-None-2.ensures.none i)
     (sym c.in-None-None-2.ensures'.none i)) ∙ left.0

@@ -17,32 +17,25 @@ returns-then-ne-clause-order c =
     decides c.compare_numbers-numbers.result.order _ _ _ c.compare_numbers-numbers.ensures.order
     both (sym c.if-ne.true ∙ c.ne.ensures)
 
-pub returns-else-ne-clause-order : goal.returns-else-ne-clause-order
-returns-else-ne-clause-order c =
-    let both =
-    numbers_compared (end_of c.args.ends) (digit_no_end c.args.ends) c.args.a.now c.args.b.now
+pub returns-else-ne : goal.returns-else-ne
+returns-else-ne c =
+    let ends = c.args.ends in
+    let both = numbers_compared (end_of ends) (digit_no_end ends) c.args.a.now c.args.b.now
     (sym c.in-true-true.ensures) (sym c.in-true-true.ensures') in
     let numbers = c.compare_numbers-numbers.ensures in
     let same = tied c.compare_numbers-numbers.result.order (sym c.if-ne.false ∙ c.ne.ensures) in
-    c.compare_suffixes.ensures.order
-    ∙ (λ i. none_last_cmp split_cmp
-    (suffix_of (before_first (end_of c.args.ends) (numbers.rest same i)))
-    (suffix_of (before_first (end_of c.args.ends) (numbers.other_rest same i))))
-    ∙ leaves c.compare_numbers-numbers.result.order _ _ _ numbers.order both same
-
-pub returns-else-ne-clause-rest : goal.returns-else-ne-clause-rest
-returns-else-ne-clause-rest c e =
-    let same = tied c.compare_numbers-numbers.result.order (sym c.if-ne.false ∙ c.ne.ensures) in
-    c.compare_suffixes.ensures.rest e
-    ∙ ap (from_first (end_of c.args.ends)) (c.compare_numbers-numbers.ensures.rest same)
-    ∙ (digits_same (end_of c.args.ends) (digit_no_end c.args.ends) c.args.a.now).2
-
-pub returns-else-ne-clause-other_rest : goal.returns-else-ne-clause-other_rest
-returns-else-ne-clause-other_rest c e =
-    let same = tied c.compare_numbers-numbers.result.order (sym c.if-ne.false ∙ c.ne.ensures) in
-    c.compare_suffixes.ensures.other_rest e
-    ∙ ap (from_first (end_of c.args.ends)) (c.compare_numbers-numbers.ensures.other_rest same)
-    ∙ (digits_same (end_of c.args.ends) (digit_no_end c.args.ends) c.args.b.now).2
+    record {
+      order = c.compare_suffixes.ensures.order
+          ∙ (λ i. none_last_cmp split_cmp (suffix_of (before_first (end_of ends)
+          (numbers.rest same i))) (suffix_of (before_first (end_of ends) (numbers.other_rest same
+          i)))) ∙ leaves c.compare_numbers-numbers.result.order _ _ _ numbers.order both same;
+      rest = λ e. c.compare_suffixes.ensures.rest e ∙ ap (from_first (end_of ends))
+          (c.compare_numbers-numbers.ensures.rest same)
+          ∙ (digits_same (end_of ends) (digit_no_end ends) c.args.a.now).2;
+      other_rest = λ e. c.compare_suffixes.ensures.other_rest e ∙ ap (from_first (end_of ends))
+          (c.compare_numbers-numbers.ensures.other_rest same)
+          ∙ (digits_same (end_of ends) (digit_no_end ends) c.args.b.now).2;
+    }
 
 pub returns-in-false-false-clause-order : goal.returns-in-false-false-clause-order
 returns-in-false-false-clause-order c =

@@ -23,18 +23,16 @@ returns-in-false-true-clause-order c =
     let second = some_suffix (end_of c.args.ends) c.args.b.now (sym c.in-false-true.ensures') in
     c.new-in-false-true.ensures.order ∙ sym (λ i. none_last_cmp split_cmp (first i) (second i))
 
-pub returns-in-false-false-clause-order : goal.returns-in-false-false-clause-order
-returns-in-false-false-clause-order c =
-    let first = no_suffix (end_of c.args.ends) c.args.a.now (sym c.in-false-false.ensures) in
-    let second = no_suffix (end_of c.args.ends) c.args.b.now (sym c.in-false-false.ensures') in
-    c.new-in-false-false.ensures.order ∙ sym (λ i. none_last_cmp split_cmp (first i) (second i))
-
-pub returns-in-false-false-clause-rest : goal.returns-in-false-false-clause-rest
-returns-in-false-false-clause-rest c e =
-    c.new-in-false-false.ensures.rest ∙ sym (no_bytes (end_of c.args.ends) c.args.a.now
-    (sym c.in-false-false.ensures)).1
-
-pub returns-in-false-false-clause-other_rest : goal.returns-in-false-false-clause-other_rest
-returns-in-false-false-clause-other_rest c e =
-    c.new-in-false-false.ensures.other_rest ∙ sym (no_bytes (end_of c.args.ends) c.args.b.now
-    (sym c.in-false-false.ensures')).1
+pub returns-in-false-false : goal.returns-in-false-false
+returns-in-false-false c =
+    let ends = c.args.ends in
+    let first = no_suffix (end_of ends) c.args.a.now (sym c.in-false-false.ensures) in
+    let second = no_suffix (end_of ends) c.args.b.now (sym c.in-false-false.ensures') in
+    record {
+      order = c.new-in-false-false.ensures.order ∙ sym
+          (λ i. none_last_cmp split_cmp (first i) (second i));
+      rest = λ e. c.new-in-false-false.ensures.rest ∙ sym
+          (no_bytes (end_of ends) c.args.a.now (sym c.in-false-false.ensures)).1;
+      other_rest = λ e. c.new-in-false-false.ensures.other_rest ∙ sym
+          (no_bytes (end_of ends) c.args.b.now (sym c.in-false-false.ensures')).1;
+    }

@@ -34,40 +34,33 @@ returns-then-ne-clause-order c =
     decides c.compare_runs-words.result.order _ _ _ (c.compare_runs-words.ensures.order)
     (by_words c.args.ends c.args.a.now c.args.b.now) (sym c.if-ne.true ∙ c.ne.ensures)
 
-pub compare_numbered-requires-clause-a : goal.compare_numbered-requires-clause-a
-compare_numbered-requires-clause-a c =
+pub compare_numbered-requires : goal.compare_numbered-requires
+compare_numbered-requires c =
+    let ends = c.args.ends in
     let same = tied c.compare_runs-words.result.order (sym c.if-ne.false ∙ c.ne.ensures) in
-    ap (begins (in_run (Word c.args.ends))) (c.compare_runs-words.ensures.rest same)
-    ∙ begins-drop (in_run (Word c.args.ends)) c.args.a.now
+    record {
+      a = ap (begins (in_run (Word ends))) (c.compare_runs-words.ensures.rest same) ∙ begins-drop
+          (in_run (Word ends)) c.args.a.now;
+      b = ap (begins (in_run (Word ends))) (c.compare_runs-words.ensures.other_rest same)
+          ∙ begins-drop (in_run (Word ends)) c.args.b.now;
+    }
 
-pub compare_numbered-requires-clause-b : goal.compare_numbered-requires-clause-b
-compare_numbered-requires-clause-b c =
-    let same = tied c.compare_runs-words.result.order (sym c.if-ne.false ∙ c.ne.ensures) in
-    ap (begins (in_run (Word c.args.ends))) (c.compare_runs-words.ensures.other_rest same)
-    ∙ begins-drop (in_run (Word c.args.ends)) c.args.b.now
-
-pub returns-clause-order : goal.returns-clause-order
-returns-clause-order c =
+pub returns : goal.returns
+returns c =
     let ends = c.args.ends in
     let same = tied c.compare_runs-words.result.order (sym c.if-ne.false ∙ c.ne.ensures) in
     let rest = c.compare_runs-words.ensures.rest same in
     let other_rest = c.compare_runs-words.ensures.other_rest same in
-    c.compare_numbered.ensures.order
-    ∙ (λ i. option_cmp numbered_cmp (number_front (before_first (end_of ends) (rest i)))
-    (number_front (before_first (end_of ends) (other_rest i))))
-    ∙ leaves c.compare_runs-words.result.order _ _ _ (c.compare_runs-words.ensures.order)
-    (by_words ends c.args.a.now c.args.b.now) same
-
-pub returns-clause-rest : goal.returns-clause-rest
-returns-clause-rest c e =
-    let same = tied c.compare_runs-words.result.order (sym c.if-ne.false ∙ c.ne.ensures) in
-    c.compare_numbered.ensures.rest e
-    ∙ ap (from_first (end_of c.args.ends)) (c.compare_runs-words.ensures.rest same)
-    ∙ (run_is_word (end_of c.args.ends) c.args.a.now).2
-
-pub returns-clause-other_rest : goal.returns-clause-other_rest
-returns-clause-other_rest c e =
-    let same = tied c.compare_runs-words.result.order (sym c.if-ne.false ∙ c.ne.ensures) in
-    c.compare_numbered.ensures.other_rest e
-    ∙ ap (from_first (end_of c.args.ends)) (c.compare_runs-words.ensures.other_rest same)
-    ∙ (run_is_word (end_of c.args.ends) c.args.b.now).2
+    record {
+      order = c.compare_numbered.ensures.order
+          ∙ (λ i. option_cmp numbered_cmp (number_front (before_first (end_of ends) (rest i)))
+          (number_front (before_first (end_of ends) (other_rest i)))) ∙ leaves
+          c.compare_runs-words.result.order _ _ _ (c.compare_runs-words.ensures.order)
+          (by_words ends c.args.a.now c.args.b.now) same;
+      rest = λ e. c.compare_numbered.ensures.rest e ∙ ap (from_first (end_of c.args.ends))
+          (c.compare_runs-words.ensures.rest same)
+          ∙ (run_is_word (end_of c.args.ends) c.args.a.now).2;
+      other_rest = λ e. c.compare_numbered.ensures.other_rest e ∙ ap
+          (from_first (end_of c.args.ends)) (c.compare_runs-words.ensures.other_rest same)
+          ∙ (run_is_word (end_of c.args.ends) c.args.b.now).2;
+    }

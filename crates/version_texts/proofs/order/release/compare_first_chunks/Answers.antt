@@ -1,4 +1,4 @@
-use Rattle.std.proofs.Common.{◌≡◌, ◌∙◌, ℕ, true, false, List, Ordering, ap, refl, sym}
+use Rattle.std.proofs.Common.{◌≡◌, ◌∙◌, ℕ, true, false, List, Ordering, ap, refl, sym, rules}
 use Rattle.std.proofs.lemmas.Cmp.{nat_cmp_total}
 use Rattle.std.specs.Ordering.{nat_cmp, ordering_reverse}
 use Rattle.std.specs.declared.cmp.Ordering.TheVariants.{Less, Equal, Greater}
@@ -20,53 +20,49 @@ less_turned : (a b : List ℕ) → nat_cmp (run_value a) (run_value b) ≡ Less
 less_turned a b less =
     nat_cmp_total.antisymm (run_value b) (run_value a) ∙ ap ordering_reverse less
 
-pub returns-in-Greater-clause-rest : goal.returns-in-Greater-clause-rest
-returns-in-Greater-clause-rest c e =
-    absurd (not_tied c.args.a.now c.args.b.now
-    (sym c.compare_numbers-numbers.ensures.order ∙ c.in-Greater.is)
-    (sym (c.new.ensures.order ∙ c.compare_greater.ensures) ∙ e))
+pub returns-in-Greater : goal.returns-in-Greater
+returns-in-Greater c =
+    record {
+      order = search rules;
+      rest = λ e. absurd
+          (not_tied c.args.a.now c.args.b.now (sym c.compare_numbers-numbers.ensures.order
+          ∙ c.in-Greater.is) (sym (c.new.ensures.order ∙ c.compare_greater.ensures) ∙ e));
+      other_rest = λ e. absurd
+          (not_tied c.args.a.now c.args.b.now (sym c.compare_numbers-numbers.ensures.order
+          ∙ c.in-Greater.is) (sym (c.new.ensures.order ∙ c.compare_greater.ensures) ∙ e));
+    }
 
-pub returns-in-Greater-clause-other_rest : goal.returns-in-Greater-clause-other_rest
-returns-in-Greater-clause-other_rest c e =
-    absurd (not_tied c.args.a.now c.args.b.now
-    (sym c.compare_numbers-numbers.ensures.order ∙ c.in-Greater.is)
-    (sym (c.new.ensures.order ∙ c.compare_greater.ensures) ∙ e))
+pub returns-in-Less : goal.returns-in-Less
+returns-in-Less c =
+    let a = c.args.a.now in
+    let b = c.args.b.now in
+    record {
+      order = c.new-in-Less.ensures.order ∙ c.reverse.ensures ∙ ap ordering_reverse
+          c.compare_greater-in-Less.ensures ∙ sym
+          (chunk_total.antisymm (chunk_of (first_piece a)) (chunk_of (first_piece b)));
+      rest = λ e. absurd (not_tied b a (less_turned a b (sym c.compare_numbers-numbers.ensures.order
+          ∙ c.in-Less.is)) (sym c.compare_greater-in-Less.ensures ∙ tie_reversed _ (sym
+          (c.new-in-Less.ensures.order ∙ c.reverse.ensures) ∙ e)));
+      other_rest = λ e. absurd
+          (not_tied b a (less_turned a b (sym c.compare_numbers-numbers.ensures.order
+          ∙ c.in-Less.is)) (sym c.compare_greater-in-Less.ensures ∙ tie_reversed _ (sym
+          (c.new-in-Less.ensures.order ∙ c.reverse.ensures) ∙ e)));
+    }
 
-pub returns-in-Less-clause-order : goal.returns-in-Less-clause-order
-returns-in-Less-clause-order c =
-    c.new-in-Less.ensures.order ∙ c.reverse.ensures ∙ ap ordering_reverse c.compare_greater-in-Less.ensures
-    ∙ sym (chunk_total.antisymm (chunk_of (first_piece c.args.a.now))
-    (chunk_of (first_piece c.args.b.now)))
-
-pub returns-in-Less-clause-rest : goal.returns-in-Less-clause-rest
-returns-in-Less-clause-rest c e =
-    absurd (not_tied c.args.b.now c.args.a.now (less_turned c.args.a.now c.args.b.now
-    (sym c.compare_numbers-numbers.ensures.order ∙ c.in-Less.is))
-    (sym c.compare_greater-in-Less.ensures ∙ tie_reversed _ (sym (c.new-in-Less.ensures.order ∙ c.reverse.ensures) ∙ e)))
-
-pub returns-in-Less-clause-other_rest : goal.returns-in-Less-clause-other_rest
-returns-in-Less-clause-other_rest c e =
-    absurd (not_tied c.args.b.now c.args.a.now (less_turned c.args.a.now c.args.b.now
-    (sym c.compare_numbers-numbers.ensures.order ∙ c.in-Less.is))
-    (sym c.compare_greater-in-Less.ensures ∙ tie_reversed _ (sym (c.new-in-Less.ensures.order ∙ c.reverse.ensures) ∙ e)))
-
-pub returns-in-true-true-clause-order : goal.returns-in-true-true-clause-order
-returns-in-true-true-clause-order c =
+pub returns-in-true-true : goal.returns-in-true-true
+returns-in-true-true c =
+    let a = c.args.a.now in
+    let b = c.args.b.now in
     let numbers = c.compare_numbers-numbers.ensures in
-    let first =
-    digits_alone c.args.a.now _ (numbers.rest c.in-Equal.is) true c.in-true-true.ensures in
-    let second =
-    digits_alone c.args.b.now _ (numbers.other_rest c.in-Equal.is) true c.in-true-true.ensures' in
-    numbers.order ∙ sym (both_numbers c.args.a.now c.args.b.now first second)
-
-pub returns-in-true-true-clause-rest : goal.returns-in-true-true-clause-rest
-returns-in-true-true-clause-rest c e =
-    behind_number c.args.a.now _ (c.compare_numbers-numbers.ensures.rest e) c.in-true-true.ensures
-
-pub returns-in-true-true-clause-other_rest : goal.returns-in-true-true-clause-other_rest
-returns-in-true-true-clause-other_rest c e =
-    behind_number c.args.b.now _ (c.compare_numbers-numbers.ensures.other_rest e)
-    c.in-true-true.ensures'
+    let first = digits_alone a _ (numbers.rest c.in-Equal.is) true c.in-true-true.ensures in
+    let second = digits_alone b _ (numbers.other_rest c.in-Equal.is) true c.in-true-true.ensures' in
+    record {
+      order = numbers.order ∙ sym (both_numbers a b first second);
+      rest = λ e. behind_number a _ (c.compare_numbers-numbers.ensures.rest e)
+          c.in-true-true.ensures;
+      other_rest = λ e. behind_number b _ (c.compare_numbers-numbers.ensures.other_rest e)
+          c.in-true-true.ensures';
+    }
 
 pub returns-in-true-false-clause-order : goal.returns-in-true-false-clause-order
 returns-in-true-false-clause-order c =

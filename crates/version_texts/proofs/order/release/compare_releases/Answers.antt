@@ -15,14 +15,17 @@ others_cmp rest other =
 
 -- where the first chunks are equal, what follows them decides
 goes_on : (a b rest other : List ℕ) (o whole : Ordering)
-    → o ≡ chunk_cmp (chunk_of (first_piece a)) (chunk_of (first_piece b))
-    → false ≡ not (ordering_index o == 1) → (o ≡ Equal → rest ≡ behind_piece a)
-    → (o ≡ Equal → other ≡ behind_piece b) → release_cmp (chunks_of a) (chunks_of b) ≡ whole
+    → record {
+      order : o ≡ chunk_cmp (chunk_of (first_piece a)) (chunk_of (first_piece b));
+      rest : o ≡ Equal → rest ≡ behind_piece a;
+      other_rest : o ≡ Equal → other ≡ behind_piece b;
+    }
+    → false ≡ not (ordering_index o == 1) → release_cmp (chunks_of a) (chunks_of b) ≡ whole
     → others_cmp rest other ≡ whole
-goes_on a b rest other o whole e equal behind other_behind is =
+goes_on a b rest other o whole firsts equal is =
     let same = tied o equal in
-    sym (left is_dot chunk_of chunk_cmp release_cmp (λ x y xs ys. refl) a b rest other o e same
-    (behind same) (other_behind same)) ∙ is
+    sym (left is_dot chunk_of chunk_cmp release_cmp (λ x y xs ys. refl) a b rest other o
+    firsts.order same (firsts.rest same) (firsts.other_rest same)) ∙ is
 
 pub returns-then-ne : goal.returns-then-ne
 returns-then-ne c =
@@ -36,38 +39,30 @@ returns-then-ne c =
 
 pub returns-in-None-None : goal.returns-in-None-None
 returns-in-None-None c =
-    let chunks = c.compare_first_chunks-chunks in
     let first = further_of_none is_dot _ c.in-None-None.ensures.none in
     let second = further_of_none is_dot _ c.in-None-None.ensures'.none in
     (λ i. release_cmp (map chunk_of (sym first i)) (map chunk_of (sym second i)))
-    ∙ goes_on c.chunks.a.now c.chunks.b.now _ _ _ _ chunks.ensures.order
-    (sym c.if-ne.false ∙ c.ne.ensures) chunks.ensures.rest chunks.ensures.other_rest
-    c.chunks.invariant
+    ∙ goes_on c.chunks.a.now c.chunks.b.now _ _ _ _ c.compare_first_chunks-chunks.ensures
+    (sym c.if-ne.false ∙ c.ne.ensures) c.chunks.invariant
 
 pub returns-in-None-Some : goal.returns-in-None-Some
 returns-in-None-Some c =
-    let chunks = c.compare_first_chunks-chunks in
     sym (below is_dot chunk_of chunk_cmp _ _ _ c.in-None-Some.ensures.none
     c.in-None-Some.ensures'.some)
-    ∙ goes_on c.chunks.a.now c.chunks.b.now _ _ _ _ chunks.ensures.order
-    (sym c.if-ne.false ∙ c.ne.ensures) chunks.ensures.rest chunks.ensures.other_rest
-    c.chunks.invariant
+    ∙ goes_on c.chunks.a.now c.chunks.b.now _ _ _ _ c.compare_first_chunks-chunks.ensures
+    (sym c.if-ne.false ∙ c.ne.ensures) c.chunks.invariant
 
 pub returns-in-Some-None : goal.returns-in-Some-None
 returns-in-Some-None c =
-    let chunks = c.compare_first_chunks-chunks in
     sym (above is_dot chunk_of chunk_cmp _ _ _ c.in-Some-None.ensures.some
     c.in-Some-None.ensures'.none)
-    ∙ goes_on c.chunks.a.now c.chunks.b.now _ _ _ _ chunks.ensures.order
-    (sym c.if-ne.false ∙ c.ne.ensures) chunks.ensures.rest chunks.ensures.other_rest
-    c.chunks.invariant
+    ∙ goes_on c.chunks.a.now c.chunks.b.now _ _ _ _ c.compare_first_chunks-chunks.ensures
+    (sym c.if-ne.false ∙ c.ne.ensures) c.chunks.invariant
 
 pub chunks-preserved : goal.chunks-preserved
 chunks-preserved c =
-    let chunks = c.compare_first_chunks-chunks in
     let first = further_of_more is_dot _ _ c.in-Some-Some.ensures.some in
     let second = further_of_more is_dot _ _ c.in-Some-Some.ensures'.some in
     (λ i. release_cmp (map chunk_of (sym first i)) (map chunk_of (sym second i)))
-    ∙ goes_on c.chunks.a.now c.chunks.b.now _ _ _ _ chunks.ensures.order
-    (sym c.if-ne.false ∙ c.ne.ensures) chunks.ensures.rest chunks.ensures.other_rest
-    c.chunks.invariant
+    ∙ goes_on c.chunks.a.now c.chunks.b.now _ _ _ _ c.compare_first_chunks-chunks.ensures
+    (sym c.if-ne.false ∙ c.ne.ensures) c.chunks.invariant

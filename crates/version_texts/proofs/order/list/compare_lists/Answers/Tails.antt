@@ -107,16 +107,20 @@ module _ (kind : Ends) where
 
   -- two lists whose first parts are equal compare as what follows these
   pub first_equal : (a b rest more : List ℕ) (o whole : Ordering)
-      → o ≡ part_cmp (Some (part_key (before_first ends a))) (Some (part_key (before_first ends b)))
-      → false ≡ not (ordering_index o == 1) → (o ≡ Equal → rest ≡ from_first ends a)
-      → (o ≡ Equal → more ≡ from_first ends b) → sections_cmp (lists a) (lists b) ≡ whole
+      → record {
+        order : o ≡ part_cmp (Some (part_key (before_first ends a)))
+            (Some (part_key (before_first ends b)));
+        rest : o ≡ Equal → rest ≡ from_first ends a;
+        other_rest : o ≡ Equal → more ≡ from_first ends b;
+      }
+      → false ≡ not (ordering_index o == 1) → sections_cmp (lists a) (lists b) ≡ whole
       → (others_cmp rest more ≡ whole) × (begins inside rest ≡ false)
       × (begins inside more ≡ false)
-  first_equal a b rest more o whole e equal behind other_behind is =
+  first_equal a b rest more o whole firsts equal is =
       let same = tied o equal in
-      let here = behind same in
-      let there = other_behind same in (
-        (λ i. others_cmp (here i) (there i)) ∙ leaves o _ _ _ e (compared a b) same ∙ is,
+      let here = firsts.rest same in
+      let there = firsts.other_rest same in (
+        (λ i. others_cmp (here i) (there i)) ∙ leaves o _ _ _ firsts.order (compared a b) same ∙ is,
         ended_there a rest here,
         ended_there b more there,
       )
