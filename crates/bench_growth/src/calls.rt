@@ -1,68 +1,48 @@
-//! The calls that are timed.
+//! The calls that are timed. All results are checked, so that no call can be optimized away; a wrong result is an error.
 
+use crate::watch::Watch;
 use std::hash::{DefaultHasher, Hash, Hasher};
 use std::io;
 use std::io::ErrorKind;
-use std::time::{CpuClock, Duration};
-use version_tasks::{Stability, next_of, stability_of, version_in_tag};
-use version_texts::{Difference, VersioningRef};
+use version_tasks::{Stability, next_of, stability_of, version_after_prefix, version_in_tag};
+use version_texts::{
+    Difference, RangeRef, RequirementsRef, VersioningRef, conflict_in, list_matches, why_not,
+};
 use versions::Versioning;
 
-/// How many calls are timed.
-pub const COUNT: usize = 14;
-
-/// The names of the calls, in the order of their times.
-pub const NAMES: [&str; COUNT] = [
-    "read",
-    "printed",
-    "keyed",
-    "spelled_key",
-    "appended_key",
-    "cloned",
-    "precedence",
-    "cmp",
-    "hashed",
-    "in_tag",
-    "stability",
-    "difference",
-    "next",
-    "dropped",
-];
-
-/// Returns the time of each call on a text. All results are checked, so that no call can be optimized away; a wrong
-/// result is an error.
-pub fn times(rt: &HostRuntime, text: &str) -> io::Result<[Duration; COUNT]> {
-    let mut watch = Watch::start(rt)?;
+/// Times each call on the text of a version.
+pub fn on_version(rt: &HostRuntime, watch: &mut Watch<'_>, text: &str) -> io::Result<()> {
+    watch.start()?;
     let version = Versioning::new(rt.alloc(), text)?.ok_or(ErrorKind::InvalidInput)?;
-    let read = watch.lap(rt)?;
+    watch.lap("read")?;
     let text_again = version.to_string(rt.alloc())?;
-    let printed = watch.lap(rt)?;
+    watch.lap("printed")?;
     let key = version.sort_key(rt.alloc())?;
-    let keyed = watch.lap(rt)?;
+    watch.lap("keyed")?;
     let spelled = VersioningRef::new(text).ok_or(ErrorKind::InvalidInput)?;
     let from_text = spelled.compare_key(key.as_slice()).is_eq();
-    let spelled_key = watch.lap(rt)?;
+    watch.lap("spelled_key")?;
     let mut block = Vec::new(rt.alloc());
     let spelled = VersioningRef::new(text).ok_or(ErrorKind::InvalidInput)?;
     spelled.append_key(&mut block)?;
-    let appended_key = watch.lap(rt)?;
+    watch.lap("appended_key")?;
     let copy = version.clone(rt.alloc())?;
-    let cloned = watch.lap(rt)?;
+    watch.lap("cloned")?;
     let tie = version.precedence(&copy).is_eq();
-    let precedence = watch.lap(rt)?;
+    watch.lap("precedence")?;
     let same = version.cmp(&copy).is_eq();
-    let cmp = watch.lap(rt)?;
+    watch.lap("cmp")?;
     let hash = hash_of(&version);
-    let hashed = watch.lap(rt)?;
+    watch.lap("hashed")?;
     let tagged = version_in_tag(text.as_bytes());
-    let in_tag = watch.lap(rt)?;
+    watch.lap("in_tag")?;
     let stable = stability_of(&spelled) == Stability::Stable;
-    let stability = watch.lap(rt)?;
+    watch.lap("stability")?;
     let again = VersioningRef::new(text_again.as_str()).ok_or(ErrorKind::InvalidInput)?;
     let unchanged = spelled.difference(&again) == Difference::Same;
-    let difference = watch.lap(rt)?;
+    watch.lap("difference")?;
     let following = next_of(&spelled, 0);
-    let next = watch.lap(rt)?;
+    watch.lap("next")?;
 
     let right = text_again.as_str() == text && from_text && block == key && tie && same;
     let right_tag = tagged.is_none_or(|found| found == spelled);
@@ -71,46 +51,54 @@ pub fn times(rt: &HostRuntime, text: &str) -> io::Result<[Duration; COUNT]> {
         return Err(ErrorKind::InvalidData.into());
     }
 
-    watch.lap(rt)?;
+    watch.go_on()?;
     drop(copy);
-    let dropped = watch.lap(rt)?;
-    Ok([
-        read,
-        printed,
-        keyed,
-        spelled_key,
-        appended_key,
-        cloned,
-        precedence,
-        cmp,
-        hashed,
-        in_tag,
-        stability,
-        difference,
-        next,
-        dropped,
-    ])
+    watch.lap("dropped")
 }
 
-/// Returns the processor's time since the last reading; other work on the machine adds little to it.
-#[derive(Drop)]
-pub struct Watch {
-    last: Duration,
+/// Times each call on a list and a version that all its members match.
+pub fn on_list(
+    rt: &HostRuntime,
+    watch: &mut Watch<'_>,
+    text: &str,
+    version: &str,
+) -> io::Result<()> {
+    let version = VersioningRef::new(version).ok_or(ErrorKind::InvalidInput)?;
+    watch.start()?;
+    let list = RequirementsRef::new(text).ok_or(ErrorKind::InvalidInput)?;
+    watch.lap("list_read")?;
+    let all = list.matches(&version);
+    watch.lap("list_matches")?;
+    let asked = list_matches(text.as_bytes(), &version);
+    watch.lap("list_asked_once")?;
+    let range = RangeRef::from_bytes(text.as_bytes()).ok_or(ErrorKind::InvalidInput)?;
+    watch.lap("list_range")?;
+    // The last member excludes the version, and each other member.
+    let mut closed = String::from_str(rt.alloc(), text)?;
+    closed.push_str(",<0")?;
+    watch.go_on()?;
+    let is_excluded = matches!(why_not(closed.as_bytes(), &version), Some(Some(_)));
+    watch.lap("list_why_not")?;
+    let is_empty = matches!(conflict_in(closed.as_bytes()), Some(Some(_)));
+    watch.lap("list_conflict")?;
+    if !all || asked != Some(true) || !range.has(&version) || !is_excluded || !is_empty {
+        return Err(ErrorKind::InvalidData.into());
+    }
+    Ok(())
 }
 
-impl Watch {
-    pub fn start(clock: &impl CpuClock) -> io::Result<Watch> {
-        Ok(Watch {
-            last: clock.thread_cpu_time()?,
-        })
+/// Times each call on a tag, of which all but the last byte are the prefix. A version is an error.
+pub fn on_tag(watch: &mut Watch<'_>, tag: &[u8]) -> io::Result<()> {
+    let (_, prefix) = tag.split_last().ok_or(ErrorKind::InvalidInput)?;
+    watch.start()?;
+    let found = version_in_tag(tag).is_some();
+    watch.lap("in_tag")?;
+    let found_after = version_after_prefix(prefix, tag).is_some();
+    watch.lap("after_prefix")?;
+    if found || found_after {
+        return Err(ErrorKind::InvalidData.into());
     }
-
-    pub fn lap(&mut self, clock: &impl CpuClock) -> io::Result<Duration> {
-        let now = clock.thread_cpu_time()?;
-        let taken = now.saturating_sub(self.last);
-        self.last = now;
-        Ok(taken)
-    }
+    Ok(())
 }
 
 fn hash_of(version: &Versioning) -> u64 {

@@ -4,16 +4,13 @@
 #![tactic(auto)]
 
 mod calls;
-mod lists;
-mod shape;
-mod tags;
+mod watch;
 
-use calls::{COUNT, NAMES, times};
-use lists::List;
-use shape::Shape;
+use calls::{on_list, on_tag, on_version};
+use std::alloc::{AllocError, Global};
 use std::num::nearest_usize_to_f64;
-use std::time::Duration;
 use std::{env, io};
+use watch::Watch;
 
 const USAGE: &str =
     "usage: bench_growth SHAPE MEGABYTES, or bench_growth check; SHAPE is signs, letters, dots, \
@@ -23,6 +20,26 @@ const ROUNDS: u8 = 3;
 
 // The length of a short text in bytes.
 const FEW: usize = 19;
+
+// The shapes of versions: sections of a messy version, each inside the one before it, one part of a general version, many
+// parts, and the metadata of a strict version. A text begins with the first piece, and goes on with the second.
+const VERSIONS: [(&str, &str, &str); 4] = [
+    ("signs", "1", "_1"),
+    ("letters", "a", "a"),
+    ("dots", "1", ".1"),
+    ("metadata", "1.2.3+a", "a"),
+];
+
+// The shapes of lists, each with a version that all members match: the pieces of both, and the version's end.
+const LISTS: [(&str, [&str; 5]); 4] = [
+    ("zeros", [">0", ",>0", "0", "0", "1"]),
+    ("digits", [">1.0", ",>1.0", "1.9", "9", ""]),
+    ("words", [">=1a", ",>=1a", "1a", "a", ""]),
+    ("epochs", [">0:0", ",>0:0", "0", "0", "1:1"]),
+];
+
+// The shape of a tag in which no version begins.
+const TAG: &str = "signs_of_a_tag";
 
 fn main(rt: HostRuntime) -> io::Result<()> {
     let words: Vec<String> = env::args(&rt)?.skip(1).collect(rt.alloc())?;
@@ -34,51 +51,39 @@ fn main(rt: HostRuntime) -> io::Result<()> {
     let Some((name, bytes)) = wanted(words.as_slice()) else {
         return println!(rt; "{USAGE}");
     };
-    if let Some(shape) = Shape::named(name) {
-        let text = shape.text(rt.alloc(), bytes)?;
-        let best = best_times(&rt, text.as_str())?;
-        return print(&rt, &NAMES, &best, text.len());
+    let mut watch = Watch::new(&rt)?;
+    let mut length = None;
+    for _ in 0..ROUNDS {
+        length = make_calls(&rt, &mut watch, name, bytes)?.map(|texts| texts.1);
     }
-    if let Some(list) = List::named(name) {
-        let (text, version) = (
-            list.text(rt.alloc(), bytes)?,
-            list.version(rt.alloc(), bytes)?,
-        );
-        let best = best_list_times(&rt, text.as_str(), version.as_str())?;
-        return print(&rt, &lists::NAMES, &best, text.len());
+    let Some(length) = length else {
+        return println!(rt; "{USAGE}");
+    };
+    for (call, time) in &watch.least {
+        let of_a_byte = time.as_secs_f64() * 1e9 / nearest_usize_to_f64(length);
+        println!(rt; "{call} {of_a_byte:.2}")?;
     }
-    if name == tags::NAME {
-        let tag = tags::text(rt.alloc(), bytes)?;
-        let best = best_tag_times(&rt, tag.as_str())?;
-        return print(&rt, &tags::NAMES, &best, tag.len());
-    }
-    println!(rt; "{USAGE}")
+    Ok(())
 }
 
 // Prints a line for each shape, with a short text and the calls whose results were checked.
 fn check(rt: &HostRuntime) -> io::Result<()> {
-    for (name, shape) in shape::ALL {
-        let text = shape.text(rt.alloc(), FEW)?;
-        times(rt, text.as_str())?;
-        print!(rt; "{name} {text}:")?;
-        for call in NAMES {
-            print!(rt; " {call}")?;
-        }
-        println!(rt)?;
+    for (name, _, _) in VERSIONS {
+        check_shape(rt, name)?;
     }
-    for (name, list) in lists::ALL {
-        let (text, version) = (list.text(rt.alloc(), FEW)?, list.version(rt.alloc(), FEW)?);
-        lists::times(rt, text.as_str(), version.as_str())?;
-        print!(rt; "{name} {text} {version}:")?;
-        for call in lists::NAMES {
-            print!(rt; " {call}")?;
-        }
-        println!(rt)?;
+    for (name, _) in LISTS {
+        check_shape(rt, name)?;
     }
-    let tag = tags::text(rt.alloc(), FEW)?;
-    tags::times(rt, tag.as_str())?;
-    print!(rt; "{} {tag}:", tags::NAME)?;
-    for call in tags::NAMES {
+    check_shape(rt, TAG)
+}
+
+fn check_shape(rt: &HostRuntime, name: &str) -> io::Result<()> {
+    let mut watch = Watch::new(rt)?;
+    let Some((texts, _)) = make_calls(rt, &mut watch, name, FEW)? else {
+        return Ok(());
+    };
+    print!(rt; "{name} {texts}:")?;
+    for (call, _) in &watch.least {
         print!(rt; " {call}")?;
     }
     println!(rt)
@@ -95,51 +100,50 @@ fn wanted(words: &[String]) -> Option<(&str, usize)> {
     }
 }
 
-// Returns the least time of each call in a few rounds.
-fn best_times(rt: &HostRuntime, text: &str) -> io::Result<[Duration; COUNT]> {
-    let mut best = [Duration::MAX; COUNT];
-    for _ in 0..ROUNDS {
-        let taken = times(rt, text)?;
-        for (least, time) in best.iter_mut().zip(taken.iter()) {
-            *least = (*least).min(*time);
-        }
-    }
-    Ok(best)
-}
-
-// The same for a list and a version.
-fn best_list_times(
+// Makes the calls on a text of the shape. Returns the text, after that of a list the version, and the text's length.
+fn make_calls(
     rt: &HostRuntime,
-    text: &str,
-    version: &str,
-) -> io::Result<[Duration; lists::COUNT]> {
-    let mut best = [Duration::MAX; lists::COUNT];
-    for _ in 0..ROUNDS {
-        let taken = lists::times(rt, text, version)?;
-        for (least, time) in best.iter_mut().zip(taken.iter()) {
-            *least = (*least).min(*time);
+    watch: &mut Watch<'_>,
+    name: &str,
+    bytes: usize,
+) -> io::Result<Option<(String, usize)>> {
+    for (shape, front, further) in VERSIONS {
+        if shape == name {
+            let text = filled(rt.alloc(), front, further, bytes)?;
+            on_version(rt, watch, text.as_str())?;
+            let length = text.len();
+            return Ok(Some((text, length)));
         }
     }
-    Ok(best)
-}
-
-// The same for a tag.
-fn best_tag_times(rt: &HostRuntime, tag: &str) -> io::Result<[Duration; tags::COUNT]> {
-    let mut best = [Duration::MAX; tags::COUNT];
-    for _ in 0..ROUNDS {
-        let taken = tags::times(rt, tag)?;
-        for (least, time) in best.iter_mut().zip(taken.iter()) {
-            *least = (*least).min(*time);
+    for (shape, [member, further_member, front, further, end]) in LISTS {
+        if shape == name {
+            let mut text = filled(rt.alloc(), member, further_member, bytes)?;
+            let mut version = filled(rt.alloc(), front, further, bytes)?;
+            version.push_str(end)?;
+            on_list(rt, watch, text.as_str(), version.as_str())?;
+            let length = text.len();
+            text.push_str(" ")?;
+            text.push_str(version.as_str())?;
+            return Ok(Some((text, length)));
         }
     }
-    Ok(best)
+    if name != TAG {
+        return Ok(None);
+    }
+    let text = filled(rt.alloc(), "-", "v-", bytes)?;
+    on_tag(watch, text.as_bytes())?;
+    let length = text.len();
+    Ok(Some((text, length)))
 }
 
-// Prints a line for each call, with the nanoseconds for each byte.
-fn print(rt: &HostRuntime, names: &[&str], times: &[Duration], bytes: usize) -> io::Result<()> {
-    for (name, time) in names.iter().zip(times.iter()) {
-        let of_a_byte = time.as_secs_f64() * 1e9 / nearest_usize_to_f64(bytes);
-        println!(rt; "{name} {of_a_byte:.2}")?;
+// Returns a text that goes on as it began, of as many bytes or a few more.
+fn filled(alloc: Global, front: &str, further: &str, bytes: usize) -> Result<String, AllocError> {
+    let mut text = String::from_str(alloc, front)?;
+    for _ in 0..bytes {
+        if text.len() >= bytes {
+            break;
+        }
+        text.push_str(further)?;
     }
-    Ok(())
+    Ok(text)
 }

@@ -1,17 +1,24 @@
-//! Tests of versions and their parts as texts: which texts parse, what is printed, and their forms in JSON.
+//! Tests of versions and requirements, owned and borrowed: what is read and printed, forms in JSON, orders, keys, hashes,
+//! matches, ranges, and what people ask of versions.
 #![tactic(auto)]
 
 #[cfg(test)]
-mod calls;
+mod debug;
 #[cfg(test)]
-mod general;
+mod forms;
 #[cfg(test)]
-mod json;
+mod hashes;
 #[cfg(test)]
-mod json_forms;
+mod keys;
 #[cfg(test)]
-mod messy;
+mod matching;
 #[cfg(test)]
-mod strict;
+mod order;
 #[cfg(test)]
-mod versioning;
+mod printed;
+#[cfg(test)]
+mod ranges;
+#[cfg(test)]
+mod tasks;
+#[cfg(test)]
+mod texts;

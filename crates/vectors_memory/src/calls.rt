@@ -2,14 +2,12 @@
 //! the file `stdout`.
 
 mod any;
-mod general;
 mod json;
+mod kinds;
 mod lines;
-mod messy;
 mod parts;
 mod requirements;
 mod scans;
-mod strict;
 
 use std::io;
 use vectors_table::Table;
@@ -17,9 +15,7 @@ use vectors_table::Table;
 pub fn make_all(table: &mut Table<'_>) -> io::Result<()> {
     parts::make_all(table)?;
     scans::make_all(table)?;
-    strict::make_all(table)?;
-    general::make_all(table)?;
-    messy::make_all(table)?;
+    kinds::make_all(table)?;
     any::make_all(table)?;
     requirements::make_all(table)?;
     json::make_all(table)?;

@@ -2,136 +2,62 @@
 //! that it refuses.
 
 use crate::held::HeldFiles;
-use crate::runs::Run;
+use crate::runs::{make_each, make_run};
 use std::alloc::{AllocError, Global};
 use std::io;
 use vectors_table::{Table, Taker};
 use version_commands::{Fault, Task, quoted, serve};
 use version_words::{WordsFault, read_words};
 
-static ROWS: [Run<'static>; 40] = [
-    Run(&["sort"], "1.10\n1.9\n1.10rc1", "1.9\n1.10rc1\n1.10\n"),
-    Run(
-        &["sort", "-r", "-u", "-k", "2", "-t", ","],
-        "a,1.0\nb,1.10\nc,0:1.0\nd,1.9\n",
-        "b,1.10\nd,1.9\na,1.0\n",
-    ),
-    Run(
-        &["sort", "-t,", "-k2", "table", "-"],
-        "down,1.2",
-        "down,1.2\nright,1.9\nup,1.10rc1\nleft,1.10\n",
-    ),
-    Run(
-        &["sort", "--tags"],
-        "v2.0.0-beta.1\nv1.10.0\nv1.9.0\n",
-        "v1.9.0\nv1.10.0\nv2.0.0-beta.1\n",
-    ),
-    Run(
-        &["sort", "-z", "--prefix", "go"],
-        "go1.20.3\0go1.9\0",
-        "go1.9\0go1.20.3\0",
-    ),
-    Run(
-        &["sort", "--invalid", "first"],
-        "1.1\nx y\n1.0\n",
-        "x y\n1.0\n1.1\n",
-    ),
-    Run(
-        &["sort", "--invalid", "last"],
-        "1.1\nx y\n1.0\n",
-        "1.0\n1.1\nx y\n",
-    ),
-    Run(
-        &["sort", "--invalid-to", "others"],
-        "1.1\nx y\n1.0\n",
-        "1.0\n1.1\n",
-    ),
-    Run(
-        &["newest", "-n", "2", "-g", "1", "-k", "2"],
-        "left 1.9\nup 2.0\nleft 1.10\nleft 1.8\n",
-        "left 1.10\nleft 1.9\nup 2.0\n",
-    ),
-    Run(
-        &["newest", "-n", "2", "--match", "<2"],
-        "1.9\n1.11\n1.10\n2.0\n",
-        "1.11\n1.10\n",
-    ),
-    Run(
-        &["newest", "--tags", "--min-stability", "stable"],
-        "v1.9.0\nv2.0.0-beta.1\nv1.10.0\n",
-        "v1.10.0\n",
-    ),
-    Run(&["filter", ">=1.2,<2"], "1.1\n1.2\nx y\n2.0\n", "1.2\n"),
-    Run(
-        &["filter", "-v", ">=1.2,<2"],
-        "1.1\n1.2\nx y\n2.0\n",
-        "1.1\n2.0\n",
-    ),
-    Run(
-        &["show", "1:2.0-3"],
-        "",
-        "1:2.0-3\n  kind: general\n  epoch: 1\n  major: 2\n  minor: 0\n  release: 3\n  stability: stable\n",
-    ),
-    Run(
-        &["show", "--json", "1.2.0-rc.1"],
-        "",
-        "{\"version\":\"1.2.0-rc.1\",\"kind\":\"ideal\",\"epoch\":null,\"major\":1,\"minor\":2,\"patch\":0,\"pre_release\":\"rc.1\",\"release\":null,\"metadata\":null,\"stability\":\"rc\"}\n",
-    ),
-    Run(
-        &["key", "--crlf"],
-        "1.2.3\r\n",
-        "000301310203013202030133020202\n",
-    ),
-    Run(
-        &["why", ">=1.5,<2", "1.4", "1.6"],
-        "",
-        "1.4 is below >=1.5\n1.6 matches\n",
-    ),
-    Run(&["next", "minor", "1.2.5"], "", "1.3.0\n"),
-    Run(&["test", "1.10", "gt", "1.9"], "", ""),
-    Run(&["test", "1.10", ">=1.2,<2"], "", ""),
-    Run(
-        &["compare", "--explain", "1.10", "1.9"],
-        "",
-        "> they differ first in part 1\n",
-    ),
-    Run(&["diff", "1.2.3", "1.2.3-rc.1"], "", "tail\n"),
-    Run(
-        &["diff", "--lists", "old", "new"],
-        "",
-        "raised left 1.2 1.3\nlowered right 2.0 1.9\nremoved up 1.0\nadded down 0.1\n",
-    ),
-    Run(&["--version"], "", "versions 0.1.0\n"),
-    Run(&["key", "--help"], "", HELP_OF_KEY),
-    Run(&["--help"], "", HELP),
-    Run(&["sort", "-t", "ab"], "", ""),
-    Run(
-        &["sort", "--invalid-to", "others", "--invalid", "last"],
-        "",
-        "",
-    ),
-    Run(&["test", "1", "gte", "1"], "", ""),
-    Run(&["test", "1.9", ">", "1.10"], "", ""),
-    Run(&["test", "1", "lt", "x y"], "", ""),
-    Run(&["sort"], "1.1\nx y\n1.0\n", ""),
-    Run(&["show"], "1.0\r\n", ""),
-    Run(&["key", "1..2"], "", ""),
-    Run(&["filter", ">=1.0,"], "1.0\n", ""),
-    Run(&["next", "3", "1.2.3"], "", ""),
-    Run(&["compare", "1", "."], "", ""),
-    Run(&["sort", "missing"], "", ""),
-    Run(&["diff", "--lists", "old", "missing"], "", ""),
-    Run(&["sort", "--invalid-to", "full"], "1.0\n", ""),
+const ROWS: [&str; 38] = [
+    "sort|1.10\n1.9\n1.10rc1|1.9\n1.10rc1\n1.10\n",
+    "sort -r -u -k 2 -t ,|a,1.0\nb,1.10\nc,0:1.0\nd,1.9\n|b,1.10\nd,1.9\na,1.0\n",
+    "sort -t, -k2 table -|down,1.2|down,1.2\nright,1.9\nup,1.10rc1\nleft,1.10\n",
+    "sort --tags|v2.0.0-beta.1\nv1.10.0\nv1.9.0\n|v1.9.0\nv1.10.0\nv2.0.0-beta.1\n",
+    "sort -z --prefix go|go1.20.3\0go1.9\0|go1.9\0go1.20.3\0",
+    "sort --invalid first|1.1\nx y\n1.0\n|x y\n1.0\n1.1\n",
+    "sort --invalid last|1.1\nx y\n1.0\n|1.0\n1.1\nx y\n",
+    "sort --invalid-to others|1.1\nx y\n1.0\n|1.0\n1.1\n",
+    "newest -n 2 -g 1 -k 2|left 1.9\nup 2.0\nleft 1.10\nleft 1.8\n|left 1.10\nleft 1.9\nup 2.0\n",
+    "newest -n 2 --match <2|1.9\n1.11\n1.10\n2.0\n|1.11\n1.10\n",
+    "newest --tags --min-stability stable|v1.9.0\nv2.0.0-beta.1\nv1.10.0\n|v1.10.0\n",
+    "filter >=1.2,<2|1.1\n1.2\nx y\n2.0\n|1.2\n",
+    "filter -v >=1.2,<2|1.1\n1.2\nx y\n2.0\n|1.1\n2.0\n",
+    "show 1:2.0-3||1:2.0-3\n  kind: general\n  epoch: 1\n  major: 2\n  minor: 0\n  release: 3\n  stability: stable\n",
+    "show --json 1.2.0-rc.1||{\"version\":\"1.2.0-rc.1\",\"kind\":\"ideal\",\"epoch\":null,\"major\":1,\"minor\":2,\"patch\":0,\"pre_release\":\"rc.1\",\"release\":null,\"metadata\":null,\"stability\":\"rc\"}\n",
+    "key --crlf|1.2.3\r\n|000301310203013202030133020202\n",
+    "why >=1.5,<2 1.4 1.6||1.4 is below >=1.5\n1.6 matches\n",
+    "next minor 1.2.5||1.3.0\n",
+    "test 1.10 gt 1.9",
+    "test 1.10 >=1.2,<2",
+    "compare --explain 1.10 1.9||> they differ first in part 1\n",
+    "diff 1.2.3 1.2.3-rc.1||tail\n",
+    "diff --lists old new||raised left 1.2 1.3\nlowered right 2.0 1.9\nremoved up 1.0\nadded down 0.1\n",
+    "--version||versions 0.1.0\n",
+    "sort -t ab",
+    "sort --invalid-to others --invalid last",
+    "test 1 gte 1",
+    "test 1.9 > 1.10",
+    "test 1 lt x_y",
+    "sort|1.1\nx y\n1.0\n",
+    "show|1.0\r\n",
+    "key 1..2",
+    "filter >=1.0,|1.0\n",
+    "next 3 1.2.3",
+    "compare 1 .",
+    "sort missing",
+    "diff --lists old missing",
+    "sort --invalid-to full|1.0\n",
 ];
 
 // Words of which one is nearly right. Where a similar one is looked for, letters are collected, and a list of them that
 // is refused is tried again with room for fewer.
-static MISSPELT: [Run<'static>; 5] = [
-    Run(&["sotr"], "", ""),
-    Run(&["kye", "1"], "", ""),
-    Run(&["sort", "--revers"], "", ""),
-    Run(&["sort", "--min-stability", "tc"], "", ""),
-    Run(&["next", "mino", "1.2"], "", ""),
+const MISSPELT: [&str; 5] = [
+    "sotr",
+    "kye 1",
+    "sort --revers",
+    "sort --min-stability tc",
+    "next mino 1.2",
 ];
 
 const HELP: &str = "Sorts, filters and explains version numbers of mixed shapes
@@ -177,18 +103,14 @@ Example:
 ";
 
 pub fn make_all(table: &mut Table<'_>) -> io::Result<()> {
-    make_each(table, "version_words::run", &ROWS)?;
+    let name = "version_words::run";
+    table.prints(|rt| make_run(rt, name, "key --help", "", HELP_OF_KEY))?;
+    table.prints(|rt| make_run(rt, name, "--help", "", HELP))?;
+    make_each(table, name, &ROWS)?;
     make_each(table, "version_words::run, with retries", &MISSPELT)?;
     table.reads("version_commands::quoted", "1.2\t", quoted_text)?;
     table.borrows("version_words::read_words", "1.2", key_words, task_text)?;
     table.borrows("version_commands::serve", "1.9", comparison, serve_task)
-}
-
-fn make_each(table: &mut Table<'_>, name: &str, runs: &[Run<'_>]) -> io::Result<()> {
-    for run in runs {
-        table.prints(|rt| run.of_versions(rt, name))?;
-    }
-    Ok(())
 }
 
 fn quoted_text(alloc: Global, text: &str) -> Result<String, AllocError> {

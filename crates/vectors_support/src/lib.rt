@@ -1,4 +1,4 @@
-//! Helpers of tests: texts, the values that texts parse as, and checks of values.
+//! Helpers of tests: rows of tables, the values that texts parse as, and checks of values.
 #![tactic(auto)]
 
 use serde::DeserializeOwned;
@@ -7,21 +7,40 @@ use std::alloc::{AllocError, Global};
 use std::fmt::{Debug, Display};
 use std::hash::{DefaultHasher, Hash, Hasher};
 use std::test::Fail;
-use versions::key::compare_bytes;
-use versions::{Mess, SemVer, Version, Versioning};
+use versions::{Mess, Versioning};
 
-/// Returns a text repeated so many times, and then an end.
-pub fn repeated(
-    rt: &impl AllocGlobal,
-    text: &str,
-    count: u32,
-    end: &str,
-) -> Result<String, AllocError> {
-    let mut long = String::new(rt.alloc());
-    for _ in 0..count {
-        long.push_str(text)?;
+/// Fails if a call's answer to what a row gives, which ends at the first `|`, isn't the rest of the row.
+pub fn each<C>(rt: &impl AllocGlobal, rows: &str, call: C) -> Result<(), Fail>
+where
+    C: Fn(&str) -> Result<String, Fail> + Drop,
+    requires { C.IsAlwaysCallable call }
+{
+    for row in rows.lines() {
+        let (given, wanted) = row.split_once('|').ok_or("no answer")?;
+        let answer = call(given)?;
+        holds(
+            answer.as_str() == wanted,
+            format_args!("`{given}` gives {answer}, and not {wanted}"),
+        )?;
     }
-    long.push_str(end)?;
+    Ok(())
+}
+
+/// Returns a text in which `[1.*3]` stands for `1.1.1.`.
+pub fn expanded(rt: &impl AllocGlobal, text: &str) -> Result<String, Fail> {
+    let mut long = String::new(rt.alloc());
+    for piece in text.split('[') {
+        match piece.split_once(']') {
+            Some((repeated, rest)) => {
+                let (unit, count) = repeated.split_once('*').ok_or("no count")?;
+                for _ in 0..count.parse::<u32>()? {
+                    long.push_str(unit)?;
+                }
+                long.push_str(rest)?;
+            }
+            None => long.push_str(piece)?,
+        }
+    }
     Ok(long)
 }
 
@@ -47,25 +66,14 @@ pub fn form<T: DeserializeOwned + Drop>(rt: &impl AllocGlobal, document: &str) -
     Ok(serde_json::from_value(rt.alloc(), value)?)
 }
 
-pub fn strict(rt: &impl AllocGlobal, text: &str) -> Result<SemVer, Fail> {
-    let version = SemVer::new(rt.alloc(), text)?;
-    Ok(version.ok_or("no strict version")?)
-}
-
-pub fn general(rt: &impl AllocGlobal, text: &str) -> Result<Version, Fail> {
-    let version = Version::new(rt.alloc(), text)?;
-    Ok(version.ok_or("no general version")?)
-}
-
-pub fn messy(rt: &impl AllocGlobal, text: &str) -> Result<Mess, Fail> {
-    let version = Mess::new(rt.alloc(), text)?;
-    Ok(version.ok_or("no messy version")?)
+/// Returns the value that was read, which there has to be.
+pub fn read<T: Drop>(answer: Result<Option<T>, AllocError>) -> Result<T, Fail> {
+    Ok(answer?.ok_or("not read")?)
 }
 
 /// Returns the version of a text, which has to parse.
 pub fn any(rt: &impl AllocGlobal, text: &str) -> Result<Versioning, Fail> {
-    let version = Versioning::new(rt.alloc(), text)?;
-    Ok(version.ok_or("no version")?)
+    read(Versioning::new(rt.alloc(), text))
 }
 
 /// Returns a version converted to a messy version, or a copy if it is messy.
@@ -75,18 +83,6 @@ pub fn as_messy(alloc: Global, version: &Versioning) -> Result<Mess, AllocError>
         Versioning::General(general) => general.to_mess(alloc),
         Versioning::Complex(complex) => complex.clone(alloc),
     }
-}
-
-pub fn kind_of(version: &Versioning) -> &'static str {
-    match version {
-        Versioning::Ideal(_) => "ideal",
-        Versioning::General(_) => "general",
-        Versioning::Complex(_) => "complex",
-    }
-}
-
-pub fn printed(rt: &impl AllocGlobal, value: &impl Display) -> Result<String, AllocError> {
-    value.to_string(rt.alloc())
 }
 
 /// Returns the `Debug` text of a value.
@@ -107,7 +103,7 @@ pub fn answered<T: Debug + Drop, E: Display + Debug + Drop>(
 
 /// Fails if a value prints as another text.
 pub fn prints(rt: &impl AllocGlobal, value: &impl Display, wanted: &str) -> Result<(), Fail> {
-    let text = printed(rt, value)?;
+    let text = value.to_string(rt.alloc())?;
     holds(
         text.as_str() == wanted,
         format_args!("`{text}` is printed for `{wanted}`"),
@@ -128,43 +124,9 @@ pub fn key(rt: &impl AllocGlobal, version: &Versioning, wanted: &[u8]) -> Result
         bytes.push(byte)?;
     }
     holds(
-        list.as_slice() == wanted,
-        format_args!("the key of {version} in a list"),
-    )?;
-    holds(
-        bytes.as_slice() == wanted,
-        format_args!("the key of {version} byte by byte"),
+        list.as_slice() == wanted && bytes.as_slice() == wanted,
+        format_args!("the key of {version} is {list:?}, and byte by byte {bytes:?}"),
     )
-}
-
-/// Fails if the first version is not below the second in precedence, `Ord` and keys, or if they hash alike.
-pub fn are_ordered(
-    rt: &impl AllocGlobal,
-    lower: &Versioning,
-    upper: &Versioning,
-) -> Result<(), Fail> {
-    holds(lower.precedence(upper).is_lt(), "precedence")?;
-    holds(lower.cmp(upper).is_lt(), "`Ord`")?;
-    holds(lower != upper, "`==`")?;
-    holds(hash_of(lower) != hash_of(upper), "the hash")?;
-    let answer = compare_bytes(&mut lower.key_bytes(), &mut upper.key_bytes());
-    holds(answer.is_lt(), "the order of the bytes of the keys")?;
-    let lower = lower.sort_key(rt.alloc())?;
-    let upper = upper.sort_key(rt.alloc())?;
-    holds(lower.as_slice() < upper.as_slice(), "the order of the keys")
-}
-
-/// Fails if two values of a list hash alike.
-pub fn are_apart(hashes: &[u64]) -> Result<(), Fail> {
-    for (at, one) in hashes.iter().enumerate() {
-        for (place, other) in hashes.iter().enumerate() {
-            holds(
-                (one == other) == (at == place),
-                format_args!("the hashes of values {at} and {place}"),
-            )?;
-        }
-    }
-    Ok(())
 }
 
 /// Fails with a name if a fact does not hold.

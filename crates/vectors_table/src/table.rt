@@ -24,12 +24,12 @@ impl<'a> Table<'a> {
         Ok(Table { rt, only, at: 0 })
     }
 
-    // Goes on to the next row, and returns whether to make its call.
-    fn makes_next(&mut self) -> bool {
+    // Goes on to the next row, and returns the runtime if its call is to be made.
+    fn next(&mut self) -> Option<&'a HostRuntime> {
         self.at = self.at.saturating_add(1);
         match self.only {
-            Some(only) => only == self.at,
-            None => true,
+            Some(only) if only != self.at => None,
+            _ => Some(self.rt),
         }
     }
 
@@ -41,12 +41,12 @@ impl<'a> Table<'a> {
         C: FnOnce(Global, &'t str) -> Result<T, E> + Drop,
         requires { C.IsAlwaysCallable call }
     {
-        if !self.makes_next() {
+        let Some(rt) = self.next() else {
             return Ok(());
-        }
-        print!(self.rt; "{name}: {text:?}")?;
-        let answer = call(self.rt.alloc(), text);
-        println!(self.rt; " gives {answer:?} and stays {text:?}")
+        };
+        print!(rt; "{name}: {text:?}")?;
+        let answer = call(rt.alloc(), text);
+        println!(rt; " gives {answer:?} and stays {text:?}")
     }
 
     /// Makes a call that borrows a value, which is read from a text.
@@ -66,75 +66,35 @@ impl<'a> Table<'a> {
         requires make { M.IsAlwaysCallable make }
         requires call { C.IsAlwaysCallable call }
     {
-        if !self.makes_next() {
+        let Some(rt) = self.next() else {
             return Ok(());
-        }
-        let Ok(value) = make(self.rt.alloc(), text) else {
-            return begins_not(self.rt, name);
         };
-        let lent = made(value)?;
-        print!(self.rt; "{name}: {lent:?}")?;
-        let answer = call(&lent, self.rt.alloc());
-        println!(self.rt; " gives {answer:?} and stays {lent:?}")
+        let Ok(value) = make(rt.alloc(), text) else {
+            return begins_not(rt, name);
+        };
+        let lent = value.ok_or(io::Error::from(ErrorKind::InvalidInput))?;
+        print!(rt; "{name}: {lent:?}")?;
+        let answer = call(&lent, rt.alloc());
+        println!(rt; " gives {answer:?} and stays {lent:?}")
     }
 
-    /// Makes a call that takes a value, which is read from a text, and returns it if an allocation fails.
-    pub fn takes<'t, B, T, E, M, C>(
-        &mut self,
-        name: &str,
-        text: &'t str,
-        make: M,
-        call: C,
-    ) -> io::Result<()>
+    /// Makes a call that borrows a text and appends to a list of one byte, and prints the list before the call and after
+    /// it.
+    pub fn appends<'t, E, C>(&mut self, name: &str, text: &'t str, call: C) -> io::Result<()>
     where
-        B: Debug + Drop,
-        T: Debug + Drop,
         E: Debug + Drop,
-        M: FnOnce(Global, &'t str) -> Result<Option<B>, AllocError> + Drop,
-        C: FnOnce(Global, B) -> Result<T, E> + Drop,
-        requires make { M.IsAlwaysCallable make }
-        requires call { C.IsAlwaysCallable call }
+        C: FnOnce(Global, &'t str, &mut Vec<u8>) -> Result<(), E> + Drop,
+        requires { C.IsAlwaysCallable call }
     {
-        if !self.makes_next() {
+        let Some(rt) = self.next() else {
             return Ok(());
-        }
-        let Ok(value) = make(self.rt.alloc(), text) else {
-            return begins_not(self.rt, name);
         };
-        let given = made(value)?;
-        print!(self.rt; "{name}: {given:?}")?;
-        let answer = call(self.rt.alloc(), given);
-        println!(self.rt; " gives {answer:?}")
-    }
-
-    /// Makes a call that borrows a text and changes a value, which is read from the text, and prints the value before
-    /// the call and after it.
-    pub fn changes<'t, B, T, E, M, C>(
-        &mut self,
-        name: &str,
-        text: &'t str,
-        make: M,
-        call: C,
-    ) -> io::Result<()>
-    where
-        B: Debug + Drop,
-        T: Debug + Drop,
-        E: Debug + Drop,
-        M: FnOnce(Global, &'t str) -> Result<Option<B>, AllocError> + Drop,
-        C: FnOnce(Global, &'t str, &mut B) -> Result<T, E> + Drop,
-        requires make { M.IsAlwaysCallable make }
-        requires call { C.IsAlwaysCallable call }
-    {
-        if !self.makes_next() {
-            return Ok(());
-        }
-        let Ok(value) = make(self.rt.alloc(), text) else {
-            return begins_not(self.rt, name);
+        let Ok(mut list) = vec![in rt.alloc(); b'0'; 1] else {
+            return begins_not(rt, name);
         };
-        let mut lent = made(value)?;
-        print!(self.rt; "{name}: {text:?} on {lent:?}")?;
-        let answer = call(self.rt.alloc(), text, &mut lent);
-        println!(self.rt; " gives {answer:?} and leaves {lent:?}")
+        print!(rt; "{name}: {text:?} on {list:?}")?;
+        let answer = call(rt.alloc(), text, &mut list);
+        println!(rt; " gives {answer:?} and leaves {list:?}")
     }
 
     /// Makes a call that prints its row itself.
@@ -143,21 +103,38 @@ impl<'a> Table<'a> {
         C: FnOnce(&HostRuntime) -> io::Result<()> + Drop,
         requires { C.IsAlwaysCallable call }
     {
-        if !self.makes_next() {
-            return Ok(());
+        match self.next() {
+            Some(rt) => call(rt),
+            None => Ok(()),
         }
-        call(self.rt)
     }
+}
+
+/// Adds a row for a call that borrows a text, which has the call's name.
+#[macro_export]
+macro_rules! reads {
+    ($table:ident, $call:path, $text:expr) => {
+        $table.reads(stringify!($call), $text, $call)?
+    };
+    ($table:ident, $call:path, $text:expr, without memory) => {
+        $table.reads(concat!(stringify!($call), ", without memory"), $text, $call)?
+    };
+}
+
+/// Adds a row for a call that borrows a value, which another call reads from a text.
+#[macro_export]
+macro_rules! borrows {
+    ($table:ident, $call:path, $make:path, $text:expr) => {
+        $table.borrows(stringify!($call), $text, $make, $call)?
+    };
+    ($table:ident, $call:path, $make:path, $text:expr, without memory) => {
+        $table.borrows(concat!(stringify!($call), ", without memory"), $text, $make, $call)?
+    };
 }
 
 /// Prints that memory was refused to what a call is made with.
 pub fn begins_not(rt: &HostRuntime, name: &str) -> io::Result<()> {
     println!(rt; "{name}: no memory before the call")
-}
-
-// Returns the value of a text, which has to parse.
-fn made<B: Drop>(value: Option<B>) -> io::Result<B> {
-    value.ok_or(io::Error::from(ErrorKind::InvalidInput))
 }
 
 // Returns the number of a row, which a word is.

@@ -3,8 +3,8 @@
 use serde_json::{Category, Value};
 use std::alloc::{AllocError, Global};
 use std::io;
-use vectors_table::Table;
-use versions::{Requirement, Requirements, SemVer, Versioning};
+use vectors_table::{Table, borrows};
+use versions::{JsonError, Requirement, Requirements, SemVer, Versioning};
 
 const VERSION: &str = "1:2.a.7b-5.b+six";
 
@@ -12,72 +12,30 @@ const REQUIREMENT: &str = ">=1:2.a.7b";
 
 const LIST: &str = ">=1.1.1-a,~2.b,*";
 
+const NOT_TEXT: &str = "Versioning::deserialize_pretty, without memory";
+
 pub fn make_all(table: &mut Table<'_>) -> io::Result<()> {
-    write(table)?;
-    read_versions(table)?;
-    read_requirements(table)?;
-    read_forms(table)
-}
-
-fn write(table: &mut Table<'_>) -> io::Result<()> {
-    table.borrows(
-        "Versioning::serialize_pretty",
-        VERSION,
-        Versioning::new,
+    borrows!(
+        table,
         Versioning::serialize_pretty,
-    )?;
-    table.borrows(
-        "Requirement::serialize",
-        REQUIREMENT,
-        Requirement::new,
-        Requirement::serialize,
-    )?;
-    table.borrows(
-        "Requirements::serialize",
-        LIST,
-        Requirements::new,
-        Requirements::serialize,
-    )
-}
-
-fn read_versions(table: &mut Table<'_>) -> io::Result<()> {
+        Versioning::new,
+        VERSION
+    );
+    borrows!(table, Requirement::serialize, Requirement::new, REQUIREMENT);
+    borrows!(table, Requirements::serialize, Requirements::new, LIST);
     for text in [VERSION, "1 2"] {
-        table.borrows(
-            "Versioning::deserialize_pretty",
-            text,
-            string,
-            |value, alloc| Versioning::deserialize_pretty(alloc, value),
-        )?;
+        table.borrows("Versioning::deserialize_pretty", text, string, version)?;
     }
     for text in ["1", "[\"1.2\"]"] {
-        table.borrows(
-            "Versioning::deserialize_pretty, without memory",
-            text,
-            document,
-            |value, alloc| Versioning::deserialize_pretty(alloc, value),
-        )?;
+        table.borrows(NOT_TEXT, text, document, version)?;
     }
-    Ok(())
-}
-
-fn read_requirements(table: &mut Table<'_>) -> io::Result<()> {
     for text in [REQUIREMENT, LIST] {
-        table.borrows(
-            "Requirement::deserialize",
-            text,
-            string,
-            |value, alloc| Requirement::deserialize(alloc, value),
-        )?;
+        table.borrows("Requirement::deserialize", text, string, requirement)?;
     }
     for text in [LIST, ">=1.0,"] {
-        table.borrows(
-            "Requirements::deserialize",
-            text,
-            string,
-            |value, alloc| Requirements::deserialize(alloc, value),
-        )?;
+        table.borrows("Requirements::deserialize", text, string, list)?;
     }
-    Ok(())
+    read_forms(table)
 }
 
 // The last two are not strict versions: a chunk of no kind after others, and a number above the largest.
@@ -90,6 +48,18 @@ fn read_forms(table: &mut Table<'_>) -> io::Result<()> {
         table.reads("the form of a SemVer", text, strict_form)?;
     }
     Ok(())
+}
+
+fn version(value: &Value, alloc: Global) -> Result<Versioning, JsonError> {
+    Versioning::deserialize_pretty(alloc, value)
+}
+
+fn requirement(value: &Value, alloc: Global) -> Result<Requirement, JsonError> {
+    Requirement::deserialize(alloc, value)
+}
+
+fn list(value: &Value, alloc: Global) -> Result<Requirements, JsonError> {
+    Requirements::deserialize(alloc, value)
 }
 
 fn string(alloc: Global, text: &str) -> Result<Option<Value>, AllocError> {

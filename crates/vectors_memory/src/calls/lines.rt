@@ -4,7 +4,6 @@ ghost use Rattle.version_lines.specs.KeyedLines.{AreRead};
 ghost use Rattle.version_rules.specs.Versioning.{versioning_of};
 ghost use Rattle.version_texts.specs.VersioningRef.{plain_versioning_ref};
 
-use crate::calls::scans::begun;
 use std::alloc::{AllocError, Global};
 use std::fmt;
 use std::io::{self, ErrorKind};
@@ -18,7 +17,7 @@ const LINE: &str = "1.2.3-rc.1+b";
 
 pub fn make_all(table: &mut Table<'_>) -> io::Result<()> {
     table.reads("read_all", "1.2\n", read_text)?;
-    table.changes("read_onto", "1.2\n", begun, read_text_onto)?;
+    table.appends("read_onto", "1.2\n", read_text_onto)?;
     table.reads("make_buffer", "", |alloc, _| make_buffer(alloc))?;
     table.reads("KeyedLines::new", LINE, no_lines)?;
     table.prints(add_line)?;

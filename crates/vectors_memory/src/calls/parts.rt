@@ -2,12 +2,12 @@
 
 use std::alloc::{AllocError, Global};
 use std::io;
-use vectors_table::Table;
+use vectors_table::{Table, begins_not, borrows, reads};
 use versions::parsers::meta;
 use versions::{Chunk, Chunks, Last, MChunk, Release};
 
 pub fn make_all(table: &mut Table<'_>) -> io::Result<()> {
-    table.reads("meta", "+a.b-c _", meta)?;
+    reads!(table, meta, "+a.b-c _");
     chunks(table)?;
     last_parts(table)?;
     messy_chunks(table)?;
@@ -15,50 +15,54 @@ pub fn make_all(table: &mut Table<'_>) -> io::Result<()> {
 }
 
 fn chunks(table: &mut Table<'_>) -> io::Result<()> {
-    table.reads("Chunk::parse", "a-1.b", Chunk::parse)?;
-    table.reads(
-        "Chunk::parse_without_hyphens",
-        "a1-b",
-        Chunk::parse_without_hyphens,
-    )?;
-    table.borrows("Chunk::clone", "a-1", chunk, Chunk::clone)?;
-    table.reads("Chunk::parse, without memory", "12.b", Chunk::parse)?;
-    table.borrows("Chunk::clone, without memory", "12", chunk, Chunk::clone)
+    reads!(table, Chunk::parse, "a-1.b");
+    reads!(table, Chunk::parse_without_hyphens, "a1-b");
+    borrows!(table, Chunk::clone, chunk, "a-1");
+    reads!(table, Chunk::parse, "12.b", without memory);
+    borrows!(table, Chunk::clone, chunk, "12", without memory);
+    Ok(())
 }
 
 fn last_parts(table: &mut Table<'_>) -> io::Result<()> {
     for text in ["1rc2", "7b"] {
-        table.takes("Last::from_chunk", text, chunk, Last::from_chunk)?;
+        table.prints(|rt| from_chunk(rt, "Last::from_chunk", text))?;
     }
     for text in ["12", "0rc01"] {
-        table.takes(
-            "Last::from_chunk, without memory",
-            text,
-            chunk,
-            Last::from_chunk,
-        )?;
+        table.prints(|rt| from_chunk(rt, "Last::from_chunk, without memory", text))?;
     }
     for text in ["1rc2", "7b", "0rc01"] {
-        table.borrows("Last::clone", text, last_part, Last::clone)?;
+        borrows!(table, Last::clone, last_part, text);
     }
-    table.borrows("Last::clone, without memory", "12", last_part, Last::clone)
+    borrows!(table, Last::clone, last_part, "12", without memory);
+    Ok(())
+}
+
+// Makes a last part of a chunk, which is returned if an allocation fails.
+fn from_chunk(rt: &HostRuntime, name: &str, text: &str) -> io::Result<()> {
+    let Ok(Some(given)) = chunk(rt.alloc(), text) else {
+        return begins_not(rt, name);
+    };
+    print!(rt; "{name}: {given:?}")?;
+    let answer = Last::from_chunk(rt.alloc(), given);
+    println!(rt; " gives {answer:?}")
 }
 
 fn messy_chunks(table: &mut Table<'_>) -> io::Result<()> {
     for text in ["007.", "r26_", "x", "1 2"] {
-        table.reads("MChunk::parse", text, MChunk::parse)?;
+        reads!(table, MChunk::parse, text);
     }
     for text in ["007", "r26", "x"] {
-        table.borrows("MChunk::clone", text, messy_chunk, MChunk::clone)?;
+        borrows!(table, MChunk::clone, messy_chunk, text);
     }
-    table.reads("MChunk::parse, without memory", ".x", MChunk::parse)
+    reads!(table, MChunk::parse, ".x", without memory);
+    Ok(())
 }
 
 fn lists(table: &mut Table<'_>) -> io::Result<()> {
-    table.reads("Release::parse", "-rc.1.x_", Release::parse)?;
-    table.borrows("Release::clone", "-rc.1.x", release, Release::clone)?;
-    table.reads("Chunks::parse", "1.a.b2..3", Chunks::parse)?;
-    table.borrows("Chunks::clone", "1.a.b2", parts, Chunks::clone)?;
+    reads!(table, Release::parse, "-rc.1.x_");
+    borrows!(table, Release::clone, release, "-rc.1.x");
+    reads!(table, Chunks::parse, "1.a.b2..3");
+    borrows!(table, Chunks::clone, parts, "1.a.b2");
     table.reads("Chunks::default_in, without memory", "", default_in)
 }
 

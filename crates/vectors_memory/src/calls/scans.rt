@@ -28,25 +28,10 @@ fn elements(table: &mut Table<'_>) -> io::Result<()> {
 }
 
 fn items(table: &mut Table<'_>) -> io::Result<()> {
-    table.borrows("ListItem::copy", "a-1", chunk, <Chunk as ListItem>::copy)?;
-    table.borrows(
-        "ListItem::copy",
-        "1rc2",
-        last_part,
-        <Last as ListItem>::copy,
-    )?;
-    table.borrows(
-        "ListItem::copy",
-        "007",
-        messy_chunk,
-        <MChunk as ListItem>::copy,
-    )?;
-    table.borrows(
-        "copy_list",
-        "1.a.b2",
-        parts,
-        |chunks, alloc| copy_list(alloc, chunks.0.as_slice()),
-    )
+    table.borrows("ListItem::copy", "a-1", chunk, Chunk::copy)?;
+    table.borrows("ListItem::copy", "1rc2", last_part, Last::copy)?;
+    table.borrows("ListItem::copy", "007", messy_chunk, MChunk::copy)?;
+    table.borrows("copy_list", "1.a.b2", parts, copy_parts)
 }
 
 fn scanned(table: &mut Table<'_>) -> io::Result<()> {
@@ -62,40 +47,40 @@ fn scanned(table: &mut Table<'_>) -> io::Result<()> {
 }
 
 fn streams(table: &mut Table<'_>) -> io::Result<()> {
-    table.changes("PieceBytes::append_to", "7rc12", begun, add_part)?;
+    table.appends("PieceBytes::append_to", "7rc12", add_part)?;
     for text in ["1.2.3-rc.1", "1:2_a"] {
-        table.changes("KeyBytes::append_to", text, begun, add_owned_key)?;
-        table.changes("VersioningRef::append_key", text, begun, add_key)?;
+        table.appends("KeyBytes::append_to", text, add_owned_key)?;
+        table.appends("VersioningRef::append_key", text, add_key)?;
     }
-    table.changes("VersioningRef::append_end", "1.2.3-rc.1", begun, add_end)
+    table.appends("VersioningRef::append_end", "1.2.3-rc.1", add_end)
+}
+
+fn copy_parts(chunks: &Chunks, alloc: Global) -> Result<Vec<Chunk>, AllocError> {
+    copy_list(alloc, chunks.0.as_slice())
 }
 
 fn build_last(alloc: Global, text: &str) -> Result<Option<Last>, AllocError> {
-    match LastRef::scan(text) {
-        Some((piece, _)) => Ok(Some(piece.build(alloc)?)),
-        None => Ok(None),
-    }
+    LastRef::scan(text)
+        .map(|read| read.0.build(alloc))
+        .transpose()
 }
 
 fn build_release(alloc: Global, text: &str) -> Result<Option<Release>, AllocError> {
-    match ReleaseRef::scan(text) {
-        Some((piece, _)) => Ok(Some(piece.build(alloc)?)),
-        None => Ok(None),
-    }
+    ReleaseRef::scan(text)
+        .map(|read| read.0.build(alloc))
+        .transpose()
 }
 
 fn build_body(alloc: Global, text: &str) -> Result<Option<(Chunks, Last)>, AllocError> {
-    match BodyRef::scan(text) {
-        Some((piece, _)) => Ok(Some(piece.build(alloc)?)),
-        None => Ok(None),
-    }
+    BodyRef::scan(text)
+        .map(|read| read.0.build(alloc))
+        .transpose()
 }
 
 fn build_section(alloc: Global, text: &str) -> Result<Option<Vec<MChunk>>, AllocError> {
-    match SectionRef::scan(text) {
-        Some((piece, _)) => Ok(Some(piece.build(alloc)?)),
-        None => Ok(None),
-    }
+    SectionRef::scan(text)
+        .map(|read| read.0.build(alloc))
+        .transpose()
 }
 
 fn build_list(alloc: Global, text: &str) -> Result<Option<Vec<MChunk>>, AllocError> {
@@ -103,11 +88,6 @@ fn build_list(alloc: Global, text: &str) -> Result<Option<Vec<MChunk>>, AllocErr
         Some((list, _)) => Ok(Some(list.build::<MessyChunk>(alloc, list.count)?)),
         None => Ok(None),
     }
-}
-
-// Returns a list that something is appended to.
-pub fn begun(alloc: Global, _text: &str) -> Result<Option<Vec<u8>>, AllocError> {
-    Ok(Some(vec![in alloc; b'0'; 1]?))
 }
 
 fn add_part(_alloc: Global, text: &str, list: &mut Vec<u8>) -> Result<(), AllocError> {

@@ -2,12 +2,13 @@
 
 use std::cmp::Ordering;
 use std::test::Fail;
-use vectors_support::{any, columns, form, general, holds, messy, strict};
-use versions::{Chunks, Last, MChunk, SemVer, Versioning};
+use vectors_support::{any, form, holds, read};
+use versions::{Chunks, Last, MChunk, Mess, SemVer, Version, Versioning};
 
-// A type and texts of its values. Values of `Versioning` are also compared by `precedence`.
-const EACH_BELOW_THE_NEXT: &str = "\
-SemVer 1.0.0-alpha 1.0.0-alpha.1 1.0.0-alpha.beta 1.0.0-beta 1.0.0-beta.2 1.0.0-beta.11 1.0.0-rc.1 1.0.0
+// A type and texts or JSON forms of its values; some forms have no text. Values of `Versioning` are also compared by
+// `precedence`.
+const EACH_BELOW_THE_NEXT: &str =
+    r#"SemVer 1.0.0-alpha 1.0.0-alpha.1 1.0.0-alpha.beta 1.0.0-beta 1.0.0-beta.2 1.0.0-beta.11 1.0.0-rc.1 1.0.0
 Version 0.9.9.9 1.0.0.0 1.0.0.1 2
 Version 1.2 1.2.0
 Version 1.9 1.10
@@ -56,22 +57,21 @@ Versioning 2.1.16102-2 2.1.17627-1
 Versioning 8.64.0.81-1 8.65.0.78-1
 Versioning 1.3.00.16851-1 1.3.00.25560-1
 Versioning 1:3.20-1 1:3.20.1-1
-Versioning 5.2.458699.0906-1 5.3.472687.1012-1";
-
-#[test]
-fn each_is_below_the_next(rt: HostRuntime) -> Result<(), Fail> {
-    compare(&rt, EACH_BELOW_THE_NEXT, (Ordering::Less, Ordering::Less))
-}
+Versioning 5.2.458699.0906-1 5.3.472687.1012-1
+Chunks [] [{"Numeric":0}]
+Chunks [{"Alphanum":"a"}] []
+Chunks [{"Numeric":1}] [{"Alphanum":"1"}]
+Last {"Numeric":102} {"Rc":[1,"0",2]}
+Last {"Rc":[0,"rc",1]} {"Numeric":0}
+Last {"Post":[7,"alpha"]} {"Numeric":7}
+Last {"Post":[1,"rc"]} {"Rc":[1,"rc",5]}
+MChunk {"Digits":[1,"01"]} {"Digits":[1,"1"]}
+FormOfSemVer {"major":1,"minor":2,"patch":3,"pre_rel":[],"meta":null} {"major":1,"minor":2,"patch":3,"pre_rel":[{"Numeric":0}],"meta":null}"#;
 
 const TIED_IN_PRECEDENCE: &str = "\
 Versioning 1.0 0:1.0
 Versioning 1.0 1.0+x
 Versioning 1.2 1.002";
-
-#[test]
-fn ties_are_broken_by_kinds_and_fields(rt: HostRuntime) -> Result<(), Fail> {
-    compare(&rt, TIED_IN_PRECEDENCE, (Ordering::Equal, Ordering::Less))
-}
 
 const EQUAL: &str = "\
 SemVer 1.0.0+a 1.0.0+b
@@ -83,34 +83,10 @@ Versioning 1.0.r15.g3fc772c-5 1.0.r15.g3fc772c-5
 Versioning 0.88-2 0.88-2";
 
 #[test]
-fn equal_versions(rt: HostRuntime) -> Result<(), Fail> {
+fn each_is_below_the_next_tied_or_equal(rt: HostRuntime) -> Result<(), Fail> {
+    compare(&rt, EACH_BELOW_THE_NEXT, (Ordering::Less, Ordering::Less))?;
+    compare(&rt, TIED_IN_PRECEDENCE, (Ordering::Equal, Ordering::Less))?;
     compare(&rt, EQUAL, (Ordering::Equal, Ordering::Equal))
-}
-
-// Types and JSON forms of two values, the first below the second. Not all of them have a text.
-const EACH_FORM_BELOW_THE_NEXT: &str = r#"Chunks|[]|[{"Numeric":0}]
-Chunks|[{"Alphanum":"a"}]|[]
-Chunks|[{"Numeric":1}]|[{"Alphanum":"1"}]
-Last|{"Numeric":102}|{"Rc":[1,"0",2]}
-Last|{"Rc":[0,"rc",1]}|{"Numeric":0}
-Last|{"Post":[7,"alpha"]}|{"Numeric":7}
-Last|{"Post":[1,"rc"]}|{"Rc":[1,"rc",5]}
-MChunk|{"Digits":[1,"01"]}|{"Digits":[1,"1"]}
-SemVer|{"major":1,"minor":2,"patch":3,"pre_rel":[],"meta":null}|{"major":1,"minor":2,"patch":3,"pre_rel":[{"Numeric":0}],"meta":null}"#;
-
-#[test]
-fn values_built_by_hand(rt: HostRuntime) -> Result<(), Fail> {
-    for row in EACH_FORM_BELOW_THE_NEXT.lines() {
-        let (of, lower, upper) = columns(row)?;
-        let (order, _, _) = match of {
-            "Chunks" => in_order::<Chunks>(form(&rt, lower)?, form(&rt, upper))?,
-            "Last" => in_order::<Last>(form(&rt, lower)?, form(&rt, upper))?,
-            "MChunk" => in_order::<MChunk>(form(&rt, lower)?, form(&rt, upper))?,
-            _ => in_order::<SemVer>(form(&rt, lower)?, form(&rt, upper))?,
-        };
-        assert_eq!(rt; order, Ordering::Less, "{row}");
-    }
-    Ok(())
 }
 
 // A strict version with a pre-release is below its general version, which is below its messy version. Without a
@@ -149,9 +125,19 @@ fn compared(
     other: &str,
 ) -> Result<(Ordering, Ordering, bool), Fail> {
     match of {
+        "Chunks" => in_order::<Chunks>(form(rt, one)?, form(rt, other)),
+        "Last" => in_order::<Last>(form(rt, one)?, form(rt, other)),
+        "MChunk" => in_order::<MChunk>(form(rt, one)?, form(rt, other)),
+        "FormOfSemVer" => in_order::<SemVer>(form(rt, one)?, form(rt, other)),
         "SemVer" => in_order(strict(rt, one)?, strict(rt, other)),
-        "Version" => in_order(general(rt, one)?, general(rt, other)),
-        "Mess" => in_order(messy(rt, one)?, messy(rt, other)),
+        "Version" => {
+            let one = read(Version::new(rt.alloc(), one))?;
+            in_order(one, read(Version::new(rt.alloc(), other)))
+        }
+        "Mess" => {
+            let one = read(Mess::new(rt.alloc(), one))?;
+            in_order(one, read(Mess::new(rt.alloc(), other)))
+        }
         _ => {
             let one = any(rt, one)?;
             let other = any(rt, other)?;
@@ -177,4 +163,8 @@ fn converted(rt: &impl AllocGlobal, text: &str) -> Result<(Ordering, Ordering), 
     let messy = Versioning::Complex(version.to_mess(rt.alloc())?);
     let ideal = Versioning::Ideal(version);
     Ok((ideal.precedence(&general), general.precedence(&messy)))
+}
+
+fn strict(rt: &impl AllocGlobal, text: &str) -> Result<SemVer, Fail> {
+    read(SemVer::new(rt.alloc(), text))
 }

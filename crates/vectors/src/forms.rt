@@ -5,7 +5,7 @@ use serde::{DeserializeOwned, Serialize};
 use serde_json::Value;
 use std::fmt::{Debug, Display};
 use std::test::Fail;
-use vectors_support::holds;
+use vectors_support::{each, holds};
 use versions::{Chunk, Chunks, Last, MChunk, Release, SemVer, Sep, Version};
 
 // Types, forms of their values, what the values print, and their `Debug`; or that a document is not a form.
@@ -44,17 +44,12 @@ Version {"epoch":null,"chunks":[{"Alphanum":"a"}],"release":null,"meta":null}|re
 
 #[test]
 fn forms_are_read_and_written(rt: HostRuntime) -> Result<(), Fail> {
-    for row in FORMS.lines() {
-        let (typed, wanted) = row.split_once('|').ok_or("no value")?;
-        let (of, document) = typed.split_once(' ').ok_or("no form")?;
-        let value = read(&rt, of, document)?;
-        assert_eq!(rt; value.as_str(), wanted, "{typed}");
-    }
-    Ok(())
+    each(&rt, FORMS, |given| read(&rt, given))
 }
 
-// Returns the value of a document, as it prints and by `Debug`.
-fn read(rt: &impl AllocGlobal, of: &str, document: &str) -> Result<String, Fail> {
+// Returns the value of a type's document, as it prints and by `Debug`.
+fn read(rt: &impl AllocGlobal, given: &str) -> Result<String, Fail> {
+    let (of, document) = given.split_once(' ').ok_or("no form")?;
     match of {
         "Chunk" => read_as::<Chunk>(rt, document),
         "Chunks" => read_as::<Chunks>(rt, document),
