@@ -25,8 +25,8 @@ use Rattle.version_commands.specs.declared.options.Task.TheVariants as task
 use Rattle.version_commands.specs.declared.options.Invalid.TheVariants.{Fail}
 use Rattle.version_commands.specs.declared.test.WrongWord.{WrongWord}
 use Rattle.version_lines.specs.Lines.{lines_of}
-use Rattle.version_rules.specs.Requirements.{requirements_of}
-use Rattle.version_rules.specs.Versioning.{versioning_of}
+use Rattle.version_rules.specs.requirement.Requirements.{requirements_of}
+use Rattle.version_rules.specs.grammar.Versioning.{versioning_of}
 
 -- the faults of a run over the lines of an input: of the lines that have no version, or of the file
 -- for these

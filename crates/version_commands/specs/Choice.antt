@@ -7,10 +7,10 @@ use Rattle.version_commands.specs.declared.choice.Filter.{Filter}
 use Rattle.version_commands.specs.declared.options.Arrangement.{Arrangement}
 use Rattle.version_commands.specs.declared.options.Arrangement.TheVariants as arrangement
 use Rattle.version_commands.specs.declared.options.Choice.{Choice}
-use Rattle.version_rules.specs.Front.{◌>>=◌}
-use Rattle.version_rules.specs.Requirement.{PlainRequirement}
-use Rattle.version_rules.specs.Requirements.{requirements_of}
-use Rattle.version_rules.specs.Versioning.{PlainVersioning}
+use Rattle.version_rules.specs.grammar.Front.{◌>>=◌}
+use Rattle.version_rules.specs.requirement.Requirement.{PlainRequirement}
+use Rattle.version_rules.specs.requirement.Requirements.{requirements_of}
+use Rattle.version_rules.specs.grammar.Versioning.{PlainVersioning}
 use Rattle.version_rules.specs.laws.Matching.{matches_all_or_not}
 use Rattle.version_tasks.specs.Stability.{rank, stability_of}
 use Rattle.version_tasks.specs.declared.stability.Stability.{Stability}

@@ -4,11 +4,11 @@ use Rattle.std.specs.Fmt.{decimal}
 use Rattle.std.specs.Str.{bytes_eq}
 use Rattle.std.specs.declared.cmp.Ordering.{Ordering}
 use Rattle.std.specs.declared.cmp.Ordering.TheVariants.{Less, Equal, Greater}
-use Rattle.version_rules.specs.Key.{key_of, precedence}
-use Rattle.version_rules.specs.Versioning.{PlainVersioning, versioning_text}
+use Rattle.version_rules.specs.key.Key.{key_of, precedence}
+use Rattle.version_rules.specs.grammar.Versioning.{PlainVersioning, versioning_text}
 use Rattle.version_texts.specs.Difference.{difference_of}
-use Rattle.version_texts.specs.declared.difference.Difference.{Difference}
-use Rattle.version_texts.specs.declared.difference.Difference.TheVariants.{Same, Tie, Epoch, Part, Tail}
+use Rattle.version_texts.specs.declared.order.difference.Difference.{Difference}
+use Rattle.version_texts.specs.declared.order.difference.Difference.TheVariants.{Same, Tie, Epoch, Part, Tail}
 
 -- the sign of an ordering
 abbrev pub sign_text : Ordering → List ℕ

@@ -1,10 +1,10 @@
 -- What `diff` writes for two versions.
 use Rattle.std.specs.Prelude.{ℕ, List, [], ◌∷◌, ◌++◌, codes}
 use Rattle.std.specs.Fmt.{decimal}
-use Rattle.version_rules.specs.Versioning.{PlainVersioning}
+use Rattle.version_rules.specs.grammar.Versioning.{PlainVersioning}
 use Rattle.version_texts.specs.Difference.{difference_of}
-use Rattle.version_texts.specs.declared.difference.Difference.{Difference}
-use Rattle.version_texts.specs.declared.difference.Difference.TheVariants.{Same, Tie, Epoch, Part, Tail}
+use Rattle.version_texts.specs.declared.order.difference.Difference.{Difference}
+use Rattle.version_texts.specs.declared.order.difference.Difference.TheVariants.{Same, Tie, Epoch, Part, Tail}
 
 -- the name of where two versions differ first; parts count from 0
 abbrev pub difference_name : Difference → List ℕ

@@ -14,9 +14,9 @@ use Rattle.version_commands.specs.declared.options.EachOptions.{EachOptions}
 use Rattle.version_commands.specs.declared.options.Question.{Question}
 use Rattle.version_commands.specs.declared.options.Question.TheVariants.{Show, Json, Key, Why, Next}
 use Rattle.version_lines.specs.Lines.{lines_of}
-use Rattle.version_rules.specs.Requirements.{requirements_of}
+use Rattle.version_rules.specs.requirement.Requirements.{requirements_of}
 use Rattle.version_tasks.specs.Next.{NoNext}
-use Rattle.version_rules.specs.Versioning.{PlainVersioning, versioning_of}
+use Rattle.version_rules.specs.grammar.Versioning.{PlainVersioning, versioning_of}
 
 -- what is written for a version, and whether there is an answer: only `next` may have none
 abbrev pub IsAnswer : Question → ℕ → PlainVersioning → Bool → List ℕ → Type 0

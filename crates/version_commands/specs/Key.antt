@@ -1,9 +1,9 @@
 -- What `key` writes for a version.
 use Rattle.std.specs.Prelude.{ℕ, List, [], ◌∷◌, ◌++◌}
 use Rattle.hex.specs.Hex.{encode_lower}
-use Rattle.version_rules.specs.Key.{key_of}
-use Rattle.version_rules.specs.KeyBytes.{key_bytes}
-use Rattle.version_rules.specs.Versioning.{PlainVersioning}
+use Rattle.version_rules.specs.key.Key.{key_of}
+use Rattle.version_rules.specs.key.KeyBytes.{key_bytes}
+use Rattle.version_rules.specs.grammar.Versioning.{PlainVersioning}
 
 -- the line for a version: its sort key in hexadecimal, and the byte that ends the line
 abbrev pub key_line : ℕ → PlainVersioning → List ℕ

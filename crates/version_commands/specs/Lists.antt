@@ -17,8 +17,8 @@ use Rattle.version_commands.specs.declared.lists.Side.{Side}
 use Rattle.version_commands.specs.declared.lists.Side.TheVariants.{Old, New}
 use Rattle.version_commands.specs.declared.options.Lists.{Lists}
 use Rattle.version_lines.specs.Lines.{lines_of, whole_line}
-use Rattle.version_rules.specs.Key.{key_of, precedence}
-use Rattle.version_rules.specs.Versioning.{PlainVersioning, versioning_text}
+use Rattle.version_rules.specs.key.Key.{key_of, precedence}
+use Rattle.version_rules.specs.grammar.Versioning.{PlainVersioning, versioning_text}
 use Rattle.version_texts.specs.VersioningRef.{plain_versioning_ref}
 
 -- the inputs of two lists

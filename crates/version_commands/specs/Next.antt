@@ -1,6 +1,6 @@
 -- What `next` writes for a version.
 use Rattle.std.specs.Prelude.{◌≡◌, ℕ, Bool, true, false, List, [], ◌∷◌, ◌++◌}
-use Rattle.version_rules.specs.Versioning.{PlainVersioning, versioning_text}
+use Rattle.version_rules.specs.grammar.Versioning.{PlainVersioning, versioning_text}
 use Rattle.version_tasks.specs.Next.{IsNext, NoNext}
 
 -- What comes to be written if a version comes next, and if none does: a line with its text, or

@@ -11,7 +11,7 @@ use Rattle.version_commands.specs.declared.options.Arrangement.{Arrangement}
 use Rattle.version_commands.specs.declared.options.Invalid.TheVariants.{Fail}
 use Rattle.version_commands.specs.declared.options.LineOptions.{LineOptions}
 use Rattle.version_lines.specs.Lines.{lines_of, lines_output, whole_line}
-use Rattle.version_rules.specs.Versioning.{PlainVersioning}
+use Rattle.version_rules.specs.grammar.Versioning.{PlainVersioning}
 
 -- the lines of an input that are kept
 abbrev pub kept_in : (List ℕ → List ℕ) → (PlainVersioning → Bool) → LineOptions → List ℕ

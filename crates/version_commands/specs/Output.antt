@@ -13,8 +13,8 @@ use Rattle.version_commands.specs.declared.options.Lists.{Lists}
 use Rattle.version_commands.specs.declared.options.Task.{Task}
 use Rattle.version_commands.specs.declared.options.Task.TheVariants as task
 use Rattle.version_lines.specs.Lines.{line_feed}
-use Rattle.version_rules.specs.Requirements.{requirements_of}
-use Rattle.version_rules.specs.Versioning.{PlainVersioning, versioning_of}
+use Rattle.version_rules.specs.requirement.Requirements.{requirements_of}
+use Rattle.version_rules.specs.grammar.Versioning.{PlainVersioning, versioning_of}
 
 -- the words are versions, and this is the line for the two
 pub record IsLineOfTwo (line : PlainVersioning → PlainVersioning → List ℕ) (a b : List ℕ)

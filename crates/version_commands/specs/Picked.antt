@@ -4,7 +4,7 @@ use Rattle.std.specs.List.{filter, prefix_len}
 use Rattle.std.specs.Option.{option_map_or}
 use Rattle.version_commands.specs.declared.pick.BadLines.{BadLines}
 use Rattle.version_lines.specs.Sort.{is_bad}
-use Rattle.version_rules.specs.Versioning.{PlainVersioning, versioning_of}
+use Rattle.version_rules.specs.grammar.Versioning.{PlainVersioning, versioning_of}
 
 -- the lines that have no version
 abbrev pub bad_lines : (List ℕ → List ℕ) → List (List ℕ) → List (List ℕ)

@@ -7,7 +7,7 @@ use Rattle.version_lines.specs.declared.column.Column.{Column}
 use Rattle.version_commands.specs.declared.options.Naming.{Naming}
 use Rattle.version_commands.specs.declared.options.Naming.TheVariants.{Bare, Tag, Prefix}
 use Rattle.version_commands.specs.declared.options.VersionPlace.{VersionPlace}
-use Rattle.version_rules.specs.Versioning.{PlainVersioning, versioning_of, versioning_text}
+use Rattle.version_rules.specs.grammar.Versioning.{PlainVersioning, versioning_of, versioning_text}
 use Rattle.version_tasks.specs.Tag.{version_after_prefix, version_in_tag}
 
 -- a line without the carriage return that it may end in, if that belongs to its end

@@ -3,9 +3,9 @@ use Rattle.std.specs.Prelude.{ℕ, min, List, [], ◌∷◌, ◌++◌, Option, S
 use Rattle.std.specs.Fmt.{decimal}
 use Rattle.std.specs.List.{concat, flat_map}
 use Rattle.std.specs.Option.{option_map}
-use Rattle.version_rules.specs.Key.{versioning_epoch}
-use Rattle.version_rules.specs.Kind.{versioning_kind}
-use Rattle.version_rules.specs.Versioning.{PlainVersioning, versioning_nth, versioning_text}
+use Rattle.version_rules.specs.key.Key.{versioning_epoch}
+use Rattle.version_rules.specs.grammar.Kind.{versioning_kind}
+use Rattle.version_rules.specs.grammar.Versioning.{PlainVersioning, versioning_nth, versioning_text}
 use Rattle.version_rules.specs.declared.kind.Kind.{Kind}
 use Rattle.version_rules.specs.declared.kind.Kind.TheVariants.{Ideal, General, Complex}
 use Rattle.version_tasks.specs.Stability.{stability_of}
@@ -13,7 +13,7 @@ use Rattle.version_tasks.specs.declared.stability.Stability.{Stability}
 use Rattle.version_tasks.specs.declared.stability.Stability.TheVariants.{Dev, Alpha, Beta, Rc, Stable}
 use Rattle.version_texts.specs.Field.{field_text}
 use Rattle.version_texts.specs.Numbers.{largest_epoch}
-use Rattle.version_texts.specs.declared.field.Field.TheVariants.{PreRelease, Release, Metadata}
+use Rattle.version_texts.specs.declared.versioning_ref.field.Field.TheVariants.{PreRelease, Release, Metadata}
 
 -- the names of kinds
 abbrev pub kind_name : Kind → List ℕ

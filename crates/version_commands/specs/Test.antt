@@ -6,10 +6,10 @@ use Rattle.version_commands.specs.declared.options.Operator.{Operator}
 use Rattle.version_commands.specs.declared.options.Operator.TheVariants.{Less, LessOrEqual, Equal, GreaterOrEqual, Greater}
 use Rattle.version_commands.specs.declared.test.WrongWord.{WrongWord}
 use Rattle.version_commands.specs.declared.test.WrongWord.TheVariants.{First, Second}
-use Rattle.version_rules.specs.Key.{key_of, precedence}
-use Rattle.version_rules.specs.Matching.{MatchesAll}
-use Rattle.version_rules.specs.Requirement.{PlainRequirement}
-use Rattle.version_rules.specs.Versioning.{PlainVersioning}
+use Rattle.version_rules.specs.key.Key.{key_of, precedence}
+use Rattle.version_rules.specs.requirement.Matching.{MatchesAll}
+use Rattle.version_rules.specs.requirement.Requirement.{PlainRequirement}
+use Rattle.version_rules.specs.grammar.Versioning.{PlainVersioning}
 
 -- whether an operator holds between two versions that compare so
 abbrev pub holds : Operator → Ordering → Bool

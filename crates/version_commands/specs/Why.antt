@@ -1,16 +1,16 @@
 -- What `why` writes for a list of requirements, and for a version.
 use Rattle.std.specs.Prelude.{◌≡◌, ◌==◌, ℕ, List, [], ◌∷◌, ◌++◌, codes, if◌then◌else◌, Option, Some, None, IsSomeAnd}
 use Rattle.std.specs.List.{concat}
-use Rattle.version_rules.specs.Matching.{MatchesAll}
-use Rattle.version_rules.specs.Range.{range_of}
-use Rattle.version_rules.specs.Requirements.{requirements_of}
-use Rattle.version_rules.specs.Versioning.{PlainVersioning, versioning_text}
+use Rattle.version_rules.specs.requirement.Matching.{MatchesAll}
+use Rattle.version_rules.specs.requirement.Range.{range_of}
+use Rattle.version_rules.specs.requirement.Requirements.{requirements_of}
+use Rattle.version_rules.specs.grammar.Versioning.{PlainVersioning, versioning_text}
 use Rattle.version_texts.specs.Conflict.{ExcludeEachOther}
 use Rattle.version_texts.specs.Empty.{IsEmpty}
 use Rattle.version_texts.specs.MemberPlace.{text_between}
 use Rattle.version_texts.specs.Why.{IsExcluded, excluded_text}
-use Rattle.version_texts.specs.declared.conflict.Conflict.{Conflict}
-use Rattle.version_texts.specs.declared.why.Excluded.{Excluded}
+use Rattle.version_texts.specs.declared.requirement.conflict.Conflict.{Conflict}
+use Rattle.version_texts.specs.declared.requirement.why.Excluded.{Excluded}
 
 -- The line for a version: where each member of the list matches it, that it matches; else why the
 -- first member that does not match excludes it.

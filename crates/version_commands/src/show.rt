@@ -4,7 +4,7 @@ ghost use Rattle.std.specs.Prelude.{◌≡◌, ◌++◌, OnOk};
 ghost use Rattle.std.specs.Fmt.{decimal};
 ghost use Rattle.std.specs.Option.{option_map};
 ghost use Rattle.version_commands.specs.Show.{field_line, kind_name, show_text, shown_epoch, stability_name};
-ghost use Rattle.version_rules.specs.Versioning.{versioning_nth};
+ghost use Rattle.version_rules.specs.grammar.Versioning.{versioning_nth};
 ghost use Rattle.version_texts.specs.Field.{field_text};
 ghost use Rattle.version_texts.specs.VersioningRef.{plain_versioning_ref};
 

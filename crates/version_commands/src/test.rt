@@ -2,8 +2,8 @@
 
 ghost use Rattle.std.specs.Prelude.{◌≡◌};
 ghost use Rattle.version_commands.specs.Test.{answer_of_two, holds, IsAnswerOfList};
-ghost use Rattle.version_rules.specs.Requirements.{requirements_of};
-ghost use Rattle.version_rules.specs.Versioning.{versioning_of};
+ghost use Rattle.version_rules.specs.requirement.Requirements.{requirements_of};
+ghost use Rattle.version_rules.specs.grammar.Versioning.{versioning_of};
 
 use crate::options::Operator;
 use std::cmp::Ordering;

@@ -3,7 +3,7 @@
 ghost use Rattle.std.specs.Prelude.{◌≡◌, ◌∷◌, ◌++◌, [], IsSome, OnOk};
 ghost use Rattle.version_commands.specs.Pieces.{Adds};
 ghost use Rattle.version_commands.specs.Why.{conflict_line, IsConflictText, IsWhyLine};
-ghost use Rattle.version_rules.specs.Requirements.{requirements_of};
+ghost use Rattle.version_rules.specs.requirement.Requirements.{requirements_of};
 ghost use Rattle.version_texts.specs.Conflict.{ExcludeEachOther};
 ghost use Rattle.version_texts.specs.VersioningRef.{plain_versioning_ref};
 ghost use Rattle.version_texts.specs.Why.{reason_text};

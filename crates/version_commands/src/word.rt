@@ -1,7 +1,7 @@
 //! Words that should be versions.
 ghost use Rattle.std.specs.Prelude.{◌≡◌, Some, None, IfErr, IfOk};
 ghost use Rattle.version_commands.specs.Fault.{unless_version, ComesOfWords};
-ghost use Rattle.version_rules.specs.Versioning.{versioning_of};
+ghost use Rattle.version_rules.specs.grammar.Versioning.{versioning_of};
 ghost use Rattle.version_texts.specs.VersioningRef.{plain_versioning_ref};
 
 use crate::faults::Fault;

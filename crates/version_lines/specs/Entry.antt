@@ -5,11 +5,11 @@ use Rattle.std.specs.List.{AllPairs}
 use Rattle.std.specs.Ordering.{nat_cmp, on, then_cmp}
 use Rattle.std.specs.declared.cmp.Ordering.{Ordering}
 use Rattle.version_lines.specs.declared.sort.entry.Entry.{Entry}
-use Rattle.version_rules.specs.Key.{key_of}
-use Rattle.version_rules.specs.KeyBytes.{key_bytes}
-use Rattle.version_rules.specs.Lists.{bytes_cmp}
-use Rattle.version_rules.specs.Kind.{versioning_kind}
-use Rattle.version_rules.specs.Versioning.{PlainVersioning, versioning_of}
+use Rattle.version_rules.specs.key.Key.{key_of}
+use Rattle.version_rules.specs.key.KeyBytes.{key_bytes}
+use Rattle.version_rules.specs.order.Lists.{bytes_cmp}
+use Rattle.version_rules.specs.grammar.Kind.{versioning_kind}
+use Rattle.version_rules.specs.grammar.Versioning.{PlainVersioning, versioning_of}
 use Rattle.version_rules.specs.declared.kind.Kind.{Kind}
 use Rattle.version_texts.specs.KeyTies.{kind_on, marked_number, texts_tie}
 

@@ -3,9 +3,9 @@ use Rattle.std.specs.Prelude.{ℕ, Bool, List, is_some, not}
 use Rattle.std.specs.Option.{option_cmp}
 use Rattle.std.specs.Ordering.{on}
 use Rattle.std.specs.declared.cmp.Ordering.{Ordering}
-use Rattle.version_rules.specs.Key.{key_of, precedence}
-use Rattle.version_rules.specs.Orders.{versioning_cmp}
-use Rattle.version_rules.specs.Versioning.{versioning_of}
+use Rattle.version_rules.specs.key.Key.{key_of, precedence}
+use Rattle.version_rules.specs.order.Orders.{versioning_cmp}
+use Rattle.version_rules.specs.grammar.Versioning.{versioning_of}
 
 -- whether a line is not a version
 abbrev pub is_bad : List ℕ → Bool

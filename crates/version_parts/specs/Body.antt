@@ -2,10 +2,10 @@
 use Rattle.std.specs.Prelude.{◌≡◌, ◌<◌, ◌-◌, List, length, map, take, Some}
 use Rattle.version_parts.specs.declared.chunks.Chunks.{Chunks}
 use Rattle.version_parts.specs.declared.scan.Dotted.{Dotted}
-use Rattle.version_rules.specs.Chunk.{PlainChunk, part_front}
+use Rattle.version_rules.specs.grammar.Chunk.{PlainChunk, part_front}
 use Rattle.version_parts.specs.Chunk.{plain_chunk}
-use Rattle.version_rules.specs.Front.{elements_at}
-use Rattle.version_rules.specs.Body.{PlainBody, body_of, last_at}
+use Rattle.version_rules.specs.grammar.Front.{elements_at}
+use Rattle.version_rules.specs.grammar.Body.{PlainBody, body_of, last_at}
 
 -- the chunks of a list
 abbrev pub plain_chunks : Chunks → List PlainChunk

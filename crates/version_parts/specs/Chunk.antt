@@ -6,8 +6,8 @@ use Rattle.std.specs.String.{string_bytes}
 use Rattle.version_parts.specs.declared.chunk.Chunk.{Chunk}
 use Rattle.version_parts.specs.declared.chunk.ChunkRef.{ChunkRef}
 use Rattle.version_parts.specs.declared.chunk.ChunkText.{ChunkText}
-use Rattle.version_rules.specs.Numeral.{SpellsNumeral}
-use Rattle.version_rules.specs.Chunk.{Alphanum, Numeric, PlainChunk}
+use Rattle.version_rules.specs.grammar.Numeral.{SpellsNumeral}
+use Rattle.version_rules.specs.grammar.Chunk.{Alphanum, Numeric, PlainChunk}
 use Rattle.std.specs.Hash as fed
 use Rattle.version_parts.specs.declared.chunk.Chunk.TheVariants as owned
 use Rattle.version_parts.specs.declared.chunk.ChunkRef.TheVariants as lent

@@ -4,7 +4,7 @@ use Rattle.std.specs.Hash.{HashWrites}
 use Rattle.std.specs.String.{string_bytes}
 use Rattle.version_parts.specs.declared.last.Last.{Last}
 use Rattle.version_parts.specs.declared.last.LastRef.{LastRef}
-use Rattle.version_rules.specs.Last.{Alphanum, Numeric, Rc, PlainLast, Post}
+use Rattle.version_rules.specs.grammar.Last.{Alphanum, Numeric, Rc, PlainLast, Post}
 use Rattle.std.specs.Hash as fed
 use Rattle.version_parts.specs.declared.last.Last.TheVariants as owned
 use Rattle.version_parts.specs.declared.last.LastRef.TheVariants as lent

@@ -4,7 +4,7 @@ use Rattle.std.specs.Hash.{HashWrites}
 use Rattle.std.specs.String.{string_bytes}
 use Rattle.version_parts.specs.declared.mchunk.MChunk.{MChunk}
 use Rattle.version_parts.specs.declared.mchunk.MChunkRef.{MChunkRef}
-use Rattle.version_rules.specs.MChunk.{Plain, PlainMChunk, Digits, Rev, mchunk_text, mchunk_rank, mchunk_value}
+use Rattle.version_rules.specs.grammar.MChunk.{Plain, PlainMChunk, Digits, Rev, mchunk_text, mchunk_rank, mchunk_value}
 use Rattle.std.specs.Hash as fed
 use Rattle.version_parts.specs.declared.mchunk.MChunk.TheVariants as owned
 use Rattle.version_parts.specs.declared.mchunk.MChunkRef.TheVariants as lent

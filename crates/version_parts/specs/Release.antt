@@ -2,7 +2,7 @@
 use Rattle.std.specs.Prelude.{List, map}
 use Rattle.std.specs.Hash.{HashWrites}
 use Rattle.version_parts.specs.declared.release.Release.{Release}
-use Rattle.version_rules.specs.Chunk.{PlainChunk}
+use Rattle.version_rules.specs.grammar.Chunk.{PlainChunk}
 use Rattle.version_parts.specs.Chunk.{chunk_fed, plain_chunk}
 use Rattle.std.specs.Hash as fed
 

@@ -5,17 +5,17 @@ ghost use Rattle.std.proofs.Common.{ap};
 ghost use Rattle.std.specs.Cmp.{eq_by_cmp_equiv, on_equiv, on_per, on_total, partial_equiv_from_equiv, po};
 ghost use Rattle.std.specs.Option.{option_map};
 ghost use Rattle.std.specs.Ordering.{as_partial_cmp, eq_by_cmp, on};
-ghost use Rattle.version_rules.specs.Body.{body_front, chunks_front, BodyOwns};
+ghost use Rattle.version_rules.specs.grammar.Body.{body_front, chunks_front, BodyOwns};
 ghost use Rattle.version_parts.specs.Body.{plain_chunks};
 ghost use Rattle.version_parts.specs.Front.{Reads};
 ghost use Rattle.version_parts.specs.Last.{plain_last, plain_last_ref};
 ghost use Rattle.version_rules.specs.laws.Order.{same_where_tied};
-ghost use Rattle.version_rules.specs.PartOrder.{chunks_cmp};
+ghost use Rattle.version_rules.specs.order.PartOrder.{chunks_cmp};
 ghost use Rattle.version_rules.specs.laws.PartOrder.{chunks_cmp_ties, chunks_cmp_total};
 ghost use Rattle.version_parts.specs.Release.{release_fed};
-ghost use Rattle.version_rules.specs.Release.{release_text};
+ghost use Rattle.version_rules.specs.grammar.Release.{release_text};
 ghost use Rattle.version_rules.specs.laws.Release.{release_total, releases_same};
-ghost use Rattle.version_rules.specs.ReleaseOrder.{release_cmp};
+ghost use Rattle.version_rules.specs.order.ReleaseOrder.{release_cmp};
 
 use crate::chunk::{Chunk, Part};
 use crate::key::compare_part_lists;
@@ -128,7 +128,7 @@ pub struct BodyRef<'a> {
 }
 
 impl<'a> Model for BodyRef<'a> {
-    ghost use Rattle.version_rules.specs.Body.{PlainBody};
+    ghost use Rattle.version_rules.specs.grammar.Body.{PlainBody};
 
     ghost Value = { PlainBody };
 

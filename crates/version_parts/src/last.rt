@@ -5,17 +5,17 @@ ghost use Rattle.std.proofs.Common.{ap};
 ghost use Rattle.std.specs.Cmp.{eq_by_cmp_equiv, on_equiv, on_per, on_total, partial_equiv_from_equiv, po};
 ghost use Rattle.std.specs.Option.{option_map};
 ghost use Rattle.std.specs.Ordering.{as_partial_cmp, eq_by_cmp, on};
-ghost use Rattle.version_rules.specs.Chunk.{part_front};
+ghost use Rattle.version_rules.specs.grammar.Chunk.{part_front};
 ghost use Rattle.version_parts.specs.Chunk.{plain_chunk};
-ghost use Rattle.version_rules.specs.Front.{map_value};
-ghost use Rattle.version_rules.specs.Last as plain;
-ghost use Rattle.version_rules.specs.Last.{first_number, last_of, last_text, numbered_last, IsNumbered, LastOwns, PlainLast};
+ghost use Rattle.version_rules.specs.grammar.Front.{map_value};
+ghost use Rattle.version_rules.specs.grammar.Last as plain;
+ghost use Rattle.version_rules.specs.grammar.Last.{first_number, last_of, last_text, numbered_last, IsNumbered, LastOwns, PlainLast};
 ghost use Rattle.version_parts.specs.Last.{last_fed, plain_last, plain_last_ref};
 ghost use Rattle.version_rules.specs.laws.Last.{last_total, lasts_same};
-ghost use Rattle.version_rules.specs.LastOrder.{last_plain_cmp, last_rank};
+ghost use Rattle.version_rules.specs.order.LastOrder.{last_plain_cmp, last_rank};
 ghost use Rattle.version_rules.specs.laws.Order.{same_where_tied};
-ghost use Rattle.version_rules.specs.PartKey.{part_bytes, part_key};
-ghost use Rattle.version_rules.specs.PartOrder.{last_cmp};
+ghost use Rattle.version_rules.specs.key.PartKey.{part_bytes, part_key};
+ghost use Rattle.version_rules.specs.order.PartOrder.{last_cmp};
 ghost use Rattle.version_rules.specs.laws.PartOrder.{last_cmp_ties, last_cmp_total};
 
 use crate::chunk::{Chunk, ChunkRef};
@@ -249,7 +249,7 @@ impl<'a> LastRef<'a> {
     }
 
     // The last part of a text that is a numeral and letters, with or without a numeral after them.
-    #[tactic(auto, unfolding(version_rules::specs::Last::numbered_last))]
+    #[tactic(auto, unfolding(version_rules::specs::grammar::Last::numbered_last))]
     fn numbered(text: &'a str) -> Option<LastRef<'a>>
         ensures value { option_map plain_last_ref result ≡ numbered_last text.now }
         ensures numbered { IfSome result (λ piece. IsNumbered (plain_last_ref piece)) }

@@ -5,15 +5,15 @@ ghost use Rattle.std.specs.Option.{option_map};
 ghost use Rattle.std.proofs.Common.{ap};
 ghost use Rattle.std.specs.Cmp.{eq_by_cmp_equiv, on_equiv, on_per, on_total, partial_equiv_from_equiv, po};
 ghost use Rattle.std.specs.Ordering.{as_partial_cmp, eq_by_cmp, on};
-ghost use Rattle.version_rules.specs.DigitRun.{is_digits};
-ghost use Rattle.version_rules.specs.Front.{dotted_front};
+ghost use Rattle.version_rules.specs.grammar.DigitRun.{is_digits};
+ghost use Rattle.version_rules.specs.grammar.Front.{dotted_front};
 ghost use Rattle.version_parts.specs.Front.{Reads};
 ghost use Rattle.version_rules.specs.laws.Front.{mchunk_consumes};
-ghost use Rattle.version_rules.specs.MChunk.{chunk_before, digits_number, ends_chunk, mchunk_front, mchunk_plain_cmp, mchunk_rank, mchunk_text, mchunk_value, value_of_digits, value_of_revision, variant_of, PlainMChunk};
+ghost use Rattle.version_rules.specs.grammar.MChunk.{chunk_before, digits_number, ends_chunk, mchunk_front, mchunk_plain_cmp, mchunk_rank, mchunk_text, mchunk_value, value_of_digits, value_of_revision, variant_of, PlainMChunk};
 ghost use Rattle.version_parts.specs.MChunk.{mchunk_fed, plain_mchunk, plain_mchunk_ref};
 ghost use Rattle.version_rules.specs.laws.MChunk.{mchunk_total, mchunks_same};
 ghost use Rattle.version_rules.specs.laws.Order.{same_where_tied};
-ghost use Rattle.version_rules.specs.PartOrder.{mchunk_cmp};
+ghost use Rattle.version_rules.specs.order.PartOrder.{mchunk_cmp};
 ghost use Rattle.version_rules.specs.laws.PartOrder.{mchunk_cmp_ties, mchunk_cmp_total};
 
 use crate::key::{PartText, compare_parts};
@@ -232,7 +232,7 @@ impl Element for MessyChunk {
 
     ghost consumes = { mchunk_consumes };
 
-    #[tactic(auto, unfolding(version_rules::specs::MChunk::mchunk_front))]
+    #[tactic(auto, unfolding(version_rules::specs::grammar::MChunk::mchunk_front))]
     fn skip(i: &str) -> Option<&str> {
         Some(nonempty_run(i, Class::Alphanumeric)?.1)
     }
@@ -250,8 +250,8 @@ pub struct SectionRef<'a> {
 
 impl<'a> Model for SectionRef<'a> {
     ghost use Rattle.std.specs.Prelude.{◌≡◌, List, length};
-    ghost use Rattle.version_rules.specs.Front.{elements_at};
-    ghost use Rattle.version_rules.specs.MChunk.{mchunk_front, PlainMChunk};
+    ghost use Rattle.version_rules.specs.grammar.Front.{elements_at};
+    ghost use Rattle.version_rules.specs.grammar.MChunk.{mchunk_front, PlainMChunk};
 
     ghost Value = { List PlainMChunk };
 
@@ -292,7 +292,7 @@ pub enum MChunkRef<'a> {
 
 impl<'a> MChunkRef<'a> {
     // Scans the chunk at the start of a text, and returns it with the rest.
-    #[tactic(auto, unfolding(version_rules::specs::MChunk::mchunk_front))]
+    #[tactic(auto, unfolding(version_rules::specs::grammar::MChunk::mchunk_front))]
     fn scan(i: &'a str) -> Option<(MChunkRef<'a>, &'a str)>
         ensures { option_map (λ r. (plain_mchunk_ref r.0, r.1.now)) result ≡ mchunk_front i.now }
     {
@@ -312,7 +312,7 @@ impl<'a> MChunkRef<'a> {
     }
 
     // The chunk of a run of letters and digits.
-    #[tactic(auto, unfolding(version_rules::specs::MChunk::variant_of))]
+    #[tactic(auto, unfolding(version_rules::specs::grammar::MChunk::variant_of))]
     fn of(run: &'a str) -> MChunkRef<'a>
         ensures { plain_mchunk_ref result ≡ variant_of run.now }
     {

@@ -5,14 +5,14 @@ ghost use Rattle.std.proofs.Common.{ap};
 ghost use Rattle.std.specs.Cmp.{eq_by_cmp_equiv, on_equiv, on_per, on_total, partial_equiv_from_equiv, po};
 ghost use Rattle.std.specs.Option.{option_map};
 ghost use Rattle.std.specs.Ordering.{as_partial_cmp, eq_by_cmp, on};
-ghost use Rattle.version_rules.specs.Chunk.{chunk_front, PlainChunk};
-ghost use Rattle.version_rules.specs.Front.{elements_at};
+ghost use Rattle.version_rules.specs.grammar.Chunk.{chunk_front, PlainChunk};
+ghost use Rattle.version_rules.specs.grammar.Front.{elements_at};
 ghost use Rattle.version_parts.specs.Front.{Reads};
 ghost use Rattle.version_rules.specs.laws.Order.{same_where_tied};
 ghost use Rattle.version_parts.specs.Release.{plain_release, release_fed};
-ghost use Rattle.version_rules.specs.Release.{release_front, release_text};
+ghost use Rattle.version_rules.specs.grammar.Release.{release_front, release_text};
 ghost use Rattle.version_rules.specs.laws.Release.{release_total, releases_same};
-ghost use Rattle.version_rules.specs.ReleaseOrder.{release_bytes, release_cmp};
+ghost use Rattle.version_rules.specs.order.ReleaseOrder.{release_bytes, release_cmp};
 
 use crate::chunk::{Chunk, ReleaseChunk};
 use crate::key::{ItemsLeft, ListLeft};

@@ -1,11 +1,11 @@
 //! The ends of ranges: which bytes each operator takes from the key of its version.
 
 ghost use Rattle.std.specs.Prelude.{◌≡◌, Some, true};
-ghost use Rattle.version_rules.specs.Ends.{kept_parts, range_from, AreWhole};
-ghost use Rattle.version_rules.specs.Key.{key_of, Key};
-ghost use Rattle.version_rules.specs.Kind.{versioning_kind};
-ghost use Rattle.version_rules.specs.Range.{all_kinds, is_strict, kind_alone, no_kinds, op_range, range_without_version, series_range};
-ghost use Rattle.version_rules.specs.Versioning.{PlainVersioning};
+ghost use Rattle.version_rules.specs.requirement.Ends.{kept_parts, range_from, AreWhole};
+ghost use Rattle.version_rules.specs.key.Key.{key_of, Key};
+ghost use Rattle.version_rules.specs.grammar.Kind.{versioning_kind};
+ghost use Rattle.version_rules.specs.requirement.Range.{all_kinds, is_strict, kind_alone, no_kinds, op_range, range_without_version, series_range};
+ghost use Rattle.version_rules.specs.grammar.Versioning.{PlainVersioning};
 ghost use Rattle.version_rules.specs.declared.kind.Kind.TheVariants.{Complex};
 ghost use Rattle.version_rules.specs.declared.ends.End.TheVariants.{Zero};
 

@@ -1,7 +1,7 @@
 //! Some of the kinds of versions.
 
 ghost use Rattle.std.specs.Prelude.{◌≡◌};
-ghost use Rattle.version_rules.specs.Range.{all_kinds, common_kinds, has_kind, kind_alone, no_kinds};
+ghost use Rattle.version_rules.specs.requirement.Range.{all_kinds, common_kinds, has_kind, kind_alone, no_kinds};
 
 use crate::kind::Kind;
 

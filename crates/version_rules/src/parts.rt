@@ -1,8 +1,8 @@
 //! Whether `~` or `^` matches lists of parts, whatever holds them.
 
 ghost use Rattle.std.specs.Prelude.{◌≡◌, ◌∷◌, ◌↔◌, [], List, IfNone, IfSome, IsTrue, Some};
-ghost use Rattle.version_rules.specs.PartKey.{part_cmp, PartKey};
-ghost use Rattle.version_rules.specs.VersionMatch.{is_plain_zero, PartsMatchCaret, PartsMatchTilde, PartsNotBelow};
+ghost use Rattle.version_rules.specs.key.PartKey.{part_cmp, PartKey};
+ghost use Rattle.version_rules.specs.requirement.VersionMatch.{is_plain_zero, PartsMatchCaret, PartsMatchTilde, PartsNotBelow};
 
 use std::cmp::Ordering;
 

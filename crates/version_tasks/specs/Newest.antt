@@ -2,9 +2,9 @@
 use Rattle.std.specs.Prelude.{◌≡◌, ℕ, ◌<◌, ◌≤◌, zero, suc, Bool, true, false, IfSome, List, [], ◌∷◌, Option, Some}
 use Rattle.std.specs.Borrow.{Bor}
 use Rattle.std.specs.declared.cmp.Ordering.TheVariants.{Less, Greater}
-use Rattle.version_rules.specs.Key.{key_of, precedence}
-use Rattle.version_rules.specs.Matching.{MatchesAll}
-use Rattle.version_rules.specs.Versioning.{PlainVersioning, versioning_of}
+use Rattle.version_rules.specs.key.Key.{key_of, precedence}
+use Rattle.version_rules.specs.requirement.Matching.{MatchesAll}
+use Rattle.version_rules.specs.grammar.Versioning.{PlainVersioning, versioning_of}
 use Rattle.version_tasks.specs.Stability.{rank, stability_of}
 use Rattle.version_tasks.specs.Tag.{version_in_tag}
 use Rattle.version_tasks.specs.declared.newest.Wanted.{Wanted}

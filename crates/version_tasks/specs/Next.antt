@@ -3,11 +3,11 @@ use Rattle.std.specs.Prelude.{◌≡◌, ◌==◌, ◌^◌, ◌<◌, ℕ, suc, L
 use Rattle.std.specs.List.{list_all}
 use Rattle.std.specs.Option.{option_map}
 use Rattle.std.specs.declared.cmp.Ordering.TheVariants.{Less, Greater}
-use Rattle.version_rules.specs.Chunk.{number_of}
-use Rattle.version_rules.specs.Key.{key_of, precedence, versioning_epoch}
-use Rattle.version_rules.specs.Kind.{versioning_kind}
-use Rattle.version_rules.specs.Last.{PlainLast, Numeric, Rc, Post, Alphanum}
-use Rattle.version_rules.specs.Versioning.{PlainVersioning, Ideal, General, Complex}
+use Rattle.version_rules.specs.grammar.Chunk.{number_of}
+use Rattle.version_rules.specs.key.Key.{key_of, precedence, versioning_epoch}
+use Rattle.version_rules.specs.grammar.Kind.{versioning_kind}
+use Rattle.version_rules.specs.grammar.Last.{PlainLast, Numeric, Rc, Post, Alphanum}
+use Rattle.version_rules.specs.grammar.Versioning.{PlainVersioning, Ideal, General, Complex}
 
 -- all of these numbers, if none is missing
 abbrev pub all_of : List (Option ℕ) → Option (List ℕ)

@@ -1,5 +1,5 @@
 -- The version that a next one is.
-use Rattle.version_rules.specs.Versioning.{PlainVersioning}
+use Rattle.version_rules.specs.grammar.Versioning.{PlainVersioning}
 use Rattle.version_tasks.specs.NextText.{next_text}
 use Rattle.version_tasks.specs.declared.next.text.Next.{Next}
 use Rattle.version_texts.specs.VersioningRef.{version_in}

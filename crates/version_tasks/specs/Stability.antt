@@ -5,17 +5,17 @@ use Rattle.std.specs.Char.{is_ascii_alphabetic, is_ascii_alphanumeric, is_ascii_
 use Rattle.std.specs.List.{list_any, prefix_len, slice_split, take_while}
 use Rattle.std.specs.Option.{unwrap_or}
 use Rattle.std.specs.Str.{str_eq_ignore_ascii_case}
-use Rattle.version_rules.specs.DigitRun.{is_digits}
-use Rattle.version_rules.specs.Front.{begins}
-use Rattle.version_rules.specs.Mess.{mess_text}
-use Rattle.version_rules.specs.SemVer.{semver_text}
-use Rattle.version_rules.specs.Version.{version_text}
-use Rattle.version_rules.specs.Versioning.{PlainVersioning, Ideal, General, Complex}
+use Rattle.version_rules.specs.grammar.DigitRun.{is_digits}
+use Rattle.version_rules.specs.grammar.Front.{begins}
+use Rattle.version_rules.specs.grammar.Mess.{mess_text}
+use Rattle.version_rules.specs.grammar.SemVer.{semver_text}
+use Rattle.version_rules.specs.grammar.Version.{version_text}
+use Rattle.version_rules.specs.grammar.Versioning.{PlainVersioning, Ideal, General, Complex}
 use Rattle.version_tasks.specs.declared.stability.Stability.{Stability}
 use Rattle.version_tasks.specs.declared.stability.Stability.TheVariants.{Dev, Alpha, Beta, Rc, Stable}
 use Rattle.version_texts.specs.Field.{bare_semver, bare_version, field_text}
 use Rattle.version_texts.specs.Piece.{first_piece}
-use Rattle.version_texts.specs.declared.field.Field.TheVariants as field
+use Rattle.version_texts.specs.declared.versioning_ref.field.Field.TheVariants as field
 
 -- the place of a stability in the order, from the least stable on
 abbrev pub rank : Stability → ℕ

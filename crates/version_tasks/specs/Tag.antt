@@ -3,10 +3,10 @@ use Rattle.std.specs.Prelude.{◌==◌, ◌&&◌, ◌||◌, ℕ, zero, suc, Bool
 use Rattle.std.specs.Char.{is_ascii_digit}
 use Rattle.std.specs.Option.{option_or}
 use Rattle.std.specs.Str.{bytes_eq}
-use Rattle.version_rules.specs.Bytes.{dot}
-use Rattle.version_rules.specs.DigitRun.{starts_with_digit}
-use Rattle.version_rules.specs.Front.{◌>>=◌, begins}
-use Rattle.version_rules.specs.Versioning.{PlainVersioning, versioning_of}
+use Rattle.version_rules.specs.grammar.Bytes.{dot}
+use Rattle.version_rules.specs.grammar.DigitRun.{starts_with_digit}
+use Rattle.version_rules.specs.grammar.Front.{◌>>=◌, begins}
+use Rattle.version_rules.specs.grammar.Versioning.{PlainVersioning, versioning_of}
 use Rattle.version_texts.specs.Shape.{is_section_byte}
 
 -- a sign: any byte that is neither a letter, a digit nor a dot

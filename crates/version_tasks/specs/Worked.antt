@@ -1,7 +1,7 @@
 -- Tags, stabilities and what comes next, worked out by hand.
 use Rattle.std.specs.Prelude.{◌≡◌, ℕ, List, [], ◌∷◌, map, Option, Some, None, codes}
 use Rattle.std.specs.Option.{option_map}
-use Rattle.version_rules.specs.Versioning.{versioning_of, versioning_text}
+use Rattle.version_rules.specs.grammar.Versioning.{versioning_of, versioning_text}
 use Rattle.version_tasks.specs.Next.{IsNext, NoNext}
 use Rattle.version_tasks.specs.Stability.{stability_of}
 use Rattle.version_tasks.specs.Tag.{version_after_prefix, version_in_tag}

@@ -1,7 +1,7 @@
 //! Laws of the definitions, and rows that were worked out by hand.
 
 ghost use Rattle.std.specs.Prelude.{◌≡◌, ℕ};
-ghost use Rattle.version_rules.specs.Versioning.{PlainVersioning};
+ghost use Rattle.version_rules.specs.grammar.Versioning.{PlainVersioning};
 ghost use Rattle.version_tasks.specs.Next.{IsNext};
 ghost use Rattle.version_tasks.specs.Worked.{WorkedRows};
 

@@ -3,9 +3,9 @@
 ghost use Rattle.std.specs.Prelude.{◌≡◌, ◌<◌, ◌≤◌, ℕ, ◌↔◌, IfNone, IfSome, IsTrue, Option};
 ghost use Rattle.std.specs.Option.{option_map};
 ghost use Rattle.std.specs.declared.cmp.Ordering.TheVariants.{Greater};
-ghost use Rattle.version_rules.specs.Key.{key_of, precedence};
-ghost use Rattle.version_rules.specs.Versioning.{PlainVersioning};
-ghost use Rattle.version_rules.specs.Matching.{MatchesAll};
+ghost use Rattle.version_rules.specs.key.Key.{key_of, precedence};
+ghost use Rattle.version_rules.specs.grammar.Versioning.{PlainVersioning};
+ghost use Rattle.version_rules.specs.requirement.Matching.{MatchesAll};
 ghost use Rattle.version_tasks.specs.Newest.{given_version, IsNewest, IsWanted, NoVersion};
 ghost use Rattle.version_tasks.specs.Stability.{rank, stability_of};
 ghost use Rattle.version_texts.specs.VersioningRef.{plain_versioning_ref};

@@ -2,7 +2,7 @@
 
 ghost use Rattle.std.specs.Prelude.{◌≡◌, ◌≤◌, ◌&&◌, ◌^◌, if◌then◌else◌, length, suc, IfNone, IfSome, Some};
 ghost use Rattle.std.specs.List.{list_all};
-ghost use Rattle.version_rules.specs.Versioning.{is_prerelease, versioning_of, versioning_text};
+ghost use Rattle.version_rules.specs.grammar.Versioning.{is_prerelease, versioning_of, versioning_text};
 ghost use Rattle.version_tasks.specs.Next.{IsNext, NoNext};
 ghost use Rattle.version_tasks.specs.NextRef.{plain_next};
 ghost use Rattle.version_tasks.specs.NextText.{is_zero};

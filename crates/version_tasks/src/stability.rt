@@ -5,7 +5,7 @@ ghost use Rattle.std.specs.Prelude.{◌≡◌, ◌≤◌, length, map};
 ghost use Rattle.std.specs.Char.{is_ascii_alphabetic, is_ascii_alphanumeric, is_ascii_digit};
 ghost use Rattle.std.specs.List.{list_any, prefix_len};
 ghost use Rattle.std.specs.Str.{str_eq_ignore_ascii_case};
-ghost use Rattle.version_rules.specs.DigitRun.{is_digits};
+ghost use Rattle.version_rules.specs.grammar.DigitRun.{is_digits};
 ghost use Rattle.version_tasks.specs.Stability.{counted_text, is_early, is_milestone, is_revision, is_short, lower, lowest, of_letter, of_lettered, of_run, of_text, of_word, pre_release_text, runs, stability_of};
 ghost use Rattle.version_texts.specs.Piece.{first_piece};
 ghost use Rattle.version_texts.specs.VersioningRef.{plain_versioning_ref};

@@ -1,10 +1,10 @@
 -- The classes of bytes whose runs are scanned.
 use Rattle.std.specs.Prelude.{◌==◌, ◌||◌, ℕ, Bool, List, [], ◌∷◌, not, if◌then◌else◌}
 use Rattle.std.specs.Char.{is_ascii_alphabetic, is_ascii_alphanumeric, is_ascii_digit}
-use Rattle.version_rules.specs.Bytes.{colon, dot, hyphen, is_identifier_byte, is_metadata_byte, plus}
-use Rattle.version_rules.specs.Sep.{is_sep}
-use Rattle.version_texts.specs.declared.class.Class.{Class}
-use Rattle.version_texts.specs.declared.class.Class.TheVariants.{Digit, Letter, Alphanumeric, Identifier, Metadata, Mark, NotDot, NotSign}
+use Rattle.version_rules.specs.grammar.Bytes.{colon, dot, hyphen, is_identifier_byte, is_metadata_byte, plus}
+use Rattle.version_rules.specs.grammar.Sep.{is_sep}
+use Rattle.version_texts.specs.declared.scan.class.Class.{Class}
+use Rattle.version_texts.specs.declared.scan.class.Class.TheVariants.{Digit, Letter, Alphanumeric, Identifier, Metadata, Mark, NotDot, NotSign}
 
 -- a dot or a sign
 abbrev pub is_mark : ℕ → Bool

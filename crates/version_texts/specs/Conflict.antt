@@ -1,15 +1,15 @@
 -- Two members of a list of requirements that exclude each other.
 use Rattle.std.specs.Prelude.{◌≡◌, ◌⊎◌, ℕ, ◌+◌, IfSome, IsSomeAnd, List, length}
 use Rattle.std.specs.declared.cmp.Ordering.TheVariants.{Less}
-use Rattle.version_rules.specs.Lists.{bytes_cmp}
-use Rattle.version_rules.specs.Range.{PlainRange, common, kind_alone, no_kinds, requirement_range}
+use Rattle.version_rules.specs.order.Lists.{bytes_cmp}
+use Rattle.version_rules.specs.requirement.Range.{PlainRange, common, kind_alone, no_kinds, requirement_range}
 use Rattle.version_rules.specs.declared.kind.Kind.{Kind}
 use Rattle.version_rules.specs.declared.kinds.Kinds.{Kinds}
-use Rattle.version_rules.specs.Requirement.{PlainRequirement}
+use Rattle.version_rules.specs.requirement.Requirement.{PlainRequirement}
 use Rattle.version_texts.specs.Empty.{IsEmpty}
 use Rattle.version_texts.specs.MemberPlace.{IsMember}
-use Rattle.version_texts.specs.declared.conflict.Conflict.{Conflict}
-use Rattle.version_texts.specs.declared.conflict.Place.{Place}
+use Rattle.version_texts.specs.declared.requirement.conflict.Conflict.{Conflict}
+use Rattle.version_texts.specs.declared.requirement.conflict.Place.{Place}
 
 -- A member of the text begins and ends there, and parses as the requirement.
 pub record IsAt (text : List ℕ) (place : Place) (r : PlainRequirement) : Type 0 where

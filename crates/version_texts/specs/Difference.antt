@@ -2,12 +2,12 @@
 use Rattle.std.specs.Prelude.{◌==◌, ℕ, suc, List, [], ◌∷◌, if◌then◌else◌, Option, Some, None}
 use Rattle.std.specs.Option.{option_map, option_or, unwrap_or}
 use Rattle.std.specs.Ordering.{is_eq}
-use Rattle.version_rules.specs.Key.{Key, key_of}
-use Rattle.version_rules.specs.PartKey.{PartKey, part_cmp}
-use Rattle.version_rules.specs.Tail.{tail_cmp}
-use Rattle.version_rules.specs.Versioning.{PlainVersioning, versioning_plain_cmp}
-use Rattle.version_texts.specs.declared.difference.Difference.{Difference}
-use Rattle.version_texts.specs.declared.difference.Difference.TheVariants.{Same, Tie, Epoch, Part, Tail}
+use Rattle.version_rules.specs.key.Key.{Key, key_of}
+use Rattle.version_rules.specs.key.PartKey.{PartKey, part_cmp}
+use Rattle.version_rules.specs.key.Tail.{tail_cmp}
+use Rattle.version_rules.specs.grammar.Versioning.{PlainVersioning, versioning_plain_cmp}
+use Rattle.version_texts.specs.declared.order.difference.Difference.{Difference}
+use Rattle.version_texts.specs.declared.order.difference.Difference.TheVariants.{Same, Tie, Epoch, Part, Tail}
 
 -- the number of the first part that two lists differ in, counted from 0, or None if they differ in
 -- none; a list that ends where the other goes on differs from it there

@@ -1,8 +1,8 @@
 -- Ranges that no version is in.
 use Rattle.std.specs.Prelude.{◌≡◌, ◌⊎◌, IsSomeAnd}
 use Rattle.std.specs.declared.cmp.Ordering.TheVariants.{Less}
-use Rattle.version_rules.specs.Lists.{bytes_cmp}
-use Rattle.version_rules.specs.Range.{PlainRange, no_kinds}
+use Rattle.version_rules.specs.order.Lists.{bytes_cmp}
+use Rattle.version_rules.specs.requirement.Range.{PlainRange, no_kinds}
 
 -- the range has a high end, and its low end is not below it
 abbrev pub IsCrossed : PlainRange → Type 0

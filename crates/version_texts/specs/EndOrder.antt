@@ -1,7 +1,7 @@
 -- The bytes of an end of a range: its epoch, the parts that it keeps, and what follows them.
 use Rattle.std.specs.Prelude.{◌≡◌, ◌⊎◌, ℕ, Bool, true, false, List, [], ◌∷◌, ◌++◌, Option, Some, None}
-use Rattle.version_rules.specs.Key.{Key}
-use Rattle.version_rules.specs.Tail.{tail_bytes}
+use Rattle.version_rules.specs.key.Key.{Key}
+use Rattle.version_rules.specs.key.Tail.{tail_bytes}
 use Rattle.version_rules.specs.declared.ends.End.{End}
 use Rattle.version_rules.specs.declared.ends.Kept.{Kept}
 use Rattle.version_rules.specs.declared.ends.Kept.TheVariants.{All}

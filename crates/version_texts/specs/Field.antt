@@ -2,16 +2,16 @@
 use Rattle.std.specs.Prelude.{◌+◌, ℕ, List, [], ◌∷◌, ◌++◌, length, Option, Some, None}
 use Rattle.std.specs.Fmt.{decimal}
 use Rattle.std.specs.Option.{option_map}
-use Rattle.version_rules.specs.Body.{body_text}
-use Rattle.version_rules.specs.Bytes.{hyphen, plus}
-use Rattle.version_rules.specs.Release.{release_text}
-use Rattle.version_rules.specs.Key.{mess_epoch}
-use Rattle.version_rules.specs.Mess.{joined_section}
-use Rattle.version_rules.specs.SemVer.{PlainSemVer, semver_text}
-use Rattle.version_rules.specs.Version.{PlainVersion, epoch_text, version_text}
-use Rattle.version_rules.specs.Versioning.{PlainVersioning, Ideal, General, Complex}
-use Rattle.version_texts.specs.declared.field.Field.{Field}
-use Rattle.version_texts.specs.declared.field.Field.TheVariants.{Epoch, PreRelease, Release, Metadata}
+use Rattle.version_rules.specs.grammar.Body.{body_text}
+use Rattle.version_rules.specs.grammar.Bytes.{hyphen, plus}
+use Rattle.version_rules.specs.grammar.Release.{release_text}
+use Rattle.version_rules.specs.key.Key.{mess_epoch}
+use Rattle.version_rules.specs.grammar.Mess.{joined_section}
+use Rattle.version_rules.specs.grammar.SemVer.{PlainSemVer, semver_text}
+use Rattle.version_rules.specs.grammar.Version.{PlainVersion, epoch_text, version_text}
+use Rattle.version_rules.specs.grammar.Versioning.{PlainVersioning, Ideal, General, Complex}
+use Rattle.version_texts.specs.declared.versioning_ref.field.Field.{Field}
+use Rattle.version_texts.specs.declared.versioning_ref.field.Field.TheVariants.{Epoch, PreRelease, Release, Metadata}
 
 -- the text of a field, if the version has it
 abbrev pub field_text : Field → PlainVersioning → Option (List ℕ)

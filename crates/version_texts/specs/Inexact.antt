@@ -2,9 +2,9 @@
 use Rattle.std.specs.Prelude.{ℕ, Bool, false, not, List}
 use Rattle.std.specs.List.{filter, join_with_byte}
 use Rattle.std.specs.Option.{option_map_or}
-use Rattle.version_rules.specs.Range.{requirement_range}
-use Rattle.version_rules.specs.Requirement.{requirement_of}
-use Rattle.version_rules.specs.Requirements.{comma}
+use Rattle.version_rules.specs.requirement.Range.{requirement_range}
+use Rattle.version_rules.specs.requirement.Requirement.{requirement_of}
+use Rattle.version_rules.specs.requirement.Requirements.{comma}
 use Rattle.version_texts.specs.Members.{cut_at_commas}
 
 -- whether a piece parses as a requirement that need not match each version in its range

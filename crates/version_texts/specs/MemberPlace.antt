@@ -1,7 +1,7 @@
 -- Where a member of a list of requirements lies in its text.
 use Rattle.std.specs.Prelude.{◌≡◌, ℕ, ◌+◌, ◌-◌, List, ◌∷◌, ◌++◌, drop, length, take, Option, Some, IsSomeAnd}
 use Rattle.std.specs.List.{All, sum_by}
-use Rattle.version_rules.specs.Requirement.{PlainRequirement, requirement_of}
+use Rattle.version_rules.specs.requirement.Requirement.{PlainRequirement, requirement_of}
 use Rattle.version_texts.specs.Members.{cut_at_commas}
 
 -- the text between two places of another

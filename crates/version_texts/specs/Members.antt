@@ -2,8 +2,8 @@
 use Rattle.std.specs.Prelude.{ℕ, eqb, List, [], map, Option, Some, None}
 use Rattle.std.specs.Borrow.{Bor}
 use Rattle.std.specs.List.{slice_split}
-use Rattle.version_rules.specs.Requirement.{PlainRequirement, requirement_of}
-use Rattle.version_rules.specs.Requirements.{comma, every}
+use Rattle.version_rules.specs.requirement.Requirement.{PlainRequirement, requirement_of}
+use Rattle.version_rules.specs.requirement.Requirements.{comma, every}
 
 -- the pieces of a text between its commas
 abbrev pub cut_at_commas : List ℕ → List (List ℕ)

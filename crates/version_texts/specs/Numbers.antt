@@ -4,9 +4,9 @@ use Rattle.std.specs.Borrow.{Bor}
 use Rattle.std.specs.Char.{is_ascii_alphabetic, is_ascii_digit}
 use Rattle.std.specs.List.{before_first, prefix_len, slice_split, take_while}
 use Rattle.std.specs.Str.Parse.{digits_value}
-use Rattle.version_rules.specs.Bytes.{colon}
-use Rattle.version_rules.specs.MChunk.{value_of_digits}
-use Rattle.version_rules.specs.Sep.{is_sep}
+use Rattle.version_rules.specs.grammar.Bytes.{colon}
+use Rattle.version_rules.specs.grammar.MChunk.{value_of_digits}
+use Rattle.version_rules.specs.grammar.Sep.{is_sep}
 use Rattle.version_texts.specs.Piece.{behind_digits}
 use Rattle.version_texts.specs.TextKey.{pieces}
 use Rattle.version_texts.specs.TextKind.{is_numeral}

@@ -1,7 +1,7 @@
 -- The parts of a text by its first piece, and those of a text that may be missing.
 use Rattle.std.specs.Prelude.{ℕ, List, [], map, Option, Some, None}
 use Rattle.std.specs.Borrow.{Bor}
-use Rattle.version_rules.specs.PartKey.{PartKey, part_key}
+use Rattle.version_rules.specs.key.PartKey.{PartKey, part_key}
 use Rattle.version_texts.specs.Piece.{behind_piece, first_piece, further_pieces, is_dot}
 use Rattle.version_texts.specs.TextKey.{parts_of}
 

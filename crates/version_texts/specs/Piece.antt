@@ -2,8 +2,8 @@
 use Rattle.std.specs.Prelude.{◌==◌, ◌&&◌, ℕ, Bool, false, List, [], ◌∷◌, drop, not}
 use Rattle.std.specs.Char.{is_ascii_digit}
 use Rattle.std.specs.List.{before_first, position_or_len, prefix_len, slice_split}
-use Rattle.version_rules.specs.Bytes.{dot}
-use Rattle.version_rules.specs.Sep.{is_sep}
+use Rattle.version_rules.specs.grammar.Bytes.{dot}
+use Rattle.version_rules.specs.grammar.Sep.{is_sep}
 use Rattle.version_texts.specs.Class.{is_mark}
 use Rattle.version_texts.specs.declared.order.ends.Ends.{Ends}
 use Rattle.version_texts.specs.declared.order.ends.Ends.TheVariants.{Dots, Marks}

@@ -1,14 +1,14 @@
 -- The range of a list of requirements that is borrowed from its text.
 use Rattle.std.specs.Prelude.{◌≡◌, ℕ, List, [], Option, None, length}
 use Rattle.std.specs.Option.{option_map, option_map_or}
-use Rattle.version_texts.specs.declared.range_ref.Bound.{Bound}
-use Rattle.version_texts.specs.declared.range_ref.RangeRef.{RangeRef}
+use Rattle.version_texts.specs.declared.requirement.range_ref.Bound.{Bound}
+use Rattle.version_texts.specs.declared.requirement.range_ref.RangeRef.{RangeRef}
 use Rattle.version_texts.specs.VersioningRef.{plain_versioning_ref}
 use Rattle.version_rules.specs.declared.op.Op.TheVariants.{Wildcard}
-use Rattle.version_rules.specs.Ends.{end_bytes}
-use Rattle.version_rules.specs.Key.{key_of}
-use Rattle.version_rules.specs.Range.{PlainRange}
-use Rattle.version_rules.specs.Requirement.{PlainRequirement}
+use Rattle.version_rules.specs.requirement.Ends.{end_bytes}
+use Rattle.version_rules.specs.key.Key.{key_of}
+use Rattle.version_rules.specs.requirement.Range.{PlainRange}
+use Rattle.version_rules.specs.requirement.Requirement.{PlainRequirement}
 
 -- the bytes of a bound
 abbrev pub bound_bytes : Bound → List ℕ

@@ -2,14 +2,14 @@
 -- their text after the second comma. Which member of a text is the first that isn't a requirement.
 use Rattle.std.specs.Prelude.{◌≡◌, ◌+◌, ℕ, List, [], ◌∷◌, ◌++◌, length, if◌then◌else◌, Option, Some, None, is_some}
 use Rattle.std.specs.Option.{option_map_or}
-use Rattle.version_texts.specs.declared.others.Others.{Others}
-use Rattle.version_texts.specs.declared.requirement_ref.RequirementRef.{RequirementRef}
+use Rattle.version_texts.specs.declared.requirement.others.Others.{Others}
+use Rattle.version_texts.specs.declared.requirement.requirement_ref.RequirementRef.{RequirementRef}
 use Rattle.version_texts.specs.Members.{cut_at_commas}
 use Rattle.version_texts.specs.Others.{held_members}
 use Rattle.version_texts.specs.RequirementRef.{plain_requirement_ref}
-use Rattle.version_rules.specs.Matching.{Matches}
-use Rattle.version_rules.specs.Requirement.{PlainRequirement, requirement_of}
-use Rattle.version_rules.specs.Versioning.{PlainVersioning, versioning_of}
+use Rattle.version_rules.specs.requirement.Matching.{Matches}
+use Rattle.version_rules.specs.requirement.Requirement.{PlainRequirement, requirement_of}
+use Rattle.version_rules.specs.grammar.Versioning.{PlainVersioning, versioning_of}
 
 -- the members after the second one, if there are any
 abbrev pub others_of : Option Others → List PlainRequirement

@@ -3,16 +3,16 @@ use Rattle.std.specs.Prelude.{◌≡◌, ◌==◌, ◌&&◌, ◌||◌, ◌+◌, 
 use Rattle.std.specs.Char.{is_ascii_alphanumeric, is_ascii_digit}
 use Rattle.std.specs.List.{list_all, prefix_len}
 use Rattle.std.specs.Option.{option_map}
-use Rattle.version_rules.specs.Bytes.{colon, dot, hyphen, is_metadata_byte, plus}
-use Rattle.version_rules.specs.DigitRun.{starts_with_digit}
-use Rattle.version_rules.specs.Front.{begins}
-use Rattle.version_rules.specs.Sep.{is_sep}
+use Rattle.version_rules.specs.grammar.Bytes.{colon, dot, hyphen, is_metadata_byte, plus}
+use Rattle.version_rules.specs.grammar.DigitRun.{starts_with_digit}
+use Rattle.version_rules.specs.grammar.Front.{begins}
+use Rattle.version_rules.specs.grammar.Sep.{is_sep}
 use Rattle.version_rules.specs.declared.kind.Kind.{Kind}
-use Rattle.version_rules.specs.Kind.{versioning_kind}
-use Rattle.version_rules.specs.Versioning.{versioning_of}
-use Rattle.version_texts.specs.declared.shape.Shape.{Shape}
-use Rattle.version_texts.specs.declared.shape.TailKind.{TailKind}
-use Rattle.version_texts.specs.declared.shape.TailKind.TheVariants.{PreRelease, Nothing, Release, Sections}
+use Rattle.version_rules.specs.grammar.Kind.{versioning_kind}
+use Rattle.version_rules.specs.grammar.Versioning.{versioning_of}
+use Rattle.version_texts.specs.declared.scan.shape.Shape.{Shape}
+use Rattle.version_texts.specs.declared.scan.shape.TailKind.{TailKind}
+use Rattle.version_texts.specs.declared.scan.shape.TailKind.TheVariants.{PreRelease, Nothing, Release, Sections}
 use Rattle.version_rules.specs.declared.kind.Kind.TheVariants as kind
 
 -- a letter, a digit or a dot: the bytes of a body, and of a section

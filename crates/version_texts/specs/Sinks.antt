@@ -4,10 +4,10 @@ use Rattle.std.specs.Ordering.{ordering_then}
 use Rattle.std.specs.declared.cmp.Ordering.{Ordering}
 use Rattle.std.proofs.Common.{◌∙◌, ap, append_assoc, arith, sym}
 use Rattle.std.proofs.lemmas.List.{length-append}
-use Rattle.version_rules.specs.Lists.{bytes_cmp}
-use Rattle.version_texts.specs.declared.sinks.Beside.{Beside}
-use Rattle.version_texts.specs.declared.sinks.Count.{Count}
-use Rattle.version_texts.specs.declared.sinks.Room.{Room}
+use Rattle.version_rules.specs.order.Lists.{bytes_cmp}
+use Rattle.version_texts.specs.declared.key.sinks.Beside.{Beside}
+use Rattle.version_texts.specs.declared.key.sinks.Count.{Count}
+use Rattle.version_texts.specs.declared.key.sinks.Room.{Room}
 
 -- whatever is written to the last sink leads to what is written to the first one with the bytes
 -- before it

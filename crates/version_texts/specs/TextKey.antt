@@ -3,20 +3,20 @@ use Rattle.std.specs.Prelude.{◌==◌, ℕ, List, [], ◌∷◌, ◌++◌, map,
 use Rattle.std.specs.Char.{is_ascii_digit}
 use Rattle.std.specs.List.{list_all, slice_split}
 use Rattle.std.specs.Str.Parse.{digits_value}
-use Rattle.version_rules.specs.Bytes.{dot}
-use Rattle.version_rules.specs.Chunk.{PlainChunk, Numeric, Alphanum}
-use Rattle.version_rules.specs.NumberBytes.{number_bytes}
-use Rattle.version_rules.specs.PartKey.{PartKey, part_key, parts_bytes}
-use Rattle.version_rules.specs.Sep.{is_sep}
-use Rattle.version_rules.specs.Key.{Key}
-use Rattle.version_rules.specs.Tail.{Tail}
+use Rattle.version_rules.specs.grammar.Bytes.{dot}
+use Rattle.version_rules.specs.grammar.Chunk.{PlainChunk, Numeric, Alphanum}
+use Rattle.version_rules.specs.key.NumberBytes.{number_bytes}
+use Rattle.version_rules.specs.key.PartKey.{PartKey, part_key, parts_bytes}
+use Rattle.version_rules.specs.grammar.Sep.{is_sep}
+use Rattle.version_rules.specs.key.Key.{Key}
+use Rattle.version_rules.specs.key.Tail.{Tail}
 use Rattle.version_texts.specs.Piece.{sign_of}
 use Rattle.version_texts.specs.declared.order.ends.Ends.{Ends}
-use Rattle.version_texts.specs.declared.shape.Shape.{Shape}
-use Rattle.version_texts.specs.declared.shape.TailKind.{TailKind}
-use Rattle.version_texts.specs.declared.shape.TailKind.TheVariants.{PreRelease, Nothing, Release, Sections}
+use Rattle.version_texts.specs.declared.scan.shape.Shape.{Shape}
+use Rattle.version_texts.specs.declared.scan.shape.TailKind.{TailKind}
+use Rattle.version_texts.specs.declared.scan.shape.TailKind.TheVariants.{PreRelease, Nothing, Release, Sections}
 use Rattle.version_texts.specs.Shape.{body_in, epoch_in, tail_in}
-use Rattle.version_rules.specs.Tail as tail
+use Rattle.version_rules.specs.key.Tail as tail
 
 -- the pieces of a text between its dots
 abbrev pub pieces : List ℕ → List (List ℕ)

@@ -3,9 +3,9 @@ use Rattle.std.specs.Prelude.{◌==◌, ◌&&◌, ◌||◌, ◌+◌, ◌^◌, �
 use Rattle.std.specs.Char.{is_ascii_alphanumeric, is_ascii_digit}
 use Rattle.std.specs.List.{list_all, prefix_len, slice_split, take_while}
 use Rattle.std.specs.Str.Parse.{digits_value}
-use Rattle.version_rules.specs.Bytes.{hyphen, is_identifier_byte, is_metadata_byte, plus}
-use Rattle.version_rules.specs.DigitRun.{is_digits}
-use Rattle.version_rules.specs.Front.{begins}
+use Rattle.version_rules.specs.grammar.Bytes.{hyphen, is_identifier_byte, is_metadata_byte, plus}
+use Rattle.version_rules.specs.grammar.DigitRun.{is_digits}
+use Rattle.version_rules.specs.grammar.Front.{begins}
 use Rattle.version_rules.specs.declared.kind.Kind.{Kind}
 use Rattle.version_texts.specs.Class.{is_mark}
 use Rattle.version_texts.specs.Shape.{behind_body, body_start, from_body, is_section_byte}

@@ -7,10 +7,10 @@ use Rattle.std.specs.Option.{option_cmp, option_map_or}
 use Rattle.std.specs.Ordering.{nat_cmp, on, then_cmp}
 use Rattle.std.specs.declared.cmp.Ordering.{Ordering}
 use Rattle.std.specs.declared.cmp.Ordering.TheVariants.{Less, Equal, Greater}
-use Rattle.version_rules.specs.Bytes.{dot}
-use Rattle.version_rules.specs.Front.{begins}
-use Rattle.version_rules.specs.Lists.{bytes_cmp, split_last}
-use Rattle.version_rules.specs.Sep.{sep_of, sep_rank}
+use Rattle.version_rules.specs.grammar.Bytes.{dot}
+use Rattle.version_rules.specs.grammar.Front.{begins}
+use Rattle.version_rules.specs.order.Lists.{bytes_cmp, split_last}
+use Rattle.version_rules.specs.grammar.Sep.{sep_of, sep_rank}
 use Rattle.version_texts.specs.Numbers.{after_letters}
 use Rattle.version_texts.specs.Piece.{behind_digits}
 use Rattle.version_texts.specs.Shape.{body_start, from_body, is_section_byte}

@@ -1,16 +1,16 @@
 -- Which member of a list of requirements doesn't match a version, and why.
 use Rattle.std.specs.Prelude.{◌≡◌, ℕ, ◌+◌, IsTrue, IfSome, List, ◌++◌, codes, length}
 use Rattle.std.specs.declared.cmp.Ordering.TheVariants.{Less}
-use Rattle.version_rules.specs.Kind.{versioning_kind}
-use Rattle.version_rules.specs.Lists.{bytes_cmp}
-use Rattle.version_rules.specs.Matching.{Matches}
-use Rattle.version_rules.specs.Range.{PlainRange, IsIn, bytes_of, has_kind, requirement_range}
-use Rattle.version_rules.specs.Requirement.{PlainRequirement}
-use Rattle.version_rules.specs.Versioning.{PlainVersioning, versioning_text}
+use Rattle.version_rules.specs.grammar.Kind.{versioning_kind}
+use Rattle.version_rules.specs.order.Lists.{bytes_cmp}
+use Rattle.version_rules.specs.requirement.Matching.{Matches}
+use Rattle.version_rules.specs.requirement.Range.{PlainRange, IsIn, bytes_of, has_kind, requirement_range}
+use Rattle.version_rules.specs.requirement.Requirement.{PlainRequirement}
+use Rattle.version_rules.specs.grammar.Versioning.{PlainVersioning, versioning_text}
 use Rattle.version_texts.specs.MemberPlace.{IsFirstFailing, text_between}
-use Rattle.version_texts.specs.declared.why.Excluded.{Excluded}
-use Rattle.version_texts.specs.declared.why.Why.{Why}
-use Rattle.version_texts.specs.declared.why.Why.TheVariants.{Kind, Below, Above, Parts}
+use Rattle.version_texts.specs.declared.requirement.why.Excluded.{Excluded}
+use Rattle.version_texts.specs.declared.requirement.why.Why.{Why}
+use Rattle.version_texts.specs.declared.requirement.why.Why.TheVariants.{Kind, Below, Above, Parts}
 
 -- the version's kind is one of the range's
 abbrev pub IsOfKind : PlainRange → PlainVersioning → Type 0

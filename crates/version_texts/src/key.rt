@@ -4,27 +4,32 @@ ghost use Rattle.std.specs.Prelude.{◌≡◌, ◌==◌, false, ◌∷◌, ◌-�
 ghost use Rattle.std.specs.Char.{is_ascii_alphanumeric, is_ascii_digit};
 ghost use Rattle.std.specs.List.{list_all, prefix_len, take_while};
 ghost use Rattle.std.specs.Str.Parse.{digits_value};
-ghost use Rattle.version_rules.specs.Bytes.{dot, is_identifier_byte, is_metadata_byte};
-ghost use Rattle.version_rules.specs.Codes.{items_bytes, list_bytes};
-ghost use Rattle.version_rules.specs.DigitRun.{run_value};
-ghost use Rattle.version_rules.specs.Front.{begins};
-ghost use Rattle.version_rules.specs.NumberBytes.{length_bytes, number_bytes};
-ghost use Rattle.version_rules.specs.PartKey.{part_bytes, part_key, parts_bytes};
-ghost use Rattle.version_rules.specs.ReleaseOrder.{chunk_bytes, release_bytes};
-ghost use Rattle.version_rules.specs.Split.{split_bytes, split_of};
-ghost use Rattle.version_rules.specs.KeyBytes.{key_bytes};
-ghost use Rattle.version_rules.specs.Range.{begun};
-ghost use Rattle.version_rules.specs.Tail.{section_bytes, tail_bytes};
+ghost use Rattle.version_rules.specs.grammar.Bytes.{dot, is_identifier_byte, is_metadata_byte};
+ghost use Rattle.version_rules.specs.key.Codes.{items_bytes, list_bytes};
+ghost use Rattle.version_rules.specs.grammar.DigitRun.{run_value};
+ghost use Rattle.version_rules.specs.grammar.Front.{begins};
+ghost use Rattle.version_rules.specs.key.NumberBytes.{length_bytes, number_bytes};
+ghost use Rattle.version_rules.specs.key.PartKey.{part_bytes, part_key, parts_bytes};
+ghost use Rattle.version_rules.specs.order.ReleaseOrder.{chunk_bytes, release_bytes};
+ghost use Rattle.version_rules.specs.key.Split.{split_bytes, split_of};
+ghost use Rattle.version_rules.specs.key.KeyBytes.{key_bytes};
+ghost use Rattle.version_rules.specs.requirement.Range.{begun};
+ghost use Rattle.version_rules.specs.key.Tail.{section_bytes, tail_bytes};
 ghost use Rattle.version_texts.specs.Class.{contains};
 ghost use Rattle.version_texts.specs.Parts.{parts_behind};
 ghost use Rattle.version_texts.specs.Shape.{body_in, epoch_in, is_section_byte, is_tail_byte, tail_in, Fits};
 ghost use Rattle.version_texts.specs.TextKey.{chunk_of, chunks_of, front_bytes, parts_of, sections_of, tail_of, text_key};
 
-use crate::class::{Class, begins_with, split_byte, split_run};
+pub(crate) mod length;
+pub(crate) mod sink;
+pub(crate) mod sinks;
+pub(crate) mod ties;
+
+use crate::key::sink::{Sink, put_all};
 use crate::order::digits::{one_digit, without_zeros};
 use crate::order::piece::after_mark;
-use crate::shape::{Shape, TailKind};
-use crate::sink::{Sink, put_all};
+use crate::scan::class::{Class, begins_with, split_byte, split_run};
+use crate::scan::shape::{Shape, TailKind};
 
 // Writes a length.
 #[inline(always)]

@@ -3,11 +3,12 @@
 ghost use Rattle.std.specs.Prelude.{◌≡◌, ◌<◌};
 ghost use Rattle.std.specs.Ordering.{nat_cmp};
 ghost use Rattle.std.specs.Str.Parse.{digits_value};
-ghost use Rattle.version_rules.specs.Key.{precedence};
-ghost use Rattle.version_rules.specs.Tail.{tail_cmp};
+ghost use Rattle.version_rules.specs.key.Key.{precedence};
+ghost use Rattle.version_rules.specs.key.Tail.{tail_cmp};
 ghost use Rattle.version_texts.specs.Shape.{Fits, epoch_in, tail_in};
 ghost use Rattle.version_texts.specs.TextKey.{tail_of, text_key};
 
+pub(crate) mod difference;
 pub(crate) mod digits;
 pub(crate) mod ends;
 pub(crate) mod list;
@@ -21,7 +22,7 @@ use crate::key::{body_at, epoch_at, tail_at};
 use crate::order::digits::compare_numbers;
 use crate::order::list::{compare_parts, compare_sections};
 use crate::order::release::compare_releases;
-use crate::shape::{Shape, TailKind};
+use crate::scan::shape::{Shape, TailKind};
 use std::cmp::Ordering;
 
 /// Compares two versions by their texts, part by part, up to the first difference.

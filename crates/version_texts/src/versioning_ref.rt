@@ -6,20 +6,25 @@ ghost use Rattle.std.specs.List.{list_all};
 ghost use Rattle.std.specs.Str.Parse.{digits_value};
 ghost use Rattle.version_texts.specs.Shape.{shape_of};
 ghost use Rattle.version_texts.specs.Sinks.{saturated};
-ghost use Rattle.version_rules.specs.Kind.{versioning_kind};
-ghost use Rattle.version_rules.specs.Versioning.{kind_rank, PlainVersioning};
+ghost use Rattle.version_rules.specs.grammar.Kind.{versioning_kind};
+ghost use Rattle.version_rules.specs.grammar.Versioning.{kind_rank, PlainVersioning};
 
-use crate::difference::{Difference, key_difference};
-use crate::end_order::compare_ends;
-use crate::field::Field;
-use crate::key_room::{LONGEST_WITH_ROOM, length_with, room_for};
+pub(crate) mod field;
+pub(crate) mod numbers;
+
+use crate::key::length::{LONGEST_WITH_ROOM, length_with, room_for};
+use crate::key::sink::Sink;
+use crate::key::sinks;
+use crate::key::sinks::{Count, Room};
+use crate::order::difference::{Difference, key_difference};
 use crate::order::piece::through_dot;
 use crate::order::ties;
+use crate::requirement::end_order::compare_ends;
+use crate::requirement::{matching, range};
 use crate::scan::scan;
-use crate::shape::{Shape, TailKind};
-use crate::sink::Sink;
-use crate::sinks::{Count, Room};
-use crate::{key, matching, numbers, order, range, sinks};
+use crate::scan::shape::{Shape, TailKind};
+use crate::versioning_ref::field::Field;
+use crate::{key, order};
 use std::alloc::AllocError;
 use std::cmp::Ordering;
 use std::{fmt, str};
@@ -39,12 +44,12 @@ impl<'a> VersioningRef<'a> {
     ghost use Rattle.std.specs.Prelude.{◌+◌, ◌-◌, ◌++◌, ◌↔◌, ◌<◌, ◌≤◌, ◌^◌, length, IfNone, IfSome, IsTrue, OnErr, OnOk};
     ghost use Rattle.std.specs.Option.{option_map};
     ghost use Rattle.std.specs.declared.cmp.Ordering.TheVariants.{Equal};
-    ghost use Rattle.version_rules.specs.Lists.{bytes_cmp};
-    ghost use Rattle.version_rules.specs.Ends.{end_bytes};
-    ghost use Rattle.version_rules.specs.Key.{key_of, precedence, versioning_epoch};
-    ghost use Rattle.version_rules.specs.KeyBytes.{key_bytes};
-    ghost use Rattle.version_rules.specs.Range.{has_kind, AreBetween};
-    ghost use Rattle.version_rules.specs.Versioning.{is_prerelease, versioning_nth, versioning_of, versioning_plain_cmp, versioning_text};
+    ghost use Rattle.version_rules.specs.order.Lists.{bytes_cmp};
+    ghost use Rattle.version_rules.specs.requirement.Ends.{end_bytes};
+    ghost use Rattle.version_rules.specs.key.Key.{key_of, precedence, versioning_epoch};
+    ghost use Rattle.version_rules.specs.key.KeyBytes.{key_bytes};
+    ghost use Rattle.version_rules.specs.requirement.Range.{has_kind, AreBetween};
+    ghost use Rattle.version_rules.specs.grammar.Versioning.{is_prerelease, versioning_nth, versioning_of, versioning_plain_cmp, versioning_text};
     ghost use Rattle.version_texts.specs.Difference.{difference_of};
     ghost use Rattle.version_texts.specs.Field.{epoch_and_parts, field_place};
     ghost use Rattle.version_texts.specs.Sinks.{saturated, IsWritten};
@@ -426,7 +431,7 @@ fn rank(kind: Kind) -> u8
 
 /// Writes the text that the version was parsed from, as its `Versioning` does.
 impl<'a> fmt::Display for VersioningRef<'a> {
-    ghost use Rattle.version_rules.specs.Versioning.{versioning_text};
+    ghost use Rattle.version_rules.specs.grammar.Versioning.{versioning_text};
     ghost use Rattle.version_texts.specs.VersioningRef.{plain_versioning_ref};
 
     ghost output = { λ v. Some (versioning_text (plain_versioning_ref v)) };
@@ -440,7 +445,7 @@ impl<'a> fmt::Display for VersioningRef<'a> {
 impl<'a> PartialEq for VersioningRef<'a> {
     ghost use Rattle.std.specs.Cmp.{eq_by_cmp_equiv, on_per, partial_equiv_from_equiv};
     ghost use Rattle.std.specs.Ordering.{eq_by_cmp, on};
-    ghost use Rattle.version_rules.specs.Versioning.{versioning_plain_cmp};
+    ghost use Rattle.version_rules.specs.grammar.Versioning.{versioning_plain_cmp};
     ghost use Rattle.version_rules.specs.laws.Versioning.{versioning_plain_total};
     ghost use Rattle.version_texts.specs.VersioningRef.{plain_versioning_ref};
 
@@ -476,7 +481,7 @@ impl<'a> Ord for VersioningRef<'a> {
     ghost use Rattle.std.specs.Prelude.{refl};
     ghost use Rattle.std.specs.Cmp.{on_total};
     ghost use Rattle.std.specs.Ordering.{on};
-    ghost use Rattle.version_rules.specs.Orders.{versioning_cmp};
+    ghost use Rattle.version_rules.specs.order.Orders.{versioning_cmp};
     ghost use Rattle.version_rules.specs.laws.Orders.{versioning_cmp_ties, versioning_cmp_total};
     ghost use Rattle.version_texts.specs.VersioningRef.{plain_versioning_ref};
 
@@ -501,7 +506,7 @@ impl<'a> Ord for VersioningRef<'a> {
 impl<'a> PartialOrd for VersioningRef<'a> {
     ghost use Rattle.std.specs.Cmp.{on_total, po};
     ghost use Rattle.std.specs.Ordering.{as_partial_cmp, on};
-    ghost use Rattle.version_rules.specs.Orders.{versioning_cmp};
+    ghost use Rattle.version_rules.specs.order.Orders.{versioning_cmp};
     ghost use Rattle.version_rules.specs.laws.Orders.{versioning_cmp_ties, versioning_cmp_total};
     ghost use Rattle.version_texts.specs.VersioningRef.{plain_versioning_ref};
 

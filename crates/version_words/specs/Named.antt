@@ -8,7 +8,7 @@ use Rattle.version_commands.specs.declared.options.Invalid.TheVariants as invali
 use Rattle.version_commands.specs.declared.options.Operator.TheVariants as operator
 use Rattle.version_words.specs.declared.named.Verb.{Verb}
 use Rattle.version_words.specs.declared.named.Verb.TheVariants as verb
-use Rattle.version_rules.specs.DigitRun.{is_digits}
+use Rattle.version_rules.specs.grammar.DigitRun.{is_digits}
 use Rattle.version_tasks.specs.declared.stability.Stability.{Stability}
 use Rattle.version_tasks.specs.declared.stability.Stability.TheVariants as stability
 

@@ -1,10 +1,10 @@
 -- The parts of a general version: those of its chunks, then its last part.
 use Rattle.std.specs.Prelude.{List, [], ◌∷◌, ◌++◌, map}
-use Rattle.version_rules.specs.Chunk.{PlainChunk, chunk_text}
+use Rattle.version_rules.specs.grammar.Chunk.{PlainChunk, chunk_text}
 use Rattle.version_parts.specs.Chunk.{plain_chunk}
-use Rattle.version_rules.specs.Last.{last_text}
+use Rattle.version_rules.specs.grammar.Last.{last_text}
 use Rattle.version_parts.specs.Last.{plain_last}
-use Rattle.version_rules.specs.PartKey.{PartKey, chunk_parts, part_key}
+use Rattle.version_rules.specs.key.PartKey.{PartKey, chunk_parts, part_key}
 use Rattle.versions.specs.declared.parts.BodyParts.{BodyParts}
 
 -- the first of chunks and a last part, and those after it

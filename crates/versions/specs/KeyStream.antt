@@ -2,17 +2,17 @@
 use Rattle.std.specs.Prelude.{ℕ, List, [], ◌∷◌, Option}
 use Rattle.std.specs.Borrow.{Bor}
 use Rattle.std.specs.Option.{option_map_or}
-use Rattle.version_rules.specs.PartKey.{parts_bytes}
+use Rattle.version_rules.specs.key.PartKey.{parts_bytes}
 use Rattle.versions.specs.declared.key.list.CurrentList.{CurrentList}
 use Rattle.versions.specs.declared.key.list.CurrentList.TheVariants.{Ended, One, Two, Three, Parts, Section, Chunks}
 use Rattle.versions.specs.declared.key.tail.TailLeft.{TailLeft}
 use Rattle.versions.specs.declared.key.tail.TailLeft.TheVariants.{Nothing, Bare, Release, Sections, AfterSection}
-use Rattle.version_rules.specs.Key.{plain}
-use Rattle.version_rules.specs.KeyBytes.{further_bytes}
+use Rattle.version_rules.specs.key.Key.{plain}
+use Rattle.version_rules.specs.key.KeyBytes.{further_bytes}
 use Rattle.versions.specs.Mess.{plain_mess}
 use Rattle.versions.specs.declared.mess.Mess.{Mess}
-use Rattle.version_rules.specs.Tail.{tail_bytes}
-use Rattle.version_rules.specs.Tail as tail
+use Rattle.version_rules.specs.key.Tail.{tail_bytes}
+use Rattle.version_rules.specs.key.Tail as tail
 
 -- of the current list
 abbrev pub list_left : CurrentList → List ℕ

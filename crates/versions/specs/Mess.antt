@@ -12,7 +12,7 @@ use Rattle.versions.specs.declared.mess.Mess.{Mess}
 use Rattle.versions.specs.declared.mess.Mess.TheFolds.{fold-Mess}
 use Rattle.versions.specs.declared.mess.Mess.TheOpen.{Mess-F}
 use Rattle.versions.specs.declared.mess.MessRef.{MessRef}
-use Rattle.version_rules.specs.Mess.{Section, Further, PlainMess, further_in}
+use Rattle.version_rules.specs.grammar.Mess.{Section, Further, PlainMess, further_in}
 use Rattle.std.specs.Hash as fed
 
 -- the section of a list of chunks

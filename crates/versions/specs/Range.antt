@@ -1,7 +1,7 @@
 -- The range that a value holds.
 use Rattle.std.specs.Option.{option_map}
 use Rattle.versions.specs.declared.range.Range.{Range}
-use Rattle.version_rules.specs.Range.{PlainRange}
+use Rattle.version_rules.specs.requirement.Range.{PlainRange}
 
 -- the range that a value holds
 abbrev pub plain_range : Range → PlainRange

@@ -1,7 +1,7 @@
 -- The list of requirements that a value holds.
 use Rattle.std.specs.Prelude.{List, map}
 use Rattle.versions.specs.declared.requirements.Requirements.{Requirements}
-use Rattle.version_rules.specs.Requirement.{PlainRequirement}
+use Rattle.version_rules.specs.requirement.Requirement.{PlainRequirement}
 use Rattle.versions.specs.Requirement.{plain_requirement}
 
 -- the requirements of a list

@@ -4,12 +4,12 @@ use Rattle.std.specs.Hash.{HashWrites}
 use Rattle.std.specs.Option.{option_map}
 use Rattle.std.specs.Str.Parse.{digits_value}
 use Rattle.std.specs.String.{string_bytes}
-use Rattle.version_rules.specs.Numeral.{SpellsNumeral}
+use Rattle.version_rules.specs.grammar.Numeral.{SpellsNumeral}
 use Rattle.version_parts.specs.Release.{plain_release, release_fed}
 use Rattle.versions.specs.declared.semver.SemVerRef.{SemVerRef}
 use Rattle.versions.specs.declared.semver.SemVer.{SemVer}
 use Rattle.versions.specs.declared.semver.SemVerText.{SemVerText}
-use Rattle.version_rules.specs.SemVer.{PlainSemVer}
+use Rattle.version_rules.specs.grammar.SemVer.{PlainSemVer}
 use Rattle.std.specs.Hash as fed
 
 -- the version that a value holds

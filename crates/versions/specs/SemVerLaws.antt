@@ -2,9 +2,9 @@
 use Rattle.std.proofs.Common.{◌≡◌, true, refl}
 use Rattle.std.specs.Cmp.{Equal-is}
 use Rattle.std.specs.Ordering.{eq_by_cmp}
-use Rattle.version_rules.specs.SemVer.{PlainSemVer}
+use Rattle.version_rules.specs.grammar.SemVer.{PlainSemVer}
 use Rattle.versions.specs.SemVer.{semver_fed}
-use Rattle.version_rules.specs.SemVerOrder.{semver_cmp}
+use Rattle.version_rules.specs.order.SemVerOrder.{semver_cmp}
 use Rattle.version_rules.specs.laws.SemVer.{tied_same}
 
 -- equal versions are fed alike

@@ -8,7 +8,7 @@ use Rattle.version_parts.specs.Last.{last_fed, plain_last}
 use Rattle.version_parts.specs.Release.{plain_release, release_fed}
 use Rattle.versions.specs.declared.version.VersionRef.{VersionRef}
 use Rattle.versions.specs.declared.version.Version.{Version}
-use Rattle.version_rules.specs.Version.{PlainVersion}
+use Rattle.version_rules.specs.grammar.Version.{PlainVersion}
 use Rattle.std.specs.Hash as fed
 
 -- the version that a value holds

@@ -7,11 +7,11 @@ ghost use Rattle.serde_json.specs.View.{view};
 ghost use Rattle.versions.specs.Errors.{IllegalOp, IllegalVersioning};
 ghost use Rattle.versions.specs.Json.{ReadsJson};
 ghost use Rattle.versions.specs.Requirement.{plain_requirement};
-ghost use Rattle.version_rules.specs.Requirement.{requirement_of, requirement_text, RequirementOwns};
+ghost use Rattle.version_rules.specs.requirement.Requirement.{requirement_of, requirement_text, RequirementOwns};
 ghost use Rattle.versions.specs.Requirements.{plain_requirements};
-ghost use Rattle.version_rules.specs.Requirements.{requirements_of, requirements_text};
+ghost use Rattle.version_rules.specs.requirement.Requirements.{requirements_of, requirements_text};
 ghost use Rattle.versions.specs.Versioning.{plain_versioning};
-ghost use Rattle.version_rules.specs.Versioning.{versioning_of, versioning_text, VersioningOwns};
+ghost use Rattle.version_rules.specs.grammar.Versioning.{versioning_of, versioning_text, VersioningOwns};
 ghost use Rattle.versions.specs.declared.errors.JsonError.TheVariants.{NotText};
 
 use crate::errors::JsonError;

@@ -3,20 +3,20 @@
 ghost use Rattle.std.specs.Prelude.{◌≡◌, ◌++◌, [], map, IfNone, IfOk, IfSome, OnErr, OnOk, List, ℕ};
 ghost use Rattle.std.specs.Iterator.{item_count, YieldsFirst};
 ghost use Rattle.std.specs.Option.{option_map, unwrap_or};
-ghost use Rattle.version_rules.specs.DigitRun.{run_value};
-ghost use Rattle.version_rules.specs.Lists.{bytes_cmp, GrowsWithin};
+ghost use Rattle.version_rules.specs.grammar.DigitRun.{run_value};
+ghost use Rattle.version_rules.specs.order.Lists.{bytes_cmp, GrowsWithin};
 ghost use Rattle.version_parts.specs.MChunk.{plain_mchunk};
-ghost use Rattle.version_rules.specs.NumberBytes.{number_bytes};
-ghost use Rattle.version_rules.specs.PartKey.{parts_bytes};
+ghost use Rattle.version_rules.specs.key.NumberBytes.{number_bytes};
+ghost use Rattle.version_rules.specs.key.PartKey.{parts_bytes};
 ghost use Rattle.version_parts.specs.Pieces.{IsNext};
 ghost use Rattle.version_parts.specs.Release.{plain_release};
-ghost use Rattle.version_rules.specs.ReleaseOrder.{release_bytes};
-ghost use Rattle.version_rules.specs.Key.{key_of, key_of_mess, key_of_semver, key_of_version, key_with_epoch, section_epoch, sections_tail, strict_body};
-ghost use Rattle.version_rules.specs.KeyBytes.{key_bytes};
+ghost use Rattle.version_rules.specs.order.ReleaseOrder.{release_bytes};
+ghost use Rattle.version_rules.specs.key.Key.{key_of, key_of_mess, key_of_semver, key_of_version, key_with_epoch, section_epoch, sections_tail, strict_body};
+ghost use Rattle.version_rules.specs.key.KeyBytes.{key_bytes};
 ghost use Rattle.versions.specs.KeyStream.{list_left, release_tail, tail_left};
 ghost use Rattle.versions.specs.Mess.{plain_mess};
 ghost use Rattle.versions.specs.SemVer.{plain_semver};
-ghost use Rattle.version_rules.specs.Tail.{tail_bytes};
+ghost use Rattle.version_rules.specs.key.Tail.{tail_bytes};
 ghost use Rattle.versions.specs.Version.{plain_version};
 ghost use Rattle.versions.specs.Versioning.{plain_versioning};
 

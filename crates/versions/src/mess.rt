@@ -5,11 +5,11 @@ ghost use Rattle.std.specs.Option.{is_some, option_map};
 ghost use Rattle.std.proofs.Common.{ap};
 ghost use Rattle.std.specs.Cmp.{eq_by_cmp_equiv, on_equiv, on_per, partial_equiv_from_equiv};
 ghost use Rattle.std.specs.Ordering.{eq_by_cmp, on};
-ghost use Rattle.version_rules.specs.Front.{repeated};
+ghost use Rattle.version_rules.specs.grammar.Front.{repeated};
 ghost use Rattle.version_parts.specs.Front.{Reads};
 ghost use Rattle.version_rules.specs.laws.Order.{same_where_tied};
 ghost use Rattle.versions.specs.Errors.{IllegalMess, ReadsOr};
-ghost use Rattle.version_rules.specs.Mess.{behind_colons, further_front, mess_front, mess_of, mess_plain_cmp, mess_text, nth_number, section_front};
+ghost use Rattle.version_rules.specs.grammar.Mess.{behind_colons, further_front, mess_front, mess_of, mess_plain_cmp, mess_text, nth_number, section_front};
 ghost use Rattle.versions.specs.Mess.{mess_fed, plain_further, plain_mess, plain_mess_ref, plain_section};
 ghost use Rattle.version_rules.specs.laws.Mess.{mess_total, messes_same};
 
@@ -270,7 +270,7 @@ fn skip_all_further(i: &str) -> &str
 }
 
 // Returns what follows the sign and the section that the text begins with.
-#[tactic(auto, unfolding(version_rules::specs::Mess::further_front))]
+#[tactic(auto, unfolding(version_rules::specs::grammar::Mess::further_front))]
 fn skip_further(i: &str) -> Option<&str>
     ensures { option_map (λ r. r.now) result ≡ option_map (λ p. p.1) (further_front i.now) }
 {
@@ -289,7 +289,7 @@ fn read_section(alloc: Global, i: &str) -> Result<Option<(Vec<MChunk>, &str)>, A
 }
 
 // Parses a prefix as a sign and a section; returns them and the rest.
-#[tactic(auto, unfolding(version_rules::specs::Mess::further_front))]
+#[tactic(auto, unfolding(version_rules::specs::grammar::Mess::further_front))]
 fn read_further(alloc: Global, i: &str) -> Result<Option<((Sep, Vec<MChunk>), &str)>, AllocError>
     ensures { Reads plain_further (λ _. Unit {0}) result (further_front i.now) }
 {

@@ -1,7 +1,7 @@
 //! The three numbers of a strict version, and whether `~` or `^` matches them.
 
 ghost use Rattle.std.specs.Prelude.{◌↔◌, IsTrue};
-ghost use Rattle.version_rules.specs.SemVerMatch.{MatchesCaret, MatchesTilde};
+ghost use Rattle.version_rules.specs.requirement.SemVerMatch.{MatchesCaret, MatchesTilde};
 
 // Major, minor and patch.
 pub(crate) type Numbers = (u32, u32, u32);

@@ -1,7 +1,7 @@
 //! The parts of a general version, one after another.
 
 ghost use Rattle.std.specs.Prelude.{◌≡◌};
-ghost use Rattle.version_rules.specs.PartKey.{part_key};
+ghost use Rattle.version_rules.specs.key.PartKey.{part_key};
 ghost use Rattle.versions.specs.BodyParts.{first_part, more_parts};
 
 use std::cmp::Ordering;

@@ -4,14 +4,14 @@ ghost use Rattle.std.specs.Prelude.{◌≡◌, ◌↔◌, IfOk, IsSomeAnd, IsTru
 ghost use Rattle.std.specs.Option.{is_some, option_map};
 ghost use Rattle.version_parts.specs.Front.{Reads};
 ghost use Rattle.versions.specs.Errors.{IllegalOp, ReadsOr};
-ghost use Rattle.version_rules.specs.Matching.{IsConvex, Matches};
+ghost use Rattle.version_rules.specs.requirement.Matching.{IsConvex, Matches};
 ghost use Rattle.versions.specs.Range.{plain_range};
-ghost use Rattle.version_rules.specs.Range.{requirement_range, IsIn};
+ghost use Rattle.version_rules.specs.requirement.Range.{requirement_range, IsIn};
 ghost use Rattle.versions.specs.Requirement.{plain_requirement};
-ghost use Rattle.version_rules.specs.Requirement.{requirement_front, requirement_of, requirement_text, RequirementOwns};
+ghost use Rattle.version_rules.specs.requirement.Requirement.{requirement_front, requirement_of, requirement_text, RequirementOwns};
 ghost use Rattle.versions.specs.Versioning.{plain_versioning};
-ghost use Rattle.version_rules.specs.Versioning.{PlainVersioning};
-ghost use Rattle.version_rules.specs.Op.{op_front};
+ghost use Rattle.version_rules.specs.grammar.Versioning.{PlainVersioning};
+ghost use Rattle.version_rules.specs.requirement.Op.{op_front};
 ghost use Rattle.version_rules.specs.declared.op.Op.TheVariants.{Wildcard};
 
 use crate::errors::{Error, ReadError};
@@ -193,7 +193,7 @@ impl fmt::Display for Requirement {
 }
 
 // Parses a prefix as an operator; returns it and the rest.
-#[tactic(auto, unfolding(version_rules::specs::Op::op_front))]
+#[tactic(auto, unfolding(version_rules::specs::requirement::Op::op_front))]
 fn split_op(i: &str) -> Option<(Op, &str)>
     ensures { option_map (λ r. (r.0, r.1.now)) result ≡ op_front i.now }
 {

@@ -3,13 +3,13 @@
 ghost use Rattle.std.specs.Prelude.{◌≡◌, ◌↔◌, IfOk, IsSome, IsTrue, OnErr, Some};
 ghost use Rattle.std.specs.Option.{is_some, option_map};
 ghost use Rattle.versions.specs.Errors.{IllegalOp, ReadsOr};
-ghost use Rattle.version_rules.specs.Matching.{IsConvex, MatchesAll};
+ghost use Rattle.version_rules.specs.requirement.Matching.{IsConvex, MatchesAll};
 ghost use Rattle.versions.specs.Range.{plain_range};
-ghost use Rattle.version_rules.specs.Range.{range_of, IsIn};
+ghost use Rattle.version_rules.specs.requirement.Range.{range_of, IsIn};
 ghost use Rattle.versions.specs.Requirements.{plain_requirements};
-ghost use Rattle.version_rules.specs.Requirements.{requirements_of, requirements_text};
+ghost use Rattle.version_rules.specs.requirement.Requirements.{requirements_of, requirements_text};
 ghost use Rattle.versions.specs.Versioning.{plain_versioning};
-ghost use Rattle.version_rules.specs.Versioning.{PlainVersioning};
+ghost use Rattle.version_rules.specs.grammar.Versioning.{PlainVersioning};
 
 use crate::errors::{Error, ReadError};
 use crate::range::Range;

@@ -6,15 +6,15 @@ ghost use Rattle.std.specs.Option.{is_some, option_map};
 ghost use Rattle.std.specs.Ordering.{as_partial_cmp, eq_by_cmp, on};
 ghost use Rattle.version_parts.specs.Front.{Reads};
 ghost use Rattle.version_parts.specs.Release.{plain_release};
-ghost use Rattle.version_rules.specs.Lists.{none_last_cmp};
-ghost use Rattle.version_rules.specs.ReleaseOrder.{release_cmp};
+ghost use Rattle.version_rules.specs.order.Lists.{none_last_cmp};
+ghost use Rattle.version_rules.specs.order.ReleaseOrder.{release_cmp};
 ghost use Rattle.versions.specs.Errors.{IllegalSemver, ReadsOr};
 ghost use Rattle.versions.specs.SemVerLaws.{fed_alike};
 ghost use Rattle.version_rules.specs.laws.SemVer.{semver_total};
-ghost use Rattle.version_rules.specs.SemVerMatch.{numbers, MatchesCaret, MatchesTilde};
-ghost use Rattle.version_rules.specs.SemVerOrder.{semver_cmp};
+ghost use Rattle.version_rules.specs.requirement.SemVerMatch.{numbers, MatchesCaret, MatchesTilde};
+ghost use Rattle.version_rules.specs.order.SemVerOrder.{semver_cmp};
 ghost use Rattle.versions.specs.SemVer.{plain_semver, semver_fed, plain_semver_ref, semver_of_text, IsSemVerText};
-ghost use Rattle.version_rules.specs.SemVer.{semver_front, semver_of, semver_text, SemVerOwns};
+ghost use Rattle.version_rules.specs.grammar.SemVer.{semver_front, semver_of, semver_text, SemVerOwns};
 
 use crate::errors::{Error, ReadError};
 use crate::numbers::{Numbers, numbers_match_caret, numbers_match_tilde};
@@ -243,7 +243,7 @@ pub struct SemVerRef<'a> {
 
 impl<'a> SemVerRef<'a> {
     // Parses the whole text as a strict version.
-    #[tactic(auto, unfolding(version_rules::specs::SemVer::semver_of))]
+    #[tactic(auto, unfolding(version_rules::specs::grammar::SemVer::semver_of))]
     #[inline(always)]
     pub(crate) fn new(s: &'a str) -> Option<SemVerRef<'a>>
         ensures { option_map plain_semver_ref result ≡ semver_of s.now }
@@ -281,7 +281,7 @@ pub(crate) struct SemVerText<'a> {
 
 impl<'a> SemVerText<'a> {
     // Parses a prefix as a strict version; returns it and the rest.
-    #[tactic(auto, unfolding(version_rules::specs::SemVer::semver_front))]
+    #[tactic(auto, unfolding(version_rules::specs::grammar::SemVer::semver_front))]
     #[inline(always)]
     fn scan(i: &'a str) -> Option<(SemVerText<'a>, &'a str)>
         ensures version { option_map (λ r. (semver_of_text r.0, r.1.now)) result

@@ -5,19 +5,19 @@ ghost use Rattle.std.proofs.Common.{ap};
 ghost use Rattle.std.specs.Cmp.{eq_by_cmp_equiv, on_equiv, on_per, partial_equiv_from_equiv};
 ghost use Rattle.std.specs.Option.{is_some, option_map};
 ghost use Rattle.std.specs.Ordering.{eq_by_cmp, on};
-ghost use Rattle.version_rules.specs.Body.{body_front};
-ghost use Rattle.version_rules.specs.Front.{optional};
+ghost use Rattle.version_rules.specs.grammar.Body.{body_front};
+ghost use Rattle.version_rules.specs.grammar.Front.{optional};
 ghost use Rattle.version_parts.specs.Front.{Reads};
-ghost use Rattle.version_rules.specs.Last as plain;
+ghost use Rattle.version_rules.specs.grammar.Last as plain;
 ghost use Rattle.version_rules.specs.laws.Order.{same_where_tied};
 ghost use Rattle.versions.specs.Errors.{IllegalVersion, ReadsOr};
 ghost use Rattle.versions.specs.BodyParts.{first_part, more_parts};
-ghost use Rattle.version_rules.specs.Key.{key_of_version};
-ghost use Rattle.version_rules.specs.Version.{epoch_front, version_front, version_nth, version_of, version_text, VersionOwns};
+ghost use Rattle.version_rules.specs.key.Key.{key_of_version};
+ghost use Rattle.version_rules.specs.grammar.Version.{epoch_front, version_front, version_nth, version_of, version_text, VersionOwns};
 ghost use Rattle.versions.specs.Version.{plain_version_ref, plain_version, version_fed};
 ghost use Rattle.version_rules.specs.laws.Version.{version_plain_total, versions_same};
-ghost use Rattle.version_rules.specs.VersionMatch.{epoch_and_parts, MatchesCaret, MatchesTilde};
-ghost use Rattle.version_rules.specs.VersionOrder.{version_plain_cmp};
+ghost use Rattle.version_rules.specs.requirement.VersionMatch.{epoch_and_parts, MatchesCaret, MatchesTilde};
+ghost use Rattle.version_rules.specs.order.VersionOrder.{version_plain_cmp};
 
 use crate::errors::{Error, ReadError};
 use crate::optional::{
@@ -249,7 +249,7 @@ pub struct VersionRef<'a> {
 
 impl<'a> VersionRef<'a> {
     // Parses the whole text as a general version.
-    #[tactic(auto, unfolding(version_rules::specs::Version::version_of))]
+    #[tactic(auto, unfolding(version_rules::specs::grammar::Version::version_of))]
     #[inline(always)]
     pub(crate) fn new(s: &'a str) -> Option<VersionRef<'a>>
         ensures { option_map plain_version_ref result ≡ version_of s.now }
@@ -261,7 +261,7 @@ impl<'a> VersionRef<'a> {
     }
 
     // Parses a prefix as a general version; returns it and the rest.
-    #[tactic(auto, unfolding(version_rules::specs::Version::version_front))]
+    #[tactic(auto, unfolding(version_rules::specs::grammar::Version::version_front))]
     #[inline(always)]
     fn scan(i: &'a str) -> Option<(VersionRef<'a>, &'a str)>
         ensures { option_map (λ r. (plain_version_ref r.0, r.1.now)) result ≡ version_front i.now }
@@ -326,7 +326,7 @@ fn scan_body_and_epoch(i: &str) -> Option<(Option<u32>, BodyRef<'_>, &str)>
 }
 
 // Parses a prefix as an epoch; returns it and the rest, or None and the whole text.
-#[tactic(auto, unfolding(version_rules::specs::Front::optional))]
+#[tactic(auto, unfolding(version_rules::specs::grammar::Front::optional))]
 #[inline(always)]
 fn optional_epoch(i: &str) -> (Option<u32>, &str)
     ensures { (result.0, result.1.now) ≡ optional epoch_front i.now }
@@ -338,7 +338,7 @@ fn optional_epoch(i: &str) -> (Option<u32>, &str)
 }
 
 // Parses a prefix as a number and a colon; returns the number and the rest.
-#[tactic(auto, unfolding(version_rules::specs::Version::epoch_front))]
+#[tactic(auto, unfolding(version_rules::specs::grammar::Version::epoch_front))]
 #[inline(always)]
 fn scan_epoch(i: &str) -> Option<(u32, &str)>
     ensures { option_map (λ r. (r.0, r.1.now)) result ≡ epoch_front i.now }

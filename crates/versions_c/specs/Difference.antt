@@ -1,7 +1,7 @@
 -- Where two versions differ first, by numbers.
 use Rattle.std.specs.Prelude.{ℕ}
-use Rattle.version_texts.specs.declared.difference.Difference.{Difference}
-use Rattle.version_texts.specs.declared.difference.Difference.TheVariants.{Same, Tie, Epoch, Part, Tail}
+use Rattle.version_texts.specs.declared.order.difference.Difference.{Difference}
+use Rattle.version_texts.specs.declared.order.difference.Difference.TheVariants.{Same, Tie, Epoch, Part, Tail}
 use Rattle.versions_c.specs.declared.difference.TheConstants.{EPOCH, NONE, PART, TAIL, TIE}
 
 -- the number of a difference

@@ -1,7 +1,7 @@
 -- The members of a list that its range leaves open, in the caller's buffer.
 use Rattle.std.specs.Prelude.{ℕ, ℤ, List, Option, Some, None}
-use Rattle.version_rules.specs.Inexact.{inexact_text}
-use Rattle.version_rules.specs.Requirement.{PlainRequirement}
+use Rattle.version_rules.specs.requirement.Inexact.{inexact_text}
+use Rattle.version_rules.specs.requirement.Requirement.{PlainRequirement}
 use Rattle.versions_c.specs.Written.{room_status}
 use Rattle.versions_c.specs.declared.status.TheConstants.{NO_REQUIREMENTS}
 

@@ -1,6 +1,6 @@
 -- The kinds by their numbers.
 use Rattle.std.specs.Prelude.{ℕ, ℤ, Option, Some, None}
-use Rattle.version_rules.specs.Versioning.{PlainVersioning, Ideal, General, Complex}
+use Rattle.version_rules.specs.grammar.Versioning.{PlainVersioning, Ideal, General, Complex}
 use Rattle.versions_c.specs.declared.status.TheConstants.{OK, NO_VERSION}
 
 -- the number of a version's kind, and 0 without a version

@@ -1,10 +1,10 @@
 -- Which texts a list of requirements matches.
 use Rattle.std.proofs.Common.{◌⊎◌, ◌↔◌, inl, inr, ℕ, ℤ, List, Option, Some, None}
-use Rattle.version_rules.specs.Matching.{MatchesAll}
-use Rattle.version_rules.specs.Range.{IsIn, PlainRange}
+use Rattle.version_rules.specs.requirement.Matching.{MatchesAll}
+use Rattle.version_rules.specs.requirement.Range.{IsIn, PlainRange}
 use Rattle.version_rules.specs.laws.Matching.{matches_all_or_not}
-use Rattle.version_rules.specs.Requirement.{PlainRequirement}
-use Rattle.version_rules.specs.Versioning.{PlainVersioning}
+use Rattle.version_rules.specs.requirement.Requirement.{PlainRequirement}
+use Rattle.version_rules.specs.grammar.Versioning.{PlainVersioning}
 use Rattle.versions_c.specs.declared.status.TheConstants.{OK, NO_REQUIREMENTS, NO_VERSION, NO_WRONG_MEMBER}
 
 -- 1 if something holds, otherwise 0

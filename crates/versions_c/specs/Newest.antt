@@ -1,8 +1,8 @@
 -- Which of many texts are asked for, and which of these is the newest.
 use Rattle.std.specs.Prelude.{◌≡◌, ◌≤◌, ℕ, List, Some}
-use Rattle.version_rules.specs.Matching.{MatchesAll}
-use Rattle.version_rules.specs.Requirement.{PlainRequirement}
-use Rattle.version_rules.specs.Versioning.{PlainVersioning}
+use Rattle.version_rules.specs.requirement.Matching.{MatchesAll}
+use Rattle.version_rules.specs.requirement.Requirement.{PlainRequirement}
+use Rattle.version_rules.specs.grammar.Versioning.{PlainVersioning}
 use Rattle.version_tasks.specs.Newest.{IsNewest, given_version}
 use Rattle.versions_c.specs.Offsets.{text_at}
 use Rattle.versions_c.specs.Ranges.{has_flag}

@@ -1,6 +1,6 @@
 -- The version that comes next after another, in the caller's buffer.
 use Rattle.std.specs.Prelude.{◌≡◌, ◌⊎◌, ℕ, ℤ, List, Option, Some, None}
-use Rattle.version_rules.specs.Versioning.{PlainVersioning, versioning_text}
+use Rattle.version_rules.specs.grammar.Versioning.{PlainVersioning, versioning_text}
 use Rattle.version_tasks.specs.Next.{IsNext, NoNext}
 use Rattle.versions_c.specs.Written.{IsWritten}
 use Rattle.versions_c.specs.declared.status.TheConstants.{NO_NEXT, NO_VERSION}

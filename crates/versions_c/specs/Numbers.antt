@@ -1,8 +1,8 @@
 -- The numbers of a version.
 use Rattle.std.specs.Prelude.{ℕ, ℤ, nat_le, Option, Some, None, is_some, if◌then◌else◌}
 use Rattle.std.specs.Option.{option_map_or}
-use Rattle.version_rules.specs.Key.{versioning_epoch}
-use Rattle.version_rules.specs.Versioning.{PlainVersioning}
+use Rattle.version_rules.specs.key.Key.{versioning_epoch}
+use Rattle.version_rules.specs.grammar.Versioning.{PlainVersioning}
 use Rattle.version_texts.specs.Numbers.{largest_epoch}
 use Rattle.versions_c.specs.declared.status.TheConstants.{OK, LARGE_EPOCH, NO_NUMBER, NO_VERSION}
 

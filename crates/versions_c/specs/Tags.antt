@@ -1,7 +1,7 @@
 -- Where the versions in tags begin.
 use Rattle.std.specs.Prelude.{◌≡◌, ℕ, ◌+◌, ◌≤◌, List, [], slice_index, slice_range}
 use Rattle.std.specs.Option.{option_map_or}
-use Rattle.version_rules.specs.Versioning.{versioning_text}
+use Rattle.version_rules.specs.grammar.Versioning.{versioning_text}
 use Rattle.version_tasks.specs.Tag.{version_in_tag}
 use Rattle.versions_c.specs.Offsets.{text_at}
 

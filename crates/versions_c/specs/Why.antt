@@ -1,16 +1,16 @@
 -- What is said of a list of requirements that doesn't match a version, or any version.
 use Rattle.std.proofs.Common.{◌≡◌, ◌⊎◌, inl, inr, ℕ, ℤ, List, Option, Some, None, IsSomeAnd}
-use Rattle.version_rules.specs.Matching.{MatchesAll}
+use Rattle.version_rules.specs.requirement.Matching.{MatchesAll}
 use Rattle.version_rules.specs.laws.Matching.{matches_all_or_not}
-use Rattle.version_rules.specs.Range.{range_of}
-use Rattle.version_rules.specs.Requirement.{PlainRequirement}
-use Rattle.version_rules.specs.Requirements.{requirements_of}
-use Rattle.version_rules.specs.Versioning.{PlainVersioning}
+use Rattle.version_rules.specs.requirement.Range.{range_of}
+use Rattle.version_rules.specs.requirement.Requirement.{PlainRequirement}
+use Rattle.version_rules.specs.requirement.Requirements.{requirements_of}
+use Rattle.version_rules.specs.grammar.Versioning.{PlainVersioning}
 use Rattle.version_texts.specs.Empty.{IsEmpty}
 use Rattle.version_texts.specs.Why.{IsExcluded, excluded_text}
-use Rattle.version_texts.specs.declared.why.Excluded.{Excluded}
-use Rattle.version_texts.specs.declared.why.Why.{Why}
-use Rattle.version_texts.specs.declared.why.Why.TheVariants.{Kind, Below, Above, Parts}
+use Rattle.version_texts.specs.declared.requirement.why.Excluded.{Excluded}
+use Rattle.version_texts.specs.declared.requirement.why.Why.{Why}
+use Rattle.version_texts.specs.declared.requirement.why.Why.TheVariants.{Kind, Below, Above, Parts}
 use Rattle.versions_c.specs.Matching.{match_status}
 use Rattle.versions_c.specs.Written.{IsWritten}
 use Rattle.versions_c.specs.declared.status.TheConstants.{ALL_MATCH, NO_CONFLICT, NO_REQUIREMENTS, OK}

@@ -1,7 +1,7 @@
 //! Where two versions differ first.
 
 ghost use Rattle.std.specs.Prelude.{◌≡◌, ◌≢◌, IfSome, is_some};
-ghost use Rattle.version_rules.specs.Versioning.{versioning_of};
+ghost use Rattle.version_rules.specs.grammar.Versioning.{versioning_of};
 ghost use Rattle.version_texts.specs.Difference.{difference_of};
 ghost use Rattle.versions_c.specs.Difference.{number_of, part_of};
 ghost use Rattle.versions_c.specs.Order.{pair_status};

@@ -1,12 +1,12 @@
 //! The members of a list of requirements that its range leaves open, in the caller's buffer.
 
 ghost use Rattle.std.specs.Prelude.{◌≡◌, ◌≢◌, ◌↔◌, ◌<◌, ◌≤◌, ◌++◌, [], drop, length, IfSome, List, Some};
-ghost use Rattle.version_rules.specs.Inexact.{inexact_members, inexact_text};
-ghost use Rattle.version_rules.specs.Matching.{MatchesAll};
-ghost use Rattle.version_rules.specs.Range.{range_of, IsIn};
-ghost use Rattle.version_rules.specs.Requirement.{PlainRequirement};
-ghost use Rattle.version_rules.specs.Requirements.{requirements_of};
-ghost use Rattle.version_rules.specs.Versioning.{PlainVersioning};
+ghost use Rattle.version_rules.specs.requirement.Inexact.{inexact_members, inexact_text};
+ghost use Rattle.version_rules.specs.requirement.Matching.{MatchesAll};
+ghost use Rattle.version_rules.specs.requirement.Range.{range_of, IsIn};
+ghost use Rattle.version_rules.specs.requirement.Requirement.{PlainRequirement};
+ghost use Rattle.version_rules.specs.requirement.Requirements.{requirements_of};
+ghost use Rattle.version_rules.specs.grammar.Versioning.{PlainVersioning};
 ghost use Rattle.versions_c.specs.Inexact.{inexact_status};
 
 use crate::status::{NO_REQUIREMENTS, NO_ROOM, OK};

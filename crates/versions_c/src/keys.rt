@@ -1,9 +1,9 @@
 //! The sort keys of versions, in the caller's buffer.
 
 ghost use Rattle.std.specs.Prelude.{◌≡◌, ◌≢◌, ◌↔◌, ◌+◌, ◌^◌, ◌<◌, ◌≤◌, ◌++◌, drop, length, slice_index, IfSome, IsTrue, List, Some, ℕ};
-ghost use Rattle.version_rules.specs.Key.{key_of};
-ghost use Rattle.version_rules.specs.KeyBytes.{key_bytes};
-ghost use Rattle.version_rules.specs.Versioning.{versioning_of, PlainVersioning};
+ghost use Rattle.version_rules.specs.key.Key.{key_of};
+ghost use Rattle.version_rules.specs.key.KeyBytes.{key_bytes};
+ghost use Rattle.version_rules.specs.grammar.Versioning.{versioning_of, PlainVersioning};
 ghost use Rattle.version_texts.specs.KeyRoom.{room_for};
 ghost use Rattle.version_texts.specs.Sinks.{put_at, saturated};
 ghost use Rattle.versions_c.specs.Keys.{all_keys, key_status, keys_before, saturated_signed, spelled_key, AreKeyOffsets};

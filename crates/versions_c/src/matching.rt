@@ -4,9 +4,9 @@ ghost use Rattle.std.specs.Prelude.{◌≡◌, ◌≢◌, ◌↔◌, ◌<◌, �
 ghost use Rattle.version_texts.specs.RangeRef.{plain_range_ref};
 ghost use Rattle.version_texts.specs.RequirementsRef.{wrong_member};
 ghost use Rattle.version_texts.specs.VersioningRef.{plain_versioning_ref};
-ghost use Rattle.version_rules.specs.Matching.{MatchesAll};
-ghost use Rattle.version_rules.specs.Requirements.{requirements_of};
-ghost use Rattle.version_rules.specs.Versioning.{versioning_of};
+ghost use Rattle.version_rules.specs.requirement.Matching.{MatchesAll};
+ghost use Rattle.version_rules.specs.requirement.Requirements.{requirements_of};
+ghost use Rattle.version_rules.specs.grammar.Versioning.{versioning_of};
 ghost use Rattle.versions_c.specs.Matching.{list_status, match_code, match_status, wrong_status, Decide};
 ghost use Rattle.versions_c.specs.Offsets.{text_at, AreOffsets};
 

@@ -1,8 +1,8 @@
 //! The newest of many texts.
 
 ghost use Rattle.std.specs.Prelude.{◌≡◌, ◌≢◌, ◌↔◌, ◌-◌, ◌+◌, ◌<◌, ◌≤◌, ℕ, length, IfNone, IfSome, List, None};
-ghost use Rattle.version_rules.specs.Requirements.{requirements_of};
-ghost use Rattle.version_rules.specs.Versioning.{PlainVersioning};
+ghost use Rattle.version_rules.specs.requirement.Requirements.{requirements_of};
+ghost use Rattle.version_rules.specs.grammar.Versioning.{PlainVersioning};
 ghost use Rattle.version_tasks.specs.Newest.{IsWanted, NoVersion};
 ghost use Rattle.version_tasks.specs.Stability.{rank};
 ghost use Rattle.version_tasks.specs.declared.stability.Stability.{Stability};

@@ -1,7 +1,7 @@
 //! The version that comes next after another, in the caller's buffer.
 
 ghost use Rattle.std.specs.Prelude.{◌≡◌, ◌≢◌};
-ghost use Rattle.version_rules.specs.Versioning.{versioning_of};
+ghost use Rattle.version_rules.specs.grammar.Versioning.{versioning_of};
 ghost use Rattle.versions_c.specs.Next.{IsAnswered};
 
 use crate::status::{NO_NEXT, NO_ROOM, NO_VERSION, OK};

@@ -1,8 +1,8 @@
 //! The numbers of a version.
 
 ghost use Rattle.std.specs.Prelude.{◌≡◌, ◌≢◌, IfSome, Some};
-ghost use Rattle.version_rules.specs.Key.{versioning_epoch};
-ghost use Rattle.version_rules.specs.Versioning.{versioning_nth, versioning_of};
+ghost use Rattle.version_rules.specs.key.Key.{versioning_epoch};
+ghost use Rattle.version_rules.specs.grammar.Versioning.{versioning_nth, versioning_of};
 ghost use Rattle.version_texts.specs.Numbers.{largest_epoch};
 ghost use Rattle.versions_c.specs.Numbers.{epoch_status, number_status};
 

@@ -1,9 +1,9 @@
 //! How two versions compare.
 
 ghost use Rattle.std.specs.Prelude.{◌≡◌, ◌≢◌, IfSome, is_some};
-ghost use Rattle.version_rules.specs.Key.{key_of, precedence};
-ghost use Rattle.version_rules.specs.Orders.{versioning_cmp};
-ghost use Rattle.version_rules.specs.Versioning.{versioning_of};
+ghost use Rattle.version_rules.specs.key.Key.{key_of, precedence};
+ghost use Rattle.version_rules.specs.order.Orders.{versioning_cmp};
+ghost use Rattle.version_rules.specs.grammar.Versioning.{versioning_of};
 ghost use Rattle.versions_c.specs.Order.{pair_status, sign};
 
 use crate::status::{NO_VERSION_A, NO_VERSION_AB, NO_VERSION_B, OK};

@@ -2,10 +2,10 @@
 
 ghost use Rattle.std.specs.Prelude.{◌≡◌, ◌≢◌, ◌<◌, ◌≤◌, if◌then◌else◌, is_some, length, slice_index, take, IfSome, List, None, Some, [], ℕ};
 ghost use Rattle.std.specs.Option.{option_map};
-ghost use Rattle.version_rules.specs.Range.{range_of};
-ghost use Rattle.version_rules.specs.Requirement.{PlainRequirement};
-ghost use Rattle.version_rules.specs.Requirements.{requirements_of};
-ghost use Rattle.version_rules.specs.Versioning.{versioning_of};
+ghost use Rattle.version_rules.specs.requirement.Range.{range_of};
+ghost use Rattle.version_rules.specs.requirement.Requirement.{PlainRequirement};
+ghost use Rattle.version_rules.specs.requirement.Requirements.{requirements_of};
+ghost use Rattle.version_rules.specs.grammar.Versioning.{versioning_of};
 ghost use Rattle.version_texts.specs.VersioningRef.{plain_versioning_ref};
 ghost use Rattle.version_texts.specs.KeyRoom.{room_for};
 ghost use Rattle.versions_c.specs.Kinds.{version_status};

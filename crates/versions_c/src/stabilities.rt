@@ -1,7 +1,7 @@
 //! How stable versions are.
 
 ghost use Rattle.std.specs.Prelude.{◌≡◌, ◌≢◌, ◌<◌, ◌+◌, ℕ, length, pos, slice_index};
-ghost use Rattle.version_rules.specs.Versioning.{versioning_of};
+ghost use Rattle.version_rules.specs.grammar.Versioning.{versioning_of};
 ghost use Rattle.version_tasks.specs.Stability.{rank};
 ghost use Rattle.versions_c.specs.Offsets.{text_at, AreOffsets};
 ghost use Rattle.versions_c.specs.Stabilities.{stability_number};

@@ -1,7 +1,7 @@
 //! Where the versions in tags begin.
 
 ghost use Rattle.std.specs.Prelude.{◌≡◌, ◌≢◌, ◌<◌, ℕ, drop, length, slice_index, IfSome};
-ghost use Rattle.version_rules.specs.Versioning.{versioning_text};
+ghost use Rattle.version_rules.specs.grammar.Versioning.{versioning_text};
 ghost use Rattle.version_tasks.specs.Tag.{version_after_prefix, version_in_tag};
 ghost use Rattle.versions_c.specs.Kinds.{version_status};
 ghost use Rattle.versions_c.specs.Offsets.{AreOffsets};

@@ -1,9 +1,9 @@
 //! Which member of a list of requirements does not match a version, and which two members exclude each other.
 
 ghost use Rattle.std.specs.Prelude.{◌≡◌, ◌≢◌, IfSome};
-ghost use Rattle.version_rules.specs.Range.{range_of};
-ghost use Rattle.version_rules.specs.Requirements.{requirements_of};
-ghost use Rattle.version_rules.specs.Versioning.{versioning_of};
+ghost use Rattle.version_rules.specs.requirement.Range.{range_of};
+ghost use Rattle.version_rules.specs.requirement.Requirements.{requirements_of};
+ghost use Rattle.version_rules.specs.grammar.Versioning.{versioning_of};
 ghost use Rattle.version_texts.specs.Conflict.{ExcludeEachOther, IsByEnds};
 ghost use Rattle.version_texts.specs.Empty.{IsCrossed};
 ghost use Rattle.versions_c.specs.Why.{why_code, why_status, IsConflictStatus, IsExplained, IsToldWhy};

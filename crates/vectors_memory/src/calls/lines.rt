@@ -1,7 +1,7 @@
 //! What programs for lines are made of: the input, the buffer, and lines with their keys.
 ghost use Rattle.std.specs.Prelude.{◌≡◌, IfOk, Some};
 ghost use Rattle.version_lines.specs.KeyedLines.{AreRead};
-ghost use Rattle.version_rules.specs.Versioning.{versioning_of};
+ghost use Rattle.version_rules.specs.grammar.Versioning.{versioning_of};
 ghost use Rattle.version_texts.specs.VersioningRef.{plain_versioning_ref};
 
 use std::alloc::{AllocError, Global};

@@ -12,7 +12,7 @@ use Rattle.version_commands.specs.declared.faults.Fault.{Fault}
 use Rattle.version_commands.specs.declared.options.EachOptions.{EachOptions}
 use Rattle.version_commands.specs.declared.options.Question.{Question}
 use Rattle.version_lines.specs.Lines.{lines_of}
-use Rattle.version_rules.specs.Versioning.{PlainVersioning, versioning_of}
+use Rattle.version_rules.specs.grammar.Versioning.{PlainVersioning, versioning_of}
 
 -- one more answer after the others
 answered-push : (question : Question) (end : ℕ) (texts : List (List ℕ)) (text : List ℕ)

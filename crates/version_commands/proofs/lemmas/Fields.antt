@@ -4,17 +4,17 @@ use Rattle.std.proofs.Math.Seq.{drop-append_seam}
 use Rattle.std.proofs.lemmas.List.{take_at}
 use Rattle.std.specs.Fmt.{decimal}
 use Rattle.std.specs.Option.{option_map}
-use Rattle.version_rules.specs.Body.{body_text}
-use Rattle.version_rules.specs.Bytes.{colon, hyphen, plus}
-use Rattle.version_rules.specs.Key.{mess_epoch}
-use Rattle.version_rules.specs.Mess.{joined_section}
-use Rattle.version_rules.specs.Release.{release_text}
-use Rattle.version_rules.specs.SemVer.{PlainSemVer, optional_text, semver_text}
-use Rattle.version_rules.specs.Version.{PlainVersion, epoch_text, version_text}
-use Rattle.version_rules.specs.Versioning.{PlainVersioning, Ideal, General, Complex, versioning_text}
+use Rattle.version_rules.specs.grammar.Body.{body_text}
+use Rattle.version_rules.specs.grammar.Bytes.{colon, hyphen, plus}
+use Rattle.version_rules.specs.key.Key.{mess_epoch}
+use Rattle.version_rules.specs.grammar.Mess.{joined_section}
+use Rattle.version_rules.specs.grammar.Release.{release_text}
+use Rattle.version_rules.specs.grammar.SemVer.{PlainSemVer, optional_text, semver_text}
+use Rattle.version_rules.specs.grammar.Version.{PlainVersion, epoch_text, version_text}
+use Rattle.version_rules.specs.grammar.Versioning.{PlainVersioning, Ideal, General, Complex, versioning_text}
 use Rattle.version_texts.specs.Field.{bare_semver, bare_version, body_alone, field_place, field_text, numbers_alone, place_behind}
-use Rattle.version_texts.specs.declared.field.Field.{Field}
-use Rattle.version_texts.specs.declared.field.Field.TheVariants.{Epoch, PreRelease, Release, Metadata}
+use Rattle.version_texts.specs.declared.versioning_ref.field.Field.{Field}
+use Rattle.version_texts.specs.declared.versioning_ref.field.Field.TheVariants.{Epoch, PreRelease, Release, Metadata}
 
 -- a text between others lies where its place says
 between : (before text after : List ℕ) (start end : ℕ) → place_behind before text ≡ (start, end)

@@ -18,7 +18,7 @@ use Rattle.version_commands.specs.declared.options.LineOptions.{LineOptions}
 use Rattle.version_commands.proofs.lemmas.Ends.{ends-weaker}
 use Rattle.version_lines.specs.Lines.{lines_of, lines_output, output_by, whole_line}
 use Rattle.version_lines.proofs.lemmas.Sorting.{by_test}
-use Rattle.version_rules.specs.Versioning.{PlainVersioning}
+use Rattle.version_rules.specs.grammar.Versioning.{PlainVersioning}
 
 -- the lines without a version that were found, and those that stand in order, are those of the input
 pub is-arranged : (text_of : List ℕ → List ℕ) (options : LineOptions) (input : List ℕ)

@@ -7,7 +7,7 @@ use Rattle.version_commands.specs.declared.pick.BadLines.{BadLines}
 use Rattle.version_lines.specs.Lines.{lines_of}
 use Rattle.version_lines.proofs.lemmas.Sorting.{by_test}
 use Rattle.version_lines.specs.Sort.{is_bad}
-use Rattle.version_rules.specs.Versioning.{PlainVersioning, versioning_of}
+use Rattle.version_rules.specs.grammar.Versioning.{PlainVersioning, versioning_of}
 
 -- an element that passes a test, and one that does not, after others
 pub filter-pass : {X : Type 0} (p : X → Bool) (xs : List X) (x : X) → p x ≡ true

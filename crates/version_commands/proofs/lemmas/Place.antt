@@ -5,15 +5,15 @@ use Rattle.version_commands.specs.declared.options.Naming.{Naming}
 use Rattle.version_commands.specs.declared.options.Naming.TheVariants.{Bare, Tag, Prefix}
 use Rattle.version_tasks.specs.Tag.{text_after_prefix, text_in_tag, version_after_prefix, version_in_tag}
 use Rattle.version_rules.proofs.lemmas.Versioning.{versioning_of-spells, versioning_printed}
-use Rattle.version_rules.specs.Body.{body_front}
-use Rattle.version_rules.specs.Chunk.{chunk_front_of}
-use Rattle.version_rules.specs.Front.{◌>>=◌, dotted_front, optional, repeated, run_front}
-use Rattle.version_rules.specs.MChunk.{mchunk_front}
-use Rattle.version_rules.specs.Mess.{mess_front, mess_of}
-use Rattle.version_rules.specs.Numeral.{unsigned_front}
-use Rattle.version_rules.specs.SemVer.{semver_front, semver_of}
-use Rattle.version_rules.specs.Version.{epoch_front, version_front, version_of}
-use Rattle.version_rules.specs.Versioning.{PlainVersioning, versioning_of}
+use Rattle.version_rules.specs.grammar.Body.{body_front}
+use Rattle.version_rules.specs.grammar.Chunk.{chunk_front_of}
+use Rattle.version_rules.specs.grammar.Front.{◌>>=◌, dotted_front, optional, repeated, run_front}
+use Rattle.version_rules.specs.grammar.MChunk.{mchunk_front}
+use Rattle.version_rules.specs.grammar.Mess.{mess_front, mess_of}
+use Rattle.version_rules.specs.grammar.Numeral.{unsigned_front}
+use Rattle.version_rules.specs.grammar.SemVer.{semver_front, semver_of}
+use Rattle.version_rules.specs.grammar.Version.{epoch_front, version_front, version_of}
+use Rattle.version_rules.specs.grammar.Versioning.{PlainVersioning, versioning_of}
 
 -- the empty text is no version
 no_empty_version : versioning_of [] ≡ None

@@ -20,8 +20,8 @@ use Rattle.version_lines.specs.Sorting.{in_order, put_in_order, turned}
 use Rattle.version_lines.proofs.lemmas.Sorting.{AtLeast, Rises, below, by_test, in_order-map, in_order-rises, in_order-stable}
 use Rattle.version_lines.proofs.lemmas.Sorting.Turned.{turn-tie, turned_total}
 use Rattle.version_rules.specs.laws.Key.{precedence_total}
-use Rattle.version_rules.specs.Key.{key_of}
-use Rattle.version_rules.specs.Versioning.{versioning_of}
+use Rattle.version_rules.specs.key.Key.{key_of}
+use Rattle.version_rules.specs.grammar.Versioning.{versioning_of}
 
 -- of the elements that are the same as z, the first
 

@@ -13,8 +13,8 @@ use Rattle.version_lines.specs.Sorting.{in_order, put_in_order, turned}
 use Rattle.version_lines.proofs.lemmas.Kept.{newest-first, precedences_total}
 use Rattle.version_lines.proofs.lemmas.Sorting.{below, by_test, head-is}
 use Rattle.version_lines.proofs.lemmas.Sorting.Turned.{turned_total}
-use Rattle.version_rules.specs.Key.{key_of, precedence}
-use Rattle.version_rules.specs.Versioning.{versioning_of}
+use Rattle.version_rules.specs.key.Key.{key_of, precedence}
+use Rattle.version_rules.specs.grammar.Versioning.{versioning_of}
 use Rattle.version_texts.specs.VersioningRef.{plain_versioning_ref}
 use Rattle.version_texts.specs.declared.versioning_ref.VersioningRef.{VersioningRef}
 

@@ -3,8 +3,8 @@ ghost use Rattle.std.specs.Prelude.{◌≡◌, ◌++◌, drop, length, IfOk, IsT
 ghost use Rattle.std.specs.Ordering.{on, then_cmp};
 ghost use Rattle.version_lines.specs.Entry.{after_heads_cmp};
 ghost use Rattle.version_lines.specs.Sorting.{turned};
-ghost use Rattle.version_rules.specs.Key.{key_of};
-ghost use Rattle.version_rules.specs.KeyBytes.{key_bytes};
+ghost use Rattle.version_rules.specs.key.Key.{key_of};
+ghost use Rattle.version_rules.specs.key.KeyBytes.{key_bytes};
 ghost use Rattle.version_texts.specs.VersioningRef.{plain_versioning_ref};
 
 use crate::sort::by::{SortBy, turn};

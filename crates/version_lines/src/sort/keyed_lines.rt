@@ -7,7 +7,7 @@ ghost use Rattle.version_lines.specs.KeyedLines.{lines_in, AreRead};
 ghost use Rattle.version_lines.specs.Newest.{first_of_each, first_of_ties, newest};
 ghost use Rattle.version_lines.specs.Sort.{lines_cmp};
 ghost use Rattle.version_lines.specs.Sorting.{in_order, turned};
-ghost use Rattle.version_rules.specs.Versioning.{versioning_of};
+ghost use Rattle.version_rules.specs.grammar.Versioning.{versioning_of};
 ghost use Rattle.version_texts.specs.VersioningRef.{plain_versioning_ref};
 
 use crate::sort::by::SortBy;

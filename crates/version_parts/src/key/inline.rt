@@ -3,8 +3,8 @@
 ghost use Rattle.std.specs.Prelude.{◌≡◌, ◌∷◌, ◌++◌, ◌+◌, ◌<◌, ◌≤◌, [], List, ℕ, drop, length, IsTrue, None, Some};
 ghost use Rattle.std.specs.Fmt.{decimal};
 ghost use Rattle.std.specs.Iterator.{item_count, YieldsFirst};
-ghost use Rattle.version_rules.specs.NumberBytes.{number_bytes};
-ghost use Rattle.version_rules.specs.PartKey.{part_bytes, Number};
+ghost use Rattle.version_rules.specs.key.NumberBytes.{number_bytes};
+ghost use Rattle.version_rules.specs.key.PartKey.{part_bytes, Number};
 ghost use Rattle.version_parts.specs.Pieces.{GonePast};
 
 use itoa::write_digits;

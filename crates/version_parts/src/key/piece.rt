@@ -2,14 +2,14 @@
 
 ghost use Rattle.std.specs.Prelude.{◌≡◌, ◌∷◌, ◌++◌, [], Some, None, OnErr, OnOk};
 ghost use Rattle.std.specs.Iterator.{item_count, YieldsFirst};
-ghost use Rattle.version_rules.specs.Chunk.{chunk_text};
+ghost use Rattle.version_rules.specs.grammar.Chunk.{chunk_text};
 ghost use Rattle.version_parts.specs.Chunk.{plain_chunk_ref};
-ghost use Rattle.version_rules.specs.DigitRun.{run_value};
-ghost use Rattle.version_rules.specs.Lists.{Growing, GrowsWithin};
-ghost use Rattle.version_rules.specs.NumberBytes.{number_bytes};
-ghost use Rattle.version_rules.specs.PartKey.{part_bytes, part_key, Number};
+ghost use Rattle.version_rules.specs.grammar.DigitRun.{run_value};
+ghost use Rattle.version_rules.specs.order.Lists.{Growing, GrowsWithin};
+ghost use Rattle.version_rules.specs.key.NumberBytes.{number_bytes};
+ghost use Rattle.version_rules.specs.key.PartKey.{part_bytes, part_key, Number};
 ghost use Rattle.version_parts.specs.Pieces.{GonePast, after_number_bytes, place_bytes};
-ghost use Rattle.version_rules.specs.ReleaseOrder.{chunk_bytes};
+ghost use Rattle.version_rules.specs.order.ReleaseOrder.{chunk_bytes};
 
 use crate::chunk::ChunkRef;
 use crate::key::PartText;

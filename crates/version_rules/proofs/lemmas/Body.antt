@@ -3,14 +3,14 @@
 use Rattle.std.proofs.Common.{◌≡◌, ◌∙◌, ◌-◌, ◌++◌, ◌∷◌, ◌<◌, ℕ, List, [], length, take, Some, None, refl, sym, ap, subst, arith, inl, inr, append_assoc, length-append}
 use Rattle.std.proofs.lemmas.List.{take_at}
 use Rattle.std.specs.Char.{is_ascii_alphanumeric}
-use Rattle.version_rules.specs.Body.{PlainBody, SpellsBody, body_front, body_of, body_text, chunks_front, chunks_text}
-use Rattle.version_rules.specs.Bytes.{dot}
-use Rattle.version_rules.specs.Chunk.{PlainChunk, SpellsPart, chunk_text}
-use Rattle.version_rules.specs.Grammar.{SpellsDotted}
-use Rattle.version_rules.specs.Last.{PlainLast, last_of}
-use Rattle.version_rules.specs.Lists.{split_last}
-use Rattle.version_rules.specs.Reading.{EndsList, EndsRun, IsComplete, IsPrinted, IsSound}
-use Rattle.version_rules.specs.Release.{release_text}
+use Rattle.version_rules.specs.grammar.Body.{PlainBody, SpellsBody, body_front, body_of, body_text, chunks_front, chunks_text}
+use Rattle.version_rules.specs.grammar.Bytes.{dot}
+use Rattle.version_rules.specs.grammar.Chunk.{PlainChunk, SpellsPart, chunk_text}
+use Rattle.version_rules.specs.grammar.Grammar.{SpellsDotted}
+use Rattle.version_rules.specs.grammar.Last.{PlainLast, last_of}
+use Rattle.version_rules.specs.order.Lists.{split_last}
+use Rattle.version_rules.specs.grammar.Reading.{EndsList, EndsRun, IsComplete, IsPrinted, IsSound}
+use Rattle.version_rules.specs.grammar.Release.{release_text}
 use Rattle.version_rules.proofs.lemmas.Chunk.{parts_complete, parts_printed, parts_sound}
 use Rattle.version_rules.proofs.lemmas.Front.Repeated.{cases_Option}
 use Rattle.version_rules.proofs.lemmas.Lists.{split_last-append}

@@ -8,8 +8,8 @@ use Rattle.std.specs.Option.{option_cmp}
 use Rattle.std.specs.Ordering.{on, ordering_then, then_cmp}
 use Rattle.std.specs.declared.cmp.Ordering.{Ordering}
 use Rattle.std.specs.declared.cmp.Ordering.TheVariants.{Equal}
-use Rattle.version_rules.specs.Codes.{Writes, list_bytes, items_bytes}
-use Rattle.version_rules.specs.Lists.{bytes_cmp, ended_cmp, with_end}
+use Rattle.version_rules.specs.key.Codes.{Writes, list_bytes, items_bytes}
+use Rattle.version_rules.specs.order.Lists.{bytes_cmp, ended_cmp, with_end}
 use Rattle.version_rules.specs.laws.Order.{options_same, then_equal, then_first}
 use Rattle.version_rules.proofs.lemmas.Orders.{then_assoc, then_decided}
 

@@ -1,11 +1,11 @@
 -- A strict version widened to a general one: its text spells that too, and it prints alike.
 use Rattle.std.proofs.Common.{◌≡◌, ◌∙◌, List, ℕ, [], ◌∷◌, ◌++◌, None, refl, append_assoc}
-use Rattle.version_rules.specs.Bytes.{dot}
-use Rattle.version_rules.specs.Chunk.{PlainChunk, Numeric, SpellsPart}
-use Rattle.version_rules.specs.Grammar.{SpellsDotted}
-use Rattle.version_rules.specs.Conversions.{version_of_semver}
-use Rattle.version_rules.specs.SemVer.{PlainSemVer, SpellsSemVer, semver_text}
-use Rattle.version_rules.specs.Version.{SpellsEpoch, SpellsVersion, version_text}
+use Rattle.version_rules.specs.grammar.Bytes.{dot}
+use Rattle.version_rules.specs.grammar.Chunk.{PlainChunk, Numeric, SpellsPart}
+use Rattle.version_rules.specs.grammar.Grammar.{SpellsDotted}
+use Rattle.version_rules.specs.grammar.Conversions.{version_of_semver}
+use Rattle.version_rules.specs.grammar.SemVer.{PlainSemVer, SpellsSemVer, semver_text}
+use Rattle.version_rules.specs.grammar.Version.{SpellsEpoch, SpellsVersion, version_text}
 
 three_parts : (a b c : List ℕ) (x y z : PlainChunk) → SpellsPart a x → SpellsPart b y
     → SpellsPart c z

@@ -2,19 +2,19 @@
 use Rattle.std.proofs.Common.{◌≡◌, ℕ, ◌<◌, ◌^◌, List, [], ◌∷◌, ◌++◌, Some, refl, inl, inr, append-nil}
 use Rattle.std.proofs.lemmas.Bool.{cases_Bool}
 use Rattle.version_rules.proofs.lemmas.PartKey.{plain_number}
-use Rattle.version_rules.specs.Codes.{items_bytes}
-use Rattle.version_rules.specs.Last.{last_text}
-use Rattle.version_rules.specs.PartKey.{PartKey, chunk_parts, part_bytes, part_key}
+use Rattle.version_rules.specs.key.Codes.{items_bytes}
+use Rattle.version_rules.specs.grammar.Last.{last_text}
+use Rattle.version_rules.specs.key.PartKey.{PartKey, chunk_parts, part_bytes, part_key}
 use Rattle.version_rules.specs.declared.ends.Kept.{Kept}
 use Rattle.version_rules.specs.declared.ends.Kept.TheVariants.{All, ButLast, ThroughOther}
-use Rattle.version_rules.specs.Ends.{kept_parts}
-use Rattle.version_rules.specs.Key.{strict_body}
-use Rattle.version_rules.specs.Kind.{versioning_kind}
-use Rattle.version_rules.specs.VersionMatch.{is_plain_zero}
-use Rattle.version_rules.specs.Range.{alike_from, nothing, series_range}
-use Rattle.version_rules.specs.Versioning.{PlainVersioning, Ideal, General, Complex}
-use Rattle.version_rules.specs.Chunk as chunk
-use Rattle.version_rules.specs.Last as last
+use Rattle.version_rules.specs.requirement.Ends.{kept_parts}
+use Rattle.version_rules.specs.key.Key.{strict_body}
+use Rattle.version_rules.specs.grammar.Kind.{versioning_kind}
+use Rattle.version_rules.specs.requirement.VersionMatch.{is_plain_zero}
+use Rattle.version_rules.specs.requirement.Range.{alike_from, nothing, series_range}
+use Rattle.version_rules.specs.grammar.Versioning.{PlainVersioning, Ideal, General, Complex}
+use Rattle.version_rules.specs.grammar.Chunk as chunk
+use Rattle.version_rules.specs.grammar.Last as last
 use Rattle.version_rules.specs.declared.kind.Kind.TheVariants as kind
 
 -- of a messy version

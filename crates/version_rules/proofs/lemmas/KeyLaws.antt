@@ -4,10 +4,10 @@ use Rattle.version_rules.proofs.lemmas.Codes.{writes_on, writes_then}
 use Rattle.version_rules.proofs.lemmas.NumberBytes.{number_writes}
 use Rattle.version_rules.proofs.lemmas.PartKey.{list_writes, lists_same}
 use Rattle.version_rules.specs.laws.Order.{then_first, then_second}
-use Rattle.version_rules.specs.Codes.{Writes}
+use Rattle.version_rules.specs.key.Codes.{Writes}
 use Rattle.version_rules.proofs.lemmas.Tail.{tail_writes, tails_same}
-use Rattle.version_rules.specs.Key.{Key, precedence}
-use Rattle.version_rules.specs.KeyBytes.{key_bytes}
+use Rattle.version_rules.specs.key.Key.{Key, precedence}
+use Rattle.version_rules.specs.key.KeyBytes.{key_bytes}
 
 pub keys_same : IsAntisymmetric precedence
 keys_same k l e =

@@ -3,10 +3,10 @@ use Rattle.std.proofs.Common.{◌≡◌, ◌∙◌, refl, ap}
 use Rattle.std.specs.Ordering.{ordering_then}
 use Rattle.std.specs.declared.cmp.Ordering.{Ordering}
 use Rattle.std.specs.declared.cmp.Ordering.TheVariants.{Less, Equal, Greater}
-use Rattle.version_rules.specs.Key.{key_of, key_of_semver, precedence}
-use Rattle.version_rules.specs.KeyTies.{key_tie_cmp}
-use Rattle.version_rules.specs.Orders.{versioning_cmp}
-use Rattle.version_rules.specs.Versioning.{PlainVersioning, Ideal, General, Complex}
+use Rattle.version_rules.specs.key.Key.{key_of, key_of_semver, precedence}
+use Rattle.version_rules.specs.key.KeyTies.{key_tie_cmp}
+use Rattle.version_rules.specs.order.Orders.{versioning_cmp}
+use Rattle.version_rules.specs.grammar.Versioning.{PlainVersioning, Ideal, General, Complex}
 use Rattle.version_rules.proofs.lemmas.SemVerOrder.{precedence_of_semvers}
 
 -- an order followed by itself is the same order

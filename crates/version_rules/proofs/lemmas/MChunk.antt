@@ -6,14 +6,14 @@ use Rattle.std.proofs.lemmas.Bool.Decides.{nat_tests}
 use Rattle.std.specs.Char.{is_ascii_alphanumeric}
 use Rattle.std.specs.Cmp.{second_so}
 use Rattle.std.specs.List.{join_with_byte, list_all}
-use Rattle.version_rules.specs.Bytes.{dot}
-use Rattle.version_rules.specs.DigitRun.{is_digits}
-use Rattle.version_rules.specs.Front.{Consumes, dotted_front, run_front}
+use Rattle.version_rules.specs.grammar.Bytes.{dot}
+use Rattle.version_rules.specs.grammar.DigitRun.{is_digits}
+use Rattle.version_rules.specs.grammar.Front.{Consumes, dotted_front, run_front}
 use Rattle.version_rules.specs.laws.Front.{mchunk_consumes}
-use Rattle.version_rules.specs.Grammar.{SpellsDotted}
-use Rattle.version_rules.specs.MChunk.{Digits, Rev, Plain, EndsChunk, PlainMChunk, SpellsDigits, SpellsMChunk, SpellsRevision, chunk_before, ends_chunk, mchunk_front, mchunk_text, value_of_digits, value_of_revision, variant_of}
-use Rattle.version_rules.specs.Reading.{EndsList, EndsRun, IsComplete, IsKept, IsPrinted, IsSoundBefore}
-use Rattle.version_rules.specs.Sep.{PlainSep, Colon, Hyphen, Plus, Underscore, Tilde, sep_byte, sep_front, sep_of}
+use Rattle.version_rules.specs.grammar.Grammar.{SpellsDotted}
+use Rattle.version_rules.specs.grammar.MChunk.{Digits, Rev, Plain, EndsChunk, PlainMChunk, SpellsDigits, SpellsMChunk, SpellsRevision, chunk_before, ends_chunk, mchunk_front, mchunk_text, value_of_digits, value_of_revision, variant_of}
+use Rattle.version_rules.specs.grammar.Reading.{EndsList, EndsRun, IsComplete, IsKept, IsPrinted, IsSoundBefore}
+use Rattle.version_rules.specs.grammar.Sep.{PlainSep, Colon, Hyphen, Plus, Underscore, Tilde, sep_byte, sep_front, sep_of}
 use Rattle.version_rules.proofs.lemmas.Chunk.{digit_alphanumeric, dotted_printed}
 use Rattle.version_rules.proofs.lemmas.Front.Dotted.{dotted_complete, dotted_consumes}
 use Rattle.version_rules.proofs.lemmas.Front.Repeated.{cases_Option}

@@ -12,13 +12,13 @@ use Rattle.std.specs.Ordering.{MatchOrdering, nat_cmp, ordering_then}
 use Rattle.std.specs.declared.cmp.Ordering.{Ordering}
 use Rattle.std.specs.declared.cmp.Ordering.TheVariants.{Less, Equal, Greater}
 use Rattle.version_rules.proofs.lemmas.Orders.{then_assoc}
-use Rattle.version_rules.specs.Codes.{Writes}
-use Rattle.version_rules.specs.Lists.{bytes_cmp}
-use Rattle.version_rules.specs.NumberBytes.{length_bytes, number_bytes}
+use Rattle.version_rules.specs.key.Codes.{Writes}
+use Rattle.version_rules.specs.order.Lists.{bytes_cmp}
+use Rattle.version_rules.specs.key.NumberBytes.{length_bytes, number_bytes}
 use Rattle.std.proofs.lemmas.Bool.Decides.{nat_tests}
 use Rattle.std.specs.List.{list_all}
 use Rattle.std.specs.Str.Parse.{digits_value, digits_value_after}
-use Rattle.version_rules.specs.Front.{begins}
+use Rattle.version_rules.specs.grammar.Front.{begins}
 
 -- ---- numbers
 

@@ -10,9 +10,9 @@ use Rattle.std.proofs.lemmas.Str.Parse.{digits_value_short}
 use Rattle.std.specs.List.{list_all}
 use Rattle.std.specs.Option.{option_and_then}
 use Rattle.std.specs.Str.Parse.{digits_value}
-use Rattle.version_rules.specs.Front.{after_mark, run_front}
-use Rattle.version_rules.specs.Numeral.{HasNoLeadingZero, SpellsNumeral, unsigned_front, value_of_run}
-use Rattle.version_rules.specs.Reading.{EndsRun, IsComplete, IsPrinted, IsSound}
+use Rattle.version_rules.specs.grammar.Front.{after_mark, run_front}
+use Rattle.version_rules.specs.grammar.Numeral.{HasNoLeadingZero, SpellsNumeral, unsigned_front, value_of_run}
+use Rattle.version_rules.specs.grammar.Reading.{EndsRun, IsComplete, IsPrinted, IsSound}
 use Rattle.version_rules.proofs.lemmas.Front.Repeated.{cases_Option}
 use Rattle.version_rules.proofs.lemmas.Numeral.Runs.{digits_model}
 use Rattle.version_rules.proofs.lemmas.Front.Runs.{after_mark-Some, reads_run, run_front-reads}

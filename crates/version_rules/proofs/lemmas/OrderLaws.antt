@@ -9,19 +9,19 @@ use Rattle.version_rules.proofs.lemmas.Split.{split_writes}
 use Rattle.version_rules.proofs.lemmas.TextBytes.{text_writes}
 use Rattle.version_rules.proofs.lemmas.WorkedParts.{worked_bytes, worked_order}
 use Rattle.version_rules.proofs.lemmas.Orders.{equal_where_same, then_same}
-use Rattle.version_rules.specs.Chunk.{PlainChunk}
-use Rattle.version_rules.specs.PartKey.{PartKey, list_cmp, part_cmp}
+use Rattle.version_rules.specs.grammar.Chunk.{PlainChunk}
+use Rattle.version_rules.specs.key.PartKey.{PartKey, list_cmp, part_cmp}
 use Rattle.version_rules.specs.laws.Part.{list_total, part_total, parts_same, split_total, splits_same}
-use Rattle.version_rules.specs.Last.{PlainLast}
+use Rattle.version_rules.specs.grammar.Last.{PlainLast}
 use Rattle.version_rules.specs.laws.Last.{last_total, lasts_same}
-use Rattle.version_rules.specs.LastOrder.{last_plain_cmp}
-use Rattle.version_rules.specs.MChunk.{PlainMChunk}
+use Rattle.version_rules.specs.order.LastOrder.{last_plain_cmp}
+use Rattle.version_rules.specs.grammar.MChunk.{PlainMChunk}
 use Rattle.version_rules.specs.laws.MChunk.{mchunks_same}
-use Rattle.version_rules.specs.PartOrder.{chunks_cmp, last_cmp, mchunk_cmp}
+use Rattle.version_rules.specs.order.PartOrder.{chunks_cmp, last_cmp, mchunk_cmp}
 use Rattle.version_rules.specs.laws.PartOrder.{chunks_cmp_total, last_cmp_total, mchunk_cmp_total}
 use Rattle.version_rules.specs.laws.Release.{chunk_total, chunks_same, release_total, releases_same}
-use Rattle.version_rules.specs.ReleaseOrder.{chunk_cmp, release_cmp}
-use Rattle.version_rules.specs.Split.{Split, split_cmp}
+use Rattle.version_rules.specs.order.ReleaseOrder.{chunk_cmp, release_cmp}
+use Rattle.version_rules.specs.key.Split.{Split, split_cmp}
 
 pub split_equal : (v w : Split) → (split_cmp v w ≡ Equal) ↔ (v ≡ w)
 split_equal = equal_where_same split_total splits_same

@@ -6,31 +6,31 @@ use Rattle.std.specs.declared.cmp.Ordering.TheVariants.{Equal}
 use Rattle.version_rules.proofs.lemmas.Codes.{writes_alone, writes_canonical, writes_no_prefix}
 use Rattle.version_rules.specs.laws.Order.{then_equal, then_second}
 use Rattle.version_rules.proofs.lemmas.Orders.{equal_where_same, then_decided, then_same}
-use Rattle.version_rules.specs.Lists.{bytes_cmp}
-use Rattle.version_rules.specs.MChunk.{PlainMChunk}
-use Rattle.version_rules.specs.PartKey.{PartKey}
+use Rattle.version_rules.specs.order.Lists.{bytes_cmp}
+use Rattle.version_rules.specs.grammar.MChunk.{PlainMChunk}
+use Rattle.version_rules.specs.key.PartKey.{PartKey}
 use Rattle.version_rules.proofs.lemmas.KeyLaws.{key_writes, keys_same}
 use Rattle.version_rules.proofs.lemmas.SemVerOrder.{precedence_of_semvers}
 use Rattle.version_rules.proofs.lemmas.Tail.{sections_same, sections_writes, tail_writes, tails_same}
 use Rattle.version_rules.proofs.lemmas.Texts.{keys_are_bytes, versions_are_bytes}
 use Rattle.version_rules.proofs.lemmas.Worked.{worked_keys}
-use Rattle.version_rules.specs.Key.{Key, key_of, key_of_mess, key_of_semver, key_of_version, precedence, sections_tail}
-use Rattle.version_rules.specs.KeyBytes.{key_bytes}
+use Rattle.version_rules.specs.key.Key.{Key, key_of, key_of_mess, key_of_semver, key_of_version, precedence, sections_tail}
+use Rattle.version_rules.specs.key.KeyBytes.{key_bytes}
 use Rattle.version_rules.specs.laws.Key.{precedence_total, sections_total, tail_total}
-use Rattle.version_rules.specs.Mess.{PlainMess, mess_plain_cmp}
-use Rattle.version_rules.specs.Sep.{PlainSep}
+use Rattle.version_rules.specs.grammar.Mess.{PlainMess, mess_plain_cmp}
+use Rattle.version_rules.specs.grammar.Sep.{PlainSep}
 use Rattle.version_rules.specs.laws.Mess.{mess_total, messes_same}
-use Rattle.version_rules.specs.Orders.{mess_cmp, version_cmp, versioning_cmp}
+use Rattle.version_rules.specs.order.Orders.{mess_cmp, version_cmp, versioning_cmp}
 use Rattle.version_rules.specs.laws.Orders.{keys_tied, mess_cmp_total, version_cmp_total, versioning_cmp_total}
-use Rattle.version_rules.specs.Versioning.{PlainVersioning, Ideal, General, Complex, SameVersioning, versioning_plain_cmp}
+use Rattle.version_rules.specs.grammar.Versioning.{PlainVersioning, Ideal, General, Complex, SameVersioning, versioning_plain_cmp}
 use Rattle.version_rules.specs.laws.Versioning.{versioning_plain_total}
-use Rattle.version_rules.specs.SemVer.{PlainSemVer}
-use Rattle.version_rules.specs.SemVerOrder.{SameButMetadata, semver_cmp}
+use Rattle.version_rules.specs.grammar.SemVer.{PlainSemVer}
+use Rattle.version_rules.specs.order.SemVerOrder.{SameButMetadata, semver_cmp}
 use Rattle.version_rules.specs.laws.SemVer.{semver_total, tied_same}
-use Rattle.version_rules.specs.Tail.{Tail, sections_cmp, tail_cmp}
-use Rattle.version_rules.specs.Version.{PlainVersion}
+use Rattle.version_rules.specs.key.Tail.{Tail, sections_cmp, tail_cmp}
+use Rattle.version_rules.specs.grammar.Version.{PlainVersion}
 use Rattle.version_rules.specs.laws.Version.{version_plain_total, versions_same}
-use Rattle.version_rules.specs.VersionOrder.{version_plain_cmp}
+use Rattle.version_rules.specs.order.VersionOrder.{version_plain_cmp}
 
 pub sections_equal : (a b : List (List PartKey)) → (sections_cmp a b ≡ Equal) ↔ (a ≡ b)
 sections_equal = equal_where_same sections_total sections_same

@@ -11,13 +11,13 @@ use Rattle.version_rules.proofs.lemmas.Codes.{ended_same, in_turn, writes_list}
 use Rattle.version_rules.proofs.lemmas.DigitRun.{decimal-digits, number_front-digits, number_front-none}
 use Rattle.version_rules.proofs.lemmas.NumberBytes.{number_writes}
 use Rattle.version_rules.proofs.lemmas.Split.{split_writes}
-use Rattle.version_rules.specs.Codes.{Writes}
-use Rattle.version_rules.specs.DigitRun.{is_digits, starts_with_digit}
-use Rattle.version_rules.specs.Lists.{bytes_cmp, none_last_cmp}
-use Rattle.version_rules.specs.NumberBytes.{number_bytes}
+use Rattle.version_rules.specs.key.Codes.{Writes}
+use Rattle.version_rules.specs.grammar.DigitRun.{is_digits, starts_with_digit}
+use Rattle.version_rules.specs.order.Lists.{bytes_cmp, none_last_cmp}
+use Rattle.version_rules.specs.key.NumberBytes.{number_bytes}
 use Rattle.version_rules.specs.laws.Part.{parts_same}
-use Rattle.version_rules.specs.PartKey.{PartKey, Word, Number, list_cmp, part_bytes, part_cmp, part_key, parts_bytes, suffix_bytes, suffix_of}
-use Rattle.version_rules.specs.Split.{Split, split_cmp, split_of}
+use Rattle.version_rules.specs.key.PartKey.{PartKey, Word, Number, list_cmp, part_bytes, part_cmp, part_key, parts_bytes, suffix_bytes, suffix_of}
+use Rattle.version_rules.specs.key.Split.{Split, split_cmp, split_of}
 
 suffix_writes : Writes (none_last_cmp split_cmp) suffix_bytes
 suffix_writes = record { compares = go }

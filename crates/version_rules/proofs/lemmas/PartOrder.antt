@@ -9,8 +9,8 @@ use Rattle.std.specs.Str.Parse.{digits_value}
 use Rattle.version_rules.proofs.lemmas.Codes.{writes_alone}
 use Rattle.version_rules.proofs.lemmas.NumberBytes.{length_writes, number_bytes-digits, number_writes, digits_of_run, is_zero}
 use Rattle.version_rules.proofs.lemmas.Front.Runs.{begins-drop}
-use Rattle.version_rules.specs.Lists.{bytes_cmp}
-use Rattle.version_rules.specs.NumberBytes.{length_bytes, number_bytes}
+use Rattle.version_rules.specs.order.Lists.{bytes_cmp}
+use Rattle.version_rules.specs.key.NumberBytes.{length_bytes, number_bytes}
 
 abbrev without_zeros : List ℕ → List ℕ
 without_zeros ds = drop (prefix_len is_zero ds) ds

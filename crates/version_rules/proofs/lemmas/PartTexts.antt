@@ -5,14 +5,14 @@ use Rattle.std.proofs.lemmas.Int.Digits.{all_below_base_digits_of}
 use Rattle.std.specs.Char.{digit_char}
 use Rattle.std.specs.Int.Digits.{AllBelowBase}
 use Rattle.std.specs.List.{AllByRecursion, flat_map}
-use Rattle.version_rules.specs.Chunk.{PlainChunk, Numeric, Alphanum}
-use Rattle.version_rules.specs.Codes.{list_bytes}
-use Rattle.version_rules.specs.NumberBytes.{length_bytes, number_bytes}
-use Rattle.version_rules.specs.PartKey.{PartKey, Word, Number, part_bytes, parts_bytes}
-use Rattle.version_rules.specs.ReleaseOrder.{chunk_bytes, release_bytes}
-use Rattle.version_rules.specs.Split.{Split, numbered_bytes, split_bytes}
-use Rattle.version_rules.specs.TextBytes.{text_byte, text_bytes}
-use Rattle.version_rules.specs.PartTexts.{held_text, held_texts, part_text, parts_text, rest_text, split_text}
+use Rattle.version_rules.specs.grammar.Chunk.{PlainChunk, Numeric, Alphanum}
+use Rattle.version_rules.specs.key.Codes.{list_bytes}
+use Rattle.version_rules.specs.key.NumberBytes.{length_bytes, number_bytes}
+use Rattle.version_rules.specs.key.PartKey.{PartKey, Word, Number, part_bytes, parts_bytes}
+use Rattle.version_rules.specs.order.ReleaseOrder.{chunk_bytes, release_bytes}
+use Rattle.version_rules.specs.key.Split.{Split, numbered_bytes, split_bytes}
+use Rattle.version_rules.specs.key.TextBytes.{text_byte, text_bytes}
+use Rattle.version_rules.specs.key.PartTexts.{held_text, held_texts, part_text, parts_text, rest_text, split_text}
 
 -- each is a byte, by cases on the list
 abbrev pub Bytes : List ℕ → Type 0

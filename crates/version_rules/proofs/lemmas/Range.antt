@@ -11,7 +11,7 @@ use Rattle.std.specs.Option.{IfSome}
 use Rattle.std.specs.Ordering.{is_lt, ordering_reverse, ordering_then}
 use Rattle.std.specs.declared.cmp.Ordering.{Ordering}
 use Rattle.std.specs.declared.cmp.Ordering.TheVariants.{Less, Equal, Greater}
-use Rattle.version_rules.specs.Lists.{bytes_cmp}
+use Rattle.version_rules.specs.order.Lists.{bytes_cmp}
 use Rattle.version_rules.proofs.lemmas.Matching.Convex.{back, not_below_stays}
 use Rattle.version_rules.proofs.lemmas.OrdersLaws.{key_bytes_alone, key_bytes_compare}
 use Rattle.version_rules.proofs.lemmas.SemVerOrder.{precedence_of_semvers}
@@ -19,15 +19,15 @@ use Rattle.version_rules.proofs.lemmas.Range.Series.{caret_exact, caret_in, tild
 use Rattle.version_rules.specs.declared.kind.Kind.{Kind}
 use Rattle.version_rules.specs.declared.op.Op.{Op}
 use Rattle.version_rules.specs.declared.kinds.Kinds.{Kinds}
-use Rattle.version_rules.specs.Key.{Key, key_of, precedence}
-use Rattle.version_rules.specs.KeyBytes.{key_bytes}
-use Rattle.version_rules.specs.Kind.{versioning_kind}
-use Rattle.version_rules.specs.Matching.{Matches, MatchesAll, MatchesOp}
+use Rattle.version_rules.specs.key.Key.{Key, key_of, precedence}
+use Rattle.version_rules.specs.key.KeyBytes.{key_bytes}
+use Rattle.version_rules.specs.grammar.Kind.{versioning_kind}
+use Rattle.version_rules.specs.requirement.Matching.{Matches, MatchesAll, MatchesOp}
 use Rattle.version_rules.specs.laws.Orders.{keys_tied}
-use Rattle.version_rules.specs.Range.{IsIn, PlainRange, after, all_kinds, bytes_of, common, common_kinds, earlier, earlier_high, everything, has_kind, kind_alone, later, nothing, op_range, range_of, range_without_version, requirement_range}
-use Rattle.version_rules.specs.Requirement.{PlainRequirement}
-use Rattle.version_rules.specs.SemVerOrder.{semver_cmp}
-use Rattle.version_rules.specs.Versioning.{PlainVersioning, Ideal, General, Complex, versioning_plain_cmp}
+use Rattle.version_rules.specs.requirement.Range.{IsIn, PlainRange, after, all_kinds, bytes_of, common, common_kinds, earlier, earlier_high, everything, has_kind, kind_alone, later, nothing, op_range, range_of, range_without_version, requirement_range}
+use Rattle.version_rules.specs.requirement.Requirement.{PlainRequirement}
+use Rattle.version_rules.specs.order.SemVerOrder.{semver_cmp}
+use Rattle.version_rules.specs.grammar.Versioning.{PlainVersioning, Ideal, General, Complex, versioning_plain_cmp}
 use Rattle.version_rules.specs.declared.kind.Kind.TheVariants as kind
 use Rattle.version_rules.specs.declared.op.Op.TheVariants as op
 

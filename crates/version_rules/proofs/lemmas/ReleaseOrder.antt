@@ -5,11 +5,11 @@ use Rattle.std.specs.Ordering.{ordering_then}
 use Rattle.version_rules.proofs.lemmas.Codes.{writes_slice}
 use Rattle.version_rules.proofs.lemmas.NumberBytes.{number_writes}
 use Rattle.version_rules.proofs.lemmas.TextBytes.{text_writes}
-use Rattle.version_rules.specs.Chunk.{PlainChunk, Numeric, Alphanum}
-use Rattle.version_rules.specs.Codes.{Writes}
-use Rattle.version_rules.specs.Lists.{bytes_cmp}
+use Rattle.version_rules.specs.grammar.Chunk.{PlainChunk, Numeric, Alphanum}
+use Rattle.version_rules.specs.key.Codes.{Writes}
+use Rattle.version_rules.specs.order.Lists.{bytes_cmp}
 use Rattle.version_rules.specs.laws.Release.{chunks_same}
-use Rattle.version_rules.specs.ReleaseOrder.{chunk_bytes, chunk_cmp, release_bytes, release_cmp}
+use Rattle.version_rules.specs.order.ReleaseOrder.{chunk_bytes, chunk_cmp, release_bytes, release_cmp}
 
 chunk_compares : (a b : Option PlainChunk) (x y : List ℕ)
     → bytes_cmp (chunk_bytes a ++ x) (chunk_bytes b ++ y)

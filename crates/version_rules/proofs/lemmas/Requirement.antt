@@ -7,17 +7,17 @@ use Rattle.std.proofs.lemmas.List.Folds.{list_all-append}
 use Rattle.std.specs.Cmp.{first_so, second_so}
 use Rattle.std.specs.List.{All, list_all}
 use Rattle.std.specs.Option.{option_map, option_map_or}
-use Rattle.version_rules.specs.Bytes.{is_metadata_byte}
-use Rattle.version_rules.specs.Front.{begins}
-use Rattle.version_rules.specs.Reading.{IsPrinted}
-use Rattle.version_rules.specs.Sep.{PlainSep, Colon, Hyphen, Plus, Underscore, Tilde, sep_byte}
+use Rattle.version_rules.specs.grammar.Bytes.{is_metadata_byte}
+use Rattle.version_rules.specs.grammar.Front.{begins}
+use Rattle.version_rules.specs.grammar.Reading.{IsPrinted}
+use Rattle.version_rules.specs.grammar.Sep.{PlainSep, Colon, Hyphen, Plus, Underscore, Tilde, sep_byte}
 use Rattle.version_rules.proofs.lemmas.Front.Repeated.{cases_Option}
 use Rattle.version_rules.proofs.lemmas.Front.Runs.{all_weaker}
 use Rattle.version_rules.specs.declared.op.Op.{Op}
-use Rattle.version_rules.specs.Op.{op_front, op_text}
-use Rattle.version_rules.specs.Requirement.{PlainRequirement, RequirementOwns, SpellsOperand, SpellsRequirement, operand_of, requirement_of, requirement_text}
-use Rattle.version_rules.specs.Requirements.{comma}
-use Rattle.version_rules.specs.Versioning.{PlainVersioning, SpellsVersioning, VersioningOwns, versioning_of, versioning_text}
+use Rattle.version_rules.specs.requirement.Op.{op_front, op_text}
+use Rattle.version_rules.specs.requirement.Requirement.{PlainRequirement, RequirementOwns, SpellsOperand, SpellsRequirement, operand_of, requirement_of, requirement_text}
+use Rattle.version_rules.specs.requirement.Requirements.{comma}
+use Rattle.version_rules.specs.grammar.Versioning.{PlainVersioning, SpellsVersioning, VersioningOwns, versioning_of, versioning_text}
 use Rattle.version_rules.proofs.lemmas.Op.{op_front-Some, op_front-reads}
 use Rattle.version_rules.proofs.lemmas.Versioning.Spelled.{of_versioning}
 use Rattle.version_rules.proofs.lemmas.Versioning.{versioning_of-Some, versioning_of-spells, versioning_printed}

@@ -2,10 +2,10 @@
 use Rattle.std.proofs.Common.{◌↔◌, List, ◌∷◌, Option, Some, None}
 use Rattle.std.proofs.lemmas.List.Elements.{All-cons, All-head, All-tail}
 use Rattle.std.specs.Option.{IsSomeAnd}
-use Rattle.version_rules.specs.Matching.{Matches, MatchesAll}
-use Rattle.version_rules.specs.Requirement.{PlainRequirement}
-use Rattle.version_rules.specs.RequirementsRef.{before_others}
-use Rattle.version_rules.specs.Versioning.{PlainVersioning}
+use Rattle.version_rules.specs.requirement.Matching.{Matches, MatchesAll}
+use Rattle.version_rules.specs.requirement.Requirement.{PlainRequirement}
+use Rattle.version_rules.specs.requirement.RequirementsRef.{before_others}
+use Rattle.version_rules.specs.grammar.Versioning.{PlainVersioning}
 
 -- there is a list, and each member of it matches a version
 abbrev pub Asked : PlainVersioning → Option (List PlainRequirement) → Type 0

@@ -3,13 +3,13 @@ use Rattle.std.proofs.Common.{◌≡◌, List, Option, Some, None, refl}
 use Rattle.std.specs.Option.{option_map_or}
 use Rattle.version_rules.specs.laws.Order.{then_equal}
 use Rattle.version_rules.proofs.lemmas.Orders.{then_assoc}
-use Rattle.version_rules.specs.Chunk.{PlainChunk}
-use Rattle.version_rules.specs.Lists.{none_last_cmp}
-use Rattle.version_rules.specs.ReleaseOrder.{release_cmp}
-use Rattle.version_rules.specs.Key.{key_of_semver, precedence}
-use Rattle.version_rules.specs.SemVer.{PlainSemVer}
-use Rattle.version_rules.specs.SemVerOrder.{semver_cmp}
-use Rattle.version_rules.specs.Tail.{PreReleased, Bare, tail_cmp}
+use Rattle.version_rules.specs.grammar.Chunk.{PlainChunk}
+use Rattle.version_rules.specs.order.Lists.{none_last_cmp}
+use Rattle.version_rules.specs.order.ReleaseOrder.{release_cmp}
+use Rattle.version_rules.specs.key.Key.{key_of_semver, precedence}
+use Rattle.version_rules.specs.grammar.SemVer.{PlainSemVer}
+use Rattle.version_rules.specs.order.SemVerOrder.{semver_cmp}
+use Rattle.version_rules.specs.key.Tail.{PreReleased, Bare, tail_cmp}
 
 -- no pre-release comes last
 pre_releases : (a b : Option (List PlainChunk))

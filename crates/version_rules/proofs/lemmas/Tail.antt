@@ -7,10 +7,10 @@ use Rattle.version_rules.proofs.lemmas.Codes.{writes_slice}
 use Rattle.version_rules.proofs.lemmas.PartKey.{list_writes, lists_same}
 use Rattle.version_rules.proofs.lemmas.ReleaseOrder.{release_writes}
 use Rattle.version_rules.specs.laws.Release.{releases_same}
-use Rattle.version_rules.specs.Codes.{Writes, list_bytes}
-use Rattle.version_rules.specs.Lists.{bytes_cmp}
-use Rattle.version_rules.specs.PartKey.{PartKey, list_cmp}
-use Rattle.version_rules.specs.Tail.{Tail, PreReleased, Bare, Released, Sections, section_bytes, sections_cmp, tail_bytes, tail_cmp}
+use Rattle.version_rules.specs.key.Codes.{Writes, list_bytes}
+use Rattle.version_rules.specs.order.Lists.{bytes_cmp}
+use Rattle.version_rules.specs.key.PartKey.{PartKey, list_cmp}
+use Rattle.version_rules.specs.key.Tail.{Tail, PreReleased, Bare, Released, Sections, section_bytes, sections_cmp, tail_bytes, tail_cmp}
 
 section_writes : Writes (option_cmp list_cmp) section_bytes
 section_writes = record { compares = go }

@@ -5,9 +5,9 @@ use Rattle.std.specs.Option.{option_cmp}
 use Rattle.std.specs.Ordering.{nat_cmp, ordering_then}
 use Rattle.version_rules.proofs.lemmas.Codes.{writes_slice}
 use Rattle.version_rules.proofs.lemmas.NumberBytes.{above, below}
-use Rattle.version_rules.specs.Codes.{Writes}
-use Rattle.version_rules.specs.Lists.{bytes_cmp}
-use Rattle.version_rules.specs.TextBytes.{text_byte, text_bytes}
+use Rattle.version_rules.specs.key.Codes.{Writes}
+use Rattle.version_rules.specs.order.Lists.{bytes_cmp}
+use Rattle.version_rules.specs.key.TextBytes.{text_byte, text_bytes}
 
 text_byte_compares : (a b : Option ℕ) (x y : List ℕ)
     → bytes_cmp (text_byte a ++ x) (text_byte b ++ y)

@@ -8,15 +8,15 @@ use Rattle.std.specs.Char.{is_ascii_alphanumeric}
 use Rattle.std.specs.Cmp.{first_so, second_so}
 use Rattle.std.specs.List.{list_all}
 use Rattle.std.specs.Str.{IsAscii}
-use Rattle.version_rules.specs.Body.{PlainBody, SpellsBody, body_front}
-use Rattle.version_rules.specs.Bytes.{colon, dot, hyphen, is_identifier_byte, is_metadata_byte, plus}
-use Rattle.version_rules.specs.Chunk.{Numeric, chunk_front}
-use Rattle.version_rules.specs.Front.{after_mark, dotted_front, optional, run_front}
-use Rattle.version_rules.specs.Grammar.{SpellsDotted}
-use Rattle.version_rules.specs.Metadata.{SpellsMetadata, meta_front}
-use Rattle.version_rules.specs.Numeral.{SpellsNumeral, unsigned_front}
-use Rattle.version_rules.specs.Reading.{EndsList, EndsRun, IsPrinted, IsSound}
-use Rattle.version_rules.specs.Release.{SpellsRelease, release_front, release_text}
+use Rattle.version_rules.specs.grammar.Body.{PlainBody, SpellsBody, body_front}
+use Rattle.version_rules.specs.grammar.Bytes.{colon, dot, hyphen, is_identifier_byte, is_metadata_byte, plus}
+use Rattle.version_rules.specs.grammar.Chunk.{Numeric, chunk_front}
+use Rattle.version_rules.specs.grammar.Front.{after_mark, dotted_front, optional, run_front}
+use Rattle.version_rules.specs.grammar.Grammar.{SpellsDotted}
+use Rattle.version_rules.specs.grammar.Metadata.{SpellsMetadata, meta_front}
+use Rattle.version_rules.specs.grammar.Numeral.{SpellsNumeral, unsigned_front}
+use Rattle.version_rules.specs.grammar.Reading.{EndsList, EndsRun, IsPrinted, IsSound}
+use Rattle.version_rules.specs.grammar.Release.{SpellsRelease, release_front, release_text}
 use Rattle.version_rules.proofs.lemmas.Bytes.{IsAscii-nil, metadata_run_ascii, sign_ascii}
 use Rattle.version_rules.proofs.lemmas.Body.{body_complete, body_printed, body_sound}
 use Rattle.version_rules.proofs.lemmas.Chunk.{metadata_complete, metadata_sound, optional_complete, optional_sound, release_complete, release_printed, release_sound}
@@ -25,10 +25,10 @@ use Rattle.version_rules.proofs.lemmas.Numeral.{numeral_printed, unsigned_comple
 use Rattle.version_rules.proofs.lemmas.Front.Runs.{all_weaker}
 use Rattle.version_rules.proofs.lemmas.Grammar.{of_body, of_metadata, of_optional, of_release}
 use Rattle.version_rules.proofs.lemmas.Reading.{read_whole, spelled_once, whole_read, whole_spelled}
-use Rattle.version_rules.specs.Version.{PlainVersion, SpellsEpoch, SpellsVersion, epoch_front, epoch_text, version_front, version_of, version_text}
+use Rattle.version_rules.specs.grammar.Version.{PlainVersion, SpellsEpoch, SpellsVersion, epoch_front, epoch_text, version_front, version_of, version_text}
 use Rattle.version_rules.proofs.lemmas.SemVer.{optional_begins, optional_printed}
 use Rattle.version_rules.proofs.lemmas.Versioning.Spelled.{of_version}
-use Rattle.version_rules.specs.Last as last
+use Rattle.version_rules.specs.grammar.Last as last
 
 -- what `version_front` returns after a body
 version_front-Some : (text : List ℕ) (epoch : Option ℕ × List ℕ) (body : PlainBody × List ℕ)

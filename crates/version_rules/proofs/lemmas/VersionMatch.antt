@@ -10,8 +10,8 @@ use Rattle.std.specs.declared.cmp.Ordering.{Ordering}
 use Rattle.std.specs.declared.cmp.Ordering.TheVariants.{Less, Equal, Greater}
 use Rattle.version_rules.proofs.lemmas.OrderLaws.{part_equal}
 use Rattle.version_rules.proofs.lemmas.PartKey.{part_key-decimal}
-use Rattle.version_rules.specs.PartKey.{PartKey, Number, Word, part_cmp, part_key}
-use Rattle.version_rules.specs.VersionMatch.{IsNotBelow, PartsMatchCaret, PartsMatchTilde, PartsNotBelow, is_plain_zero}
+use Rattle.version_rules.specs.key.PartKey.{PartKey, Number, Word, part_cmp, part_key}
+use Rattle.version_rules.specs.requirement.VersionMatch.{IsNotBelow, PartsMatchCaret, PartsMatchTilde, PartsNotBelow, is_plain_zero}
 
 -- ---- what the order of two parts says
 

@@ -3,12 +3,12 @@
 pub mod Spelled
 use Rattle.std.proofs.Common.{◌≡◌, List, ℕ, Some, None, refl, inl, inr}
 use Rattle.std.specs.Str.{IsAscii}
-use Rattle.version_rules.specs.Reading.{IsPrinted}
+use Rattle.version_rules.specs.grammar.Reading.{IsPrinted}
 use Rattle.version_rules.proofs.lemmas.Front.Repeated.{cases_Option}
-use Rattle.version_rules.specs.Mess.{mess_of}
-use Rattle.version_rules.specs.SemVer.{PlainSemVer, SpellsSemVer, semver_of}
-use Rattle.version_rules.specs.Version.{PlainVersion, SpellsVersion, version_of}
-use Rattle.version_rules.specs.Versioning.{PlainVersioning, Ideal, General, Complex, SpellsVersioning, versioning_of, versioning_text}
+use Rattle.version_rules.specs.grammar.Mess.{mess_of}
+use Rattle.version_rules.specs.grammar.SemVer.{PlainSemVer, SpellsSemVer, semver_of}
+use Rattle.version_rules.specs.grammar.Version.{PlainVersion, SpellsVersion, version_of}
+use Rattle.version_rules.specs.grammar.Versioning.{PlainVersioning, Ideal, General, Complex, SpellsVersioning, versioning_of, versioning_text}
 use Rattle.version_rules.proofs.lemmas.Mess.{mess_of-Some, mess_of-spells, mess_ascii, mess_printed}
 use Rattle.version_rules.proofs.lemmas.SemVer.{semver_ascii, semver_of-Some, semver_of-spells, semver_printed}
 use Rattle.version_rules.proofs.lemmas.Version.{version_ascii, version_of-Some, version_of-spells, version_printed}

@@ -1,7 +1,7 @@
 -- The worked keys, by computation.
 use Rattle.std.proofs.Common.{refl}
 use Rattle.std.specs.Fmt.{digits}
-use Rattle.version_rules.specs.Worked.{WorkedKeys}
+use Rattle.version_rules.specs.worked.Keys.{WorkedKeys}
 
 pub worked_keys : WorkedKeys
 unfolding digits

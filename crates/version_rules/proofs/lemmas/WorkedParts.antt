@@ -1,6 +1,6 @@
 -- The worked bytes and orders, by computation.
 use Rattle.std.proofs.Common.{arith}
-use Rattle.version_rules.specs.WorkedParts.{WorkedBytes, WorkedOrder}
+use Rattle.version_rules.specs.worked.Parts.{WorkedBytes, WorkedOrder}
 
 pub worked_bytes : WorkedBytes
 worked_bytes = grind arith

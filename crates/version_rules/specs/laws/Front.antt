@@ -6,10 +6,10 @@ use Rattle.std.specs.Char.{is_ascii_alphanumeric, is_ascii_digit}
 use Rattle.std.specs.List.{list_all, prefix_len, take_while}
 use Rattle.std.specs.Option.{option_map}
 use Rattle.std.specs.Str.Parse.{digits_value}
-use Rattle.version_rules.specs.Chunk.{Numeric, chunk_front_of}
-use Rattle.version_rules.specs.Front.{◌>>=◌, Consumes, run_front, unless_empty}
-use Rattle.version_rules.specs.MChunk.{chunk_before, mchunk_front}
-use Rattle.version_rules.specs.Numeral.{unsigned_front, value_of_run}
+use Rattle.version_rules.specs.grammar.Chunk.{Numeric, chunk_front_of}
+use Rattle.version_rules.specs.grammar.Front.{◌>>=◌, Consumes, run_front, unless_empty}
+use Rattle.version_rules.specs.grammar.MChunk.{chunk_before, mchunk_front}
+use Rattle.version_rules.specs.grammar.Numeral.{unsigned_front, value_of_run}
 
 -- the rest that a front leaves, if it reads a value, is no longer than the text
 abbrev Fits : {X : Type 0} → List ℕ → Option (X × List ℕ) → Type 0

@@ -4,14 +4,14 @@ use Rattle.std.specs.Cmp.{IsTotalOrder, nat_cmp_total, on_total, then_total}
 use Rattle.std.specs.Cmp.Lexicographic.{lists_total, options_total}
 use Rattle.std.specs.Option.{option_cmp}
 use Rattle.std.specs.Ordering.{nat_cmp, on, then_cmp}
-use Rattle.version_rules.specs.Chunk.{PlainChunk}
+use Rattle.version_rules.specs.grammar.Chunk.{PlainChunk}
 use Rattle.version_rules.specs.laws.Order.{then_equal}
-use Rattle.version_rules.specs.PartKey.{PartKey}
+use Rattle.version_rules.specs.key.PartKey.{PartKey}
 use Rattle.version_rules.specs.laws.Part.{list_total}
 use Rattle.version_rules.specs.laws.Release.{release_total}
-use Rattle.version_rules.specs.ReleaseOrder.{release_cmp}
-use Rattle.version_rules.specs.Key.{Key, precedence}
-use Rattle.version_rules.specs.Tail.{Tail, PreReleased, Bare, Released, Sections, sections_cmp, tail_cmp, tail_rank}
+use Rattle.version_rules.specs.order.ReleaseOrder.{release_cmp}
+use Rattle.version_rules.specs.key.Key.{Key, precedence}
+use Rattle.version_rules.specs.key.Tail.{Tail, PreReleased, Bare, Released, Sections, sections_cmp, tail_cmp, tail_rank}
 
 pub sections_total : IsTotalOrder sections_cmp
 sections_total = lists_total list_total

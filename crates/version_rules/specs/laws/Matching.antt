@@ -8,18 +8,18 @@ use Rattle.std.specs.Cmp.{tied_itself}
 use Rattle.std.specs.Ordering.{eq_by_cmp}
 use Rattle.std.specs.declared.cmp.Ordering.{Ordering}
 use Rattle.std.specs.declared.cmp.Ordering.TheVariants.{Less, Equal, Greater}
-use Rattle.version_rules.specs.PartKey.{PartKey, part_cmp}
+use Rattle.version_rules.specs.key.PartKey.{PartKey, part_cmp}
 use Rattle.version_rules.specs.laws.Part.{part_total, parts_same}
 use Rattle.version_rules.specs.declared.op.Op.{Op}
-use Rattle.version_rules.specs.Key.{key_of, precedence}
-use Rattle.version_rules.specs.Matching.{Matches, MatchesAll, MatchesCaret, MatchesOp, MatchesTilde}
-use Rattle.version_rules.specs.Requirement.{PlainRequirement}
-use Rattle.version_rules.specs.SemVerMatch.{Numbers, both_zero, numbers}
-use Rattle.version_rules.specs.VersionMatch.{EpochAndParts, IsNotBelow, PartsMatchCaret, PartsMatchTilde, PartsNotBelow, epoch_and_parts, is_plain_zero}
-use Rattle.version_rules.specs.Versioning.{PlainVersioning, Ideal, General, Complex, versioning_plain_cmp}
+use Rattle.version_rules.specs.key.Key.{key_of, precedence}
+use Rattle.version_rules.specs.requirement.Matching.{Matches, MatchesAll, MatchesCaret, MatchesOp, MatchesTilde}
+use Rattle.version_rules.specs.requirement.Requirement.{PlainRequirement}
+use Rattle.version_rules.specs.requirement.SemVerMatch.{Numbers, both_zero, numbers}
+use Rattle.version_rules.specs.requirement.VersionMatch.{EpochAndParts, IsNotBelow, PartsMatchCaret, PartsMatchTilde, PartsNotBelow, epoch_and_parts, is_plain_zero}
+use Rattle.version_rules.specs.grammar.Versioning.{PlainVersioning, Ideal, General, Complex, versioning_plain_cmp}
 use Rattle.version_rules.specs.declared.op.Op.TheVariants as op
-use Rattle.version_rules.specs.SemVerMatch as strict
-use Rattle.version_rules.specs.VersionMatch as general
+use Rattle.version_rules.specs.requirement.SemVerMatch as strict
+use Rattle.version_rules.specs.requirement.VersionMatch as general
 
 -- ---- decidable facts, combined
 

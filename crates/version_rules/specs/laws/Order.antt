@@ -7,7 +7,7 @@ use Rattle.std.specs.Option.{option_cmp}
 use Rattle.std.specs.Ordering.{eq_by_cmp, flip_args, is_eq, ordering_then, then_cmp}
 use Rattle.std.specs.declared.cmp.Ordering.{Ordering}
 use Rattle.std.specs.declared.cmp.Ordering.TheVariants.{Less, Equal, Greater}
-use Rattle.version_rules.specs.Lists.{bytes_cmp, none_last_cmp}
+use Rattle.version_rules.specs.order.Lists.{bytes_cmp, none_last_cmp}
 
 -- ---- one order and then another
 

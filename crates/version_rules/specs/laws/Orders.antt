@@ -4,16 +4,16 @@ use Rattle.std.specs.Cmp.{IsTotalOrder, on_total, then_total, tied_itself}
 use Rattle.std.specs.Ordering.{eq_by_cmp}
 use Rattle.std.specs.declared.cmp.Ordering.TheVariants.{Equal}
 use Rattle.version_rules.specs.laws.Order.{ties_behind, ties_same}
-use Rattle.version_rules.specs.Key.{key_of, key_of_mess, key_of_version, precedence}
+use Rattle.version_rules.specs.key.Key.{key_of, key_of_mess, key_of_version, precedence}
 use Rattle.version_rules.specs.laws.Key.{precedence_total}
-use Rattle.version_rules.specs.Mess.{PlainMess, mess_plain_cmp}
+use Rattle.version_rules.specs.grammar.Mess.{PlainMess, mess_plain_cmp}
 use Rattle.version_rules.specs.laws.Mess.{mess_total, messes_same}
-use Rattle.version_rules.specs.Orders.{mess_cmp, version_cmp, versioning_cmp}
+use Rattle.version_rules.specs.order.Orders.{mess_cmp, version_cmp, versioning_cmp}
 use Rattle.version_rules.specs.laws.SemVer.{tied_same}
-use Rattle.version_rules.specs.Version.{PlainVersion}
+use Rattle.version_rules.specs.grammar.Version.{PlainVersion}
 use Rattle.version_rules.specs.laws.Version.{version_plain_total, versions_same}
-use Rattle.version_rules.specs.VersionOrder.{version_plain_cmp}
-use Rattle.version_rules.specs.Versioning.{PlainVersioning, Ideal, General, Complex, versioning_plain_cmp}
+use Rattle.version_rules.specs.order.VersionOrder.{version_plain_cmp}
+use Rattle.version_rules.specs.grammar.Versioning.{PlainVersioning, Ideal, General, Complex, versioning_plain_cmp}
 use Rattle.version_rules.specs.laws.Versioning.{versioning_plain_total}
 
 pub version_cmp_total : IsTotalOrder version_cmp

@@ -1,8 +1,8 @@
 -- Laws that the impls of `Code` cite.
 use Rattle.std.proofs.Common.{◌≡◌, [], Some}
-use Rattle.version_rules.specs.Chunk.{PlainChunk, Numeric, Alphanum}
-use Rattle.version_rules.specs.PartKey.{PartKey, Word, Number, part_bytes}
-use Rattle.version_rules.specs.ReleaseOrder.{chunk_bytes}
+use Rattle.version_rules.specs.grammar.Chunk.{PlainChunk, Numeric, Alphanum}
+use Rattle.version_rules.specs.key.PartKey.{PartKey, Word, Number, part_bytes}
+use Rattle.version_rules.specs.order.ReleaseOrder.{chunk_bytes}
 
 pub part_begins : (key : PartKey) → ¬ (part_bytes (Some key) ≡ [])
 part_begins (Word w) e = cc e

@@ -2,18 +2,18 @@
 use Rattle.std.proofs.Common.{◌≡◌, List, Some}
 use Rattle.std.specs.Cmp.{IsTotalOrder, on_total, then_total}
 use Rattle.std.specs.Ordering.{eq_by_cmp}
-use Rattle.version_rules.specs.Chunk.{PlainChunk}
-use Rattle.version_rules.specs.Last.{PlainLast, last_text}
+use Rattle.version_rules.specs.grammar.Chunk.{PlainChunk}
+use Rattle.version_rules.specs.grammar.Last.{PlainLast, last_text}
 use Rattle.version_rules.specs.laws.Last.{last_total, lasts_same}
-use Rattle.version_rules.specs.LastOrder.{last_plain_cmp}
-use Rattle.version_rules.specs.MChunk.{PlainMChunk, mchunk_plain_cmp, mchunk_text}
+use Rattle.version_rules.specs.order.LastOrder.{last_plain_cmp}
+use Rattle.version_rules.specs.grammar.MChunk.{PlainMChunk, mchunk_plain_cmp, mchunk_text}
 use Rattle.version_rules.specs.laws.MChunk.{mchunk_total, mchunks_same}
 use Rattle.version_rules.specs.laws.Order.{ties_same}
-use Rattle.version_rules.specs.PartKey.{chunk_parts, part_key}
+use Rattle.version_rules.specs.key.PartKey.{chunk_parts, part_key}
 use Rattle.version_rules.specs.laws.Part.{list_total, part_total}
-use Rattle.version_rules.specs.PartOrder.{as_part_cmp, chunks_cmp, last_cmp, mchunk_cmp}
+use Rattle.version_rules.specs.order.PartOrder.{as_part_cmp, chunks_cmp, last_cmp, mchunk_cmp}
 use Rattle.version_rules.specs.laws.Release.{release_total, releases_same}
-use Rattle.version_rules.specs.ReleaseOrder.{release_cmp}
+use Rattle.version_rules.specs.order.ReleaseOrder.{release_cmp}
 
 pub chunks_cmp_total : IsTotalOrder chunks_cmp
 chunks_cmp_total = then_total (on_total chunk_parts list_total) release_total

@@ -5,8 +5,8 @@ use Rattle.std.specs.FinMap.{nat_cmp-IsAntisymmetric}
 use Rattle.std.specs.declared.cmp.Ordering.TheVariants.{Equal}
 use Rattle.version_rules.specs.laws.Order.{none_last_same, none_last_total, then_first, then_second}
 use Rattle.version_rules.specs.laws.Release.{release_total, releases_same}
-use Rattle.version_rules.specs.SemVer.{PlainSemVer}
-use Rattle.version_rules.specs.SemVerOrder.{SameButMetadata, semver_cmp}
+use Rattle.version_rules.specs.grammar.SemVer.{PlainSemVer}
+use Rattle.version_rules.specs.order.SemVerOrder.{SameButMetadata, semver_cmp}
 
 pub semver_total : IsTotalOrder semver_cmp
 semver_total =

@@ -5,8 +5,8 @@ use Rattle.std.specs.FinMap.{IsAntisymmetric, nat_cmp-IsAntisymmetric}
 use Rattle.version_rules.specs.laws.Last.{last_total, lasts_same}
 use Rattle.version_rules.specs.laws.Order.{bytes_same, options_same, then_first, then_second}
 use Rattle.version_rules.specs.laws.Release.{release_total, releases_same}
-use Rattle.version_rules.specs.Version.{PlainVersion}
-use Rattle.version_rules.specs.VersionOrder.{version_plain_cmp}
+use Rattle.version_rules.specs.grammar.Version.{PlainVersion}
+use Rattle.version_rules.specs.order.VersionOrder.{version_plain_cmp}
 
 pub version_plain_total : IsTotalOrder version_plain_cmp
 version_plain_total =

@@ -5,15 +5,15 @@ use Rattle.std.specs.Cmp.Lexicographic.{options_total}
 use Rattle.std.specs.Option.{option_cmp}
 use Rattle.std.specs.Ordering.{nat_cmp, on, then_cmp}
 use Rattle.version_rules.specs.laws.Order.{then_equal}
-use Rattle.version_rules.specs.Mess.{PlainMess, mess_plain_cmp}
+use Rattle.version_rules.specs.grammar.Mess.{PlainMess, mess_plain_cmp}
 use Rattle.version_rules.specs.laws.Mess.{mess_total}
-use Rattle.version_rules.specs.SemVer.{PlainSemVer}
+use Rattle.version_rules.specs.grammar.SemVer.{PlainSemVer}
 use Rattle.version_rules.specs.laws.SemVer.{semver_total}
-use Rattle.version_rules.specs.SemVerOrder.{semver_cmp}
-use Rattle.version_rules.specs.Version.{PlainVersion}
+use Rattle.version_rules.specs.order.SemVerOrder.{semver_cmp}
+use Rattle.version_rules.specs.grammar.Version.{PlainVersion}
 use Rattle.version_rules.specs.laws.Version.{version_plain_total}
-use Rattle.version_rules.specs.VersionOrder.{version_plain_cmp}
-use Rattle.version_rules.specs.Versioning.{PlainVersioning, Ideal, General, Complex, kind_rank, versioning_plain_cmp}
+use Rattle.version_rules.specs.order.VersionOrder.{version_plain_cmp}
+use Rattle.version_rules.specs.grammar.Versioning.{PlainVersioning, Ideal, General, Complex, kind_rank, versioning_plain_cmp}
 
 -- the version of a kind, if it is of that kind
 ideal_part : PlainVersioning → Option PlainSemVer

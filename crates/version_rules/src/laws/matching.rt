@@ -1,12 +1,12 @@
 //! Laws of matching.
 
 ghost use Rattle.std.specs.Prelude.{◌⊎◌, ◌↔◌, IsTrue, List};
-ghost use Rattle.version_rules.specs.Inexact.{inexact_members};
-ghost use Rattle.version_rules.specs.Matching.{MatchesAll};
-ghost use Rattle.version_rules.specs.Range.{IsIn, range_of};
-ghost use Rattle.version_rules.specs.Requirement.{PlainRequirement};
-ghost use Rattle.version_rules.specs.Versioning.{PlainVersioning};
-ghost use Rattle.version_rules.specs.WorkedRanges.{WorkedRanges};
+ghost use Rattle.version_rules.specs.requirement.Inexact.{inexact_members};
+ghost use Rattle.version_rules.specs.requirement.Matching.{MatchesAll};
+ghost use Rattle.version_rules.specs.requirement.Range.{IsIn, range_of};
+ghost use Rattle.version_rules.specs.requirement.Requirement.{PlainRequirement};
+ghost use Rattle.version_rules.specs.grammar.Versioning.{PlainVersioning};
+ghost use Rattle.version_rules.specs.worked.Ranges.{WorkedRanges};
 
 // For every list of requirements and every version, the list matches the version or does not.
 fn requirements_told()

@@ -3,16 +3,16 @@
 ghost use Rattle.std.specs.Prelude.{◌≡◌, ◌↔◌};
 ghost use Rattle.std.specs.Char.{is_ascii_alphanumeric, is_ascii_digit};
 ghost use Rattle.std.specs.Fmt.{decimal};
-ghost use Rattle.version_rules.specs.Body.{body_front, body_text, SpellsBody};
-ghost use Rattle.version_rules.specs.Bytes.{is_identifier_byte, is_metadata_byte};
-ghost use Rattle.version_rules.specs.Chunk.{chunk_front, chunk_text, part_front, PlainChunk, SpellsChunk, SpellsPart};
-ghost use Rattle.version_rules.specs.Front.{dotted_front, run_front};
-ghost use Rattle.version_rules.specs.Last.{last_of, last_text, IsLastOf, PlainLast};
-ghost use Rattle.version_rules.specs.MChunk.{mchunk_front, mchunk_text, EndsChunk, SpellsMChunk};
-ghost use Rattle.version_rules.specs.Metadata.{SpellsMetadata};
-ghost use Rattle.version_rules.specs.Numeral.{unsigned_front, SpellsNumeral};
-ghost use Rattle.version_rules.specs.Reading.{EndsList, EndsRun, IsComplete, IsKept, IsPrinted, IsSound, IsSoundBefore};
-ghost use Rattle.version_rules.specs.Release.{release_text, SpellsRelease};
+ghost use Rattle.version_rules.specs.grammar.Body.{body_front, body_text, SpellsBody};
+ghost use Rattle.version_rules.specs.grammar.Bytes.{is_identifier_byte, is_metadata_byte};
+ghost use Rattle.version_rules.specs.grammar.Chunk.{chunk_front, chunk_text, part_front, PlainChunk, SpellsChunk, SpellsPart};
+ghost use Rattle.version_rules.specs.grammar.Front.{dotted_front, run_front};
+ghost use Rattle.version_rules.specs.grammar.Last.{last_of, last_text, IsLastOf, PlainLast};
+ghost use Rattle.version_rules.specs.grammar.MChunk.{mchunk_front, mchunk_text, EndsChunk, SpellsMChunk};
+ghost use Rattle.version_rules.specs.grammar.Metadata.{SpellsMetadata};
+ghost use Rattle.version_rules.specs.grammar.Numeral.{unsigned_front, SpellsNumeral};
+ghost use Rattle.version_rules.specs.grammar.Reading.{EndsList, EndsRun, IsComplete, IsKept, IsPrinted, IsSound, IsSoundBefore};
+ghost use Rattle.version_rules.specs.grammar.Release.{release_text, SpellsRelease};
 
 // A number parses as numerals are spelled, and prints as its numeral.
 fn numerals()

@@ -4,9 +4,9 @@ use Rattle.std.proofs.lemmas.Bool.{cases_Bool, eqb-false, eqb-true}
 use Rattle.std.specs.Ordering.{ordering_reverse}
 use Rattle.std.specs.declared.cmp.Ordering.{Ordering}
 use Rattle.std.specs.declared.cmp.Ordering.TheVariants.{Less, Equal, Greater}
-use Rattle.version_rules.specs.Key.{Key, key_of, precedence}
+use Rattle.version_rules.specs.key.Key.{Key, key_of, precedence}
 use Rattle.version_rules.specs.laws.Key.{precedence_total}
-use Rattle.version_rules.specs.Versioning.{PlainVersioning}
+use Rattle.version_rules.specs.grammar.Versioning.{PlainVersioning}
 use Rattle.version_tasks.specs.Newest.{IsNewest, IsWanted, NoVersion, text_at}
 use Rattle.version_tasks.specs.declared.newest.Wanted.{Wanted}
 use Rattle.std.proofs.Common.{get_or, List, [], ◌∷◌, suc, zero}

@@ -2,13 +2,13 @@
 use Rattle.std.proofs.Common.{◌≡◌, ◌-◌, ◌∙◌, ℕ, List, [], ◌∷◌, ◌++◌, length, take, Option, Some, None, ap, arith, append_assoc, append-nil, length-append}
 use Rattle.std.proofs.lemmas.List.{take_at}
 use Rattle.std.specs.Option.{option_map}
-use Rattle.version_rules.specs.Bytes.{plus}
-use Rattle.version_rules.specs.SemVer.{PlainSemVer, optional_text, semver_text}
-use Rattle.version_rules.specs.Version.{PlainVersion, version_text}
-use Rattle.version_rules.specs.Versioning.{PlainVersioning, Ideal, General, Complex, versioning_text}
+use Rattle.version_rules.specs.grammar.Bytes.{plus}
+use Rattle.version_rules.specs.grammar.SemVer.{PlainSemVer, optional_text, semver_text}
+use Rattle.version_rules.specs.grammar.Version.{PlainVersion, version_text}
+use Rattle.version_rules.specs.grammar.Versioning.{PlainVersioning, Ideal, General, Complex, versioning_text}
 use Rattle.version_tasks.specs.Stability.{counted_text}
 use Rattle.version_texts.specs.Field.{bare_semver, bare_version, field_place, place_behind}
-use Rattle.version_texts.specs.declared.field.Field.TheVariants.{Metadata}
+use Rattle.version_texts.specs.declared.versioning_ref.field.Field.TheVariants.{Metadata}
 
 -- a plus and metadata, or nothing
 abbrev meta_text : Option (List ℕ) → List ℕ

@@ -5,8 +5,8 @@ use Rattle.std.proofs.Common.{◌≡◌, ◌<◌, ◌&&◌, ◌∙◌, if◌then
 use Rattle.std.specs.Char.{is_ascii_digit}
 use Rattle.std.specs.Option.{is_some, option_map, option_or, IfSome}
 use Rattle.std.specs.Str.{bytes_eq}
-use Rattle.version_rules.specs.Front.{◌>>=◌}
-use Rattle.version_rules.specs.Versioning.{versioning_of, versioning_text}
+use Rattle.version_rules.specs.grammar.Front.{◌>>=◌}
+use Rattle.version_rules.specs.grammar.Versioning.{versioning_of, versioning_text}
 use Rattle.version_rules.proofs.lemmas.Versioning.{versioning_of-spells, versioning_printed}
 use Rattle.version_texts.specs.VersioningRef.{plain_versioning_ref}
 use Rattle.version_texts.specs.declared.versioning_ref.VersioningRef.{VersioningRef}

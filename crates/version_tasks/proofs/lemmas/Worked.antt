@@ -1,15 +1,15 @@
 -- The worked rows, by computation.
 use Rattle.std.proofs.Common.{refl}
 use Rattle.std.specs.Fmt.{digits}
-use Rattle.version_rules.specs.Body.{body_front}
-use Rattle.version_rules.specs.Chunk.{chunk_front_of}
-use Rattle.version_rules.specs.Front.{dotted_front, optional, repeated, run_front}
-use Rattle.version_rules.specs.Last.{numbered_last}
-use Rattle.version_rules.specs.MChunk.{mchunk_front, variant_of}
-use Rattle.version_rules.specs.Mess.{further_front, mess_front, mess_of}
-use Rattle.version_rules.specs.Numeral.{unsigned_front}
-use Rattle.version_rules.specs.SemVer.{semver_front, semver_of}
-use Rattle.version_rules.specs.Version.{epoch_front, version_front, version_of}
+use Rattle.version_rules.specs.grammar.Body.{body_front}
+use Rattle.version_rules.specs.grammar.Chunk.{chunk_front_of}
+use Rattle.version_rules.specs.grammar.Front.{dotted_front, optional, repeated, run_front}
+use Rattle.version_rules.specs.grammar.Last.{numbered_last}
+use Rattle.version_rules.specs.grammar.MChunk.{mchunk_front, variant_of}
+use Rattle.version_rules.specs.grammar.Mess.{further_front, mess_front, mess_of}
+use Rattle.version_rules.specs.grammar.Numeral.{unsigned_front}
+use Rattle.version_rules.specs.grammar.SemVer.{semver_front, semver_of}
+use Rattle.version_rules.specs.grammar.Version.{epoch_front, version_front, version_of}
 use Rattle.version_tasks.specs.Tag.{place_in_tag}
 use Rattle.version_tasks.specs.Worked.{WorkedRows, next_rows, no_next_rows}
 use Rattle.version_tasks.proofs.lemmas.Next.Worked.{next_rows_are, no_next_rows_are}

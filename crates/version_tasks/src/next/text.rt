@@ -1,7 +1,7 @@
 //! A version that comes next after another: pieces of that one's text, and numbers.
 
 ghost use Rattle.std.specs.Prelude.{◌≡◌, Some};
-ghost use Rattle.version_rules.specs.Versioning.{versioning_of};
+ghost use Rattle.version_rules.specs.grammar.Versioning.{versioning_of};
 ghost use Rattle.version_tasks.specs.NextText.{next_text, zeros_text};
 ghost use Rattle.version_texts.specs.VersioningRef.{version_in};
 
@@ -26,7 +26,7 @@ pub struct Next<'a> {
 
 impl<'a> Next<'a> {
     ghost use Rattle.std.specs.Prelude.{length};
-    ghost use Rattle.version_rules.specs.Versioning.{versioning_text};
+    ghost use Rattle.version_rules.specs.grammar.Versioning.{versioning_text};
     ghost use Rattle.version_tasks.specs.NextRef.{plain_next};
     ghost use Rattle.version_texts.specs.Sinks.{saturated, IsWritten};
 
@@ -76,7 +76,7 @@ fn put_zeros<S: Sink>(sink: &mut S, zeros: usize)
 
 /// Writes its text.
 impl<'a> fmt::Display for Next<'a> {
-    ghost use Rattle.version_rules.specs.Versioning.{versioning_text};
+    ghost use Rattle.version_rules.specs.grammar.Versioning.{versioning_text};
     ghost use Rattle.version_tasks.specs.NextRef.{plain_next};
 
     ghost output = { λ next. Some (versioning_text (plain_next next)) };

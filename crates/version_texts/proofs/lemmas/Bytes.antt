@@ -10,7 +10,7 @@ use Rattle.std.proofs.lemmas.Bool.Decides.{nat_tests}
 use Rattle.std.proofs.lemmas.List.{drop-drop, take_all}
 use Rattle.std.proofs.lemmas.Map.Lookups.{exact_unsigned}
 use Rattle.version_rules.proofs.lemmas.Orders.{then_assoc}
-use Rattle.version_rules.specs.Lists.{bytes_cmp}
+use Rattle.version_rules.specs.order.Lists.{bytes_cmp}
 
 abbrev pub AreBytes : List ℕ → Type 0
 AreBytes xs = (place : ℕ) → get_or xs place 0 < 256

@@ -2,8 +2,8 @@
 use Rattle.std.proofs.Common.{◌≡◌, ◌≢◌, ◌==◌, ◌∙◌, ℕ, true, false, List, [], ◌∷◌, drop, get_or, refl, sym, arith}
 use Rattle.std.proofs.lemmas.Bool.{eq-eqb, eqb-true, ne_eqb}
 use Rattle.std.proofs.lemmas.Bool.Decides.{nat_tests}
-use Rattle.version_rules.specs.Bytes.{colon, dot, hyphen, plus}
-use Rattle.version_rules.specs.Front.{begins}
+use Rattle.version_rules.specs.grammar.Bytes.{colon, dot, hyphen, plus}
+use Rattle.version_rules.specs.grammar.Front.{begins}
 use Rattle.version_texts.specs.Class.{byte_rank, first_rank}
 use Rattle.version_texts.proofs.lemmas.TextKind.Messy.{at_byte}
 use Rattle.version_texts.proofs.lemmas.Shape.Section.{begins_within}

@@ -7,9 +7,9 @@ use Rattle.std.specs.Option.{option_map, unwrap_or}
 use Rattle.std.specs.Ordering.{is_eq, is_ne}
 use Rattle.std.specs.declared.cmp.Ordering.{Ordering}
 use Rattle.std.specs.declared.cmp.Ordering.TheVariants.{Less, Equal, Greater}
-use Rattle.version_rules.specs.Key.{Key, key_of}
-use Rattle.version_rules.specs.PartKey.{part_cmp}
-use Rattle.version_rules.specs.Versioning.{PlainVersioning, versioning_plain_cmp}
+use Rattle.version_rules.specs.key.Key.{Key, key_of}
+use Rattle.version_rules.specs.key.PartKey.{part_cmp}
+use Rattle.version_rules.specs.grammar.Versioning.{PlainVersioning, versioning_plain_cmp}
 use Rattle.version_texts.proofs.lemmas.EndOrder.{further, parts_are}
 use Rattle.version_texts.proofs.lemmas.Piece.{pieces_are}
 use Rattle.version_texts.proofs.lemmas.TextKey.Lists.{further_of_more, further_of_none}
@@ -17,8 +17,8 @@ use Rattle.version_texts.specs.Difference.{difference_of, first_differing, key_d
 use Rattle.version_texts.specs.Parts.{first_part}
 use Rattle.version_texts.specs.Piece.{behind_piece, is_dot}
 use Rattle.version_texts.specs.TextKey.{parts_of}
-use Rattle.version_texts.specs.declared.difference.Difference.{Difference}
-use Rattle.version_texts.specs.declared.difference.Difference.TheVariants.{Same, Tie}
+use Rattle.version_texts.specs.declared.order.difference.Difference.{Difference}
+use Rattle.version_texts.specs.declared.order.difference.Difference.TheVariants.{Same, Tie}
 
 -- the number of a part, counted from another on
 abbrev pub counted_from : ℕ → Option ℕ → Option ℕ

@@ -9,19 +9,19 @@ use Rattle.std.specs.declared.cmp.Ordering.{Ordering}
 use Rattle.std.specs.declared.cmp.Ordering.TheVariants.{Less, Equal, Greater}
 use Rattle.version_rules.proofs.lemmas.Range.{IsBelow, IsBelowHigh, below_earlier_high, from_empty, list_in, of_all_kinds, of_common_kinds, requirement_in, common_in, stays_from}
 use Rattle.version_rules.specs.declared.kind.Kind.{Kind}
-use Rattle.version_rules.specs.Lists.{bytes_cmp}
-use Rattle.version_rules.specs.Kind.{versioning_kind}
-use Rattle.version_rules.specs.Matching.{Matches, MatchesAll}
-use Rattle.version_rules.specs.Range.{IsIn, PlainRange, bytes_of, common, earlier, earlier_high, everything, has_kind, later, no_kinds, range_of, requirement_range}
-use Rattle.version_rules.specs.Requirement.{PlainRequirement, requirement_of}
-use Rattle.version_rules.specs.Requirements.{requirements_of}
-use Rattle.version_rules.specs.RequirementsRef.{before_others}
-use Rattle.version_rules.specs.Versioning.{PlainVersioning}
+use Rattle.version_rules.specs.order.Lists.{bytes_cmp}
+use Rattle.version_rules.specs.grammar.Kind.{versioning_kind}
+use Rattle.version_rules.specs.requirement.Matching.{Matches, MatchesAll}
+use Rattle.version_rules.specs.requirement.Range.{IsIn, PlainRange, bytes_of, common, earlier, earlier_high, everything, has_kind, later, no_kinds, range_of, requirement_range}
+use Rattle.version_rules.specs.requirement.Requirement.{PlainRequirement, requirement_of}
+use Rattle.version_rules.specs.requirement.Requirements.{requirements_of}
+use Rattle.version_rules.specs.requirement.RequirementsRef.{before_others}
+use Rattle.version_rules.specs.grammar.Versioning.{PlainVersioning}
 use Rattle.version_texts.proofs.lemmas.FirstFailing.{first_and_others, some_pieces}
 use Rattle.version_texts.proofs.lemmas.RangeRef.{narrowed}
 use Rattle.version_texts.specs.Conflict.{ExcludeEachOther, IsAt, IsByEnds}
-use Rattle.version_texts.specs.declared.conflict.Conflict.{Conflict}
-use Rattle.version_texts.specs.declared.conflict.Place.{Place}
+use Rattle.version_texts.specs.declared.requirement.conflict.Conflict.{Conflict}
+use Rattle.version_texts.specs.declared.requirement.conflict.Place.{Place}
 use Rattle.version_texts.specs.Empty.{IsCrossed, IsEmpty}
 use Rattle.version_texts.specs.MemberPlace.{NotEach}
 use Rattle.version_texts.specs.Members.{cut_at_commas, list_of}

@@ -12,14 +12,14 @@ use Rattle.version_rules.proofs.lemmas.Codes.{ended}
 use Rattle.version_rules.proofs.lemmas.KeyLaws.{key_writes}
 use Rattle.version_rules.proofs.lemmas.NumberBytes.{above, below, number_writes}
 use Rattle.version_rules.proofs.lemmas.PartKey.{part_writes}
-use Rattle.version_rules.specs.Codes.{items_bytes}
-use Rattle.version_rules.specs.Ends.{end_bytes, kept_parts}
-use Rattle.version_rules.specs.Key.{Key, precedence}
-use Rattle.version_rules.specs.KeyBytes.{key_bytes}
-use Rattle.version_rules.specs.Lists.{bytes_cmp}
-use Rattle.version_rules.specs.NumberBytes.{number_bytes}
-use Rattle.version_rules.specs.PartKey.{PartKey, part_bytes, part_cmp, part_key, parts_bytes}
-use Rattle.version_rules.specs.Tail.{tail_bytes}
+use Rattle.version_rules.specs.key.Codes.{items_bytes}
+use Rattle.version_rules.specs.requirement.Ends.{end_bytes, kept_parts}
+use Rattle.version_rules.specs.key.Key.{Key, precedence}
+use Rattle.version_rules.specs.key.KeyBytes.{key_bytes}
+use Rattle.version_rules.specs.order.Lists.{bytes_cmp}
+use Rattle.version_rules.specs.key.NumberBytes.{number_bytes}
+use Rattle.version_rules.specs.key.PartKey.{PartKey, part_bytes, part_cmp, part_key, parts_bytes}
+use Rattle.version_rules.specs.key.Tail.{tail_bytes}
 use Rattle.version_rules.specs.declared.ends.End.{End}
 use Rattle.version_texts.proofs.lemmas.Piece.{pieces_are}
 use Rattle.version_texts.proofs.lemmas.Piece.Order.{decided}

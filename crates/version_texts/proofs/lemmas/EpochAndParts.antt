@@ -1,20 +1,20 @@
 -- The texts of the epoch and of the parts of a version, by the shape of its text.
 use Rattle.std.proofs.Common.{◌≡◌, ◌∙◌, ◌≤◌, ℕ, List, [], ◌++◌, drop, length, take, Option, Some, None, refl, sym, ap, arith, append_assoc, append-nil, length-append}
 use Rattle.std.proofs.lemmas.List.{drop_at, take_at}
-use Rattle.version_rules.specs.Body.{body_text}
-use Rattle.version_rules.specs.Conversions.{version_of_semver}
-use Rattle.version_rules.specs.Kind.{versioning_kind}
-use Rattle.version_rules.specs.Version.{PlainVersion, SpellsEpoch, SpellsVersion, epoch_text}
-use Rattle.version_rules.specs.Versioning.{PlainVersioning, Ideal, General, Complex, SpellsVersioning}
+use Rattle.version_rules.specs.grammar.Body.{body_text}
+use Rattle.version_rules.specs.grammar.Conversions.{version_of_semver}
+use Rattle.version_rules.specs.grammar.Kind.{versioning_kind}
+use Rattle.version_rules.specs.grammar.Version.{PlainVersion, SpellsEpoch, SpellsVersion, epoch_text}
+use Rattle.version_rules.specs.grammar.Versioning.{PlainVersioning, Ideal, General, Complex, SpellsVersioning}
 use Rattle.version_rules.proofs.lemmas.Body.{body_printed}
 use Rattle.version_rules.proofs.lemmas.Conversions.{strict_is_general}
 use Rattle.version_rules.proofs.lemmas.Numeral.{numeral_printed}
 use Rattle.version_texts.specs.Field.{epoch_and_parts}
 use Rattle.version_texts.specs.Shape.{TailFits, body_end, body_start, shape_of}
 use Rattle.version_texts.specs.VersioningRef.{version_in}
-use Rattle.version_texts.specs.declared.shape.Shape.{Shape}
-use Rattle.version_texts.specs.declared.shape.TailKind.{TailKind}
-use Rattle.version_texts.specs.declared.shape.TailKind.TheVariants.{PreRelease, Nothing, Release, Sections}
+use Rattle.version_texts.specs.declared.scan.shape.Shape.{Shape}
+use Rattle.version_texts.specs.declared.scan.shape.TailKind.{TailKind}
+use Rattle.version_texts.specs.declared.scan.shape.TailKind.TheVariants.{PreRelease, Nothing, Release, Sections}
 use Rattle.version_texts.proofs.lemmas.Shape.{version_cut}
 use Rattle.version_texts.proofs.lemmas.Shape.Positions.{IsCut, body_end-is}
 use Rattle.version_texts.proofs.lemmas.VersioningRef.{kind-is, shape_fits, spelled, spells-is}

@@ -8,26 +8,26 @@ use Rattle.std.specs.List.{list_all, prefix_len}
 use Rattle.std.specs.Option.{option_map}
 use Rattle.std.specs.Prelude.{nat_lt}
 use Rattle.std.specs.Str.Parse.{digits_value}
-use Rattle.version_rules.specs.Bytes.{colon, hyphen, plus}
-use Rattle.version_rules.specs.Chunk.{PlainChunk}
-use Rattle.version_rules.specs.Front.{begins}
-use Rattle.version_rules.specs.Grammar.{SpellsOptional}
-use Rattle.version_rules.specs.Metadata.{SpellsMetadata}
-use Rattle.version_rules.specs.Release.{SpellsRelease, release_text}
+use Rattle.version_rules.specs.grammar.Bytes.{colon, hyphen, plus}
+use Rattle.version_rules.specs.grammar.Chunk.{PlainChunk}
+use Rattle.version_rules.specs.grammar.Front.{begins}
+use Rattle.version_rules.specs.grammar.Grammar.{SpellsOptional}
+use Rattle.version_rules.specs.grammar.Metadata.{SpellsMetadata}
+use Rattle.version_rules.specs.grammar.Release.{SpellsRelease, release_text}
 use Rattle.version_rules.proofs.lemmas.Chunk.{release_printed}
 use Rattle.version_rules.proofs.lemmas.Numeral.{numeral_printed}
 use Rattle.version_rules.proofs.lemmas.Front.Runs.{prefix_len-append}
-use Rattle.version_rules.specs.Conversions.{version_of_semver}
-use Rattle.version_rules.specs.Key.{versioning_epoch}
-use Rattle.version_rules.specs.Kind.{versioning_kind}
-use Rattle.version_rules.specs.Mess.{PlainMess, SpellsMess}
-use Rattle.version_rules.specs.SemVer.{PlainSemVer, SpellsSemVer}
-use Rattle.version_rules.specs.Version.{PlainVersion, SpellsEpoch, SpellsVersion, version_text}
-use Rattle.version_rules.specs.Versioning.{PlainVersioning, Ideal, General, Complex, SpellsVersioning}
+use Rattle.version_rules.specs.grammar.Conversions.{version_of_semver}
+use Rattle.version_rules.specs.key.Key.{versioning_epoch}
+use Rattle.version_rules.specs.grammar.Kind.{versioning_kind}
+use Rattle.version_rules.specs.grammar.Mess.{PlainMess, SpellsMess}
+use Rattle.version_rules.specs.grammar.SemVer.{PlainSemVer, SpellsSemVer}
+use Rattle.version_rules.specs.grammar.Version.{PlainVersion, SpellsEpoch, SpellsVersion, version_text}
+use Rattle.version_rules.specs.grammar.Versioning.{PlainVersioning, Ideal, General, Complex, SpellsVersioning}
 use Rattle.version_rules.proofs.lemmas.Conversions.{version_of_semver_printed, strict_is_general}
 use Rattle.version_rules.proofs.lemmas.Version.{version_printed}
-use Rattle.version_texts.specs.declared.shape.Shape.{Shape}
-use Rattle.version_texts.specs.declared.shape.TailKind.{TailKind}
+use Rattle.version_texts.specs.declared.scan.shape.Shape.{Shape}
+use Rattle.version_texts.specs.declared.scan.shape.TailKind.{TailKind}
 use Rattle.version_texts.specs.Field.{bare_semver, bare_version, body_alone, field_place, numbers_alone, place_behind}
 use Rattle.version_texts.specs.Shape.{behind_body, body_end, body_start, shape_at, shape_of}
 use Rattle.version_texts.specs.TextKind.{is_not_plus}
@@ -37,8 +37,8 @@ use Rattle.version_texts.proofs.lemmas.Shape.Complex.{mess_cut}
 use Rattle.version_texts.proofs.lemmas.Shape.Positions.{IsCut, behind_body-is, body_end-is}
 use Rattle.version_texts.proofs.lemmas.Shape.{IsCounted, IsDashed, dashed_end, dashed_within, epoch_taken, is_hyphen, length_cut, no_meta, release_not_plus, version_cut, version_dashed}
 use Rattle.version_rules.specs.declared.kind.Kind.TheVariants as kind
-use Rattle.version_texts.specs.declared.field.Field.TheVariants as field
-use Rattle.version_texts.specs.declared.shape.TailKind.TheVariants as tail
+use Rattle.version_texts.specs.declared.versioning_ref.field.Field.TheVariants as field
+use Rattle.version_texts.specs.declared.scan.shape.TailKind.TheVariants as tail
 
 -- whether a tail is a release
 abbrev pub is_release_tail : TailKind → Bool

@@ -6,9 +6,9 @@ use Rattle.std.proofs.lemmas.List.Elements.{All-append, All-cons, All-head, All-
 use Rattle.std.proofs.lemmas.List.Splits.{join_with_byte-slice_split, length-slice_split}
 use Rattle.std.proofs.lemmas.List.Sums.{sum_by-append, sum_by-cons}
 use Rattle.std.specs.List.{All, join_with_byte}
-use Rattle.version_rules.specs.Requirement.{PlainRequirement, requirement_of}
-use Rattle.version_rules.specs.Requirements.{comma, requirements_of}
-use Rattle.version_rules.specs.RequirementsRef.{before_others}
+use Rattle.version_rules.specs.requirement.Requirement.{PlainRequirement, requirement_of}
+use Rattle.version_rules.specs.requirement.Requirements.{comma, requirements_of}
+use Rattle.version_rules.specs.requirement.RequirementsRef.{before_others}
 use Rattle.version_texts.proofs.lemmas.General.Splits.{split-append}
 use Rattle.version_texts.proofs.lemmas.RangeRef.{both, read_both}
 use Rattle.version_texts.specs.MemberPlace.{IsFirstFailing, NotEach, length_with_commas}

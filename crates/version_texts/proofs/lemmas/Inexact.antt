@@ -4,10 +4,10 @@ use Rattle.std.proofs.lemmas.Bool.{cases_Bool}
 use Rattle.std.specs.List.{AllZip, join_with_byte}
 use Rattle.version_rules.proofs.lemmas.Requirement.{requirement_of-Some, requirement_printed}
 use Rattle.version_rules.proofs.lemmas.Requirements.{every_spells}
-use Rattle.version_rules.specs.Inexact.{inexact_members, inexact_text}
-use Rattle.version_rules.specs.Range.{requirement_range}
-use Rattle.version_rules.specs.Requirement.{PlainRequirement, SpellsRequirement, requirement_text}
-use Rattle.version_rules.specs.Requirements.{comma, requirements_of}
+use Rattle.version_rules.specs.requirement.Inexact.{inexact_members, inexact_text}
+use Rattle.version_rules.specs.requirement.Range.{requirement_range}
+use Rattle.version_rules.specs.requirement.Requirement.{PlainRequirement, SpellsRequirement, requirement_text}
+use Rattle.version_rules.specs.requirement.Requirements.{comma, requirements_of}
 use Rattle.version_texts.specs.Inexact.{inexact_part, inexact_pieces}
 
 pieces_printed : (texts : List (List ℕ)) (list : List PlainRequirement)

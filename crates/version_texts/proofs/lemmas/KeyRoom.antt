@@ -15,28 +15,28 @@ use Rattle.version_rules.proofs.lemmas.Last.{last_printed}
 use Rattle.version_rules.proofs.lemmas.MChunk.{mchunk_printed}
 use Rattle.version_rules.proofs.lemmas.Front.Runs.{all_weaker}
 use Rattle.version_rules.proofs.lemmas.Grammar.{of_mchunk, of_numeral}
-use Rattle.version_rules.specs.Body.{PlainBody, SpellsBody}
-use Rattle.version_rules.specs.Bytes.{dot, hyphen, is_identifier_byte, is_metadata_byte}
-use Rattle.version_rules.specs.Chunk.{Numeric, Alphanum, PlainChunk, SpellsChunk, SpellsChunkOf, SpellsPart, chunk_text}
-use Rattle.version_rules.specs.Codes.{items_bytes}
-use Rattle.version_rules.specs.DigitRun.{is_digits, starts_with_digit}
-use Rattle.version_rules.specs.Grammar.{SpellsDotted, SpellsEach, SpellsOptional}
-use Rattle.version_rules.specs.Last.{last_text}
-use Rattle.version_rules.specs.MChunk.{Digits, Rev, Plain, PlainMChunk, SpellsMChunk, mchunk_text}
-use Rattle.version_rules.specs.NumberBytes.{number_bytes}
-use Rattle.version_rules.specs.Numeral.{SpellsNumeral}
-use Rattle.version_rules.specs.PartKey.{PartKey, chunk_parts, part_bytes, part_key, parts_bytes, section_parts}
-use Rattle.version_rules.specs.Release.{SpellsRelease}
-use Rattle.version_rules.specs.ReleaseOrder.{chunk_bytes, release_bytes}
-use Rattle.version_rules.specs.Sep.{Colon, Hyphen, Plus, Underscore, Tilde}
-use Rattle.version_rules.specs.Key.{key_behind_epoch, key_of, key_of_mess, key_of_sections, key_of_semver, key_of_version, plain, section_epoch, sections_tail}
-use Rattle.version_rules.specs.KeyBytes.{key_bytes}
-use Rattle.version_rules.specs.Mess.{Further, PlainMess, Section, SpellsFurther, SpellsMess, SpellsSection}
-use Rattle.version_rules.specs.SemVer.{PlainSemVer, SpellsSemVer}
-use Rattle.version_rules.specs.Tail.{Bare, PreReleased, Released, Tail, section_bytes, tail_bytes}
-use Rattle.version_rules.specs.Version.{PlainVersion, SpellsEpoch, SpellsVersion}
+use Rattle.version_rules.specs.grammar.Body.{PlainBody, SpellsBody}
+use Rattle.version_rules.specs.grammar.Bytes.{dot, hyphen, is_identifier_byte, is_metadata_byte}
+use Rattle.version_rules.specs.grammar.Chunk.{Numeric, Alphanum, PlainChunk, SpellsChunk, SpellsChunkOf, SpellsPart, chunk_text}
+use Rattle.version_rules.specs.key.Codes.{items_bytes}
+use Rattle.version_rules.specs.grammar.DigitRun.{is_digits, starts_with_digit}
+use Rattle.version_rules.specs.grammar.Grammar.{SpellsDotted, SpellsEach, SpellsOptional}
+use Rattle.version_rules.specs.grammar.Last.{last_text}
+use Rattle.version_rules.specs.grammar.MChunk.{Digits, Rev, Plain, PlainMChunk, SpellsMChunk, mchunk_text}
+use Rattle.version_rules.specs.key.NumberBytes.{number_bytes}
+use Rattle.version_rules.specs.grammar.Numeral.{SpellsNumeral}
+use Rattle.version_rules.specs.key.PartKey.{PartKey, chunk_parts, part_bytes, part_key, parts_bytes, section_parts}
+use Rattle.version_rules.specs.grammar.Release.{SpellsRelease}
+use Rattle.version_rules.specs.order.ReleaseOrder.{chunk_bytes, release_bytes}
+use Rattle.version_rules.specs.grammar.Sep.{Colon, Hyphen, Plus, Underscore, Tilde}
+use Rattle.version_rules.specs.key.Key.{key_behind_epoch, key_of, key_of_mess, key_of_sections, key_of_semver, key_of_version, plain, section_epoch, sections_tail}
+use Rattle.version_rules.specs.key.KeyBytes.{key_bytes}
+use Rattle.version_rules.specs.grammar.Mess.{Further, PlainMess, Section, SpellsFurther, SpellsMess, SpellsSection}
+use Rattle.version_rules.specs.grammar.SemVer.{PlainSemVer, SpellsSemVer}
+use Rattle.version_rules.specs.key.Tail.{Bare, PreReleased, Released, Tail, section_bytes, tail_bytes}
+use Rattle.version_rules.specs.grammar.Version.{PlainVersion, SpellsEpoch, SpellsVersion}
 use Rattle.version_rules.proofs.lemmas.Versioning.{versioning_of-spells}
-use Rattle.version_rules.specs.Versioning.{PlainVersioning, Ideal, General, Complex, SpellsVersioning, versioning_of}
+use Rattle.version_rules.specs.grammar.Versioning.{PlainVersioning, Ideal, General, Complex, SpellsVersioning, versioning_of}
 use Rattle.version_texts.specs.KeyRoom.{room_for}
 use Rattle.version_texts.proofs.lemmas.KeyRoom.Parts.{IsHigh, list_length, number_length, part_length, text_length}
 

@@ -1,22 +1,22 @@
 -- What `~` and `^` ask of two versions, by their texts and shapes.
 use Rattle.std.proofs.Common.{◌≡◌, ◌↔◌, ◌∙◌, ℕ, Bool, List, Some, IsTrue, ap, refl, subst, sym, arith}
-use Rattle.version_rules.specs.PartKey.{PartKey}
+use Rattle.version_rules.specs.key.PartKey.{PartKey}
 use Rattle.version_rules.specs.declared.kind.Kind.{Kind}
-use Rattle.version_rules.specs.Key.{Key, key_of, strict_body}
-use Rattle.version_rules.specs.Kind.{versioning_kind}
-use Rattle.version_rules.specs.Matching.{MatchesCaret, MatchesTilde}
-use Rattle.version_rules.specs.SemVerMatch.{Numbers, numbers}
-use Rattle.version_rules.specs.VersionMatch.{PartsMatchTilde}
-use Rattle.version_rules.specs.Versioning.{PlainVersioning, Ideal, General, Complex, versioning_of}
+use Rattle.version_rules.specs.key.Key.{Key, key_of, strict_body}
+use Rattle.version_rules.specs.grammar.Kind.{versioning_kind}
+use Rattle.version_rules.specs.requirement.Matching.{MatchesCaret, MatchesTilde}
+use Rattle.version_rules.specs.requirement.SemVerMatch.{Numbers, numbers}
+use Rattle.version_rules.specs.requirement.VersionMatch.{PartsMatchTilde}
+use Rattle.version_rules.specs.grammar.Versioning.{PlainVersioning, Ideal, General, Complex, versioning_of}
 use Rattle.version_texts.proofs.lemmas.Parts.Strict.{tilde_of_numbers}
 use Rattle.version_texts.proofs.lemmas.TextKey.{versioning_key}
-use Rattle.version_texts.specs.declared.shape.Shape.{Shape}
+use Rattle.version_texts.specs.declared.scan.shape.Shape.{Shape}
 use Rattle.version_texts.specs.Matching.{epoch_and_parts_of}
 use Rattle.version_texts.specs.Shape.{body_in, shape_at, shape_of}
 use Rattle.version_texts.specs.TextKey.{parts_of, text_key}
 use Rattle.version_rules.specs.declared.kind.Kind.TheVariants as kind
-use Rattle.version_rules.specs.SemVerMatch as strict
-use Rattle.version_rules.specs.VersionMatch as general
+use Rattle.version_rules.specs.requirement.SemVerMatch as strict
+use Rattle.version_rules.specs.requirement.VersionMatch as general
 
 -- ---- the shape of a version
 

@@ -5,13 +5,13 @@ pub mod Section
 use Rattle.std.proofs.Common.{◌≡◌, ◌==◌, ◌∙◌, ℕ, zero, suc, false, List, drop, Some, arith, refl, sym, ap}
 use Rattle.std.proofs.lemmas.Bool.{ne_eqb}
 use Rattle.version_rules.specs.declared.kind.Kind.{Kind}
-use Rattle.version_rules.specs.Conversions.{version_of_semver}
-use Rattle.version_rules.specs.Kind.{versioning_kind}
-use Rattle.version_rules.specs.SemVer.{PlainSemVer, SpellsSemVer}
-use Rattle.version_rules.specs.Version.{PlainVersion, SpellsVersion, version_nth}
-use Rattle.version_rules.specs.Versioning.{PlainVersioning, Ideal, General, Complex, SpellsVersioning, semver_nth, versioning_nth}
+use Rattle.version_rules.specs.grammar.Conversions.{version_of_semver}
+use Rattle.version_rules.specs.grammar.Kind.{versioning_kind}
+use Rattle.version_rules.specs.grammar.SemVer.{PlainSemVer, SpellsSemVer}
+use Rattle.version_rules.specs.grammar.Version.{PlainVersion, SpellsVersion, version_nth}
+use Rattle.version_rules.specs.grammar.Versioning.{PlainVersioning, Ideal, General, Complex, SpellsVersioning, semver_nth, versioning_nth}
 use Rattle.version_rules.proofs.lemmas.Conversions.{strict_is_general}
-use Rattle.version_texts.specs.declared.shape.Shape.{Shape}
+use Rattle.version_texts.specs.declared.scan.shape.Shape.{Shape}
 use Rattle.version_texts.specs.Numbers.{body_number, chunk_number, section_in}
 use Rattle.version_texts.specs.Shape.{body_in, shape_at, shape_of}
 use Rattle.version_texts.specs.TextKey.{pieces}

@@ -2,7 +2,7 @@
 pub mod Strict
 use Rattle.std.proofs.Common.{◌≡◌, ◌↔◌, ◌∙◌, ℕ, false, List, [], ◌∷◌, map, Option, Some, None, IfSome, IfNone, IsTrue, ap, sym}
 use Rattle.std.specs.Borrow.{Bor}
-use Rattle.version_rules.specs.PartKey.{part_key}
+use Rattle.version_rules.specs.key.PartKey.{part_key}
 use Rattle.version_texts.proofs.lemmas.Piece.{pieces_are}
 use Rattle.version_texts.specs.Parts.{parts_behind}
 use Rattle.version_texts.specs.Piece.{behind_piece, first_piece, further_pieces, is_dot}

@@ -12,11 +12,11 @@ use Rattle.std.specs.Char.{is_ascii_digit}
 use Rattle.std.specs.List.{before_first, list_all, slice_split, take_while}
 use Rattle.std.specs.Str.Parse.{digits_value}
 use Rattle.version_rules.proofs.lemmas.Front.Runs.{take_while-all}
-use Rattle.version_rules.specs.Bytes.{dot}
-use Rattle.version_rules.specs.Chunk.{Alphanum, Numeric}
-use Rattle.version_rules.specs.DigitRun.{number_front, run_value, starts_with_digit}
-use Rattle.version_rules.specs.Split.{split_of}
-use Rattle.version_rules.specs.PartKey.{Word, Number, part_key, suffix_of}
+use Rattle.version_rules.specs.grammar.Bytes.{dot}
+use Rattle.version_rules.specs.grammar.Chunk.{Alphanum, Numeric}
+use Rattle.version_rules.specs.grammar.DigitRun.{number_front, run_value, starts_with_digit}
+use Rattle.version_rules.specs.key.Split.{split_of}
+use Rattle.version_rules.specs.key.PartKey.{Word, Number, part_key, suffix_of}
 use Rattle.version_texts.proofs.lemmas.TextKey.DotPieces.{is_run}
 use Rattle.version_texts.proofs.lemmas.Piece.Spelled.{digit_no_dot}
 use Rattle.version_texts.proofs.lemmas.General.Runs.{run_cons}

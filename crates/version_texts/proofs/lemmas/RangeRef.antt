@@ -9,18 +9,18 @@ use Rattle.std.proofs.lemmas.Cmp.{nat_list_cmp_total}
 use Rattle.std.specs.Ordering.{is_lt, ordering_reverse}
 use Rattle.std.specs.declared.cmp.Ordering.{Ordering}
 use Rattle.std.specs.declared.cmp.Ordering.TheVariants.{Less, Equal, Greater}
-use Rattle.version_rules.specs.Lists.{bytes_cmp}
+use Rattle.version_rules.specs.order.Lists.{bytes_cmp}
 use Rattle.version_rules.proofs.lemmas.Range.{common_in, list_exact, list_in}
 use Rattle.version_rules.proofs.lemmas.RequirementsRef.{Asked, others_decide}
-use Rattle.version_rules.specs.Matching.{Matches, MatchesAll}
-use Rattle.version_rules.specs.RequirementsRef.{before_others}
-use Rattle.version_rules.specs.Range.{IsIn, PlainRange, common, earlier_high, everything, later, range_of, requirement_range}
-use Rattle.version_rules.specs.Requirement.{PlainRequirement, requirement_of}
-use Rattle.version_rules.specs.Versioning.{PlainVersioning}
+use Rattle.version_rules.specs.requirement.Matching.{Matches, MatchesAll}
+use Rattle.version_rules.specs.requirement.RequirementsRef.{before_others}
+use Rattle.version_rules.specs.requirement.Range.{IsIn, PlainRange, common, earlier_high, everything, later, range_of, requirement_range}
+use Rattle.version_rules.specs.requirement.Requirement.{PlainRequirement, requirement_of}
+use Rattle.version_rules.specs.grammar.Versioning.{PlainVersioning}
 use Rattle.version_texts.proofs.lemmas.Sinks.{put_fits}
 use Rattle.version_texts.proofs.lemmas.General.Splits.{split-append}
 use Rattle.version_texts.specs.Members.{list_of}
-use Rattle.version_rules.specs.Requirements.{comma, requirements_of}
+use Rattle.version_rules.specs.requirement.Requirements.{comma, requirements_of}
 use Rattle.version_texts.specs.Sinks.{put_at}
 
 -- bytes that fit are the first bytes of the buffer that they are written into

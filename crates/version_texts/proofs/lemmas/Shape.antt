@@ -13,24 +13,24 @@ use Rattle.std.specs.List.{list_all, prefix_len}
 use Rattle.std.specs.Option.{unwrap_or}
 use Rattle.std.specs.Prelude.{slice_range}
 use Rattle.std.specs.Str.Parse.{digits_value}
-use Rattle.version_rules.specs.Bytes.{colon, hyphen, is_metadata_byte, plus}
-use Rattle.version_rules.specs.Chunk.{PlainChunk}
-use Rattle.version_rules.specs.DigitRun.{is_digits}
-use Rattle.version_rules.specs.Front.{begins}
-use Rattle.version_rules.specs.Grammar.{SpellsOptional}
-use Rattle.version_rules.specs.Metadata.{SpellsMetadata}
-use Rattle.version_rules.specs.Reading.{EndsRun}
-use Rattle.version_rules.specs.Release.{SpellsRelease}
+use Rattle.version_rules.specs.grammar.Bytes.{colon, hyphen, is_metadata_byte, plus}
+use Rattle.version_rules.specs.grammar.Chunk.{PlainChunk}
+use Rattle.version_rules.specs.grammar.DigitRun.{is_digits}
+use Rattle.version_rules.specs.grammar.Front.{begins}
+use Rattle.version_rules.specs.grammar.Grammar.{SpellsOptional}
+use Rattle.version_rules.specs.grammar.Metadata.{SpellsMetadata}
+use Rattle.version_rules.specs.grammar.Reading.{EndsRun}
+use Rattle.version_rules.specs.grammar.Release.{SpellsRelease}
 use Rattle.version_rules.proofs.lemmas.Front.Runs.{prefix_len-append, all_weaker}
 use Rattle.version_rules.specs.declared.kind.Kind.{Kind}
-use Rattle.version_rules.specs.Conversions.{version_of_semver}
-use Rattle.version_rules.specs.SemVer.{PlainSemVer, SpellsSemVer}
-use Rattle.version_rules.specs.Version.{PlainVersion, SpellsEpoch, SpellsVersion}
+use Rattle.version_rules.specs.grammar.Conversions.{version_of_semver}
+use Rattle.version_rules.specs.grammar.SemVer.{PlainSemVer, SpellsSemVer}
+use Rattle.version_rules.specs.grammar.Version.{PlainVersion, SpellsEpoch, SpellsVersion}
 use Rattle.version_rules.proofs.lemmas.SemVer.{optional_begins}
 use Rattle.version_rules.proofs.lemmas.Conversions.{strict_is_general}
-use Rattle.version_texts.specs.declared.shape.Shape.{Shape}
-use Rattle.version_texts.specs.declared.shape.TailKind.{TailKind}
-use Rattle.version_texts.specs.declared.shape.TailKind.TheVariants.{Nothing, PreRelease, Release}
+use Rattle.version_texts.specs.declared.scan.shape.Shape.{Shape}
+use Rattle.version_texts.specs.declared.scan.shape.TailKind.{TailKind}
+use Rattle.version_texts.specs.declared.scan.shape.TailKind.TheVariants.{Nothing, PreRelease, Release}
 use Rattle.version_texts.specs.Shape.{Fits, TailFits, behind_body, body_end, body_start, is_section_byte, is_tail_byte, shape_at, tail_in}
 use Rattle.version_texts.specs.TextKind.{is_not_plus}
 use Rattle.version_texts.proofs.lemmas.TextKind.Chunks.{digits_from}

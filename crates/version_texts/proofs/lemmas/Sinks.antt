@@ -3,7 +3,7 @@ use Rattle.std.proofs.Common.{◌≡◌, ◌∙◌, ◌+◌, ◌-◌, ◌<◌, �
 use Rattle.std.proofs.lemmas.List.{length-append, length-replicate, take_all}
 use Rattle.std.proofs.Math.Seq.{take-append-add, take-append_seam}
 use Rattle.version_texts.specs.Sinks.{count_with, length-put, put_at, saturated, Leads}
-use Rattle.version_texts.specs.declared.sinks.Count.{Count}
+use Rattle.version_texts.specs.declared.key.sinks.Count.{Count}
 
 -- the first byte, and then the others
 pub put_first : (room : List ℕ) (start b : ℕ) (bytes : List ℕ) → start < length room

@@ -7,30 +7,30 @@ pub mod Sections
 pub mod Taking
 use Rattle.std.proofs.Common.{◌≡◌, ◌∙◌, ℕ, List, [], ◌∷◌, ◌++◌, Option, Some, None, refl, sym, ap, arith}
 use Rattle.std.specs.Option.{option_map_or}
-use Rattle.version_rules.specs.Chunk.{PlainChunk}
-use Rattle.version_rules.specs.Last.{last_text}
-use Rattle.version_rules.specs.PartKey.{chunk_parts, part_key}
+use Rattle.version_rules.specs.grammar.Chunk.{PlainChunk}
+use Rattle.version_rules.specs.grammar.Last.{last_text}
+use Rattle.version_rules.specs.key.PartKey.{chunk_parts, part_key}
 use Rattle.version_rules.proofs.lemmas.PartKey.{plain_number}
 use Rattle.version_rules.specs.declared.kind.Kind.{Kind}
-use Rattle.version_rules.specs.Conversions.{version_of_semver}
-use Rattle.version_rules.specs.Key.{key_of, key_of_mess, key_of_semver, key_of_version, strict_body}
-use Rattle.version_rules.specs.Kind.{versioning_kind}
-use Rattle.version_rules.specs.Mess.{PlainMess, SpellsMess}
-use Rattle.version_rules.specs.SemVer.{PlainSemVer, SpellsSemVer}
-use Rattle.version_rules.specs.Tail.{Tail}
-use Rattle.version_rules.specs.Version.{PlainVersion, SpellsVersion}
-use Rattle.version_rules.specs.Versioning.{PlainVersioning, Ideal, General, Complex, SpellsVersioning, versioning_of}
+use Rattle.version_rules.specs.grammar.Conversions.{version_of_semver}
+use Rattle.version_rules.specs.key.Key.{key_of, key_of_mess, key_of_semver, key_of_version, strict_body}
+use Rattle.version_rules.specs.grammar.Kind.{versioning_kind}
+use Rattle.version_rules.specs.grammar.Mess.{PlainMess, SpellsMess}
+use Rattle.version_rules.specs.grammar.SemVer.{PlainSemVer, SpellsSemVer}
+use Rattle.version_rules.specs.key.Tail.{Tail}
+use Rattle.version_rules.specs.grammar.Version.{PlainVersion, SpellsVersion}
+use Rattle.version_rules.specs.grammar.Versioning.{PlainVersioning, Ideal, General, Complex, SpellsVersioning, versioning_of}
 use Rattle.version_rules.proofs.lemmas.Versioning.{versioning_of-spells}
 use Rattle.version_rules.proofs.lemmas.Conversions.{strict_is_general}
-use Rattle.version_texts.specs.declared.shape.TailKind.{TailKind}
-use Rattle.version_texts.specs.declared.shape.TailKind.TheVariants.{PreRelease, Release}
+use Rattle.version_texts.specs.declared.scan.shape.TailKind.{TailKind}
+use Rattle.version_texts.specs.declared.scan.shape.TailKind.TheVariants.{PreRelease, Release}
 use Rattle.version_texts.specs.Shape.{Fits, body_in, shape_at, tail_in}
 use Rattle.version_texts.specs.TextKey.{chunks_of, parts_of, tail_of, text_key}
 use Rattle.version_texts.proofs.lemmas.Shape.Complex.{mess_cut, mess_fits, mess_tail-is}
 use Rattle.version_texts.proofs.lemmas.Piece.Spelled.{body_parts, release_chunks, section_parts-is}
 use Rattle.version_texts.proofs.lemmas.Shape.{IsDashed, body_taken, dashed_shape, general_fits, strict_fits, version_cut, version_dashed, version_epoch}
 use Rattle.version_rules.specs.declared.kind.Kind.TheVariants as kind
-use Rattle.version_rules.specs.Tail as tail
+use Rattle.version_rules.specs.key.Tail as tail
 
 -- ---- strict and general versions
 

@@ -10,11 +10,11 @@ pub mod StrictText
 pub mod Tail
 use Rattle.std.proofs.Common.{if◌then◌else◌, ◌≡◌, ◌&&◌, ℕ, Bool, true, false, List, Option, Some, None, refl}
 use Rattle.std.specs.Option.{is_some, option_map, option_or}
-use Rattle.version_rules.specs.Kind.{versioning_kind}
-use Rattle.version_rules.specs.Mess.{PlainMess, mess_of}
-use Rattle.version_rules.specs.SemVer.{PlainSemVer, semver_of}
-use Rattle.version_rules.specs.Version.{PlainVersion, version_of}
-use Rattle.version_rules.specs.Versioning.{PlainVersioning, Ideal, General, Complex, versioning_of}
+use Rattle.version_rules.specs.grammar.Kind.{versioning_kind}
+use Rattle.version_rules.specs.grammar.Mess.{PlainMess, mess_of}
+use Rattle.version_rules.specs.grammar.SemVer.{PlainSemVer, semver_of}
+use Rattle.version_rules.specs.grammar.Version.{PlainVersion, version_of}
+use Rattle.version_rules.specs.grammar.Versioning.{PlainVersioning, Ideal, General, Complex, versioning_of}
 use Rattle.version_texts.specs.Shape.{shape_at, shape_of}
 use Rattle.version_texts.specs.TextKind.{has_three_numbers, is_general, is_messy, kind_in}
 use Rattle.version_texts.proofs.lemmas.TextKind.GeneralText.{general_kind}

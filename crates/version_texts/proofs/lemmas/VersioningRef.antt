@@ -7,19 +7,19 @@ use Rattle.std.specs.Cmp.{tied_itself}
 use Rattle.std.specs.Option.{is_some, option_map}
 use Rattle.std.specs.Str.{IsUtf8}
 use Rattle.std.specs.declared.cmp.Ordering.TheVariants.{Equal}
-use Rattle.version_rules.specs.Chunk.{PlainChunk}
-use Rattle.version_rules.specs.Front.{begins}
+use Rattle.version_rules.specs.grammar.Chunk.{PlainChunk}
+use Rattle.version_rules.specs.grammar.Front.{begins}
 use Rattle.version_rules.proofs.lemmas.Front.Repeated.{cases_Option}
-use Rattle.version_rules.specs.Conversions.{version_of_semver}
-use Rattle.version_rules.specs.Key.{key_of}
-use Rattle.version_rules.specs.Kind.{versioning_kind}
-use Rattle.version_rules.specs.Versioning.{PlainVersioning, Ideal, General, Complex, SpellsVersioning, is_prerelease, versioning_of, versioning_plain_cmp, versioning_text}
+use Rattle.version_rules.specs.grammar.Conversions.{version_of_semver}
+use Rattle.version_rules.specs.key.Key.{key_of}
+use Rattle.version_rules.specs.grammar.Kind.{versioning_kind}
+use Rattle.version_rules.specs.grammar.Versioning.{PlainVersioning, Ideal, General, Complex, SpellsVersioning, is_prerelease, versioning_of, versioning_plain_cmp, versioning_text}
 use Rattle.version_rules.specs.laws.Versioning.{versioning_plain_total}
 use Rattle.version_rules.proofs.lemmas.Versioning.{versioning_ascii, versioning_of-spells, versioning_printed}
 use Rattle.version_rules.proofs.lemmas.Conversions.{strict_is_general}
-use Rattle.version_texts.specs.declared.shape.Shape.{Shape}
-use Rattle.version_texts.specs.declared.shape.TailKind.{TailKind}
-use Rattle.version_texts.specs.declared.shape.TailKind.TheVariants.{Nothing, PreRelease, Release, Sections}
+use Rattle.version_texts.specs.declared.scan.shape.Shape.{Shape}
+use Rattle.version_texts.specs.declared.scan.shape.TailKind.{TailKind}
+use Rattle.version_texts.specs.declared.scan.shape.TailKind.TheVariants.{Nothing, PreRelease, Release, Sections}
 use Rattle.version_texts.specs.Shape.{Fits, behind_body, shape_at, shape_of, tail_kind}
 use Rattle.version_texts.specs.TextKey.{text_key}
 use Rattle.version_texts.specs.VersioningRef.{version_in}

@@ -4,9 +4,9 @@
 ghost use Rattle.std.specs.Prelude.{◌≡◌, List, Some, ℕ};
 ghost use Rattle.version_texts.specs.Shape.{shape_at, Fits};
 ghost use Rattle.version_texts.specs.TextKey.{text_key};
-ghost use Rattle.version_rules.specs.Key.{key_of};
-ghost use Rattle.version_rules.specs.Kind.{versioning_kind};
-ghost use Rattle.version_rules.specs.Versioning.{versioning_of, PlainVersioning};
+ghost use Rattle.version_rules.specs.key.Key.{key_of};
+ghost use Rattle.version_rules.specs.grammar.Kind.{versioning_kind};
+ghost use Rattle.version_rules.specs.grammar.Versioning.{versioning_of, PlainVersioning};
 
 // The pieces that the shape of a version names lie in its text, and have only bytes of their kinds. The key of the
 // version is the one that these pieces give.

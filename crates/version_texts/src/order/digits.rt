@@ -5,11 +5,11 @@ ghost use Rattle.std.specs.Char.{is_ascii_digit};
 ghost use Rattle.std.specs.List.{prefix_len};
 ghost use Rattle.std.specs.Ordering.{nat_cmp};
 ghost use Rattle.std.specs.declared.cmp.Ordering.TheVariants.{Equal};
-ghost use Rattle.version_rules.specs.DigitRun.{run_value, starts_with_digit};
+ghost use Rattle.version_rules.specs.grammar.DigitRun.{run_value, starts_with_digit};
 ghost use Rattle.version_texts.specs.Piece.{behind_digits};
 
-use crate::class::{Class, begins_with};
 use crate::order::run::Compared;
+use crate::scan::class::{Class, begins_with};
 use std::cmp::Ordering;
 
 // Compares the numbers at the starts of two texts, without leading zeros: by the count of digits, and then by the first

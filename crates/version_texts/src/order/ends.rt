@@ -1,10 +1,10 @@
 //! What ends a part, and the runs of bytes in it.
 
 ghost use Rattle.std.specs.Prelude.{◌≡◌};
-ghost use Rattle.version_rules.specs.Front.{begins};
+ghost use Rattle.version_rules.specs.grammar.Front.{begins};
 ghost use Rattle.version_texts.specs.Piece.{end_of, in_run};
 
-use crate::class::is_sign;
+use crate::scan::class::is_sign;
 
 /// What ends a part: a dot in a body, a dot or a sign in sections.
 #[derive(Clone, Copy)]

@@ -2,15 +2,15 @@
 
 ghost use Rattle.std.specs.Prelude.{◌≡◌, IfNone, IfSome, None, Some};
 ghost use Rattle.std.specs.declared.cmp.Ordering.TheVariants.{Equal};
-ghost use Rattle.version_rules.specs.PartKey.{list_cmp, part_cmp, part_key};
-ghost use Rattle.version_rules.specs.Tail.{sections_cmp};
+ghost use Rattle.version_rules.specs.key.PartKey.{list_cmp, part_cmp, part_key};
+ghost use Rattle.version_rules.specs.key.Tail.{sections_cmp};
 ghost use Rattle.version_texts.specs.TextKey.{lists_of, parts_of, sections_of};
 
-use crate::class::{Class, begins_with};
 use crate::order::digits::compare_if_numbers;
 use crate::order::ends::Ends;
 use crate::order::part::compare_parts_to;
 use crate::order::piece::{after_mark, behind_first};
+use crate::scan::class::{Class, begins_with};
 use std::cmp::Ordering;
 
 // Compares two lists of parts. The first place where they differ decides:

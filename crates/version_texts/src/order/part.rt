@@ -4,18 +4,18 @@ ghost use Rattle.std.specs.Prelude.{◌≡◌, Some, false};
 ghost use Rattle.std.specs.List.{before_first};
 ghost use Rattle.std.specs.Option.{option_cmp};
 ghost use Rattle.std.specs.declared.cmp.Ordering.TheVariants.{Equal};
-ghost use Rattle.version_rules.specs.DigitRun.{number_front};
-ghost use Rattle.version_rules.specs.Front.{begins};
-ghost use Rattle.version_rules.specs.Lists.{bytes_cmp, none_last_cmp};
-ghost use Rattle.version_rules.specs.PartKey.{part_cmp, part_key, suffix_of};
-ghost use Rattle.version_rules.specs.Split.{numbered_cmp, split_cmp, split_of};
+ghost use Rattle.version_rules.specs.grammar.DigitRun.{number_front};
+ghost use Rattle.version_rules.specs.grammar.Front.{begins};
+ghost use Rattle.version_rules.specs.order.Lists.{bytes_cmp, none_last_cmp};
+ghost use Rattle.version_rules.specs.key.PartKey.{part_cmp, part_key, suffix_of};
+ghost use Rattle.version_rules.specs.key.Split.{numbered_cmp, split_cmp, split_of};
 ghost use Rattle.version_texts.specs.declared.order.ends.Run.TheVariants.{Word};
 ghost use Rattle.version_texts.specs.Piece.{end_of, from_first, in_run};
 
-use crate::class::{Class, begins_with};
 use crate::order::digits::compare_numbers;
 use crate::order::ends::{Ends, Run};
 use crate::order::run::{Compared, compare_runs};
+use crate::scan::class::{Class, begins_with};
 use std::cmp::Ordering;
 
 // Compares two texts by their first parts, which go to the ends that are given. If these are equal, returns what

@@ -5,17 +5,17 @@ ghost use Rattle.std.specs.Char.{is_ascii_digit};
 ghost use Rattle.std.specs.List.{list_all};
 ghost use Rattle.std.specs.Ordering.{nat_cmp};
 ghost use Rattle.std.specs.declared.cmp.Ordering.TheVariants.{Equal, Greater};
-ghost use Rattle.version_rules.specs.DigitRun.{run_value};
-ghost use Rattle.version_rules.specs.ReleaseOrder.{chunk_cmp, release_cmp};
+ghost use Rattle.version_rules.specs.grammar.DigitRun.{run_value};
+ghost use Rattle.version_rules.specs.order.ReleaseOrder.{chunk_cmp, release_cmp};
 ghost use Rattle.version_texts.specs.Piece.{behind_piece, first_piece};
 ghost use Rattle.version_texts.specs.TextKey.{chunk_of, chunks_of};
 
-use crate::class::{Class, split_run};
 use crate::order::digits::compare_numbers;
 use crate::order::ends::Ends;
 use crate::order::part::compare_texts;
 use crate::order::piece::{behind_first, piece_is_empty};
 use crate::order::run::Compared;
+use crate::scan::class::{Class, split_run};
 use std::cmp::Ordering;
 
 // Compares two releases chunk by chunk. A prefix comes before the longer release.

@@ -1,11 +1,11 @@
 -- Ranges that a loop makes narrower, member by member.
 use Rattle.std.proofs.Common.{◌≡◌, List, Result, Ok, Err, IfOk}
 use Rattle.versions.specs.declared.range.Range.{Range}
-use Rattle.version_rules.specs.Matching.{MatchesAll}
-use Rattle.version_rules.specs.Range.{IsIn, range_of}
+use Rattle.version_rules.specs.requirement.Matching.{MatchesAll}
+use Rattle.version_rules.specs.requirement.Range.{IsIn, range_of}
 use Rattle.versions.specs.Range.{plain_range}
-use Rattle.version_rules.specs.Requirement.{PlainRequirement}
-use Rattle.version_rules.specs.Versioning.{PlainVersioning}
+use Rattle.version_rules.specs.requirement.Requirement.{PlainRequirement}
+use Rattle.version_rules.specs.grammar.Versioning.{PlainVersioning}
 use Rattle.version_rules.proofs.lemmas.Range.{list_in}
 
 -- the first of the range that a call returns, if it returns one

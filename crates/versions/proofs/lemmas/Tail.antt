@@ -1,9 +1,9 @@
 -- What remains of a release to be written is the tail of the release.
 use Rattle.std.proofs.Common.{◌≡◌, Option, Some, None, List, refl}
 use Rattle.std.specs.Option.{option_map, option_map_or}
-use Rattle.version_rules.specs.Chunk.{PlainChunk}
-use Rattle.version_rules.specs.ReleaseOrder.{release_bytes}
-use Rattle.version_rules.specs.Tail.{Bare, PreReleased, Released, tail_bytes}
+use Rattle.version_rules.specs.grammar.Chunk.{PlainChunk}
+use Rattle.version_rules.specs.order.ReleaseOrder.{release_bytes}
+use Rattle.version_rules.specs.key.Tail.{Bare, PreReleased, Released, tail_bytes}
 use Rattle.versions.specs.KeyStream.{release_tail}
 
 pub pre_release_written : (o : Option (List PlainChunk))

@@ -2,9 +2,9 @@
 
 ghost use Rattle.std.specs.Prelude.{◌≡◌, ◌++◌, ◌∷◌, []};
 ghost use Rattle.version_parts.specs.Body.{plain_chunks};
-ghost use Rattle.version_rules.specs.Last.{last_text};
+ghost use Rattle.version_rules.specs.grammar.Last.{last_text};
 ghost use Rattle.version_parts.specs.Last.{plain_last};
-ghost use Rattle.version_rules.specs.PartKey.{chunk_parts, part_key, parts_bytes};
+ghost use Rattle.version_rules.specs.key.PartKey.{chunk_parts, part_key, parts_bytes};
 ghost use Rattle.version_parts.specs.Pieces.{IsNext};
 
 use std::marker::Model;
@@ -71,9 +71,9 @@ pub struct PartsLeft<'a> {
 impl<'a> Model for PartsLeft<'a> {
     ghost use Rattle.std.specs.Prelude.{List, ℕ, ◌++◌, [], None, Some, if◌then◌else◌};
     ghost use Rattle.std.specs.Option.{option_map_or};
-    ghost use Rattle.version_rules.specs.Last.{last_text};
+    ghost use Rattle.version_rules.specs.grammar.Last.{last_text};
     ghost use Rattle.version_parts.specs.Last.{plain_last};
-    ghost use Rattle.version_rules.specs.PartKey.{part_bytes, part_key};
+    ghost use Rattle.version_rules.specs.key.PartKey.{part_bytes, part_key};
 
     ghost Value = { List ℕ };
 

@@ -1,10 +1,10 @@
 //! The tail of a key, which follows its body.
 
 ghost use Rattle.std.specs.Prelude.{◌≡◌};
-ghost use Rattle.version_rules.specs.Key.{sections_tail};
+ghost use Rattle.version_rules.specs.key.Key.{sections_tail};
 ghost use Rattle.versions.specs.KeyStream.{release_tail};
 ghost use Rattle.versions.specs.Mess.{plain_mess};
-ghost use Rattle.version_rules.specs.Tail.{tail_bytes};
+ghost use Rattle.version_rules.specs.key.Tail.{tail_bytes};
 
 use crate::mess::Mess;
 use version_parts::ReleaseChunk;

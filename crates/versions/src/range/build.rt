@@ -1,13 +1,13 @@
 //! Ranges built from the ends that operators ask for.
 
 ghost use Rattle.std.specs.Prelude.{◌≡◌, ◌∷◌, ◌++◌, IfOk, IsTrue, OnOk, Some};
-ghost use Rattle.version_rules.specs.Codes.{items_bytes};
-ghost use Rattle.version_rules.specs.PartKey.{part_bytes};
+ghost use Rattle.version_rules.specs.key.Codes.{items_bytes};
+ghost use Rattle.version_rules.specs.key.PartKey.{part_bytes};
 ghost use Rattle.versions.specs.BodyParts.{first_part, more_parts};
-ghost use Rattle.version_rules.specs.Ends.{end_bytes, is_whole, kept_parts, range_from, AreWhole};
-ghost use Rattle.version_rules.specs.Key.{key_of, strict_body};
-ghost use Rattle.version_rules.specs.Kind.{versioning_kind};
-ghost use Rattle.version_rules.specs.Range.{begun};
+ghost use Rattle.version_rules.specs.requirement.Ends.{end_bytes, is_whole, kept_parts, range_from, AreWhole};
+ghost use Rattle.version_rules.specs.key.Key.{key_of, strict_body};
+ghost use Rattle.version_rules.specs.grammar.Kind.{versioning_kind};
+ghost use Rattle.version_rules.specs.requirement.Range.{begun};
 ghost use Rattle.versions.specs.Range.{plain_range};
 ghost use Rattle.versions.specs.Versioning.{plain_versioning};
 ghost use Rattle.version_rules.specs.declared.kind.Kind.TheVariants.{Complex};

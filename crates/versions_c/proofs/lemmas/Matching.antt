@@ -1,9 +1,9 @@
 -- An answer for a text, by whether its version matches.
 use Rattle.std.proofs.Common.{◌≡◌, ◌⊎◌, List, Option, Some, inl, inr, refl}
-use Rattle.version_rules.specs.Matching.{MatchesAll}
+use Rattle.version_rules.specs.requirement.Matching.{MatchesAll}
 use Rattle.version_rules.specs.laws.Matching.{matches_all_or_not}
-use Rattle.version_rules.specs.Requirement.{PlainRequirement}
-use Rattle.version_rules.specs.Versioning.{PlainVersioning}
+use Rattle.version_rules.specs.requirement.Requirement.{PlainRequirement}
+use Rattle.version_rules.specs.grammar.Versioning.{PlainVersioning}
 use Rattle.versions_c.specs.Matching.{bit, match_code}
 
 pub bit_holds : {Holds : Type 0} (decided : Holds ⊎ ¬ Holds) → Holds → bit decided ≡ 1

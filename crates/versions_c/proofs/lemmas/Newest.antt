@@ -1,8 +1,8 @@
 -- The texts that are wanted are those that a caller asks for by numbers.
 use Rattle.std.proofs.Common.{◌≡◌, ◌↔◌, ◌≤◌, ◌+◌, ℕ, List, IfSome, arith}
-use Rattle.version_rules.specs.Matching.{MatchesAll}
-use Rattle.version_rules.specs.Requirement.{PlainRequirement}
-use Rattle.version_rules.specs.Versioning.{PlainVersioning}
+use Rattle.version_rules.specs.requirement.Matching.{MatchesAll}
+use Rattle.version_rules.specs.requirement.Requirement.{PlainRequirement}
+use Rattle.version_rules.specs.grammar.Versioning.{PlainVersioning}
 use Rattle.version_tasks.specs.Newest.{IsWanted}
 use Rattle.version_tasks.specs.Stability.{rank}
 use Rattle.version_tasks.specs.declared.newest.Wanted.{Wanted}

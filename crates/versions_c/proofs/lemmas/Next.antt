@@ -1,7 +1,7 @@
 -- What is answered about the version that comes next.
 use Rattle.std.proofs.Common.{◌≡◌, ◌<◌, ◌≤◌, ◌^◌, ℕ, List, Option, Some, arith, length}
 use Rattle.std.proofs.lemmas.Bool.Decides.{nat_tests}
-use Rattle.version_rules.specs.Versioning.{PlainVersioning, versioning_text}
+use Rattle.version_rules.specs.grammar.Versioning.{PlainVersioning, versioning_text}
 use Rattle.version_tasks.specs.Next.{IsNext}
 use Rattle.version_texts.specs.Sinks.{put_at, saturated}
 use Rattle.version_texts.proofs.lemmas.Sinks.{put_fits}

@@ -6,18 +6,18 @@ use Rattle.std.proofs.lemmas.List.{length-append}
 use Rattle.std.specs.List.{AllZip, join_with_byte}
 use Rattle.std.specs.Option.{option_map_or}
 use Rattle.std.specs.Ordering.{is_lt}
-use Rattle.version_rules.specs.Lists.{bytes_cmp}
-use Rattle.version_rules.specs.PartKey.{PartKey}
+use Rattle.version_rules.specs.order.Lists.{bytes_cmp}
+use Rattle.version_rules.specs.key.PartKey.{PartKey}
 use Rattle.version_texts.proofs.lemmas.RangeRef.{narrowed}
 use Rattle.version_texts.specs.RangeRef.{high_length}
 use Rattle.version_rules.proofs.lemmas.Requirements.{requirements_of-spells}
 use Rattle.version_rules.specs.declared.op.Op.{Op}
 use Rattle.version_rules.specs.declared.op.Op.TheVariants.{Exact, Greater, GreaterEq, Less, LessEq, Tilde, Caret, Wildcard}
-use Rattle.version_rules.specs.Op.{op_text}
-use Rattle.version_rules.specs.Range.{PlainRange, alike_from, but_last, bytes_of, common, earlier_high, everything, later, op_range, range_of, range_without_version, requirement_range, series_range, through_other}
-use Rattle.version_rules.specs.Requirement.{PlainRequirement, SpellsOperand, SpellsRequirement}
-use Rattle.version_rules.specs.Requirements.{comma, requirements_of}
-use Rattle.version_rules.specs.Versioning.{PlainVersioning, Ideal, General, Complex}
+use Rattle.version_rules.specs.requirement.Op.{op_text}
+use Rattle.version_rules.specs.requirement.Range.{PlainRange, alike_from, but_last, bytes_of, common, earlier_high, everything, later, op_range, range_of, range_without_version, requirement_range, series_range, through_other}
+use Rattle.version_rules.specs.requirement.Requirement.{PlainRequirement, SpellsOperand, SpellsRequirement}
+use Rattle.version_rules.specs.requirement.Requirements.{comma, requirements_of}
+use Rattle.version_rules.specs.grammar.Versioning.{PlainVersioning, Ideal, General, Complex}
 use Rattle.version_texts.proofs.lemmas.KeyRoom.{spelled_length}
 use Rattle.version_texts.proofs.lemmas.KeyRoom.Ends.{begun_length, below_key, but_last_length, length_of, through_other_length}
 use Rattle.version_texts.specs.KeyRoom.{room_for}

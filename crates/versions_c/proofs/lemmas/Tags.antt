@@ -3,7 +3,7 @@ use Rattle.std.proofs.Common.{◌≡◌, ◌<◌, ◌≤◌, ◌+◌, ◌-◌, �
 use Rattle.std.proofs.lemmas.List.{drop-drop, drop-take, length-take}
 use Rattle.std.specs.List.{slice_range}
 use Rattle.std.specs.Option.{option_map, option_map_or}
-use Rattle.version_rules.specs.Versioning.{PlainVersioning, versioning_text}
+use Rattle.version_rules.specs.grammar.Versioning.{PlainVersioning, versioning_text}
 use Rattle.version_tasks.specs.Tag.{version_in_tag}
 use Rattle.versions_c.specs.Tags.{IsStart}
 

@@ -5,7 +5,7 @@ use Rattle.std.specs.List.{concat}
 use Rattle.version_texts.proofs.lemmas.MemberPlace.{member_within}
 use Rattle.version_commands.specs.Why.{conflict_line}
 use Rattle.version_texts.specs.MemberPlace.{text_between}
-use Rattle.version_texts.specs.declared.conflict.Conflict.{Conflict}
+use Rattle.version_texts.specs.declared.requirement.conflict.Conflict.{Conflict}
 use Rattle.version_commands.proofs.why.add_conflict_line.Goals as goal
 
 module _ (end : ℕ) (list : List ℕ) (conflict : Conflict) (one other : List ℕ)

@@ -6,10 +6,10 @@ use Rattle.std.proofs.lemmas.List.{length-drop}
 use Rattle.std.proofs.lemmas.List.Sums.{prefix_len-le-length}
 use Rattle.std.specs.Char.{is_ascii_digit}
 use Rattle.std.specs.List.{list_all, prefix_len, take_while}
-use Rattle.version_rules.specs.Chunk.{Alphanum, Numeric, chunk_front_of}
-use Rattle.version_rules.specs.Bytes.{HasDigits}
-use Rattle.version_rules.specs.Front.{begins, map_value}
-use Rattle.version_rules.specs.Numeral.{unsigned_front}
+use Rattle.version_rules.specs.grammar.Chunk.{Alphanum, Numeric, chunk_front_of}
+use Rattle.version_rules.specs.grammar.Bytes.{HasDigits}
+use Rattle.version_rules.specs.grammar.Front.{begins, map_value}
+use Rattle.version_rules.specs.grammar.Numeral.{unsigned_front}
 use Rattle.version_rules.proofs.lemmas.Bytes.{digits_alphanumeric, digits_identify}
 
 pub ruleset classes_with_digits = (digits_alphanumeric, digits_identify)

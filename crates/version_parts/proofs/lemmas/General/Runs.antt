@@ -9,9 +9,9 @@ use Rattle.std.proofs.lemmas.Str.{IsCharBoundary-from_take, IsUtf8-from_ascii}
 use Rattle.std.specs.List.{prefix_len}
 use Rattle.std.specs.Str.{IsAscii, IsCharBoundary, IsUtf8}
 use Rattle.std.specs.Char.{is_ascii_alphabetic, is_ascii_alphanumeric, is_ascii_digit}
-use Rattle.version_rules.specs.Bytes.{is_identifier_byte}
+use Rattle.version_rules.specs.grammar.Bytes.{is_identifier_byte}
 use Rattle.version_parts.specs.Class.{contains}
-use Rattle.version_rules.specs.Sep.{PlainSep, sep_of}
+use Rattle.version_rules.specs.grammar.Sep.{PlainSep, sep_of}
 use Rattle.version_parts.specs.declared.scan.Class.{Class}
 use Rattle.version_parts.specs.declared.scan.Class.TheVariants.{Digit, Letter, Alphanumeric, Identifier, Metadata}
 use Rattle.version_rules.proofs.lemmas.Bytes.{metadata_ascii}

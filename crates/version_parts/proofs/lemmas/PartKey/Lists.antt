@@ -2,12 +2,12 @@
 use Rattle.std.proofs.Common.{◌≡◌, List, [], ◌∷◌, ◌++◌, map, None, refl, ap, ◌∙◌}
 use Rattle.version_parts.specs.declared.chunk.Chunk.{Chunk}
 use Rattle.version_parts.specs.declared.mchunk.MChunk.{MChunk}
-use Rattle.version_rules.specs.Chunk.{chunk_text}
+use Rattle.version_rules.specs.grammar.Chunk.{chunk_text}
 use Rattle.version_parts.specs.Chunk.{plain_chunk}
-use Rattle.version_rules.specs.Codes.{items_bytes, list_bytes}
-use Rattle.version_rules.specs.MChunk.{mchunk_text}
+use Rattle.version_rules.specs.key.Codes.{items_bytes, list_bytes}
+use Rattle.version_rules.specs.grammar.MChunk.{mchunk_text}
 use Rattle.version_parts.specs.MChunk.{plain_mchunk}
-use Rattle.version_rules.specs.PartKey.{PartKey, chunk_parts, part_bytes, part_key, parts_bytes, section_parts}
+use Rattle.version_rules.specs.key.PartKey.{PartKey, chunk_parts, part_bytes, part_key, parts_bytes, section_parts}
 use Rattle.version_rules.proofs.lemmas.Codes.{ended}
 
 -- the part of a chunk

@@ -2,10 +2,10 @@
 use Rattle.std.proofs.Common.{◌≡◌, ◌==◌, ℕ, ◌<◌, ◌≤◌, false, List, [], ◌∷◌, ◌++◌, length, Some, None, refl, sym, ap, subst, ◌∙◌, arith, inl, inr, append-nil, append_assoc, length-append}
 use Rattle.std.proofs.lemmas.Bool.{cases_Bool, eqb-true}
 use Rattle.std.specs.Option.{option_map_or}
-use Rattle.version_rules.specs.Bytes.{dot}
-use Rattle.version_rules.specs.Front.{Consumes, Front, after_mark, begins, behind, dotted_front, elements_at, further}
-use Rattle.version_rules.specs.Grammar.{SpellsBehind, SpellsDotted, SpellsEach}
-use Rattle.version_rules.specs.Reading.{EndsList, IsComplete, IsSound, IsSoundBefore}
+use Rattle.version_rules.specs.grammar.Bytes.{dot}
+use Rattle.version_rules.specs.grammar.Front.{Consumes, Front, after_mark, begins, behind, dotted_front, elements_at, further}
+use Rattle.version_rules.specs.grammar.Grammar.{SpellsBehind, SpellsDotted, SpellsEach}
+use Rattle.version_rules.specs.grammar.Reading.{EndsList, IsComplete, IsSound, IsSoundBefore}
 use Rattle.version_rules.proofs.lemmas.Front.Repeated.{cases_Option, Shrinks, each_ends, repeated-None, repeated-next, repeated-reads, repeated_consumes, repeated_follows, repeated_sound}
 
 -- a front after a byte reads that byte, and then as the front does

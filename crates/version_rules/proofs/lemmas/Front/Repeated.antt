@@ -1,9 +1,9 @@
 -- Items one after another: what their front reads, and that it reads what is spelled.
 use Rattle.std.proofs.Common.{◌≡◌, ◌⊎◌, ◌∙◌, ℕ, zero, suc, ◌<◌, ◌≤◌, List, [], ◌∷◌, ◌++◌, length, Option, Some, None, refl, sym, ap, arith, inl, inr, append_assoc, length-append}
 use Rattle.std.specs.List.{flat_map}
-use Rattle.version_rules.specs.Front.{Front, repeated}
-use Rattle.version_rules.specs.Grammar.{SpellsEach}
-use Rattle.version_rules.specs.Reading.{IsComplete, IsPrinted, IsSoundBefore}
+use Rattle.version_rules.specs.grammar.Front.{Front, repeated}
+use Rattle.version_rules.specs.grammar.Grammar.{SpellsEach}
+use Rattle.version_rules.specs.grammar.Reading.{IsComplete, IsPrinted, IsSoundBefore}
 
 pub cases_Option : {X : Type 0} (o : Option X) → (o ≡ None) ⊎ ((x : X) × (o ≡ Some x))
 cases_Option None = inl refl

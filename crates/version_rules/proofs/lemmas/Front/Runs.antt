@@ -4,7 +4,7 @@ use Rattle.std.proofs.lemmas.Bool.{cases_Bool, eqb-false, eqb-true, ne_eqb}
 use Rattle.std.proofs.lemmas.List.{drop_at, take-append-drop, take_at}
 use Rattle.std.specs.Cmp.{first_so, second_so}
 use Rattle.std.specs.List.{list_all, prefix_len, take_while}
-use Rattle.version_rules.specs.Front.{after_mark, begins, run_front, unless_empty}
+use Rattle.version_rules.specs.grammar.Front.{after_mark, begins, run_front, unless_empty}
 
 -- what follows a byte, if the text begins with it
 pub after_mark-Some : (mark : ℕ) (text tail : List ℕ) → after_mark mark text ≡ Some tail

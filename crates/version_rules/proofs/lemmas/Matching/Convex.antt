@@ -9,15 +9,15 @@ use Rattle.std.specs.Ordering.{is_gt, ordering_reverse, ordering_then}
 use Rattle.std.specs.declared.cmp.Ordering.{Ordering}
 use Rattle.std.specs.declared.cmp.Ordering.TheVariants.{Less, Equal, Greater}
 use Rattle.version_rules.specs.declared.op.Op.{Op}
-use Rattle.version_rules.specs.Key.{key_of, precedence}
+use Rattle.version_rules.specs.key.Key.{key_of, precedence}
 use Rattle.version_rules.specs.laws.Key.{precedence_total}
-use Rattle.version_rules.specs.Matching.{IsConvex, Matches, MatchesAll, MatchesOp}
-use Rattle.version_rules.specs.Requirement.{PlainRequirement}
-use Rattle.version_rules.specs.SemVer.{PlainSemVer}
+use Rattle.version_rules.specs.requirement.Matching.{IsConvex, Matches, MatchesAll, MatchesOp}
+use Rattle.version_rules.specs.requirement.Requirement.{PlainRequirement}
+use Rattle.version_rules.specs.grammar.SemVer.{PlainSemVer}
 use Rattle.version_rules.specs.laws.SemVer.{semver_total}
-use Rattle.version_rules.specs.SemVerMatch.{MatchesCaret, MatchesMinor, MatchesTilde, Numbers, both_zero, numbers}
-use Rattle.version_rules.specs.SemVerOrder.{semver_cmp}
-use Rattle.version_rules.specs.Versioning.{PlainVersioning, Ideal, General, Complex}
+use Rattle.version_rules.specs.requirement.SemVerMatch.{MatchesCaret, MatchesMinor, MatchesTilde, Numbers, both_zero, numbers}
+use Rattle.version_rules.specs.order.SemVerOrder.{semver_cmp}
+use Rattle.version_rules.specs.grammar.Versioning.{PlainVersioning, Ideal, General, Complex}
 use Rattle.version_rules.proofs.lemmas.SemVerOrder.{precedence_of_semvers}
 use Rattle.version_rules.specs.declared.op.Op.TheVariants as op
 

@@ -9,23 +9,23 @@ use Rattle.std.specs.declared.cmp.Ordering.TheVariants.{Less, Equal, Greater}
 use Rattle.version_rules.proofs.lemmas.Lists.{split_last-append}
 use Rattle.version_rules.proofs.lemmas.NumberBytes.{number_writes}
 use Rattle.version_rules.proofs.lemmas.PartKey.{part_writes}
-use Rattle.version_rules.specs.Codes.{items_bytes}
-use Rattle.version_rules.specs.Lists.{bytes_cmp}
-use Rattle.version_rules.specs.NumberBytes.{number_bytes}
+use Rattle.version_rules.specs.key.Codes.{items_bytes}
+use Rattle.version_rules.specs.order.Lists.{bytes_cmp}
+use Rattle.version_rules.specs.key.NumberBytes.{number_bytes}
 use Rattle.version_rules.specs.laws.Order.{then_equal}
-use Rattle.version_rules.specs.PartKey.{PartKey, Number, Word, part_bytes, part_cmp, parts_bytes}
+use Rattle.version_rules.specs.key.PartKey.{PartKey, Number, Word, part_bytes, part_cmp, parts_bytes}
 use Rattle.version_rules.specs.laws.Part.{part_total}
-use Rattle.version_rules.specs.Key.{Key, key_of_semver, key_of_version, plain, strict_body}
-use Rattle.version_rules.specs.KeyBytes.{key_bytes}
-use Rattle.version_rules.specs.Matching.{MatchesCaret, MatchesTilde}
-use Rattle.version_rules.specs.Range.{AreBetween, IsIn, above_begun, begun, but_last, series_range, through_other}
-use Rattle.version_rules.specs.SemVer.{PlainSemVer}
-use Rattle.version_rules.specs.SemVerMatch.{Numbers, both_zero, numbers}
-use Rattle.version_rules.specs.Tail.{tail_bytes}
-use Rattle.version_rules.specs.Version.{PlainVersion}
-use Rattle.version_rules.specs.VersionMatch.{IsNotBelow, PartsMatchCaret, PartsMatchTilde, PartsNotBelow, is_plain_zero}
-use Rattle.version_rules.specs.Versioning.{PlainVersioning, Ideal, General, Complex}
-use Rattle.version_rules.specs.SemVerMatch as strict
+use Rattle.version_rules.specs.key.Key.{Key, key_of_semver, key_of_version, plain, strict_body}
+use Rattle.version_rules.specs.key.KeyBytes.{key_bytes}
+use Rattle.version_rules.specs.requirement.Matching.{MatchesCaret, MatchesTilde}
+use Rattle.version_rules.specs.requirement.Range.{AreBetween, IsIn, above_begun, begun, but_last, series_range, through_other}
+use Rattle.version_rules.specs.grammar.SemVer.{PlainSemVer}
+use Rattle.version_rules.specs.requirement.SemVerMatch.{Numbers, both_zero, numbers}
+use Rattle.version_rules.specs.key.Tail.{tail_bytes}
+use Rattle.version_rules.specs.grammar.Version.{PlainVersion}
+use Rattle.version_rules.specs.requirement.VersionMatch.{IsNotBelow, PartsMatchCaret, PartsMatchTilde, PartsNotBelow, is_plain_zero}
+use Rattle.version_rules.specs.grammar.Versioning.{PlainVersioning, Ideal, General, Complex}
+use Rattle.version_rules.specs.requirement.SemVerMatch as strict
 
 -- ---- orders in turn
 

@@ -2,17 +2,17 @@
 -- and dots, of signs, and of such texts joined.
 use Rattle.std.proofs.Common.{◌≡◌, ℕ, true, List, [], ◌∷◌, ◌++◌, Option, Some, None, refl}
 use Rattle.std.specs.List.{list_all}
-use Rattle.version_rules.specs.Bytes.{dot, hyphen, is_metadata_byte, plus}
-use Rattle.version_rules.specs.Grammar.{SpellsOptional}
-use Rattle.version_rules.specs.MChunk.{SpellsMChunk}
-use Rattle.version_rules.specs.Metadata.{SpellsMetadata}
-use Rattle.version_rules.specs.Release.{SpellsRelease}
-use Rattle.version_rules.specs.Sep.{PlainSep, Colon, Hyphen, Plus, sep_byte}
+use Rattle.version_rules.specs.grammar.Bytes.{dot, hyphen, is_metadata_byte, plus}
+use Rattle.version_rules.specs.grammar.Grammar.{SpellsOptional}
+use Rattle.version_rules.specs.grammar.MChunk.{SpellsMChunk}
+use Rattle.version_rules.specs.grammar.Metadata.{SpellsMetadata}
+use Rattle.version_rules.specs.grammar.Release.{SpellsRelease}
+use Rattle.version_rules.specs.grammar.Sep.{PlainSep, Colon, Hyphen, Plus, sep_byte}
 use Rattle.version_rules.proofs.lemmas.Grammar.{of_body, of_each, of_list, of_mchunk, of_metadata, of_numeral, of_optional, of_release}
-use Rattle.version_rules.specs.Mess.{Further, PlainMess, SpellsFurther, SpellsMess}
-use Rattle.version_rules.specs.SemVer.{PlainSemVer, SpellsSemVer}
-use Rattle.version_rules.specs.Version.{PlainVersion, SpellsEpoch, SpellsVersion}
-use Rattle.version_rules.specs.Versioning.{PlainVersioning, Ideal, General, Complex, SpellsVersioning}
+use Rattle.version_rules.specs.grammar.Mess.{Further, PlainMess, SpellsFurther, SpellsMess}
+use Rattle.version_rules.specs.grammar.SemVer.{PlainSemVer, SpellsSemVer}
+use Rattle.version_rules.specs.grammar.Version.{PlainVersion, SpellsEpoch, SpellsVersion}
+use Rattle.version_rules.specs.grammar.Versioning.{PlainVersioning, Ideal, General, Complex, SpellsVersioning}
 
 module _ (Holds : List ℕ → Type 0) (nothing : Holds [])
     (together : (a b : List ℕ) → Holds a → Holds b → Holds (a ++ b))

@@ -8,20 +8,20 @@ use Rattle.std.specs.Option.{option_map, option_map_or, unwrap_or}
 use Rattle.std.specs.Ordering.{nat_cmp, ordering_then}
 use Rattle.std.specs.declared.cmp.Ordering.{Ordering}
 use Rattle.std.specs.declared.cmp.Ordering.TheVariants.{Less, Equal, Greater}
-use Rattle.version_rules.specs.Chunk.{PlainChunk, number_of}
-use Rattle.version_rules.specs.Key.{key_of, plain, precedence, versioning_epoch}
-use Rattle.version_rules.specs.Kind.{versioning_kind}
-use Rattle.version_rules.specs.Last.{PlainLast}
-use Rattle.version_rules.specs.PartKey.{PartKey, chunk_parts, list_cmp, part_key}
-use Rattle.version_rules.specs.Tail.{PreReleased, Bare, Released, tail_cmp}
-use Rattle.version_rules.specs.Version.{PlainVersion}
-use Rattle.version_rules.specs.Versioning.{PlainVersioning, Ideal, General, Complex, is_prerelease}
+use Rattle.version_rules.specs.grammar.Chunk.{PlainChunk, number_of}
+use Rattle.version_rules.specs.key.Key.{key_of, plain, precedence, versioning_epoch}
+use Rattle.version_rules.specs.grammar.Kind.{versioning_kind}
+use Rattle.version_rules.specs.grammar.Last.{PlainLast}
+use Rattle.version_rules.specs.key.PartKey.{PartKey, chunk_parts, list_cmp, part_key}
+use Rattle.version_rules.specs.key.Tail.{PreReleased, Bare, Released, tail_cmp}
+use Rattle.version_rules.specs.grammar.Version.{PlainVersion}
+use Rattle.version_rules.specs.grammar.Versioning.{PlainVersioning, Ideal, General, Complex, is_prerelease}
 use Rattle.version_rules.specs.laws.Order.{then_equal}
 use Rattle.version_rules.proofs.lemmas.NumberBytes.{above, below}
 use Rattle.version_rules.proofs.lemmas.PartKey.{plain_number}
 use Rattle.version_tasks.specs.Next.{IsAfter, IsBare, IsNext, IsOfForm, MayFollow, NoNext, all_of, last_number, numbers_of}
-use Rattle.version_rules.specs.Chunk as chunk
-use Rattle.version_rules.specs.Last as last
+use Rattle.version_rules.specs.grammar.Chunk as chunk
+use Rattle.version_rules.specs.grammar.Last as last
 
 three_ways : (m n : ℕ) → (m < n) ⊎ ((m ≡ n) ⊎ (n < m))
 three_ways m n = grind arith

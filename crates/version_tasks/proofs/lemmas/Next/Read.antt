@@ -9,14 +9,14 @@ use Rattle.std.specs.Fmt.{decimal}
 use Rattle.std.specs.List.{join_with_byte, list_all}
 use Rattle.std.specs.Option.{option_map}
 use Rattle.std.specs.Str.Parse.{digits_value}
-use Rattle.version_rules.specs.Body.{body_text}
-use Rattle.version_rules.specs.Bytes.{dot}
-use Rattle.version_rules.specs.Chunk.{PlainChunk, SpellsPart, number_of}
-use Rattle.version_rules.specs.Conversions.{version_of_semver}
-use Rattle.version_rules.specs.Last.{IsLastOf, PlainLast}
-use Rattle.version_rules.specs.SemVer.{semver_text}
-use Rattle.version_rules.specs.Version.{PlainVersion, SpellsVersion}
-use Rattle.version_rules.specs.Versioning.{PlainVersioning, Ideal, General, Complex, SpellsVersioning, is_prerelease, versioning_of, versioning_text}
+use Rattle.version_rules.specs.grammar.Body.{body_text}
+use Rattle.version_rules.specs.grammar.Bytes.{dot}
+use Rattle.version_rules.specs.grammar.Chunk.{PlainChunk, SpellsPart, number_of}
+use Rattle.version_rules.specs.grammar.Conversions.{version_of_semver}
+use Rattle.version_rules.specs.grammar.Last.{IsLastOf, PlainLast}
+use Rattle.version_rules.specs.grammar.SemVer.{semver_text}
+use Rattle.version_rules.specs.grammar.Version.{PlainVersion, SpellsVersion}
+use Rattle.version_rules.specs.grammar.Versioning.{PlainVersioning, Ideal, General, Complex, SpellsVersioning, is_prerelease, versioning_of, versioning_text}
 use Rattle.version_rules.proofs.lemmas.Body.{body_printed}
 use Rattle.version_rules.proofs.lemmas.Chunk.{digit_alphanumeric}
 use Rattle.version_rules.proofs.lemmas.Conversions.{strict_is_general}
@@ -36,8 +36,8 @@ use Rattle.version_tasks.specs.Next.{IsNext, NoNext, all_of, last_number, number
 use Rattle.version_tasks.specs.NextText.{is_zero, is_zero_number, next_text, zeros_text}
 use Rattle.version_tasks.proofs.lemmas.Next.Order.{are_zeros, fit, is_next, next_at, none_beyond, none_past, none_without, number_at, raised, raised_count, raised_fit, raised_follows, raised_number}
 use Rattle.version_tasks.proofs.lemmas.Next.Text.{both_same, joined, joined_at, numbered, numbered_form, numbered_spelled, pieces_before, printed, raised_joined}
-use Rattle.version_rules.specs.Chunk as chunk
-use Rattle.version_rules.specs.Last as last
+use Rattle.version_rules.specs.grammar.Chunk as chunk
+use Rattle.version_rules.specs.grammar.Last as last
 
 -- ---- the numbers of a version are those of the pieces of its parts
 

@@ -8,16 +8,16 @@ use Rattle.std.specs.Cmp.{first_so, second_so}
 use Rattle.std.specs.Fmt.{decimal}
 use Rattle.std.specs.List.{join_with_byte}
 use Rattle.std.specs.Str.{IsAscii, IsUtf8}
-use Rattle.version_rules.specs.Body.{PlainBody, SpellsBody}
-use Rattle.version_rules.specs.Bytes.{dot}
-use Rattle.version_rules.specs.Chunk.{PlainChunk, SpellsPart}
-use Rattle.version_rules.specs.Conversions.{version_of_semver}
-use Rattle.version_rules.specs.Grammar.{SpellsDotted, SpellsOptional}
-use Rattle.version_rules.specs.Last.{IsLastOf}
-use Rattle.version_rules.specs.Numeral.{HasNoLeadingZero, SpellsNumeral}
-use Rattle.version_rules.specs.SemVer.{PlainSemVer, SpellsSemVer}
-use Rattle.version_rules.specs.Version.{PlainVersion, SpellsEpoch, SpellsVersion, epoch_text}
-use Rattle.version_rules.specs.Versioning.{PlainVersioning, Ideal, General, Complex, SpellsVersioning, versioning_of, versioning_text}
+use Rattle.version_rules.specs.grammar.Body.{PlainBody, SpellsBody}
+use Rattle.version_rules.specs.grammar.Bytes.{dot}
+use Rattle.version_rules.specs.grammar.Chunk.{PlainChunk, SpellsPart}
+use Rattle.version_rules.specs.grammar.Conversions.{version_of_semver}
+use Rattle.version_rules.specs.grammar.Grammar.{SpellsDotted, SpellsOptional}
+use Rattle.version_rules.specs.grammar.Last.{IsLastOf}
+use Rattle.version_rules.specs.grammar.Numeral.{HasNoLeadingZero, SpellsNumeral}
+use Rattle.version_rules.specs.grammar.SemVer.{PlainSemVer, SpellsSemVer}
+use Rattle.version_rules.specs.grammar.Version.{PlainVersion, SpellsEpoch, SpellsVersion, epoch_text}
+use Rattle.version_rules.specs.grammar.Versioning.{PlainVersioning, Ideal, General, Complex, SpellsVersioning, versioning_of, versioning_text}
 use Rattle.version_rules.proofs.lemmas.Conversions.{strict_is_general}
 use Rattle.version_rules.proofs.lemmas.DigitRun.{decimal-digits}
 use Rattle.version_rules.proofs.lemmas.Numeral.{numeral_printed}
@@ -28,8 +28,8 @@ use Rattle.version_texts.proofs.lemmas.General.Splits.{dotted_more, dotted_one}
 use Rattle.version_tasks.specs.Next.{IsOfForm, MayFollow, numbers_of}
 use Rattle.version_tasks.specs.NextText.{next_text, zeros_text}
 use Rattle.version_tasks.proofs.lemmas.Next.Order.{body_is, body_numbers, body_of, fit, number_at, raised}
-use Rattle.version_rules.specs.Chunk as chunk
-use Rattle.version_rules.specs.Last as last
+use Rattle.version_rules.specs.grammar.Chunk as chunk
+use Rattle.version_rules.specs.grammar.Last as last
 
 -- a version prints the text that it parses from
 pub printed : (text : List ℕ) (v : PlainVersioning) → versioning_of text ≡ Some v

@@ -4,7 +4,7 @@ use Rattle.std.proofs.lemmas.Bool.{and_parts, cases_Bool, ltb-true}
 use Rattle.std.proofs.lemmas.Bool.Decides.{nat_tests}
 use Rattle.std.specs.Cmp.{first_so, second_so}
 use Rattle.std.specs.List.{list_all}
-use Rattle.version_rules.specs.Versioning.{PlainVersioning, is_prerelease}
+use Rattle.version_rules.specs.grammar.Versioning.{PlainVersioning, is_prerelease}
 use Rattle.version_texts.specs.VersioningRef.{version_in}
 use Rattle.version_tasks.specs.Next.{IsNext, NoNext, numbers_of}
 use Rattle.version_tasks.specs.Worked.{AreNext, HaveNoNext}

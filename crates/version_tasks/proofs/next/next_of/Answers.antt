@@ -1,6 +1,6 @@
 use Rattle.std.proofs.Common.{◌∙◌, ◌&&◌, if◌then◌else◌, Bool, List, ℕ, ap, arith, length, suc, sym, rules}
 use Rattle.std.specs.List.{list_all}
-use Rattle.version_rules.specs.Versioning.{is_prerelease}
+use Rattle.version_rules.specs.grammar.Versioning.{is_prerelease}
 use Rattle.version_texts.specs.Numbers.{numeral_value}
 use Rattle.version_texts.specs.Piece.{further_pieces, is_dot}
 use Rattle.version_texts.specs.VersioningRef.{plain_versioning_ref}

@@ -1,7 +1,7 @@
 use Rattle.std.proofs.Common.{◌≡◌, ◌∙◌, List, ℕ, Option, None, Some, sym, ap}
 use Rattle.std.specs.Option.{option_map}
-use Rattle.version_rules.specs.Front.{◌>>=◌}
-use Rattle.version_rules.specs.Versioning.{versioning_of}
+use Rattle.version_rules.specs.grammar.Front.{◌>>=◌}
+use Rattle.version_rules.specs.grammar.Versioning.{versioning_of}
 use Rattle.version_tasks.specs.Tag.{after_prefix, text_after_prefix, text_at_beginning, version_after_prefix}
 use Rattle.version_tasks.proofs.lemmas.Tag.{no_prefix, prints_text, with_prefix}
 use Rattle.version_texts.specs.VersioningRef.{plain_versioning_ref}

@@ -1,9 +1,9 @@
 use Rattle.std.proofs.Common.{◌++◌, List, ap, append-nil, sym, ℕ, refl}
 use Rattle.std.specs.Str.Parse.{digits_value}
 use Rattle.version_rules.proofs.lemmas.Front.Runs.{take_while-all}
-use Rattle.version_rules.specs.Codes.{items_bytes}
-use Rattle.version_rules.specs.NumberBytes.{number_bytes}
-use Rattle.version_rules.specs.PartKey.{part_bytes}
+use Rattle.version_rules.specs.key.Codes.{items_bytes}
+use Rattle.version_rules.specs.key.NumberBytes.{number_bytes}
+use Rattle.version_rules.specs.key.PartKey.{part_bytes}
 use Rattle.version_texts.specs.Shape.{is_section_byte}
 use Rattle.version_texts.specs.TextKey.{parts_of}
 use Rattle.version_texts.proofs.lemmas.TextKey.Taking.{next_fits, owes_all, owes_rest, takes_same}

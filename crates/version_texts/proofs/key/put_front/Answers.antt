@@ -1,10 +1,10 @@
 use Rattle.std.proofs.Common.{ℕ, List, ◌≡◌, ◌∙◌, ◌++◌, ap, sym}
 use Rattle.std.specs.List.{take_while}
 use Rattle.std.specs.Str.Parse.{digits_value}
-use Rattle.version_rules.specs.NumberBytes.{number_bytes}
-use Rattle.version_rules.specs.PartKey.{parts_bytes}
+use Rattle.version_rules.specs.key.NumberBytes.{number_bytes}
+use Rattle.version_rules.specs.key.PartKey.{parts_bytes}
 use Rattle.version_rules.proofs.lemmas.Front.Runs.{take_while-all}
-use Rattle.version_texts.specs.declared.shape.Shape.{Shape}
+use Rattle.version_texts.specs.declared.scan.shape.Shape.{Shape}
 use Rattle.version_texts.specs.Shape.{Fits, body_in, epoch_in, is_section_byte}
 use Rattle.version_texts.specs.TextKey.{front_bytes, parts_of, text_key}
 use Rattle.version_texts.proofs.lemmas.TextKey.Taking.{next_fits, owes_all, owes_rest}

@@ -1,4 +1,4 @@
-use Rattle.version_rules.specs.Tail.{tail_bytes}
+use Rattle.version_rules.specs.key.Tail.{tail_bytes}
 use Rattle.version_texts.specs.Shape.{tail_in}
 use Rattle.version_texts.specs.TextKey.{tail_of, text_key}
 use Rattle.version_texts.proofs.lemmas.TextKey.Taking.{key_halves, next_fits, owes_all, owes_rest}

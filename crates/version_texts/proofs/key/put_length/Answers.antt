@@ -1,5 +1,5 @@
 use Rattle.std.proofs.Common.{◌≡◌, ◌∙◌, ◌+◌, ◌-◌, ◌∷◌, [], ℕ, ap, arith, refl}
-use Rattle.version_rules.specs.NumberBytes.{length_bytes}
+use Rattle.version_rules.specs.key.NumberBytes.{length_bytes}
 use Rattle.version_rules.proofs.lemmas.NumberBytes.{length_bytes-long, length_bytes-short}
 use Rattle.version_texts.proofs.lemmas.TextKey.Taking.{next_fits, owes_all, owes_rest, owes_same}
 use Rattle.version_texts.proofs.key.put_length.Goals as goal

@@ -1,4 +1,4 @@
-use Rattle.version_rules.specs.NumberBytes.{length_bytes}
+use Rattle.version_rules.specs.key.NumberBytes.{length_bytes}
 use Rattle.version_texts.proofs.lemmas.TextKey.Taking.{Owes}
 use Rattle.version_texts.proofs.key.put_length.Given as goal
 

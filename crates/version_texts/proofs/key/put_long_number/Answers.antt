@@ -1,7 +1,7 @@
 use Rattle.std.proofs.Common.{ℕ, List, ◌++◌, ◌∙◌, ap, drop, length}
 use Rattle.std.specs.Char.{is_ascii_digit}
 use Rattle.std.specs.List.{prefix_len}
-use Rattle.version_rules.specs.NumberBytes.{length_bytes}
+use Rattle.version_rules.specs.key.NumberBytes.{length_bytes}
 use Rattle.version_rules.proofs.lemmas.NumberBytes.{is_zero}
 use Rattle.version_texts.proofs.lemmas.TextKey.Runs.{number_of_run}
 use Rattle.version_texts.proofs.lemmas.General.RunsWithin.{rest_within, zero_digit}

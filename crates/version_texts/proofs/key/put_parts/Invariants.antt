@@ -1,7 +1,7 @@
 use Rattle.std.proofs.Common.{◌≡◌, drop, length}
 use Rattle.std.specs.List.{prefix_len, take_while}
-use Rattle.version_rules.specs.Codes.{items_bytes}
-use Rattle.version_rules.specs.PartKey.{part_bytes}
+use Rattle.version_rules.specs.key.Codes.{items_bytes}
+use Rattle.version_rules.specs.key.PartKey.{part_bytes}
 use Rattle.version_texts.specs.Shape.{is_section_byte}
 use Rattle.version_texts.specs.TextKey.{parts_of}
 use Rattle.version_texts.proofs.lemmas.TextKey.Taking.{Owes}

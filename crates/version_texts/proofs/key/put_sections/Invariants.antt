@@ -1,8 +1,8 @@
 use Rattle.std.proofs.Common.{◌≡◌, length, true}
 use Rattle.std.specs.List.{list_all}
-use Rattle.version_rules.specs.Codes.{list_bytes}
-use Rattle.version_rules.specs.Tail.{section_bytes}
-use Rattle.version_texts.specs.declared.shape.TailKind.TheVariants.{Sections}
+use Rattle.version_rules.specs.key.Codes.{list_bytes}
+use Rattle.version_rules.specs.key.Tail.{section_bytes}
+use Rattle.version_texts.specs.declared.scan.shape.TailKind.TheVariants.{Sections}
 use Rattle.version_texts.specs.Shape.{is_tail_byte}
 use Rattle.version_texts.specs.TextKey.{sections_of}
 use Rattle.version_texts.proofs.lemmas.TextKey.Taking.{Owes}

@@ -1,8 +1,8 @@
 use Rattle.std.proofs.Common.{◌≡◌, ◌⊎◌, ◌∙◌, ℕ, List, ◌∷◌, ap, inl, inr, refl, sym, []}
-use Rattle.version_rules.specs.ReleaseOrder.{release_bytes}
-use Rattle.version_rules.specs.Tail.{held_bytes, tail_bytes, tail_rank}
-use Rattle.version_texts.specs.declared.shape.TailKind.{TailKind}
-use Rattle.version_texts.specs.declared.shape.TailKind.TheVariants.{PreRelease, Release, Sections}
+use Rattle.version_rules.specs.order.ReleaseOrder.{release_bytes}
+use Rattle.version_rules.specs.key.Tail.{held_bytes, tail_bytes, tail_rank}
+use Rattle.version_texts.specs.declared.scan.shape.TailKind.{TailKind}
+use Rattle.version_texts.specs.declared.scan.shape.TailKind.TheVariants.{PreRelease, Release, Sections}
 use Rattle.version_texts.specs.TextKey.{chunks_of, tail_of}
 use Rattle.version_texts.proofs.lemmas.TextKey.SectionPieces.{sections_held}
 use Rattle.version_texts.proofs.lemmas.TextKey.Taking.{next_fits, owes_all, owes_rest}

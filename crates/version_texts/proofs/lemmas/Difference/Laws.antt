@@ -7,18 +7,18 @@ use Rattle.std.specs.Ordering.{is_eq, ordering_reverse}
 use Rattle.std.specs.declared.cmp.Ordering.{Ordering}
 use Rattle.std.specs.declared.cmp.Ordering.TheVariants.{Less, Equal, Greater}
 use Rattle.version_rules.proofs.lemmas.OrdersLaws.{precedence_equal, tail_equal, versioning_equal}
-use Rattle.version_rules.specs.Key.{Key, key_of, precedence}
-use Rattle.version_rules.specs.PartKey.{PartKey, part_cmp}
-use Rattle.version_rules.specs.Tail.{tail_cmp}
-use Rattle.version_rules.specs.Versioning.{PlainVersioning, SameVersioning, versioning_plain_cmp}
+use Rattle.version_rules.specs.key.Key.{Key, key_of, precedence}
+use Rattle.version_rules.specs.key.PartKey.{PartKey, part_cmp}
+use Rattle.version_rules.specs.key.Tail.{tail_cmp}
+use Rattle.version_rules.specs.grammar.Versioning.{PlainVersioning, SameVersioning, versioning_plain_cmp}
 use Rattle.version_rules.specs.laws.Key.{tail_total}
 use Rattle.version_rules.specs.laws.Orders.{keys_tied}
 use Rattle.version_rules.specs.laws.Part.{part_total, parts_same}
 use Rattle.version_rules.specs.laws.Versioning.{versioning_plain_total}
 use Rattle.version_texts.proofs.lemmas.Parts.{chain}
 use Rattle.version_texts.specs.Difference.{difference_of, first_differing}
-use Rattle.version_texts.specs.declared.difference.Difference.{Difference}
-use Rattle.version_texts.specs.declared.difference.Difference.TheVariants.{Same, Tie, Epoch, Part, Tail}
+use Rattle.version_texts.specs.declared.order.difference.Difference.{Difference}
+use Rattle.version_texts.specs.declared.order.difference.Difference.TheVariants.{Same, Tie, Epoch, Part, Tail}
 
 -- ---- facts that hold exactly if others do
 

@@ -4,7 +4,7 @@ use Rattle.std.proofs.lemmas.Bool.{cases_Bool, eqb-true}
 use Rattle.std.proofs.lemmas.List.{drop-drop}
 use Rattle.std.specs.List.{list_all, onto_first, prefix_len, slice_split, take_while}
 use Rattle.version_rules.proofs.lemmas.Front.Runs.{list_all-take_while}
-use Rattle.version_rules.specs.Front.{begins}
+use Rattle.version_rules.specs.grammar.Front.{begins}
 
 -- what a run that passes leaves, byte by byte
 pub run_cons : (test : ℕ → Bool) (b : ℕ) (text : List ℕ) → test b ≡ true

@@ -6,8 +6,8 @@ use Rattle.std.proofs.lemmas.List.Folds.{list_all-append}
 use Rattle.std.proofs.lemmas.List.Splits.{length-slice_split}
 use Rattle.std.specs.Cmp.{first_so, second_so}
 use Rattle.std.specs.List.{list_all, onto_first, slice_split}
-use Rattle.version_rules.specs.Bytes.{dot}
-use Rattle.version_rules.specs.Grammar.{SpellsDotted}
+use Rattle.version_rules.specs.grammar.Bytes.{dot}
+use Rattle.version_rules.specs.grammar.Grammar.{SpellsDotted}
 
 -- the text is the pieces one after another, with a byte between each two that passes the test
 unfoldable pub JoinedBy : (ℕ → Bool) → List ℕ → List (List ℕ) → Type 0

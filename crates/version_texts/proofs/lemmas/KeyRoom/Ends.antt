@@ -2,15 +2,15 @@
 use Rattle.std.proofs.Common.{◌≡◌, ◌+◌, ◌<◌, ◌≤◌, ℕ, Bool, true, false, List, [], ◌∷◌, length, Option, Some, None, arith, if◌then◌else◌}
 use Rattle.std.proofs.lemmas.List.{length-append}
 use Rattle.std.specs.Option.{option_map_or}
-use Rattle.version_rules.specs.Codes.{items_bytes}
-use Rattle.version_rules.specs.Ends.{end_bytes, kept_parts}
-use Rattle.version_rules.specs.Key.{Key}
-use Rattle.version_rules.specs.KeyBytes.{key_bytes}
-use Rattle.version_rules.specs.Lists.{split_last}
-use Rattle.version_rules.specs.NumberBytes.{number_bytes}
-use Rattle.version_rules.specs.PartKey.{PartKey, part_bytes}
-use Rattle.version_rules.specs.Range.{begun, but_last, through_other}
-use Rattle.version_rules.specs.VersionMatch.{is_plain_zero}
+use Rattle.version_rules.specs.key.Codes.{items_bytes}
+use Rattle.version_rules.specs.requirement.Ends.{end_bytes, kept_parts}
+use Rattle.version_rules.specs.key.Key.{Key}
+use Rattle.version_rules.specs.key.KeyBytes.{key_bytes}
+use Rattle.version_rules.specs.order.Lists.{split_last}
+use Rattle.version_rules.specs.key.NumberBytes.{number_bytes}
+use Rattle.version_rules.specs.key.PartKey.{PartKey, part_bytes}
+use Rattle.version_rules.specs.requirement.Range.{begun, but_last, through_other}
+use Rattle.version_rules.specs.requirement.VersionMatch.{is_plain_zero}
 use Rattle.version_rules.specs.declared.ends.End.{End}
 use Rattle.version_rules.specs.declared.ends.End.TheVariants.{AboveBegun, AfterKey, Begun, Lowest, Zero}
 use Rattle.version_rules.specs.declared.ends.End.TheVariants as variant

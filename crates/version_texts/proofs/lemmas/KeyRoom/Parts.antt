@@ -9,12 +9,12 @@ use Rattle.std.specs.Cmp.{first_so, second_so}
 use Rattle.std.specs.List.{All, list_all, position_or_len, prefix_len, take_while}
 use Rattle.std.specs.Str.Parse.{AllDigits, digits_value}
 use Rattle.version_rules.proofs.lemmas.Front.Runs.{list_all-take_while}
-use Rattle.version_rules.specs.Codes.{items_bytes, list_bytes}
-use Rattle.version_rules.specs.DigitRun.{number_front, starts_with_digit}
-use Rattle.version_rules.specs.NumberBytes.{number_bytes}
-use Rattle.version_rules.specs.PartKey.{part_bytes, part_key, suffix_bytes, suffix_of}
-use Rattle.version_rules.specs.Split.{numbered_bytes, split_bytes, split_of}
-use Rattle.version_rules.specs.TextBytes.{text_bytes}
+use Rattle.version_rules.specs.key.Codes.{items_bytes, list_bytes}
+use Rattle.version_rules.specs.grammar.DigitRun.{number_front, starts_with_digit}
+use Rattle.version_rules.specs.key.NumberBytes.{number_bytes}
+use Rattle.version_rules.specs.key.PartKey.{part_bytes, part_key, suffix_bytes, suffix_of}
+use Rattle.version_rules.specs.key.Split.{numbered_bytes, split_bytes, split_of}
+use Rattle.version_rules.specs.key.TextBytes.{text_bytes}
 
 -- a text without the bytes 0 and 1, the only bytes that are written as two
 abbrev pub IsHigh : List ℕ → Type 0

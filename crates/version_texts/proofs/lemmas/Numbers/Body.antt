@@ -8,12 +8,12 @@ use Rattle.std.specs.Cmp.{first_so}
 use Rattle.std.specs.List.{list_all, prefix_len, slice_get, take_while}
 use Rattle.std.specs.Option.{option_and_then}
 use Rattle.std.specs.Str.Parse.{digits_value}
-use Rattle.version_rules.specs.Body.{PlainBody, SpellsBody}
-use Rattle.version_rules.specs.Chunk.{PlainChunk, SpellsPart, number_of}
-use Rattle.version_rules.specs.Front.{begins}
-use Rattle.version_rules.specs.Last.{Alphanum, IsLastOf, IsLetters, IsOther, Numeric, PlainLast, Post, Rc, first_number, last_of}
-use Rattle.version_rules.specs.MChunk.{value_of_digits}
-use Rattle.version_rules.specs.Numeral.{SpellsNumeral}
+use Rattle.version_rules.specs.grammar.Body.{PlainBody, SpellsBody}
+use Rattle.version_rules.specs.grammar.Chunk.{PlainChunk, SpellsPart, number_of}
+use Rattle.version_rules.specs.grammar.Front.{begins}
+use Rattle.version_rules.specs.grammar.Last.{Alphanum, IsLastOf, IsLetters, IsOther, Numeric, PlainLast, Post, Rc, first_number, last_of}
+use Rattle.version_rules.specs.grammar.MChunk.{value_of_digits}
+use Rattle.version_rules.specs.grammar.Numeral.{SpellsNumeral}
 use Rattle.version_rules.proofs.lemmas.Chunk.{digit_alphanumeric}
 use Rattle.version_rules.proofs.lemmas.Front.Runs.{begins-drop, list_all-take_while, prefix_len-append}
 use Rattle.version_rules.proofs.lemmas.Last.{last_of-is, last_of-only}
@@ -25,7 +25,7 @@ use Rattle.version_texts.specs.TextKind.{is_numeral}
 use Rattle.version_texts.proofs.lemmas.Piece.Spelled.{NonePass, alphanumeric_no_dot, chunk_bytes, none_pass, pieces_give}
 use Rattle.version_texts.proofs.lemmas.TextKind.Chunks.{digits_from, numeral_passes, numeral_spells}
 use Rattle.version_texts.proofs.lemmas.TextKind.Runs.{digits_not}
-use Rattle.version_rules.specs.Chunk as chunk
+use Rattle.version_rules.specs.grammar.Chunk as chunk
 
 -- ---- one part
 

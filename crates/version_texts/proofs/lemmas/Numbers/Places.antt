@@ -3,7 +3,7 @@ use Rattle.std.proofs.Common.{◌≡◌, ◌==◌, ◌∙◌, ◌+◌, ◌-◌, 
 use Rattle.std.proofs.Math.Dec.{eqb-suc-zero}
 use Rattle.std.proofs.Math.Seq.{drop-nil}
 use Rattle.std.proofs.lemmas.List.{drop-drop}
-use Rattle.version_rules.specs.MChunk.{value_of_digits}
+use Rattle.version_rules.specs.grammar.MChunk.{value_of_digits}
 use Rattle.version_texts.specs.Numbers.{body_number, chunk_number, last_number}
 use Rattle.version_texts.specs.Piece.{behind_piece, first_piece, further_pieces, is_dot}
 use Rattle.version_texts.specs.TextKey.{pieces}

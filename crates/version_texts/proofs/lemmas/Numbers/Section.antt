@@ -6,15 +6,15 @@ use Rattle.std.proofs.lemmas.List.{drop_at, take_at}
 use Rattle.std.proofs.lemmas.List.Splits.{slice_split_at, slice_split_none}
 use Rattle.std.specs.List.{before_first, prefix_len, slice_get, slice_split}
 use Rattle.std.specs.Option.{option_and_then}
-use Rattle.version_rules.specs.Bytes.{colon}
-use Rattle.version_rules.specs.Front.{begins}
-use Rattle.version_rules.specs.Grammar.{SpellsEach}
-use Rattle.version_rules.specs.MChunk.{PlainMChunk, SpellsMChunk, digits_number, value_of_digits, value_of_revision, variant_of}
-use Rattle.version_rules.specs.Sep.{PlainSep, Colon, Hyphen, Plus, Tilde, Underscore, is_sep, sep_byte}
+use Rattle.version_rules.specs.grammar.Bytes.{colon}
+use Rattle.version_rules.specs.grammar.Front.{begins}
+use Rattle.version_rules.specs.grammar.Grammar.{SpellsEach}
+use Rattle.version_rules.specs.grammar.MChunk.{PlainMChunk, SpellsMChunk, digits_number, value_of_digits, value_of_revision, variant_of}
+use Rattle.version_rules.specs.grammar.Sep.{PlainSep, Colon, Hyphen, Plus, Tilde, Underscore, is_sep, sep_byte}
 use Rattle.version_rules.proofs.lemmas.Front.Repeated.{cases_Option}
 use Rattle.version_rules.proofs.lemmas.Front.Runs.{begins-drop, list_all-take_while, prefix_len-append, all_weaker}
 use Rattle.version_rules.proofs.lemmas.MChunk.{spelled_run, spelled_variant}
-use Rattle.version_rules.specs.Mess.{Further, PlainMess, Section, SpellsFurther, SpellsMess, SpellsSection, behind_colons, nth_number}
+use Rattle.version_rules.specs.grammar.Mess.{Further, PlainMess, Section, SpellsFurther, SpellsMess, SpellsSection, behind_colons, nth_number}
 use Rattle.version_texts.specs.Numbers.{chunk_number, is_other_sign, last_piece, section_in}
 use Rattle.version_texts.specs.Piece.{from_first, is_dot}
 use Rattle.version_texts.specs.Shape.{is_section_byte}

@@ -8,11 +8,11 @@ use Rattle.std.specs.Ordering.{is_eq, is_ge, nat_cmp, ordering_then}
 use Rattle.std.specs.declared.cmp.Ordering.TheVariants.{Equal}
 use Rattle.version_rules.proofs.lemmas.NumberBytes.{above, below}
 use Rattle.version_rules.specs.laws.Order.{then_equal}
-use Rattle.version_rules.specs.PartKey.{PartKey, list_cmp, part_cmp}
+use Rattle.version_rules.specs.key.PartKey.{PartKey, list_cmp, part_cmp}
 use Rattle.version_rules.proofs.lemmas.VersionMatch.{not_less, same_decides, tilde_decides}
-use Rattle.version_rules.specs.Key.{plain, strict_body}
-use Rattle.version_rules.specs.SemVerMatch.{MatchesCaret, MatchesMinor, MatchesTilde, Numbers}
-use Rattle.version_rules.specs.VersionMatch.{IsNotBelow, PartsMatchCaret, PartsMatchTilde, is_plain_zero}
+use Rattle.version_rules.specs.key.Key.{plain, strict_body}
+use Rattle.version_rules.specs.requirement.SemVerMatch.{MatchesCaret, MatchesMinor, MatchesTilde, Numbers}
+use Rattle.version_rules.specs.requirement.VersionMatch.{IsNotBelow, PartsMatchCaret, PartsMatchTilde, is_plain_zero}
 
 -- plain numbers compare by value
 plain_cmp : (m n : ℕ) → part_cmp (Some (plain m)) (Some (plain n)) ≡ nat_cmp m n

@@ -8,9 +8,9 @@ use Rattle.std.specs.List.{list_all}
 use Rattle.std.specs.Ordering.{nat_cmp}
 use Rattle.std.specs.Str.Parse.{digits_value}
 use Rattle.std.specs.declared.cmp.Ordering.TheVariants.{Less, Equal, Greater}
-use Rattle.version_rules.specs.DigitRun.{run_value}
-use Rattle.version_rules.specs.Lists.{bytes_cmp}
-use Rattle.version_rules.specs.ReleaseOrder.{chunk_cmp}
+use Rattle.version_rules.specs.grammar.DigitRun.{run_value}
+use Rattle.version_rules.specs.order.Lists.{bytes_cmp}
+use Rattle.version_rules.specs.order.ReleaseOrder.{chunk_cmp}
 use Rattle.version_texts.proofs.lemmas.Piece.{chunk_of_number, chunk_of_text, digits_same}
 use Rattle.version_texts.proofs.lemmas.Piece.Spelled.{digit_no_dot}
 use Rattle.version_texts.specs.Piece.{first_piece, is_dot}

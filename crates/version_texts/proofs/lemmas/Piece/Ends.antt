@@ -2,7 +2,7 @@
 use Rattle.std.proofs.Common.{◌≡◌, ◌||◌, ℕ, Bool, true, false, arith, refl, sym}
 use Rattle.std.proofs.lemmas.Bool.Decides.{nat_tests}
 use Rattle.std.specs.Char.{is_ascii_digit}
-use Rattle.version_rules.specs.Bytes.{dot}
+use Rattle.version_rules.specs.grammar.Bytes.{dot}
 use Rattle.version_texts.specs.declared.order.ends.Ends.{Ends}
 use Rattle.version_texts.specs.declared.order.ends.Ends.TheVariants.{Dots, Marks}
 use Rattle.version_texts.proofs.lemmas.Piece.Spelled.{digit_no_dot}

@@ -8,10 +8,10 @@ use Rattle.std.proofs.lemmas.List.Splits.{slice_split_none}
 use Rattle.std.proofs.lemmas.List.Folds.{list_all-append}
 use Rattle.std.specs.Cmp.{first_so}
 use Rattle.std.specs.List.{list_all}
-use Rattle.version_rules.specs.PartKey.{PartKey, part_key}
+use Rattle.version_rules.specs.key.PartKey.{PartKey, part_key}
 use Rattle.version_rules.proofs.lemmas.Lists.{split_last-append}
-use Rattle.version_rules.specs.Range.{but_last, through_other}
-use Rattle.version_rules.specs.VersionMatch.{is_plain_zero}
+use Rattle.version_rules.specs.requirement.Range.{but_last, through_other}
+use Rattle.version_rules.specs.requirement.VersionMatch.{is_plain_zero}
 use Rattle.version_texts.specs.Piece.{behind_piece, first_piece, is_dot}
 use Rattle.version_texts.specs.TextKey.{parts_of, pieces}
 use Rattle.version_texts.proofs.lemmas.Parts.{parts_begin}

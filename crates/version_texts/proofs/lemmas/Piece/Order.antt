@@ -6,10 +6,10 @@ use Rattle.std.specs.Option.{option_cmp}
 use Rattle.std.specs.Ordering.{nat_cmp, ordering_index, ordering_then}
 use Rattle.std.specs.declared.cmp.Ordering.{Ordering}
 use Rattle.std.specs.declared.cmp.Ordering.TheVariants.{Less, Equal, Greater}
-use Rattle.version_rules.specs.DigitRun.{number_front, run_value, starts_with_digit}
-use Rattle.version_rules.specs.Lists.{bytes_cmp, none_last_cmp}
-use Rattle.version_rules.specs.PartKey.{part_cmp, part_key, suffix_of}
-use Rattle.version_rules.specs.Split.{numbered_cmp, split_cmp, split_of}
+use Rattle.version_rules.specs.grammar.DigitRun.{number_front, run_value, starts_with_digit}
+use Rattle.version_rules.specs.order.Lists.{bytes_cmp, none_last_cmp}
+use Rattle.version_rules.specs.key.PartKey.{part_cmp, part_key, suffix_of}
+use Rattle.version_rules.specs.key.Split.{numbered_cmp, split_cmp, split_of}
 use Rattle.version_texts.proofs.lemmas.Piece.{front_of_number, part_of_number, part_of_word}
 use Rattle.version_texts.specs.Piece.{behind_digits}
 

@@ -8,14 +8,14 @@ use Rattle.std.proofs.lemmas.List.Splits.{slice_split_at, slice_split_none}
 use Rattle.std.specs.Char.{is_ascii_alphanumeric, is_ascii_digit}
 use Rattle.std.specs.Cmp.{first_so, second_so}
 use Rattle.std.specs.List.{All, list_all}
-use Rattle.version_rules.specs.Body.{PlainBody, SpellsBody}
-use Rattle.version_rules.specs.Bytes.{dot, is_identifier_byte, is_metadata_byte}
-use Rattle.version_rules.specs.Chunk.{Alphanum, Numeric, PlainChunk, SpellsChunk, SpellsChunkOf, SpellsPart, chunk_text}
-use Rattle.version_rules.specs.Grammar.{SpellsDotted}
-use Rattle.version_rules.specs.Last.{last_text}
-use Rattle.version_rules.specs.MChunk.{PlainMChunk, SpellsMChunk, mchunk_text}
-use Rattle.version_rules.specs.PartKey.{chunk_parts, part_key, section_parts}
-use Rattle.version_rules.specs.Release.{SpellsRelease}
+use Rattle.version_rules.specs.grammar.Body.{PlainBody, SpellsBody}
+use Rattle.version_rules.specs.grammar.Bytes.{dot, is_identifier_byte, is_metadata_byte}
+use Rattle.version_rules.specs.grammar.Chunk.{Alphanum, Numeric, PlainChunk, SpellsChunk, SpellsChunkOf, SpellsPart, chunk_text}
+use Rattle.version_rules.specs.grammar.Grammar.{SpellsDotted}
+use Rattle.version_rules.specs.grammar.Last.{last_text}
+use Rattle.version_rules.specs.grammar.MChunk.{PlainMChunk, SpellsMChunk, mchunk_text}
+use Rattle.version_rules.specs.key.PartKey.{chunk_parts, part_key, section_parts}
+use Rattle.version_rules.specs.grammar.Release.{SpellsRelease}
 use Rattle.version_rules.proofs.lemmas.Chunk.{digit_alphanumeric, part_printed}
 use Rattle.version_rules.proofs.lemmas.Last.{last_printed}
 use Rattle.version_rules.proofs.lemmas.MChunk.{mchunk_printed, spelled_run}

@@ -8,27 +8,27 @@ use Rattle.std.specs.Cmp.{first_so, second_so}
 use Rattle.std.specs.Cmp.Lexicographic.{other_text}
 use Rattle.std.specs.Fmt.{decimal}
 use Rattle.std.specs.List.{list_all, position_or_len, starts_with}
-use Rattle.version_rules.specs.Bytes.{dot}
+use Rattle.version_rules.specs.grammar.Bytes.{dot}
 use Rattle.version_rules.proofs.lemmas.Front.Repeated.{cases_Option}
 use Rattle.version_rules.proofs.lemmas.Numeral.{numeral_printed}
-use Rattle.version_rules.specs.Kind.{versioning_kind}
-use Rattle.version_rules.specs.Matching.{Matches, MatchesCaret, MatchesTilde}
-use Rattle.version_rules.specs.Requirement.{PlainRequirement}
-use Rattle.version_rules.specs.RequirementsRef.{Keeps}
-use Rattle.version_rules.specs.SemVer.{PlainSemVer, SpellsSemVer}
-use Rattle.version_rules.specs.SemVerMatch.{Numbers, both_zero, numbers}
-use Rattle.version_rules.specs.Versioning.{PlainVersioning, Ideal, General, Complex, SpellsVersioning, versioning_of}
+use Rattle.version_rules.specs.grammar.Kind.{versioning_kind}
+use Rattle.version_rules.specs.requirement.Matching.{Matches, MatchesCaret, MatchesTilde}
+use Rattle.version_rules.specs.requirement.Requirement.{PlainRequirement}
+use Rattle.version_rules.specs.requirement.RequirementsRef.{Keeps}
+use Rattle.version_rules.specs.grammar.SemVer.{PlainSemVer, SpellsSemVer}
+use Rattle.version_rules.specs.requirement.SemVerMatch.{Numbers, both_zero, numbers}
+use Rattle.version_rules.specs.grammar.Versioning.{PlainVersioning, Ideal, General, Complex, SpellsVersioning, versioning_of}
 use Rattle.version_rules.proofs.lemmas.Versioning.{versioning_of-spells}
 use Rattle.version_texts.proofs.lemmas.VersioningRef.{kind-is, spells-is}
 use Rattle.version_texts.proofs.lemmas.Piece.Spelled.{digit_no_dot}
-use Rattle.version_texts.specs.declared.shape.Shape.{Shape}
+use Rattle.version_texts.specs.declared.scan.shape.Shape.{Shape}
 use Rattle.version_texts.specs.Piece.{is_dot}
 use Rattle.version_texts.specs.RequirementsRef.{IsFront}
 use Rattle.version_texts.specs.Shape.{shape_of}
 use Rattle.version_texts.specs.VersioningRef.{major_text, version_in}
 use Rattle.version_rules.specs.declared.kind.Kind.TheVariants as kind
 use Rattle.version_rules.specs.declared.op.Op.TheVariants as op
-use Rattle.version_rules.specs.SemVerMatch as strict
+use Rattle.version_rules.specs.requirement.SemVerMatch as strict
 
 -- the text of a strict version begins with its major number and a dot
 abbrev Begins : List ℕ → List ℕ → Type 0

@@ -7,14 +7,14 @@ use Rattle.std.specs.List.{list_all}
 use Rattle.std.specs.Option.{option_map}
 use Rattle.std.specs.Prelude.{slice_range}
 use Rattle.std.specs.Str.Parse.{digits_value}
-use Rattle.version_rules.specs.Bytes.{colon}
-use Rattle.version_rules.specs.DigitRun.{is_digits}
-use Rattle.version_rules.specs.Front.{begins}
-use Rattle.version_rules.specs.Grammar.{SpellsEach}
-use Rattle.version_rules.specs.Sep.{PlainSep, Colon, Hyphen, Plus, Underscore, Tilde, sep_byte}
-use Rattle.version_rules.specs.Key.{key_behind_epoch, key_from_first, key_of_sections, mess_epoch, sections_tail}
-use Rattle.version_rules.specs.Mess.{Further, PlainMess, Section, SpellsFurther, SpellsMess, SpellsSection, joined_section}
-use Rattle.version_texts.specs.declared.shape.TailKind.TheVariants.{Nothing, Sections}
+use Rattle.version_rules.specs.grammar.Bytes.{colon}
+use Rattle.version_rules.specs.grammar.DigitRun.{is_digits}
+use Rattle.version_rules.specs.grammar.Front.{begins}
+use Rattle.version_rules.specs.grammar.Grammar.{SpellsEach}
+use Rattle.version_rules.specs.grammar.Sep.{PlainSep, Colon, Hyphen, Plus, Underscore, Tilde, sep_byte}
+use Rattle.version_rules.specs.key.Key.{key_behind_epoch, key_from_first, key_of_sections, mess_epoch, sections_tail}
+use Rattle.version_rules.specs.grammar.Mess.{Further, PlainMess, Section, SpellsFurther, SpellsMess, SpellsSection, joined_section}
+use Rattle.version_texts.specs.declared.scan.shape.TailKind.TheVariants.{Nothing, Sections}
 use Rattle.version_texts.specs.Shape.{Fits, TailFits, behind_body, body_end, is_tail_byte, shape_at, tail_kind}
 use Rattle.version_texts.specs.TextKey.{sections_of, tail_of, tail_of_sections}
 use Rattle.version_texts.proofs.lemmas.Shape.Positions.{IsCut, and_false, behind_body-is, cut_behind_epoch, cut_without_epoch, is_colon}

@@ -8,14 +8,14 @@ use Rattle.std.specs.Cmp.{first_so, second_so}
 use Rattle.std.specs.List.{list_all, prefix_len}
 use Rattle.std.specs.Option.{option_map}
 use Rattle.version_rules.proofs.lemmas.Bytes.{digits_alphanumeric}
-use Rattle.version_rules.specs.Bytes.{colon, dot}
-use Rattle.version_rules.specs.DigitRun.{starts_with_digit}
-use Rattle.version_rules.specs.Front.{begins}
+use Rattle.version_rules.specs.grammar.Bytes.{colon, dot}
+use Rattle.version_rules.specs.grammar.DigitRun.{starts_with_digit}
+use Rattle.version_rules.specs.grammar.Front.{begins}
 use Rattle.version_rules.specs.declared.kind.Kind.TheVariants.{Complex}
 use Rattle.version_texts.specs.Shape.{behind_body, body_end, body_start, digits_len, from_body, has_epoch, shape_at}
 use Rattle.version_texts.specs.TextKey.{pieces}
 use Rattle.version_texts.specs.TextKind.{are_marked_runs, body_of, is_general, is_messy, is_run, kind_in, section_end, section_pieces}
-use Rattle.version_texts.specs.declared.shape.TailKind.TheVariants.{Nothing, Sections}
+use Rattle.version_texts.specs.declared.scan.shape.TailKind.TheVariants.{Nothing, Sections}
 use Rattle.version_texts.proofs.lemmas.TextKind.Messy.{messy_empty, messy_next}
 use Rattle.version_texts.proofs.lemmas.General.Runs.{behind_mark, behind_run, larger_run}
 use Rattle.version_texts.proofs.lemmas.Shape.Section.{empty_piece, end_last, end_next, pieces_last, pieces_next}

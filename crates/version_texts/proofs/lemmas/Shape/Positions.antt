@@ -6,10 +6,10 @@ use Rattle.std.proofs.lemmas.List.{drop_at}
 use Rattle.std.specs.Char.{is_ascii_digit}
 use Rattle.std.specs.Cmp.{first_so, second_so}
 use Rattle.std.specs.List.{list_all}
-use Rattle.version_rules.specs.Bytes.{colon}
-use Rattle.version_rules.specs.DigitRun.{is_digits}
-use Rattle.version_rules.specs.Front.{begins}
-use Rattle.version_rules.specs.Reading.{EndsRun}
+use Rattle.version_rules.specs.grammar.Bytes.{colon}
+use Rattle.version_rules.specs.grammar.DigitRun.{is_digits}
+use Rattle.version_rules.specs.grammar.Front.{begins}
+use Rattle.version_rules.specs.grammar.Reading.{EndsRun}
 use Rattle.version_rules.proofs.lemmas.Front.Runs.{prefix_len-append, all_weaker}
 use Rattle.version_texts.proofs.lemmas.General.Runs.{run_cons, run_none}
 use Rattle.version_texts.specs.Shape.{behind_body, body_end, body_start, digits_len, from_body, has_epoch, is_section_byte}

@@ -10,9 +10,9 @@ use Rattle.std.specs.List.{join_with_byte, list_all, prefix_len, take_while}
 use Rattle.std.specs.Option.{option_map}
 use Rattle.version_rules.proofs.lemmas.Front.Runs.{begins-drop, list_all-take_while}
 use Rattle.version_rules.proofs.lemmas.Bytes.{digits_alphanumeric}
-use Rattle.version_rules.specs.Bytes.{colon, dot}
-use Rattle.version_rules.specs.DigitRun.{is_digits, starts_with_digit}
-use Rattle.version_rules.specs.Front.{begins}
+use Rattle.version_rules.specs.grammar.Bytes.{colon, dot}
+use Rattle.version_rules.specs.grammar.DigitRun.{is_digits, starts_with_digit}
+use Rattle.version_rules.specs.grammar.Front.{begins}
 use Rattle.version_texts.specs.Shape.{body_end, body_start, digits_len, has_epoch, is_section_byte, shape_at}
 use Rattle.version_texts.specs.TextKey.{pieces}
 use Rattle.version_texts.specs.TextKind.{body_of, epoch_is_numeral, has_three_numbers, is_chunk, is_messy, is_numeral, is_run, kind_in, section_end, section_pieces}

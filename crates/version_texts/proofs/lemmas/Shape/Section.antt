@@ -6,8 +6,8 @@ use Rattle.std.proofs.lemmas.List.{length-drop}
 use Rattle.std.specs.Char.{is_ascii_alphanumeric}
 use Rattle.std.specs.List.{list_all, prefix_len, take_while}
 use Rattle.version_rules.proofs.lemmas.Front.Runs.{begins-drop}
-use Rattle.version_rules.specs.Bytes.{dot}
-use Rattle.version_rules.specs.Front.{begins}
+use Rattle.version_rules.specs.grammar.Bytes.{dot}
+use Rattle.version_rules.specs.grammar.Front.{begins}
 use Rattle.version_texts.specs.Shape.{is_section_byte}
 use Rattle.version_texts.specs.TextKind.{is_run, section_end, section_pieces}
 use Rattle.version_texts.proofs.lemmas.General.Runs.{behind_mark, behind_run, larger_run, last_piece, next_piece}

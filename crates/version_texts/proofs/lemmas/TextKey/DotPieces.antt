@@ -7,14 +7,14 @@ use Rattle.std.proofs.lemmas.List.Concat.{flat_map-cons}
 use Rattle.std.specs.Char.{is_ascii_alphanumeric, is_ascii_digit}
 use Rattle.std.specs.Cmp.{first_so, second_so}
 use Rattle.std.specs.List.{list_all, prefix_len, take_while}
-use Rattle.version_rules.specs.Bytes.{dot, is_identifier_byte, is_metadata_byte}
-use Rattle.version_rules.specs.Codes.{items_bytes, list_bytes}
-use Rattle.version_rules.specs.DigitRun.{run_value}
-use Rattle.version_rules.specs.Front.{begins}
-use Rattle.version_rules.specs.Lists.{with_end}
-use Rattle.version_rules.specs.NumberBytes.{number_bytes}
-use Rattle.version_rules.specs.PartKey.{part_bytes, part_key}
-use Rattle.version_rules.specs.ReleaseOrder.{chunk_bytes, release_bytes}
+use Rattle.version_rules.specs.grammar.Bytes.{dot, is_identifier_byte, is_metadata_byte}
+use Rattle.version_rules.specs.key.Codes.{items_bytes, list_bytes}
+use Rattle.version_rules.specs.grammar.DigitRun.{run_value}
+use Rattle.version_rules.specs.grammar.Front.{begins}
+use Rattle.version_rules.specs.order.Lists.{with_end}
+use Rattle.version_rules.specs.key.NumberBytes.{number_bytes}
+use Rattle.version_rules.specs.key.PartKey.{part_bytes, part_key}
+use Rattle.version_rules.specs.order.ReleaseOrder.{chunk_bytes, release_bytes}
 use Rattle.version_rules.proofs.lemmas.Front.Runs.{take_while-all, begins-drop}
 use Rattle.version_texts.specs.Shape.{is_section_byte}
 use Rattle.version_texts.specs.TextKey.{chunk_of, chunks_of, parts_of, pieces}

@@ -6,7 +6,7 @@ use Rattle.std.specs.Cmp.Lexicographic.{slice_cmp}
 use Rattle.std.specs.Ordering.{ordering_then}
 use Rattle.std.specs.declared.cmp.Ordering.{Ordering}
 use Rattle.std.specs.declared.cmp.Ordering.TheVariants.{Less, Equal, Greater}
-use Rattle.version_rules.specs.Tail.{tail_rank}
+use Rattle.version_rules.specs.key.Tail.{tail_rank}
 use Rattle.version_texts.proofs.lemmas.Piece.{pieces_are}
 use Rattle.version_texts.specs.Piece.{from_first, further_pieces}
 use Rattle.version_texts.specs.TextKey.{sections_of, tail_of_sections}

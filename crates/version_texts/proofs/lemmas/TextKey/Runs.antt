@@ -6,13 +6,13 @@ use Rattle.std.specs.Char.{is_ascii_alphabetic, is_ascii_alphanumeric, is_ascii_
 use Rattle.std.specs.Cmp.{first_so, second_so}
 use Rattle.std.specs.List.{list_all, list_any, prefix_len, take_while}
 use Rattle.std.specs.Str.Parse.{digits_value}
-use Rattle.version_rules.specs.Bytes.{is_identifier_byte}
-use Rattle.version_rules.specs.DigitRun.{is_digits, run_value}
-use Rattle.version_rules.specs.Front.{begins}
-use Rattle.version_rules.specs.NumberBytes.{length_bytes, number_bytes}
-use Rattle.version_rules.specs.PartKey.{PartKey, part_bytes, part_key, suffix_bytes, suffix_of}
-use Rattle.version_rules.specs.Split.{split_bytes, split_of}
-use Rattle.version_rules.specs.TextBytes.{text_byte, text_bytes}
+use Rattle.version_rules.specs.grammar.Bytes.{is_identifier_byte}
+use Rattle.version_rules.specs.grammar.DigitRun.{is_digits, run_value}
+use Rattle.version_rules.specs.grammar.Front.{begins}
+use Rattle.version_rules.specs.key.NumberBytes.{length_bytes, number_bytes}
+use Rattle.version_rules.specs.key.PartKey.{PartKey, part_bytes, part_key, suffix_bytes, suffix_of}
+use Rattle.version_rules.specs.key.Split.{split_bytes, split_of}
+use Rattle.version_rules.specs.key.TextBytes.{text_byte, text_bytes}
 use Rattle.version_rules.proofs.lemmas.DigitRun.{split_of-digits, split_of-no_digit}
 use Rattle.version_rules.proofs.lemmas.Front.Runs.{begins-drop, list_all-take_while, all_weaker}
 use Rattle.version_rules.proofs.lemmas.NumberBytes.{number_bytes-digits, digits_of_run, is_zero}

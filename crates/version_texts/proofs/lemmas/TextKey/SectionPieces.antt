@@ -2,13 +2,13 @@
 use Rattle.std.proofs.Common.{◌≡◌, ◌∙◌, ◌||◌, ℕ, Bool, true, false, List, [], ◌∷◌, ◌++◌, drop, map, refl, sym, ap, arith}
 use Rattle.std.specs.Cmp.{first_so, second_so}
 use Rattle.std.specs.List.{list_all, prefix_len, slice_split, take_while}
-use Rattle.version_rules.specs.Codes.{list_bytes}
-use Rattle.version_rules.specs.PartKey.{PartKey, parts_bytes}
-use Rattle.version_rules.specs.Sep.{is_sep}
+use Rattle.version_rules.specs.key.Codes.{list_bytes}
+use Rattle.version_rules.specs.key.PartKey.{PartKey, parts_bytes}
+use Rattle.version_rules.specs.grammar.Sep.{is_sep}
 use Rattle.version_rules.proofs.lemmas.Front.Runs.{begins-drop}
-use Rattle.version_rules.specs.Front.{begins}
-use Rattle.version_rules.specs.Tail.{held_bytes, section_bytes}
-use Rattle.version_texts.specs.declared.shape.TailKind.TheVariants.{Sections}
+use Rattle.version_rules.specs.grammar.Front.{begins}
+use Rattle.version_rules.specs.key.Tail.{held_bytes, section_bytes}
+use Rattle.version_texts.specs.declared.scan.shape.TailKind.TheVariants.{Sections}
 use Rattle.version_texts.specs.Shape.{is_section_byte, is_tail_byte}
 use Rattle.version_texts.specs.TextKey.{parts_of, sections_of, tail_of, tail_of_sections}
 use Rattle.version_texts.proofs.lemmas.TextKey.DotPieces.{all_behind, last_item, more_items}

@@ -5,18 +5,18 @@ use Rattle.std.proofs.lemmas.List.Folds.{list_all-append}
 use Rattle.std.proofs.lemmas.List.Splits.{slice_split_at, slice_split_none}
 use Rattle.std.specs.List.{list_all}
 use Rattle.std.specs.Str.Parse.{digits_value}
-use Rattle.version_rules.specs.Bytes.{dot}
-use Rattle.version_rules.specs.DigitRun.{is_digits}
-use Rattle.version_rules.specs.Grammar.{SpellsDotted, SpellsEach}
-use Rattle.version_rules.specs.PartKey.{section_parts}
-use Rattle.version_rules.specs.Reading.{EndsRun}
-use Rattle.version_rules.specs.Sep.{PlainSep, Colon, Hyphen, Plus, Underscore, Tilde, is_sep, sep_byte}
+use Rattle.version_rules.specs.grammar.Bytes.{dot}
+use Rattle.version_rules.specs.grammar.DigitRun.{is_digits}
+use Rattle.version_rules.specs.grammar.Grammar.{SpellsDotted, SpellsEach}
+use Rattle.version_rules.specs.key.PartKey.{section_parts}
+use Rattle.version_rules.specs.grammar.Reading.{EndsRun}
+use Rattle.version_rules.specs.grammar.Sep.{PlainSep, Colon, Hyphen, Plus, Underscore, Tilde, is_sep, sep_byte}
 use Rattle.version_rules.proofs.lemmas.MChunk.{mchunk_printed}
 use Rattle.version_rules.proofs.lemmas.Front.Runs.{all_weaker}
-use Rattle.version_rules.specs.Key.{section_epoch}
-use Rattle.version_rules.specs.Mess.{Further, Section, SpellsFurther, SpellsSection}
+use Rattle.version_rules.specs.key.Key.{section_epoch}
+use Rattle.version_rules.specs.grammar.Mess.{Further, Section, SpellsFurther, SpellsSection}
 use Rattle.version_texts.specs.Class.{is_mark}
-use Rattle.version_texts.specs.declared.shape.TailKind.TheVariants.{Sections}
+use Rattle.version_texts.specs.declared.scan.shape.TailKind.TheVariants.{Sections}
 use Rattle.version_texts.specs.Shape.{is_section_byte, is_tail_byte}
 use Rattle.version_texts.specs.TextKey.{parts_of, sections_of}
 use Rattle.version_texts.proofs.lemmas.Shape.Positions.{and_false}

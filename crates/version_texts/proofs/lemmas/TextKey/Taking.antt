@@ -1,10 +1,10 @@
 -- Bytes written into a sink one list after another.
 use Rattle.std.proofs.Common.{◌≡◌, ◌++◌, ℕ, List, append_assoc, subst, sym}
-use Rattle.version_rules.specs.NumberBytes.{number_bytes}
-use Rattle.version_rules.specs.PartKey.{parts_bytes}
-use Rattle.version_rules.specs.Key.{Key}
-use Rattle.version_rules.specs.KeyBytes.{key_bytes}
-use Rattle.version_rules.specs.Tail.{tail_bytes}
+use Rattle.version_rules.specs.key.NumberBytes.{number_bytes}
+use Rattle.version_rules.specs.key.PartKey.{parts_bytes}
+use Rattle.version_rules.specs.key.Key.{Key}
+use Rattle.version_rules.specs.key.KeyBytes.{key_bytes}
+use Rattle.version_rules.specs.key.Tail.{tail_bytes}
 use Rattle.version_texts.specs.TextKey.{front_bytes}
 
 -- the bytes by another name

@@ -7,12 +7,12 @@ use Rattle.std.specs.Cmp.{first_so, second_so}
 use Rattle.std.specs.List.{list_all}
 use Rattle.std.specs.Option.{is_some}
 use Rattle.std.specs.Str.Parse.{digits_value}
-use Rattle.version_rules.specs.Bytes.{dot}
-use Rattle.version_rules.specs.Chunk.{PlainChunk, Numeric, Alphanum, SpellsChunkOf}
-use Rattle.version_rules.specs.DigitRun.{is_digits}
-use Rattle.version_rules.specs.Front.{begins}
-use Rattle.version_rules.specs.Grammar.{SpellsDotted}
-use Rattle.version_rules.specs.Numeral.{HasNoLeadingZero, SpellsNumeral}
+use Rattle.version_rules.specs.grammar.Bytes.{dot}
+use Rattle.version_rules.specs.grammar.Chunk.{PlainChunk, Numeric, Alphanum, SpellsChunkOf}
+use Rattle.version_rules.specs.grammar.DigitRun.{is_digits}
+use Rattle.version_rules.specs.grammar.Front.{begins}
+use Rattle.version_rules.specs.grammar.Grammar.{SpellsDotted}
+use Rattle.version_rules.specs.grammar.Numeral.{HasNoLeadingZero, SpellsNumeral}
 use Rattle.version_texts.specs.TextKey.{pieces}
 use Rattle.version_texts.specs.TextKind.{is_chunk, is_numeral, is_run}
 use Rattle.version_texts.specs.Piece.{is_dot}

@@ -8,18 +8,18 @@ use Rattle.std.specs.Cmp.{second_so}
 use Rattle.std.specs.List.{list_all, prefix_len, take_while}
 use Rattle.std.specs.Option.{is_some}
 use Rattle.std.specs.Str.Parse.{digits_value}
-use Rattle.version_rules.specs.Body.{PlainBody, SpellsBody}
-use Rattle.version_rules.specs.Bytes.{colon}
-use Rattle.version_rules.specs.Chunk.{PlainChunk, SpellsPart}
-use Rattle.version_rules.specs.Grammar.{SpellsDotted}
-use Rattle.version_rules.specs.Last.{last_of}
-use Rattle.version_rules.specs.Lists.{split_last}
+use Rattle.version_rules.specs.grammar.Body.{PlainBody, SpellsBody}
+use Rattle.version_rules.specs.grammar.Bytes.{colon}
+use Rattle.version_rules.specs.grammar.Chunk.{PlainChunk, SpellsPart}
+use Rattle.version_rules.specs.grammar.Grammar.{SpellsDotted}
+use Rattle.version_rules.specs.grammar.Last.{last_of}
+use Rattle.version_rules.specs.order.Lists.{split_last}
 use Rattle.version_rules.proofs.lemmas.Body.{split_last-whole}
 use Rattle.version_rules.proofs.lemmas.Chunk.{digit_alphanumeric}
 use Rattle.version_rules.proofs.lemmas.Front.Repeated.{cases_Option}
 use Rattle.version_rules.proofs.lemmas.Last.{last_of-is}
 use Rattle.version_rules.proofs.lemmas.Front.Runs.{prefix_len-append}
-use Rattle.version_rules.specs.Version.{PlainVersion, SpellsEpoch, SpellsVersion, version_of}
+use Rattle.version_rules.specs.grammar.Version.{PlainVersion, SpellsEpoch, SpellsVersion, version_of}
 use Rattle.version_rules.proofs.lemmas.Version.{version_of-Some, version_of-spells}
 use Rattle.version_texts.specs.Shape.{behind_body, body_end, body_start, digits_len, from_body, has_epoch, is_section_byte}
 use Rattle.version_texts.specs.TextKey.{pieces}

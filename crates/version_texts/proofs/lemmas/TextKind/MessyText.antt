@@ -6,15 +6,15 @@ use Rattle.std.specs.Char.{is_ascii_alphanumeric}
 use Rattle.std.specs.Cmp.{second_so}
 use Rattle.std.specs.List.{list_all, slice_split}
 use Rattle.std.specs.Option.{is_some}
-use Rattle.version_rules.specs.Bytes.{dot}
-use Rattle.version_rules.specs.Front.{run_front}
-use Rattle.version_rules.specs.Grammar.{SpellsEach}
-use Rattle.version_rules.specs.MChunk.{PlainMChunk, SpellsMChunk, chunk_before, mchunk_front}
-use Rattle.version_rules.specs.Sep.{PlainSep, is_sep, sep_byte}
+use Rattle.version_rules.specs.grammar.Bytes.{dot}
+use Rattle.version_rules.specs.grammar.Front.{run_front}
+use Rattle.version_rules.specs.grammar.Grammar.{SpellsEach}
+use Rattle.version_rules.specs.grammar.MChunk.{PlainMChunk, SpellsMChunk, chunk_before, mchunk_front}
+use Rattle.version_rules.specs.grammar.Sep.{PlainSep, is_sep, sep_byte}
 use Rattle.version_rules.proofs.lemmas.Front.Repeated.{cases_Option}
 use Rattle.version_rules.proofs.lemmas.MChunk.{byte_of_sep, mchunk_sound, spelled_run, spelled_some}
 use Rattle.version_rules.proofs.lemmas.Front.Runs.{run_front-reads}
-use Rattle.version_rules.specs.Mess.{Further, PlainMess, mess_of, Section, SpellsFurther, SpellsMess, SpellsSection}
+use Rattle.version_rules.specs.grammar.Mess.{Further, PlainMess, mess_of, Section, SpellsFurther, SpellsMess, SpellsSection}
 use Rattle.version_rules.proofs.lemmas.Mess.{mess_of-Some, mess_of-spells}
 use Rattle.version_texts.specs.Class.{is_mark}
 use Rattle.version_texts.specs.TextKind.{is_messy, is_run}

@@ -7,7 +7,7 @@ use Rattle.std.specs.Cmp.{second_so}
 use Rattle.std.specs.List.{list_all}
 use Rattle.std.specs.Str.Parse.{digits_value}
 use Rattle.version_rules.proofs.lemmas.Numeral.{nine_digits}
-use Rattle.version_rules.specs.DigitRun.{is_digits}
+use Rattle.version_rules.specs.grammar.DigitRun.{is_digits}
 use Rattle.version_texts.proofs.lemmas.General.Runs.{and-false}
 use Rattle.version_texts.specs.TextKind.{is_numeral}
 

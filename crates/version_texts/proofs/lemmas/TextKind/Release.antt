@@ -4,8 +4,8 @@ use Rattle.std.proofs.lemmas.Bool.{cases_Bool, eqb-true}
 use Rattle.std.proofs.lemmas.Bool.Decides.{nat_tests}
 use Rattle.std.proofs.lemmas.List.{drop-drop}
 use Rattle.std.specs.List.{list_all, prefix_len, take_while}
-use Rattle.version_rules.specs.Bytes.{dot, hyphen, is_identifier_byte, plus}
-use Rattle.version_rules.specs.Front.{begins}
+use Rattle.version_rules.specs.grammar.Bytes.{dot, hyphen, is_identifier_byte, plus}
+use Rattle.version_rules.specs.grammar.Front.{begins}
 use Rattle.version_texts.specs.TextKey.{pieces}
 use Rattle.version_texts.specs.TextKind.{is_chunk, is_metadata_tail, is_not_plus, is_released, is_tail}
 use Rattle.version_texts.proofs.lemmas.Piece.Spelled.{identifier_no_dot}

@@ -7,7 +7,7 @@ use Rattle.std.specs.Char.{is_ascii_digit}
 use Rattle.std.specs.Cmp.{first_so}
 use Rattle.std.specs.List.{list_all, prefix_len, take_while}
 use Rattle.version_rules.proofs.lemmas.Front.Runs.{list_all-take_while}
-use Rattle.version_rules.specs.DigitRun.{is_digits, starts_with_digit}
+use Rattle.version_rules.specs.grammar.DigitRun.{is_digits, starts_with_digit}
 use Rattle.version_texts.proofs.lemmas.General.Runs.{and-false}
 use Rattle.version_texts.specs.TextKind.{is_chunk, is_numeral, is_run}
 

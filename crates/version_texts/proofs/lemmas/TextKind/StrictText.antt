@@ -7,15 +7,15 @@ use Rattle.std.specs.Cmp.{first_so, second_so}
 use Rattle.std.specs.List.{list_all}
 use Rattle.std.specs.Option.{is_some}
 use Rattle.std.specs.Str.Parse.{digits_value}
-use Rattle.version_rules.specs.Bytes.{dot}
-use Rattle.version_rules.specs.Chunk.{PlainChunk, Numeric, Alphanum, SpellsPart}
-use Rattle.version_rules.specs.DigitRun.{is_digits, starts_with_digit}
-use Rattle.version_rules.specs.Grammar.{SpellsDotted}
-use Rattle.version_rules.specs.Last.{IsLastOf}
-use Rattle.version_rules.specs.Numeral.{SpellsNumeral}
-use Rattle.version_rules.specs.Conversions.{version_of_semver}
-use Rattle.version_rules.specs.SemVer.{PlainSemVer, SpellsSemVer, semver_of}
-use Rattle.version_rules.specs.Version.{SpellsEpoch}
+use Rattle.version_rules.specs.grammar.Bytes.{dot}
+use Rattle.version_rules.specs.grammar.Chunk.{PlainChunk, Numeric, Alphanum, SpellsPart}
+use Rattle.version_rules.specs.grammar.DigitRun.{is_digits, starts_with_digit}
+use Rattle.version_rules.specs.grammar.Grammar.{SpellsDotted}
+use Rattle.version_rules.specs.grammar.Last.{IsLastOf}
+use Rattle.version_rules.specs.grammar.Numeral.{SpellsNumeral}
+use Rattle.version_rules.specs.grammar.Conversions.{version_of_semver}
+use Rattle.version_rules.specs.grammar.SemVer.{PlainSemVer, SpellsSemVer, semver_of}
+use Rattle.version_rules.specs.grammar.Version.{SpellsEpoch}
 use Rattle.version_rules.proofs.lemmas.SemVer.{semver_of-Some, semver_of-spells}
 use Rattle.version_rules.proofs.lemmas.Conversions.{strict_is_general}
 use Rattle.version_texts.specs.Shape.{behind_body, body_start}
@@ -29,7 +29,7 @@ use Rattle.version_texts.proofs.lemmas.Shape.Positions.{IsCut}
 use Rattle.version_texts.proofs.lemmas.General.Splits.{JoinedBy, split-append, split_is_joined, split_run}
 use Rattle.version_texts.proofs.lemmas.TextKind.Tail.{tail_spells}
 use Rattle.version_texts.proofs.lemmas.Shape.{version_cut}
-use Rattle.version_rules.specs.Last as last
+use Rattle.version_rules.specs.grammar.Last as last
 
 -- ---- what spells a strict version passes
 

@@ -6,12 +6,12 @@ use Rattle.std.proofs.lemmas.Bool.Decides.{nat_tests}
 use Rattle.std.proofs.lemmas.List.{drop_at, take-append-drop, take_at}
 use Rattle.std.specs.Cmp.{first_so, second_so}
 use Rattle.std.specs.List.{list_all, prefix_len, take_while}
-use Rattle.version_rules.specs.Bytes.{hyphen, is_identifier_byte, is_metadata_byte, plus}
-use Rattle.version_rules.specs.Chunk.{PlainChunk}
-use Rattle.version_rules.specs.Front.{begins}
-use Rattle.version_rules.specs.Grammar.{SpellsOptional}
-use Rattle.version_rules.specs.Metadata.{SpellsMetadata}
-use Rattle.version_rules.specs.Release.{SpellsRelease}
+use Rattle.version_rules.specs.grammar.Bytes.{hyphen, is_identifier_byte, is_metadata_byte, plus}
+use Rattle.version_rules.specs.grammar.Chunk.{PlainChunk}
+use Rattle.version_rules.specs.grammar.Front.{begins}
+use Rattle.version_rules.specs.grammar.Grammar.{SpellsOptional}
+use Rattle.version_rules.specs.grammar.Metadata.{SpellsMetadata}
+use Rattle.version_rules.specs.grammar.Release.{SpellsRelease}
 use Rattle.version_rules.proofs.lemmas.Front.Runs.{prefix_len-append, all_weaker}
 use Rattle.version_texts.specs.TextKey.{pieces}
 use Rattle.version_texts.specs.TextKind.{is_chunk, is_metadata_tail, is_not_plus, is_run, is_tail}

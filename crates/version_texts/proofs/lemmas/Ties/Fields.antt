@@ -9,26 +9,26 @@ use Rattle.std.specs.Option.{option_cmp, option_map_or, unwrap_or}
 use Rattle.std.specs.Ordering.{nat_cmp, ordering_then}
 use Rattle.std.specs.declared.cmp.Ordering.{Ordering}
 use Rattle.std.specs.declared.cmp.Ordering.TheVariants.{Less, Equal, Greater}
-use Rattle.version_rules.specs.Body.{PlainBody, SpellsBody}
-use Rattle.version_rules.specs.Bytes.{colon, hyphen, plus}
-use Rattle.version_rules.specs.Chunk.{Alphanum, Numeric, PlainChunk, SpellsPart, chunk_text}
-use Rattle.version_rules.specs.Grammar.{SpellsDotted, SpellsOptional}
-use Rattle.version_rules.specs.Last.{IsLastOf, PlainLast}
-use Rattle.version_rules.specs.LastOrder.{last_plain_cmp}
-use Rattle.version_rules.specs.Lists.{bytes_cmp}
-use Rattle.version_rules.specs.Metadata.{SpellsMetadata}
-use Rattle.version_rules.specs.PartKey.{PartKey, part_key}
-use Rattle.version_rules.specs.Release.{SpellsRelease, release_text}
-use Rattle.version_rules.specs.SemVer.{optional_text}
+use Rattle.version_rules.specs.grammar.Body.{PlainBody, SpellsBody}
+use Rattle.version_rules.specs.grammar.Bytes.{colon, hyphen, plus}
+use Rattle.version_rules.specs.grammar.Chunk.{Alphanum, Numeric, PlainChunk, SpellsPart, chunk_text}
+use Rattle.version_rules.specs.grammar.Grammar.{SpellsDotted, SpellsOptional}
+use Rattle.version_rules.specs.grammar.Last.{IsLastOf, PlainLast}
+use Rattle.version_rules.specs.order.LastOrder.{last_plain_cmp}
+use Rattle.version_rules.specs.order.Lists.{bytes_cmp}
+use Rattle.version_rules.specs.grammar.Metadata.{SpellsMetadata}
+use Rattle.version_rules.specs.key.PartKey.{PartKey, part_key}
+use Rattle.version_rules.specs.grammar.Release.{SpellsRelease, release_text}
+use Rattle.version_rules.specs.grammar.SemVer.{optional_text}
 use Rattle.version_rules.specs.laws.Release.{release_total}
-use Rattle.version_rules.specs.ReleaseOrder.{chunk_cmp, release_cmp}
+use Rattle.version_rules.specs.order.ReleaseOrder.{chunk_cmp, release_cmp}
 use Rattle.version_rules.proofs.lemmas.Chunk.{part_printed, release_printed}
 use Rattle.version_rules.proofs.lemmas.SemVer.{optional_printed}
 use Rattle.version_rules.proofs.lemmas.Orders.{then_assoc}
 use Rattle.version_rules.proofs.lemmas.Numeral.{numeral_printed}
-use Rattle.version_rules.specs.Key.{Key, key_of_version}
-use Rattle.version_rules.specs.Version.{PlainVersion, SpellsEpoch, SpellsVersion, epoch_text}
-use Rattle.version_rules.specs.VersionOrder.{version_plain_cmp}
+use Rattle.version_rules.specs.key.Key.{Key, key_of_version}
+use Rattle.version_rules.specs.grammar.Version.{PlainVersion, SpellsEpoch, SpellsVersion, epoch_text}
+use Rattle.version_rules.specs.order.VersionOrder.{version_plain_cmp}
 use Rattle.version_texts.specs.Shape.{body_start, from_body, is_section_byte}
 use Rattle.version_texts.specs.TextKey.{parts_of, pieces}
 use Rattle.version_texts.specs.Ties.{general_tie, parts_tie}
@@ -37,7 +37,7 @@ use Rattle.version_texts.proofs.lemmas.Shape.{version_cut}
 use Rattle.version_texts.proofs.lemmas.Shape.Positions.{IsCut, from_body-is}
 use Rattle.version_texts.proofs.lemmas.Ties.Lasts.{number_apart, numbers_same, run_cut, tied_lasts}
 use Rattle.version_texts.proofs.lemmas.Ties.Walks.{IsNonempty, parts_then}
-use Rattle.version_rules.specs.Tail as tail
+use Rattle.version_rules.specs.key.Tail as tail
 
 -- ---- parts
 

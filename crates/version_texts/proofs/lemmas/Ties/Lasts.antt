@@ -10,15 +10,15 @@ use Rattle.std.specs.Fmt.{decimal}
 use Rattle.std.specs.List.{list_all, list_any, prefix_len, take_while}
 use Rattle.std.specs.Str.Parse.{digits_value}
 use Rattle.std.specs.declared.cmp.Ordering.TheVariants.{Equal}
-use Rattle.version_rules.specs.Chunk.{PlainChunk, SpellsPart, chunk_text}
-use Rattle.version_rules.specs.DigitRun.{starts_with_digit}
-use Rattle.version_rules.specs.Front.{begins}
-use Rattle.version_rules.specs.Last.{Alphanum, IsLastOf, IsLetters, IsOther, Numeric, PlainLast, Post, Rc, SpellsPost, SpellsRc}
-use Rattle.version_rules.specs.LastOrder.{last_plain_cmp}
-use Rattle.version_rules.specs.Lists.{bytes_cmp}
-use Rattle.version_rules.specs.Numeral.{SpellsNumeral}
-use Rattle.version_rules.specs.PartKey.{Number, PartKey, Word, part_key, suffix_of}
-use Rattle.version_rules.specs.Split.{Split, split_of}
+use Rattle.version_rules.specs.grammar.Chunk.{PlainChunk, SpellsPart, chunk_text}
+use Rattle.version_rules.specs.grammar.DigitRun.{starts_with_digit}
+use Rattle.version_rules.specs.grammar.Front.{begins}
+use Rattle.version_rules.specs.grammar.Last.{Alphanum, IsLastOf, IsLetters, IsOther, Numeric, PlainLast, Post, Rc, SpellsPost, SpellsRc}
+use Rattle.version_rules.specs.order.LastOrder.{last_plain_cmp}
+use Rattle.version_rules.specs.order.Lists.{bytes_cmp}
+use Rattle.version_rules.specs.grammar.Numeral.{SpellsNumeral}
+use Rattle.version_rules.specs.key.PartKey.{Number, PartKey, Word, part_key, suffix_of}
+use Rattle.version_rules.specs.key.Split.{Split, split_of}
 use Rattle.version_rules.proofs.lemmas.DigitRun.{split_of-digits, split_of-no_digit}
 use Rattle.version_rules.proofs.lemmas.Front.Runs.{list_all-take_while, prefix_len-append}
 use Rattle.version_rules.proofs.lemmas.Last.{last_of-only}
@@ -33,7 +33,7 @@ use Rattle.version_texts.proofs.lemmas.General.Runs.{run_cons}
 use Rattle.version_texts.proofs.lemmas.TextKey.DotPieces.{is_run}
 use Rattle.version_texts.proofs.lemmas.TextKind.Chunks.{digits_from, numeral_passes, numeral_spells}
 use Rattle.version_texts.proofs.lemmas.Ties.Variants.{number_key}
-use Rattle.version_rules.specs.Chunk as chunk
+use Rattle.version_rules.specs.grammar.Chunk as chunk
 
 -- ---- the keys of decomposed parts
 

@@ -11,12 +11,12 @@ use Rattle.std.specs.List.{before_first, list_all, position_or_len, prefix_len}
 use Rattle.std.specs.Ordering.{nat_cmp, ordering_then}
 use Rattle.std.specs.Str.Parse.{digits_value}
 use Rattle.std.specs.declared.cmp.Ordering.TheVariants.{Less, Equal}
-use Rattle.version_rules.specs.DigitRun.{is_digits, number_front, run_value, starts_with_digit}
-use Rattle.version_rules.specs.Lists.{bytes_cmp}
-use Rattle.version_rules.specs.MChunk.{Digits, Plain, PlainMChunk, Rev, SpellsDigits, SpellsMChunk, SpellsRevision, mchunk_plain_cmp, mchunk_text}
+use Rattle.version_rules.specs.grammar.DigitRun.{is_digits, number_front, run_value, starts_with_digit}
+use Rattle.version_rules.specs.order.Lists.{bytes_cmp}
+use Rattle.version_rules.specs.grammar.MChunk.{Digits, Plain, PlainMChunk, Rev, SpellsDigits, SpellsMChunk, SpellsRevision, mchunk_plain_cmp, mchunk_text}
 use Rattle.version_rules.specs.laws.Order.{then_first}
-use Rattle.version_rules.specs.PartKey.{Number, Word, part_key, suffix_of}
-use Rattle.version_rules.specs.Split.{Split, split_of}
+use Rattle.version_rules.specs.key.PartKey.{Number, Word, part_key, suffix_of}
+use Rattle.version_rules.specs.key.Split.{Split, split_of}
 use Rattle.version_rules.proofs.lemmas.DigitRun.{split_of-digits}
 use Rattle.version_rules.proofs.lemmas.Front.Runs.{all_weaker, take_while-all}
 use Rattle.version_rules.proofs.lemmas.MChunk.{spelled_run}

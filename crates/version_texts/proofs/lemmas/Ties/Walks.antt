@@ -7,9 +7,9 @@ use Rattle.std.specs.List.{prefix_len, take_while}
 use Rattle.std.specs.Ordering.{MatchOrdering, nat_cmp, ordering_then}
 use Rattle.std.specs.declared.cmp.Ordering.{Ordering}
 use Rattle.std.specs.declared.cmp.Ordering.TheVariants.{Less, Equal, Greater}
-use Rattle.version_rules.specs.Bytes.{dot}
-use Rattle.version_rules.specs.Front.{begins}
-use Rattle.version_rules.specs.Lists.{bytes_cmp}
+use Rattle.version_rules.specs.grammar.Bytes.{dot}
+use Rattle.version_rules.specs.grammar.Front.{begins}
+use Rattle.version_rules.specs.order.Lists.{bytes_cmp}
 use Rattle.version_rules.proofs.lemmas.Orders.{then_assoc}
 use Rattle.version_texts.specs.Piece.{is_dot}
 use Rattle.version_texts.specs.Shape.{is_section_byte}

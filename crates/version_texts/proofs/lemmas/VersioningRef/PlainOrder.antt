@@ -2,11 +2,11 @@
 use Rattle.std.proofs.Common.{◌≡◌, List, ℕ, Some, refl, arith}
 use Rattle.std.specs.Ordering.{nat_cmp}
 use Rattle.version_rules.proofs.lemmas.SemVerOrder.{precedence_of_semvers}
-use Rattle.version_rules.specs.Key.{key_of, precedence}
-use Rattle.version_rules.specs.Kind.{versioning_kind}
-use Rattle.version_rules.specs.Versioning.{PlainVersioning, Ideal, General, Complex, kind_rank, versioning_plain_cmp}
+use Rattle.version_rules.specs.key.Key.{key_of, precedence}
+use Rattle.version_rules.specs.grammar.Kind.{versioning_kind}
+use Rattle.version_rules.specs.grammar.Versioning.{PlainVersioning, Ideal, General, Complex, kind_rank, versioning_plain_cmp}
 use Rattle.version_texts.proofs.lemmas.VersioningRef.{kind-is}
-use Rattle.version_texts.specs.declared.shape.Shape.{Shape}
+use Rattle.version_texts.specs.declared.scan.shape.Shape.{Shape}
 use Rattle.version_texts.specs.Shape.{shape_of}
 use Rattle.version_texts.specs.VersioningRef.{version_in}
 use Rattle.version_rules.specs.declared.kind.Kind.TheVariants as kind

@@ -8,25 +8,25 @@ use Rattle.std.specs.List.{list_all, prefix_len}
 use Rattle.std.specs.Ordering.{eq_by_cmp, is_eq}
 use Rattle.std.specs.declared.cmp.Ordering.{Ordering}
 use Rattle.std.specs.declared.cmp.Ordering.TheVariants.{Equal}
-use Rattle.version_rules.specs.Bytes.{hyphen}
-use Rattle.version_rules.specs.Chunk.{PlainChunk}
-use Rattle.version_rules.specs.Grammar.{SpellsOptional}
-use Rattle.version_rules.specs.Release.{SpellsRelease}
+use Rattle.version_rules.specs.grammar.Bytes.{hyphen}
+use Rattle.version_rules.specs.grammar.Chunk.{PlainChunk}
+use Rattle.version_rules.specs.grammar.Grammar.{SpellsOptional}
+use Rattle.version_rules.specs.grammar.Release.{SpellsRelease}
 use Rattle.version_rules.proofs.lemmas.Front.Runs.{prefix_len-append}
-use Rattle.version_rules.specs.Conversions.{version_of_semver}
-use Rattle.version_rules.specs.Kind.{versioning_kind}
+use Rattle.version_rules.specs.grammar.Conversions.{version_of_semver}
+use Rattle.version_rules.specs.grammar.Kind.{versioning_kind}
 use Rattle.version_rules.specs.laws.Mess.{messes_same}
-use Rattle.version_rules.specs.SemVer.{PlainSemVer, SpellsSemVer}
+use Rattle.version_rules.specs.grammar.SemVer.{PlainSemVer, SpellsSemVer}
 use Rattle.version_rules.specs.laws.SemVer.{tied_same}
 use Rattle.version_rules.proofs.lemmas.OrdersLaws.{semver_equal}
-use Rattle.version_rules.specs.SemVerOrder.{SameButMetadata, semver_cmp}
-use Rattle.version_rules.specs.Version.{PlainVersion, SpellsVersion, version_text}
+use Rattle.version_rules.specs.order.SemVerOrder.{SameButMetadata, semver_cmp}
+use Rattle.version_rules.specs.grammar.Version.{PlainVersion, SpellsVersion, version_text}
 use Rattle.version_rules.specs.laws.Version.{versions_same}
-use Rattle.version_rules.specs.Versioning.{PlainVersioning, Ideal, General, Complex, SpellsVersioning, versioning_plain_cmp, versioning_text}
+use Rattle.version_rules.specs.grammar.Versioning.{PlainVersioning, Ideal, General, Complex, SpellsVersioning, versioning_plain_cmp, versioning_text}
 use Rattle.version_rules.proofs.lemmas.Version.{version_printed, version_unique}
 use Rattle.version_rules.proofs.lemmas.Versioning.{versioning_printed}
 use Rattle.version_rules.proofs.lemmas.Conversions.{strict_is_general}
-use Rattle.version_texts.specs.declared.shape.Shape.{Shape}
+use Rattle.version_texts.specs.declared.scan.shape.Shape.{Shape}
 use Rattle.version_texts.specs.Shape.{behind_body, shape_of}
 use Rattle.version_texts.specs.TextKind.{is_not_plus}
 use Rattle.version_texts.specs.VersioningRef.{version_in}

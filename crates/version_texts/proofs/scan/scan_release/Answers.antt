@@ -1,5 +1,5 @@
 use Rattle.std.proofs.Common.{◌==◌, ◌∙◌, drop, sym, arith}
-use Rattle.version_rules.specs.Bytes.{dot, is_identifier_byte}
+use Rattle.version_rules.specs.grammar.Bytes.{dot, is_identifier_byte}
 use Rattle.version_texts.proofs.lemmas.Class.{is_dot, no_dot}
 use Rattle.version_texts.proofs.lemmas.TextKind.Release.{bad_chunk, from_last, from_next, place_last, place_next}
 use Rattle.version_texts.proofs.lemmas.General.Runs.{not_false, not_true}

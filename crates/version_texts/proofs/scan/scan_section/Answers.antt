@@ -1,7 +1,7 @@
 use Rattle.std.proofs.Common.{◌==◌, ◌+◌, ◌∙◌, List, ℕ, drop, length, sym, ap, arith}
 use Rattle.std.specs.Char.{is_ascii_alphanumeric}
-use Rattle.version_rules.specs.Bytes.{dot}
-use Rattle.version_rules.specs.DigitRun.{is_digits}
+use Rattle.version_rules.specs.grammar.Bytes.{dot}
+use Rattle.version_rules.specs.grammar.DigitRun.{is_digits}
 use Rattle.version_texts.specs.TextKind.{is_chunk, is_run, section_pieces}
 use Rattle.version_texts.proofs.lemmas.Class.{is_dot, no_dot}
 use Rattle.version_texts.proofs.lemmas.Shape.Section.{all_last, all_next, begins_within, empty_piece, end_last, end_next, pieces_last, pieces_next, runs_last, runs_next}

@@ -1,6 +1,6 @@
 use Rattle.std.proofs.Common.{◌≡◌, map, take}
 use Rattle.version_parts.specs.Chunk.{plain_chunk}
-use Rattle.version_rules.specs.Conversions.{mchunk_of}
+use Rattle.version_rules.specs.grammar.Conversions.{mchunk_of}
 use Rattle.versions.specs.Mess.{plain_section}
 use Rattle.versions.proofs.conversions.chunk_section.Given as goal
 

@@ -7,19 +7,19 @@ use Rattle.std.specs.Option.{is_some, option_map_or, unwrap_or}
 use Rattle.std.specs.declared.cmp.Ordering.TheVariants.{Less, Equal}
 use Rattle.version_rules.proofs.lemmas.DigitRun.{decimal-digits}
 use Rattle.version_rules.proofs.lemmas.PartKey.{plain_number}
-use Rattle.version_rules.specs.Chunk.{PlainChunk, chunk_text}
-use Rattle.version_rules.specs.Last.{PlainLast, last_text}
-use Rattle.version_rules.specs.MChunk.{mchunk_text}
-use Rattle.version_rules.specs.PartKey.{PartKey, chunk_parts, part_key, section_parts}
+use Rattle.version_rules.specs.grammar.Chunk.{PlainChunk, chunk_text}
+use Rattle.version_rules.specs.grammar.Last.{PlainLast, last_text}
+use Rattle.version_rules.specs.grammar.MChunk.{mchunk_text}
+use Rattle.version_rules.specs.key.PartKey.{PartKey, chunk_parts, part_key, section_parts}
 use Rattle.version_rules.specs.laws.Part.{list_total}
-use Rattle.version_rules.specs.Conversions.{behind_epoch, body_section, mchunk_of, mchunk_of_last, mess_of_semver, mess_of_version, meta_section, release_section, version_of_semver}
-use Rattle.version_rules.specs.Key.{key_behind_epoch, key_of_mess, key_of_sections, key_of_semver, key_of_version, plain, precedence, section_epoch, sections_tail}
-use Rattle.version_rules.specs.Mess.{Section}
-use Rattle.version_rules.specs.SemVer.{PlainSemVer}
-use Rattle.version_rules.specs.Tail.{Tail, PreReleased, Bare, Released, tail_cmp}
-use Rattle.version_rules.specs.Version.{PlainVersion}
-use Rattle.version_rules.specs.Chunk as chunk
-use Rattle.version_rules.specs.Last as last
+use Rattle.version_rules.specs.grammar.Conversions.{behind_epoch, body_section, mchunk_of, mchunk_of_last, mess_of_semver, mess_of_version, meta_section, release_section, version_of_semver}
+use Rattle.version_rules.specs.key.Key.{key_behind_epoch, key_of_mess, key_of_sections, key_of_semver, key_of_version, plain, precedence, section_epoch, sections_tail}
+use Rattle.version_rules.specs.grammar.Mess.{Section}
+use Rattle.version_rules.specs.grammar.SemVer.{PlainSemVer}
+use Rattle.version_rules.specs.key.Tail.{Tail, PreReleased, Bare, Released, tail_cmp}
+use Rattle.version_rules.specs.grammar.Version.{PlainVersion}
+use Rattle.version_rules.specs.grammar.Chunk as chunk
+use Rattle.version_rules.specs.grammar.Last as last
 
 -- ---- parts stay the same
 

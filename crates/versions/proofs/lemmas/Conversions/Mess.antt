@@ -2,19 +2,19 @@
 use Rattle.std.proofs.Common.{◌≡◌, ◌∙◌, List, ℕ, [], ◌∷◌, ◌++◌, map, Option, Some, None, refl, sym, ap, append_assoc, append-nil}
 use Rattle.std.specs.Fmt.{decimal}
 use Rattle.std.specs.List.{flat_map}
-use Rattle.version_rules.specs.Body.{body_text}
-use Rattle.version_rules.specs.Bytes.{colon, dot, hyphen, plus}
-use Rattle.version_rules.specs.Chunk.{PlainChunk, chunk_text}
-use Rattle.version_rules.specs.Last.{PlainLast, last_text}
-use Rattle.version_rules.specs.MChunk.{mchunk_text}
-use Rattle.version_rules.specs.Release.{release_text}
-use Rattle.version_rules.specs.Conversions.{behind_epoch, body_section, mchunk_of, mchunk_of_last, mess_of_semver, mess_of_version, meta_section, release_section, version_of_semver}
-use Rattle.version_rules.specs.Mess.{further_text, joined_section, mess_text}
-use Rattle.version_rules.specs.SemVer.{PlainSemVer, optional_text, semver_text}
-use Rattle.version_rules.specs.Version.{PlainVersion, epoch_text, version_text}
+use Rattle.version_rules.specs.grammar.Body.{body_text}
+use Rattle.version_rules.specs.grammar.Bytes.{colon, dot, hyphen, plus}
+use Rattle.version_rules.specs.grammar.Chunk.{PlainChunk, chunk_text}
+use Rattle.version_rules.specs.grammar.Last.{PlainLast, last_text}
+use Rattle.version_rules.specs.grammar.MChunk.{mchunk_text}
+use Rattle.version_rules.specs.grammar.Release.{release_text}
+use Rattle.version_rules.specs.grammar.Conversions.{behind_epoch, body_section, mchunk_of, mchunk_of_last, mess_of_semver, mess_of_version, meta_section, release_section, version_of_semver}
+use Rattle.version_rules.specs.grammar.Mess.{further_text, joined_section, mess_text}
+use Rattle.version_rules.specs.grammar.SemVer.{PlainSemVer, optional_text, semver_text}
+use Rattle.version_rules.specs.grammar.Version.{PlainVersion, epoch_text, version_text}
 use Rattle.version_rules.proofs.lemmas.Conversions.{version_of_semver_printed}
-use Rattle.version_rules.specs.Chunk as chunk
-use Rattle.version_rules.specs.Last as last
+use Rattle.version_rules.specs.grammar.Chunk as chunk
+use Rattle.version_rules.specs.grammar.Last as last
 
 chunk_printed : (c : PlainChunk) → mchunk_text (mchunk_of c) ≡ chunk_text c
 chunk_printed (chunk.Numeric n) = refl

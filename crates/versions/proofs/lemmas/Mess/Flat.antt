@@ -4,7 +4,7 @@ use Rattle.version_parts.specs.declared.sep.Sep.{Sep}
 use Rattle.versions.specs.declared.mess.Mess.{Mess}
 use Rattle.versions.specs.declared.mess.Mess.TheFolds.{fold_out-Mess}
 use Rattle.versions.specs.declared.mess.Mess.TheViews.{out-Mess}
-use Rattle.version_rules.specs.Mess.{PlainMess}
+use Rattle.version_rules.specs.grammar.Mess.{PlainMess}
 use Rattle.versions.specs.Mess.{behind_sign, flat_layer, plain_mess, plain_section}
 
 pub first_is : (m : Mess) → (plain_mess m).first ≡ plain_section (out-Mess m).chunks

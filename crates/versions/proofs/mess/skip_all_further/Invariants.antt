@@ -1,8 +1,8 @@
 use Rattle.std.proofs.Common.{◌≡◌, length}
 use denote.Text.{Utf8}
 use denote.Shadow.{shadow}
-use Rattle.version_rules.specs.Front.{repeated}
-use Rattle.version_rules.specs.Mess.{further_front}
+use Rattle.version_rules.specs.grammar.Front.{repeated}
+use Rattle.version_rules.specs.grammar.Mess.{further_front}
 use Rattle.versions.proofs.mess.skip_all_further.Given as goal
 
 -- what follows the further sections of the rest follows all of them

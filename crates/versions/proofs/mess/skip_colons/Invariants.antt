@@ -1,5 +1,5 @@
 use Rattle.std.proofs.Common.{◌≡◌}
-use Rattle.version_rules.specs.Mess.{behind_colons}
+use Rattle.version_rules.specs.grammar.Mess.{behind_colons}
 use Rattle.versions.specs.Mess.{plain_mess}
 use Rattle.versions.proofs.mess.skip_colons.Given as goal
 

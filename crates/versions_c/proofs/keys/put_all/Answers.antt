@@ -1,14 +1,14 @@
 use Rattle.std.proofs.Common.{◌≡◌, ◌∙◌, ◌+◌, ◌<◌, ℕ, List, ap, sym, refl, length, arith}
 use Rattle.std.proofs.lemmas.List.{length-set}
 use Rattle.std.specs.Option.{option_map, option_map_or}
-use Rattle.version_rules.specs.Key.{key_of}
-use Rattle.version_rules.specs.KeyBytes.{key_bytes}
+use Rattle.version_rules.specs.key.Key.{key_of}
+use Rattle.version_rules.specs.key.KeyBytes.{key_bytes}
 use Rattle.version_texts.specs.VersioningRef.{plain_versioning_ref}
 use Rattle.version_texts.specs.Sinks.{put_nothing}
 use Rattle.versions_c.specs.Keys.{keys_before}
 use Rattle.versions_c.specs.Offsets.{text_at}
-use Rattle.version_rules.specs.Kind.{versioning_kind}
-use Rattle.version_rules.specs.Versioning.{versioning_of}
+use Rattle.version_rules.specs.grammar.Kind.{versioning_kind}
+use Rattle.version_rules.specs.grammar.Versioning.{versioning_of}
 use Rattle.version_rules.specs.declared.kind.Kind.TheVariants.{Ideal}
 use Rattle.versions_c.proofs.lemmas.Keys.Putting.{ArePut, first_told, next_marked, next_told, no_more_key, one_more_key}
 use Rattle.versions_c.proofs.keys.put_all.Goals.{else-place-places, in-Some, in_default, then-place-places}

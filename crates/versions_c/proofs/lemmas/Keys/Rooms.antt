@@ -2,9 +2,9 @@
 use Rattle.std.proofs.Common.{◌≡◌, ◌+◌, ◌-◌, ◌*◌, ◌≤◌, ℕ, zero, suc, List, [], length, drop, get_or, Option, Some, None, refl, ap, arith, length-append}
 use Rattle.std.proofs.lemmas.List.{length-take}
 use Rattle.std.specs.Option.{option_map, unwrap_or}
-use Rattle.version_rules.specs.Key.{key_of}
-use Rattle.version_rules.specs.KeyBytes.{key_bytes}
-use Rattle.version_rules.specs.Versioning.{PlainVersioning, versioning_of}
+use Rattle.version_rules.specs.key.Key.{key_of}
+use Rattle.version_rules.specs.key.KeyBytes.{key_bytes}
+use Rattle.version_rules.specs.grammar.Versioning.{PlainVersioning, versioning_of}
 use Rattle.version_texts.specs.KeyRoom.{room_for}
 use Rattle.versions_c.specs.Keys.{keys_before, spelled_key}
 use Rattle.versions_c.specs.Offsets.{AreOffsets, text_at}

@@ -2,12 +2,12 @@
 use Rattle.std.proofs.Common.{◌≡◌, ◌∙◌, ◌≤◌, ◌<◌, ◌^◌, ℕ, List, Option, Some, None, IfSome, nat_le, true, if◌then◌else◌, take, length, ap, arith, refl, sym}
 use Rattle.std.proofs.lemmas.Bool.Decides.{nat_tests}
 use Rattle.std.specs.Option.{is_some, option_map, option_map_or}
-use Rattle.version_rules.specs.Range.{PlainRange, range_of}
-use Rattle.version_rules.specs.Requirement.{PlainRequirement}
-use Rattle.version_rules.specs.Requirements.{requirements_of}
+use Rattle.version_rules.specs.requirement.Range.{PlainRange, range_of}
+use Rattle.version_rules.specs.requirement.Requirement.{PlainRequirement}
+use Rattle.version_rules.specs.requirement.Requirements.{requirements_of}
 use Rattle.version_texts.specs.RangeRef.{bound_bytes, high_length, plain_range_ref}
-use Rattle.version_texts.specs.declared.range_ref.Bound.{Bound}
-use Rattle.version_texts.specs.declared.range_ref.RangeRef.{RangeRef}
+use Rattle.version_texts.specs.declared.requirement.range_ref.Bound.{Bound}
+use Rattle.version_texts.specs.declared.requirement.range_ref.RangeRef.{RangeRef}
 use Rattle.version_texts.specs.Sinks.{saturated}
 use Rattle.versions_c.proofs.lemmas.Ranges.{list_short}
 use Rattle.version_texts.specs.KeyRoom.{room_for}

@@ -11,7 +11,7 @@ use Rattle.std.specs.declared.cmp.Ordering.{Ordering}
 use Rattle.std.specs.declared.cmp.Ordering.TheVariants.{Less}
 use Rattle.version_rules.specs.laws.Order.{none_last_total}
 use Rattle.version_rules.specs.laws.Orders.{versioning_cmp_total}
-use Rattle.version_rules.specs.Versioning.{versioning_of}
+use Rattle.version_rules.specs.grammar.Versioning.{versioning_of}
 use Rattle.versions_c.specs.Offsets.{text_at}
 use Rattle.versions_c.specs.Sorting.{AreInOrder, place_cmp}
 

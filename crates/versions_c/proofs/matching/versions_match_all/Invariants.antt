@@ -1,5 +1,5 @@
 use Rattle.std.proofs.Common.{◌≡◌, ◌<◌, ℕ, slice_index}
-use Rattle.version_rules.specs.Versioning.{versioning_of}
+use Rattle.version_rules.specs.grammar.Versioning.{versioning_of}
 use Rattle.versions_c.specs.Matching.{match_code}
 use Rattle.versions_c.specs.Offsets.{text_at}
 use Rattle.versions_c.proofs.matching.versions_match_all.Given as goal

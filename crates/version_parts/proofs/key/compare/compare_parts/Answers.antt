@@ -1,5 +1,5 @@
 use Rattle.std.proofs.Common.{Some}
-use Rattle.version_rules.specs.PartKey.{part_key}
+use Rattle.version_rules.specs.key.PartKey.{part_key}
 use Rattle.version_parts.proofs.lemmas.Compare.{values_compared}
 use Rattle.version_rules.proofs.lemmas.PartKey.{part_writes}
 use Rattle.version_parts.proofs.key.compare.compare_parts.Goals as goal

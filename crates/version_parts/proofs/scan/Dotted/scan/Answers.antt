@@ -1,6 +1,6 @@
 use Rattle.std.proofs.Common.{rules, arith, sym}
-use Rattle.version_rules.specs.Bytes.{dot}
-use Rattle.version_rules.specs.Front.{behind}
+use Rattle.version_rules.specs.grammar.Bytes.{dot}
+use Rattle.version_rules.specs.grammar.Front.{behind}
 use Rattle.version_rules.proofs.lemmas.Front.Dotted.{behind_dot_shrinks, unlisted}
 use Rattle.version_parts.proofs.lemmas.Front.DottedScan.{nothing_before, read_before, scanned_all, scanned_first, scanned_next}
 use Rattle.version_parts.proofs.scan.Dotted.scan.Goals as goal

@@ -1,4 +1,4 @@
-use Rattle.version_rules.specs.Last.{last_of}
+use Rattle.version_rules.specs.grammar.Last.{last_of}
 use Rattle.version_rules.proofs.lemmas.Last.{last_of-is, last_of-only, last_printed}
 use Rattle.version_rules.proofs.laws.parts_grammar.last_parts.Goals as goal
 

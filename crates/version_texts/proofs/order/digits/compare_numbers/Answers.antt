@@ -10,8 +10,8 @@ use Rattle.std.specs.declared.cmp.Ordering.TheVariants.{Less, Equal, Greater}
 use Rattle.version_rules.proofs.lemmas.Front.Runs.{list_all-take_while}
 use Rattle.version_rules.proofs.lemmas.NumberBytes.{is_zero}
 use Rattle.version_rules.proofs.lemmas.PartOrder.{numbers_compared}
-use Rattle.version_rules.specs.DigitRun.{run_value}
-use Rattle.version_rules.specs.Lists.{bytes_cmp}
+use Rattle.version_rules.specs.grammar.DigitRun.{run_value}
+use Rattle.version_rules.specs.order.Lists.{bytes_cmp}
 use Rattle.version_texts.proofs.lemmas.General.Runs.{run_cons, run_within}
 use Rattle.version_texts.proofs.lemmas.General.RunsWithin.{rest_within, zero_digit}
 use Rattle.version_texts.specs.Piece.{behind_digits}

@@ -2,8 +2,8 @@ use Rattle.std.proofs.Common.{◌≡◌, length}
 use Rattle.std.specs.Char.{is_ascii_digit}
 use Rattle.std.specs.List.{prefix_len, take_while}
 use Rattle.std.specs.Ordering.{nat_cmp, ordering_then}
-use Rattle.version_rules.specs.DigitRun.{run_value}
-use Rattle.version_rules.specs.Lists.{bytes_cmp}
+use Rattle.version_rules.specs.grammar.DigitRun.{run_value}
+use Rattle.version_rules.specs.order.Lists.{bytes_cmp}
 use Rattle.version_texts.specs.Piece.{behind_digits}
 use Rattle.version_texts.proofs.order.digits.compare_numbers.Given as goal
 

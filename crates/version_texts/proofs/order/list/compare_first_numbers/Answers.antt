@@ -1,7 +1,7 @@
 use Rattle.std.proofs.Common.{◌≡◌, ◌∙◌, ◌==◌, ℕ, List, true, Ordering, not, ap, sym}
 use Rattle.std.specs.Ordering.{nat_cmp, ordering_index, ordering_then}
-use Rattle.version_rules.specs.DigitRun.{run_value, starts_with_digit}
-use Rattle.version_rules.specs.PartKey.{list_cmp}
+use Rattle.version_rules.specs.grammar.DigitRun.{run_value, starts_with_digit}
+use Rattle.version_rules.specs.key.PartKey.{list_cmp}
 use Rattle.version_texts.proofs.lemmas.Piece.{pieces_are}
 use Rattle.version_texts.proofs.lemmas.Piece.Order.{decided, numbers_compared}
 use Rattle.version_texts.proofs.lemmas.Piece.Spelled.{digit_no_dot}

@@ -1,5 +1,5 @@
 use Rattle.std.proofs.Common.{◌≡◌, ◌≤◌, ◌-◌, drop, length, take}
-use Rattle.version_rules.specs.PartKey.{list_cmp}
+use Rattle.version_rules.specs.key.PartKey.{list_cmp}
 use Rattle.version_texts.specs.TextKey.{parts_of}
 use Rattle.version_texts.proofs.order.list.pass_common.Given as goal
 

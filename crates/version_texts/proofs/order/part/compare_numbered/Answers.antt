@@ -1,6 +1,6 @@
 use Rattle.std.proofs.Common.{◌∙◌, ap, sym}
 use Rattle.std.specs.List.{before_first}
-use Rattle.version_rules.specs.Lists.{bytes_cmp}
+use Rattle.version_rules.specs.order.Lists.{bytes_cmp}
 use Rattle.version_texts.proofs.lemmas.Piece.{digits_same}
 use Rattle.version_texts.proofs.lemmas.Piece.Ends.{digit_no_end}
 use Rattle.version_texts.proofs.lemmas.Piece.Order.{decides, leaves, numbered_compared, tied}

@@ -3,10 +3,10 @@ use Rattle.std.specs.List.{before_first, prefix_len, take_while}
 use Rattle.std.specs.Option.{option_cmp}
 use Rattle.std.specs.Ordering.{ordering_then}
 use Rattle.version_rules.proofs.lemmas.Front.Runs.{begins-drop}
-use Rattle.version_rules.specs.DigitRun.{number_front}
-use Rattle.version_rules.specs.Front.{begins}
-use Rattle.version_rules.specs.Lists.{bytes_cmp}
-use Rattle.version_rules.specs.Split.{numbered_cmp, split_cmp, split_of}
+use Rattle.version_rules.specs.grammar.DigitRun.{number_front}
+use Rattle.version_rules.specs.grammar.Front.{begins}
+use Rattle.version_rules.specs.order.Lists.{bytes_cmp}
+use Rattle.version_rules.specs.key.Split.{numbered_cmp, split_cmp, split_of}
 use Rattle.version_texts.specs.declared.order.ends.Ends.{Ends}
 use Rattle.version_texts.specs.declared.order.ends.Run.TheVariants.{Word}
 use Rattle.version_texts.proofs.lemmas.Piece.Order.{decides, leaves, tied}

@@ -2,7 +2,7 @@ use Rattle.std.proofs.Common.{◌≡◌, ◌∙◌, ℕ, true, false, List, Orde
 use Rattle.std.proofs.lemmas.Cmp.{nat_cmp_total}
 use Rattle.std.specs.Ordering.{nat_cmp, ordering_reverse}
 use Rattle.std.specs.declared.cmp.Ordering.TheVariants.{Less, Equal, Greater}
-use Rattle.version_rules.specs.DigitRun.{run_value}
+use Rattle.version_rules.specs.grammar.DigitRun.{run_value}
 use Rattle.version_rules.specs.laws.Release.{chunk_total}
 use Rattle.version_texts.proofs.lemmas.Piece.{behind_number, digits_alone}
 use Rattle.version_texts.proofs.lemmas.Piece.Chunks.{both_numbers, both_texts, not_tied, number_first, number_second}

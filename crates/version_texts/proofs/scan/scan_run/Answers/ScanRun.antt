@@ -4,13 +4,13 @@ use Rattle.std.proofs.lemmas.List.{drop-drop}
 use Rattle.std.proofs.lemmas.List.Folds.{length-prefix_len}
 use Rattle.std.specs.Char.{is_ascii_digit}
 use Rattle.std.specs.List.{list_all, prefix_len, take_while}
-use Rattle.version_rules.specs.Bytes.{HasDigits}
-use Rattle.version_rules.specs.DigitRun.{is_digits}
-use Rattle.version_rules.specs.Front.{begins}
+use Rattle.version_rules.specs.grammar.Bytes.{HasDigits}
+use Rattle.version_rules.specs.grammar.DigitRun.{is_digits}
+use Rattle.version_rules.specs.grammar.Front.{begins}
 use Rattle.version_texts.specs.Class.{contains}
 use Rattle.version_texts.specs.Shape.{digits_len}
 use Rattle.version_texts.specs.TextKind.{is_chunk, is_numeral}
-use Rattle.version_texts.specs.declared.class.Class.{Class}
+use Rattle.version_texts.specs.declared.scan.class.Class.{Class}
 use Rattle.version_texts.proofs.lemmas.General.Runs.{all_smaller, larger_run, some_larger}
 use Rattle.version_texts.proofs.lemmas.TextKind.Runs.{chunk_digits, chunk_word, digits_not, digits_some}
 

@@ -1,6 +1,6 @@
 use Rattle.std.proofs.Common.{◌≡◌, ◌∙◌, ◌+◌, ◌-◌, ◌<◌, ◌≤◌, ◌^◌, ◌++◌, ap, arith, length, replicate, rules, take}
-use Rattle.version_rules.specs.Ends.{end_bytes}
-use Rattle.version_rules.specs.Key.{key_of}
+use Rattle.version_rules.specs.requirement.Ends.{end_bytes}
+use Rattle.version_rules.specs.key.Key.{key_of}
 use Rattle.version_texts.proofs.lemmas.Sinks.{appended}
 use Rattle.version_texts.specs.Sinks.{put_at}
 use Rattle.version_texts.specs.VersioningRef.{plain_versioning_ref}

@@ -1,5 +1,5 @@
 use Rattle.std.proofs.Common.{arith, refl}
-use Rattle.version_rules.specs.Key.{key_of}
+use Rattle.version_rules.specs.key.Key.{key_of}
 use Rattle.version_texts.proofs.lemmas.KeyRoom.Ends.{end_length}
 use Rattle.version_texts.proofs.lemmas.VersioningRef.{spelled}
 use Rattle.version_texts.specs.VersioningRef.{plain_versioning_ref}

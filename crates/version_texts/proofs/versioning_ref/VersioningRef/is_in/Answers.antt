@@ -3,9 +3,9 @@ use Rattle.std.proofs.Common.{◌≡◌, ◌∙◌, IfSome, ap, refl, sym}
 use Rattle.std.specs.Option.{option_map}
 use Rattle.std.specs.Ordering.{is_ge}
 use Rattle.std.specs.declared.cmp.Ordering.TheVariants.{Less}
-use Rattle.version_rules.specs.Key.{key_of}
-use Rattle.version_rules.specs.KeyBytes.{key_bytes}
-use Rattle.version_rules.specs.Lists.{bytes_cmp}
+use Rattle.version_rules.specs.key.Key.{key_of}
+use Rattle.version_rules.specs.key.KeyBytes.{key_bytes}
+use Rattle.version_rules.specs.order.Lists.{bytes_cmp}
 use Rattle.version_texts.specs.VersioningRef.{plain_versioning_ref}
 use Rattle.version_texts.proofs.lemmas.VersioningRef.{kind-is}
 use Rattle.version_texts.proofs.versioning_ref.VersioningRef.is_in.Answers.InRange.{from_low, ge_is, less_is, not_of_kind, too_high}

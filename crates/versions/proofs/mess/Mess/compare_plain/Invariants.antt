@@ -1,5 +1,5 @@
 use Rattle.std.proofs.Common.{◌≡◌}
-use Rattle.version_rules.specs.Mess.{mess_plain_cmp}
+use Rattle.version_rules.specs.grammar.Mess.{mess_plain_cmp}
 use Rattle.versions.specs.Mess.{plain_mess}
 use Rattle.versions.proofs.mess.Mess.compare_plain.Given as goal
 

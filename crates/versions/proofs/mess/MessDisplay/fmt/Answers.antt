@@ -3,8 +3,8 @@ use Rattle.std.proofs.Common.{◌≡◌, ◌∷◌, ◌++◌, [], append-nil, re
 use Rattle.std.proofs.lemmas.Grind.{put_three}
 use Rattle.std.specs.Fmt.{HasWritten}
 use Rattle.version_parts.specs.Sep.{plain_sep}
-use Rattle.version_rules.specs.Sep.{sep_byte}
-use Rattle.version_rules.specs.Mess.{joined_section}
+use Rattle.version_rules.specs.grammar.Sep.{sep_byte}
+use Rattle.version_rules.specs.grammar.Mess.{joined_section}
 use Rattle.versions.specs.Mess.{plain_mess}
 use Rattle.versions.proofs.lemmas.Mess.Flat.{ends, first_is, goes_on}
 use Rattle.versions.proofs.mess.MessDisplay.fmt.Answers.MessText.{written_next}

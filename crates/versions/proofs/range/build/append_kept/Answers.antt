@@ -1,8 +1,8 @@
 use Rattle.std.proofs.Common.{◌≡◌, ◌∙◌, ◌++◌, ◌∷◌, List, ℕ, Some, ap, append_assoc, refl, sym, true}
-use Rattle.version_rules.specs.Codes.{items_bytes}
-use Rattle.version_rules.specs.Ends.{kept_parts}
-use Rattle.version_rules.specs.PartKey.{PartKey, part_bytes}
-use Rattle.version_rules.specs.VersionMatch.{is_plain_zero}
+use Rattle.version_rules.specs.key.Codes.{items_bytes}
+use Rattle.version_rules.specs.requirement.Ends.{kept_parts}
+use Rattle.version_rules.specs.key.PartKey.{PartKey, part_bytes}
+use Rattle.version_rules.specs.requirement.VersionMatch.{is_plain_zero}
 use Rattle.version_rules.specs.declared.ends.Kept.{Kept}
 use Rattle.version_rules.specs.declared.ends.Kept.TheVariants.{All, ButLast, ThroughOther}
 use Rattle.versions.specs.BodyParts.{first_part, more_parts}

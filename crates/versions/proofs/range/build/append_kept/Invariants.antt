@@ -1,8 +1,8 @@
 use Rattle.std.proofs.Common.{◌≡◌, ◌∷◌, ◌++◌, length}
-use Rattle.version_rules.specs.Codes.{items_bytes}
-use Rattle.version_rules.specs.PartKey.{part_bytes}
+use Rattle.version_rules.specs.key.Codes.{items_bytes}
+use Rattle.version_rules.specs.key.PartKey.{part_bytes}
 use Rattle.versions.specs.BodyParts.{first_part, more_parts}
-use Rattle.version_rules.specs.Ends.{kept_parts}
+use Rattle.version_rules.specs.requirement.Ends.{kept_parts}
 use Rattle.versions.proofs.range.build.append_kept.Given as goal
 
 -- what is kept of the parts that are left remains to be appended

@@ -1,6 +1,6 @@
 use Rattle.std.proofs.Common.{◌≡◌, map, take}
 use Rattle.versions.specs.Range.{plain_range}
-use Rattle.version_rules.specs.Range.{range_of}
+use Rattle.version_rules.specs.requirement.Range.{range_of}
 use Rattle.versions.specs.Requirement.{plain_requirement}
 use Rattle.versions.proofs.requirements.Requirements.common_range.Given as goal
 

@@ -1,7 +1,7 @@
 use Rattle.std.proofs.Common.{Ok, Err}
 use Rattle.std.proofs.lemmas.Result.{err_from_is_err_and}
 use Rattle.versions.specs.Errors.{IllegalOp}
-use Rattle.version_rules.specs.Requirements.{SpellsRequirements, requirements_of, requirements_text}
+use Rattle.version_rules.specs.requirement.Requirements.{SpellsRequirements, requirements_of, requirements_text}
 use Rattle.versions.specs.Requirements.{plain_requirements}
 use Rattle.versions.proofs.lemmas.Json.{reads_json, written_again}
 use Rattle.version_rules.proofs.lemmas.Requirements.{requirements_of-spells, requirements_printed}

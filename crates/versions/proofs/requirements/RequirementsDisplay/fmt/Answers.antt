@@ -3,8 +3,8 @@ use Rattle.std.proofs.lemmas.Grind.{put_two}
 use Rattle.std.proofs.lemmas.List.{take_all}
 use Rattle.version_parts.proofs.lemmas.Lists.Printing.{joined}
 use Rattle.versions.specs.Requirement.{plain_requirement}
-use Rattle.version_rules.specs.Requirement.{requirement_text}
-use Rattle.version_rules.specs.Requirements.{comma}
+use Rattle.version_rules.specs.requirement.Requirement.{requirement_text}
+use Rattle.version_rules.specs.requirement.Requirements.{comma}
 use Rattle.versions.proofs.requirements.RequirementsDisplay.fmt.Goals as goal
 
 pub returns-clause-writes : goal.returns-clause-writes

@@ -1,8 +1,8 @@
 use Rattle.versions.proofs.lemmas.Errors.Answered.{along}
 use Rattle.versions.proofs.lemmas.Conversions.Key.{strict_as_messy}
 use Rattle.versions.proofs.lemmas.Conversions.Mess.{mess_of_semver_printed}
-use Rattle.version_rules.specs.Key.{key_of_mess, key_of_semver, precedence}
-use Rattle.version_rules.specs.Mess.{mess_text}
+use Rattle.version_rules.specs.key.Key.{key_of_mess, key_of_semver, precedence}
+use Rattle.version_rules.specs.grammar.Mess.{mess_text}
 use Rattle.versions.specs.Mess.{plain_mess}
 use Rattle.versions.specs.SemVer.{plain_semver}
 use Rattle.versions.proofs.semver.SemVer.to_mess.Goals as goal

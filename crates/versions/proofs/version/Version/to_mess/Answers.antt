@@ -1,8 +1,8 @@
 use Rattle.versions.proofs.lemmas.Errors.Answered.{along}
 use Rattle.versions.proofs.lemmas.Conversions.Key.{general_as_messy}
 use Rattle.versions.proofs.lemmas.Conversions.Mess.{mess_of_version_printed}
-use Rattle.version_rules.specs.Key.{key_of_mess, key_of_version, precedence}
-use Rattle.version_rules.specs.Mess.{mess_text}
+use Rattle.version_rules.specs.key.Key.{key_of_mess, key_of_version, precedence}
+use Rattle.version_rules.specs.grammar.Mess.{mess_text}
 use Rattle.versions.specs.Mess.{plain_mess}
 use Rattle.versions.specs.Version.{plain_version}
 use Rattle.versions.proofs.version.Version.to_mess.Goals as goal

@@ -1,7 +1,7 @@
 use Rattle.std.proofs.Common.{rules}
 use Rattle.std.proofs.lemmas.Result.{err_from_is_err_and}
 use Rattle.versions.specs.Errors.{IllegalVersioning}
-use Rattle.version_rules.specs.Versioning.{VersioningOwns, versioning_of}
+use Rattle.version_rules.specs.grammar.Versioning.{VersioningOwns, versioning_of}
 use Rattle.versions.specs.Versioning.{plain_versioning}
 use Rattle.versions.proofs.lemmas.Errors.FromText.{reads_or, reads_or-refused}
 use Rattle.versions.proofs.versioning.Versioning.from_str.Goals as goal

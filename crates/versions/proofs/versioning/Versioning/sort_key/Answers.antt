@@ -1,6 +1,6 @@
 mod SortKey
 use Rattle.versions.proofs.versioning.Versioning.sort_key.Answers.SortKey.{stays_apart}
-use Rattle.version_rules.specs.Key.{key_of}
+use Rattle.version_rules.specs.key.Key.{key_of}
 use Rattle.versions.specs.Versioning.{plain_versioning}
 use Rattle.versions.proofs.versioning.Versioning.sort_key.Goals as goal
 

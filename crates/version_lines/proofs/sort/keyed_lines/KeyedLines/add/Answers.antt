@@ -5,9 +5,9 @@ use Rattle.version_lines.specs.declared.sort.entry.Entry.{Entry}
 use Rattle.version_lines.specs.Entry.{entry_line, IsRead}
 use Rattle.version_lines.proofs.lemmas.KeyedLines.{stay_read}
 use Rattle.version_lines.proofs.lemmas.Entry.{in_turn-added, read-more}
-use Rattle.version_rules.specs.Key.{key_of}
-use Rattle.version_rules.specs.KeyBytes.{key_bytes}
-use Rattle.version_rules.specs.Versioning.{versioning_of}
+use Rattle.version_rules.specs.key.Key.{key_of}
+use Rattle.version_rules.specs.key.KeyBytes.{key_bytes}
+use Rattle.version_rules.specs.grammar.Versioning.{versioning_of}
 use Rattle.version_texts.specs.VersioningRef.{plain_versioning_ref}
 use Rattle.version_lines.proofs.sort.keyed_lines.KeyedLines.add.Goals as goal
 

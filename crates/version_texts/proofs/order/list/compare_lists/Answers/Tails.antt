@@ -4,11 +4,11 @@ use Rattle.std.proofs.lemmas.Bool.{cases_Bool, eqb-true}
 use Rattle.std.specs.List.{before_first, slice_split}
 use Rattle.std.specs.Ordering.{ordering_index, ordering_reverse, ordering_then}
 use Rattle.std.specs.declared.cmp.Ordering.TheVariants.{Less, Equal, Greater}
-use Rattle.version_rules.specs.Bytes.{dot}
-use Rattle.version_rules.specs.DigitRun.{starts_with_digit}
-use Rattle.version_rules.specs.Front.{begins}
-use Rattle.version_rules.specs.PartKey.{PartKey, list_cmp, part_cmp, part_key}
-use Rattle.version_rules.specs.Tail.{sections_cmp}
+use Rattle.version_rules.specs.grammar.Bytes.{dot}
+use Rattle.version_rules.specs.grammar.DigitRun.{starts_with_digit}
+use Rattle.version_rules.specs.grammar.Front.{begins}
+use Rattle.version_rules.specs.key.PartKey.{PartKey, list_cmp, part_cmp, part_key}
+use Rattle.version_rules.specs.key.Tail.{sections_cmp}
 use Rattle.version_rules.proofs.lemmas.Front.Runs.{begins-drop}
 use Rattle.version_texts.specs.declared.order.ends.Ends.{Ends}
 use Rattle.version_texts.proofs.lemmas.Piece.Ends.{digit_no_end, dot_no_sign, dot_or_sign}

@@ -3,8 +3,8 @@ use Rattle.std.proofs.Common.{◌≡◌, ◌∙◌, ◌+◌, ◌<◌, ◌≤◌,
 use Rattle.std.proofs.lemmas.Cmp.{tied_itself}
 use Rattle.std.proofs.lemmas.List.{map-append, take-append-drop, take_all}
 use Rattle.std.specs.declared.cmp.Ordering.TheVariants.{Equal}
-use Rattle.version_rules.specs.Bytes.{dot}
-use Rattle.version_rules.specs.PartKey.{PartKey, list_cmp, part_key}
+use Rattle.version_rules.specs.grammar.Bytes.{dot}
+use Rattle.version_rules.specs.key.PartKey.{PartKey, list_cmp, part_key}
 use Rattle.version_rules.specs.laws.Part.{list_total, part_total}
 use Rattle.version_texts.proofs.lemmas.General.Splits.{split-append}
 use Rattle.version_texts.specs.Piece.{is_dot}

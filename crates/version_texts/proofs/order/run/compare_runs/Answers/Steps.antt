@@ -6,8 +6,8 @@ use Rattle.std.proofs.lemmas.List.{length-drop, take_all}
 use Rattle.std.specs.List.{prefix_len, take_while}
 use Rattle.std.specs.Ordering.{nat_cmp, ordering_then}
 use Rattle.std.specs.declared.cmp.Ordering.TheVariants.{Less, Equal, Greater}
-use Rattle.version_rules.specs.Front.{begins}
-use Rattle.version_rules.specs.Lists.{bytes_cmp}
+use Rattle.version_rules.specs.grammar.Front.{begins}
+use Rattle.version_rules.specs.order.Lists.{bytes_cmp}
 use Rattle.version_texts.proofs.lemmas.General.Runs.{run_cons, run_none}
 use Rattle.version_texts.proofs.lemmas.Shape.Section.{begins_within}
 use Rattle.version_texts.proofs.lemmas.TextKind.Messy.{at_byte}

@@ -1,8 +1,8 @@
 -- A messy version printed, section by section.
 use Rattle.std.proofs.Common.{◌≡◌, ◌∙◌, ℕ, List, [], ◌∷◌, ◌++◌, append_assoc}
 use Rattle.std.specs.List.{flat_map}
-use Rattle.version_rules.specs.Sep.{sep_byte}
-use Rattle.version_rules.specs.Mess.{Further, further_text, joined_section}
+use Rattle.version_rules.specs.grammar.Sep.{sep_byte}
+use Rattle.version_rules.specs.grammar.Mess.{Further, further_text, joined_section}
 
 -- one more further section is written: its sign, and its chunks
 pub written_next : (written : List ℕ) (one : Further) (more : List Further) (all : List ℕ)

@@ -2,10 +2,10 @@
 use Rattle.std.proofs.Common.{◌<◌, ℕ, List, length, map, get_or, arith, subst}
 use Rattle.std.proofs.lemmas.List.{get_or-map, length-map}
 use Rattle.versions.specs.declared.requirement.Requirement.{Requirement}
-use Rattle.version_rules.specs.Matching.{Matches, MatchesAll}
-use Rattle.version_rules.specs.Requirement.{PlainRequirement}
+use Rattle.version_rules.specs.requirement.Matching.{Matches, MatchesAll}
+use Rattle.version_rules.specs.requirement.Requirement.{PlainRequirement}
 use Rattle.versions.specs.Requirement.{plain_requirement}
-use Rattle.version_rules.specs.Versioning.{PlainVersioning}
+use Rattle.version_rules.specs.grammar.Versioning.{PlainVersioning}
 
 -- if all members match a version, so does the member at a place
 pub member : (list : List Requirement) (v : PlainVersioning) (n : ℕ) (d : Requirement)

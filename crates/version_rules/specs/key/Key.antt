@@ -1,0 +1,107 @@
+-- The key of a version of any kind, and precedence: the one order of all versions.
+use Rattle.std.specs.Prelude.{ℕ, List, [], ◌∷◌, ◌++◌, map, if◌then◌else◌, Option, Some, None}
+use Rattle.std.specs.Option.{option_map_or, unwrap_or}
+use Rattle.std.specs.Ordering.{nat_cmp, on, then_cmp}
+use Rattle.std.specs.Str.Parse.{digits_value}
+use Rattle.std.specs.declared.cmp.Ordering.{Ordering}
+use Rattle.version_rules.specs.grammar.DigitRun.{is_digits}
+use Rattle.version_rules.specs.grammar.Last.{last_text}
+use Rattle.version_rules.specs.grammar.MChunk.{PlainMChunk, mchunk_text}
+use Rattle.version_rules.specs.key.PartKey.{PartKey, Number, chunk_parts, list_cmp, part_key, section_parts}
+use Rattle.version_rules.specs.grammar.Mess.{PlainMess}
+use Rattle.version_rules.specs.grammar.Sep.{PlainSep, Colon}
+use Rattle.version_rules.specs.grammar.SemVer.{PlainSemVer}
+use Rattle.version_rules.specs.key.Tail.{Tail, PreReleased, Bare, Released, Sections, tail_cmp}
+use Rattle.version_rules.specs.grammar.Version.{PlainVersion}
+use Rattle.version_rules.specs.grammar.Versioning.{PlainVersioning, Ideal, General, Complex}
+
+-- what versions are compared by
+pub record Key : Type 0 where
+  pub epoch : ℕ
+  pub body : List PartKey
+  pub tail : Tail
+
+-- how two keys compare: by epoch, then by body, then by tail
+abbrev pub precedence : Key → Key → Ordering
+precedence =
+    then_cmp (on (λ (k : Key). k.epoch) nat_cmp)
+    (then_cmp (on (λ (k : Key). k.body) list_cmp)
+    (on (λ (k : Key). k.tail) tail_cmp))
+
+-- a plain number
+abbrev pub plain : ℕ → PartKey
+plain n = Number n None
+
+-- the body of a strict version: its three numbers
+abbrev pub strict_body : ℕ → ℕ → ℕ → List PartKey
+strict_body major minor patch = plain major ∷ plain minor ∷ plain patch ∷ []
+
+-- the key of a strict version: its three numbers, then its pre-release
+abbrev pub key_of_semver : PlainSemVer → Key
+key_of_semver v = record {
+  epoch = 0;
+  body = strict_body v.major v.minor v.patch;
+  tail = option_map_or PreReleased v.pre_rel Bare;
+}
+
+-- the key of a general version: its epoch, or 0 without one, its chunks and its last part, then its
+-- release
+abbrev pub key_of_version : PlainVersion → Key
+key_of_version v = record {
+  epoch = unwrap_or v.epoch 0;
+  body = chunk_parts v.chunks ++ part_key (last_text v.last) ∷ [];
+  tail = option_map_or Released v.release Bare;
+}
+
+-- the tail of the sections after the body
+abbrev pub sections_tail : List (PlainSep × List PlainMChunk) → Tail
+sections_tail [] = Bare
+sections_tail (section ∷ more) =
+    Sections (section_parts section.1) (map (λ further. section_parts further.1) more)
+
+-- the epoch of a first section that a colon follows: one chunk of digits
+abbrev pub section_epoch : List PlainMChunk → Option ℕ
+section_epoch (chunk ∷ []) =
+    if is_digits (mchunk_text chunk) then Some (digits_value 10 (mchunk_text chunk)) else None
+section_epoch chunks = None
+
+-- the key of sections whose first is the body
+abbrev pub key_of_sections : ℕ → List PlainMChunk → List (PlainSep × List PlainMChunk) → Key
+key_of_sections epoch body more =
+    record { epoch = epoch; body = section_parts body; tail = sections_tail more }
+
+-- the key of sections as a messy version, after an epoch
+abbrev pub key_with_epoch : ℕ → PlainMess → Key
+key_with_epoch epoch m = key_of_sections epoch m.first m.more
+
+-- a first section that may be the epoch is the epoch if a colon follows; otherwise it is the body,
+-- and the epoch is 0
+abbrev pub key_behind_epoch : Option ℕ → List PlainMChunk → List (PlainSep × List PlainMChunk) → Key
+key_behind_epoch (Some epoch) first ((Colon, body) ∷ more) = key_of_sections epoch body more
+key_behind_epoch may_be_epoch first more = key_of_sections 0 first more
+
+-- the key of a first section, which may be the epoch, and of the sections after it
+abbrev pub key_from_first : List PlainMChunk → List (PlainSep × List PlainMChunk) → Key
+key_from_first first more = key_behind_epoch (section_epoch first) first more
+
+-- the key of a messy version: its epoch, the section after it, then the further sections; other
+-- signs do not count
+abbrev pub key_of_mess : PlainMess → Key
+key_of_mess m = key_from_first m.first m.more
+
+-- the key of a version of any kind
+abbrev pub key_of : PlainVersioning → Key
+key_of (Ideal v) = key_of_semver v
+key_of (General v) = key_of_version v
+key_of (Complex m) = key_of_mess m
+
+-- the epoch of a messy version: its first section, if it may be the epoch and a colon follows
+abbrev pub mess_epoch : List PlainMChunk → List (PlainSep × List PlainMChunk) → Option ℕ
+mess_epoch first ((Colon, body) ∷ more) = section_epoch first
+mess_epoch first more = None
+
+-- the epoch that counts in the order, if the version has one; a strict version has none
+abbrev pub versioning_epoch : PlainVersioning → Option ℕ
+versioning_epoch (Ideal v) = None
+versioning_epoch (General v) = v.epoch
+versioning_epoch (Complex m) = mess_epoch m.first m.more

@@ -1,0 +1,32 @@
+-- The order of releases (SemVer 2.0, section 11), and their bytes.
+use Rattle.std.specs.Prelude.{ℕ, List, [], ◌∷◌, Option, Some, None}
+use Rattle.std.specs.Cmp.Lexicographic.{slice_cmp}
+use Rattle.std.specs.Ordering.{nat_cmp}
+use Rattle.std.specs.declared.cmp.Ordering.{Ordering}
+use Rattle.std.specs.declared.cmp.Ordering.TheVariants.{Less, Greater}
+use Rattle.version_rules.specs.grammar.Chunk.{PlainChunk, Numeric, Alphanum}
+use Rattle.version_rules.specs.key.Codes.{list_bytes}
+use Rattle.version_rules.specs.order.Lists.{bytes_cmp}
+use Rattle.version_rules.specs.key.NumberBytes.{number_bytes}
+use Rattle.version_rules.specs.key.TextBytes.{text_bytes}
+
+-- two chunks: numbers by value, numbers before texts, texts by bytes
+abbrev pub chunk_cmp : PlainChunk → PlainChunk → Ordering
+chunk_cmp (Numeric m) (Numeric n) = nat_cmp m n
+chunk_cmp (Numeric m) (Alphanum t) = Less
+chunk_cmp (Alphanum s) (Numeric n) = Greater
+chunk_cmp (Alphanum s) (Alphanum t) = bytes_cmp s t
+
+-- two releases: chunk by chunk, a prefix before the longer one
+abbrev pub release_cmp : List PlainChunk → List PlainChunk → Ordering
+release_cmp = slice_cmp chunk_cmp
+
+-- the bytes of a chunk: 2 and the number, or 3 and the text; the end of a release is 1
+abbrev pub chunk_bytes : Option PlainChunk → List ℕ
+chunk_bytes None = 1 ∷ []
+chunk_bytes (Some (Numeric n)) = 2 ∷ number_bytes n
+chunk_bytes (Some (Alphanum t)) = 3 ∷ text_bytes t
+
+-- the bytes of a release, and of its end
+abbrev pub release_bytes : List PlainChunk → List ℕ
+release_bytes = list_bytes chunk_bytes

@@ -1,0 +1,183 @@
+-- The range of keys that a requirement, or a list of them, asks for.
+use Rattle.std.specs.Prelude.{◌≡◌, ℕ, Bool, true, false, ◌&&◌, IsTrue, IfSome, List, [], ◌∷◌, ◌++◌, fold, if◌then◌else◌, Option, Some, None}
+use Rattle.std.specs.Option.{option_map_or}
+use Rattle.std.specs.Ordering.{is_lt}
+use Rattle.std.specs.declared.cmp.Ordering.TheVariants.{Less}
+use Rattle.version_rules.specs.key.Codes.{items_bytes}
+use Rattle.version_rules.specs.order.Lists.{bytes_cmp, split_last}
+use Rattle.version_rules.specs.key.NumberBytes.{number_bytes}
+use Rattle.version_rules.specs.key.PartKey.{PartKey, part_bytes}
+use Rattle.version_rules.specs.declared.kind.Kind.{Kind}
+use Rattle.version_rules.specs.declared.op.Op.{Op}
+use Rattle.version_rules.specs.declared.op.Op.TheVariants.{Exact, Greater, GreaterEq, Less as LessThan, LessEq, Tilde, Caret, Wildcard}
+use Rattle.version_rules.specs.declared.kinds.Kinds.{Kinds}
+use Rattle.version_rules.specs.key.Key.{key_of}
+use Rattle.version_rules.specs.key.KeyBytes.{key_bytes}
+use Rattle.version_rules.specs.grammar.Kind.{versioning_kind}
+use Rattle.version_rules.specs.requirement.Requirement.{PlainRequirement}
+use Rattle.version_rules.specs.requirement.VersionMatch.{is_plain_zero}
+use Rattle.version_rules.specs.grammar.Versioning.{PlainVersioning, Complex}
+use Rattle.version_rules.specs.declared.kind.Kind.TheVariants as kind
+
+-- keys from a low bound up to a high one, which may be missing, of versions of some kinds; if it is
+-- exact, all these versions match
+pub record PlainRange : Type 0 where
+  pub low : List ℕ
+  pub high : Option (List ℕ)
+  pub kinds : Kinds
+  pub is_exact : Bool
+
+abbrev pub all_kinds : Kinds
+all_kinds = record { ideal = true; general = true; complex = true }
+
+abbrev pub no_kinds : Kinds
+no_kinds = record { ideal = false; general = false; complex = false }
+
+-- a kind alone
+abbrev pub kind_alone : Kind → Kinds
+kind_alone kind.Ideal = record { ideal = true; general = false; complex = false }
+kind_alone kind.General = record { ideal = false; general = true; complex = false }
+kind_alone kind.Complex = record { ideal = false; general = false; complex = true }
+
+-- whether a kind is one of them
+abbrev pub has_kind : Kinds → Kind → Bool
+has_kind kinds kind.Ideal = kinds.ideal
+has_kind kinds kind.General = kinds.general
+has_kind kinds kind.Complex = kinds.complex
+
+-- the kinds that are in both
+abbrev pub common_kinds : Kinds → Kinds → Kinds
+common_kinds a b =
+    record {
+      ideal =
+          a.ideal && b.ideal;
+      general = a.general && b.general;
+      complex = a.complex && b.complex;
+    }
+
+-- bytes that are not below the low bound, and below the high one, if there is one
+pub record AreBetween (low : List ℕ) (high : Option (List ℕ)) (bytes : List ℕ) : Type 0 where
+  pub from_low : ¬ (bytes_cmp bytes low ≡ Less)
+  pub below_high : IfSome high (λ bound. bytes_cmp bytes bound ≡ Less)
+
+-- The version is in the range: its key lies between the bounds, and its kind is one of the kinds.
+pub record IsIn (range : PlainRange) (v : PlainVersioning) : Type 0 where
+  pub between : AreBetween range.low range.high (key_bytes (key_of v))
+  pub of_kind : IsTrue (has_kind range.kinds (versioning_kind v))
+
+-- the range of every version
+abbrev pub everything : PlainRange
+everything = record { low = []; high = None; kinds = all_kinds; is_exact = true }
+
+-- a range of no version
+abbrev pub nothing : PlainRange
+nothing = record { low = 0 ∷ []; high = Some (0 ∷ []); kinds = no_kinds; is_exact = true }
+
+-- the bytes of a version's key
+abbrev pub bytes_of : PlainVersioning → List ℕ
+bytes_of v = key_bytes (key_of v)
+
+-- the next bytes after those of a key: no key is a prefix of another, so every later key is above
+-- them
+abbrev pub after : List ℕ → List ℕ
+after key = key ++ 0 ∷ []
+
+-- the bytes that the keys of an epoch begin with if their bodies begin with some parts
+abbrev pub begun : ℕ → List PartKey → List ℕ
+begun epoch parts = number_bytes epoch ++ items_bytes part_bytes parts
+
+-- above every such key: after the parts a key has 1, 2 or 3
+abbrev pub above_begun : ℕ → List PartKey → List ℕ
+above_begun epoch parts = begun epoch parts ++ 4 ∷ []
+
+-- the parts before the last one
+abbrev pub but_last : List PartKey → List PartKey
+but_last parts = option_map_or (λ split. split.0) (split_last parts) []
+
+-- the parts through the first one that is not a plain zero, or all if each is one
+abbrev pub through_other : List PartKey → List PartKey
+through_other [] = []
+through_other (part ∷ parts) = part ∷ (if is_plain_zero part then through_other parts else [])
+
+-- whether a kind is the strict one
+abbrev pub is_strict : Kind → Bool
+is_strict kind.Ideal = true
+is_strict kind.General = false
+is_strict kind.Complex = false
+
+-- versions of a version's own kind whose epoch and kept parts are the same, and whose parts are not
+-- below its own
+abbrev pub alike_from : (List PartKey → List PartKey) → PlainVersioning → PlainRange
+alike_from kept v = record {
+  low = begun (key_of v).epoch (key_of v).body;
+  high = Some (above_begun (key_of v).epoch (kept (key_of v).body));
+  kinds = kind_alone (versioning_kind v);
+  is_exact = is_strict (versioning_kind v);
+}
+
+-- what `~` or `^` asks for, by the parts that they keep: with a messy version they match nothing
+abbrev pub series_range : (List PartKey → List PartKey) → PlainVersioning → PlainRange
+series_range kept (Complex m) = nothing
+series_range kept v = alike_from kept v
+
+-- the range that an operator with a version asks for
+abbrev pub op_range : Op → PlainVersioning → PlainRange
+op_range Exact v =
+    record {
+      low =
+          bytes_of v;
+      high =
+          Some (after (bytes_of v));
+      kinds =
+          kind_alone (versioning_kind v);
+      is_exact = is_strict (versioning_kind v);
+    }
+op_range Greater v =
+    record { low = after (bytes_of v); high = None; kinds = all_kinds; is_exact = true }
+op_range GreaterEq v = record { low = bytes_of v; high = None; kinds = all_kinds; is_exact = true }
+op_range LessThan v =
+    record { low = []; high = Some (bytes_of v); kinds = all_kinds; is_exact = true }
+op_range LessEq v =
+    record { low = []; high = Some (after (bytes_of v)); kinds = all_kinds; is_exact = true }
+op_range Tilde v = series_range but_last v
+op_range Caret v = series_range through_other v
+op_range Wildcard v = everything
+
+-- the same without a version: `*` asks for every version, any other operator for none
+abbrev pub range_without_version : Op → PlainRange
+range_without_version Wildcard = everything
+range_without_version op = nothing
+
+-- the range that a requirement asks for
+abbrev pub requirement_range : PlainRequirement → PlainRange
+requirement_range r = option_map_or (op_range r.op) r.version (range_without_version r.op)
+
+-- the later of two lists of bytes, and the earlier one
+abbrev pub later : List ℕ → List ℕ → List ℕ
+later a b = if is_lt (bytes_cmp a b) then b else a
+
+abbrev pub earlier : List ℕ → List ℕ → List ℕ
+earlier a b = if is_lt (bytes_cmp b a) then b else a
+
+-- the earlier of two high bounds; a missing one is above all
+abbrev pub earlier_high : Option (List ℕ) → Option (List ℕ) → Option (List ℕ)
+earlier_high None b = b
+earlier_high (Some a) None = Some a
+earlier_high (Some a) (Some b) = Some (earlier a b)
+
+-- what is in two ranges: from the later low, up to the earlier high, of the kinds in both; exact if
+-- both are
+abbrev pub common : PlainRange → PlainRange → PlainRange
+common a b = record {
+  low =
+      later a.low b.low;
+  high =
+      earlier_high a.high b.high;
+  kinds =
+      common_kinds a.kinds b.kinds;
+  is_exact = a.is_exact && b.is_exact;
+}
+
+-- the range that a list asks for: what is in the range of each member
+abbrev pub range_of : List PlainRequirement → PlainRange
+range_of list = fold (λ range r. common range (requirement_range r)) everything list

@@ -1,0 +1,27 @@
+use Rattle.std.proofs.Common.{◌≡◌, inr, subst}
+use Rattle.version_rules.specs.requirement.Range.{common_kinds, no_kinds, requirement_range}
+use Rattle.version_rules.specs.requirement.Requirements.{requirements_of}
+use Rattle.version_rules.specs.declared.kind.Kind.TheVariants.{Ideal}
+use Rattle.version_texts.proofs.lemmas.Empty.{no_kind_left}
+use Rattle.version_texts.proofs.requirement.conflict.of_other_kinds.Goals as goal
+
+pub failing-requires : goal.failing-requires
+failing-requires c = no_kind_left Ideal (requirements_of c.args.list.now) c.requires
+
+pub failing-requires-2 : goal.failing-requires-2
+failing-requires-2 c =
+    no_kind_left c.kind_of_one-kind.result (requirements_of c.args.list.now) c.requires
+
+pub returns : goal.returns
+returns c =
+    let one = c.in_ok-one.ensures in
+    let other = c.in_ok-other.ensures in
+    let kinds = (requirement_range other.requirement).kinds in
+    record {
+      one = one.requirement;
+      other = other.requirement;
+      one_is = one.is;
+      other_is = other.is;
+      empty = inr (subst (λ range. common_kinds range.kinds kinds ≡ no_kinds) one.range_is
+          (c.kind_of_one-kind.ensures kinds other.fails));
+    }

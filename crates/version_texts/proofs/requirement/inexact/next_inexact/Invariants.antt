@@ -1,0 +1,12 @@
+use Rattle.std.proofs.Common.{◌≡◌, length}
+use Rattle.version_texts.specs.Inexact.{inexact_pieces}
+use Rattle.version_texts.specs.Members.{pieces_of}
+use Rattle.version_texts.proofs.requirement.inexact.next_inexact.Given as goal
+
+-- none of the pieces so far is one
+abbrev pub invariant-loop-member : goal.invariant-loop-member
+invariant-loop-member l =
+    inexact_pieces (pieces_of l.members.left) ≡ inexact_pieces (pieces_of l.fn.members.left)
+
+abbrev pub decreases-loop-member : goal.decreases-loop-member
+decreases-loop-member l = length (pieces_of l.members.left)

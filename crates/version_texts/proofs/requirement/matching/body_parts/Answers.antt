@@ -1,0 +1,7 @@
+use Rattle.std.proofs.Common.{sym}
+use Rattle.version_texts.proofs.lemmas.Parts.{parts_begin}
+use Rattle.version_texts.specs.Shape.{body_in}
+use Rattle.version_texts.proofs.requirement.matching.body_parts.Goals as goal
+
+pub returns : goal.returns
+returns c = sym (parts_begin (body_in c.args.text.now c.args.shape))

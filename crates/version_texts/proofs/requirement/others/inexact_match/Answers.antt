@@ -1,0 +1,42 @@
+use Rattle.std.proofs.Common.{◌∙◌, refl, sym}
+use Rattle.version_rules.proofs.lemmas.Range.{requirement_exact}
+use Rattle.version_rules.proofs.lemmas.RequirementsRef.{first_decides}
+use Rattle.version_texts.proofs.lemmas.RangeRef.{next_decides}
+use Rattle.version_texts.proofs.lemmas.RequirementsRef.Members.{list_split}
+use Rattle.version_texts.specs.Members.{list_of, pieces_of}
+use Rattle.version_texts.specs.RequirementRef.{plain_requirement_ref}
+use Rattle.version_texts.specs.VersioningRef.{plain_versioning_ref}
+use Rattle.version_texts.proofs.requirement.others.inexact_match.Goals.{else-not-is_exact-via-else-not-is_exact, else-not-is_exact-via-then-not-is_exact+else-not-matches}
+use Rattle.version_texts.proofs.requirement.others.inexact_match.Goals as goal
+
+pub returns-then-not-matches : goal.returns-then-not-matches
+returns-then-not-matches c =
+    let v = plain_versioning_ref c.args.version.now in
+    let r = plain_requirement_ref c.in-Some-from_bytes.member in
+    let next = pieces_of c.next.new.self.left in
+    let split = list_split (pieces_of c.loop-member.members.left) next c.in-Some.member.now r
+    c.in-Some.ensures.some c.in-Some-from_bytes.ensures in
+    let fails = first_decides v r (list_of next) (λ asks. cc (c.if-not-matches.ensures.1 asks)) in
+    (λ yes. cc yes, λ asked. absurd (fails (rw split at c.loop-member.invariant.asks.1 asked)))
+
+pub loop-member-preserved : goal.loop-member-preserved
+loop-member-preserved c =
+    let v = plain_versioning_ref c.args.version.now in
+    let r = plain_requirement_ref c.in-Some-from_bytes.member in
+    let next = pieces_of c.next.new.self.left in
+    let split = list_split (pieces_of c.loop-member.members.left) next c.in-Some.member.now r
+    c.in-Some.ensures.some c.in-Some-from_bytes.ensures in
+    let before = rw split at c.loop-member.invariant in
+    let step = next_decides v r (list_of next) before.inside (elim c.else-not-is_exact.branch [
+      | else-not-is_exact-via-then-not-is_exact+else-not-matches w ↦
+          λ inside. w.if-not-matches.ensures.0 refl
+      | else-not-is_exact-via-else-not-is_exact w ↦ requirement_exact r v
+          (sym c.is_exact.ensures ∙ w.if-not-is_exact.false)
+    ]) in
+    record {
+      asks = (
+        λ asked. before.asks.0 (step.0.1 asked),
+        λ asked. step.0.0 (before.asks.1 asked),
+      );
+      inside = step.1;
+    }

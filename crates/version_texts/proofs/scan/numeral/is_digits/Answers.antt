@@ -1,0 +1,10 @@
+use Rattle.std.proofs.Common.{◌==◌, ◌∙◌, ℕ, List, ap, length}
+use Rattle.std.specs.Char.{is_ascii_digit}
+use Rattle.version_texts.proofs.lemmas.TextKey.DotPieces.{is_run}
+use Rattle.version_texts.proofs.scan.numeral.is_digits.Goals as goal
+
+pub returns-then-begins_with : goal.returns-then-begins_with
+returns-then-begins_with c =
+    rw (← c.if-begins_with.ensures)
+    (c.is_empty.ensures ∙ ap (λ (l : List ℕ). length l == 0) c.split_run.ensures.rest
+    ∙ is_run is_ascii_digit c.args.text.now)

@@ -1,0 +1,69 @@
+//! The members of a list of requirements that its range leaves open.
+
+ghost use Rattle.std.specs.Prelude.{◌≡◌, ◌∷◌, [], IfNone, IfSome, length};
+ghost use Rattle.std.specs.List.{join_with_byte};
+ghost use Rattle.version_rules.specs.requirement.Requirements.{comma};
+ghost use Rattle.version_texts.specs.Inexact.{inexact_part, inexact_pieces, is_inexact};
+ghost use Rattle.version_texts.specs.Members.{cut_at_commas, pieces_of};
+ghost use Rattle.version_texts.specs.Sinks.{saturated, IsWritten};
+
+use crate::key::sink::{Sink, put_all};
+use crate::key::sinks::{Count, Room};
+use crate::requirement::members::Members;
+use crate::requirement::requirement_ref::RequirementRef;
+
+/// Writes the members of a list that need not match each version in their range, joined by commas, into a buffer, if
+/// they fit there. Returns how many bytes they are. For a version in the range of the list these members decide. Does
+/// not allocate.
+pub fn write_inexact(list: &[u8], room: &mut [u8]) -> usize
+    ensures bytes { IsWritten room.old 0 (inexact_part list.now) room.new }
+    ensures length { result ≡ saturated (length (inexact_part list.now)) }
+{
+    let mut count = Count { length: 0 };
+    put_inexact(&mut count, list);
+    let length = count.length();
+    if length <= room.len() {
+        put_inexact(&mut Room { room, end: 0 }, list);
+    }
+    length
+}
+
+// Writes these members, joined by commas.
+fn put_inexact<S: Sink>(sink: &mut S, list: &[u8])
+    requires { S.fits sink.old (inexact_part list.now) }
+    ensures { S.takes sink.old (inexact_part list.now) sink.new }
+{
+    let mut members = Members::of(list);
+    let Some(first) = next_inexact(&mut members) else {
+        return;
+    };
+    put_all(sink, first);
+    while let Some(member) = next_inexact(&mut members) {
+        sink.put(b',');
+        put_all(sink, member);
+    }
+}
+
+// Returns the next of these members, or None if none is left.
+fn next_inexact<'a>(members: &mut Members<'a>) -> Option<&'a [u8]>
+    ensures some { IfSome result (λ piece. inexact_pieces (pieces_of members.old.left)
+        ≡ piece.now ∷ inexact_pieces (pieces_of members.new.left)) }
+    ensures none { IfNone result (inexact_pieces (pieces_of members.old.left) ≡ []) }
+{
+    while let Some(member) = members.next() {
+        if is_inexact(member) {
+            return Some(member);
+        }
+    }
+    None
+}
+
+// Returns whether a piece is one of these members.
+fn is_inexact(piece: &[u8]) -> bool
+    ensures { result ≡ is_inexact piece.now }
+{
+    match RequirementRef::from_bytes(piece) {
+        Some(member) => !member.is_exact(),
+        None => false,
+    }
+}

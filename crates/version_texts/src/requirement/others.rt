@@ -1,0 +1,66 @@
+//! Members of a list of requirements, by the range that they ask for together.
+
+ghost use Rattle.std.specs.Prelude.{◌≡◌, ◌↔◌, IfSome, IsTrue, Some};
+ghost use Rattle.std.specs.List.{All};
+ghost use Rattle.std.specs.Option.{is_some, option_map, IsSomeAnd};
+ghost use Rattle.version_rules.specs.requirement.Matching.{MatchesAll};
+ghost use Rattle.version_rules.specs.requirement.Range.{range_of, requirement_range, IsIn};
+ghost use Rattle.version_rules.specs.requirement.Requirements.{requirements_of};
+ghost use Rattle.version_texts.specs.RangeRef.{plain_range_ref};
+ghost use Rattle.version_texts.specs.VersioningRef.{plain_versioning_ref};
+
+use crate::requirement::members::Members;
+use crate::requirement::range_ref::RangeRef;
+use crate::requirement::requirement_ref::RequirementRef;
+use crate::versioning_ref::VersioningRef;
+
+/// Members of a list: their text, and the range that they ask for together.
+#[derive(Clone, Copy)]
+pub(crate) struct Others<'a> {
+    text: &'a [u8],
+    range: RangeRef<'a>,
+    ghost read: { option_map range_of (requirements_of text.now) ≡ Some (plain_range_ref range) },
+}
+
+impl<'a> Others<'a> {
+    ghost use Rattle.version_texts.specs.Others.{held_members};
+
+    // Parses a text as members, or returns None if it does not parse.
+    // Not inlined, like `matches`: lists of few members then have no cost of it.
+    #[inline(never)]
+    pub fn from_bytes(text: &'a [u8]) -> Option<Others<'a>>
+        ensures { option_map held_members result ≡ requirements_of text.now }
+    {
+        let range = RangeRef::from_bytes(text)?;
+        Some(Others { text, range })
+    }
+
+    // Returns whether each member matches a version. Only a version in the range can match, and there only members that
+    // aren't exact are asked.
+    #[inline(never)]
+    pub fn matches(&self, version: &VersioningRef<'_>) -> bool
+        ensures { IsTrue result
+            ↔ MatchesAll (held_members self.now) (plain_versioning_ref version.now) }
+    {
+        self.range.has(version) && (self.range.is_exact || inexact_match(self.text, version))
+    }
+}
+
+// Returns whether each member of a text matches a version that is in the range of each.
+fn inexact_match(text: &[u8], version: &VersioningRef<'_>) -> bool
+    requires { IfSome (requirements_of text.now)
+        (All (λ r. IsIn (requirement_range r) (plain_versioning_ref version.now))) }
+    ensures { IsTrue result ↔ IsSomeAnd (requirements_of text.now)
+        (λ list. MatchesAll list (plain_versioning_ref version.now)) }
+{
+    let mut members = Members::of(text);
+    while let Some(member) = members.next() {
+        let Some(member) = RequirementRef::from_bytes(member) else {
+            return false;
+        };
+        if !member.is_exact() && !member.matches(version) {
+            return false;
+        }
+    }
+    true
+}

@@ -1,0 +1,84 @@
+//! Digits of value below 2 ^ 32. A numeral has no leading zero.
+
+ghost use Rattle.std.specs.Prelude.{◌≡◌, ◌^◌, None, Some, if◌then◌else◌, nat_lt, true};
+ghost use Rattle.std.specs.Str.Parse.{digits_value};
+ghost use Rattle.version_rules.specs.grammar.DigitRun.{is_digits};
+ghost use Rattle.version_rules.specs.grammar.MChunk.{value_of_digits};
+ghost use Rattle.version_texts.specs.Numbers.{numeral_value};
+ghost use Rattle.version_texts.specs.TextKind.{is_numeral};
+
+use crate::scan::class::{Class, begins_with, split_run};
+
+/// Returns whether digits are a numeral.
+#[inline(always)]
+pub fn is_numeral(digits: &[u8]) -> bool
+    requires { is_digits digits.now ≡ true }
+    ensures { result ≡ is_numeral digits.now }
+{
+    digits.len() == 1 || (digits[0] != b'0' && is_below_limit(digits))
+}
+
+// Returns whether the value of digits is below 2 ^ 32. That of nine digits is.
+#[inline(always)]
+fn is_below_limit(digits: &[u8]) -> bool
+    requires { is_digits digits.now ≡ true }
+    ensures { result ≡ nat_lt (digits_value 10 digits.now) (2 ^ 32) }
+{
+    digits.len() < 10 || value_below_limit(digits).is_some()
+}
+
+// Returns the value of digits if it is below 2 ^ 32. Few versions have the ten digits that need this call in a scan,
+// so it is not inlined.
+#[inline(never)]
+fn value_below_limit(digits: &[u8]) -> Option<u32>
+    requires { is_digits digits.now ≡ true }
+    ensures { result
+        ≡ (if nat_lt (digits_value 10 digits.now) (2 ^ 32) then Some (digits_value 10 digits.now)
+        else None) }
+{
+    let mut value: u64 = 0;
+    for digit in digits {
+        value = value * 10 + u64::from(*digit - b'0');
+        if value >= 0x1_0000_0000 {
+            return None;
+        }
+    }
+    Some(value as u32)
+}
+
+/// Returns the value of a text of digits if it is below 2 ^ 32, and None for any other text.
+pub fn small_number(text: &[u8]) -> Option<u32>
+    ensures { result ≡ value_of_digits text.now }
+{
+    if is_digits(text) {
+        value_below_limit(text)
+    } else {
+        None
+    }
+}
+
+/// Returns whether a text is a numeral.
+pub fn spells_numeral(text: &[u8]) -> bool
+    ensures { result ≡ is_numeral text.now }
+{
+    is_digits(text) && is_numeral(text)
+}
+
+/// Returns the value of a numeral, and None for any other text.
+pub fn numeral_value(text: &[u8]) -> Option<u32>
+    ensures { result ≡ numeral_value text.now }
+{
+    if is_digits(text) && is_numeral(text) {
+        value_below_limit(text)
+    } else {
+        None
+    }
+}
+
+/// Returns whether a text is digits, one or more. Does not allocate.
+pub fn is_digits(text: &[u8]) -> bool
+    ensures { result ≡ is_digits text.now }
+{
+    let (_, rest) = split_run(text, Class::Digit);
+    begins_with(text, Class::Digit) && rest.is_empty()
+}
