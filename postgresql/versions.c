@@ -345,26 +345,26 @@ FUNCTIONS(version_next) {
   PG_RETURN_TEXT_P(next);
 }
 
-/* Why a version does not match a list, in a sentence; without the room for it the length alone. Returns the status. */
-static int why_not(Span list, Span version, char *why, size_t room, size_t *len) {
-  return versions_why_text(list.bytes, list.len, version.bytes, version.len, why, room, len);
-}
-
-/* That sentence, of a length that was told. */
-static Datum sentence(Span list, Span version, size_t len) {
+/* Why a version does not match a list, a sentence, if the status says that there is one. */
+static Datum why_not(Span list, Span version, int *status) {
+  size_t len = 256;
   text *why = palloc(VARHDRSZ + len);
+  *status = versions_why_text(list.bytes, list.len, version.bytes, version.len, VARDATA(why), len, &len);
+  if (*status == VERSIONS_NO_ROOM) {
+    why = repalloc(why, VARHDRSZ + len);
+    *status = versions_why_text(list.bytes, list.len, version.bytes, version.len, VARDATA(why), len, &len);
+  }
   SET_VARSIZE(why, VARHDRSZ + len);
-  why_not(list, version, VARDATA(why), len, &len);
   return PointerGetDatum(why);
 }
 
 SQL_FUNCTION(version_why_not_text) {
   Span list = span_of(PG_GETARG_TEXT_PP(0)), span = span_of(PG_GETARG_TEXT_PP(1));
-  size_t len;
-  int status = why_not(list, span, NULL, 0, &len);
+  int status;
+  Datum why = why_not(list, span, &status);
   if (status == VERSIONS_NO_REQUIREMENTS) report_no_requirement(list);
-  if (status != VERSIONS_NO_ROOM) PG_RETURN_NULL();
-  return sentence(list, span, len);
+  if (status != VERSIONS_OK) PG_RETURN_NULL();
+  return why;
 }
 
 SQL_FUNCTION(version_of_library) { PG_RETURN_TEXT_P(cstring_to_text(versions_version())); }
@@ -831,12 +831,12 @@ SQL_FUNCTION(version_matched_by) { return matches(PG_GETARG_DATUM(0), PG_GETARG_
 
 SQL_FUNCTION(version_why_not) {
   Span list = requirement_of(PG_GETARG_BYTEA_PP(0)).list, span = span_of(PG_GETARG_TEXT_PP(1));
-  size_t len;
-  int status = why_not(list, span, NULL, 0, &len);
+  int status;
+  Datum why = why_not(list, span, &status);
   if (status == VERSIONS_NO_REQUIREMENTS) report_damaged_requirement();
   if (status == VERSIONS_NO_VERSION) report_damage(span);
-  if (status != VERSIONS_NO_ROOM) PG_RETURN_NULL();
-  return sentence(list, span, len);
+  if (status != VERSIONS_OK) PG_RETURN_NULL();
+  return why;
 }
 
 /*

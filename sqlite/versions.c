@@ -355,8 +355,8 @@ static void version_matches(sqlite3_context *context, int count, sqlite3_value *
   }
 }
 
-/* Gives why a version does not match a list, of a length that versions_why_text has told. */
-static void give_why(sqlite3_context *context, struct text list, struct text text, size_t len) {
+/* Gives why a version does not match a list, a sentence that is too long for the stack, in memory of its length. */
+static void give_long_why(sqlite3_context *context, struct text list, struct text text, size_t len) {
   char *why = sqlite3_malloc64(len);
   if (why && versions_why_text(list.bytes, list.len, text.bytes, text.len, why, len, &len) == VERSIONS_OK) {
     sqlite3_result_text64(context, why, len, sqlite3_free, SQLITE_UTF8);
@@ -368,6 +368,7 @@ static void give_why(sqlite3_context *context, struct text list, struct text tex
 
 static void version_why_not(sqlite3_context *context, int count, sqlite3_value **values) {
   struct text list = text_of(values[0]), text = text_of(values[1]);
+  char why[256];
   size_t len;
   (void)count;
   if (!list.bytes || !text.bytes) {
@@ -378,8 +379,9 @@ static void version_why_not(sqlite3_context *context, int count, sqlite3_value *
     sqlite3_result_null(context);
     return;
   }
-  switch (versions_why_text(list.bytes, list.len, text.bytes, text.len, NULL, 0, &len)) {
-    case VERSIONS_NO_ROOM: give_why(context, list, text, len); break;
+  switch (versions_why_text(list.bytes, list.len, text.bytes, text.len, why, sizeof why, &len)) {
+    case VERSIONS_OK: sqlite3_result_text(context, why, (int)len, SQLITE_TRANSIENT); break;
+    case VERSIONS_NO_ROOM: give_long_why(context, list, text, len); break;
     case VERSIONS_NO_REQUIREMENTS: give_no_requirement(context, list, sqlite3_value_type(values[0])); break;
     default: sqlite3_result_null(context);
   }

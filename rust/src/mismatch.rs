@@ -59,8 +59,8 @@ impl<'a> Mismatch<'a> {
     }
 }
 
-/// A sentence, as `1.4 is below >=1.5`, which the library writes. Width and precision apply as to a
-/// `str`.
+/// A sentence, as `1.4 is below >=1.5`, which the library writes into memory of its length. Width and
+/// precision apply as to a `str`.
 impl fmt::Display for Mismatch<'_> {
     fn fmt(&self, f: &mut fmt::Formatter<'_>) -> fmt::Result {
         f.pad(&library::why_text(self.member(), self.version()))

@@ -93,7 +93,7 @@ Mess::parse 1.2-|Some((Mess { chunks: [Digits(1, "1"), Digits(2, "2")], next: No
 Mess::parse 1..2|Some((Mess { chunks: [Digits(1, "1")], next: None }, "..2"))
 Mess::parse 1:|Some((Mess { chunks: [Digits(1, "1")], next: None }, ":"))
 Mess::new r4294967296|Some(Mess { chunks: [Plain("r4294967296")], next: None })
-Mess::new R2|Some(Mess { chunks: [Plain("R2")], next: None })
+Mess::new R20|Some(Mess { chunks: [Plain("R20")], next: None })
 Mess::new r|Some(Mess { chunks: [Plain("r")], next: None })
 Mess::new 2:10.2+r3-a~0_1|Some(Mess { chunks: [Digits(2, "2")], next: Some((Colon, Mess { chunks: [Digits(10, "10"), Digits(2, "2")], next: Some((Plus, Mess { chunks: [Rev(3, "r3")], next: Some((Hyphen, Mess { chunks: [Plain("a")], next: Some((Tilde, Mess { chunks: [Digits(0, "0")], next: Some((Underscore, Mess { chunks: [Digits(1, "1")], next: None })) })) })) })) })) })
 Mess::from_str 1.2.3.4_123_abc+101a|Mess { chunks: [Digits(1, "1"), Digits(2, "2"), Digits(3, "3"), Digits(4, "4")], next: Some((Underscore, Mess { chunks: [Digits(123, "123")], next: Some((Underscore, Mess { chunks: [Plain("abc")], next: Some((Plus, Mess { chunks: [Plain("101a")], next: None })) })) })) }
