@@ -194,8 +194,7 @@ int versions_wrong_member(const char *list, size_t list_len, size_t *start, size
  * A version is in the range if its key is not below the low bound, is below the high bound, if there is one, and its
  * kind is one of the kinds. Bounds and keys compare by memcmp, the shorter first if it is a prefix of the other. Every
  * version that the list matches is in the range. With VERSIONS_RANGE_EXACT the list matches every version in it too;
- * without, ask versions_matches about each version in the range, with the list or the part of it that versions_inexact
- * writes. A range can be empty.
+ * without, versions_match_in_range asks the members that versions_inexact writes too. A range can be empty.
  *
  * The call writes the low bound to `low`, a buffer of low_room bytes, and its length to *low_len; the high bound to
  * `high`, a buffer of high_room bytes, and its length to *high_len; and the flags, VERSIONS_RANGE_IDEAL to
@@ -226,7 +225,8 @@ int versions_range(const char *list, size_t list_len, uint8_t *low, size_t low_r
 /*
  * Writes the members of a list of requirements that the range of the list leaves open: those that need not match each
  * version in their own range. Where a version is in the range of the list, the list matches it exactly if each of these
- * members does. So of a long list that is asked about many versions, keep its range and these members.
+ * members does. So of a long list that is asked about many versions, keep its range and these members, for
+ * versions_match_in_range.
  *
  * They are written with commas between them, and so are a list, or nothing, which is no list, if there are none: then
  * the range has VERSIONS_RANGE_EXACT.
@@ -251,6 +251,22 @@ int versions_inexact(const char *list, size_t list_len, char *members, size_t ro
  */
 int versions_in_range(const char *text, size_t text_len, const uint8_t *low, size_t low_len, const uint8_t *high,
                       size_t high_len, uint32_t flags, bool *is_in);
+
+/*
+ * Tests whether a list of requirements matches a version, by what is kept of the list: its range, and the members that
+ * the range leaves open. Reads the version once, and no member for a version that is not in the range.
+ *
+ * The bounds and the flags are those of versions_range, and `members` is what versions_inexact writes, or the list; or
+ * they are any others, as for versions_in_range: then the answer is whether the version is in the range, and `members`,
+ * unless it is empty, matches it.
+ *
+ * Sets *matches to true or false.
+ *
+ * Returns VERSIONS_OK, VERSIONS_NO_VERSION, or VERSIONS_NO_REQUIREMENTS where the version is in the range and `members`
+ * is neither empty nor a list.
+ */
+int versions_match_in_range(const char *text, size_t text_len, const uint8_t *low, size_t low_len, const uint8_t *high,
+                            size_t high_len, uint32_t flags, const char *members, size_t members_len, bool *matches);
 
 /*
  * Gets the number at a place of a version. Places are counted from 0.

@@ -791,19 +791,16 @@ SQL_FUNCTION(requirement_hash_extended) {
   return hash;
 }
 
-/* A version outside the range does not match. One inside is tested only against the members that decide. */
 static Datum matches(Datum version, Datum list) {
   text *value = DatumGetTextPP(version);
   bytea *requirements = beginning_of(list);
   Span span = span_of(value);
   Requirement requirement = requirement_of(requirements);
   bool matches = false;
-  int status = versions_in_range(span.bytes, span.len, (const uint8_t *)requirement.low.bytes, requirement.low.len,
-                                 (const uint8_t *)requirement.high.bytes, requirement.high.len, requirement.flags,
-                                 &matches);
-  if (status == VERSIONS_OK && matches && requirement.members.len > 0) {
-    status = versions_matches(requirement.members.bytes, requirement.members.len, span.bytes, span.len, &matches);
-  }
+  int status = versions_match_in_range(span.bytes, span.len, (const uint8_t *)requirement.low.bytes,
+                                       requirement.low.len, (const uint8_t *)requirement.high.bytes,
+                                       requirement.high.len, requirement.flags, requirement.members.bytes,
+                                       requirement.members.len, &matches);
   if (status == VERSIONS_NO_REQUIREMENTS) report_damaged_requirement();
   if (status != VERSIONS_OK) report_damage(span);
   free_copy(value, version);

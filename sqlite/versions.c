@@ -225,10 +225,7 @@ static void give_no_requirement(sqlite3_context *context, struct text text, int 
   give_error(context, sqlite3_str_finish(message));
 }
 
-/*
- * What a list of requirements asks for, as versions_range returns it, and the members that decide in that range, which
- * versions_inexact writes.
- */
+/* What versions_match_in_range takes of a list of requirements. */
 struct range {
   size_t low_len, high_len, members_len;
   uint32_t flags;
@@ -312,15 +309,11 @@ static bool give_match(sqlite3_context *context, sqlite3_value *requirement, str
   }
 }
 
-/* The same by the range of the list, and in the range by the members that decide. */
+/* The same by what is kept of the list. */
 static inline void give_match_by_range(sqlite3_context *context, const struct range *range, struct text text) {
   bool matches;
-  int status = versions_in_range(text.bytes, text.len, range->low, range->low_len, range->high, range->high_len,
-                                 range->flags, &matches);
-  if (status == VERSIONS_OK && matches && range->members_len > 0) {
-    status = versions_matches(range->members, range->members_len, text.bytes, text.len, &matches);
-  }
-  if (status == VERSIONS_OK) {
+  if (versions_match_in_range(text.bytes, text.len, range->low, range->low_len, range->high, range->high_len,
+                              range->flags, range->members, range->members_len, &matches) == VERSIONS_OK) {
     sqlite3_result_int(context, matches);
   } else {
     sqlite3_result_null(context);

@@ -533,6 +533,18 @@ static int in_range(const char *text, size_t length, const struct range *range) 
   return wanted;
 }
 
+// Checks whether a text is matched by a range and members: 1, 0, or 2 for a text that is not a version.
+static void check_match_in_range(const char *text, size_t length, const struct range *range, const char *members,
+                                 size_t members_length, int wanted) {
+  for (int before = 0; before < 2; before++) {
+    bool matches = before;
+    int status = versions_match_in_range(text, length, range->low, range->low_length, range->high, range->high_length,
+                                         range->flags, members, members_length, &matches);
+    CHECK(status == (wanted == 2 ? VERSIONS_NO_VERSION : VERSIONS_OK));
+    CHECK(matches == (wanted == 2 ? before : wanted));
+  }
+}
+
 // In the range of a list the members that it leaves open decide, and it is exact if there are none. Checks that a
 // buffer that is too small stays unchanged.
 static void check_inexact(const struct lines *lines, const char *list, size_t length, const struct range *range,
@@ -552,9 +564,12 @@ static void check_inexact(const struct lines *lines, const char *list, size_t le
     const char *text = text_of(lines, line);
     size_t text_length = length_of(lines, line);
     bool decided = true;
+    check_match_in_range(text, text_length, range, members, room, matches[line]);
+    check_match_in_range(text, text_length, range, list, length, matches[line]);
     if (in_range(text, text_length, range) != 1) continue;
     CHECK(room == 0 || versions_matches(members, room, text, text_length, &decided) == VERSIONS_OK);
     CHECK(decided == (matches[line] == 1));
+    check_match_in_range(text, text_length, range, NULL, 0, 1);
   }
   release(members);
 }
@@ -1639,6 +1654,17 @@ static void worked_inexact(void) {
     CHECK(versions_inexact(worked[i].list, strlen(worked[i].list), members, sizeof members, &length) == VERSIONS_OK);
     CHECK(length == strlen(worked[i].members) && memcmp(members, worked[i].members, length) == 0);
     for (size_t at = length; at < sizeof members; at++) CHECK(members[at] == 'x');
+  }
+  // Members that are no list are found where they are asked, and then nothing is written.
+  for (size_t i = 0; i < sizeof others / sizeof *others; i++) {
+    const char *other = others[i];
+    bool matches = true;
+    int asked = *other ? VERSIONS_NO_REQUIREMENTS : VERSIONS_OK;
+    CHECK(versions_match_in_range("1.0", 3, NULL, 0, NULL, 0, 7, other, strlen(other), &matches) == asked && matches);
+    CHECK(versions_match_in_range("?", 1, NULL, 0, NULL, 0, 7, other, strlen(other), &matches) == VERSIONS_NO_VERSION);
+    CHECK(matches);
+    CHECK(versions_match_in_range("1.0", 3, NULL, 0, NULL, 0, 1, other, strlen(other), &matches) == VERSIONS_OK);
+    CHECK(!matches);
   }
   // What is no list has no members, and nothing is written: also if a first member could be one.
   memset(members, 'x', sizeof members);

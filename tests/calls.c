@@ -101,6 +101,8 @@ static void of_list(const char *list, size_t list_len, const char *text, size_t 
     int is_in = versions_in_range(text, text_len, buffer, low_len, other_buffer, high_len, flags, NUMBER(bool, 0));
     numbers[1] = low_len, numbers[2] = high_len, numbers[3] = flags;
     answer(is_in);
+    answer(versions_match_in_range(text, text_len, buffer, low_len, other_buffer, high_len, flags, list, list_len,
+                                   NUMBER(bool, 0)));
   }
   answer(status);
 }

@@ -113,6 +113,9 @@ static void digest_one(struct text a, struct text b, struct text list) {
     digest("range", high, high_len);
     CLEAR, status = versions_in_range(a.at, a.length, out, low_len, high, high_len, flags, (bool *)&slots[0]);
     digest_slots("in_range", status, 1, 1);
+    CLEAR, status = versions_match_in_range(a.at, a.length, out, low_len, high, high_len, flags, list.at, list.length,
+                                            (bool *)&slots[0]);
+    digest_slots("match_in_range", status, 1, 1);
   }
   CLEAR;
   if (digest_slots("inexact", versions_inexact(list.at, list.length, (char *)out, room, SIZE(0)), 1, 8))

@@ -83,7 +83,9 @@ export function digest(library, lines, lists) {
       const [low, length, flags] = [slot(0), slot(1), Number(slot(2))];
       of("range").bytes(library.bytes, out, out + low);
       of("range").bytes(library.bytes, out + room, out + room + length);
-      ask("in_range", [...a, key[0], BigInt(low), high[0], BigInt(length), flags, SLOTS[0]], 1, 1);
+      const range = [key[0], BigInt(low), high[0], BigInt(length), flags];
+      ask("in_range", [...a, ...range, SLOTS[0]], 1, 1);
+      ask("match_in_range", [...a, ...range, ...wanted, SLOTS[0]], 1, 1);
     }
     written("inexact", ask("inexact", [...wanted, ...key, SLOTS[0]], 1), slot(0));
     for (let n = 0; n < 4; n++) {

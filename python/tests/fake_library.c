@@ -27,11 +27,6 @@ int versions_parse(const char *text, size_t text_len, uint8_t *kind, uint8_t *ke
   return versions_sort_key(text, text_len, key, room, key_len);
 }
 
-int versions_matches(const char *list, size_t list_len, const char *text, size_t text_len, bool *matches) {
-  fake_asked = "list";
-  return fake_status;
-}
-
 int versions_range(const char *list, size_t list_len, uint8_t *low, size_t low_room, size_t *low_len, uint8_t *high,
                    size_t high_room, size_t *high_len, uint32_t *flags) {
   *low_len = *high_len = fake_bound_len;
@@ -42,9 +37,9 @@ int versions_range(const char *list, size_t list_len, uint8_t *low, size_t low_r
   return fake_status;
 }
 
-int versions_in_range(const char *text, size_t text_len, const uint8_t *low, size_t low_len, const uint8_t *high,
-                      size_t high_len, uint32_t flags, bool *is_in) {
-  fake_asked = "range";
+int versions_match_in_range(const char *text, size_t text_len, const uint8_t *low, size_t low_len, const uint8_t *high,
+                            size_t high_len, uint32_t flags, const char *members, size_t members_len, bool *matches) {
+  fake_asked = members_len > 0 ? "list" : "range";
   return fake_status;
 }
 

@@ -318,17 +318,14 @@ static bool is_faster(const struct range *range) {
   return is_exact(range) && (range->flags & all) == all;
 }
 
-/* Whether a text matches: by its key where the range is exact, and else by the list. Returns a status. */
+/* Whether a text matches. Returns a status. */
 static int match_text(const struct range *range, const struct text *text, bool *answer) {
   struct text low = bytes_of(&range->low), high = bytes_of(&range->high);
   PyThreadState *thread = let_go(text->size > range->list.size ? text->size : range->list.size);
-  int status;
+  int status = versions_match_in_range(text->bytes, text->size, (const uint8_t *)low.bytes, low.size,
+                                       (const uint8_t *)high.bytes, high.size, range->flags, range->list.bytes,
+                                       is_exact(range) ? 0 : range->list.size, answer);
 
-  if (is_exact(range))
-    status = versions_in_range(text->bytes, text->size, (const uint8_t *)low.bytes, low.size,
-                               (const uint8_t *)high.bytes, high.size, range->flags, answer);
-  else
-    status = versions_matches(range->list.bytes, range->list.size, text->bytes, text->size, answer);
   take_again(thread);
   return status;
 }

@@ -131,6 +131,18 @@ extern "C" {
         flags: u32,
         is_in: *mut u8,
     ) -> c_int;
+    pub fn versions_match_in_range(
+        text: *const c_char,
+        text_len: usize,
+        low: *const u8,
+        low_len: usize,
+        high: *const u8,
+        high_len: usize,
+        flags: u32,
+        members: *const c_char,
+        members_len: usize,
+        matches: *mut u8,
+    ) -> c_int;
     pub fn versions_nth(text: *const c_char, text_len: usize, n: usize, number: *mut u32) -> c_int;
     pub fn versions_epoch(text: *const c_char, text_len: usize, epoch: *mut u64) -> c_int;
     pub fn versions_field(

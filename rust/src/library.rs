@@ -196,14 +196,16 @@ fn range_into(list: &str, low: &mut [u8], high: &mut [u8]) -> Option<Written> {
     }
 }
 
-/// Whether a version is in a range; `None` where the text is not a version.
-pub fn in_range(range: &KeyRange, text: &str) -> Option<bool> {
+/// Whether a list of requirements, with its range, matches a version; `None` where the text is not a
+/// version. Panics where `list` is not a list of requirements, and its range is not exact.
+pub fn match_in_range(range: &KeyRange, list: &str, text: &str) -> Option<bool> {
     let (low, high) = (range.low(), range.high().unwrap_or_default());
+    let members = if range.is_exact() { "" } else { list };
     let mut answer = 0;
     // SAFETY: each pointer has the length of its text or bytes, which are only read; `answer` is
     // written.
     let status = unsafe {
-        versions_in_range(
+        versions_match_in_range(
             start(text),
             text.len(),
             low.as_ptr(),
@@ -211,13 +213,15 @@ pub fn in_range(range: &KeyRange, text: &str) -> Option<bool> {
             high.as_ptr(),
             high.len(),
             flags(range),
+            start(members),
+            members.len(),
             &mut answer,
         )
     };
     match status {
-        OK => Some(bool_of("versions_in_range", answer)),
+        OK => Some(bool_of("versions_match_in_range", answer)),
         NO_VERSION => None,
-        _ => unexpected("versions_in_range", "status", status),
+        _ => unexpected("versions_match_in_range", "status", status),
     }
 }
 

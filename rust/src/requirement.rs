@@ -85,8 +85,7 @@ impl<'a> Requirement<'a> {
             .expect("the library no longer takes the text of a Versioning for a version")
     }
 
-    /// Returns whether the requirement matches a text, in one scan of the text where the range is
-    /// exact.
+    /// Returns whether the requirement matches a text, in one scan of the text.
     ///
     /// # Errors
     ///
@@ -102,11 +101,8 @@ impl<'a> Requirement<'a> {
     /// assert!(requirement.matches_text("1..2").is_err());
     /// ```
     pub fn matches_text(&self, text: &str) -> Result<bool, InvalidVersion> {
-        let answer = match library::in_range(&self.range, text) {
-            Some(true) if !self.range.is_exact() => library::matches(&self.text, text),
-            answer => answer,
-        };
-        answer.ok_or_else(|| InvalidVersion::new(text))
+        library::match_in_range(&self.range, &self.text, text)
+            .ok_or_else(|| InvalidVersion::new(text))
     }
 
     /// Returns why the requirement doesn't match a version, or `None` if it does. Allocates nothing.

@@ -96,9 +96,14 @@ fn statuses() {
             panic(|| newest_tag(&["v99"], &exact, Stability::Dev).is_some()),
         ),
         ("versions_matches", panic(|| wanted.matches(&general))),
-        ("versions_matches", panic(|| wanted.matches_text("t0"))),
-        ("versions_in_range", panic(|| wanted.matches_text("v99"))),
-        ("versions_in_range", panic(|| exact.matches_text("v99"))),
+        (
+            "versions_match_in_range",
+            panic(|| wanted.matches_text("v99")),
+        ),
+        (
+            "versions_match_in_range",
+            panic(|| exact.matches_text("v99")),
+        ),
         ("versions_match_all", panic(|| match_all(&wanted, &["v99"]))),
         (
             "versions_in_range_all",
@@ -170,7 +175,6 @@ fn statuses_of_other_calls() {
     let (exact, wanted) = (requirement("e5"), requirement("v5"));
     let status = unexpected("versions_matches", "status 5");
     assert_eq!(panic(|| wanted.matches(&version("v0"))), status);
-    assert_eq!(panic(|| wanted.matches_text("t0")), status);
     assert!(panic(|| requirement("v1").matches(&version("v1"))).contains(FORGOTTEN));
     for (text, status) in [("v1", "status 1"), ("v5", "status 5"), ("v12", "status 12")] {
         assert_eq!(
@@ -194,7 +198,7 @@ fn statuses_of_other_calls() {
     for (text, status) in [("v5", "status 5"), ("v7", "status 7"), ("v10", "status 10")] {
         assert_eq!(
             panic(|| exact.matches_text(text)),
-            unexpected("versions_in_range", status)
+            unexpected("versions_match_in_range", status)
         );
         assert_eq!(
             panic(|| match_all(&exact, &[text])),
@@ -254,9 +258,14 @@ fn answers() {
     let (exact, wanted) = (requirement("e0"), requirement("v0"));
     let said = [
         ("versions_matches", panic(|| wanted.matches(&general))),
-        ("versions_matches", panic(|| wanted.matches_text("t0"))),
-        ("versions_in_range", panic(|| wanted.matches_text("v0"))),
-        ("versions_in_range", panic(|| exact.matches_text("v0"))),
+        (
+            "versions_match_in_range",
+            panic(|| wanted.matches_text("v0")),
+        ),
+        (
+            "versions_match_in_range",
+            panic(|| exact.matches_text("v0")),
+        ),
         ("versions_match_all", panic(|| match_all(&wanted, &["v0"]))),
         (
             "versions_in_range_all",

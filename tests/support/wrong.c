@@ -93,10 +93,9 @@ int versions_range(const char *list, size_t list_len, uint8_t *low, size_t low_r
   return first == 'v' || first == 'e' ? VERSIONS_OK : number(list, list_len);
 }
 
-/* A text that begins with `t` is in every range. */
-int versions_in_range(const char *text, size_t text_len, const uint8_t *low, size_t low_len, const uint8_t *high,
-                      size_t high_len, uint32_t flags, bool *is_in) {
-  *(unsigned char *)is_in = letter(text, text_len) == 't' ? 1 : 9;
+int versions_match_in_range(const char *text, size_t text_len, const uint8_t *low, size_t low_len, const uint8_t *high,
+                            size_t high_len, uint32_t flags, const char *members, size_t members_len, bool *matches) {
+  *(unsigned char *)matches = 9;
   return number(text, text_len);
 }
 

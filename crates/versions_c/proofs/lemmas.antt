@@ -1,3 +1,4 @@
+pub mod ByRange
 pub mod Inexact
 pub mod Keys
 pub mod Matching

@@ -1,10 +1,9 @@
 -- Sort keys in the caller's buffer.
-use Rattle.std.specs.Prelude.{◌≡◌, ℕ, zero, suc, ◌+◌, ◌*◌, ◌-◌, ◌^◌, min, ℤ, List, [], ◌++◌, length, Option, Some, None}
+use Rattle.std.specs.Prelude.{◌≡◌, ℕ, zero, suc, ◌-◌, ◌^◌, min, ℤ, List, [], ◌++◌, length, Option, Some, None}
 use Rattle.std.specs.Option.{option_map, unwrap_or}
 use Rattle.version_rules.specs.key.Key.{key_of}
 use Rattle.version_rules.specs.key.KeyBytes.{key_bytes}
 use Rattle.version_rules.specs.grammar.Versioning.{versioning_of}
-use Rattle.version_texts.specs.Sinks.{saturated}
 use Rattle.versions_c.specs.Offsets.{AreOffsets, text_at}
 use Rattle.versions_c.specs.Written.{room_status}
 use Rattle.versions_c.specs.declared.status.TheConstants.{NO_VERSION}

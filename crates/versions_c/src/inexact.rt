@@ -1,16 +1,20 @@
-//! The members of a list of requirements that its range leaves open, in the caller's buffer.
+//! The members of a list of requirements that its range leaves open, in the caller's buffer, and matches by both.
 
 ghost use Rattle.std.specs.Prelude.{◌≡◌, ◌≢◌, ◌↔◌, ◌<◌, ◌≤◌, ◌++◌, [], drop, length, IfSome, List, Some};
+ghost use Rattle.version_texts.specs.VersioningRef.{plain_versioning_ref};
 ghost use Rattle.version_rules.specs.requirement.Inexact.{inexact_members, inexact_text};
 ghost use Rattle.version_rules.specs.requirement.Matching.{MatchesAll};
 ghost use Rattle.version_rules.specs.requirement.Range.{range_of, IsIn};
 ghost use Rattle.version_rules.specs.requirement.Requirement.{PlainRequirement};
 ghost use Rattle.version_rules.specs.requirement.Requirements.{requirements_of};
-ghost use Rattle.version_rules.specs.grammar.Versioning.{PlainVersioning};
-ghost use Rattle.versions_c.specs.Inexact.{inexact_status};
+ghost use Rattle.version_rules.specs.grammar.Versioning.{versioning_of, PlainVersioning};
+ghost use Rattle.versions_c.specs.Inexact.{by_range, by_range_status, inexact_status, Tell};
+ghost use Rattle.versions_c.specs.Matching.{match_code, match_status};
+ghost use Rattle.versions_c.specs.Ranges.{range_with};
 
-use crate::status::{NO_REQUIREMENTS, NO_ROOM, OK};
-use version_texts::{write_inexact, wrong_member};
+use crate::ranges::code;
+use crate::status::{NO_REQUIREMENTS, NO_ROOM, NO_VERSION, OK};
+use version_texts::{VersioningRef, list_matches, write_inexact, wrong_member};
 
 /// Writes the members of a list that its range leaves open.
 #[unsafe(no_mangle)]
@@ -48,4 +52,63 @@ pub extern "C" fn versions_inexact(list: &[u8], members: &mut [u8], members_len:
         return NO_ROOM;
     }
     OK
+}
+
+/// Writes whether a list matches a version, by the list's range and the members that this leaves open.
+#[unsafe(no_mangle)]
+pub extern "C" fn versions_match_in_range(
+    text: &[u8],
+    low: &[u8],
+    high: &[u8],
+    flags: u32,
+    members: &[u8],
+    matches: &mut u8,
+) -> i32
+    ensures status { result ≡ by_range_status (versioning_of text.now)
+        (by_range (range_with low.now high.now flags) members.now) }
+    ensures matches { result ≡ OK → IfSome (versioning_of text.now)
+        (λ v. by_range (range_with low.now high.now flags) members.now v ≡ Some matches.new) }
+    ensures kept { result ≢ OK → matches.new ≡ matches.old }
+
+    // What is told of a list decides as the list does.
+    ensures told_status { (wanted : List PlainRequirement)
+        → Tell (range_with low.now high.now flags) members.now wanted
+        → result ≡ match_status (Some wanted) (versioning_of text.now) }
+    ensures told { (wanted : List PlainRequirement)
+        → Tell (range_with low.now high.now flags) members.now wanted
+        → result ≡ OK → matches.new ≡ match_code wanted (versioning_of text.now) }
+{
+    let Some(version) = VersioningRef::from_bytes(text) else {
+        return NO_VERSION;
+    };
+    let Some(answer) = by_range(&version, low, high, flags, members) else {
+        return NO_REQUIREMENTS;
+    };
+    *matches = answer;
+    OK
+}
+
+// Returns the answer about a version: 1 if it is in the range and the members match it, otherwise 0. None if members are
+// asked that are no list.
+fn by_range(
+    version: &VersioningRef<'_>,
+    low: &[u8],
+    high: &[u8],
+    flags: u32,
+    members: &[u8],
+) -> Option<u8>
+    ensures { result ≡ by_range (range_with low.now high.now flags) members.now
+        (plain_versioning_ref version.now) }
+{
+    if code(version, low, high, flags) == 0 {
+        return Some(0);
+    }
+    if members.is_empty() {
+        return Some(1);
+    }
+    if list_matches(members, version)? {
+        Some(1)
+    } else {
+        Some(0)
+    }
 }

@@ -6,7 +6,7 @@ ghost use Rattle.version_rules.specs.grammar.Versioning.{is_prerelease, versioni
 ghost use Rattle.versions_c.specs.Kinds.{kind_of, version_status};
 ghost use Rattle.versions_c.specs.Offsets.{text_at, AreOffsets};
 
-use crate::offsets::{are_offsets, text_at};
+use crate::offsets::{answer_each, are_offsets};
 use crate::status::{BAD_OFFSETS, NO_VERSION, OK};
 use version_rules::Kind;
 use version_texts::VersioningRef;
@@ -46,13 +46,10 @@ pub extern "C" fn versions_kinds(texts: &[u8], offsets: &[u64], kinds: &mut [u8]
     ensures kept { ¬ (AreOffsets offsets.now (length texts.now) (length kinds.old))
         → kinds.new ≡ kinds.old }
 {
-    let count = kinds.len();
-    if !are_offsets(offsets, texts.len(), count) {
+    if !are_offsets(offsets, texts.len(), kinds.len()) {
         return BAD_OFFSETS;
     }
-    for (place, kind) in kinds.iter_mut().enumerate() {
-        *kind = kind_of(text_at(texts, offsets, count, place));
-    }
+    answer_each(texts, offsets, kinds, |text| kind_of(text));
     OK
 }
 

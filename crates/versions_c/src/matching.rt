@@ -10,7 +10,7 @@ ghost use Rattle.version_rules.specs.grammar.Versioning.{versioning_of};
 ghost use Rattle.versions_c.specs.Matching.{list_status, match_code, match_status, wrong_status, Decide};
 ghost use Rattle.versions_c.specs.Offsets.{text_at, AreOffsets};
 
-use crate::offsets::{are_offsets, text_at};
+use crate::offsets::{answer_each, are_offsets};
 use crate::status::{BAD_OFFSETS, NO_REQUIREMENTS, NO_VERSION, NO_WRONG_MEMBER, OK};
 use version_texts::{
     RangeRef, RequirementsRef, VersioningRef, list_matches, write_inexact, wrong_member,
@@ -85,8 +85,7 @@ pub extern "C" fn versions_match_all(
         → result ≡ BAD_OFFSETS }
     ensures kept { result ≢ OK → matches.new ≡ matches.old }
 {
-    let count = matches.len();
-    if !are_offsets(offsets, texts.len(), count) {
+    if !are_offsets(offsets, texts.len(), matches.len()) {
         return BAD_OFFSETS;
     }
     let Some(wanted) = RequirementsRef::from_bytes(list) else {
@@ -94,9 +93,9 @@ pub extern "C" fn versions_match_all(
     };
     let mut room = [0; ROOM];
     let narrowed = narrow(list, &mut room);
-    for (place, asked) in matches.iter_mut().enumerate() {
-        *asked = asked_for(&wanted, &narrowed, text_at(texts, offsets, count, place));
-    }
+    answer_each(texts, offsets, matches, |text| {
+        asked_for(&wanted, &narrowed, text)
+    });
     OK
 }
 

@@ -1,6 +1,7 @@
 //! Many texts in one buffer, each from one offset up to the next.
 
-ghost use Rattle.std.specs.Prelude.{◌≡◌, ◌↔◌, ◌+◌, ◌<◌, length, IsTrue};
+ghost use Rattle.std.specs.Prelude.{◌≡◌, ◌↔◌, ◌+◌, ◌<◌, length, slice_index, IsTrue, ℕ};
+ghost use Rattle.std.specs.Fn.{FnReturnsAt};
 ghost use Rattle.versions_c.specs.Offsets.{text_at, AreOffsets};
 
 /// The largest signed number of 64 bits: the largest offset that C has.
@@ -27,4 +28,22 @@ pub fn text_at<'a>(texts: &'a [u8], offsets: &[u64], count: usize, place: usize)
     ensures { result.now ≡ text_at texts.now offsets.now place }
 {
     &texts[offsets[place] as usize..offsets[place + 1] as usize]
+}
+
+/// Writes the answer about each text.
+pub fn answer_each<A: Fn(&[u8]) -> u8 + Drop>(
+    texts: &[u8],
+    offsets: &[u64],
+    answers: &mut [u8],
+    answer: A,
+)
+    requires offsets { AreOffsets offsets.now (length texts.now) (length answers.old) }
+    requires answer { A.IsAlwaysCallable answer }
+    ensures { (i : ℕ) → i < length answers.old
+        → FnReturnsAt A.Fn answer (text_at texts.now offsets.now i) (slice_index answers.new i) }
+{
+    let count = answers.len();
+    for (place, asked) in answers.iter_mut().enumerate() {
+        *asked = answer(text_at(texts, offsets, count, place));
+    }
 }

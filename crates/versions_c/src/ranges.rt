@@ -12,7 +12,7 @@ ghost use Rattle.versions_c.specs.Kinds.{version_status};
 ghost use Rattle.versions_c.specs.Offsets.{text_at, AreOffsets};
 ghost use Rattle.versions_c.specs.Ranges.{has_flag, in_range_code, one_if, range_status, range_with, AreLengths};
 
-use crate::offsets::{are_offsets, text_at};
+use crate::offsets::{answer_each, are_offsets};
 use crate::status::{BAD_OFFSETS, NO_REQUIREMENTS, NO_ROOM, NO_VERSION, OK};
 use version_rules::Kinds;
 use version_texts::{RangeRef, VersioningRef};
@@ -119,13 +119,12 @@ pub extern "C" fn versions_in_range_all(
         → result ≡ BAD_OFFSETS }
     ensures kept { result ≢ OK → answers.new ≡ answers.old }
 {
-    let count = answers.len();
-    if !are_offsets(offsets, texts.len(), count) {
+    if !are_offsets(offsets, texts.len(), answers.len()) {
         return BAD_OFFSETS;
     }
-    for (place, asked) in answers.iter_mut().enumerate() {
-        *asked = answer(text_at(texts, offsets, count, place), low, high, flags);
-    }
+    answer_each(texts, offsets, answers, |text| {
+        answer(text, low, high, flags)
+    });
     OK
 }
 
@@ -142,9 +141,9 @@ fn answer(text: &[u8], low: &[u8], high: &[u8], flags: u32) -> u8
     }
 }
 
-// Returns 1 if a version is in the range, otherwise 0.
+/// Returns 1 if a version is in the range, otherwise 0.
 #[inline(always)]
-fn code(version: &VersioningRef<'_>, low: &[u8], high: &[u8], flags: u32) -> u8
+pub fn code(version: &VersioningRef<'_>, low: &[u8], high: &[u8], flags: u32) -> u8
     ensures { result ≡ in_range_code (range_with low.now high.now flags)
         (Some (plain_versioning_ref version.now)) }
 {

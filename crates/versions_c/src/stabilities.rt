@@ -6,7 +6,7 @@ ghost use Rattle.version_tasks.specs.Stability.{rank};
 ghost use Rattle.versions_c.specs.Offsets.{text_at, AreOffsets};
 ghost use Rattle.versions_c.specs.Stabilities.{stability_number};
 
-use crate::offsets::{are_offsets, text_at};
+use crate::offsets::{answer_each, are_offsets};
 use crate::status::{BAD_OFFSETS, OK};
 use version_tasks::{Stability, stability_of};
 use version_texts::VersioningRef;
@@ -42,13 +42,10 @@ pub extern "C" fn versions_stabilities(texts: &[u8], offsets: &[u64], stabilitie
         → result ≡ BAD_OFFSETS }
     ensures kept { result ≢ OK → stabilities.new ≡ stabilities.old }
 {
-    let count = stabilities.len();
-    if !are_offsets(offsets, texts.len(), count) {
+    if !are_offsets(offsets, texts.len(), stabilities.len()) {
         return BAD_OFFSETS;
     }
-    for (place, stability) in stabilities.iter_mut().enumerate() {
-        *stability = stability_number(text_at(texts, offsets, count, place));
-    }
+    answer_each(texts, offsets, stabilities, |text| stability_number(text));
     OK
 }
 
