@@ -11,14 +11,17 @@ import tempfile
 import time
 from pathlib import Path
 
+sys.dont_write_bytecode = True
+import runs  # noqa: E402
+
 TOP = Path(__file__).resolve().parent.parent.parent
 JOBS = int(os.environ.get("JOBS", "3"))
 
 # Tests of great lengths, by the prefixes of their names. Each would take `rt try` minutes.
 LARGE = re.compile(r"^#\[test\]\nfn ((?:a_million|ten_megabytes|a_hundred_thousand)\w*)\(.*?^}\n", re.M | re.S)
 SCRIPTS = ("tests/examples", "tests/unused")
-# The crates whose rows `tests/refused_memory` runs.
-MEMORY = ("vectors_memory", "vectors_runs")
+# The crate whose calls `tests/refused_memory` makes.
+MEMORY = "vectors_memory"
 
 # Faults of docs/VERS.md: the words, the input and the status. Nothing is written.
 FAULTS = (
@@ -50,6 +53,11 @@ def examples_of_page():
         yield words[1:], given, output
 
 
+def cases_of_runs(*those):
+    for at, it in enumerate(those, 1):
+        yield f"run_{at}", shlex.split(it.words), it.given, it.output, it.status
+
+
 def cases_of_vers():
     """A name, words, input, output and status for each case."""
     for at, (words, given, output) in enumerate(examples_of_page(), 1):
@@ -58,10 +66,11 @@ def cases_of_vers():
         yield f"fault_{at}", words, given, "", status
     own = TOP / "crates/vers"
     yield "file", [], (own / "stdin").read_text(), (own / "stdout").read_text(), 0
+    yield from cases_of_runs(*runs.VERS, *runs.VERS_WITHOUT_MEMORY)
 
 
-def cases_of_memory(crate):
-    yield "calls", [], "", (TOP / "crates" / crate / "stdout").read_text(), 0
+def cases_of_memory():
+    yield "calls", [], "", (TOP / "crates" / MEMORY / "stdout").read_text(), 0
 
 
 def left_to_the_gate():
@@ -208,7 +217,8 @@ def main(copy):
 
     # The longest parts come first, so that the processors end together.
     parts = [Tests(copy, sorted(tested))]
-    parts += [Cases(copy, crate, cases_of_memory(crate)) for crate in MEMORY]
+    parts += [Cases(copy, MEMORY, cases_of_memory())]
+    parts += [Cases(copy, "versions_program", cases_of_runs(*runs.VERSIONS, *runs.MISSPELT))]
     parts += [Script(SCRIPTS[0]), Cases(copy, "vers", cases_of_vers())]
     parts += [FirstCommand(copy), Script(SCRIPTS[1])]
     passed, failed = run(parts)

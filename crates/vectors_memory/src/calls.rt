@@ -9,8 +9,8 @@ mod parts;
 mod requirements;
 mod scans;
 
+use crate::table::Table;
 use std::io;
-use vectors_table::Table;
 
 pub fn make_all(table: &mut Table<'_>) -> io::Result<()> {
     parts::make_all(table)?;

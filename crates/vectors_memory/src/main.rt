@@ -3,9 +3,10 @@
 #![tactic(auto)]
 
 mod calls;
+mod table;
 
+use crate::table::Table;
 use std::io;
-use vectors_table::Table;
 
 // A word is the number of the only call to make, counted from 1.
 fn main(rt: HostRuntime) -> io::Result<()> {

@@ -1,8 +1,8 @@
 //! Versions of any kind, and errors.
 
+use crate::table::{Table, borrows, reads};
 use std::alloc::{AllocError, Global};
 use std::io;
-use vectors_table::{Table, borrows, reads};
 use version_texts::VersioningRef;
 use versions::{Error, Versioning};
 

@@ -1,9 +1,9 @@
 //! Versions and requirements in JSON documents, and a derived form.
 
+use crate::table::{Table, borrows};
 use serde_json::{Category, Value};
 use std::alloc::{AllocError, Global};
 use std::io;
-use vectors_table::{Table, borrows};
 use versions::{JsonError, Requirement, Requirements, SemVer, Versioning};
 
 const VERSION: &str = "1:2.a.7b-5.b+six";

@@ -1,8 +1,8 @@
 //! Strict, general and messy versions.
 
+use crate::table::{Table, borrows, reads};
 use std::alloc::{AllocError, Global};
 use std::io;
-use vectors_table::{Table, borrows, reads};
 use versions::{Mess, SemVer, Version};
 
 const STRICT: &str = "1.2.3-rc.1+x86";

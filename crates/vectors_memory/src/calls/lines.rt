@@ -4,10 +4,10 @@ ghost use Rattle.version_lines.specs.KeyedLines.{AreRead};
 ghost use Rattle.version_rules.specs.grammar.Versioning.{versioning_of};
 ghost use Rattle.version_texts.specs.VersioningRef.{plain_versioning_ref};
 
+use crate::table::{Table, begins_not};
 use std::alloc::{AllocError, Global};
 use std::fmt;
 use std::io::{self, ErrorKind};
-use vectors_table::{Table, begins_not};
 use version_lines::{
     GroupBy, KeyedLines, SortBy, Trouble, WholeLines, make_buffer, read_all, read_onto,
 };

@@ -1,8 +1,8 @@
 //! The parts that versions are made of.
 
+use crate::table::{Table, begins_not, borrows, reads};
 use std::alloc::{AllocError, Global};
 use std::io;
-use vectors_table::{Table, begins_not, borrows, reads};
 use versions::parsers::meta;
 use versions::{Chunk, Chunks, Last, MChunk, Release};
 

@@ -1,8 +1,8 @@
 //! Requirements and lists of them.
 
+use crate::table::{Table, borrows, reads};
 use std::alloc::{AllocError, Global};
 use std::io;
-use vectors_table::{Table, borrows, reads};
 use versions::{Range, Requirement, Requirements};
 
 const TEXT: &str = ">=1:2.a.7b";

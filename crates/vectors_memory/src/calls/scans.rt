@@ -1,9 +1,9 @@
 //! The calls below the readers: elements of lists, pieces that were scanned, and streams of bytes.
 
 use crate::calls::parts::{chunk, last_part, messy_chunk, parts};
+use crate::table::Table;
 use std::alloc::{AllocError, Global};
 use std::io;
-use vectors_table::Table;
 use version_parts::key::{PartText, PieceBytes};
 use version_parts::lists::{ListItem, copy_list};
 use version_parts::scan::{Dotted, Element};

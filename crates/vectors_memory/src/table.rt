@@ -111,7 +111,6 @@ impl<'a> Table<'a> {
 }
 
 /// Adds a row for a call that borrows a text, which has the call's name.
-#[macro_export]
 macro_rules! reads {
     ($table:ident, $call:path, $text:expr) => {
         $table.reads(stringify!($call), $text, $call)?
@@ -121,8 +120,9 @@ macro_rules! reads {
     };
 }
 
+pub(crate) use reads;
+
 /// Adds a row for a call that borrows a value, which another call reads from a text.
-#[macro_export]
 macro_rules! borrows {
     ($table:ident, $call:path, $make:path, $text:expr) => {
         $table.borrows(stringify!($call), $text, $make, $call)?
@@ -131,6 +131,8 @@ macro_rules! borrows {
         $table.borrows(concat!(stringify!($call), ", without memory"), $text, $make, $call)?
     };
 }
+
+pub(crate) use borrows;
 
 /// Prints that memory was refused to what a call is made with.
 pub fn begins_not(rt: &HostRuntime, name: &str) -> io::Result<()> {

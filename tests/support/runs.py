@@ -1,0 +1,224 @@
+"""Runs of the programs `vers` and `versions`, in which tests/refused_memory lets one allocation after another fail.
+
+A run has FILES in its folder, and a file `full` that takes no byte. docs/VERS.md and docs/VERSIONS.md say what it does.
+"""
+from typing import NamedTuple
+
+
+class Run(NamedTuple):
+    """What a program is given, and does."""
+
+    # They are divided by blanks; one with a blank in it is quoted.
+    words: str
+    given: str = ""
+    output: str = ""
+    status: int = 0
+    # What it writes to standard error.
+    fault: str = ""
+    # The files that are there beside FILES, and those that it writes.
+    files: dict = {}
+    written: dict = {}
+
+
+FILES = {
+    "table": "left,1.10\nright,1.9\nup,1.10rc1\n",
+    "old": "left 1.2\nright 2.0\nup 1.0\n",
+    "new": "left 1.3\nright 1.9\ndown 0.1\n",
+}
+
+# Each command, and words or lines that it refuses. The last run keeps its lines, which are more than a buffer holds.
+LONG_LINES = "7." * 35000 + "7\n7.2\n"
+VERS = (
+    Run("", "1.2.3\n1.2\n", "ideal 1.2.3\nnone\n"),
+    Run("show", "1.2.3-1\n1.2.3r1\n000.007-1", "ideal 1.2.3-1\ngeneral 1.2.3r1\ncomplex 000.007-1\n"),
+    Run("sort", "1.2.3.0\n1.2.3.git\n000.007-1\n1.2.3\n", "000.007-1\n1.2.3.git\n1.2.3\n1.2.3.0\n"),
+    Run("match >=1.1.1,<2.0.0", "1.1.0\n1.1.1\n2.0.0\n2.0.0-rc.1\n1.5", "1.1.1\n2.0.0-rc.1\n1.5\n"),
+    Run("key 1.2.3", "", "000301310203013202030133020202\n"),
+    Run("sort", "1\n1 2", status=1, fault="line 2 is not a version\n"),
+    Run("key 1..2", status=1, fault="not a version: 1..2\n"),
+    Run("match ^7", LONG_LINES, LONG_LINES),
+)
+
+# Runs that take memory for their words alone.
+VERS_WITHOUT_MEMORY = (
+    Run("cmp 1.2.3 1.2.3-rc.1", "", ">\n"),
+    Run("cmp 1 .", status=1, fault="not a version: .\n"),
+    Run("match >=1.0,", status=1, fault="not a requirement: >=1.0,\n"),
+    Run("ideal ideal", status=2, fault="usage: vers ideal, show, sort, cmp A B, key V, match R\n"),
+)
+
+HELP = """\
+Sorts, filters and explains version numbers of mixed shapes
+
+Usage: versions <COMMAND>
+
+Commands:
+  sort     Write lines in the order of their versions
+  newest   Write the line with the newest version, or that of each group
+  filter   Write lines whose versions a list of requirements matches
+  show     Write the kind of versions, their numbers and other fields
+  key      Write sort keys in hexadecimal, whose order as bytes is that of the versions
+  test     End with 0 if it is so, 1 if not, and 2 if a word is wrong; write nothing
+  compare  Write <, = or > between two versions
+  why      Write which requirement excludes each version, and on which side
+  diff     Write where two versions differ first, or what changed between two lists of names
+  next     Write the version that comes next at a place
+
+Options:
+  -h, --help     Print help
+  -V, --version  Print version
+
+Status: 0 for an answer, even an empty one; 1 for a text that is no version or requirement, and for
+a no of test; 2 for wrong words; 3 if there is no memory, or a file can't be read or written.
+"""
+HELP_OF_KEY = """\
+Write sort keys in hexadecimal, whose order as bytes is that of the versions
+
+Usage: versions key [OPTIONS] [VERSION]...
+
+Arguments:
+  [VERSION]...  Versions; without any, or with - alone, the lines of standard input
+
+Options:
+  -z, --zero-terminated  Lines end with NUL, and not with a line feed
+      --crlf             A carriage return at a line's end belongs to the end
+  -h, --help             Print help
+
+Example:
+  $ versions key 1.9 1.10 | sort -c && echo in order
+  in order
+"""
+FIELDS = """\
+1:2.0-3
+  kind: general
+  epoch: 1
+  major: 2
+  minor: 0
+  release: 3
+  stability: stable
+"""
+JSON = (
+    '{"version":"1.2.0-rc.1","kind":"ideal","epoch":null,"major":1,"minor":2,"patch":0,"pre_release":"rc.1",'
+    '"release":null,"metadata":null,"stability":"rc"}\n'
+)
+MORE = "\n\nFor more information, try '--help'.\n"
+OPERATORS = "[possible values: <, <=, =, >=, >, lt, le, eq, ge, gt]"
+STABILITIES = "[possible values: dev, alpha, beta, rc, stable]"
+PLACES = "[possible values: major, minor, patch, a number from 0]"
+
+
+def tip(kind, meant):
+    return f"\n\n  tip: a similar {kind} exists: '{meant}'"
+
+
+# The commands with the options that decide what is allocated, and words, lines and files that they refuse.
+VERSIONS = (
+    Run("key --help", "", HELP_OF_KEY),
+    Run("--help", "", HELP),
+    Run("--version", "", "versions 0.1.0\n"),
+    Run("sort", "1.10\n1.9\n1.10rc1", "1.9\n1.10rc1\n1.10\n"),
+    Run("sort -r -u -k 2 -t ,", "a,1.0\nb,1.10\nc,0:1.0\nd,1.9\n", "b,1.10\nd,1.9\na,1.0\n"),
+    Run("sort --tags", "v2.0.0-beta.1\nv1.10.0\nv1.9.0\n", "v1.9.0\nv1.10.0\nv2.0.0-beta.1\n"),
+    Run("sort -z --prefix go", "go1.20.3\0go1.9\0", "go1.9\0go1.20.3\0"),
+    Run("sort --invalid first", "1.1\nx y\n1.0\n", "x y\n1.0\n1.1\n"),
+    Run("sort --invalid last", "1.1\nx y\n1.0\n", "1.0\n1.1\nx y\n"),
+    Run("newest -n 2 -g 1 -k 2", "left 1.9\nup 2.0\nleft 1.10\nleft 1.8\n", "left 1.10\nleft 1.9\nup 2.0\n"),
+    Run("newest -n 2 --match <2", "1.9\n1.11\n1.10\n2.0\n", "1.11\n1.10\n"),
+    Run("newest --tags --min-stability stable", "v1.9.0\nv2.0.0-beta.1\nv1.10.0\n", "v1.10.0\n"),
+    Run("filter >=1.2,<2", "1.1\n1.2\nx y\n2.0\n", "1.2\n"),
+    Run("filter -v >=1.2,<2", "1.1\n1.2\nx y\n2.0\n", "1.1\n2.0\n"),
+    Run("show 1:2.0-3", "", FIELDS),
+    Run("show --json 1.2.0-rc.1", "", JSON),
+    Run("key --crlf", "1.2.3\r\n", "000301310203013202030133020202\n"),
+    Run("why >=1.5,<2 1.4 1.6", "", "1.4 is below >=1.5\n1.6 matches\n"),
+    Run("next minor 1.2.5", "", "1.3.0\n"),
+    Run("test 1.10 gt 1.9"),
+    Run("test 1.10 >=1.2,<2"),
+    Run("test 1.9 > 1.10", status=1),
+    Run("compare --explain 1.10 1.9", "", "> they differ first in part 1\n"),
+    Run("diff 1.2.3 1.2.3-rc.1", "", "tail\n"),
+    Run("sort", "1.1\nx y\n1.0\n", status=1, fault="versions: line 2 is not a version: x y\n"),
+    Run("sort", "1.2\t\n", status=1, fault="versions: line 1 is not a version: 1.2\\t\n"),
+    Run("show", "1.0\r\n", status=1, fault="versions: line 1 ends in a carriage return: --crlf\n"),
+    Run("key 1..2", status=1, fault="versions: not a version: 1..2\n"),
+    Run("compare 1 .", status=1, fault="versions: not a version: .\n"),
+    Run("filter >=1.0,", "1.0\n", status=1, fault="versions: not a requirement: >=1.0,\n"),
+    Run("test 1 lt 'x y'", status=2, fault="versions: neither a version nor a requirement: x y\n"),
+    Run("next 3 1.2.3", status=1, fault="versions: no version comes next at that place: 1.2.3\n"),
+    Run(
+        "sort -t ab",
+        status=2,
+        fault=f"error: invalid value 'ab' for '--field-separator <SEP>': it is one byte, \\t or \\0{MORE}",
+    ),
+    Run(
+        "sort --invalid-to others --invalid last",
+        status=2,
+        fault=f"error: the argument '--invalid-to <FILE>' takes '--invalid skip' alone{MORE}",
+    ),
+    Run(
+        "test 1 gte 1",
+        status=2,
+        fault=f"error: invalid value 'gte' for '<OP>'\n  {OPERATORS}{tip('value', 'ge')}{MORE}",
+    ),
+)
+
+# Runs that read or write files.
+VERSIONS_WITH_FILES = (
+    Run("sort -t, -k2 table -", "down,1.2", "down,1.2\nright,1.9\nup,1.10rc1\nleft,1.10\n"),
+    Run("diff --lists old new", "", "raised left 1.2 1.3\nlowered right 2.0 1.9\nremoved up 1.0\nadded down 0.1\n"),
+    Run("sort --invalid-to others", "1.1\nx y\n1.0\n", "1.0\n1.1\n", written={"others": "x y\n"}),
+    Run(
+        "sort --invalid-to others",
+        "1.1\nx y\n1.0\n",
+        "1.0\n1.1\n",
+        files={"others": "what was there\n"},
+        written={"others": "x y\n"},
+    ),
+    Run("sort missing", status=3, fault="versions: cannot be read: missing\n"),
+    Run("diff --lists old missing", status=3, fault="versions: cannot be read: missing\n"),
+    Run("sort --invalid-to full", "1.1\nx y\n1.0\n", status=3, fault="versions: cannot be written: full\n"),
+    Run("sort --invalid-to .", "1.0\n", status=3, fault="versions: cannot be written: .\n"),
+)
+
+# Words of which one is nearly right. Where a similar one is looked for, letters are collected, and a list of them that
+# is refused is tried again with room for fewer.
+USAGE = "\n\nUsage: versions <COMMAND>"
+USAGE_OF_REVERSE = "\n\nUsage: versions sort --reverse [FILE]..."
+MISSPELT = (
+    Run("sotr", status=2, fault=f"error: unrecognized subcommand 'sotr'{tip('subcommand', 'sort')}{USAGE}{MORE}"),
+    Run("kye 1", status=2, fault=f"error: unrecognized subcommand 'kye'{tip('subcommand', 'key')}{USAGE}{MORE}"),
+    Run(
+        "sort --revers",
+        status=2,
+        fault=f"error: unexpected argument '--revers' found{tip('argument', '--reverse')}{USAGE_OF_REVERSE}{MORE}",
+    ),
+    Run(
+        "sort --min-stability tc",
+        status=2,
+        fault=f"error: invalid value 'tc' for '--min-stability <LEVEL>'\n  {STABILITIES}{tip('value', 'rc')}{MORE}",
+    ),
+    Run(
+        "next mino 1.2",
+        status=2,
+        fault=f"error: invalid value 'mino' for '<PLACE>'\n  {PLACES}{tip('value', 'minor')}{MORE}",
+    ),
+)
+
+# Runs of a program by how they take memory.
+TABLES = (
+    ("vers", "", VERS),
+    ("vers", "without memory", VERS_WITHOUT_MEMORY),
+    ("versions", "", VERSIONS),
+    ("versions", "", VERSIONS_WITH_FILES),
+    ("versions", "with retries", MISSPELT),
+)
+
+# The public calls of the programs' crates that may allocate, and a run that goes through each.
+CALLS = {
+    "vers_words::run": ("vers", "sort"),
+    "version_words::run": ("versions", "sort"),
+    # `run` makes these two calls. The last quotes a line that is no version.
+    "version_words::read_words": ("versions", "key 1..2"),
+    "version_commands::serve": ("versions", "compare --explain 1.10 1.9"),
+    "version_commands::quoted": ("versions", "sort"),
+}
