@@ -19,7 +19,7 @@ JOBS = int(os.environ.get("JOBS", "3"))
 WORDS = sys.argv[1:]
 
 # Tests of great lengths, by the prefixes of their names. Each would take `rt try` minutes.
-LARGE = re.compile(r"^#\[test\]\nfn ((?:a_million|ten_megabytes|a_hundred_thousand)\w*)\(.*?^}\n", re.M | re.S)
+LARGE = re.compile(r"^#\[test\]\nfn ((?:a_million|ten_megabytes)\w*)\(.*?^}\n", re.M | re.S)
 SCRIPTS = ("tests/examples", "tests/unused")
 # The crate whose calls `tests/refused_memory` makes.
 MEMORY = "vectors_memory"
@@ -79,28 +79,14 @@ def left_to_the_gate():
 
 
 class Tests:
-    """The tests of these crates, as one crate: most of the time goes into the libraries, which are then read once."""
+    """The tests of a crate, but for those of great lengths."""
 
-    name = "the tests of the crates"
     command = ["rt", "try", "--test"]
 
-    def __init__(self, copy, crates):
-        listed = copy / "crates.txt"
-        rows = dict(line.split(":") for line in listed.read_text().splitlines() if ":" in line)
-        self.folder = copy / "crates/all_tests"
-        sources = self.folder / "src"
-        sources.mkdir(parents=True)
-        self.wanted = 0
-        for crate in crates:
-            own = copy / "crates" / crate / "src"
-            self.wanted += sum(file.read_text().count("#[test]") for file in own.rglob("*.rt"))
-            for file in own.iterdir():
-                if file.name != "lib.rt":
-                    shutil.move(file, sources)
-        modules = sorted(file.stem for file in sources.glob("*.rt"))
-        (sources / "lib.rt").write_text("#![tactic(auto)]\n\n" + "".join(f"mod {name};\n" for name in modules))
-        needed = dict.fromkeys(name for crate in crates for name in rows[crate].split())
-        listed.write_text(listed.read_text() + f"all_tests: {' '.join(needed)}\n")
+    def __init__(self, copy, crate):
+        self.name = f"the tests of {crate}"
+        self.folder = copy / "crates" / crate
+        self.wanted = sum(file.read_text().count("#[test]") for file in self.folder.glob("src/**/*.rt"))
 
     def counts(self, said, status):
         passed = sum(word == "ok" for _, word in TEST.findall(said))
@@ -216,7 +202,8 @@ def main(copy):
     # The longest parts come first, so that the processors end together.
     parts = []
     if WORDS != ["rest"]:
-        parts += [Tests(copy, sorted(tested)), Cases(copy, MEMORY, cases_of_memory())]
+        parts += [Tests(copy, crate) for crate in sorted(tested)]
+        parts += [Cases(copy, MEMORY, cases_of_memory())]
         parts += [Cases(copy, "versions_program", cases_of_runs(*runs.VERSIONS, *runs.MISSPELT))]
         parts += [Cases(copy, "vers", cases_of_vers())]
     parts += [Script(SCRIPTS[0]), FirstCommand(copy), Script(SCRIPTS[1])]

@@ -1,5 +1,6 @@
 //! The calls that are timed. All results are checked, so that no call can be optimized away; a wrong result is an error.
 
+use crate::checks::holds;
 use crate::watch::Watch;
 use std::hash::{DefaultHasher, Hash, Hasher};
 use std::io;
@@ -9,16 +10,15 @@ use version_texts::{
     Difference, RangeRef, RequirementsRef, VersioningRef, conflict_in, list_matches, why_not,
 };
 use versions::Versioning;
+use versions::key::compare_bytes;
 
 /// Times each call on the text of a version.
 pub fn on_version(rt: &HostRuntime, watch: &mut Watch<'_>, text: &str) -> io::Result<()> {
     watch.start()?;
     let version = Versioning::new(rt.alloc(), text)?.ok_or(ErrorKind::InvalidInput)?;
     watch.lap("read")?;
-    let text_again = version.to_string(rt.alloc())?;
-    watch.lap("printed")?;
-    let key = version.sort_key(rt.alloc())?;
-    watch.lap("keyed")?;
+    let key = on_owned(rt, watch, &version, text)?;
+    watch.go_on()?;
     let spelled = VersioningRef::new(text).ok_or(ErrorKind::InvalidInput)?;
     let from_text = spelled.compare_key(key.as_slice()).is_eq();
     watch.lap("spelled_key")?;
@@ -26,34 +26,55 @@ pub fn on_version(rt: &HostRuntime, watch: &mut Watch<'_>, text: &str) -> io::Re
     let spelled = VersioningRef::new(text).ok_or(ErrorKind::InvalidInput)?;
     spelled.append_key(&mut block)?;
     watch.lap("appended_key")?;
+    let length = spelled.key_length();
+    watch.lap("key_length")?;
+    let tagged = version_in_tag(text.as_bytes());
+    watch.lap("in_tag")?;
+    let stable = stability_of(&spelled) == Stability::Stable;
+    watch.lap("stability")?;
+    let again = String::from_str(rt.alloc(), text)?;
+    let again = VersioningRef::new(again.as_str()).ok_or(ErrorKind::InvalidInput)?;
+    let unchanged = spelled.difference(&again) == Difference::Same;
+    watch.lap("difference")?;
+    let following = next_of(&spelled, 0);
+    watch.lap("next")?;
+    holds(from_text && block == key && length == key.len() && stable && unchanged)?;
+    holds(tagged.is_none_or(|found| found == spelled))?;
+    holds(following.is_none_or(|found| found.length() > 0))
+}
+
+/// Times each call on the version of a text, or on its messy version. Returns its key.
+pub fn on_owned(
+    rt: &HostRuntime,
+    watch: &mut Watch<'_>,
+    version: &Versioning,
+    text: &str,
+) -> io::Result<Vec<u8>> {
+    watch.go_on()?;
+    let printed = version.to_string(rt.alloc())?;
+    watch.lap("printed")?;
+    let key = version.sort_key(rt.alloc())?;
+    watch.lap("keyed")?;
+    let keyed = compare_bytes(&mut version.key_bytes(), &mut key.iter().copied()).is_eq();
+    watch.lap("key_bytes")?;
     let copy = version.clone(rt.alloc())?;
     watch.lap("cloned")?;
     let tie = version.precedence(&copy).is_eq();
     watch.lap("precedence")?;
     let same = version.cmp(&copy).is_eq();
     watch.lap("cmp")?;
-    let hash = hash_of(&version);
+    let equal = *version == copy;
+    watch.lap("equal")?;
+    let hash = hash_of(version);
     watch.lap("hashed")?;
-    let tagged = version_in_tag(text.as_bytes());
-    watch.lap("in_tag")?;
-    let stable = stability_of(&spelled) == Stability::Stable;
-    watch.lap("stability")?;
-    let again = VersioningRef::new(text_again.as_str()).ok_or(ErrorKind::InvalidInput)?;
-    let unchanged = spelled.difference(&again) == Difference::Same;
-    watch.lap("difference")?;
-    let following = next_of(&spelled, 0);
-    watch.lap("next")?;
-
-    let right = text_again.as_str() == text && from_text && block == key && tie && same;
-    let right_tag = tagged.is_none_or(|found| found == spelled);
-    let right_next = following.is_none_or(|found| found.length() > 0);
-    if !(right && right_tag && stable && unchanged && right_next) || hash != hash_of(&copy) {
-        return Err(ErrorKind::InvalidData.into());
-    }
-
+    let number = version.nth(usize::MAX);
+    watch.lap("nth")?;
+    holds(printed.as_str() == text && keyed && tie && same && equal && number.is_none())?;
+    holds(hash == hash_of(&copy))?;
     watch.go_on()?;
     drop(copy);
-    watch.lap("dropped")
+    watch.lap("dropped")?;
+    Ok(key)
 }
 
 /// Times each call on a list and a version that all its members match.
@@ -81,10 +102,7 @@ pub fn on_list(
     watch.lap("list_why_not")?;
     let is_empty = matches!(conflict_in(closed.as_bytes()), Some(Some(_)));
     watch.lap("list_conflict")?;
-    if !all || asked != Some(true) || !range.has(&version) || !is_excluded || !is_empty {
-        return Err(ErrorKind::InvalidData.into());
-    }
-    Ok(())
+    holds(all && asked == Some(true) && range.has(&version) && is_excluded && is_empty)
 }
 
 /// Times each call on a tag, of which all but the last byte are the prefix. A version is an error.
@@ -95,13 +113,10 @@ pub fn on_tag(watch: &mut Watch<'_>, tag: &[u8]) -> io::Result<()> {
     watch.lap("in_tag")?;
     let found_after = version_after_prefix(prefix, tag).is_some();
     watch.lap("after_prefix")?;
-    if found || found_after {
-        return Err(ErrorKind::InvalidData.into());
-    }
-    Ok(())
+    holds(!found && !found_after)
 }
 
-fn hash_of(version: &Versioning) -> u64 {
+pub fn hash_of(version: &Versioning) -> u64 {
     let mut state = DefaultHasher::new();
     version.hash(&mut state);
     state.finish()

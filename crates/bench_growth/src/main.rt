@@ -1,33 +1,41 @@
 //! The program `bench_growth`: the time of each call on one long version, or on a long list and a long version, for each
 //! byte of its text. If the work is linear, that time is the same for texts of any length. `bench/growth` runs it. With
-//! the word `check`, as the gate runs it, it makes the same calls on short texts, and prints the texts and no times.
+//! the word `check`, as the gate runs it, it makes the same calls and checks more of the texts, short ones or one of a
+//! length, and prints no times. Each call goes along a text by a loop, so a program's default stack is enough.
 #![tactic(auto)]
 
 mod calls;
+mod checks;
 mod watch;
 
 use calls::{on_list, on_tag, on_version};
+use checks::{check_list, check_version};
 use std::alloc::{AllocError, Global};
 use std::num::nearest_usize_to_f64;
 use std::{env, io};
+use versions::Kind;
 use watch::Watch;
 
 const USAGE: &str =
-    "usage: bench_growth SHAPE MEGABYTES, or bench_growth check; SHAPE is signs, letters, dots, \
-    metadata, or of a list zeros, digits, words, epochs, or signs_of_a_tag";
+    "usage: bench_growth SHAPE MEGABYTES, or bench_growth check [SHAPE MEGABYTES]; SHAPE is signs, \
+    colons, nines, letters, dots, parts, metadata, or of a list zeros, digits, words, epochs, or signs_of_a_tag";
 
 const ROUNDS: u8 = 3;
 
 // The length of a short text in bytes.
 const FEW: usize = 19;
 
-// The shapes of versions: sections of a messy version, each inside the one before it, one part of a general version, many
-// parts, and the metadata of a strict version. A text begins with the first piece, and goes on with the second.
-const VERSIONS: [(&str, &str, &str); 4] = [
-    ("signs", "1", "_1"),
-    ("letters", "a", "a"),
-    ("dots", "1", ".1"),
-    ("metadata", "1.2.3+a", "a"),
+// The shapes of versions, with their kinds: sections of a messy version, each inside the one before it, with two signs;
+// one number, one part of a general version, many parts, parts of letters and digits, and the metadata of a strict
+// version. A text begins with the first piece, and goes on with the second.
+const VERSIONS: [(&str, Kind, &str, &str); 7] = [
+    ("signs", Kind::Complex, "1", "_1"),
+    ("colons", Kind::Complex, "1", ":1"),
+    ("nines", Kind::Complex, "9", "9"),
+    ("letters", Kind::General, "a", "a"),
+    ("dots", Kind::General, "1", ".1"),
+    ("parts", Kind::General, "1.abcdef2", ".1.abcdef2"),
+    ("metadata", Kind::Ideal, "1.2.3+a", "a"),
 ];
 
 // The shapes of lists, each with a version that all members match: the pieces of both, and the version's end.
@@ -43,18 +51,27 @@ const TAG: &str = "signs_of_a_tag";
 
 fn main(rt: HostRuntime) -> io::Result<()> {
     let words: Vec<String> = env::args(&rt)?.skip(1).collect(rt.alloc())?;
-    if let [word] = words.as_slice()
-        && word.as_str() == "check"
-    {
-        return check(&rt);
+    match words.as_slice() {
+        [word] if word.as_str() == "check" => check(&rt),
+        [word, shape, megabytes] if word.as_str() == "check" => {
+            check_shape(&rt, shape.as_str(), bytes_of(megabytes.as_str()))
+        }
+        [shape, megabytes] => time(&rt, shape.as_str(), bytes_of(megabytes.as_str())),
+        _ => println!(rt; "{USAGE}"),
     }
-    let Some((name, bytes)) = wanted(words.as_slice()) else {
-        return println!(rt; "{USAGE}");
-    };
-    let mut watch = Watch::new(&rt)?;
+}
+
+// Returns how many bytes there are in megabytes.
+fn bytes_of(megabytes: &str) -> Option<usize> {
+    megabytes.parse::<usize>().ok()?.checked_mul(1_000_000)
+}
+
+// Prints a line for each call, with the nanoseconds for each byte of the text.
+fn time(rt: &HostRuntime, name: &str, bytes: Option<usize>) -> io::Result<()> {
+    let mut watch = Watch::new(rt)?;
     let mut length = None;
     for _ in 0..ROUNDS {
-        length = make_calls(&rt, &mut watch, name, bytes)?.map(|texts| texts.1);
+        length = make_calls(rt, &mut watch, name, bytes, false)?.map(|texts| texts.1);
     }
     let Some(length) = length else {
         return println!(rt; "{USAGE}");
@@ -66,38 +83,31 @@ fn main(rt: HostRuntime) -> io::Result<()> {
     Ok(())
 }
 
-// Prints a line for each shape, with a short text and the calls whose results were checked.
+// Checks a short text of each shape.
 fn check(rt: &HostRuntime) -> io::Result<()> {
-    for (name, _, _) in VERSIONS {
-        check_shape(rt, name)?;
+    for (name, ..) in VERSIONS {
+        check_shape(rt, name, Some(FEW))?;
     }
-    for (name, _) in LISTS {
-        check_shape(rt, name)?;
+    for (name, ..) in LISTS {
+        check_shape(rt, name, Some(FEW))?;
     }
-    check_shape(rt, TAG)
+    check_shape(rt, TAG, Some(FEW))
 }
 
-fn check_shape(rt: &HostRuntime, name: &str) -> io::Result<()> {
+// Prints a line for a shape, with a short text or the length of a long one, and the calls whose results were checked.
+fn check_shape(rt: &HostRuntime, name: &str, bytes: Option<usize>) -> io::Result<()> {
     let mut watch = Watch::new(rt)?;
-    let Some((texts, _)) = make_calls(rt, &mut watch, name, FEW)? else {
-        return Ok(());
+    let Some((texts, length)) = make_calls(rt, &mut watch, name, bytes, true)? else {
+        return println!(rt; "{USAGE}");
     };
-    print!(rt; "{name} {texts}:")?;
+    match bytes {
+        Some(FEW) => print!(rt; "{name} {texts}:")?,
+        _ => print!(rt; "{name} of {length} bytes:")?,
+    }
     for (call, _) in &watch.least {
         print!(rt; " {call}")?;
     }
     println!(rt)
-}
-
-// Returns the name of a shape and the length that the words are.
-fn wanted(words: &[String]) -> Option<(&str, usize)> {
-    match words {
-        [shape, megabytes] => {
-            let megabytes = megabytes.as_str().parse::<usize>().ok()?;
-            Some((shape.as_str(), megabytes.checked_mul(1_000_000)?))
-        }
-        _ => None,
-    }
 }
 
 // Makes the calls on a text of the shape. Returns the text, after that of a list the version, and the text's length.
@@ -105,12 +115,19 @@ fn make_calls(
     rt: &HostRuntime,
     watch: &mut Watch<'_>,
     name: &str,
-    bytes: usize,
+    bytes: Option<usize>,
+    is_checked: bool,
 ) -> io::Result<Option<(String, usize)>> {
-    for (shape, front, further) in VERSIONS {
+    let Some(bytes) = bytes else {
+        return Ok(None);
+    };
+    for (shape, kind, front, further) in VERSIONS {
         if shape == name {
             let text = filled(rt.alloc(), front, further, bytes)?;
             on_version(rt, watch, text.as_str())?;
+            if is_checked {
+                check_version(rt, text.as_str(), kind)?;
+            }
             let length = text.len();
             return Ok(Some((text, length)));
         }
@@ -121,6 +138,10 @@ fn make_calls(
             let mut version = filled(rt.alloc(), front, further, bytes)?;
             version.push_str(end)?;
             on_list(rt, watch, text.as_str(), version.as_str())?;
+            if is_checked {
+                let short = format!(in rt.alloc(); "{front}{end}")?;
+                check_list(rt, text.as_str(), short.as_str())?;
+            }
             let length = text.len();
             text.push_str(" ")?;
             text.push_str(version.as_str())?;

@@ -1,8 +1,8 @@
 //! What `Debug` writes of messy versions, which no clause says, with its options.
 
+use crate::support::{any, holds, read};
 use std::alloc::AllocError;
 use std::test::Fail;
-use vectors_support::{any, holds, read};
 use versions::Mess;
 
 // The text that Rust's derive writes for `1.a_r2+0`.

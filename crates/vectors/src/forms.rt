@@ -1,11 +1,11 @@
 //! The forms that serde derives for strict and general versions and for the parts of all versions: their JSON texts,
 //! and documents that are refused. No clause says what they are.
 
+use crate::support::{each, holds};
 use serde::{DeserializeOwned, Serialize};
 use serde_json::Value;
 use std::fmt::{Debug, Display};
 use std::test::Fail;
-use vectors_support::{each, holds};
 use versions::{Chunk, Chunks, Last, MChunk, Release, SemVer, Sep, Version};
 
 // Types, forms of their values, what the values print, and their `Debug`; or that a document is not a form.

@@ -1,8 +1,8 @@
 //! Unequal values have different hashes, which no clause says: only the input of a hash is proved.
 
+use crate::support::{form, hash_of, holds, read};
 use std::hash::Hash;
 use std::test::Fail;
-use vectors_support::{form, hash_of, holds, read};
 use versions::{
     Chunk, Chunks, Last, MChunk, Mess, Op, Release, Requirement, Requirements, SemVer, Sep,
     Version, Versioning,

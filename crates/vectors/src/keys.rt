@@ -1,14 +1,14 @@
 //! The bytes of the keys of versions, of what is read and of values built by hand, of shapes that no text parses as; and
 //! how two streams of bytes compare.
 
+use crate::support::{any, as_messy, bytes, columns, each, expanded, form, key, prints, shown};
 use std::test::Fail;
-use vectors_support::{any, as_messy, bytes, columns, each, form, key, prints, shown};
 use versions::key::compare_bytes;
 use versions::{Mess, Sep, Version, Versioning};
 
 // Values, their keys, and what they print. A value is that of a text, a last part alone, a general version or a messy
 // version, by JSON forms. A messy version is a list of chunks for each section, with a colon between two. What is printed
-// is a JSON string.
+// is a JSON string. For a text `[1.*3]` stands for `1.1.1.`, also in its key and in what it prints.
 const KEYS: &str = r#"text 1.0|00 03 01 31 02 03 00 02 02 02|"1.0"
 text 1.0.10|00 03 01 31 02 03 00 02 03 02 31 30 02 02 02|"1.0.10"
 text 9|00 03 01 39 02 02 02|"9"
@@ -17,6 +17,12 @@ text abc|00 01 61 62 63 00 00 02 02|"abc"
 text rc010b2|00 01 72 63 00 01 02 31 30 62 32 00 02 02|"rc010b2"
 text 3rc10|00 03 01 33 01 72 63 00 01 02 31 30 00 02 02|"3rc10"
 text 1.git.3p|00 03 01 31 02 01 67 69 74 00 00 03 01 33 01 70 00 00 02 02|"1.git.3p"
+text [9*3000]|00 03 FF FF FF FF FF FF FF FF FF FF FF C3[ 39*3000] 02 02 02|"[9*3000]"
+text [0*3000]1|00 03 01 31 02 02 02|"[0*3000]1"
+text [9*254]|00 03 FE[ 39*254] 02 02 02|"[9*254]"
+text 1[0*254]|00 03 FF 00 31[ 30*254] 02 02 02|"1[0*254]"
+text 1[0*255]|00 03 FF 01 31[ 30*255] 02 02 02|"1[0*255]"
+text [1_*999]1|00 03 01 31 02 02 04[ 02 03 01 31 02 02*999] 01|"[1_*999]1"
 text 1.2.3-r1.30.0|00 03 01 31 02 03 01 32 02 03 01 33 02 02 01 03 72 31 00 02 02 33 30 02 00 01|"1.2.3-r1.30.0"
 last {"Alphanum":"é1"}|00 01 C3 A9 00 01 01 31 00 02 02|"é1"
 last {"Alphanum":"a.b"}|00 01 61 2E 62 00 00 02 02|"a.b"
@@ -36,8 +42,12 @@ fn each_has_its_key_and_its_text(rt: HostRuntime) -> Result<(), Fail> {
         let (value, wanted, text) = columns(row)?;
         let (kind, forms) = value.split_once(' ').ok_or("no form")?;
         let version = built(&rt, kind, forms)?;
-        key(&rt, &version, bytes(&rt, wanted)?.as_slice())?;
-        let text: String = form(&rt, text)?;
+        key(
+            &rt,
+            &version,
+            bytes(&rt, expanded(&rt, wanted)?.as_str())?.as_slice(),
+        )?;
+        let text: String = form(&rt, expanded(&rt, text)?.as_str())?;
         prints(&rt, &version, text.as_str())?;
         prints(&rt, &as_messy(rt.alloc(), &version)?, text.as_str())?;
     }
@@ -51,7 +61,7 @@ fn each_has_its_key_and_its_text(rt: HostRuntime) -> Result<(), Fail> {
 
 fn built(rt: &impl AllocGlobal, kind: &str, forms: &str) -> Result<Versioning, Fail> {
     match kind {
-        "text" => any(rt, forms),
+        "text" => any(rt, expanded(rt, forms)?.as_str()),
         "last" => {
             let mut version = Version::default_in(rt.alloc());
             version.last = form(rt, forms)?;

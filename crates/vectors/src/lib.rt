@@ -19,6 +19,8 @@ mod printed;
 #[cfg(test)]
 mod ranges;
 #[cfg(test)]
+mod support;
+#[cfg(test)]
 mod tasks;
 #[cfg(test)]
 mod texts;

@@ -1,7 +1,7 @@
 //! Which versions a requirement or a list of requirements matches, and which texts are none.
 
+use crate::support::{any, holds, prints, read};
 use std::test::Fail;
-use vectors_support::{any, holds, prints, read};
 use version_texts::{RequirementRef, RequirementsRef, VersioningRef, list_matches};
 use versions::{Op, Requirement, Requirements};
 

@@ -1,12 +1,12 @@
 //! How versions and their parts compare: rows of versions each below the next, ties, and conversions.
 
+use crate::support::{any, expanded, form, holds, read};
 use std::cmp::Ordering;
 use std::test::Fail;
-use vectors_support::{any, form, holds, read};
 use versions::{Chunks, Last, MChunk, Mess, SemVer, Version, Versioning};
 
 // A type and texts or JSON forms of its values; some forms have no text. Values of `Versioning` are also compared by
-// `precedence`.
+// `precedence`; in their texts `[1.*3]` stands for `1.1.1.`.
 const EACH_BELOW_THE_NEXT: &str =
     r#"SemVer 1.0.0-alpha 1.0.0-alpha.1 1.0.0-alpha.beta 1.0.0-beta 1.0.0-beta.2 1.0.0-beta.11 1.0.0-rc.1 1.0.0
 Version 0.9.9.9 1.0.0.0 1.0.0.1 2
@@ -32,6 +32,7 @@ Versioning 1.2.3.git 1.2.3 1.2.3.0
 Versioning 2.14.r8.g28399bf-1 2.14.r23.ga07d3df-1 2.14.8
 Versioning 4294967295.0.0 4294967296.0.0
 Versioning 9 10
+Versioning 1 [9*254] 1[0*254] 1[0*255]
 Versioning 1.0rc1 1.0
 Versioning 1.2 1.2.0
 Versioning 1.2.9 1.3
@@ -71,7 +72,8 @@ FormOfSemVer {"major":1,"minor":2,"patch":3,"pre_rel":[],"meta":null} {"major":1
 const TIED_IN_PRECEDENCE: &str = "\
 Versioning 1.0 0:1.0
 Versioning 1.0 1.0+x
-Versioning 1.2 1.002";
+Versioning 1.2 1.002
+Versioning 1 [0*3000]1";
 
 const EQUAL: &str = "\
 SemVer 1.0.0+a 1.0.0+b
@@ -139,8 +141,8 @@ fn compared(
             in_order(one, read(Mess::new(rt.alloc(), other)))
         }
         _ => {
-            let one = any(rt, one)?;
-            let other = any(rt, other)?;
+            let one = any(rt, expanded(rt, one)?.as_str())?;
+            let other = any(rt, expanded(rt, other)?.as_str())?;
             Ok((one.precedence(&other), one.cmp(&other), one == other))
         }
     }

@@ -1,12 +1,13 @@
 //! What versions, requirements and documents print, the kinds of versions, and numbers by their places.
 
+use crate::support::{any, as_messy, each, expanded, holds, prints, read, shown};
 use serde_json::Value;
 use std::alloc::AllocError;
 use std::test::Fail;
-use vectors_support::{any, as_messy, each, holds, prints, read, shown};
 use versions::{JsonError, Mess, Op, ReadError, Requirement, Requirements, Versioning};
 
-// Kinds of versions, each of which prints its text; and numbers at the first places, so many.
+// Kinds of versions, each of which prints its text; and numbers at the first places, so many. In
+// these texts `[1.*3]` stands for `1.1.1.`.
 const ANSWERS: &str = "\
 kind 0.1.0 1.2.3 1.2.3-1 1.2.3-alpha 1.2.3-alpha.2 1.2.3+a1b2c3.1 1.2.3-alpha.2+a1b2c3.1 1.0.0-x-y-z.- 1.0.0-alpha+001|Ideal
 kind 1.0.0+21AF26D3---117B344092BD 0.4.8-1 7.42.13-4 2.1.16102-2 2.2.1-b05 1.11.0+20200830-1 1.2.3+.. 1.2.2-0a|Ideal
@@ -22,7 +23,9 @@ numbers 1.r2.03_4 4|1 none 3 none
 numbers 1:2.a.4.5.6.7-r1 3|2 none 4
 numbers 1:2:3.4 3|3 4 none
 numbers 0:1.6a.0+2014+m872b87e73dfb-1 1|1
-numbers 1.6a.0+2014+m872b87e73dfb-1 3|1 none 0";
+numbers 1.6a.0+2014+m872b87e73dfb-1 3|1 none 0
+numbers [9*3000] 1|none
+numbers [0*3000]1 1|1";
 
 #[test]
 fn kinds_and_numbers(rt: HostRuntime) -> Result<(), Fail> {
@@ -50,7 +53,7 @@ fn answer(rt: &impl AllocGlobal, given: &str) -> Result<String, Fail> {
 
 fn numbers(rt: &impl AllocGlobal, given: &str) -> Result<String, Fail> {
     let (text, count) = given.split_once(' ').ok_or("no count")?;
-    let version = any(rt, text)?;
+    let version = any(rt, expanded(rt, text)?.as_str())?;
     let mut numbers = String::new(rt.alloc());
     for place in 0..count.parse::<usize>()? {
         if place > 0 {

@@ -1,8 +1,8 @@
 //! The ranges of keys that lists ask for.
 
+use crate::support::{any, each, holds, read};
 use std::alloc::AllocError;
 use std::test::Fail;
-use vectors_support::{any, each, holds, read};
 use version_texts::{RangeRef, VersioningRef};
 use versions::{Range, Requirements};
 

@@ -1,8 +1,8 @@
 //! What people ask of versions: tags, the newest, stabilities, what comes next, where two differ, which members of lists
 //! exclude a version or each other, and why.
 
+use crate::support::{each, expanded, holds, shown};
 use std::test::Fail;
-use vectors_support::{each, expanded, holds, shown};
 use version_tasks::{
     Stability, Texts, Wanted, newest_of, next_of, stability_of, version_after_prefix,
     version_in_tag,

@@ -1,8 +1,8 @@
 //! The calls of owned values that read a text, or a JSON document: what they answer.
 
+use crate::support::{answered, each, shown};
 use serde_json::Value;
 use std::test::Fail;
-use vectors_support::{answered, each, shown};
 use versions::parsers::{alphanums, hyphenated_alphanums, meta, unsigned};
 use versions::{
     Chunk, Last, MChunk, Mess, Release, Requirement, Requirements, SemVer, Version, Versioning,

@@ -1,5 +1,4 @@
 //! Helpers of tests: rows of tables, the values that texts parse as, and checks of values.
-#![tactic(auto)]
 
 use serde::DeserializeOwned;
 use serde_json::Value;
