@@ -5,7 +5,7 @@ use Rattle.std.proofs.lemmas.Str.{IsAscii-append}
 use Rattle.std.specs.Char.{is_ascii_digit}
 use Rattle.std.specs.Str.{IsAscii}
 use Rattle.version_rules.specs.grammar.Bytes.{dot, hyphen, is_identifier_byte, is_metadata_byte, plus}
-use Rattle.version_rules.specs.grammar.Chunk.{chunk_front}
+use Rattle.version_rules.specs.grammar.Chunk.{PlainChunk, chunk_front}
 use Rattle.version_rules.specs.grammar.Front.{begins, behind, dotted_front, optional, run_front}
 use Rattle.version_rules.specs.grammar.Grammar.{SpellsOptional}
 use Rattle.version_rules.specs.grammar.Metadata.{SpellsMetadata, meta_front}
@@ -119,16 +119,39 @@ unfolding SpellsOptional
 optional_begins mark Spells test piece None rest s other ends = rw s ends
 optional_begins mark Spells test piece (Some x) rest s other ends = rw s.1 other
 
+-- A release and metadata, each if it is spelled, parse as these, and what comes before them ends there.
+pub record AreEnds (release meta : List ℕ) (r : Option (List PlainChunk)) (m : Option (List ℕ)) : Type 0 where
+  pub release_is : optional release_front (release ++ meta) ≡ (r, meta)
+  pub meta_is : optional meta_front meta ≡ (m, [])
+  pub ends : (test : ℕ → Bool) → test plus ≡ false → test hyphen ≡ false
+      → begins test (release ++ meta) ≡ false
+
+pub ends_complete : (release meta : List ℕ) (r : Option (List PlainChunk)) (m : Option (List ℕ))
+    → SpellsOptional hyphen SpellsRelease release r → SpellsOptional plus SpellsMetadata meta m
+    → AreEnds release meta r m
+ends_complete release meta r m release_is meta_is =
+    let no_meta = λ (test : ℕ → Bool) (other : test plus ≡ false).
+    rw append-nil at (optional_begins plus SpellsMetadata test meta m [] meta_is other refl) in
+    record {
+      release_is =
+          optional_complete hyphen SpellsRelease (dotted_front chunk_front)
+          (EndsList (EndsRun is_identifier_byte)) release_complete release r meta
+          release_is (no_meta is_identifier_byte refl, no_meta (λ b. b == dot) refl)
+          (no_meta (λ b. b == hyphen) refl);
+      meta_is =
+          rw append-nil at
+          (optional_complete plus SpellsMetadata (run_front is_metadata_byte)
+          (EndsRun is_metadata_byte) metadata_complete meta m [] meta_is refl refl);
+      ends =
+          λ test other mark.
+          optional_begins hyphen SpellsRelease test release r meta release_is mark (no_meta test other);
+    }
+
 pub semver_complete : (text : List ℕ) (v : PlainSemVer) → SpellsSemVer text v
     → semver_front text ≡ Some (v, [])
 semver_complete text v s =
-    let no_meta = λ (test : ℕ → Bool) (other : test plus ≡ false).
-    rw append-nil at
-    (optional_begins plus SpellsMetadata test s.meta v.meta [] s.meta_is other refl) in
     let tail = s.pre_rel ++ s.meta in
-    let no_digit : EndsRun is_ascii_digit tail =
-    optional_begins hyphen SpellsRelease is_ascii_digit s.pre_rel v.pre_rel s.meta s.pre_rel_is refl
-    (no_meta is_ascii_digit refl) in
+    let read = ends_complete s.pre_rel s.meta v.pre_rel v.meta s.pre_rel_is s.meta_is in
     let after_major = dot ∷ (s.minor ++ dot ∷ (s.patch ++ tail)) in
     let after_minor = dot ∷ (s.patch ++ tail) in
     let major : unsigned_front (s.major ++ after_major) ≡ Some (v.major, after_major) =
@@ -136,19 +159,9 @@ semver_complete text v s =
     let minor : behind dot unsigned_front after_major ≡ Some (v.minor, after_minor) =
     unsigned_complete s.minor v.minor after_minor s.minor_is refl in
     let patch : behind dot unsigned_front after_minor ≡ Some (v.patch, tail) =
-    unsigned_complete s.patch v.patch tail s.patch_is no_digit in
-    let pre_rel : optional release_front tail ≡ (v.pre_rel, s.meta) =
-    optional_complete hyphen SpellsRelease (dotted_front chunk_front)
-    (EndsList (EndsRun is_identifier_byte)) release_complete s.pre_rel v.pre_rel s.meta
-    s.pre_rel_is (no_meta is_identifier_byte refl, no_meta (λ b. b == dot) refl)
-    (no_meta (λ b. b == hyphen) refl) in
-    let meta : optional meta_front s.meta ≡ (v.meta, []) =
-    rw append-nil at
-    (optional_complete plus SpellsMetadata (run_front is_metadata_byte)
-    (EndsRun is_metadata_byte) metadata_complete s.meta v.meta []
-    s.meta_is refl refl) in
+    unsigned_complete s.patch v.patch tail s.patch_is (read.ends is_ascii_digit refl refl) in
     rw s.whole (semver_front-Some _ (v.major, after_major) (v.minor, after_minor)
-    (v.patch, tail) major minor patch ∙ rw (pre_rel, meta) refl)
+    (v.patch, tail) major minor patch ∙ rw (read.release_is, read.meta_is) refl)
 
 -- a text spells at most one version
 pub semver_unique : (text : List ℕ) (v w : PlainSemVer) → SpellsSemVer text v → SpellsSemVer text w

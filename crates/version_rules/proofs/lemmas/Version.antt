@@ -1,6 +1,6 @@
 -- General versions. A prefix spells the version that it parses as, a text that spells a version
 -- parses as that version, and the version prints that text.
-use Rattle.std.proofs.Common.{◌≡◌, ◌==◌, ◌∙◌, ℕ, Bool, true, false, not, List, [], ◌∷◌, ◌++◌, Option, Some, None, refl, sym, ap, subst, arith, inl, inr, append-nil, append_assoc}
+use Rattle.std.proofs.Common.{◌≡◌, ◌==◌, ◌∙◌, ℕ, Bool, true, not, List, [], ◌∷◌, ◌++◌, Option, Some, None, refl, sym, ap, subst, arith, inl, inr, append_assoc}
 use Rattle.std.proofs.lemmas.Bool.{cases_Bool, eqb-true}
 use Rattle.std.proofs.lemmas.Bool.Decides.{nat_tests}
 use Rattle.std.proofs.lemmas.Str.{IsAscii-append}
@@ -9,24 +9,24 @@ use Rattle.std.specs.Cmp.{first_so, second_so}
 use Rattle.std.specs.List.{list_all}
 use Rattle.std.specs.Str.{IsAscii}
 use Rattle.version_rules.specs.grammar.Body.{PlainBody, SpellsBody, body_front}
-use Rattle.version_rules.specs.grammar.Bytes.{colon, dot, hyphen, is_identifier_byte, is_metadata_byte, plus}
+use Rattle.version_rules.specs.grammar.Bytes.{colon, dot, hyphen, is_metadata_byte, plus}
 use Rattle.version_rules.specs.grammar.Chunk.{Numeric, chunk_front}
 use Rattle.version_rules.specs.grammar.Front.{after_mark, dotted_front, optional, run_front}
 use Rattle.version_rules.specs.grammar.Grammar.{SpellsDotted}
 use Rattle.version_rules.specs.grammar.Metadata.{SpellsMetadata, meta_front}
 use Rattle.version_rules.specs.grammar.Numeral.{SpellsNumeral, unsigned_front}
-use Rattle.version_rules.specs.grammar.Reading.{EndsList, EndsRun, IsPrinted, IsSound}
+use Rattle.version_rules.specs.grammar.Reading.{IsPrinted, IsSound}
 use Rattle.version_rules.specs.grammar.Release.{SpellsRelease, release_front, release_text}
 use Rattle.version_rules.proofs.lemmas.Bytes.{IsAscii-nil, metadata_run_ascii, sign_ascii}
 use Rattle.version_rules.proofs.lemmas.Body.{body_complete, body_printed, body_sound}
-use Rattle.version_rules.proofs.lemmas.Chunk.{metadata_complete, metadata_sound, optional_complete, optional_sound, release_complete, release_printed, release_sound}
+use Rattle.version_rules.proofs.lemmas.Chunk.{metadata_sound, optional_sound, release_printed, release_sound}
 use Rattle.version_rules.proofs.lemmas.Front.Repeated.{cases_Option}
 use Rattle.version_rules.proofs.lemmas.Numeral.{numeral_printed, unsigned_complete, unsigned_sound}
 use Rattle.version_rules.proofs.lemmas.Front.Runs.{all_weaker}
 use Rattle.version_rules.proofs.lemmas.Grammar.{of_body, of_metadata, of_optional, of_release}
 use Rattle.version_rules.proofs.lemmas.Reading.{read_whole, spelled_once, whole_read, whole_spelled}
 use Rattle.version_rules.specs.grammar.Version.{PlainVersion, SpellsEpoch, SpellsVersion, epoch_front, epoch_text, version_front, version_of, version_text}
-use Rattle.version_rules.proofs.lemmas.SemVer.{optional_begins, optional_printed}
+use Rattle.version_rules.proofs.lemmas.SemVer.{ends_complete, optional_printed}
 use Rattle.version_rules.proofs.lemmas.Versioning.Spelled.{of_version}
 use Rattle.version_rules.specs.grammar.Last as last
 
@@ -266,30 +266,15 @@ version_sound text v rest e = elim (cases_Option (body_front (optional epoch_fro
 pub version_complete : (text : List ℕ) (v : PlainVersion) → SpellsVersion text v
     → version_front text ≡ Some (v, [])
 version_complete text v s =
-    let no_meta = λ (test : ℕ → Bool) (other : test plus ≡ false).
-    rw append-nil at
-    (optional_begins plus SpellsMetadata test s.meta v.meta [] s.meta_is other refl) in
     let tail = s.release ++ s.meta in
-    let no_tail = λ (test : ℕ → Bool) (other : test plus ≡ false) (mark : test hyphen ≡ false).
-    optional_begins hyphen SpellsRelease test s.release v.release s.meta s.release_is mark
-    (no_meta test other) in
+    let read = ends_complete s.release s.meta v.release v.meta s.release_is s.meta_is in
     let epoch : optional epoch_front (s.epoch ++ (s.body ++ tail)) ≡ (v.epoch, s.body ++ tail) =
     epoch_complete s.epoch v.epoch (s.body ++ tail) s.epoch_is (tail_without_colon text v s) in
     let body : body_front (s.body ++ tail) ≡ Some ((v.chunks, v.last), tail) =
     body_complete s.body (v.chunks, v.last) tail s.body_is
-    (no_tail is_ascii_alphanumeric refl refl, no_tail (λ b. b == dot) refl refl) in
-    let release : optional release_front tail ≡ (v.release, s.meta) =
-    optional_complete hyphen SpellsRelease (dotted_front chunk_front)
-    (EndsList (EndsRun is_identifier_byte)) release_complete s.release v.release s.meta
-    s.release_is (no_meta is_identifier_byte refl, no_meta (λ b. b == dot) refl)
-    (no_meta (λ b. b == hyphen) refl) in
-    let meta : optional meta_front s.meta ≡ (v.meta, []) =
-    rw append-nil at
-    (optional_complete plus SpellsMetadata (run_front is_metadata_byte)
-    (EndsRun is_metadata_byte) metadata_complete s.meta v.meta []
-    s.meta_is refl refl) in
+    (read.ends is_ascii_alphanumeric refl refl, read.ends (λ b. b == dot) refl refl) in
     rw s.whole (version_front-Some _ (v.epoch, s.body ++ tail) ((v.chunks, v.last), tail) epoch body
-    ∙ rw (release, meta) refl)
+    ∙ rw (read.release_is, read.meta_is) refl)
 
 -- a text spells at most one version
 pub version_unique : (text : List ℕ) (v w : PlainVersion) → SpellsVersion text v
