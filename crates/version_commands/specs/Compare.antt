@@ -6,7 +6,7 @@ use Rattle.std.specs.declared.cmp.Ordering.{Ordering}
 use Rattle.std.specs.declared.cmp.Ordering.TheVariants.{Less, Equal, Greater}
 use Rattle.version_rules.specs.key.Key.{key_of, precedence}
 use Rattle.version_rules.specs.grammar.Versioning.{PlainVersioning, versioning_text}
-use Rattle.version_texts.specs.Difference.{difference_of}
+use Rattle.version_texts.specs.order.Difference.{difference_of}
 use Rattle.version_texts.specs.declared.order.difference.Difference.{Difference}
 use Rattle.version_texts.specs.declared.order.difference.Difference.TheVariants.{Same, Tie, Epoch, Part, Tail}
 

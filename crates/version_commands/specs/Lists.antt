@@ -19,7 +19,7 @@ use Rattle.version_commands.specs.declared.options.Lists.{Lists}
 use Rattle.version_lines.specs.Lines.{lines_of, whole_line}
 use Rattle.version_rules.specs.key.Key.{key_of, precedence}
 use Rattle.version_rules.specs.grammar.Versioning.{PlainVersioning, versioning_text}
-use Rattle.version_texts.specs.VersioningRef.{plain_versioning_ref}
+use Rattle.version_texts.specs.versioning_ref.VersioningRef.{plain_versioning_ref}
 
 -- the inputs of two lists
 abbrev pub names_of : Lists → List (List ℕ)

@@ -5,10 +5,10 @@ use Rattle.version_rules.specs.requirement.Matching.{MatchesAll}
 use Rattle.version_rules.specs.requirement.Range.{range_of}
 use Rattle.version_rules.specs.requirement.Requirements.{requirements_of}
 use Rattle.version_rules.specs.grammar.Versioning.{PlainVersioning, versioning_text}
-use Rattle.version_texts.specs.Conflict.{ExcludeEachOther}
-use Rattle.version_texts.specs.Empty.{IsEmpty}
-use Rattle.version_texts.specs.MemberPlace.{text_between}
-use Rattle.version_texts.specs.Why.{IsExcluded, excluded_text}
+use Rattle.version_texts.specs.requirement.Conflict.{ExcludeEachOther}
+use Rattle.version_texts.specs.requirement.Empty.{IsEmpty}
+use Rattle.version_texts.specs.requirement.MemberPlace.{text_between}
+use Rattle.version_texts.specs.requirement.Why.{IsExcluded, excluded_text}
 use Rattle.version_texts.specs.declared.requirement.conflict.Conflict.{Conflict}
 use Rattle.version_texts.specs.declared.requirement.why.Excluded.{Excluded}
 

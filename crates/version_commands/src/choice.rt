@@ -2,7 +2,7 @@
 ghost use Rattle.std.specs.Prelude.{◌≡◌, true, Some, None, IfOk, IfErr, IfSome, IsTrue, OnErr};
 ghost use Rattle.version_commands.specs.Choice.{chooser_of, is_kept, is_matched, is_stable_enough, is_wanted, passes_any, wrong_list};
 ghost use Rattle.version_rules.specs.grammar.Versioning.{PlainVersioning};
-ghost use Rattle.version_texts.specs.VersioningRef.{plain_versioning_ref};
+ghost use Rattle.version_texts.specs.versioning_ref.VersioningRef.{plain_versioning_ref};
 
 use crate::options::{Arrangement, Choice};
 use crate::pick::Chooses;

@@ -3,7 +3,7 @@
 ghost use Rattle.std.specs.Prelude.{◌≡◌, ◌∷◌, ◌++◌, [], true, OnOk};
 ghost use Rattle.version_commands.specs.Compare.{comparison_line, explanation, have_one_text, sign_text};
 ghost use Rattle.version_lines.specs.Lines.{line_feed};
-ghost use Rattle.version_texts.specs.VersioningRef.{plain_versioning_ref};
+ghost use Rattle.version_texts.specs.versioning_ref.VersioningRef.{plain_versioning_ref};
 
 use crate::pieces::add_pieces;
 use itoa::Buffer;

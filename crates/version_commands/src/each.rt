@@ -9,7 +9,7 @@ ghost use Rattle.version_commands.specs.Pieces.{Adds};
 ghost use Rattle.version_commands.specs.Place.{line_text};
 ghost use Rattle.version_lines.specs.Lines.{lines_of};
 ghost use Rattle.version_rules.specs.grammar.Versioning.{versioning_of};
-ghost use Rattle.version_texts.specs.VersioningRef.{plain_versioning_ref};
+ghost use Rattle.version_texts.specs.versioning_ref.VersioningRef.{plain_versioning_ref};
 
 use crate::bad::refuse_first;
 use crate::faults::Fault;

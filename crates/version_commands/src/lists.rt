@@ -6,7 +6,7 @@ ghost use Rattle.version_commands.specs.Picked.{AreBadOf};
 ghost use Rattle.version_commands.specs.Place.{text_of};
 ghost use Rattle.version_lines.specs.Lines.{lines_of, whole_line};
 ghost use Rattle.version_rules.specs.grammar.Versioning.{versioning_text};
-ghost use Rattle.version_texts.specs.VersioningRef.{plain_versioning_ref};
+ghost use Rattle.version_texts.specs.versioning_ref.VersioningRef.{plain_versioning_ref};
 
 use crate::options::Lists;
 use crate::pick::{BadLines, EveryVersion, Takes, pick};

@@ -3,7 +3,7 @@
 ghost use Rattle.std.specs.Prelude.{IfOk};
 ghost use Rattle.version_commands.specs.Next.{WritesNext};
 ghost use Rattle.version_commands.specs.Pieces.{Adds};
-ghost use Rattle.version_texts.specs.VersioningRef.{plain_versioning_ref};
+ghost use Rattle.version_texts.specs.versioning_ref.VersioningRef.{plain_versioning_ref};
 
 use crate::pieces::add_pieces;
 use std::alloc::{AllocError, Global};

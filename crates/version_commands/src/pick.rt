@@ -5,7 +5,7 @@ ghost use Rattle.version_commands.specs.Picked.{kept_lines, AreBadOf};
 ghost use Rattle.version_lines.specs.Lines.{lines_of};
 ghost use Rattle.version_lines.specs.Sort.{is_bad};
 ghost use Rattle.version_rules.specs.grammar.Versioning.{versioning_of, PlainVersioning};
-ghost use Rattle.version_texts.specs.VersioningRef.{plain_versioning_ref};
+ghost use Rattle.version_texts.specs.versioning_ref.VersioningRef.{plain_versioning_ref};
 
 use std::alloc::{AllocError, Global};
 use version_lines::{KeyedLines, NewestLine, SortBy, split_line};

@@ -2,7 +2,7 @@
 ghost use Rattle.std.specs.Prelude.{◌≡◌, ℕ, List, IsTrue};
 ghost use Rattle.std.specs.Option.{option_map};
 ghost use Rattle.version_commands.specs.Place.{column_text, line_text, named_text, named_version, place_text, text_of, version_in};
-ghost use Rattle.version_texts.specs.VersioningRef.{plain_versioning_ref};
+ghost use Rattle.version_texts.specs.versioning_ref.VersioningRef.{plain_versioning_ref};
 
 use crate::options::{Naming, VersionPlace};
 use version_lines::{Column, GroupBy, SortBy};

@@ -4,9 +4,9 @@ ghost use Rattle.std.specs.Prelude.{◌≡◌, ◌∷◌, ◌++◌, [], IsSome, 
 ghost use Rattle.version_commands.specs.Pieces.{Adds};
 ghost use Rattle.version_commands.specs.Why.{conflict_line, IsConflictText, IsWhyLine};
 ghost use Rattle.version_rules.specs.requirement.Requirements.{requirements_of};
-ghost use Rattle.version_texts.specs.Conflict.{ExcludeEachOther};
-ghost use Rattle.version_texts.specs.VersioningRef.{plain_versioning_ref};
-ghost use Rattle.version_texts.specs.Why.{reason_text};
+ghost use Rattle.version_texts.specs.requirement.Conflict.{ExcludeEachOther};
+ghost use Rattle.version_texts.specs.versioning_ref.VersioningRef.{plain_versioning_ref};
+ghost use Rattle.version_texts.specs.requirement.Why.{reason_text};
 
 use crate::pieces::add_pieces;
 use std::alloc::AllocError;

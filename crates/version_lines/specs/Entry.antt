@@ -11,7 +11,7 @@ use Rattle.version_rules.specs.order.Lists.{bytes_cmp}
 use Rattle.version_rules.specs.grammar.Kind.{versioning_kind}
 use Rattle.version_rules.specs.grammar.Versioning.{PlainVersioning, versioning_of}
 use Rattle.version_rules.specs.declared.kind.Kind.{Kind}
-use Rattle.version_texts.specs.KeyTies.{kind_on, marked_number, texts_tie}
+use Rattle.version_texts.specs.key.KeyTies.{kind_on, marked_number, texts_tie}
 
 -- the line of an entry
 abbrev pub entry_line : Entry → List ℕ

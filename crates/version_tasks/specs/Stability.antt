@@ -13,8 +13,8 @@ use Rattle.version_rules.specs.grammar.Version.{version_text}
 use Rattle.version_rules.specs.grammar.Versioning.{PlainVersioning, Ideal, General, Complex}
 use Rattle.version_tasks.specs.declared.stability.Stability.{Stability}
 use Rattle.version_tasks.specs.declared.stability.Stability.TheVariants.{Dev, Alpha, Beta, Rc, Stable}
-use Rattle.version_texts.specs.Field.{bare_semver, bare_version, field_text}
-use Rattle.version_texts.specs.Piece.{first_piece}
+use Rattle.version_texts.specs.versioning_ref.Field.{bare_semver, bare_version, field_text}
+use Rattle.version_texts.specs.order.Piece.{first_piece}
 use Rattle.version_texts.specs.declared.versioning_ref.field.Field.TheVariants as field
 
 -- the place of a stability in the order, from the least stable on

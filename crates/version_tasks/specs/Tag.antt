@@ -7,7 +7,7 @@ use Rattle.version_rules.specs.grammar.Bytes.{dot}
 use Rattle.version_rules.specs.grammar.DigitRun.{starts_with_digit}
 use Rattle.version_rules.specs.grammar.Front.{◌>>=◌, begins}
 use Rattle.version_rules.specs.grammar.Versioning.{PlainVersioning, versioning_of}
-use Rattle.version_texts.specs.Shape.{is_section_byte}
+use Rattle.version_texts.specs.scan.Shape.{is_section_byte}
 
 -- a sign: any byte that is neither a letter, a digit nor a dot
 abbrev pub is_sign : ℕ → Bool

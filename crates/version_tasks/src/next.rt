@@ -6,10 +6,10 @@ ghost use Rattle.version_rules.specs.grammar.Versioning.{is_prerelease, versioni
 ghost use Rattle.version_tasks.specs.Next.{IsNext, NoNext};
 ghost use Rattle.version_tasks.specs.NextRef.{plain_next};
 ghost use Rattle.version_tasks.specs.NextText.{is_zero};
-ghost use Rattle.version_texts.specs.Piece.{further_pieces, is_dot};
-ghost use Rattle.version_texts.specs.TextKey.{pieces};
-ghost use Rattle.version_texts.specs.TextKind.{is_numeral};
-ghost use Rattle.version_texts.specs.VersioningRef.{plain_versioning_ref};
+ghost use Rattle.version_texts.specs.order.Piece.{further_pieces, is_dot};
+ghost use Rattle.version_texts.specs.key.TextKey.{pieces};
+ghost use Rattle.version_texts.specs.scan.TextKind.{is_numeral};
+ghost use Rattle.version_texts.specs.versioning_ref.VersioningRef.{plain_versioning_ref};
 
 mod text;
 

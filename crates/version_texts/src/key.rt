@@ -15,10 +15,10 @@ ghost use Rattle.version_rules.specs.key.Split.{split_bytes, split_of};
 ghost use Rattle.version_rules.specs.key.KeyBytes.{key_bytes};
 ghost use Rattle.version_rules.specs.requirement.Range.{begun};
 ghost use Rattle.version_rules.specs.key.Tail.{section_bytes, tail_bytes};
-ghost use Rattle.version_texts.specs.Class.{contains};
-ghost use Rattle.version_texts.specs.Parts.{parts_behind};
-ghost use Rattle.version_texts.specs.Shape.{body_in, epoch_in, is_section_byte, is_tail_byte, tail_in, Fits};
-ghost use Rattle.version_texts.specs.TextKey.{chunk_of, chunks_of, front_bytes, parts_of, sections_of, tail_of, text_key};
+ghost use Rattle.version_texts.specs.scan.Class.{contains};
+ghost use Rattle.version_texts.specs.order.Parts.{parts_behind};
+ghost use Rattle.version_texts.specs.scan.Shape.{body_in, epoch_in, is_section_byte, is_tail_byte, tail_in, Fits};
+ghost use Rattle.version_texts.specs.key.TextKey.{chunk_of, chunks_of, front_bytes, parts_of, sections_of, tail_of, text_key};
 
 pub(crate) mod length;
 pub(crate) mod sink;

@@ -6,10 +6,10 @@ ghost use Rattle.std.specs.List.{list_all, prefix_len, take_while};
 ghost use Rattle.std.specs.Option.{option_map};
 ghost use Rattle.version_rules.specs.grammar.Bytes.{HasDigits};
 ghost use Rattle.version_rules.specs.grammar.DigitRun.{is_digits};
-ghost use Rattle.version_texts.specs.Class.{contains, first_rank};
-ghost use Rattle.version_texts.specs.Shape.{behind_body, body_end, body_start, shape_at, shape_of};
-ghost use Rattle.version_texts.specs.TextKey.{pieces};
-ghost use Rattle.version_texts.specs.TextKind.{are_marked_runs, body_of, epoch_is_numeral, has_three_numbers, is_chunk, is_general, is_metadata_tail, is_not_plus, is_numeral, is_released, is_run, is_tail, kind_in, section_end, section_pieces};
+ghost use Rattle.version_texts.specs.scan.Class.{contains, first_rank};
+ghost use Rattle.version_texts.specs.scan.Shape.{behind_body, body_end, body_start, shape_at, shape_of};
+ghost use Rattle.version_texts.specs.key.TextKey.{pieces};
+ghost use Rattle.version_texts.specs.scan.TextKind.{are_marked_runs, body_of, epoch_is_numeral, has_three_numbers, is_chunk, is_general, is_metadata_tail, is_not_plus, is_numeral, is_released, is_run, is_tail, kind_in, section_end, section_pieces};
 
 pub(crate) mod bytes;
 pub(crate) mod class;

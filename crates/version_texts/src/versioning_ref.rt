@@ -4,8 +4,8 @@ ghost use Rattle.std.specs.Prelude.{◌≡◌, Some, true};
 ghost use Rattle.std.specs.Char.{is_ascii_digit};
 ghost use Rattle.std.specs.List.{list_all};
 ghost use Rattle.std.specs.Str.Parse.{digits_value};
-ghost use Rattle.version_texts.specs.Shape.{shape_of};
-ghost use Rattle.version_texts.specs.Sinks.{saturated};
+ghost use Rattle.version_texts.specs.scan.Shape.{shape_of};
+ghost use Rattle.version_texts.specs.key.Sinks.{saturated};
 ghost use Rattle.version_rules.specs.grammar.Kind.{versioning_kind};
 ghost use Rattle.version_rules.specs.grammar.Versioning.{kind_rank, PlainVersioning};
 
@@ -50,10 +50,10 @@ impl<'a> VersioningRef<'a> {
     ghost use Rattle.version_rules.specs.key.KeyBytes.{key_bytes};
     ghost use Rattle.version_rules.specs.requirement.Range.{has_kind, AreBetween};
     ghost use Rattle.version_rules.specs.grammar.Versioning.{is_prerelease, versioning_nth, versioning_of, versioning_plain_cmp, versioning_text};
-    ghost use Rattle.version_texts.specs.Difference.{difference_of};
-    ghost use Rattle.version_texts.specs.Field.{epoch_and_parts, field_place};
-    ghost use Rattle.version_texts.specs.Sinks.{saturated, IsWritten};
-    ghost use Rattle.version_texts.specs.VersioningRef.{major_text, plain_versioning_ref};
+    ghost use Rattle.version_texts.specs.order.Difference.{difference_of};
+    ghost use Rattle.version_texts.specs.versioning_ref.Field.{epoch_and_parts, field_place};
+    ghost use Rattle.version_texts.specs.key.Sinks.{saturated, IsWritten};
+    ghost use Rattle.version_texts.specs.versioning_ref.VersioningRef.{major_text, plain_versioning_ref};
 
     /// Parses the whole text as a strict version, else as a general, else as a messy one; returns None if it does not
     /// parse. Does not allocate.
@@ -432,7 +432,7 @@ fn rank(kind: Kind) -> u8
 /// Writes the text that the version was parsed from, as its `Versioning` does.
 impl<'a> fmt::Display for VersioningRef<'a> {
     ghost use Rattle.version_rules.specs.grammar.Versioning.{versioning_text};
-    ghost use Rattle.version_texts.specs.VersioningRef.{plain_versioning_ref};
+    ghost use Rattle.version_texts.specs.versioning_ref.VersioningRef.{plain_versioning_ref};
 
     ghost output = { λ v. Some (versioning_text (plain_versioning_ref v)) };
 
@@ -447,7 +447,7 @@ impl<'a> PartialEq for VersioningRef<'a> {
     ghost use Rattle.std.specs.Ordering.{eq_by_cmp, on};
     ghost use Rattle.version_rules.specs.grammar.Versioning.{versioning_plain_cmp};
     ghost use Rattle.version_rules.specs.laws.Versioning.{versioning_plain_total};
-    ghost use Rattle.version_texts.specs.VersioningRef.{plain_versioning_ref};
+    ghost use Rattle.version_texts.specs.versioning_ref.VersioningRef.{plain_versioning_ref};
 
     ghost eq = { on plain_versioning_ref (eq_by_cmp versioning_plain_cmp) };
 
@@ -470,7 +470,7 @@ impl<'a> PartialEq for VersioningRef<'a> {
 impl<'a> Eq for VersioningRef<'a> {
     ghost use Rattle.std.specs.Cmp.{eq_by_cmp_equiv, on_equiv};
     ghost use Rattle.version_rules.specs.laws.Versioning.{versioning_plain_total};
-    ghost use Rattle.version_texts.specs.VersioningRef.{plain_versioning_ref};
+    ghost use Rattle.version_texts.specs.versioning_ref.VersioningRef.{plain_versioning_ref};
 
     ghost laws = { on_equiv plain_versioning_ref (eq_by_cmp_equiv versioning_plain_total) };
 }
@@ -483,7 +483,7 @@ impl<'a> Ord for VersioningRef<'a> {
     ghost use Rattle.std.specs.Ordering.{on};
     ghost use Rattle.version_rules.specs.order.Orders.{versioning_cmp};
     ghost use Rattle.version_rules.specs.laws.Orders.{versioning_cmp_ties, versioning_cmp_total};
-    ghost use Rattle.version_texts.specs.VersioningRef.{plain_versioning_ref};
+    ghost use Rattle.version_texts.specs.versioning_ref.VersioningRef.{plain_versioning_ref};
 
     ghost cmp = { on plain_versioning_ref versioning_cmp };
 
@@ -508,7 +508,7 @@ impl<'a> PartialOrd for VersioningRef<'a> {
     ghost use Rattle.std.specs.Ordering.{as_partial_cmp, on};
     ghost use Rattle.version_rules.specs.order.Orders.{versioning_cmp};
     ghost use Rattle.version_rules.specs.laws.Orders.{versioning_cmp_ties, versioning_cmp_total};
-    ghost use Rattle.version_texts.specs.VersioningRef.{plain_versioning_ref};
+    ghost use Rattle.version_texts.specs.versioning_ref.VersioningRef.{plain_versioning_ref};
 
     ghost partial_cmp = { as_partial_cmp (on plain_versioning_ref versioning_cmp) };
 
@@ -522,7 +522,7 @@ impl<'a> PartialOrd for VersioningRef<'a> {
 
 /// The questions that the operators of requirements ask. No call allocates.
 impl<'a> Asked for VersioningRef<'a> {
-    ghost use Rattle.version_texts.specs.VersioningRef.{plain_versioning_ref};
+    ghost use Rattle.version_texts.specs.versioning_ref.VersioningRef.{plain_versioning_ref};
 
     ghost plain = { plain_versioning_ref };
 

@@ -13,7 +13,7 @@ ghost use Rattle.versions.specs.Versioning.{plain_versioning, versioning_fed};
 ghost use Rattle.version_rules.specs.grammar.Versioning as plain;
 ghost use Rattle.version_rules.specs.laws.Versioning.{versioning_plain_total};
 ghost use Rattle.versions.specs.VersioningLaws.{versions_fed_alike};
-ghost use Rattle.version_texts.specs.VersioningRef.{plain_versioning_ref};
+ghost use Rattle.version_texts.specs.versioning_ref.VersioningRef.{plain_versioning_ref};
 ghost use Rattle.versions.specs.Versioning.{AnswersAlike};
 
 use crate::errors::{Error, ReadError};

@@ -13,7 +13,7 @@ use Rattle.version_rules.specs.order.Orders.{versioning_cmp}
 use Rattle.version_rules.specs.grammar.Versioning.{versioning_of}
 use Rattle.version_rules.specs.declared.kind.Kind.{Kind}
 use Rattle.version_rules.specs.declared.kind.Kind.TheVariants.{Ideal}
-use Rattle.version_texts.specs.KeyTies.{kind_on, marked_number, texts_tie}
+use Rattle.version_texts.specs.key.KeyTies.{kind_on, marked_number, texts_tie}
 use Rattle.versions_c.specs.Offsets.{AreOffsets, text_at}
 
 -- two places: by the versions of their texts, a text that is not a version last, and ties as

@@ -4,8 +4,8 @@ ghost use Rattle.std.specs.Prelude.{◌≡◌, ◌≢◌, ◌↔◌, ◌+◌, �
 ghost use Rattle.version_rules.specs.key.Key.{key_of};
 ghost use Rattle.version_rules.specs.key.KeyBytes.{key_bytes};
 ghost use Rattle.version_rules.specs.grammar.Versioning.{versioning_of, PlainVersioning};
-ghost use Rattle.version_texts.specs.KeyRoom.{room_for};
-ghost use Rattle.version_texts.specs.Sinks.{put_at, saturated};
+ghost use Rattle.version_texts.specs.key.KeyRoom.{room_for};
+ghost use Rattle.version_texts.specs.key.Sinks.{put_at, saturated};
 ghost use Rattle.versions_c.specs.Keys.{all_keys, key_status, keys_before, saturated_signed, spelled_key, AreKeyOffsets};
 ghost use Rattle.versions_c.specs.Written.{room_status};
 ghost use Rattle.versions_c.specs.Kinds.{kind_of};

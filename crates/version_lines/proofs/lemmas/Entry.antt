@@ -14,15 +14,15 @@ use Rattle.version_lines.specs.Entry.{entry_cmp, entry_key, entry_kind, entry_li
 use Rattle.version_lines.specs.Sort.{line_cmp, lines_cmp, lines_precedence}
 use Rattle.version_lines.specs.Sorting.{in_order, turn, turned}
 use Rattle.version_rules.specs.grammar.Kind.{versioning_kind}
-use Rattle.version_texts.specs.KeyTies.{texts_tie}
-use Rattle.version_texts.proofs.lemmas.KeyTies.{texts_alike, texts_tie_total}
+use Rattle.version_texts.specs.key.KeyTies.{texts_tie}
+use Rattle.version_texts.proofs.lemmas.key.KeyTies.{texts_alike, texts_tie_total}
 use Rattle.version_lines.specs.declared.sort.entry.Entry.{Entry}
 use Rattle.version_rules.proofs.lemmas.OrdersLaws.{key_bytes_alone}
 use Rattle.version_rules.specs.key.Key.{key_of, precedence}
 use Rattle.version_rules.specs.key.KeyBytes.{key_bytes}
 use Rattle.version_rules.specs.laws.Orders.{versioning_cmp_total}
 use Rattle.version_rules.specs.grammar.Versioning.{PlainVersioning, versioning_of}
-use Rattle.version_texts.proofs.lemmas.Bytes.{AreBytes, sixteen_first}
+use Rattle.version_texts.proofs.lemmas.scan.Bytes.{AreBytes, sixteen_first}
 use Rattle.version_lines.proofs.lemmas.KeyBytes.{key_bytes-some}
 use Rattle.version_lines.proofs.lemmas.Sorting.{AreAlike, in_order-map}
 use Rattle.version_lines.proofs.lemmas.Sorting.Turned.{turned_total}

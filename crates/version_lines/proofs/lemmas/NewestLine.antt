@@ -15,7 +15,7 @@ use Rattle.version_lines.proofs.lemmas.Sorting.{below, by_test, head-is}
 use Rattle.version_lines.proofs.lemmas.Sorting.Turned.{turned_total}
 use Rattle.version_rules.specs.key.Key.{key_of, precedence}
 use Rattle.version_rules.specs.grammar.Versioning.{versioning_of}
-use Rattle.version_texts.specs.VersioningRef.{plain_versioning_ref}
+use Rattle.version_texts.specs.versioning_ref.VersioningRef.{plain_versioning_ref}
 use Rattle.version_texts.specs.declared.versioning_ref.VersioningRef.{VersioningRef}
 
 -- the first of two in an order: the second only if it is below

@@ -5,7 +5,7 @@ ghost use Rattle.version_lines.specs.Entry.{after_heads_cmp};
 ghost use Rattle.version_lines.specs.Sorting.{turned};
 ghost use Rattle.version_rules.specs.key.Key.{key_of};
 ghost use Rattle.version_rules.specs.key.KeyBytes.{key_bytes};
-ghost use Rattle.version_texts.specs.VersioningRef.{plain_versioning_ref};
+ghost use Rattle.version_texts.specs.versioning_ref.VersioningRef.{plain_versioning_ref};
 
 use crate::sort::by::{SortBy, turn};
 use std::alloc::AllocError;

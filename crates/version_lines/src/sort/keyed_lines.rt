@@ -8,7 +8,7 @@ ghost use Rattle.version_lines.specs.Newest.{first_of_each, first_of_ties, newes
 ghost use Rattle.version_lines.specs.Sort.{lines_cmp};
 ghost use Rattle.version_lines.specs.Sorting.{in_order, turned};
 ghost use Rattle.version_rules.specs.grammar.Versioning.{versioning_of};
-ghost use Rattle.version_texts.specs.VersioningRef.{plain_versioning_ref};
+ghost use Rattle.version_texts.specs.versioning_ref.VersioningRef.{plain_versioning_ref};
 
 use crate::sort::by::SortBy;
 use crate::sort::entry::Entry;

@@ -11,7 +11,7 @@ use Rattle.version_tasks.specs.Newest.{IsNewest, IsWanted, NoVersion, text_at}
 use Rattle.version_tasks.specs.declared.newest.Wanted.{Wanted}
 use Rattle.std.proofs.Common.{get_or, List, [], ◌∷◌, suc, zero}
 use Rattle.std.specs.Borrow.{Bor}
-use Rattle.version_texts.specs.VersioningRef.{plain_versioning_ref}
+use Rattle.version_texts.specs.versioning_ref.VersioningRef.{plain_versioning_ref}
 use Rattle.version_texts.specs.declared.versioning_ref.VersioningRef.{VersioningRef}
 
 -- what is held is the newest of so many candidates

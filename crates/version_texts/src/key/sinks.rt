@@ -5,9 +5,9 @@ ghost use Rattle.version_rules.specs.requirement.Ends.{end_bytes};
 ghost use Rattle.version_rules.specs.key.KeyBytes.{key_bytes};
 ghost use Rattle.version_rules.specs.order.Lists.{bytes_cmp};
 ghost use Rattle.version_rules.specs.key.Tail.{tail_bytes};
-ghost use Rattle.version_texts.specs.Shape.{tail_in, Fits};
-ghost use Rattle.version_texts.specs.Sinks.{count_with, leads_both, leads_none, order_with, put_at, room_both, room_first, room_none, room_then, FitsRoom, Leads, TakesRoom};
-ghost use Rattle.version_texts.specs.TextKey.{tail_of, text_key};
+ghost use Rattle.version_texts.specs.scan.Shape.{tail_in, Fits};
+ghost use Rattle.version_texts.specs.key.Sinks.{count_with, leads_both, leads_none, order_with, put_at, room_both, room_first, room_none, room_then, FitsRoom, Leads, TakesRoom};
+ghost use Rattle.version_texts.specs.key.TextKey.{tail_of, text_key};
 
 use crate::key::sink::Sink;
 use crate::key::{put_front, put_tail, tail_at};

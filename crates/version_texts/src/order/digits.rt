@@ -6,7 +6,7 @@ ghost use Rattle.std.specs.List.{prefix_len};
 ghost use Rattle.std.specs.Ordering.{nat_cmp};
 ghost use Rattle.std.specs.declared.cmp.Ordering.TheVariants.{Equal};
 ghost use Rattle.version_rules.specs.grammar.DigitRun.{run_value, starts_with_digit};
-ghost use Rattle.version_texts.specs.Piece.{behind_digits};
+ghost use Rattle.version_texts.specs.order.Piece.{behind_digits};
 
 use crate::order::run::Compared;
 use crate::scan::class::{Class, begins_with};

@@ -2,7 +2,7 @@
 
 ghost use Rattle.std.specs.Prelude.{◌≡◌};
 ghost use Rattle.version_rules.specs.grammar.Front.{begins};
-ghost use Rattle.version_texts.specs.Piece.{end_of, in_run};
+ghost use Rattle.version_texts.specs.order.Piece.{end_of, in_run};
 
 use crate::scan::class::is_sign;
 

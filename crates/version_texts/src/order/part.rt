@@ -10,7 +10,7 @@ ghost use Rattle.version_rules.specs.order.Lists.{bytes_cmp, none_last_cmp};
 ghost use Rattle.version_rules.specs.key.PartKey.{part_cmp, part_key, suffix_of};
 ghost use Rattle.version_rules.specs.key.Split.{numbered_cmp, split_cmp, split_of};
 ghost use Rattle.version_texts.specs.declared.order.ends.Run.TheVariants.{Word};
-ghost use Rattle.version_texts.specs.Piece.{end_of, from_first, in_run};
+ghost use Rattle.version_texts.specs.order.Piece.{end_of, from_first, in_run};
 
 use crate::order::digits::compare_numbers;
 use crate::order::ends::{Ends, Run};

@@ -3,7 +3,7 @@
 ghost use Rattle.std.specs.Prelude.{◌≡◌, ◌==◌, ◌≤◌, ◌∷◌, [], ℕ, length, suc, take, IfNone, IfSome, MatchOption, false};
 ghost use Rattle.std.specs.List.{position_or_len};
 ghost use Rattle.version_rules.specs.grammar.Front.{begins};
-ghost use Rattle.version_texts.specs.Piece.{behind_piece, first_piece, is_dot};
+ghost use Rattle.version_texts.specs.order.Piece.{behind_piece, first_piece, is_dot};
 
 // Whether a text is empty or begins with a dot.
 #[inline(always)]

@@ -7,8 +7,8 @@ ghost use Rattle.std.specs.Ordering.{nat_cmp};
 ghost use Rattle.std.specs.declared.cmp.Ordering.TheVariants.{Equal, Greater};
 ghost use Rattle.version_rules.specs.grammar.DigitRun.{run_value};
 ghost use Rattle.version_rules.specs.order.ReleaseOrder.{chunk_cmp, release_cmp};
-ghost use Rattle.version_texts.specs.Piece.{behind_piece, first_piece};
-ghost use Rattle.version_texts.specs.TextKey.{chunk_of, chunks_of};
+ghost use Rattle.version_texts.specs.order.Piece.{behind_piece, first_piece};
+ghost use Rattle.version_texts.specs.key.TextKey.{chunk_of, chunks_of};
 
 use crate::order::digits::compare_numbers;
 use crate::order::ends::Ends;

@@ -4,7 +4,7 @@ ghost use Rattle.std.specs.Prelude.{◌≡◌, drop};
 ghost use Rattle.std.specs.List.{prefix_len, take_while};
 ghost use Rattle.std.specs.declared.cmp.Ordering.TheVariants.{Equal};
 ghost use Rattle.version_rules.specs.order.Lists.{bytes_cmp};
-ghost use Rattle.version_texts.specs.Piece.{in_run};
+ghost use Rattle.version_texts.specs.order.Piece.{in_run};
 
 use crate::order::ends::Run;
 use std::cmp::Ordering;

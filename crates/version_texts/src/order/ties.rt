@@ -3,8 +3,8 @@
 ghost use Rattle.std.specs.Prelude.{◌≡◌, ◌≤◌, length};
 ghost use Rattle.std.specs.Ordering.{ordering_then};
 ghost use Rattle.version_rules.specs.order.Lists.{bytes_cmp};
-ghost use Rattle.version_texts.specs.Shape.{body_start};
-ghost use Rattle.version_texts.specs.Ties.{bodies_tie, byte_place, general_tie, is_lettered, is_numbered, last_tie, messy_tie};
+ghost use Rattle.version_texts.specs.scan.Shape.{body_start};
+ghost use Rattle.version_texts.specs.order.Ties.{bodies_tie, byte_place, general_tie, is_lettered, is_numbered, last_tie, messy_tie};
 
 use crate::order::piece::after_mark;
 use crate::scan::class::{COLON, Class, begins_with, rank_at, run_end, split_run};

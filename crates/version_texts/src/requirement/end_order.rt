@@ -6,10 +6,10 @@ ghost use Rattle.version_rules.specs.key.Codes.{items_bytes};
 ghost use Rattle.version_rules.specs.requirement.Ends.{end_bytes};
 ghost use Rattle.version_rules.specs.order.Lists.{bytes_cmp};
 ghost use Rattle.version_rules.specs.key.PartKey.{part_bytes};
-ghost use Rattle.version_texts.specs.EndOrder.{after_key, fixed_bytes, is_key, kept_of, mark_of, Begins, IsOfPart};
-ghost use Rattle.version_texts.specs.Parts.{parts_behind};
-ghost use Rattle.version_texts.specs.Shape.{Fits};
-ghost use Rattle.version_texts.specs.TextKey.{parts_of, text_key};
+ghost use Rattle.version_texts.specs.requirement.EndOrder.{after_key, fixed_bytes, is_key, kept_of, mark_of, Begins, IsOfPart};
+ghost use Rattle.version_texts.specs.order.Parts.{parts_behind};
+ghost use Rattle.version_texts.specs.scan.Shape.{Fits};
+ghost use Rattle.version_texts.specs.key.TextKey.{parts_of, text_key};
 
 use crate::key::body_at;
 use crate::key::sinks::compare_end;

@@ -4,8 +4,8 @@ ghost use Rattle.std.specs.Prelude.{◌≡◌, ◌↔◌, ◌+◌, ◌≤◌, �
 ghost use Rattle.std.specs.List.{All};
 ghost use Rattle.version_rules.specs.requirement.Requirement.{PlainRequirement};
 ghost use Rattle.version_rules.specs.requirement.Requirements.{comma, requirements_of};
-ghost use Rattle.version_texts.specs.MemberPlace.{IsFirstFailing, NotEach};
-ghost use Rattle.version_texts.specs.Members.{cut_at_commas};
+ghost use Rattle.version_texts.specs.requirement.MemberPlace.{IsFirstFailing, NotEach};
+ghost use Rattle.version_texts.specs.requirement.Members.{cut_at_commas};
 
 use crate::requirement::members::split_first;
 use crate::requirement::range_ref::halves;

@@ -3,9 +3,9 @@
 ghost use Rattle.std.specs.Prelude.{◌≡◌, ◌∷◌, [], IfNone, IfSome, length};
 ghost use Rattle.std.specs.List.{join_with_byte};
 ghost use Rattle.version_rules.specs.requirement.Requirements.{comma};
-ghost use Rattle.version_texts.specs.Inexact.{inexact_part, inexact_pieces, is_inexact};
-ghost use Rattle.version_texts.specs.Members.{cut_at_commas, pieces_of};
-ghost use Rattle.version_texts.specs.Sinks.{saturated, IsWritten};
+ghost use Rattle.version_texts.specs.requirement.Inexact.{inexact_part, inexact_pieces, is_inexact};
+ghost use Rattle.version_texts.specs.requirement.Members.{cut_at_commas, pieces_of};
+ghost use Rattle.version_texts.specs.key.Sinks.{saturated, IsWritten};
 
 use crate::key::sink::{Sink, put_all};
 use crate::key::sinks::{Count, Room};

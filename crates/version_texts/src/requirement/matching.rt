@@ -1,10 +1,10 @@
 //! What an operator asks of two versions, by their texts and shapes. Nothing here allocates.
 
 ghost use Rattle.std.specs.Prelude.{◌≡◌, ◌∷◌, ◌↔◌, IsTrue, Some};
-ghost use Rattle.version_texts.specs.Matching.{epoch_and_parts_of};
-ghost use Rattle.version_texts.specs.Shape.{body_in, shape_of, Fits};
-ghost use Rattle.version_texts.specs.Parts.{first_part, more_parts};
-ghost use Rattle.version_texts.specs.TextKey.{parts_of, text_key};
+ghost use Rattle.version_texts.specs.requirement.Matching.{epoch_and_parts_of};
+ghost use Rattle.version_texts.specs.scan.Shape.{body_in, shape_of, Fits};
+ghost use Rattle.version_texts.specs.order.Parts.{first_part, more_parts};
+ghost use Rattle.version_texts.specs.key.TextKey.{parts_of, text_key};
 ghost use Rattle.version_rules.specs.requirement.Matching.{MatchesCaret, MatchesTilde};
 ghost use Rattle.version_rules.specs.requirement.VersionMatch.{MatchesCaret as PartsCaret, MatchesTilde as PartsTilde};
 ghost use Rattle.version_rules.specs.grammar.Versioning.{versioning_of, PlainVersioning};
@@ -18,7 +18,7 @@ use version_rules::{Kind, parts_match_caret, parts_match_tilde};
 
 /// Returns whether `~wanted` matches a version: by the rule of strict versions if both are strict, by that of general
 /// ones if both are general, else never.
-#[tactic(auto, using(crate::proofs::lemmas::Matching::kinds))]
+#[tactic(auto, using(crate::proofs::lemmas::requirement::Matching::kinds))]
 pub fn matches_tilde(wanted: &[u8], wanted_shape: Shape, text: &[u8], shape: Shape) -> bool
     requires wanted_is { shape_of wanted.now ≡ Some wanted_shape }
     requires text_is { shape_of text.now ≡ Some shape }
@@ -36,7 +36,7 @@ pub fn matches_tilde(wanted: &[u8], wanted_shape: Shape, text: &[u8], shape: Sha
 
 /// Returns whether `^wanted` matches a version: by the rule of strict versions if both are strict, by that of general
 /// ones if both are general, else never.
-#[tactic(auto, using(crate::proofs::lemmas::Matching::kinds))]
+#[tactic(auto, using(crate::proofs::lemmas::requirement::Matching::kinds))]
 pub fn matches_caret(wanted: &[u8], wanted_shape: Shape, text: &[u8], shape: Shape) -> bool
     requires wanted_is { shape_of wanted.now ≡ Some wanted_shape }
     requires text_is { shape_of text.now ≡ Some shape }

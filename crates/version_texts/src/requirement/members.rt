@@ -1,8 +1,8 @@
 //! The members of a list of requirements.
 
 ghost use Rattle.std.specs.Prelude.{◌≡◌, ◌<◌, ◌≤◌, ◌+◌, ◌∷◌, [], IfNone, IfSome, length};
-ghost use Rattle.version_texts.specs.MemberPlace.{text_between};
-ghost use Rattle.version_texts.specs.Members.{cut_at_commas, list_of, pieces_of};
+ghost use Rattle.version_texts.specs.requirement.MemberPlace.{text_between};
+ghost use Rattle.version_texts.specs.requirement.Members.{cut_at_commas, list_of, pieces_of};
 ghost use Rattle.std.specs.Option.{is_some};
 
 use crate::order::piece::place_of;

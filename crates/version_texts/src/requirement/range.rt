@@ -3,9 +3,9 @@
 ghost use Rattle.std.specs.Prelude.{◌≡◌, ◌++◌, IfSome, List, ℕ};
 ghost use Rattle.version_rules.specs.requirement.Ends.{end_bytes, kept_parts};
 ghost use Rattle.version_rules.specs.requirement.Range.{begun, but_last, through_other};
-ghost use Rattle.version_texts.specs.Parts.{parts_behind};
-ghost use Rattle.version_texts.specs.Shape.{Fits};
-ghost use Rattle.version_texts.specs.TextKey.{parts_of, text_key};
+ghost use Rattle.version_texts.specs.order.Parts.{parts_behind};
+ghost use Rattle.version_texts.specs.scan.Shape.{Fits};
+ghost use Rattle.version_texts.specs.key.TextKey.{parts_of, text_key};
 
 use crate::key::sink::Sink;
 use crate::key::{body_at, epoch_at, put_begun, put_key};

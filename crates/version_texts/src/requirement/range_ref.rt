@@ -8,11 +8,11 @@ ghost use Rattle.version_rules.specs.key.Key.{key_of};
 ghost use Rattle.version_rules.specs.order.Lists.{bytes_cmp};
 ghost use Rattle.version_rules.specs.requirement.Range.{bytes_of, common, earlier_high, later, range_of, requirement_range, IsIn};
 ghost use Rattle.version_rules.specs.requirement.Requirements.{comma, requirements_of};
-ghost use Rattle.version_texts.specs.Empty.{IsCrossed};
-ghost use Rattle.version_texts.specs.RangeRef.{bound_bytes, high_length, low_bytes, plain_range_ref, IsParsed};
-ghost use Rattle.version_texts.specs.RequirementRef.{plain_requirement_ref};
-ghost use Rattle.version_texts.specs.Sinks.{saturated, IsWritten};
-ghost use Rattle.version_texts.specs.VersioningRef.{plain_versioning_ref};
+ghost use Rattle.version_texts.specs.requirement.Empty.{IsCrossed};
+ghost use Rattle.version_texts.specs.requirement.RangeRef.{bound_bytes, high_length, low_bytes, plain_range_ref, IsParsed};
+ghost use Rattle.version_texts.specs.requirement.RequirementRef.{plain_requirement_ref};
+ghost use Rattle.version_texts.specs.key.Sinks.{saturated, IsWritten};
+ghost use Rattle.version_texts.specs.versioning_ref.VersioningRef.{plain_versioning_ref};
 
 use crate::order::piece::place_of;
 use crate::requirement::members::Members;

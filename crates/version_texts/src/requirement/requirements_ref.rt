@@ -3,9 +3,9 @@
 ghost use Rattle.std.specs.Prelude.{◌≡◌, ◌↔◌, nat_eq, IfSome, IsTrue};
 ghost use Rattle.std.specs.List.{starts_with};
 ghost use Rattle.std.specs.Option.{is_none, is_some, IsSomeAnd};
-ghost use Rattle.version_texts.specs.RequirementRef.{plain_requirement_ref};
-ghost use Rattle.version_texts.specs.RequirementsRef.{from_second, others_of, wrong_member, IsFront};
-ghost use Rattle.version_texts.specs.VersioningRef.{plain_versioning_ref};
+ghost use Rattle.version_texts.specs.requirement.RequirementRef.{plain_requirement_ref};
+ghost use Rattle.version_texts.specs.requirement.RequirementsRef.{from_second, others_of, wrong_member, IsFront};
+ghost use Rattle.version_texts.specs.versioning_ref.VersioningRef.{plain_versioning_ref};
 ghost use Rattle.version_rules.specs.requirement.Matching.{MatchesAll};
 ghost use Rattle.version_rules.specs.requirement.Requirements.{requirements_of};
 ghost use Rattle.version_rules.specs.requirement.RequirementsRef.{Keeps};
@@ -36,8 +36,8 @@ pub struct RequirementsRef<'a> {
 
 impl<'a> Model for RequirementsRef<'a> {
     ghost use Rattle.std.specs.Prelude.{List};
-    ghost use Rattle.version_texts.specs.RequirementRef.{plain_requirement_ref};
-    ghost use Rattle.version_texts.specs.RequirementsRef.{scanned_requirements, IsFront};
+    ghost use Rattle.version_texts.specs.requirement.RequirementRef.{plain_requirement_ref};
+    ghost use Rattle.version_texts.specs.requirement.RequirementsRef.{scanned_requirements, IsFront};
     ghost use Rattle.version_rules.specs.requirement.Requirement.{PlainRequirement};
 
     ghost Value = { List PlainRequirement };

@@ -3,10 +3,10 @@
 ghost use Rattle.std.specs.Prelude.{◌≡◌, ◌↔◌, is_some, length, IfSome, IsNone, IsSomeAnd};
 ghost use Rattle.version_rules.specs.requirement.Matching.{Matches, MatchesAll};
 ghost use Rattle.version_rules.specs.requirement.Requirements.{requirements_of};
-ghost use Rattle.version_texts.specs.RangeRef.{plain_range_ref};
-ghost use Rattle.version_texts.specs.Sinks.{saturated, IsWritten};
-ghost use Rattle.version_texts.specs.VersioningRef.{plain_versioning_ref};
-ghost use Rattle.version_texts.specs.Why.{excluded_text, reason_text, words_after, words_between, IsExcluded, IsWhy};
+ghost use Rattle.version_texts.specs.requirement.RangeRef.{plain_range_ref};
+ghost use Rattle.version_texts.specs.key.Sinks.{saturated, IsWritten};
+ghost use Rattle.version_texts.specs.versioning_ref.VersioningRef.{plain_versioning_ref};
+ghost use Rattle.version_texts.specs.requirement.Why.{excluded_text, reason_text, words_after, words_between, IsExcluded, IsWhy};
 
 use crate::key::sink::{Sink, put_all};
 use crate::key::sinks::{Count, Room};

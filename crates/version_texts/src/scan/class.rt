@@ -5,7 +5,7 @@ ghost use Rattle.std.specs.List.{prefix_len, take_while};
 ghost use Rattle.version_rules.specs.grammar.Bytes.{HasDigits};
 ghost use Rattle.version_rules.specs.grammar.Front.{begins};
 ghost use Rattle.version_rules.specs.grammar.Sep.{is_sep};
-ghost use Rattle.version_texts.specs.Class.{byte_rank, contains, first_rank};
+ghost use Rattle.version_texts.specs.scan.Class.{byte_rank, contains, first_rank};
 
 /// A class of bytes.
 #[derive(Clone, Copy)]

@@ -4,8 +4,8 @@ ghost use Rattle.std.specs.Prelude.{◌≡◌, ◌^◌, None, Some, if◌then◌
 ghost use Rattle.std.specs.Str.Parse.{digits_value};
 ghost use Rattle.version_rules.specs.grammar.DigitRun.{is_digits};
 ghost use Rattle.version_rules.specs.grammar.MChunk.{value_of_digits};
-ghost use Rattle.version_texts.specs.Numbers.{numeral_value};
-ghost use Rattle.version_texts.specs.TextKind.{is_numeral};
+ghost use Rattle.version_texts.specs.versioning_ref.Numbers.{numeral_value};
+ghost use Rattle.version_texts.specs.scan.TextKind.{is_numeral};
 
 use crate::scan::class::{Class, begins_with, split_run};
 

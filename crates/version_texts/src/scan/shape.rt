@@ -1,7 +1,7 @@
 //! Where the pieces of a version lie in its text.
 
 ghost use Rattle.std.specs.Prelude.{◌≡◌, List, ℕ};
-ghost use Rattle.version_texts.specs.TextKey.{tail_of};
+ghost use Rattle.version_texts.specs.key.TextKey.{tail_of};
 ghost use Rattle.version_rules.specs.key.Tail.{tail_rank};
 
 use version_rules::Kind;

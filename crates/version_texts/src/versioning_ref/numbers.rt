@@ -2,10 +2,10 @@
 
 ghost use Rattle.std.specs.Prelude.{◌≡◌, ◌==◌, ◌∷◌, Some, drop, false, IfNone, IfSome};
 ghost use Rattle.version_rules.specs.grammar.Versioning.{versioning_nth};
-ghost use Rattle.version_texts.specs.Numbers.{body_number, chunk_number, last_number, pieces_left, section_in};
-ghost use Rattle.version_texts.specs.Shape.{shape_of};
-ghost use Rattle.version_texts.specs.TextKey.{pieces};
-ghost use Rattle.version_texts.specs.VersioningRef.{version_in};
+ghost use Rattle.version_texts.specs.versioning_ref.Numbers.{body_number, chunk_number, last_number, pieces_left, section_in};
+ghost use Rattle.version_texts.specs.scan.Shape.{shape_of};
+ghost use Rattle.version_texts.specs.key.TextKey.{pieces};
+ghost use Rattle.version_texts.specs.versioning_ref.VersioningRef.{version_in};
 
 use crate::key::body_at;
 use crate::order::piece::{after_mark, behind_first, split_piece};

@@ -8,11 +8,11 @@ use Rattle.version_rules.specs.requirement.Inexact.{inexact_members, inexact_tex
 use Rattle.version_rules.specs.requirement.Range.{PlainRange, range_of}
 use Rattle.version_rules.specs.requirement.Requirement.{PlainRequirement}
 use Rattle.version_rules.specs.requirement.Requirements.{requirements_of}
-use Rattle.version_texts.proofs.lemmas.Inexact.{part_is}
-use Rattle.version_texts.proofs.lemmas.RangeRef.{written as first_bytes}
-use Rattle.version_texts.proofs.lemmas.Sinks.{put_fits}
-use Rattle.version_texts.specs.Inexact.{inexact_part}
-use Rattle.version_texts.specs.Sinks.{put_at, saturated}
+use Rattle.version_texts.proofs.lemmas.requirement.Inexact.{part_is}
+use Rattle.version_texts.proofs.lemmas.requirement.RangeRef.{written as first_bytes}
+use Rattle.version_texts.proofs.lemmas.key.Sinks.{put_fits}
+use Rattle.version_texts.specs.requirement.Inexact.{inexact_part}
+use Rattle.version_texts.specs.key.Sinks.{put_at, saturated}
 use Rattle.versions_c.specs.Inexact.{inexact_status}
 use Rattle.versions_c.specs.Matching.{Decide}
 use Rattle.versions_c.specs.declared.status.TheConstants.{NO_ROOM, OK}

@@ -3,7 +3,7 @@ use Rattle.std.proofs.lemmas.List.{take_all}
 use Rattle.std.proofs.lemmas.Result.{IfErr-weaker, IfOk-weaker}
 use Rattle.version_commands.specs.Each.{HasList, HaveAnswered}
 use Rattle.version_rules.specs.grammar.Versioning.{versioning_of}
-use Rattle.version_texts.specs.VersioningRef.{plain_versioning_ref}
+use Rattle.version_texts.specs.versioning_ref.VersioningRef.{plain_versioning_ref}
 use Rattle.version_commands.proofs.lemmas.Each.{asking-answering, word-texts, wrong-here, wrong-next}
 use Rattle.version_commands.proofs.lemmas.Pieces.{texts-next}
 use Rattle.version_commands.proofs.each.answer_words.Goals as goal

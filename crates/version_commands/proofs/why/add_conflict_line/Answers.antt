@@ -2,9 +2,9 @@ use Rattle.std.proofs.Common.{◌≡◌, ◌≢◌, ◌∙◌, ap, arith, eq-eqb
 use Rattle.std.proofs.lemmas.Bool.{ne_eqb}
 use Rattle.std.proofs.lemmas.Result.{on_ok_weaker}
 use Rattle.std.specs.List.{concat}
-use Rattle.version_texts.proofs.lemmas.MemberPlace.{member_within}
+use Rattle.version_texts.proofs.lemmas.requirement.MemberPlace.{member_within}
 use Rattle.version_commands.specs.Why.{conflict_line}
-use Rattle.version_texts.specs.MemberPlace.{text_between}
+use Rattle.version_texts.specs.requirement.MemberPlace.{text_between}
 use Rattle.version_texts.specs.declared.requirement.conflict.Conflict.{Conflict}
 use Rattle.version_commands.proofs.why.add_conflict_line.Goals as goal
 

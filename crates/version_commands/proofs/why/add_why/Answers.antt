@@ -1,7 +1,7 @@
 use Rattle.std.proofs.Common.{arith}
-use Rattle.version_texts.proofs.lemmas.MemberPlace.{member_within}
-use Rattle.version_texts.specs.VersioningRef.{plain_versioning_ref}
-use Rattle.version_texts.specs.Why.{IsExcluded}
+use Rattle.version_texts.proofs.lemmas.requirement.MemberPlace.{member_within}
+use Rattle.version_texts.specs.versioning_ref.VersioningRef.{plain_versioning_ref}
+use Rattle.version_texts.specs.requirement.Why.{IsExcluded}
 use Rattle.version_commands.proofs.why.add_why.Goals as goal
 
 pub text_between-requires-clause-within : goal.text_between-requires-clause-within

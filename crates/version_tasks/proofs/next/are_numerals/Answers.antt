@@ -1,8 +1,8 @@
 use Rattle.std.proofs.Common.{rules, tests}
 use Rattle.std.proofs.lemmas.Iterator.Search.{all_from_yields_List}
 use Rattle.std.proofs.lemmas.Iterator.Splits.{YieldsList-from_slice_split}
-use Rattle.version_texts.specs.Piece.{is_dot}
-use Rattle.version_texts.specs.TextKind.{is_numeral}
+use Rattle.version_texts.specs.order.Piece.{is_dot}
+use Rattle.version_texts.specs.scan.TextKind.{is_numeral}
 use Rattle.version_tasks.proofs.next.are_numerals.Goals as goal
 
 pub returns : goal.returns

@@ -4,7 +4,7 @@ use Rattle.version_rules.specs.grammar.Front.{◌>>=◌}
 use Rattle.version_rules.specs.grammar.Versioning.{versioning_of}
 use Rattle.version_tasks.specs.Tag.{after_prefix, text_after_prefix, text_at_beginning, version_after_prefix}
 use Rattle.version_tasks.proofs.lemmas.Tag.{no_prefix, prints_text, with_prefix}
-use Rattle.version_texts.specs.VersioningRef.{plain_versioning_ref}
+use Rattle.version_texts.specs.versioning_ref.VersioningRef.{plain_versioning_ref}
 use Rattle.version_tasks.proofs.tag.version_after_prefix.Goals as goal
 
 -- the version is read off what follows the prefix

@@ -1,8 +1,8 @@
 use Rattle.std.proofs.Common.{◌≡◌, ◌==◌, ◌∙◌, ℕ, List, ap, length, sym, ◌∷◌, [], Bool, drop}
 use Rattle.std.specs.Char.{is_ascii_digit}
 use Rattle.std.specs.List.{list_all}
-use Rattle.version_texts.proofs.lemmas.TextKey.DotPieces.{is_run, number_chunk, text_chunk}
-use Rattle.version_texts.proofs.lemmas.TextKey.Taking.{next_fits, owes_all, owes_rest}
+use Rattle.version_texts.proofs.lemmas.key.TextKey.DotPieces.{is_run, number_chunk, text_chunk}
+use Rattle.version_texts.proofs.lemmas.key.TextKey.Taking.{next_fits, owes_all, owes_rest}
 use Rattle.std.specs.List.{prefix_len}
 use Rattle.version_texts.proofs.key.put_chunk.Goals as goal
 

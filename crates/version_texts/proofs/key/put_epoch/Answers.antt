@@ -3,7 +3,7 @@ use Rattle.std.specs.Char.{is_ascii_digit}
 use Rattle.std.specs.Str.Parse.{digits_value}
 use Rattle.version_rules.specs.key.NumberBytes.{number_bytes}
 use Rattle.version_rules.proofs.lemmas.Front.Runs.{take_while-all}
-use Rattle.version_texts.proofs.lemmas.TextKey.Taking.{takes_same}
+use Rattle.version_texts.proofs.lemmas.key.TextKey.Taking.{takes_same}
 use Rattle.version_texts.proofs.key.put_epoch.Goals as goal
 
 pub returns-else-is_empty : goal.returns-else-is_empty

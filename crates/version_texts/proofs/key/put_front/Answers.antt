@@ -5,9 +5,9 @@ use Rattle.version_rules.specs.key.NumberBytes.{number_bytes}
 use Rattle.version_rules.specs.key.PartKey.{parts_bytes}
 use Rattle.version_rules.proofs.lemmas.Front.Runs.{take_while-all}
 use Rattle.version_texts.specs.declared.scan.shape.Shape.{Shape}
-use Rattle.version_texts.specs.Shape.{Fits, body_in, epoch_in, is_section_byte}
-use Rattle.version_texts.specs.TextKey.{front_bytes, parts_of, text_key}
-use Rattle.version_texts.proofs.lemmas.TextKey.Taking.{next_fits, owes_all, owes_rest}
+use Rattle.version_texts.specs.scan.Shape.{Fits, body_in, epoch_in, is_section_byte}
+use Rattle.version_texts.specs.key.TextKey.{front_bytes, parts_of, text_key}
+use Rattle.version_texts.proofs.lemmas.key.TextKey.Taking.{next_fits, owes_all, owes_rest}
 use Rattle.version_texts.proofs.key.put_front.Goals as goal
 
 -- the bytes before the tail, from the pieces of the text

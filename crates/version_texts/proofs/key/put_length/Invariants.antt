@@ -1,5 +1,5 @@
 use Rattle.version_rules.specs.key.NumberBytes.{length_bytes}
-use Rattle.version_texts.proofs.lemmas.TextKey.Taking.{Owes}
+use Rattle.version_texts.proofs.lemmas.key.TextKey.Taking.{Owes}
 use Rattle.version_texts.proofs.key.put_length.Given as goal
 
 -- the bytes of what is left are to be written

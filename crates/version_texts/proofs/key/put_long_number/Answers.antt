@@ -3,9 +3,9 @@ use Rattle.std.specs.Char.{is_ascii_digit}
 use Rattle.std.specs.List.{prefix_len}
 use Rattle.version_rules.specs.key.NumberBytes.{length_bytes}
 use Rattle.version_rules.proofs.lemmas.NumberBytes.{is_zero}
-use Rattle.version_texts.proofs.lemmas.TextKey.Runs.{number_of_run}
-use Rattle.version_texts.proofs.lemmas.General.RunsWithin.{rest_within, zero_digit}
-use Rattle.version_texts.proofs.lemmas.TextKey.Taking.{next_fits, owes_all, owes_rest}
+use Rattle.version_texts.proofs.lemmas.key.TextKey.Runs.{number_of_run}
+use Rattle.version_texts.proofs.lemmas.scan.General.RunsWithin.{rest_within, zero_digit}
+use Rattle.version_texts.proofs.lemmas.key.TextKey.Taking.{next_fits, owes_all, owes_rest}
 use Rattle.version_texts.proofs.key.put_long_number.Goals as goal
 
 pub put_length-requires : goal.put_length-requires

@@ -1,6 +1,6 @@
 use Rattle.std.proofs.Common.{[], ◌∷◌}
-use Rattle.version_texts.proofs.lemmas.TextKey.Runs.{number_of_digit}
-use Rattle.version_texts.proofs.lemmas.TextKey.Taking.{next_fits, owes_all, owes_rest}
+use Rattle.version_texts.proofs.lemmas.key.TextKey.Runs.{number_of_digit}
+use Rattle.version_texts.proofs.lemmas.key.TextKey.Taking.{next_fits, owes_all, owes_rest}
 use Rattle.version_texts.proofs.key.put_number.Goals as goal
 
 pub put-requires : goal.put-requires

@@ -1,5 +1,5 @@
 use Rattle.std.proofs.Common.{◌∙◌, sym}
-use Rattle.version_texts.proofs.lemmas.TextKind.Messy.{marked_empty, marked_next}
+use Rattle.version_texts.proofs.lemmas.scan.TextKind.Messy.{marked_empty, marked_next}
 use Rattle.version_texts.proofs.scan.are_marked_runs.Goals as goal
 
 pub returns-then-end-place : goal.returns-then-end-place

@@ -1,6 +1,6 @@
 use Rattle.std.proofs.Common.{arith}
-use Rattle.version_texts.proofs.lemmas.TextKind.Messy.{lone_plus, metadata_by_end}
-use Rattle.version_texts.proofs.lemmas.Class.{plus_at}
+use Rattle.version_texts.proofs.lemmas.scan.TextKind.Messy.{lone_plus, metadata_by_end}
+use Rattle.version_texts.proofs.lemmas.scan.Class.{plus_at}
 use Rattle.version_texts.proofs.scan.is_metadata_tail.Goals as goal
 
 pub returns-then-start-text : goal.returns-then-start-text

@@ -1,6 +1,6 @@
 use Rattle.std.proofs.Common.{◌∙◌, sym}
-use Rattle.version_texts.proofs.lemmas.Shape.Scanned.{bad_body}
-use Rattle.version_texts.proofs.lemmas.TextKind.{shape_law}
+use Rattle.version_texts.proofs.lemmas.scan.Shape.Scanned.{bad_body}
+use Rattle.version_texts.proofs.lemmas.scan.TextKind.{shape_law}
 use Rattle.version_texts.proofs.scan.scan.Goals as goal
 
 pub returns-in_err-body : goal.returns-in_err-body

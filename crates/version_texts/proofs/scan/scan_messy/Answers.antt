@@ -1,6 +1,6 @@
 use Rattle.std.proofs.Common.{◌∙◌, ℕ, drop, sym, ap}
-use Rattle.version_texts.specs.TextKind.{are_marked_runs}
-use Rattle.version_texts.proofs.lemmas.Shape.Messy.{ended, goes_on, no_kind}
+use Rattle.version_texts.specs.scan.TextKind.{are_marked_runs}
+use Rattle.version_texts.proofs.lemmas.scan.Shape.Messy.{ended, goes_on, no_kind}
 use Rattle.version_texts.proofs.scan.scan_messy.Goals as goal
 
 pub returns-then-not-are_marked_runs : goal.returns-then-not-are_marked_runs

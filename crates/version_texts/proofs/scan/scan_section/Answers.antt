@@ -2,10 +2,10 @@ use Rattle.std.proofs.Common.{◌==◌, ◌+◌, ◌∙◌, List, ℕ, drop, len
 use Rattle.std.specs.Char.{is_ascii_alphanumeric}
 use Rattle.version_rules.specs.grammar.Bytes.{dot}
 use Rattle.version_rules.specs.grammar.DigitRun.{is_digits}
-use Rattle.version_texts.specs.TextKind.{is_chunk, is_run, section_pieces}
-use Rattle.version_texts.proofs.lemmas.Class.{is_dot, no_dot}
-use Rattle.version_texts.proofs.lemmas.Shape.Section.{all_last, all_next, begins_within, empty_piece, end_last, end_next, pieces_last, pieces_next, runs_last, runs_next}
-use Rattle.version_texts.proofs.lemmas.TextKind.Runs.{run_some}
+use Rattle.version_texts.specs.scan.TextKind.{is_chunk, is_run, section_pieces}
+use Rattle.version_texts.proofs.lemmas.scan.Class.{is_dot, no_dot}
+use Rattle.version_texts.proofs.lemmas.scan.Shape.Section.{all_last, all_next, begins_within, empty_piece, end_last, end_next, pieces_last, pieces_next, runs_last, runs_next}
+use Rattle.version_texts.proofs.lemmas.scan.TextKind.Runs.{run_some}
 use Rattle.version_texts.proofs.scan.scan_section.Goals as goal
 
 pub returns-in_err-run-clause-runs : goal.returns-in_err-run-clause-runs

@@ -3,7 +3,7 @@
 ghost use Rattle.std.specs.Prelude.{◌≡◌, ◌∷◌, ◌↔◌, IsTrue};
 ghost use Rattle.version_rules.specs.key.Key.{strict_body};
 ghost use Rattle.version_rules.specs.requirement.SemVerMatch.{MatchesCaret, Numbers};
-ghost use Rattle.version_texts.specs.Parts.{first_part, more_parts};
+ghost use Rattle.version_texts.specs.order.Parts.{first_part, more_parts};
 
 use crate::order::ends::Ends;
 use crate::order::list::compare_parts;

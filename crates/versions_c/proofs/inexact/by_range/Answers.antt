@@ -1,5 +1,5 @@
 use Rattle.std.proofs.Common.{◌∙◌, ap, if◌then◌else◌, Some, sym}
-use Rattle.version_texts.specs.VersioningRef.{plain_versioning_ref}
+use Rattle.version_texts.specs.versioning_ref.VersioningRef.{plain_versioning_ref}
 use Rattle.versions_c.proofs.lemmas.ByRange.{by_members}
 use Rattle.versions_c.specs.Ranges.{range_with}
 use Rattle.versions_c.proofs.inexact.by_range.Goals as goal

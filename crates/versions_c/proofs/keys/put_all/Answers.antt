@@ -3,8 +3,8 @@ use Rattle.std.proofs.lemmas.List.{length-set}
 use Rattle.std.specs.Option.{option_map, option_map_or}
 use Rattle.version_rules.specs.key.Key.{key_of}
 use Rattle.version_rules.specs.key.KeyBytes.{key_bytes}
-use Rattle.version_texts.specs.VersioningRef.{plain_versioning_ref}
-use Rattle.version_texts.specs.Sinks.{put_nothing}
+use Rattle.version_texts.specs.versioning_ref.VersioningRef.{plain_versioning_ref}
+use Rattle.version_texts.specs.key.Sinks.{put_nothing}
 use Rattle.versions_c.specs.Keys.{keys_before}
 use Rattle.versions_c.specs.Offsets.{text_at}
 use Rattle.version_rules.specs.grammar.Kind.{versioning_kind}

@@ -2,7 +2,7 @@ use Rattle.std.proofs.Common.{ap, arith}
 use Rattle.std.specs.Option.{option_map}
 use Rattle.version_rules.specs.key.Key.{key_of}
 use Rattle.version_rules.specs.key.KeyBytes.{key_bytes}
-use Rattle.version_texts.specs.VersioningRef.{plain_versioning_ref}
+use Rattle.version_texts.specs.versioning_ref.VersioningRef.{plain_versioning_ref}
 use Rattle.versions_c.specs.Keys.{spelled_key}
 use Rattle.versions_c.proofs.lemmas.Keys.Putting.{fitting_key}
 use Rattle.versions_c.proofs.keys.versions_parse.Goals as goal

@@ -5,10 +5,10 @@ use Rattle.std.specs.Option.{option_map, unwrap_or}
 use Rattle.version_rules.specs.key.Key.{key_of}
 use Rattle.version_rules.specs.key.KeyBytes.{key_bytes}
 use Rattle.version_rules.specs.grammar.Versioning.{PlainVersioning, versioning_of}
-use Rattle.version_texts.specs.KeyRoom.{room_for}
+use Rattle.version_texts.specs.key.KeyRoom.{room_for}
 use Rattle.versions_c.specs.Keys.{keys_before, spelled_key}
 use Rattle.versions_c.specs.Offsets.{AreOffsets, text_at}
-use Rattle.version_texts.proofs.lemmas.KeyRoom.{enough_room}
+use Rattle.version_texts.proofs.lemmas.key.KeyRoom.{enough_room}
 
 key_within : (text : List ℕ) → length (unwrap_or (spelled_key text) []) ≤ room_for (length text)
 key_within text = by (versioning_of text) refl

@@ -2,7 +2,7 @@ use Rattle.std.proofs.Common.{◌≡◌, ◌++◌, ◌∷◌, [], Bool, None, re
 use Rattle.version_commands.specs.Each.{HaveAnswered, IsAnswer}
 use Rattle.version_commands.specs.Pieces.{Adds}
 use Rattle.version_commands.specs.declared.each.Answers.{Answers}
-use Rattle.version_texts.specs.VersioningRef.{plain_versioning_ref}
+use Rattle.version_texts.specs.versioning_ref.VersioningRef.{plain_versioning_ref}
 use Rattle.version_commands.proofs.lemmas.Each.{have-next, have-still}
 use Rattle.version_commands.proofs.each.Answers.add.Goals.{else-is_none-via-then-is_none+in_ok-add_answer+else-not-branch, else-is_none-via-else-is_none}
 use Rattle.version_commands.proofs.each.Answers.add.Goals as goal

@@ -2,7 +2,7 @@ use Rattle.std.proofs.Common.{◌∙◌, sym}
 use Rattle.std.proofs.lemmas.Map.Text.{btree_map_updates_str}
 use Rattle.version_commands.proofs.lemmas.Lists.{names_added, names_kept}
 use Rattle.version_commands.proofs.lists.Names.add.Goals as goal
-use Rattle.version_texts.specs.VersioningRef.{plain_versioning_ref}
+use Rattle.version_texts.specs.versioning_ref.VersioningRef.{plain_versioning_ref}
 
 pub returns-then-contains_key : goal.returns-then-contains_key
 returns-then-contains_key c =

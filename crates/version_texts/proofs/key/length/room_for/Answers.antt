@@ -1,5 +1,5 @@
 use Rattle.std.proofs.Common.{arith}
-use Rattle.version_texts.proofs.lemmas.KeyRoom.{enough_room}
+use Rattle.version_texts.proofs.lemmas.key.KeyRoom.{enough_room}
 use Rattle.version_texts.proofs.key.length.room_for.Goals as goal
 
 pub returns-clause-room : goal.returns-clause-room

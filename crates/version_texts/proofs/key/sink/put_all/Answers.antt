@@ -1,6 +1,6 @@
 use Rattle.std.proofs.Common.{[], ◌∷◌, get_or}
 use Rattle.std.proofs.Math.Seq.{split_at}
-use Rattle.version_texts.proofs.lemmas.TextKey.Taking.{next_fits, owes_all, owes_rest}
+use Rattle.version_texts.proofs.lemmas.key.TextKey.Taking.{next_fits, owes_all, owes_rest}
 use Rattle.version_texts.proofs.key.sink.put_all.Goals as goal
 
 pub put-requires : goal.put-requires

@@ -1,4 +1,4 @@
-use Rattle.version_texts.proofs.lemmas.Empty.{none_in_empty, none_matched, none_matched_by_two}
+use Rattle.version_texts.proofs.lemmas.requirement.Empty.{none_in_empty, none_matched, none_matched_by_two}
 use Rattle.version_texts.proofs.laws.empty.empty_ranges.Goals as goal
 
 pub returns : goal.returns

@@ -13,8 +13,8 @@ use Rattle.version_rules.proofs.lemmas.NumberBytes.{is_zero}
 use Rattle.version_rules.proofs.lemmas.PartOrder.{numbers_compared}
 use Rattle.version_rules.specs.grammar.DigitRun.{run_value, starts_with_digit}
 use Rattle.version_rules.specs.order.Lists.{bytes_cmp}
-use Rattle.version_texts.proofs.lemmas.General.Runs.{run_cons, run_none}
-use Rattle.version_texts.proofs.lemmas.General.RunsWithin.{no_run}
+use Rattle.version_texts.proofs.lemmas.scan.General.Runs.{run_cons, run_none}
+use Rattle.version_texts.proofs.lemmas.scan.General.RunsWithin.{no_run}
 use Rattle.version_texts.proofs.order.digits.compare_if_numbers.Goals as goal
 
 abbrev digits : List ℕ → List ℕ

@@ -12,9 +12,9 @@ use Rattle.version_rules.proofs.lemmas.NumberBytes.{is_zero}
 use Rattle.version_rules.proofs.lemmas.PartOrder.{numbers_compared}
 use Rattle.version_rules.specs.grammar.DigitRun.{run_value}
 use Rattle.version_rules.specs.order.Lists.{bytes_cmp}
-use Rattle.version_texts.proofs.lemmas.General.Runs.{run_cons, run_within}
-use Rattle.version_texts.proofs.lemmas.General.RunsWithin.{rest_within, zero_digit}
-use Rattle.version_texts.specs.Piece.{behind_digits}
+use Rattle.version_texts.proofs.lemmas.scan.General.Runs.{run_cons, run_within}
+use Rattle.version_texts.proofs.lemmas.scan.General.RunsWithin.{rest_within, zero_digit}
+use Rattle.version_texts.specs.order.Piece.{behind_digits}
 use Rattle.version_texts.proofs.order.digits.compare_numbers.Goals as goal
 
 abbrev digits : List ℕ → List ℕ

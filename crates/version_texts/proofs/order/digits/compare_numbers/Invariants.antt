@@ -4,7 +4,7 @@ use Rattle.std.specs.List.{prefix_len, take_while}
 use Rattle.std.specs.Ordering.{nat_cmp, ordering_then}
 use Rattle.version_rules.specs.grammar.DigitRun.{run_value}
 use Rattle.version_rules.specs.order.Lists.{bytes_cmp}
-use Rattle.version_texts.specs.Piece.{behind_digits}
+use Rattle.version_texts.specs.order.Piece.{behind_digits}
 use Rattle.version_texts.proofs.order.digits.compare_numbers.Given as goal
 
 -- the digits so far are the same: the counts of those left decide, and then those left

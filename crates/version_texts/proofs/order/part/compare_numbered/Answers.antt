@@ -1,10 +1,10 @@
 use Rattle.std.proofs.Common.{◌∙◌, ap, sym}
 use Rattle.std.specs.List.{before_first}
 use Rattle.version_rules.specs.order.Lists.{bytes_cmp}
-use Rattle.version_texts.proofs.lemmas.Piece.{digits_same}
-use Rattle.version_texts.proofs.lemmas.Piece.Ends.{digit_no_end}
-use Rattle.version_texts.proofs.lemmas.Piece.Order.{decides, leaves, numbered_compared, tied}
-use Rattle.version_texts.specs.Piece.{end_of, from_first}
+use Rattle.version_texts.proofs.lemmas.order.Piece.{digits_same}
+use Rattle.version_texts.proofs.lemmas.order.Piece.Ends.{digit_no_end}
+use Rattle.version_texts.proofs.lemmas.order.Piece.Order.{decides, leaves, numbered_compared, tied}
+use Rattle.version_texts.specs.order.Piece.{end_of, from_first}
 use Rattle.version_texts.proofs.order.part.compare_numbered.Goals as goal
 
 pub returns-then-ne-clause-order : goal.returns-then-ne-clause-order

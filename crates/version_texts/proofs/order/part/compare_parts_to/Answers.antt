@@ -3,10 +3,10 @@ use Rattle.std.specs.List.{before_first}
 use Rattle.version_rules.specs.order.Lists.{none_last_cmp}
 use Rattle.version_rules.specs.key.PartKey.{suffix_of}
 use Rattle.version_rules.specs.key.Split.{split_cmp}
-use Rattle.version_texts.proofs.lemmas.Piece.{digits_same}
-use Rattle.version_texts.proofs.lemmas.Piece.Ends.{digit_no_end}
-use Rattle.version_texts.proofs.lemmas.Piece.Order.{decides, leaves, number_above_word, numbers_compared, tied, word_below_number, words_compared}
-use Rattle.version_texts.specs.Piece.{end_of, from_first}
+use Rattle.version_texts.proofs.lemmas.order.Piece.{digits_same}
+use Rattle.version_texts.proofs.lemmas.order.Piece.Ends.{digit_no_end}
+use Rattle.version_texts.proofs.lemmas.order.Piece.Order.{decides, leaves, number_above_word, numbers_compared, tied, word_below_number, words_compared}
+use Rattle.version_texts.specs.order.Piece.{end_of, from_first}
 use Rattle.version_texts.proofs.order.part.compare_parts_to.Goals as goal
 
 pub returns-then-ne-clause-order : goal.returns-then-ne-clause-order

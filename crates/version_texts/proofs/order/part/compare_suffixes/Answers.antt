@@ -1,8 +1,8 @@
 use Rattle.std.proofs.Common.{◌∙◌, sym}
 use Rattle.version_rules.specs.order.Lists.{none_last_cmp}
 use Rattle.version_rules.specs.key.Split.{split_cmp}
-use Rattle.version_texts.proofs.lemmas.Piece.Words.{no_bytes, no_suffix, some_suffix}
-use Rattle.version_texts.specs.Piece.{end_of}
+use Rattle.version_texts.proofs.lemmas.order.Piece.Words.{no_bytes, no_suffix, some_suffix}
+use Rattle.version_texts.specs.order.Piece.{end_of}
 use Rattle.version_texts.proofs.order.part.compare_suffixes.Goals as goal
 
 pub returns-in-true-true-clause-order : goal.returns-in-true-true-clause-order

@@ -1,7 +1,7 @@
 use Rattle.std.proofs.Common.{◌∙◌}
 use Rattle.version_rules.specs.order.Lists.{bytes_cmp}
-use Rattle.version_texts.proofs.lemmas.Piece.Words.{run_is_piece}
-use Rattle.version_texts.specs.Piece.{end_of}
+use Rattle.version_texts.proofs.lemmas.order.Piece.Words.{run_is_piece}
+use Rattle.version_texts.specs.order.Piece.{end_of}
 use Rattle.version_texts.proofs.order.part.compare_texts.Goals as goal
 
 pub returns : goal.returns

@@ -9,9 +9,9 @@ use Rattle.version_rules.specs.order.Lists.{bytes_cmp}
 use Rattle.version_rules.specs.key.Split.{numbered_cmp, split_cmp, split_of}
 use Rattle.version_texts.specs.declared.order.ends.Ends.{Ends}
 use Rattle.version_texts.specs.declared.order.ends.Run.TheVariants.{Word}
-use Rattle.version_texts.proofs.lemmas.Piece.Order.{decides, leaves, tied}
-use Rattle.version_texts.proofs.lemmas.Piece.Words.{run_is_word}
-use Rattle.version_texts.specs.Piece.{end_of, from_first, in_run}
+use Rattle.version_texts.proofs.lemmas.order.Piece.Order.{decides, leaves, tied}
+use Rattle.version_texts.proofs.lemmas.order.Piece.Words.{run_is_word}
+use Rattle.version_texts.specs.order.Piece.{end_of, from_first, in_run}
 use Rattle.version_texts.proofs.order.part.compare_words.Goals as goal
 
 abbrev behind_word : Ends → List ℕ → List ℕ

@@ -1,5 +1,5 @@
 use Rattle.std.proofs.Common.{sym}
-use Rattle.version_texts.proofs.lemmas.Piece.{digits_alone}
+use Rattle.version_texts.proofs.lemmas.order.Piece.{digits_alone}
 use Rattle.version_texts.proofs.order.release.chunk_is_number.Goals as goal
 
 pub returns : goal.returns

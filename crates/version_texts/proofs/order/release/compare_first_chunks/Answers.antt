@@ -4,10 +4,10 @@ use Rattle.std.specs.Ordering.{nat_cmp, ordering_reverse}
 use Rattle.std.specs.declared.cmp.Ordering.TheVariants.{Less, Equal, Greater}
 use Rattle.version_rules.specs.grammar.DigitRun.{run_value}
 use Rattle.version_rules.specs.laws.Release.{chunk_total}
-use Rattle.version_texts.proofs.lemmas.Piece.{behind_number, digits_alone}
-use Rattle.version_texts.proofs.lemmas.Piece.Chunks.{both_numbers, both_texts, not_tied, number_first, number_second}
-use Rattle.version_texts.specs.Piece.{first_piece}
-use Rattle.version_texts.specs.TextKey.{chunk_of}
+use Rattle.version_texts.proofs.lemmas.order.Piece.{behind_number, digits_alone}
+use Rattle.version_texts.proofs.lemmas.order.Piece.Chunks.{both_numbers, both_texts, not_tied, number_first, number_second}
+use Rattle.version_texts.specs.order.Piece.{first_piece}
+use Rattle.version_texts.specs.key.TextKey.{chunk_of}
 use Rattle.version_texts.proofs.order.release.compare_first_chunks.Goals as goal
 
 tie_reversed : (o : Ordering) → ordering_reverse o ≡ Equal → o ≡ Equal

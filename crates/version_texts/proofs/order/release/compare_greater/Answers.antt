@@ -1,5 +1,5 @@
 use Rattle.std.proofs.Common.{◌∙◌, sym}
-use Rattle.version_texts.proofs.lemmas.Piece.Chunks.{above_number}
+use Rattle.version_texts.proofs.lemmas.order.Piece.Chunks.{above_number}
 use Rattle.version_texts.proofs.order.release.compare_greater.Goals as goal
 
 pub returns-then-chunk_is_number : goal.returns-then-chunk_is_number

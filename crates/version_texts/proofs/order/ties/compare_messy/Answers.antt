@@ -1,5 +1,5 @@
 use Rattle.std.proofs.Common.{◌≤◌, ◌⊎◌, ◌∙◌, arith, inl, inr, length, sym}
-use Rattle.version_texts.proofs.lemmas.Ties.Walks.{bytes_end}
+use Rattle.version_texts.proofs.lemmas.order.Ties.Walks.{bytes_end}
 use Rattle.version_texts.proofs.order.ties.compare_messy.Goals.{then-bytes-test+else-place-y, else-bytes-test}
 use Rattle.version_texts.proofs.order.ties.compare_messy.Goals as goal
 

@@ -1,6 +1,6 @@
 use Rattle.std.proofs.Common.{arith, ◌∙◌, ap, length, length-append, ◌∷◌}
 use Rattle.version_rules.specs.requirement.Requirements.{comma}
-use Rattle.version_texts.proofs.lemmas.FirstFailing.{front_left, one_left, others_left, whole_left}
+use Rattle.version_texts.proofs.lemmas.requirement.FirstFailing.{front_left, one_left, others_left, whole_left}
 use Rattle.version_texts.proofs.requirement.first_failing.first_failing.Goals as goal
 
 pub loop-front-init : goal.loop-front-init

@@ -1,6 +1,6 @@
 use Rattle.std.proofs.Common.{◌∙◌, ◌∷◌, ap}
-use Rattle.version_texts.proofs.lemmas.FirstFailing.{after_piece, only_piece}
-use Rattle.version_texts.specs.Members.{pieces_of}
+use Rattle.version_texts.proofs.lemmas.requirement.FirstFailing.{after_piece, only_piece}
+use Rattle.version_texts.specs.requirement.Members.{pieces_of}
 use Rattle.version_texts.proofs.requirement.first_failing.parted.Goals as goal
 
 pub returns-in_err-others-clause-none : goal.returns-in_err-others-clause-none

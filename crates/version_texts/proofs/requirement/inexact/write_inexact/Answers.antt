@@ -1,5 +1,5 @@
-use Rattle.version_texts.proofs.lemmas.Sinks.{counted}
-use Rattle.version_texts.specs.Inexact.{inexact_part}
+use Rattle.version_texts.proofs.lemmas.key.Sinks.{counted}
+use Rattle.version_texts.specs.requirement.Inexact.{inexact_part}
 use Rattle.version_texts.proofs.requirement.inexact.write_inexact.Goals as goal
 
 pub returns-else-length-room-clause-length : goal.returns-else-length-room-clause-length

@@ -1,5 +1,5 @@
 use Rattle.std.proofs.Common.{◌∙◌, arith, sym}
-use Rattle.version_texts.proofs.lemmas.RequirementsRef.Members.{one_piece, pieces_cut}
+use Rattle.version_texts.proofs.lemmas.requirement.RequirementsRef.Members.{one_piece, pieces_cut}
 use Rattle.version_texts.proofs.requirement.members.split_first.Goals as goal
 
 pub returns-then-end-list-clause-pieces : goal.returns-then-end-list-clause-pieces

@@ -1,5 +1,5 @@
 use Rattle.std.proofs.Common.{refl, sym}
-use Rattle.version_texts.proofs.lemmas.Piece.Kept.{zeros_alone, zeros_and_other, zeros_more, zeros_none}
+use Rattle.version_texts.proofs.lemmas.order.Piece.Kept.{zeros_alone, zeros_and_other, zeros_more, zeros_none}
 use Rattle.version_texts.proofs.requirement.range.through_other.Goals as goal
 
 pub parts-init : goal.parts-init

@@ -1,9 +1,9 @@
 use Rattle.std.proofs.Common.{◌∙◌, refl}
 use Rattle.version_rules.proofs.lemmas.RequirementsRef.{first_decides, others_decide}
-use Rattle.version_texts.proofs.lemmas.RequirementsRef.Members.{list_split, more_parse}
-use Rattle.version_texts.specs.Members.{list_of, pieces_of}
-use Rattle.version_texts.specs.RequirementRef.{plain_requirement_ref}
-use Rattle.version_texts.specs.VersioningRef.{plain_versioning_ref}
+use Rattle.version_texts.proofs.lemmas.requirement.RequirementsRef.Members.{list_split, more_parse}
+use Rattle.version_texts.specs.requirement.Members.{list_of, pieces_of}
+use Rattle.version_texts.specs.requirement.RequirementRef.{plain_requirement_ref}
+use Rattle.version_texts.specs.versioning_ref.VersioningRef.{plain_versioning_ref}
 use Rattle.version_texts.proofs.requirement.requirements_ref.list_matches.Goals as goal
 
 pub returns-then-parse-clause-matches : goal.returns-then-parse-clause-matches

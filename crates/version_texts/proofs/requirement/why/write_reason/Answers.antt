@@ -1,5 +1,5 @@
-use Rattle.version_texts.proofs.lemmas.Sinks.{counted}
-use Rattle.version_texts.specs.Why.{reason_text}
+use Rattle.version_texts.proofs.lemmas.key.Sinks.{counted}
+use Rattle.version_texts.specs.requirement.Why.{reason_text}
 use Rattle.version_texts.proofs.requirement.why.write_reason.Goals as goal
 
 pub returns-then-length-room-clause-length : goal.returns-then-length-room-clause-length

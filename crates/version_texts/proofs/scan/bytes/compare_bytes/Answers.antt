@@ -1,6 +1,6 @@
 use Rattle.std.proofs.Common.{rules, ◌∙◌}
 use Rattle.std.specs.Ordering.{nat_cmp}
-use Rattle.version_texts.proofs.lemmas.Bytes.{eight_decide, eight_same}
+use Rattle.version_texts.proofs.lemmas.scan.Bytes.{eight_decide, eight_same}
 use Rattle.version_texts.proofs.scan.bytes.compare_bytes.Goals as goal
 
 pub returns-in_default : goal.returns-in_default

@@ -1,6 +1,6 @@
 use Rattle.std.proofs.Common.{◌≡◌, ◌+◌, ◌-◌, ◌≤◌, drop, length}
 use Rattle.std.specs.List.{prefix_len}
-use Rattle.version_texts.specs.Class.{contains}
+use Rattle.version_texts.specs.scan.Class.{contains}
 use Rattle.version_texts.proofs.scan.class.run_end.Given as goal
 
 -- all bytes so far are of the class

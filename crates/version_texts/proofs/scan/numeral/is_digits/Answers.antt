@@ -1,6 +1,6 @@
 use Rattle.std.proofs.Common.{◌==◌, ◌∙◌, ℕ, List, ap, length}
 use Rattle.std.specs.Char.{is_ascii_digit}
-use Rattle.version_texts.proofs.lemmas.TextKey.DotPieces.{is_run}
+use Rattle.version_texts.proofs.lemmas.key.TextKey.DotPieces.{is_run}
 use Rattle.version_texts.proofs.scan.numeral.is_digits.Goals as goal
 
 pub returns-then-begins_with : goal.returns-then-begins_with

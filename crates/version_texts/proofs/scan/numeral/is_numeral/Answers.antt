@@ -1,6 +1,6 @@
 use Rattle.std.proofs.Common.{◌∙◌, sym, ap, not}
 use Rattle.std.proofs.lemmas.Bool.{eq-eqb}
-use Rattle.version_texts.proofs.lemmas.TextKind.Numeral.{leading_zero, no_leading_zero, one_digit, some_digits}
+use Rattle.version_texts.proofs.lemmas.scan.TextKind.Numeral.{leading_zero, no_leading_zero, one_digit, some_digits}
 use Rattle.version_texts.proofs.scan.numeral.is_numeral.Goals as goal
 
 pub returns-then-digits-eq1 : goal.returns-then-digits-eq1

@@ -1,8 +1,8 @@
 use Rattle.std.proofs.Common.{◌≡◌, ◌^◌, nat_lt, refl, sym, true}
 use Rattle.std.proofs.lemmas.Bool.{lt-ltb}
 use Rattle.std.specs.Str.Parse.{digits_value}
-use Rattle.version_texts.proofs.lemmas.TextKind.Chunks.{numeral_spells}
-use Rattle.version_texts.proofs.lemmas.TextKind.Numeral.{no_numeral}
+use Rattle.version_texts.proofs.lemmas.scan.TextKind.Chunks.{numeral_spells}
+use Rattle.version_texts.proofs.lemmas.scan.TextKind.Numeral.{no_numeral}
 use Rattle.version_texts.proofs.scan.numeral.numeral_value.Goals.{else-is_digits-via-then-is_digits+else-is_numeral, else-is_digits-via-else-is_digits}
 use Rattle.version_texts.proofs.scan.numeral.numeral_value.Goals as goal
 

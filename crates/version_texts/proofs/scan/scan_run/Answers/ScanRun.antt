@@ -7,12 +7,12 @@ use Rattle.std.specs.List.{list_all, prefix_len, take_while}
 use Rattle.version_rules.specs.grammar.Bytes.{HasDigits}
 use Rattle.version_rules.specs.grammar.DigitRun.{is_digits}
 use Rattle.version_rules.specs.grammar.Front.{begins}
-use Rattle.version_texts.specs.Class.{contains}
-use Rattle.version_texts.specs.Shape.{digits_len}
-use Rattle.version_texts.specs.TextKind.{is_chunk, is_numeral}
+use Rattle.version_texts.specs.scan.Class.{contains}
+use Rattle.version_texts.specs.scan.Shape.{digits_len}
+use Rattle.version_texts.specs.scan.TextKind.{is_chunk, is_numeral}
 use Rattle.version_texts.specs.declared.scan.class.Class.{Class}
-use Rattle.version_texts.proofs.lemmas.General.Runs.{all_smaller, larger_run, some_larger}
-use Rattle.version_texts.proofs.lemmas.TextKind.Runs.{chunk_digits, chunk_word, digits_not, digits_some}
+use Rattle.version_texts.proofs.lemmas.scan.General.Runs.{all_smaller, larger_run, some_larger}
+use Rattle.version_texts.proofs.lemmas.scan.TextKind.Runs.{chunk_digits, chunk_word, digits_not, digits_some}
 
 -- whether a run goes on behind a place
 begun_some : (test : ℕ → Bool) (text : List ℕ) → begins test text ≡ true → 0 < prefix_len test text

@@ -1,5 +1,5 @@
 use Rattle.std.proofs.Common.{sym}
-use Rattle.version_texts.proofs.lemmas.VersioningRef.{printed-is, spelled}
+use Rattle.version_texts.proofs.lemmas.versioning_ref.VersioningRef.{printed-is, spelled}
 use Rattle.version_texts.proofs.versioning_ref.VersioningRef.bytes.Goals as goal
 
 pub returns-clause-printed : goal.returns-clause-printed

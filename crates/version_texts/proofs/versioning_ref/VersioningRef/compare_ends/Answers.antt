@@ -1,4 +1,4 @@
-use Rattle.version_texts.proofs.lemmas.VersioningRef.{key-is, shape_fits}
+use Rattle.version_texts.proofs.lemmas.versioning_ref.VersioningRef.{key-is, shape_fits}
 use Rattle.version_texts.proofs.versioning_ref.VersioningRef.compare_ends.Goals as goal
 
 pub compare_ends-requires-clause-a_fits : goal.compare_ends-requires-clause-a_fits

@@ -1,4 +1,4 @@
-use Rattle.version_texts.proofs.lemmas.VersioningRef.{key-is, shape_fits}
+use Rattle.version_texts.proofs.lemmas.versioning_ref.VersioningRef.{key-is, shape_fits}
 use Rattle.version_texts.proofs.versioning_ref.VersioningRef.compare_key.Goals as goal
 
 pub compare_key-requires : goal.compare_key-requires

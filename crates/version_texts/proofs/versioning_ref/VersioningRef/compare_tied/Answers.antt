@@ -1,8 +1,8 @@
 use Rattle.std.proofs.Common.{◌≡◌, ◌∙◌, rules, sym}
 use Rattle.std.specs.Ordering.{nat_cmp}
-use Rattle.version_texts.proofs.lemmas.Ties.{general_breaks, messy_breaks}
-use Rattle.version_texts.proofs.lemmas.VersioningRef.{kind-is}
-use Rattle.version_texts.proofs.lemmas.VersioningRef.PlainOrder.{kinds_decide, strict_decides}
+use Rattle.version_texts.proofs.lemmas.order.Ties.{general_breaks, messy_breaks}
+use Rattle.version_texts.proofs.lemmas.versioning_ref.VersioningRef.{kind-is}
+use Rattle.version_texts.proofs.lemmas.versioning_ref.VersioningRef.PlainOrder.{kinds_decide, strict_decides}
 use Rattle.version_texts.proofs.versioning_ref.VersioningRef.compare_tied.Goals as goal
 
 pub returns-then-ne : goal.returns-then-ne

@@ -1,7 +1,7 @@
 use Rattle.std.proofs.Common.{if◌then◌else◌, ◌∙◌, None, Some, ap, sym}
-use Rattle.version_texts.proofs.lemmas.Difference.{by_keys}
-use Rattle.version_texts.proofs.lemmas.VersioningRef.{key-is, shape_fits}
-use Rattle.version_texts.specs.VersioningRef.{plain_versioning_ref}
+use Rattle.version_texts.proofs.lemmas.order.Difference.{by_keys}
+use Rattle.version_texts.proofs.lemmas.versioning_ref.VersioningRef.{key-is, shape_fits}
+use Rattle.version_texts.specs.versioning_ref.VersioningRef.{plain_versioning_ref}
 use Rattle.version_texts.specs.declared.order.difference.Difference.TheVariants.{Same, Tie}
 use Rattle.version_texts.proofs.versioning_ref.VersioningRef.difference.Goals as goal
 

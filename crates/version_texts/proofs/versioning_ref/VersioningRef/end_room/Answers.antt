@@ -1,8 +1,8 @@
 use Rattle.std.proofs.Common.{arith, refl}
 use Rattle.version_rules.specs.key.Key.{key_of}
-use Rattle.version_texts.proofs.lemmas.KeyRoom.Ends.{end_length}
-use Rattle.version_texts.proofs.lemmas.VersioningRef.{spelled}
-use Rattle.version_texts.specs.VersioningRef.{plain_versioning_ref}
+use Rattle.version_texts.proofs.lemmas.key.KeyRoom.Ends.{end_length}
+use Rattle.version_texts.proofs.lemmas.versioning_ref.VersioningRef.{spelled}
+use Rattle.version_texts.specs.versioning_ref.VersioningRef.{plain_versioning_ref}
 use Rattle.version_texts.proofs.versioning_ref.VersioningRef.end_room.Goals as goal
 
 pub returns-in-Key : goal.returns-in-Key

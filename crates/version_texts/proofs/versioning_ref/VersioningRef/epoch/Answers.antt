@@ -1,9 +1,9 @@
 use Rattle.std.proofs.Common.{ap, sym}
 use Rattle.std.proofs.lemmas.Bool.{ne_eqb}
 use Rattle.std.specs.Option.{option_map}
-use Rattle.version_texts.specs.Sinks.{saturated}
-use Rattle.version_texts.proofs.lemmas.VersioningRef.{shape_fits}
-use Rattle.version_texts.proofs.lemmas.Field.{fields_placed}
+use Rattle.version_texts.specs.key.Sinks.{saturated}
+use Rattle.version_texts.proofs.lemmas.versioning_ref.VersioningRef.{shape_fits}
+use Rattle.version_texts.proofs.lemmas.versioning_ref.Field.{fields_placed}
 use Rattle.version_texts.proofs.versioning_ref.VersioningRef.epoch.Goals as goal
 
 pub returns-then-self-eq0 : goal.returns-then-self-eq0

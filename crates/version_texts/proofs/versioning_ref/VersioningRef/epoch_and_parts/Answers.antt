@@ -1,7 +1,7 @@
 use Rattle.std.proofs.Common.{◌∙◌, Some, arith, sym}
 use Rattle.std.proofs.lemmas.List.{length-take-le}
-use Rattle.version_texts.proofs.lemmas.EpochAndParts.{body_within, no_texts, texts_are}
-use Rattle.version_texts.proofs.lemmas.VersioningRef.{shape_fits}
+use Rattle.version_texts.proofs.lemmas.versioning_ref.EpochAndParts.{body_within, no_texts, texts_are}
+use Rattle.version_texts.proofs.lemmas.versioning_ref.VersioningRef.{shape_fits}
 use Rattle.version_texts.proofs.versioning_ref.VersioningRef.epoch_and_parts.Goals as goal
 
 pub slice_bounds-split_at-end : goal.slice_bounds-split_at-end

@@ -1,5 +1,5 @@
 use Rattle.std.proofs.Common.{◌∙◌, sym}
-use Rattle.version_texts.proofs.lemmas.VersioningRef.{spelled, unspelled}
+use Rattle.version_texts.proofs.lemmas.versioning_ref.VersioningRef.{spelled, unspelled}
 use Rattle.version_texts.proofs.versioning_ref.VersioningRef.from_bytes.Goals as goal
 
 pub returns-in_err-shape : goal.returns-in_err-shape

@@ -1,5 +1,5 @@
 use Rattle.std.proofs.Common.{◌∙◌, ap, sym}
-use Rattle.version_texts.proofs.lemmas.VersioningRef.{is_prerelease_tail, other_tail, prerelease-is}
+use Rattle.version_texts.proofs.lemmas.versioning_ref.VersioningRef.{is_prerelease_tail, other_tail, prerelease-is}
 use Rattle.version_texts.proofs.versioning_ref.VersioningRef.is_prerelease.Goals as goal
 
 pub returns-in-PreRelease : goal.returns-in-PreRelease

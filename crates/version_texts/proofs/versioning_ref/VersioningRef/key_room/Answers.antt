@@ -1,6 +1,6 @@
 use Rattle.std.proofs.Common.{arith, refl}
-use Rattle.version_texts.proofs.lemmas.VersioningRef.{spelled}
-use Rattle.version_texts.specs.VersioningRef.{plain_versioning_ref}
+use Rattle.version_texts.proofs.lemmas.versioning_ref.VersioningRef.{spelled}
+use Rattle.version_texts.specs.versioning_ref.VersioningRef.{plain_versioning_ref}
 use Rattle.version_texts.proofs.versioning_ref.VersioningRef.key_room.Goals as goal
 
 pub returns-then-self-le-LONGEST_WITH_ROOM : goal.returns-then-self-le-LONGEST_WITH_ROOM

@@ -1,4 +1,4 @@
-use Rattle.version_texts.proofs.lemmas.VersioningRef.{kind-is}
+use Rattle.version_texts.proofs.lemmas.versioning_ref.VersioningRef.{kind-is}
 use Rattle.version_texts.proofs.versioning_ref.VersioningRef.kind.Goals as goal
 
 pub returns : goal.returns

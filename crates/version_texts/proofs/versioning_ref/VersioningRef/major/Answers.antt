@@ -1,5 +1,5 @@
 use Rattle.std.proofs.Common.{◌∙◌}
-use Rattle.version_texts.proofs.lemmas.RequirementsRef.MajorText.{strict_major, other_major}
+use Rattle.version_texts.proofs.lemmas.requirement.RequirementsRef.MajorText.{strict_major, other_major}
 use Rattle.version_texts.proofs.versioning_ref.VersioningRef.major.Goals as goal
 
 pub returns-in-Ideal : goal.returns-in-Ideal

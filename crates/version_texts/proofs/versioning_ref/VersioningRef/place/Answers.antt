@@ -1,7 +1,7 @@
 use Rattle.std.proofs.Common.{◌≡◌, arith, rules, sym}
 use Rattle.std.proofs.lemmas.Bool.{eq-eqb, le-ltb, lt-ltb, ne_eqb}
-use Rattle.version_texts.proofs.lemmas.VersioningRef.{other_tail}
-use Rattle.version_texts.proofs.lemmas.Field.{fields_placed, no_release_tail}
+use Rattle.version_texts.proofs.lemmas.versioning_ref.VersioningRef.{other_tail}
+use Rattle.version_texts.proofs.lemmas.versioning_ref.Field.{fields_placed, no_release_tail}
 use Rattle.version_texts.specs.declared.scan.shape.TailKind.TheVariants as tail
 use Rattle.version_texts.proofs.versioning_ref.VersioningRef.place.Goals as goal
 

@@ -1,4 +1,4 @@
-use Rattle.version_texts.proofs.lemmas.VersioningRef.{key-is, shape_fits}
+use Rattle.version_texts.proofs.lemmas.versioning_ref.VersioningRef.{key-is, shape_fits}
 use Rattle.version_texts.proofs.versioning_ref.VersioningRef.put_end.Goals as goal
 
 pub put_end-requires-clause-shape : goal.put_end-requires-clause-shape

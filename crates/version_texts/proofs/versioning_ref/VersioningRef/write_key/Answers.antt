@@ -1,5 +1,5 @@
 use Rattle.std.proofs.Common.{arith}
-use Rattle.version_texts.proofs.lemmas.VersioningRef.{key-is, shape_fits}
+use Rattle.version_texts.proofs.lemmas.versioning_ref.VersioningRef.{key-is, shape_fits}
 use Rattle.version_texts.proofs.versioning_ref.VersioningRef.write_key.Goals as goal
 
 pub write_key-requires-clause-shape : goal.write_key-requires-clause-shape

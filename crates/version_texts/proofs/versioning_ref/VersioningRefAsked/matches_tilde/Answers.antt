@@ -1,4 +1,4 @@
-use Rattle.version_texts.proofs.lemmas.VersioningRef.{spelled}
+use Rattle.version_texts.proofs.lemmas.versioning_ref.VersioningRef.{spelled}
 use Rattle.version_texts.proofs.versioning_ref.VersioningRefAsked.matches_tilde.Goals as goal
 
 pub returns : goal.returns

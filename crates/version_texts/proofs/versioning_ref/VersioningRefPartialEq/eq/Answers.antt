@@ -1,7 +1,7 @@
 use Rattle.std.proofs.Common.{◌≡◌, ◌∙◌, rules, sym}
 use Rattle.std.proofs.lemmas.List.{length-take-le}
-use Rattle.version_texts.proofs.lemmas.VersioningRef.{tail_within}
-use Rattle.version_texts.proofs.lemmas.VersioningRef.SameText.{told_by_fronts, told_by_kinds, told_by_whole}
+use Rattle.version_texts.proofs.lemmas.versioning_ref.VersioningRef.{tail_within}
+use Rattle.version_texts.proofs.lemmas.versioning_ref.VersioningRef.SameText.{told_by_fronts, told_by_kinds, told_by_whole}
 use Rattle.version_texts.proofs.versioning_ref.VersioningRefPartialEq.eq.Goals as goal
 
 pub returns-then-ne : goal.returns-then-ne

@@ -1,7 +1,7 @@
 use Rattle.std.proofs.Common.{◌∙◌, ap}
 use Rattle.version_rules.specs.grammar.MChunk.{value_of_digits}
-use Rattle.version_texts.specs.Numbers.{last_number}
-use Rattle.version_texts.proofs.lemmas.Numbers.Places.{last_left, more_left}
+use Rattle.version_texts.specs.versioning_ref.Numbers.{last_number}
+use Rattle.version_texts.proofs.lemmas.versioning_ref.Numbers.Places.{last_left, more_left}
 use Rattle.version_texts.proofs.versioning_ref.numbers.body_number.Goals as goal
 
 pub returns-then-is_empty : goal.returns-then-is_empty

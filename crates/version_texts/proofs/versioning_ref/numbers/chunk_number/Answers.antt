@@ -1,6 +1,6 @@
 use Rattle.std.proofs.Common.{◌∙◌, ap}
 use Rattle.version_rules.specs.grammar.MChunk.{value_of_digits}
-use Rattle.version_texts.proofs.lemmas.Numbers.Places.{first_chunk}
+use Rattle.version_texts.proofs.lemmas.versioning_ref.Numbers.Places.{first_chunk}
 use Rattle.version_texts.proofs.versioning_ref.numbers.chunk_number.Goals as goal
 
 pub returns : goal.returns

@@ -1,9 +1,9 @@
 use Rattle.std.proofs.Common.{◌∙◌, ap, sym}
 use Rattle.version_rules.specs.grammar.Front.{begins}
 use Rattle.version_rules.specs.grammar.Sep.{is_sep}
-use Rattle.version_texts.proofs.lemmas.Numbers.Section.{section_is, section_passed}
-use Rattle.version_texts.proofs.lemmas.Piece.Words.{run_is_piece}
-use Rattle.version_texts.proofs.lemmas.Shape.Positions.{is_colon}
+use Rattle.version_texts.proofs.lemmas.versioning_ref.Numbers.Section.{section_is, section_passed}
+use Rattle.version_texts.proofs.lemmas.order.Piece.Words.{run_is_piece}
+use Rattle.version_texts.proofs.lemmas.scan.Shape.Positions.{is_colon}
 use Rattle.version_texts.proofs.versioning_ref.numbers.section.Goals as goal
 
 pub sections-preserved : goal.sections-preserved

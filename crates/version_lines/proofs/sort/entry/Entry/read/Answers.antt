@@ -1,10 +1,10 @@
 use Rattle.std.proofs.Common.{◌≡◌, ◌∙◌, ◌-◌, ap, drop, length, rules, subst, take}
 use Rattle.std.specs.Int.{from_be_bytes, w64}
-use Rattle.version_texts.proofs.lemmas.Bytes.{AreBytes}
+use Rattle.version_texts.proofs.lemmas.scan.Bytes.{AreBytes}
 use Rattle.version_lines.proofs.lemmas.Entry.{holds-last, key-part}
 use Rattle.version_rules.specs.key.Key.{key_of}
 use Rattle.version_rules.specs.key.KeyBytes.{key_bytes}
-use Rattle.version_texts.specs.VersioningRef.{plain_versioning_ref}
+use Rattle.version_texts.specs.versioning_ref.VersioningRef.{plain_versioning_ref}
 use Rattle.version_lines.proofs.sort.entry.Entry.read.Goals as goal
 
 pub returns-clause-key : goal.returns-clause-key

@@ -8,7 +8,7 @@ use Rattle.version_lines.proofs.lemmas.Entry.{in_turn-added, read-more}
 use Rattle.version_rules.specs.key.Key.{key_of}
 use Rattle.version_rules.specs.key.KeyBytes.{key_bytes}
 use Rattle.version_rules.specs.grammar.Versioning.{versioning_of}
-use Rattle.version_texts.specs.VersioningRef.{plain_versioning_ref}
+use Rattle.version_texts.specs.versioning_ref.VersioningRef.{plain_versioning_ref}
 use Rattle.version_lines.proofs.sort.keyed_lines.KeyedLines.add.Goals as goal
 
 pub returns-in_err-reserve-clause-read : goal.returns-in_err-reserve-clause-read

@@ -1,6 +1,6 @@
 use Rattle.std.proofs.Common.{◌∙◌, ◌+◌, [], arith, refl, sym}
-use Rattle.version_texts.proofs.lemmas.Sinks.{put_first}
-use Rattle.version_texts.specs.Sinks.{put_nothing}
+use Rattle.version_texts.proofs.lemmas.key.Sinks.{put_first}
+use Rattle.version_texts.specs.key.Sinks.{put_nothing}
 use Rattle.version_texts.proofs.key.sinks.RoomSink.put.Goals as goal
 
 pub returns : goal.returns

@@ -11,13 +11,13 @@ use Rattle.version_rules.specs.key.PartKey.{PartKey, list_cmp, part_cmp, part_ke
 use Rattle.version_rules.specs.key.Tail.{sections_cmp}
 use Rattle.version_rules.proofs.lemmas.Front.Runs.{begins-drop}
 use Rattle.version_texts.specs.declared.order.ends.Ends.{Ends}
-use Rattle.version_texts.proofs.lemmas.Piece.Ends.{digit_no_end, dot_no_sign, dot_or_sign}
-use Rattle.version_texts.proofs.lemmas.Piece.Order.{leaves, tied}
-use Rattle.version_texts.proofs.lemmas.Piece.Words.{run_is_piece}
-use Rattle.version_texts.proofs.lemmas.General.Runs.{not_false}
-use Rattle.version_texts.proofs.lemmas.Piece.{part_of_number, part_of_word, piece_ends, piece_grows, pieces_are}
-use Rattle.version_texts.specs.Piece.{end_of, from_first, further_pieces, is_dot, sign_of}
-use Rattle.version_texts.specs.TextKey.{parts_of}
+use Rattle.version_texts.proofs.lemmas.order.Piece.Ends.{digit_no_end, dot_no_sign, dot_or_sign}
+use Rattle.version_texts.proofs.lemmas.order.Piece.Order.{leaves, tied}
+use Rattle.version_texts.proofs.lemmas.order.Piece.Words.{run_is_piece}
+use Rattle.version_texts.proofs.lemmas.scan.General.Runs.{not_false}
+use Rattle.version_texts.proofs.lemmas.order.Piece.{part_of_number, part_of_word, piece_ends, piece_grows, pieces_are}
+use Rattle.version_texts.specs.order.Piece.{end_of, from_first, further_pieces, is_dot, sign_of}
+use Rattle.version_texts.specs.key.TextKey.{parts_of}
 
 in_turn : (o p q : Ordering)
     → ordering_then (ordering_then o p) q ≡ ordering_then o (ordering_then p q)

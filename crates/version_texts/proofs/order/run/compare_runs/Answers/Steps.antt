@@ -8,9 +8,9 @@ use Rattle.std.specs.Ordering.{nat_cmp, ordering_then}
 use Rattle.std.specs.declared.cmp.Ordering.TheVariants.{Less, Equal, Greater}
 use Rattle.version_rules.specs.grammar.Front.{begins}
 use Rattle.version_rules.specs.order.Lists.{bytes_cmp}
-use Rattle.version_texts.proofs.lemmas.General.Runs.{run_cons, run_none}
-use Rattle.version_texts.proofs.lemmas.Shape.Section.{begins_within}
-use Rattle.version_texts.proofs.lemmas.TextKind.Messy.{at_byte}
+use Rattle.version_texts.proofs.lemmas.scan.General.Runs.{run_cons, run_none}
+use Rattle.version_texts.proofs.lemmas.scan.Shape.Section.{begins_within}
+use Rattle.version_texts.proofs.lemmas.scan.TextKind.Messy.{at_byte}
 
 unequal_first : (o more : Ordering) → o ≢ Equal → ordering_then o more ≡ o
 unequal_first Less more other = refl

@@ -1,6 +1,6 @@
 use Rattle.std.proofs.Common.{sym}
-use Rattle.version_texts.proofs.lemmas.Empty.{begins_told}
-use Rattle.version_texts.specs.RangeRef.{bound_bytes, plain_range_ref}
+use Rattle.version_texts.proofs.lemmas.requirement.Empty.{begins_told}
+use Rattle.version_texts.specs.requirement.RangeRef.{bound_bytes, plain_range_ref}
 use Rattle.version_texts.proofs.requirement.conflict.BeginsBeforeListTest.each_passes.Goals as goal
 
 pub returns-in-Some : goal.returns-in-Some

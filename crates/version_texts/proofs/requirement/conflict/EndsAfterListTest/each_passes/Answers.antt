@@ -1,7 +1,7 @@
 use Rattle.std.proofs.Common.{sym}
 use Rattle.version_rules.specs.requirement.Requirements.{requirements_of}
-use Rattle.version_texts.proofs.lemmas.Empty.{ends_told}
-use Rattle.version_texts.specs.RangeRef.{bound_bytes, plain_range_ref}
+use Rattle.version_texts.proofs.lemmas.requirement.Empty.{ends_told}
+use Rattle.version_texts.specs.requirement.RangeRef.{bound_bytes, plain_range_ref}
 use Rattle.version_texts.proofs.requirement.conflict.EndsAfterListTest.each_passes.Goals as goal
 
 pub returns-in-Some : goal.returns-in-Some

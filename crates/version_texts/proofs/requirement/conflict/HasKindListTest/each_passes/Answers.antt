@@ -1,7 +1,7 @@
 use Rattle.std.proofs.Common.{◌∙◌, sym}
 use Rattle.version_rules.specs.requirement.Requirements.{requirements_of}
-use Rattle.version_texts.proofs.lemmas.Empty.{kinds_told}
-use Rattle.version_texts.specs.RangeRef.{plain_range_ref}
+use Rattle.version_texts.proofs.lemmas.requirement.Empty.{kinds_told}
+use Rattle.version_texts.specs.requirement.RangeRef.{plain_range_ref}
 use Rattle.version_texts.proofs.requirement.conflict.HasKindListTest.each_passes.Goals as goal
 
 pub returns-in-Some : goal.returns-in-Some

@@ -1,7 +1,7 @@
 use Rattle.std.proofs.Common.{◌∙◌, ap, sym}
 use Rattle.std.specs.Ordering.{is_eq, is_ge}
-use Rattle.version_texts.proofs.lemmas.Parts.{chain, parts_begin, refused}
-use Rattle.version_texts.proofs.lemmas.Parts.Strict.{caret_differs, caret_of_major, caret_of_zero}
+use Rattle.version_texts.proofs.lemmas.order.Parts.{chain, parts_begin, refused}
+use Rattle.version_texts.proofs.lemmas.order.Parts.Strict.{caret_differs, caret_of_major, caret_of_zero}
 use Rattle.version_texts.proofs.requirement.matching.parts.numbers_match_caret.Goals as goal
 
 pub returns-then-begins_with_zero : goal.returns-then-begins_with_zero

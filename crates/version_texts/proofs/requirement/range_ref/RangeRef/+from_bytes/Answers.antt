@@ -1,6 +1,6 @@
 use Rattle.std.proofs.Common.{Some, ◌∙◌, ap, rules}
-use Rattle.version_texts.proofs.lemmas.RangeRef.{behind_fails, both_parse, front_fails}
-use Rattle.version_texts.specs.RangeRef.{plain_range_ref}
+use Rattle.version_texts.proofs.lemmas.requirement.RangeRef.{behind_fails, both_parse, front_fails}
+use Rattle.version_texts.specs.requirement.RangeRef.{plain_range_ref}
 use Rattle.version_texts.proofs.requirement.range_ref.RangeRef.+from_bytes.Goals as goal
 
 pub returns-in_err-range : goal.returns-in_err-range

@@ -1,6 +1,6 @@
 use Rattle.std.proofs.Common.{◌∙◌, ap, arith, length, take}
-use Rattle.version_texts.proofs.lemmas.RangeRef.{written}
-use Rattle.version_texts.specs.RangeRef.{bound_bytes}
+use Rattle.version_texts.proofs.lemmas.requirement.RangeRef.{written}
+use Rattle.version_texts.specs.requirement.RangeRef.{bound_bytes}
 use Rattle.version_texts.proofs.requirement.range_ref.RangeRef.write_low.Goals as goal
 
 pub returns-in-Some : goal.returns-in-Some

@@ -1,7 +1,7 @@
 use Rattle.std.proofs.Common.{◌∙◌, sym}
-use Rattle.version_texts.proofs.lemmas.RequirementsRef.MajorText.{not_kept}
-use Rattle.version_texts.specs.RequirementRef.{plain_requirement_ref}
-use Rattle.version_texts.specs.RequirementsRef.{from_second}
+use Rattle.version_texts.proofs.lemmas.requirement.RequirementsRef.MajorText.{not_kept}
+use Rattle.version_texts.specs.requirement.RequirementRef.{plain_requirement_ref}
+use Rattle.version_texts.specs.requirement.RequirementsRef.{from_second}
 use Rattle.version_texts.proofs.requirement.requirements_ref.RequirementsRef.keeps.Goals as goal
 
 pub returns-then-not-begins_with : goal.returns-then-not-begins_with

@@ -1,0 +1,4 @@
+pub mod KeyRoom
+pub mod KeyTies
+pub mod Sinks
+pub mod TextKey

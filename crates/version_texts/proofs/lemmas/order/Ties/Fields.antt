@@ -1,0 +1,236 @@
+-- General versions of one key compare field by field as the pieces of their texts do.
+use Rattle.std.proofs.Common.{◌≡◌, ◌∙◌, ◌<◌, ℕ, List, [], ◌∷◌, ◌++◌, drop, length, map, Option, Some, None, refl, sym, ap, subst, arith, length-append}
+use Rattle.std.proofs.lemmas.Cmp.{nat_cmp_total, nat_list_cmp_total, tied_itself}
+use Rattle.std.specs.Cmp.{nat_cmp_is}
+use Rattle.std.specs.Cmp.Lexicographic.{options_total}
+use Rattle.std.specs.Fmt.{decimal}
+use Rattle.std.specs.List.{prefix_len, take_while}
+use Rattle.std.specs.Option.{option_cmp, option_map_or, unwrap_or}
+use Rattle.std.specs.Ordering.{nat_cmp, ordering_then}
+use Rattle.std.specs.declared.cmp.Ordering.{Ordering}
+use Rattle.std.specs.declared.cmp.Ordering.TheVariants.{Less, Equal, Greater}
+use Rattle.version_rules.specs.grammar.Body.{PlainBody, SpellsBody}
+use Rattle.version_rules.specs.grammar.Bytes.{colon, hyphen, plus}
+use Rattle.version_rules.specs.grammar.Chunk.{Alphanum, Numeric, PlainChunk, SpellsPart, chunk_text}
+use Rattle.version_rules.specs.grammar.Grammar.{SpellsDotted, SpellsOptional}
+use Rattle.version_rules.specs.grammar.Last.{IsLastOf, PlainLast}
+use Rattle.version_rules.specs.order.LastOrder.{last_plain_cmp}
+use Rattle.version_rules.specs.order.Lists.{bytes_cmp}
+use Rattle.version_rules.specs.grammar.Metadata.{SpellsMetadata}
+use Rattle.version_rules.specs.key.PartKey.{PartKey, part_key}
+use Rattle.version_rules.specs.grammar.Release.{SpellsRelease, release_text}
+use Rattle.version_rules.specs.grammar.SemVer.{optional_text}
+use Rattle.version_rules.specs.laws.Release.{release_total}
+use Rattle.version_rules.specs.order.ReleaseOrder.{chunk_cmp, release_cmp}
+use Rattle.version_rules.proofs.lemmas.Chunk.{part_printed, release_printed}
+use Rattle.version_rules.proofs.lemmas.SemVer.{optional_printed}
+use Rattle.version_rules.proofs.lemmas.Orders.{then_assoc}
+use Rattle.version_rules.proofs.lemmas.Numeral.{numeral_printed}
+use Rattle.version_rules.specs.key.Key.{Key, key_of_version}
+use Rattle.version_rules.specs.grammar.Version.{PlainVersion, SpellsEpoch, SpellsVersion, epoch_text}
+use Rattle.version_rules.specs.order.VersionOrder.{version_plain_cmp}
+use Rattle.version_texts.specs.scan.Shape.{body_start, from_body, is_section_byte}
+use Rattle.version_texts.specs.key.TextKey.{parts_of, pieces}
+use Rattle.version_texts.specs.order.Ties.{general_tie, parts_tie}
+use Rattle.version_texts.proofs.lemmas.order.Piece.Spelled.{body_parts, body_pieces}
+use Rattle.version_texts.proofs.lemmas.scan.Shape.{version_cut}
+use Rattle.version_texts.proofs.lemmas.scan.Shape.Positions.{IsCut, from_body-is}
+use Rattle.version_texts.proofs.lemmas.order.Ties.Lasts.{number_apart, numbers_same, run_cut, tied_lasts}
+use Rattle.version_texts.proofs.lemmas.order.Ties.Walks.{IsNonempty, parts_then}
+use Rattle.version_rules.specs.key.Tail as tail
+
+-- ---- parts
+
+-- chunks of one key compare by their texts
+tied_parts : (c d : PlainChunk) → SpellsPart (chunk_text c) c → SpellsPart (chunk_text d) d
+    → part_key (chunk_text c) ≡ part_key (chunk_text d)
+    → bytes_cmp (chunk_text c) (chunk_text d) ≡ chunk_cmp c d
+tied_parts (Numeric m) (Numeric n) s t e =
+    let same : m ≡ n = numbers_same m n s t e in
+    ap (λ k. bytes_cmp (decimal k) (decimal n)) same
+    ∙ tied_itself nat_list_cmp_total (decimal n)
+    ∙ sym (ap (λ k. nat_cmp k n) same ∙ tied_itself nat_cmp_total n)
+tied_parts (Numeric n) (Alphanum text) s t e = absurd (number_apart n text s t e)
+tied_parts (Alphanum text) (Numeric n) s t e = absurd (number_apart n text t s (sym e))
+tied_parts (Alphanum text) (Alphanum other) s t e = refl
+
+-- chunks that their texts spell
+abbrev AreParts : List PlainChunk → Type 0
+AreParts [] = Unit {0}
+AreParts (c ∷ cs) = SpellsPart (chunk_text c) c × AreParts cs
+
+kept_part : (text : List ℕ) (c : PlainChunk) → SpellsPart text c → SpellsPart (chunk_text c) c
+kept_part text c s = subst (λ (l : List ℕ). SpellsPart l c) (sym (part_printed text c s)) s
+
+spelled_parts : (text : List ℕ) (cs : List PlainChunk) → SpellsDotted SpellsPart text cs
+    → AreParts cs
+unfolding SpellsDotted
+spelled_parts text [] s = absurd s
+spelled_parts text (c ∷ []) s = (kept_part text c s, tt)
+spelled_parts text (c ∷ d ∷ cs) s = (kept_part s.0 c s.3, spelled_parts s.1 (d ∷ cs) s.4)
+
+-- their texts, and the keys of these
+abbrev texts : List PlainChunk → List (List ℕ)
+texts = map chunk_text
+
+abbrev keys : List PlainChunk → List PartKey
+keys cs = map part_key (texts cs)
+
+one_more : (cs : List PlainChunk) (p : PlainChunk) → IsNonempty (texts (cs ++ p ∷ []))
+one_more [] p = tt
+one_more (c ∷ cs) p = tt
+
+no_key : (cs : List PlainChunk) (p : PlainChunk) → ¬ ([] ≡ keys (cs ++ p ∷ []))
+no_key [] p e = cc e
+no_key (c ∷ cs) p e = cc e
+
+-- two bodies of one key compare by the texts of their parts
+parts_decide : (cs ds : List PlainChunk) (p q : PlainChunk) (l m : PlainLast)
+    → AreParts (cs ++ p ∷ []) → AreParts (ds ++ q ∷ []) → IsLastOf p l → IsLastOf q m
+    → keys (cs ++ p ∷ []) ≡ keys (ds ++ q ∷ [])
+    → parts_tie (texts (cs ++ p ∷ [])) (texts (ds ++ q ∷ []))
+    ≡ ordering_then (release_cmp cs ds) (last_plain_cmp l m)
+parts_decide [] [] p q l m s t here there e =
+    let key : part_key (chunk_text p) ≡ part_key (chunk_text q) = cc e in
+    sym (tied_lasts p q l m s.0 t.0 here there key)
+parts_decide [] (d ∷ ds) p q l m s t here there e =
+    let none : [] ≡ keys (ds ++ q ∷ []) = cc e in
+    absurd (no_key ds q none)
+parts_decide (c ∷ cs) [] p q l m s t here there e =
+    let none : keys (cs ++ p ∷ []) ≡ [] = cc e in
+    absurd (no_key cs p (sym none))
+parts_decide (c ∷ cs) (d ∷ ds) p q l m s t here there e =
+    let key : part_key (chunk_text c) ≡ part_key (chunk_text d) = cc e in
+    let more : keys (cs ++ p ∷ []) ≡ keys (ds ++ q ∷ []) = cc e in
+    parts_then (chunk_text c) (chunk_text d) (texts (cs ++ p ∷ [])) (texts (ds ++ q ∷ []))
+    (one_more cs p) (one_more ds q)
+    ∙ (λ i. ordering_then (tied_parts c d s.0 t.0 key i)
+    (parts_decide cs ds p q l m s.1 t.1 here there more i))
+    ∙ sym (then_assoc (chunk_cmp c d) (release_cmp cs ds) (last_plain_cmp l m))
+
+bodies_decide : (text other : List ℕ) (a b : PlainBody) → SpellsBody text a → SpellsBody other b
+    → parts_of text ≡ parts_of other
+    → parts_tie (pieces text) (pieces other)
+    ≡ ordering_then (release_cmp a.0 b.0) (last_plain_cmp a.1 b.1)
+bodies_decide text other a b s t e = grind (arith, body_pieces, parts_decide, spelled_parts)
+
+-- ---- epochs
+
+printed_epoch : (text : List ℕ) (o : Option ℕ) → SpellsEpoch text o → text ≡ epoch_text o
+unfolding SpellsEpoch
+printed_epoch text None s = s
+printed_epoch text (Some n) s =
+    s.1 ∙ ap (λ (l : List ℕ). l ++ colon ∷ []) (sym (numeral_printed s.0 n s.2))
+
+some_epoch : (n : ℕ) → 0 < length (epoch_text (Some n))
+some_epoch n = omega (arith, length-append (decimal n) (colon ∷ []))
+
+epochs_decide : (o p : Option ℕ) → unwrap_or o 0 ≡ unwrap_or p 0
+    → nat_cmp (length (epoch_text o)) (length (epoch_text p)) ≡ option_cmp nat_cmp o p
+epochs_decide None None e = refl
+epochs_decide None (Some n) e =
+    sym (nat_cmp_is 0 (length (epoch_text (Some n))) Less (some_epoch n))
+epochs_decide (Some n) None e =
+    sym (nat_cmp_is (length (epoch_text (Some n))) 0 Greater (some_epoch n))
+epochs_decide (Some m) (Some n) e =
+    ap (λ k. nat_cmp (length (epoch_text (Some k))) (length (epoch_text (Some n)))) e
+    ∙ tied_itself nat_cmp_total (length (epoch_text (Some n)))
+    ∙ sym (ap (λ k. nat_cmp k n) e ∙ tied_itself nat_cmp_total n)
+
+-- ---- releases and metadata
+
+releases_tied : (o p : Option (List PlainChunk))
+    → option_map_or tail.Released o tail.Bare ≡ option_map_or tail.Released p tail.Bare → o ≡ p
+releases_tied None None e = refl
+releases_tied None (Some y) e = cc e
+releases_tied (Some x) None e = cc e
+releases_tied (Some x) (Some y) e = cc e
+
+metas_decide : (text other : List ℕ) (o p : Option (List ℕ))
+    → SpellsOptional plus SpellsMetadata text o → SpellsOptional plus SpellsMetadata other p
+    → bytes_cmp text other ≡ option_cmp bytes_cmp o p
+unfolding SpellsOptional
+metas_decide text other None None s t = rw (s, t) refl
+metas_decide text other None (Some y) s t = rw (s, t.1) refl
+metas_decide text other (Some x) None s t = rw (s.1, t) refl
+metas_decide text other (Some x) (Some y) s t = rw (s.1, t.1) (λ i. bytes_cmp (s.2.0 i) (t.2.0 i))
+
+-- texts that begin alike compare as what follows
+bytes_behind : (text a b : List ℕ) → bytes_cmp (text ++ a) (text ++ b) ≡ bytes_cmp a b
+bytes_behind [] a b = refl
+bytes_behind (x ∷ text) a b =
+    ap (λ o. ordering_then o (bytes_cmp (text ++ a) (text ++ b))) (tied_itself nat_cmp_total x)
+    ∙ bytes_behind text a b
+
+-- ---- versions
+
+-- the body of a text that is cut, and what follows it
+module _ (text epoch body rest : List ℕ) (cut : IsCut text epoch body rest) where
+  body_cut : (take_while is_section_byte (from_body text) ≡ body)
+      × (drop (prefix_len is_section_byte (from_body text)) (from_body text) ≡ rest)
+  body_cut =
+      let at_body = from_body-is text epoch body rest cut in
+      let run = run_cut is_section_byte body rest cut.bytes cut.ends in (
+        ap (take_while is_section_byte) at_body ∙ run.0,
+        ap (λ (l : List ℕ). drop (prefix_len is_section_byte l) l) at_body ∙ run.1,
+      )
+
+module _ (text other : List ℕ) (a b : PlainVersion) (s : SpellsVersion text a)
+    (t : SpellsVersion other b) (e : key_of_version a ≡ key_of_version b) where
+  starts : nat_cmp (body_start text) (body_start other) ≡ option_cmp nat_cmp a.epoch b.epoch
+  starts =
+      let here : body_start text ≡ length (epoch_text a.epoch) =
+      (version_cut text a s).starts
+      ∙ ap (λ (l : List ℕ). length l) (printed_epoch s.epoch a.epoch s.epoch_is) in
+      let there : body_start other ≡ length (epoch_text b.epoch) =
+      (version_cut other b t).starts
+      ∙ ap (λ (l : List ℕ). length l) (printed_epoch t.epoch b.epoch t.epoch_is) in
+      (λ i. nat_cmp (here i) (there i))
+      ∙ epochs_decide a.epoch b.epoch (ap (λ (k : Key). k.epoch) e)
+
+  bodies : parts_tie (pieces s.body) (pieces t.body)
+      ≡ ordering_then (release_cmp a.chunks b.chunks) (last_plain_cmp a.last b.last)
+  bodies =
+      let parts : parts_of s.body ≡ parts_of t.body =
+      body_parts s.body (a.chunks, a.last) s.body_is ∙ ap (λ (k : Key). k.body) e
+      ∙ sym (body_parts t.body (b.chunks, b.last) t.body_is) in
+      bodies_decide s.body t.body (a.chunks, a.last) (b.chunks, b.last) s.body_is t.body_is parts
+
+  same_releases : a.release ≡ b.release
+  same_releases = releases_tied a.release b.release (ap (λ (k : Key). k.tail) e)
+
+  -- releases of one key have the same text
+  afters : bytes_cmp (s.release ++ s.meta) (t.release ++ t.meta)
+      ≡ option_cmp bytes_cmp a.meta b.meta
+  afters =
+      let printed = optional_printed hyphen SpellsRelease release_text release_printed in
+      let same : s.release ≡ t.release =
+      sym (printed s.release a.release s.release_is)
+      ∙ ap (optional_text hyphen release_text) same_releases
+      ∙ printed t.release b.release t.release_is in
+      ap (λ (l : List ℕ). bytes_cmp (l ++ s.meta) (t.release ++ t.meta)) same
+      ∙ bytes_behind t.release s.meta t.meta
+      ∙ metas_decide s.meta t.meta a.meta b.meta s.meta_is t.meta_is
+
+  releases : option_cmp release_cmp a.release b.release ≡ Equal
+  releases =
+      ap (λ o. option_cmp release_cmp o b.release) same_releases
+      ∙ tied_itself (options_total release_total) b.release
+
+  -- texts of general versions of one key compare as the versions do
+  pub general_decides : general_tie text other ≡ version_plain_cmp a b
+  general_decides =
+      let chunks = release_cmp a.chunks b.chunks in
+      let last = last_plain_cmp a.last b.last in
+      let meta = option_cmp bytes_cmp a.meta b.meta in
+      let here = body_cut text s.epoch s.body (s.release ++ s.meta) (version_cut text a s) in
+      let there = body_cut other t.epoch t.body (t.release ++ t.meta) (version_cut other b t) in
+      (λ i. ordering_then (starts i)
+      (ordering_then (parts_tie (pieces (here.0 i)) (pieces (there.0 i)))
+      (bytes_cmp (here.1 i) (there.1 i))))
+      ∙ (λ i. ordering_then (option_cmp nat_cmp a.epoch b.epoch)
+      (ordering_then (bodies i) (afters i)))
+      ∙ ap (ordering_then (option_cmp nat_cmp a.epoch b.epoch))
+      (then_assoc chunks last meta
+      ∙ ap (λ (o : Ordering). ordering_then chunks (ordering_then last (ordering_then o meta)))
+      (sym releases))

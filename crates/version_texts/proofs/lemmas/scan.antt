@@ -1,0 +1,5 @@
+pub mod Bytes
+pub mod Class
+pub mod General
+pub mod Shape
+pub mod TextKind

@@ -1,0 +1,266 @@
+-- The pieces of a text by its shape, and that the shape of a version fits its text.
+pub mod Complex
+pub mod Messy
+pub mod Positions
+pub mod Scanned
+pub mod Section
+use Rattle.std.proofs.Common.{◌≡◌, ◌==◌, ◌&&◌, ◌+◌, ◌-◌, ◌<◌, ◌≤◌, ◌∙◌, if◌then◌else◌, ℕ, Bool, true, false, List, [], ◌∷◌, ◌++◌, drop, length, take, Option, Some, None, refl, sym, ap, subst, arith, append-nil, append_assoc, length-append}
+use Rattle.std.proofs.lemmas.Bool.Decides.{nat_tests}
+use Rattle.std.proofs.lemmas.List.{drop-drop, take_at}
+use Rattle.std.proofs.lemmas.List.Sums.{prefix_len-le-length}
+use Rattle.std.specs.Char.{is_ascii_digit}
+use Rattle.std.specs.List.{list_all, prefix_len}
+use Rattle.std.specs.Option.{unwrap_or}
+use Rattle.std.specs.Prelude.{slice_range}
+use Rattle.std.specs.Str.Parse.{digits_value}
+use Rattle.version_rules.specs.grammar.Bytes.{colon, hyphen, is_metadata_byte, plus}
+use Rattle.version_rules.specs.grammar.Chunk.{PlainChunk}
+use Rattle.version_rules.specs.grammar.DigitRun.{is_digits}
+use Rattle.version_rules.specs.grammar.Front.{begins}
+use Rattle.version_rules.specs.grammar.Grammar.{SpellsOptional}
+use Rattle.version_rules.specs.grammar.Metadata.{SpellsMetadata}
+use Rattle.version_rules.specs.grammar.Reading.{EndsRun}
+use Rattle.version_rules.specs.grammar.Release.{SpellsRelease}
+use Rattle.version_rules.proofs.lemmas.Front.Runs.{prefix_len-append, all_weaker}
+use Rattle.version_rules.specs.declared.kind.Kind.{Kind}
+use Rattle.version_rules.specs.grammar.Conversions.{version_of_semver}
+use Rattle.version_rules.specs.grammar.SemVer.{PlainSemVer, SpellsSemVer}
+use Rattle.version_rules.specs.grammar.Version.{PlainVersion, SpellsEpoch, SpellsVersion}
+use Rattle.version_rules.proofs.lemmas.SemVer.{optional_begins}
+use Rattle.version_rules.proofs.lemmas.Conversions.{strict_is_general}
+use Rattle.version_texts.specs.declared.scan.shape.Shape.{Shape}
+use Rattle.version_texts.specs.declared.scan.shape.TailKind.{TailKind}
+use Rattle.version_texts.specs.declared.scan.shape.TailKind.TheVariants.{Nothing, PreRelease, Release}
+use Rattle.version_texts.specs.scan.Shape.{Fits, TailFits, behind_body, body_end, body_start, is_section_byte, is_tail_byte, shape_at, tail_in}
+use Rattle.version_texts.specs.scan.TextKind.{is_not_plus}
+use Rattle.version_texts.proofs.lemmas.scan.TextKind.Chunks.{digits_from}
+use Rattle.version_texts.proofs.lemmas.order.Piece.Spelled.{body_bytes, release_bytes}
+use Rattle.version_texts.proofs.lemmas.scan.Shape.Positions.{IsCut, and_false, behind_body-is, body_end-is, cut_behind_epoch, cut_without_epoch, from_body-is, is_colon}
+use Rattle.version_rules.specs.declared.kind.Kind.TheVariants as kind
+
+-- whether a byte is a hyphen
+abbrev pub is_hyphen : ℕ → Bool
+is_hyphen b = b == hyphen
+
+-- ---- the pieces of a text that is cut
+
+module _ (text epoch body rest : List ℕ) (cut : IsCut text epoch body rest) where
+  -- the bytes of the body
+  pub body_taken : slice_range text (body_start text) (body_end text) ≡ body
+  body_taken = grind (arith, body_end-is, from_body-is, take_at)
+
+  -- the body begins before its end
+  pub body_ordered : body_start text ≤ body_end text
+  body_ordered = omega (arith, body_end-is text epoch body rest cut, cut.starts)
+
+  -- the rest lies behind the body
+  pub length_cut : length text ≡ body_end text + length rest
+  length_cut = grind (arith, length-append, body_end-is)
+
+  -- what follows the byte behind the body
+  pub behind_taken : drop (body_end text + 1) text ≡ drop 1 rest
+  behind_taken =
+      sym (drop-drop 1 (body_end text) text) ∙ ap (drop 1) (behind_body-is text epoch body rest cut)
+
+  -- no bytes lie behind the body up to its end
+  pub none_taken : slice_range text (body_end text + 1) (body_end text) ≡ []
+  none_taken = grind arith
+
+-- the bytes of a tail behind its mark
+pub tail_taken : (text epoch body : List ℕ) (mark : ℕ) (tail after : List ℕ) (end : ℕ)
+    → IsCut text epoch body (mark ∷ (tail ++ after))
+    → end ≡ body_end text + length (mark ∷ tail) → slice_range text (body_end text + 1) end ≡ tail
+tail_taken text epoch body mark tail after end cut e =
+    let count : end - (body_end text + 1) ≡ length tail = omega (arith, e) in
+    rw (count, behind_taken text epoch body (mark ∷ (tail ++ after)) cut)
+    (take_at tail after (length tail) refl)
+
+-- the bytes before the colon of an epoch
+pub epoch_taken : (text numeral body rest : List ℕ) → IsCut text (numeral ++ colon ∷ []) body rest
+    → take (body_start text - 1) text ≡ numeral
+epoch_taken text numeral body rest cut = grind (arith, length-append, append_assoc, take_at)
+
+-- no bytes lie before a body at the start of the text
+pub no_epoch_taken : (text body rest : List ℕ) → IsCut text [] body rest
+    → take (body_start text - 1) text ≡ []
+no_epoch_taken text body rest cut = rw cut.starts refl
+
+-- ---- general versions, the strict ones among them
+
+-- a text is cut behind the epoch that it spells
+epoch_cut : (text epoch body rest : List ℕ) (o : Option ℕ) → SpellsEpoch epoch o
+    → text ≡ epoch ++ (body ++ rest) → list_all is_section_byte body ≡ true
+    → EndsRun is_section_byte rest → begins is_colon rest ≡ false → IsCut text epoch body rest
+unfolding SpellsEpoch
+epoch_cut text epoch body rest None s whole bytes ends no_colon =
+    rw s (cut_without_epoch text body rest (rw s at whole) bytes ends
+    (ap (λ t. is_digits body && t) no_colon ∙ and_false (is_digits body)))
+epoch_cut text epoch body rest (Some n) s whole bytes ends no_colon =
+    let behind : text ≡ s.0 ++ colon ∷ (body ++ rest) =
+    rw s.1 at whole ∙ append_assoc s.0 (colon ∷ []) (body ++ rest) in
+    rw s.1 (cut_behind_epoch text s.0 body rest behind (digits_from s.0 n s.2) bytes ends)
+
+module _ (text : List ℕ) (v : PlainVersion) (s : SpellsVersion text v) where
+  pub no_meta : (test : ℕ → Bool) → test plus ≡ false → begins test s.meta ≡ false
+  no_meta test other =
+      rw append-nil at
+      (optional_begins plus SpellsMetadata test s.meta v.meta [] s.meta_is other refl)
+
+  no_tail : (test : ℕ → Bool) → test plus ≡ false → test hyphen ≡ false
+      → begins test (s.release ++ s.meta) ≡ false
+  no_tail test other mark = grind (arith, optional_begins, no_meta)
+
+  -- a general version is cut behind its epoch and its body
+  pub version_cut : IsCut text s.epoch s.body (s.release ++ s.meta)
+  version_cut =
+      epoch_cut text s.epoch s.body (s.release ++ s.meta) v.epoch s.epoch_is s.whole
+      (body_bytes s.body (v.chunks, v.last) s.body_is)
+      (no_tail is_section_byte refl refl) (no_tail is_colon refl refl)
+
+-- ---- what follows the body of a general version
+
+-- where the tail of such a version ends
+abbrev pub dashed_end : List ℕ → ℕ
+dashed_end text = body_end text + prefix_len is_not_plus (behind_body text)
+
+-- the shape of such a version, whose tail behind a hyphen is of the kind
+abbrev pub dashed_shape : Kind → TailKind → List ℕ → Shape
+dashed_shape k some text = record {
+  kind = k;
+  tail = if begins is_hyphen (behind_body text) then some else Nothing;
+  body = body_start text;
+  end = body_end text;
+  tail_end = dashed_end text;
+}
+
+-- the release of a text, if it has one, lies behind its body and a hyphen
+abbrev pub IsDashed : List ℕ → Option (List PlainChunk) → Type 0
+IsDashed text None =
+    (begins is_hyphen (behind_body text) ≡ false) × (dashed_end text ≡ body_end text)
+IsDashed text (Some chunks) =
+    (begins is_hyphen (behind_body text) ≡ true) × (body_end text < dashed_end text)
+    × SpellsRelease (slice_range text (body_end text + 1) (dashed_end text)) chunks
+
+metadata_not_plus : (b : ℕ) → is_metadata_byte b ≡ true → is_not_plus b ≡ true
+metadata_not_plus b h = grind (arith, nat_tests)
+
+-- no byte of a release is a plus
+pub release_not_plus : (tail : List ℕ) (chunks : List PlainChunk) → SpellsRelease tail chunks
+    → list_all is_not_plus tail ≡ true
+release_not_plus tail chunks s =
+    all_weaker is_metadata_byte is_not_plus metadata_not_plus tail (release_bytes tail chunks s)
+
+-- what follows a body is a release behind a hyphen, or none
+dashed : (text epoch body release meta : List ℕ) (o : Option (List PlainChunk))
+    → IsCut text epoch body (release ++ meta) → SpellsOptional hyphen SpellsRelease release o
+    → begins is_hyphen meta ≡ false → begins is_not_plus meta ≡ false → IsDashed text o
+unfolding SpellsOptional
+dashed text epoch body release meta None cut s no_hyphen no_byte =
+    let behind : behind_body text ≡ meta =
+    behind_body-is text epoch body (release ++ meta) cut ∙ ap (λ l. l ++ meta) s in
+    let none : prefix_len is_not_plus meta ≡ 0 =
+    prefix_len-append is_not_plus [] meta refl no_byte in
+    (rw behind no_hyphen, rw (behind, none) (omega arith))
+dashed text epoch body release meta (Some chunks) cut s no_hyphen no_byte =
+    let tail = s.0 in
+    let whole : release ++ meta ≡ hyphen ∷ (tail ++ meta) = ap (λ l. l ++ meta) s.1 in
+    let here : IsCut text epoch body (hyphen ∷ (tail ++ meta)) =
+    subst (IsCut text epoch body) whole cut in
+    let behind : behind_body text ≡ hyphen ∷ (tail ++ meta) =
+    behind_body-is text epoch body (hyphen ∷ (tail ++ meta)) here in
+    let count : prefix_len is_not_plus (hyphen ∷ (tail ++ meta)) ≡ length (hyphen ∷ tail) =
+    prefix_len-append is_not_plus (hyphen ∷ tail) meta (release_not_plus tail chunks s.2) no_byte in
+    let end : dashed_end text ≡ body_end text + length (hyphen ∷ tail) =
+    ap (λ l. body_end text + prefix_len is_not_plus l) behind ∙ ap (λ n. body_end text + n) count in
+    let taken = tail_taken text epoch body hyphen tail meta (dashed_end text) here end in
+    (rw behind refl, omega (arith, end), rw taken s.2)
+
+-- the tail ends in the text
+pub dashed_within : (text epoch body rest : List ℕ) → IsCut text epoch body rest
+    → dashed_end text ≤ length text
+dashed_within text epoch body rest cut =
+    let behind = behind_body-is text epoch body rest cut in
+    let count : prefix_len is_not_plus (behind_body text) ≤ length rest =
+    rw behind (prefix_len-le-length is_not_plus rest) in
+    omega (arith, length_cut text epoch body rest cut)
+
+-- the bytes of the epoch are digits, of its value; and the value of no epoch is 0
+abbrev pub IsEpoch : List ℕ → ℕ → Type 0
+IsEpoch text n =
+    (list_all is_ascii_digit (take (body_start text - 1) text) ≡ true)
+    × (digits_value 10 (take (body_start text - 1) text) ≡ n)
+
+-- the epoch that counts is digits before a colon, of its value, or there is none
+abbrev pub IsCounted : List ℕ → Option (List ℕ) → Option ℕ → Type 0
+IsCounted epoch None None = epoch ≡ []
+IsCounted epoch (Some digits) (Some n) =
+    (epoch ≡ digits ++ colon ∷ []) × (digits_value 10 digits ≡ n)
+IsCounted epoch _ _ = ⊥
+
+-- the epoch that a text spells is the one of its shape
+pub epoch_is : (text epoch body rest : List ℕ) (o : Option ℕ) → IsCut text epoch body rest
+    → SpellsEpoch epoch o → IsEpoch text (unwrap_or o 0)
+unfolding SpellsEpoch
+epoch_is text epoch body rest None cut s =
+    rw (no_epoch_taken text body rest (subst (λ (l : List ℕ). IsCut text l body rest) s cut))
+    (refl, refl)
+epoch_is text epoch body rest (Some n) cut s =
+    rw (epoch_taken text s.0 body rest (subst (λ (l : List ℕ). IsCut text l body rest) s.1 cut))
+    (s.2.digits, s.2.value)
+
+module _ (text : List ℕ) (v : PlainVersion) (s : SpellsVersion text v) where
+  pub version_dashed : IsDashed text v.release
+  version_dashed =
+      dashed text s.epoch s.body s.release s.meta v.release (version_cut text v s) s.release_is
+      (no_meta text v s is_hyphen refl) (no_meta text v s is_not_plus refl)
+
+  pub version_epoch : IsEpoch text (unwrap_or v.epoch 0)
+  version_epoch =
+      epoch_is text s.epoch s.body (s.release ++ s.meta) v.epoch (version_cut text v s) s.epoch_is
+
+module _ (k : Kind) (some : TailKind)
+    (lies : (end tail_end : ℕ) → end < tail_end → TailFits some end tail_end)
+    (passes : (tail : List ℕ) → list_all is_metadata_byte tail ≡ true
+    → list_all (is_tail_byte some) tail ≡ true) where
+  tail_lies : (text : List ℕ) (o : Option (List PlainChunk)) → IsDashed text o
+      → TailFits (dashed_shape k some text).tail (body_end text) (dashed_end text)
+  tail_lies text None d = rw d.0 (sym d.1)
+  tail_lies text (Some chunks) d = rw d.0 (lies _ _ d.1)
+
+  tail_passes : (text epoch body rest : List ℕ) (o : Option (List PlainChunk))
+      → IsCut text epoch body rest → IsDashed text o
+      → list_all (is_tail_byte (dashed_shape k some text).tail)
+      (tail_in text (dashed_shape k some text)) ≡ true
+  tail_passes text epoch body rest None cut d =
+      rw (d.0, d.1, none_taken text epoch body rest cut) refl
+  tail_passes text epoch body rest (Some chunks) cut d =
+      rw d.0 (passes _ (release_bytes _ chunks d.2))
+
+  -- the shape of a version with or without a release fits its text
+  pub version_fits : (text : List ℕ) (v : PlainVersion) → SpellsVersion text v
+      → Fits text (dashed_shape k some text)
+  version_fits text v s =
+      let rest = s.release ++ s.meta in
+      let cut = version_cut text v s in
+      let dash = version_dashed text v s in
+      record {
+        epoch_fits = body_ordered text s.epoch s.body rest cut;
+        tail_fits = tail_lies text v.release dash;
+        within = dashed_within text s.epoch s.body rest cut;
+        epoch_is = (version_epoch text v s).0;
+        body_is = rw (body_taken text s.epoch s.body rest cut) cut.bytes;
+        tail_is = tail_passes text s.epoch s.body rest v.release cut dash;
+      }
+
+-- the shape of a general version fits its text
+pub general_fits : (text : List ℕ) (v : PlainVersion) → SpellsVersion text v
+    → Fits text (shape_at kind.General text)
+general_fits =
+    version_fits kind.General Release (λ end tail_end less. less) (λ tail all. all)
+
+-- and so does that of a strict one
+pub strict_fits : (text : List ℕ) (v : PlainSemVer) → SpellsSemVer text v
+    → Fits text (shape_at kind.Ideal text)
+strict_fits text v s =
+    version_fits kind.Ideal PreRelease (λ end tail_end less. less) (λ tail all. all) text
+    (version_of_semver v) (strict_is_general text v s)

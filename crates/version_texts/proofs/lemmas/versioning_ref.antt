@@ -1,0 +1,4 @@
+pub mod EpochAndParts
+pub mod Field
+pub mod Numbers
+pub mod VersioningRef

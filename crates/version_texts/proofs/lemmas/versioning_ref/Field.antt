@@ -1,0 +1,320 @@
+-- Where the fields of a version lie in its text, by its shape.
+use Rattle.std.proofs.Common.{◌≡◌, ◌==◌, ◌+◌, ◌-◌, ◌≤◌, ◌∙◌, if◌then◌else◌, ℕ, Bool, true, false, List, [], ◌∷◌, ◌++◌, drop, length, take, Option, Some, None, refl, sym, ap, subst, arith, append-nil, length-append}
+use Rattle.std.proofs.lemmas.Bool.{ne_eqb}
+use Rattle.std.proofs.lemmas.Bool.Decides.{nat_tests}
+use Rattle.std.proofs.lemmas.List.{length-drop, length-take-le}
+use Rattle.std.specs.Fmt.{decimal}
+use Rattle.std.specs.List.{list_all, prefix_len}
+use Rattle.std.specs.Option.{option_map}
+use Rattle.std.specs.Prelude.{nat_lt}
+use Rattle.std.specs.Str.Parse.{digits_value}
+use Rattle.version_rules.specs.grammar.Bytes.{colon, hyphen, plus}
+use Rattle.version_rules.specs.grammar.Chunk.{PlainChunk}
+use Rattle.version_rules.specs.grammar.Front.{begins}
+use Rattle.version_rules.specs.grammar.Grammar.{SpellsOptional}
+use Rattle.version_rules.specs.grammar.Metadata.{SpellsMetadata}
+use Rattle.version_rules.specs.grammar.Release.{SpellsRelease, release_text}
+use Rattle.version_rules.proofs.lemmas.Chunk.{release_printed}
+use Rattle.version_rules.proofs.lemmas.Numeral.{numeral_printed}
+use Rattle.version_rules.proofs.lemmas.Front.Runs.{prefix_len-append}
+use Rattle.version_rules.specs.grammar.Conversions.{version_of_semver}
+use Rattle.version_rules.specs.key.Key.{versioning_epoch}
+use Rattle.version_rules.specs.grammar.Kind.{versioning_kind}
+use Rattle.version_rules.specs.grammar.Mess.{PlainMess, SpellsMess}
+use Rattle.version_rules.specs.grammar.SemVer.{PlainSemVer, SpellsSemVer}
+use Rattle.version_rules.specs.grammar.Version.{PlainVersion, SpellsEpoch, SpellsVersion, version_text}
+use Rattle.version_rules.specs.grammar.Versioning.{PlainVersioning, Ideal, General, Complex, SpellsVersioning}
+use Rattle.version_rules.proofs.lemmas.Conversions.{version_of_semver_printed, strict_is_general}
+use Rattle.version_rules.proofs.lemmas.Version.{version_printed}
+use Rattle.version_texts.specs.declared.scan.shape.Shape.{Shape}
+use Rattle.version_texts.specs.declared.scan.shape.TailKind.{TailKind}
+use Rattle.version_texts.specs.versioning_ref.Field.{bare_semver, bare_version, body_alone, field_place, numbers_alone, place_behind}
+use Rattle.version_texts.specs.scan.Shape.{behind_body, body_end, body_start, shape_at, shape_of}
+use Rattle.version_texts.specs.scan.TextKind.{is_not_plus}
+use Rattle.version_texts.specs.versioning_ref.VersioningRef.{version_in}
+use Rattle.version_texts.proofs.lemmas.versioning_ref.VersioningRef.{is_prerelease_tail, spelled, spells-is}
+use Rattle.version_texts.proofs.lemmas.scan.Shape.Complex.{mess_cut}
+use Rattle.version_texts.proofs.lemmas.scan.Shape.Positions.{IsCut, behind_body-is, body_end-is}
+use Rattle.version_texts.proofs.lemmas.scan.Shape.{IsCounted, IsDashed, dashed_end, dashed_within, epoch_taken, is_hyphen, length_cut, no_meta, release_not_plus, version_cut, version_dashed}
+use Rattle.version_rules.specs.declared.kind.Kind.TheVariants as kind
+use Rattle.version_texts.specs.declared.versioning_ref.field.Field.TheVariants as field
+use Rattle.version_texts.specs.declared.scan.shape.TailKind.TheVariants as tail
+
+-- whether a tail is a release
+abbrev pub is_release_tail : TailKind → Bool
+is_release_tail tail.PreRelease = false
+is_release_tail tail.Nothing = false
+is_release_tail tail.Release = true
+is_release_tail tail.Sections = false
+
+-- a tail of another kind is none
+pub no_release_tail : (t : TailKind) → ¬ (t ≡ tail.Release) → is_release_tail t ≡ false
+no_release_tail tail.PreRelease other = refl
+no_release_tail tail.Nothing other = refl
+no_release_tail tail.Release other = absurd (other refl)
+no_release_tail tail.Sections other = refl
+
+-- ---- the epoch
+
+-- where the epoch of a text lies, and its value, by where the body begins
+abbrev pub epoch_place : List ℕ → Option (ℕ × ℕ)
+epoch_place text = if body_start text == 0 then None else Some (0, body_start text - 1)
+
+abbrev pub epoch_value : List ℕ → Option ℕ
+epoch_value text =
+    if body_start text == 0 then None else Some (digits_value 10 (take (body_start text - 1) text))
+
+module _ (text epoch body rest : List ℕ) (cut : IsCut text epoch body rest) where
+  pub counted : (digits : Option (List ℕ)) (n : Option ℕ) → IsCounted epoch digits n
+      → (option_map (place_behind []) digits ≡ epoch_place text) × (n ≡ epoch_value text)
+  counted None None s = rw (cut.starts, s) (refl, refl)
+  counted None (Some n) s = absurd s
+  counted (Some digits) None s = absurd s
+  counted (Some digits) (Some n) s =
+      let starts : body_start text ≡ length digits + 1 =
+      omega (
+        arith,
+        cut.starts,
+        ap (λ (l : List ℕ). length l) s.0,
+        length-append digits (colon ∷ []),
+      ) in
+      let some : (length digits + 1 == 0) ≡ false = ne_eqb (length digits + 1) 0 (omega arith) in
+      let taken : take (body_start text - 1) text ≡ digits =
+      epoch_taken text digits body rest (subst (λ (l : List ℕ). IsCut text l body rest) s.0 cut) in
+      let value : digits_value 10 (take (body_start text - 1) text) ≡ n =
+      ap (digits_value 10) taken ∙ s.1 in (
+        rw (starts, some) (ap (λ n. Some (0, n)) (omega arith)),
+        rw (ap (λ n. n == 0) starts ∙ some) (ap (λ n. Some n) (sym value)),
+      )
+
+-- a spelled epoch counts
+pub spelled_counts : (epoch : List ℕ) (o : Option ℕ) → SpellsEpoch epoch o
+    → IsCounted epoch (option_map decimal o) o
+unfolding SpellsEpoch
+spelled_counts epoch None s = s
+spelled_counts epoch (Some n) s =
+    rw (numeral_printed s.0 n s.2) (s.1, s.2.value)
+
+-- ---- what follows the body
+
+-- a release of bytes other than a plus
+release_passes : (release : List ℕ) (o : Option (List PlainChunk))
+    → SpellsOptional hyphen SpellsRelease release o → list_all is_not_plus release ≡ true
+unfolding SpellsOptional
+release_passes release None s = rw s refl
+release_passes release (Some chunks) s = rw s.1 (release_not_plus s.0 chunks s.2)
+
+-- where a release lies, by the text behind the body
+abbrev pub dashed_place : List ℕ → Option (ℕ × ℕ)
+dashed_place text =
+    if begins is_hyphen (behind_body text) then Some (body_end text + 1, dashed_end text) else None
+
+placed : (text before : List ℕ) (o : Option (List PlainChunk)) → IsDashed text o
+    → length before ≡ body_end text + 1 → dashed_end text ≤ length text
+    → option_map (place_behind before) (option_map release_text o) ≡ dashed_place text
+placed text before None d starts within = rw d.0 refl
+placed text before (Some chunks) d starts within =
+    let printed = release_printed _ chunks d.2 in
+    let count = length-take-le (dashed_end text - (body_end text + 1))
+    (drop (body_end text + 1) text)
+    (omega (arith, within, length-drop (body_end text + 1) text)) in
+    rw (d.0, starts, printed, count) (ap (λ n. Some (body_end text + 1, n)) (omega (arith, d.1)))
+
+-- where metadata lies, by where the tail ends
+abbrev pub metadata_place : List ℕ → Option (ℕ × ℕ)
+metadata_place text =
+    if nat_lt (dashed_end text) (length text) then Some (dashed_end text + 1, length text) else None
+
+metadata_placed : (text before meta : List ℕ) (o : Option (List ℕ))
+    → SpellsOptional plus SpellsMetadata meta o → length before ≡ dashed_end text + 1
+    → length text ≡ dashed_end text + length meta
+    → option_map (place_behind before) o ≡ metadata_place text
+unfolding SpellsOptional
+metadata_placed text before meta None s starts whole =
+    let none : nat_lt (dashed_end text) (length text) ≡ false =
+    grind (arith, nat_tests, whole, s) in
+    rw none refl
+metadata_placed text before meta (Some m) s starts whole =
+    let count : length meta ≡ length (plus ∷ m) =
+    ap (λ (l : List ℕ). length l) (s.1 ∙ ap (λ (l : List ℕ). plus ∷ l) s.2.0) in
+    let some : nat_lt (dashed_end text) (length text) ≡ true =
+    grind (arith, nat_tests, whole, count) in
+    rw (some, starts) (ap (λ n. Some (dashed_end text + 1, n)) (omega (arith, whole, count)))
+
+module _ (text : List ℕ) (v : PlainVersion) (s : SpellsVersion text v) where
+  -- the text up to the body's end, and up to the tail's, spells what is left without the rest
+  alone_spelled : SpellsVersion (s.epoch ++ s.body) (body_alone v)
+  unfolding SpellsOptional
+  alone_spelled = record {
+    epoch = s.epoch;
+    body = s.body;
+    release = [];
+    meta = [];
+    whole = ap (λ (l : List ℕ). s.epoch ++ l) (sym (append-nil s.body));
+    epoch_is = s.epoch_is;
+    body_is = s.body_is;
+    release_is = refl;
+    meta_is = refl;
+  }
+
+  bare_spelled : SpellsVersion (s.epoch ++ (s.body ++ s.release)) (bare_version v)
+  unfolding SpellsOptional
+  bare_spelled = record {
+    epoch = s.epoch;
+    body = s.body;
+    release = s.release;
+    meta = [];
+    whole = ap (λ (l : List ℕ). s.epoch ++ (s.body ++ l)) (sym (append-nil s.release));
+    epoch_is = s.epoch_is;
+    body_is = s.body_is;
+    release_is = s.release_is;
+    meta_is = refl;
+  }
+
+  cut : IsCut text s.epoch s.body (s.release ++ s.meta)
+  cut = version_cut text v s
+
+  body_length : body_end text ≡ length s.epoch + length s.body
+  body_length = body_end-is text s.epoch s.body (s.release ++ s.meta) cut
+
+  tail_length : dashed_end text ≡ body_end text + length s.release
+  tail_length =
+      let behind : behind_body text ≡ s.release ++ s.meta =
+      behind_body-is text s.epoch s.body (s.release ++ s.meta) cut in
+      let count = prefix_len-append is_not_plus s.release s.meta
+      (release_passes s.release v.release s.release_is) (no_meta text v s is_not_plus refl) in
+      ap (λ n. body_end text + n) (ap (prefix_len is_not_plus) behind ∙ count)
+
+  alone_length : length (version_text (body_alone v) ++ hyphen ∷ []) ≡ body_end text + 1
+  alone_length =
+      rw (version_printed _ _ alone_spelled)
+      (omega (
+        arith,
+        body_length,
+        length-append (s.epoch ++ s.body) (hyphen ∷ []),
+        length-append s.epoch s.body,
+      ))
+
+  bare_length : length (version_text (bare_version v) ++ plus ∷ []) ≡ dashed_end text + 1
+  bare_length =
+      rw (version_printed _ _ bare_spelled)
+      (omega (
+        arith,
+        body_length,
+        tail_length,
+        length-append (s.epoch ++ (s.body ++ s.release)) (plus ∷ []),
+        length-append s.epoch (s.body ++ s.release),
+        length-append s.body s.release,
+      ))
+
+  within : dashed_end text ≤ length text
+  within = dashed_within text s.epoch s.body (s.release ++ s.meta) cut
+
+  pub release_placed : option_map (place_behind (version_text (body_alone v) ++ hyphen ∷ []))
+      (option_map release_text v.release) ≡ dashed_place text
+  release_placed = placed text _ v.release (version_dashed text v s) alone_length within
+
+  pub meta_placed : option_map (place_behind (version_text (bare_version v) ++ plus ∷ [])) v.meta
+      ≡ metadata_place text
+  meta_placed =
+      grind (arith, metadata_placed, bare_length, length_cut, cut, length-append, tail_length)
+
+-- ---- versions of any kind
+
+-- where the fields of a version lie, by the shape of its text
+pub record ArePlaced (text : List ℕ) (s : Shape) (v : PlainVersioning) : Type 0 where
+  pub epoch : field_place field.Epoch v ≡ (if s.body == 0 then None else Some (0, s.body - 1))
+  pub value : versioning_epoch v
+      ≡ (if s.body == 0 then None else Some (digits_value 10 (take (s.body - 1) text)))
+  pub pre_release : field_place field.PreRelease v
+      ≡ (if is_prerelease_tail s.tail then Some (s.end + 1, s.tail_end) else None)
+  pub release : field_place field.Release v
+      ≡ (if is_release_tail s.tail then Some (s.end + 1, s.tail_end) else None)
+  pub metadata : field_place field.Metadata v
+      ≡ (if nat_lt s.tail_end (length text) then Some (s.tail_end + 1, length text) else None)
+
+-- what stands behind a hyphen, or nothing, has a place by its tail
+with_hyphen : {X : Type 0} (b : Bool) (x : X)
+    → (if b then Some x else None)
+    ≡ (if is_prerelease_tail (if b then tail.PreRelease else tail.Nothing) then Some x
+    else None)
+with_hyphen true x = refl
+with_hyphen false x = refl
+
+with_release : {X : Type 0} (b : Bool) (x : X)
+    → (if b then Some x else None)
+    ≡ (if is_release_tail (if b then tail.Release else tail.Nothing) then Some x else None)
+with_release true x = refl
+with_release false x = refl
+
+-- and other tails have none
+without : {X : Type 0} (is_one : TailKind → Bool) (b : Bool) (t u : TailKind) (x : X)
+    → is_one t ≡ false → is_one u ≡ false
+    → None ≡ (if is_one (if b then t else u) then Some x else None)
+without is_one true t u x e f = rw e refl
+without is_one false t u x e f = rw f refl
+
+-- no metadata follows the end of a text
+behind_end : (n : ℕ)
+    → ◌≡◌ {A = Option (ℕ × ℕ)} None (if nat_lt n n then Some (n + 1, n) else None)
+behind_end n = grind (arith, nat_tests)
+
+strict_placed : (text : List ℕ) (v : PlainSemVer) → SpellsSemVer text v
+    → ArePlaced text (shape_at kind.Ideal text) (Ideal v)
+strict_placed text v s =
+    let w = version_of_semver v in
+    let g = strict_is_general text v s in
+    let at_epoch =
+    counted text g.epoch g.body (g.release ++ g.meta) (version_cut text w g) None None
+    (spelled_counts g.epoch None g.epoch_is) in
+    let numbers = version_of_semver_printed (numbers_alone v) in
+    let bare = version_of_semver_printed (bare_semver v) in
+    record {
+      epoch = at_epoch.0;
+      value = at_epoch.1;
+      pre_release =
+          rw numbers at (release_placed text w g)
+          ∙ with_hyphen (begins is_hyphen (behind_body text)) _;
+      release = without is_release_tail (begins is_hyphen (behind_body text)) _ _ _ refl refl;
+      metadata = rw bare at (meta_placed text w g);
+    }
+
+general_placed : (text : List ℕ) (v : PlainVersion) → SpellsVersion text v
+    → ArePlaced text (shape_at kind.General text) (General v)
+general_placed text v s =
+    let at_epoch =
+    counted text s.epoch s.body (s.release ++ s.meta) (version_cut text v s)
+    (option_map decimal v.epoch) v.epoch (spelled_counts s.epoch v.epoch s.epoch_is) in
+    record {
+      epoch = at_epoch.0;
+      value = at_epoch.1;
+      pre_release =
+          without is_prerelease_tail (begins is_hyphen (behind_body text)) _ _ _ refl refl;
+      release = release_placed text v s ∙ with_release (begins is_hyphen (behind_body text)) _;
+      metadata = meta_placed text v s;
+    }
+
+messy_placed : (text : List ℕ) (m : PlainMess) → SpellsMess text m
+    → ArePlaced text (shape_at kind.Complex text) (Complex m)
+messy_placed text m s =
+    let c = mess_cut text m s in
+    let at_epoch = counted text c.epoch c.body c.rest c.cut _ _ c.counts in
+    record {
+      epoch = at_epoch.0;
+      value = at_epoch.1;
+      pre_release = without is_prerelease_tail (length (behind_body text) == 0) _ _ _ refl refl;
+      release = without is_release_tail (length (behind_body text) == 0) _ _ _ refl refl;
+      metadata = behind_end (length text);
+    }
+
+placed_by_kind : (text : List ℕ) (v : PlainVersioning) → SpellsVersioning text v
+    → ArePlaced text (shape_at (versioning_kind v) text) v
+placed_by_kind text (Ideal v) s = strict_placed text v s
+placed_by_kind text (General v) s = general_placed text v s.0
+placed_by_kind text (Complex m) s = messy_placed text m s.0
+
+-- the fields lie where the shape says
+pub fields_placed : (text : List ℕ) (s : Shape) → shape_of text ≡ Some s
+    → ArePlaced text s (version_in text)
+fields_placed text s e =
+    rw (spelled text s e).1 (placed_by_kind text (version_in text) (spells-is text s e))

@@ -1,0 +1,72 @@
+-- The key of a version, read off its text by its shape.
+use Rattle.std.specs.Prelude.{◌==◌, ℕ, List, [], ◌∷◌, ◌++◌, map, if◌then◌else◌}
+use Rattle.std.specs.Char.{is_ascii_digit}
+use Rattle.std.specs.List.{list_all, slice_split}
+use Rattle.std.specs.Str.Parse.{digits_value}
+use Rattle.version_rules.specs.grammar.Bytes.{dot}
+use Rattle.version_rules.specs.grammar.Chunk.{PlainChunk, Numeric, Alphanum}
+use Rattle.version_rules.specs.key.NumberBytes.{number_bytes}
+use Rattle.version_rules.specs.key.PartKey.{PartKey, part_key, parts_bytes}
+use Rattle.version_rules.specs.grammar.Sep.{is_sep}
+use Rattle.version_rules.specs.key.Key.{Key}
+use Rattle.version_rules.specs.key.Tail.{Tail}
+use Rattle.version_texts.specs.order.Piece.{sign_of}
+use Rattle.version_texts.specs.declared.order.ends.Ends.{Ends}
+use Rattle.version_texts.specs.declared.scan.shape.Shape.{Shape}
+use Rattle.version_texts.specs.declared.scan.shape.TailKind.{TailKind}
+use Rattle.version_texts.specs.declared.scan.shape.TailKind.TheVariants.{PreRelease, Nothing, Release, Sections}
+use Rattle.version_texts.specs.scan.Shape.{body_in, epoch_in, tail_in}
+use Rattle.version_rules.specs.key.Tail as tail
+
+-- the pieces of a text between its dots
+abbrev pub pieces : List ℕ → List (List ℕ)
+pieces = slice_split (λ b. b == dot)
+
+-- the parts of a body or of a section
+abbrev pub parts_of : List ℕ → List PartKey
+parts_of text = map part_key (pieces text)
+
+-- the chunk of a piece of a release: digits are a number
+abbrev pub chunk_of : List ℕ → PlainChunk
+chunk_of text =
+    if list_all is_ascii_digit text then Numeric (digits_value 10 text) else Alphanum text
+
+-- the chunks of a release
+abbrev pub chunks_of : List ℕ → List PlainChunk
+chunks_of text = map chunk_of (pieces text)
+
+-- the parts of each section of a text, between its signs
+abbrev pub sections_of : List ℕ → List (List PartKey)
+sections_of text = map parts_of (slice_split is_sep text)
+
+-- the same, where signs divide sections if they end parts
+abbrev pub lists_of : Ends → List ℕ → List (List PartKey)
+lists_of ends text = map parts_of (slice_split (sign_of ends) text)
+
+-- the tail of one section or more
+abbrev pub tail_of_sections : List (List PartKey) → Tail
+tail_of_sections [] = tail.Bare
+tail_of_sections (first ∷ more) = tail.Sections first more
+
+-- the tail of a kind, from its text
+abbrev pub tail_of : TailKind → List ℕ → Tail
+tail_of PreRelease text = tail.PreReleased (chunks_of text)
+tail_of Nothing text = tail.Bare
+tail_of Release text = tail.Released (chunks_of text)
+tail_of Sections text = tail_of_sections (sections_of text)
+
+-- the key of the version that a text holds: the value of its epoch, the parts of its body, and its
+-- tail
+abbrev pub text_key : List ℕ → Shape → Key
+text_key text s =
+    record {
+      epoch =
+          digits_value 10 (epoch_in text s);
+      body =
+          parts_of (body_in text s);
+      tail = tail_of s.tail (tail_in text s);
+    }
+
+-- the bytes of a key before its tail
+abbrev pub front_bytes : Key → List ℕ
+front_bytes k = number_bytes k.epoch ++ parts_bytes k.body

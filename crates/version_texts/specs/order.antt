@@ -1,0 +1,4 @@
+pub mod Difference
+pub mod Parts
+pub mod Piece
+pub mod Ties

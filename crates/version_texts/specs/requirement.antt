@@ -1,0 +1,12 @@
+pub mod Conflict
+pub mod Empty
+pub mod EndOrder
+pub mod Inexact
+pub mod Matching
+pub mod MemberPlace
+pub mod Members
+pub mod Others
+pub mod RangeRef
+pub mod RequirementRef
+pub mod RequirementsRef
+pub mod Why
