@@ -323,8 +323,8 @@ int versions_is_prerelease(const char *text, size_t text_len, bool *is_prereleas
  * Finds the version in a tag of git, or in another name of a release: release-1.2.3 has 1.2.3.
  *
  * The version is the bytes of the tag from *start to its end. It begins at the first digit that stands at the beginning
- * of the tag, or after a sign, or after one v or V that stands so. A sign is any byte that is neither an ASCII letter,
- * an ASCII digit nor a dot. v1.2.3, refs/tags/v1.2.3 and pkg@1.2.3 have 1.2.3, and OpenSSL_1_1_1k has 1_1_1k.
+ * of the tag, or after a separator, or after one v or V that stands so. A separator is any byte that is neither an ASCII
+ * letter, an ASCII digit nor a dot. v1.2.3, refs/tags/v1.2.3 and pkg@1.2.3 have 1.2.3, and OpenSSL_1_1_1k has 1_1_1k.
  *
  * A tag has no version if it has no such digit, as go1.20.3; if a dot between two digits stands before the digit, as in
  * x1.0-2; or if the rest of the tag from the digit on is not a version, as in name-v1..2.

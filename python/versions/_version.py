@@ -134,9 +134,9 @@ class Version(Value, _library.Keyed):
     def from_tag(cls, tag: Union[str, Version], prefix: Optional[str] = None) -> Self:
         """The version in a tag of git, or in another name of a release. `InvalidVersion` where there is none.
 
-        It begins at the first digit that is at the beginning, or after a sign, or after one `v` or `V` that is at the
-        beginning or after a sign. A sign is a character that is neither a letter or digit of ASCII nor a dot. There is
-        none where a dot between two digits comes before that place.
+        It begins at the first digit that is at the beginning, or after a separator, or after one `v` or `V` that is at
+        the beginning or after a separator. A separator is a character that is neither a letter or digit of ASCII nor a
+        dot. There is none where a dot between two digits comes before that place.
 
         With a `prefix`, the tag has to begin with it, and the version follows it, or one `v` or `V` after it.
 

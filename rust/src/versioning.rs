@@ -97,10 +97,10 @@ impl<'a> Versioning<'a> {
     /// Parses the version in a tag of git, or in another name of a release. Borrows the end of a `&str`,
     /// and cuts what precedes the version off a `String`. Allocates what [`new`](Versioning::new) does.
     ///
-    /// The version begins at the first digit that is at the beginning, or after a sign, or after one
-    /// `v` or `V` that is at the beginning or after a sign. A sign is a byte that is neither an ASCII
-    /// letter or digit nor a dot. There is none where a dot between two digits comes before that
-    /// place.
+    /// The version begins at the first digit that is at the beginning, or after a separator, or after
+    /// one `v` or `V` that is at the beginning or after a separator. A separator is a byte that is
+    /// neither an ASCII letter or digit nor a dot. There is none where a dot between two digits comes
+    /// before that place.
     ///
     /// # Errors
     ///

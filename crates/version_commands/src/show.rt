@@ -91,7 +91,7 @@ pub(crate) fn field_of<'a>(version: &VersioningRef<'a>, field: Field) -> Option<
     ensures { option_map (λ text. text.now) result
         ≡ field_text field (plain_versioning_ref version.now) }
 {
-    let (start, end) = version.place(field)?;
+    let (start, end) = version.span(field)?;
     Some(str::from_utf8(&version.text().as_bytes()[start..end]).unwrap())
 }
 

@@ -1,6 +1,5 @@
 pub mod Body
 pub mod Chunk
-pub mod Class
 pub mod Compare
 pub mod Front
 pub mod Last

@@ -9,7 +9,7 @@ ghost use Rattle.std.specs.Ordering.{eq_by_cmp, on};
 ghost use Rattle.version_rules.specs.grammar.Bytes.{is_identifier_byte};
 ghost use Rattle.version_rules.specs.grammar.Chunk.{after_letter, chunk_front, chunk_front_of, chunk_text, digits_behind_letter, lenient_digits, number_of, part_front, ChunkOwns, PlainChunk};
 ghost use Rattle.version_parts.specs.Chunk.{chunk_fed, chunk_of_text, plain_chunk, plain_chunk_ref, IsChunkText};
-ghost use Rattle.version_parts.specs.Class.{contains};
+ghost use Rattle.version_rules.specs.grammar.Class.{contains, IsAsciiClass};
 ghost use Rattle.version_rules.specs.grammar.Bytes.{HasDigits};
 ghost use Rattle.version_parts.specs.Front.{Reads};
 ghost use Rattle.version_rules.specs.laws.Front.{chunk_consumes};
@@ -20,12 +20,13 @@ ghost use Rattle.version_rules.specs.order.ReleaseOrder.{chunk_cmp};
 
 use crate::key::PartText;
 use crate::lists::ListItem;
-use crate::scan::{Class, Element, numeral_of_run, split_run, unsigned, value_of_numeral};
+use crate::scan::{Element, numeral_of_run, split_run, unsigned, value_of_numeral};
 use serde::{Deserialize, Serialize};
 use std::alloc::{AllocError, Global};
 use std::cmp::Ordering;
 use std::fmt;
 use std::hash::{Hash, Hasher};
+use version_rules::Class;
 
 /// A piece between dots: `rc` and `1` of the release `-rc.1` (SemVer 2.0, section 9), or `1` and `2a` of the general
 /// version `1.2a.3`.
@@ -175,7 +176,8 @@ fn compare_chunks(a: &Chunk, b: &Chunk) -> Ordering
 
 // Parses the chunk at the start of a text, and returns it with the rest. A run has bytes of the class.
 fn read_chunk(alloc: Global, i: &str, class: Class) -> Result<Option<(Chunk, &str)>, AllocError>
-    requires { HasDigits (contains class) }
+    requires digits { HasDigits (contains class) }
+    requires ascii { IsAsciiClass class }
     ensures { Reads plain_chunk ChunkOwns result (chunk_front_of (contains class) i.now) }
 {
     let Some((piece, rest)) = ChunkRef::scan(i, class) else {
@@ -207,7 +209,8 @@ impl<'a> ChunkRef<'a> {
     // Scans the chunk at the start of a text, and returns it with the rest. A run has bytes of the class. Does not
     // allocate.
     pub(crate) fn scan(i: &'a str, class: Class) -> Option<(ChunkRef<'a>, &'a str)>
-        requires { HasDigits (contains class) }
+        requires digits { HasDigits (contains class) }
+        requires ascii { IsAsciiClass class }
         ensures { option_map (λ r. (plain_chunk_ref r.0, r.1.now)) result
             ≡ chunk_front_of (contains class) i.now }
     {
@@ -275,7 +278,8 @@ impl<'a> ChunkText<'a> {
     // digits.
     #[inline(always)]
     pub(crate) fn scan(i: &'a str, class: Class) -> Option<(ChunkText<'a>, &'a str)>
-        requires { HasDigits (contains class) }
+        requires digits { HasDigits (contains class) }
+        requires ascii { IsAsciiClass class }
         ensures chunk { option_map (λ r. (chunk_of_text r.0, r.1.now)) result
             ≡ chunk_front_of (contains class) i.now }
         ensures numeral { IfSome result (λ r. IsChunkText r.0) }
@@ -296,7 +300,8 @@ impl<'a> ChunkText<'a> {
 // The rest after the chunk at the start of a text. A run has bytes of the class, which has all digits.
 #[inline(always)]
 fn skip_chunk(i: &str, class: Class) -> Option<&str>
-    requires { HasDigits (contains class) }
+    requires digits { HasDigits (contains class) }
+    requires ascii { IsAsciiClass class }
     ensures { option_map (λ r. r.now) result
         ≡ option_map (λ p. p.1) (chunk_front_of (contains class) i.now) }
 {

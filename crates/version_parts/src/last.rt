@@ -21,12 +21,13 @@ ghost use Rattle.version_rules.specs.laws.PartOrder.{last_cmp_ties, last_cmp_tot
 use crate::chunk::{Chunk, ChunkRef};
 use crate::key::{PartText, PieceBytes, compare_parts};
 use crate::lists::ListItem;
-use crate::scan::{Class, nonempty_run, unsigned};
+use crate::scan::{nonempty_run, unsigned};
 use serde::{Deserialize, Serialize};
 use std::alloc::{AllocError, Global};
 use std::cmp::Ordering;
 use std::fmt;
 use std::hash::{Hash, Hasher};
+use version_rules::Class;
 
 /// The last part of a general version.
 #[derive(Debug, Drop, Serialize, Deserialize)]

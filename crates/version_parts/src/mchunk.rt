@@ -18,7 +18,7 @@ ghost use Rattle.version_rules.specs.laws.PartOrder.{mchunk_cmp_ties, mchunk_cmp
 
 use crate::key::{PartText, compare_parts};
 use crate::lists::ListItem;
-use crate::scan::{Class, Dotted, Element, after_mark, is_all_digits, nonempty_run, value_of};
+use crate::scan::{Dotted, Element, after_mark, is_all_digits, nonempty_run, value_of};
 use crate::sep::Sep;
 use serde::{Deserialize, Serialize};
 use std::alloc::{AllocError, Global};
@@ -26,6 +26,7 @@ use std::cmp::Ordering;
 use std::fmt;
 use std::hash::{Hash, Hasher};
 use std::marker::Model;
+use version_rules::Class;
 
 /// A piece between the dots and signs of a messy version, such as `1`, `6a` and `r3` of `1.6a+r3`: letters and digits.
 #[derive(Debug, Drop, Serialize, Deserialize)]

@@ -6,7 +6,7 @@ ghost use Rattle.std.specs.Char.{is_ascii_alphanumeric, is_ascii_digit};
 ghost use Rattle.std.specs.List.{list_all, prefix_len, take_while};
 ghost use Rattle.std.specs.Str.Parse.{digits_value};
 ghost use Rattle.version_rules.specs.grammar.Bytes.{dot, is_identifier_byte};
-ghost use Rattle.version_parts.specs.Class.{contains};
+ghost use Rattle.version_rules.specs.grammar.Class.{contains, IsAsciiClass};
 ghost use Rattle.version_rules.specs.grammar.Front.{after_mark, behind, dotted_front, elements_at, run_front, Consumes, Front};
 ghost use Rattle.version_parts.specs.Front.{Reads};
 ghost use Rattle.version_rules.specs.order.Lists.{split_last};
@@ -17,52 +17,16 @@ ghost use Rattle.version_rules.specs.grammar.Sep.{sep_front};
 
 use crate::sep::Sep;
 use std::alloc::{AllocError, Global};
-
-// A class of bytes that a run is made of.
-#[derive(Clone, Copy)]
-pub(crate) enum Class {
-    Digit,
-    Letter,
-    Alphanumeric,
-    Identifier,
-    Metadata,
-}
-
-impl Class {
-    #[inline(always)]
-    fn contains(self, byte: u8) -> bool
-        ensures { result ≡ contains self byte }
-    {
-        match self {
-            Class::Digit => byte.is_ascii_digit(),
-            Class::Letter => byte.is_ascii_alphabetic(),
-            Class::Alphanumeric => byte.is_ascii_alphanumeric(),
-            Class::Identifier => byte.is_ascii_alphanumeric() || byte == b'-',
-            Class::Metadata => byte.is_ascii_alphanumeric() || byte == b'-' || byte == b'.',
-        }
-    }
-}
-
-// The length of the longest run of a class at the start of a text.
-#[inline(always)]
-pub(crate) fn run_len(bytes: &[u8], class: Class) -> usize
-    ensures { result ≡ prefix_len (contains class) bytes.now }
-{
-    for (n, byte) in bytes.iter().enumerate() {
-        if !class.contains(*byte) {
-            return n;
-        }
-    }
-    bytes.len()
-}
+use version_rules::{Class, run_length};
 
 // The longest run of a class at the start of a text, which may be empty, and the rest.
 #[inline(always)]
 pub(crate) fn split_run(i: &str, class: Class) -> (&str, &str)
+    requires { IsAsciiClass class }
     ensures run { result.0.now ≡ take_while (contains class) i.now }
     ensures rest { result.1.now ≡ drop (prefix_len (contains class) i.now) i.now }
 {
-    i.split_at(run_len(i.as_bytes(), class))
+    i.split_at(run_length(i.as_bytes(), class))
 }
 
 // Whether all bytes of a text are digits.
@@ -77,6 +41,7 @@ pub(crate) fn is_all_digits(text: &str) -> bool
 #[tactic(auto, unfolding(version_rules::specs::grammar::Front::run_front))]
 #[inline(always)]
 pub(crate) fn nonempty_run(i: &str, class: Class) -> Option<(&str, &str)>
+    requires { IsAsciiClass class }
     ensures { option_map (λ r. (r.0.now, r.1.now)) result ≡ run_front (contains class) i.now }
 {
     let (run, rest) = split_run(i, class);

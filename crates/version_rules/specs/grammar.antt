@@ -1,6 +1,7 @@
 pub mod Body
 pub mod Bytes
 pub mod Chunk
+pub mod Class
 pub mod Conversions
 pub mod DigitRun
 pub mod Front

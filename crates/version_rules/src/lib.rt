@@ -5,6 +5,7 @@
 #![tactic(auto)]
 
 mod asked;
+mod class;
 mod ends;
 mod kind;
 mod kinds;
@@ -13,6 +14,10 @@ mod op;
 mod parts;
 
 pub use asked::{Asked, asks_for};
+pub use class::{
+    COLON, Class, DOT, END, HYPHEN, PLUS, begins_with, is_sign, rank_at, run_end, run_length,
+    split_byte, split_run,
+};
 pub use ends::{End, Ends, Kept, ends_of, ends_without_version};
 pub use kind::Kind;
 pub use kinds::Kinds;

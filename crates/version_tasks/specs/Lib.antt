@@ -1,4 +1,4 @@
-pub mod AfterSign
+pub mod AfterSeparator
 pub mod Newest
 pub mod Next
 pub mod NextRef

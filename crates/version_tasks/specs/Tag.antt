@@ -9,9 +9,9 @@ use Rattle.version_rules.specs.grammar.Front.{◌>>=◌, begins}
 use Rattle.version_rules.specs.grammar.Versioning.{PlainVersioning, versioning_of}
 use Rattle.version_texts.specs.scan.Shape.{is_section_byte}
 
--- a sign: any byte that is neither a letter, a digit nor a dot
-abbrev pub is_sign : ℕ → Bool
-is_sign b = not (is_section_byte b)
+-- a separator: any byte that is neither a letter, a digit nor a dot
+abbrev pub is_separator : ℕ → Bool
+is_separator b = not (is_section_byte b)
 
 -- a `v` or `V`
 abbrev pub is_v : ℕ → Bool
@@ -27,10 +27,10 @@ without_v (b ∷ text) = if is_v b then text else b ∷ text
 abbrev pub text_at_beginning : List ℕ → Option (List ℕ)
 text_at_beginning text = if starts_with_digit (without_v text) then Some (without_v text) else None
 
--- whether a place is the beginning of a text, or follows a sign
+-- whether a place is the beginning of a text, or follows a separator
 abbrev pub is_open : List ℕ → ℕ → Bool
 is_open text zero = true
-is_open text (suc place) = begins is_sign (drop place text)
+is_open text (suc place) = begins is_separator (drop place text)
 
 -- whether a version may begin at a place of a tag
 abbrev pub may_begin : List ℕ → ℕ → Bool

@@ -10,7 +10,8 @@ ghost use Rattle.version_tasks.specs.Stability.{counted_text, is_early, is_miles
 ghost use Rattle.version_texts.specs.order.Piece.{first_piece};
 ghost use Rattle.version_texts.specs.versioning_ref.VersioningRef.{plain_versioning_ref};
 
-use version_texts::{Class, Field, VersioningRef, is_digits, split_piece, split_run};
+use version_rules::{Class, split_run};
+use version_texts::{Field, VersioningRef, is_digits, split_piece};
 
 /// How stable a version is, from the least stable to the most.
 #[derive(Clone, Copy, Debug, PartialEq, Eq, PartialOrd, Ord)]
@@ -56,7 +57,7 @@ fn counted_text<'a>(version: &VersioningRef<'a>) -> &'a [u8]
     ensures { result.now ≡ counted_text (plain_versioning_ref version.now) }
 {
     let text = version.bytes();
-    match version.place(Field::Metadata) {
+    match version.span(Field::Metadata) {
         Some((start, _)) => &text[..start - 1],
         None => text,
     }
@@ -66,7 +67,7 @@ fn counted_text<'a>(version: &VersioningRef<'a>) -> &'a [u8]
 fn pre_release_text<'a>(version: &VersioningRef<'a>) -> &'a [u8]
     ensures { result.now ≡ pre_release_text (plain_versioning_ref version.now) }
 {
-    match version.place(Field::PreRelease) {
+    match version.span(Field::PreRelease) {
         Some((start, end)) => &version.bytes()[start..end],
         None => &[],
     }

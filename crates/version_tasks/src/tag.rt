@@ -3,15 +3,16 @@
 ghost use Rattle.std.specs.Prelude.{◌≡◌, ◌<◌, drop, length, Some, IfSome};
 ghost use Rattle.std.specs.Option.{option_map};
 ghost use Rattle.version_rules.specs.grammar.Versioning.{versioning_text};
-ghost use Rattle.version_tasks.specs.Tag.{is_sign, text_after_prefix, text_at_beginning, text_in_tag, version_after_prefix, version_in_tag, without_v};
-ghost use Rattle.version_tasks.specs.AfterSign.{after_sign};
+ghost use Rattle.version_tasks.specs.Tag.{is_separator, text_after_prefix, text_at_beginning, text_in_tag, version_after_prefix, version_in_tag, without_v};
+ghost use Rattle.version_tasks.specs.AfterSeparator.{after_separator};
 ghost use Rattle.version_texts.specs.versioning_ref.VersioningRef.{plain_versioning_ref};
 
-use version_texts::{Class, VersioningRef, begins_with};
+use version_rules::{Class, begins_with};
+use version_texts::VersioningRef;
 
 /// Returns the version in a tag, or in another name of a release. It begins at the first digit that stands at the
-/// beginning of the tag, or after a sign, or after one `v` or `V` that stands so; it is the rest of the tag from that
-/// digit on. A sign is any byte that is neither a letter, a digit nor a dot; each byte past ASCII is one. Returns None
+/// beginning of the tag, or after a separator, or after one `v` or `V` that stands so; it is the rest of the tag from that
+/// digit on. A separator is any byte that is neither a letter, a digit nor a dot; each byte past ASCII is one. Returns None
 /// if there is no such digit, if a dot between two digits stands before it, or if the rest is no version. Does not
 /// allocate.
 ///
@@ -76,7 +77,7 @@ fn text_in_tag(tag: &[u8]) -> Option<&[u8]>
         if text.is_some() {
             return text;
         }
-        left = after_sign(left)?;
+        left = after_separator(left)?;
     }
 }
 
@@ -102,16 +103,16 @@ fn without_v(text: &[u8]) -> &[u8]
     }
 }
 
-// What follows the first sign of a text, or None if there is none, or if a dot between two digits stands before it.
-fn after_sign(text: &[u8]) -> Option<&[u8]>
-    ensures { option_map (λ rest. rest.now) result ≡ after_sign text.now }
+// What follows the first separator of a text, or None if there is none, or if a dot between two digits stands before it.
+fn after_separator(text: &[u8]) -> Option<&[u8]>
+    ensures { option_map (λ rest. rest.now) result ≡ after_separator text.now }
 {
     let mut left = text;
     'bytes: loop {
         match left {
             [] | [b'0'..=b'9', b'.', b'0'..=b'9', ..] => return None,
             [first, rest @ ..] => {
-                if is_sign(*first) {
+                if is_separator(*first) {
                     return Some(rest);
                 }
                 left = rest;
@@ -121,8 +122,8 @@ fn after_sign(text: &[u8]) -> Option<&[u8]>
 }
 
 // Whether a byte is neither a letter, a digit nor a dot.
-fn is_sign(byte: u8) -> bool
-    ensures { result ≡ is_sign byte }
+fn is_separator(byte: u8) -> bool
+    ensures { result ≡ is_separator byte }
 {
     !(byte.is_ascii_alphanumeric() || byte == b'.')
 }

@@ -15,7 +15,7 @@ ghost use Rattle.version_rules.specs.key.Split.{split_bytes, split_of};
 ghost use Rattle.version_rules.specs.key.KeyBytes.{key_bytes};
 ghost use Rattle.version_rules.specs.requirement.Range.{begun};
 ghost use Rattle.version_rules.specs.key.Tail.{section_bytes, tail_bytes};
-ghost use Rattle.version_texts.specs.scan.Class.{contains};
+ghost use Rattle.version_rules.specs.grammar.Class.{contains};
 ghost use Rattle.version_texts.specs.order.Parts.{parts_behind};
 ghost use Rattle.version_texts.specs.scan.Shape.{body_in, epoch_in, is_section_byte, is_tail_byte, tail_in, Fits};
 ghost use Rattle.version_texts.specs.key.TextKey.{chunk_of, chunks_of, front_bytes, parts_of, sections_of, tail_of, text_key};
@@ -24,12 +24,13 @@ pub(crate) mod length;
 pub(crate) mod sink;
 pub(crate) mod sinks;
 pub(crate) mod ties;
+pub(crate) mod whole;
 
 use crate::key::sink::{Sink, put_all};
 use crate::order::digits::{one_digit, without_zeros};
 use crate::order::piece::after_mark;
-use crate::scan::class::{Class, begins_with, split_byte, split_run};
 use crate::scan::shape::{Shape, TailKind};
+use version_rules::{Class, begins_with, split_byte, split_run};
 
 // Writes a length.
 #[inline(always)]

@@ -8,9 +8,9 @@ ghost use Rattle.version_rules.specs.key.Tail.{tail_cmp};
 ghost use Rattle.version_texts.specs.scan.Shape.{Fits, epoch_in, tail_in};
 ghost use Rattle.version_texts.specs.key.TextKey.{tail_of, text_key};
 
+pub(crate) mod delimiters;
 pub(crate) mod difference;
 pub(crate) mod digits;
-pub(crate) mod ends;
 pub(crate) mod list;
 pub(crate) mod part;
 pub(crate) mod piece;

@@ -14,8 +14,8 @@ pub(crate) mod numbers;
 
 use crate::key::length::{LONGEST_WITH_ROOM, length_with, room_for};
 use crate::key::sink::Sink;
-use crate::key::sinks;
 use crate::key::sinks::{Count, Room};
+use crate::key::whole;
 use crate::order::difference::{Difference, key_difference};
 use crate::order::piece::through_dot;
 use crate::order::ties;
@@ -51,7 +51,7 @@ impl<'a> VersioningRef<'a> {
     ghost use Rattle.version_rules.specs.requirement.Range.{has_kind, AreBetween};
     ghost use Rattle.version_rules.specs.grammar.Versioning.{is_prerelease, versioning_nth, versioning_of, versioning_plain_cmp, versioning_text};
     ghost use Rattle.version_texts.specs.order.Difference.{difference_of};
-    ghost use Rattle.version_texts.specs.versioning_ref.Field.{epoch_and_parts, field_place};
+    ghost use Rattle.version_texts.specs.versioning_ref.Field.{epoch_and_parts, field_span};
     ghost use Rattle.version_texts.specs.key.Sinks.{saturated, IsWritten};
     ghost use Rattle.version_texts.specs.versioning_ref.VersioningRef.{major_text, plain_versioning_ref};
 
@@ -140,8 +140,8 @@ impl<'a> VersioningRef<'a> {
 
     /// Returns where a field lies in the text: where it begins and where it ends. None if the version does not have the
     /// field. No field is empty. Does not allocate.
-    pub fn place(&self, field: Field) -> Option<(usize, usize)>
-        ensures { result ≡ field_place field (plain_versioning_ref self.now) }
+    pub fn span(&self, field: Field) -> Option<(usize, usize)>
+        ensures { result ≡ field_span field (plain_versioning_ref self.now) }
     {
         let Shape {
             tail,
@@ -235,7 +235,7 @@ impl<'a> VersioningRef<'a> {
         if let Some(place) = self.end_past(End::Key, start, room.len()) {
             return place;
         }
-        sinks::write_key(self.text, self.shape, room, start)
+        whole::write_key(self.text, self.shape, room, start)
     }
 
     /// Returns how many bytes its key has. Does not allocate.
@@ -251,7 +251,7 @@ impl<'a> VersioningRef<'a> {
         ensures { result ≡ bytes_cmp (key_bytes (key_of (plain_versioning_ref self.now)))
             bytes.now }
     {
-        sinks::compare_key(self.text, self.shape, bytes)
+        whole::compare_key(self.text, self.shape, bytes)
     }
 
     /// Returns whether its key is at least the low bound, and below the high one, if there is one, and its kind is one
@@ -362,7 +362,7 @@ impl<'a> VersioningRef<'a> {
         ensures { result ≡ bytes_cmp (end_bytes end (key_of (plain_versioning_ref self.now)))
             bytes.now }
     {
-        sinks::compare_end(self.text, self.shape, end, bytes)
+        whole::compare_end(self.text, self.shape, end, bytes)
     }
 
     // Compares the bytes of an end of a range with those of another, up to the first difference.

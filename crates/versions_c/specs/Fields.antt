@@ -2,7 +2,7 @@
 use Rattle.std.specs.Prelude.{ℕ, ℤ, ◌==◌, Option, Some, None, is_some, if◌then◌else◌}
 use Rattle.version_texts.specs.declared.versioning_ref.field.Field.{Field}
 use Rattle.version_texts.specs.declared.versioning_ref.field.Field.TheVariants.{Epoch, PreRelease, Release, Metadata}
-use Rattle.version_texts.specs.versioning_ref.Field.{field_place}
+use Rattle.version_texts.specs.versioning_ref.Field.{field_span}
 use Rattle.version_rules.specs.grammar.Versioning.{PlainVersioning}
 use Rattle.versions_c.specs.declared.fields.TheConstants.{EPOCH, METADATA, PRE_RELEASE, RELEASE}
 use Rattle.versions_c.specs.declared.status.TheConstants.{OK, NO_FIELD, NO_VERSION, UNKNOWN_FIELD}
@@ -19,4 +19,4 @@ field_of n =
 abbrev pub field_status : Option Field → Option PlainVersioning → ℤ
 field_status None spelled = UNKNOWN_FIELD
 field_status (Some f) None = NO_VERSION
-field_status (Some f) (Some v) = if is_some (field_place f v) then OK else NO_FIELD
+field_status (Some f) (Some v) = if is_some (field_span f v) then OK else NO_FIELD

@@ -5,10 +5,10 @@ use Rattle.std.specs.declared.cmp.Ordering.TheVariants.{Less, Equal, Greater}
 use Rattle.versions_c.specs.declared.status.TheConstants.{OK, NO_VERSION_A, NO_VERSION_B, NO_VERSION_AB}
 
 -- an order as a number
-abbrev pub sign : Ordering → ℤ
-sign Less = negsuc 0
-sign Equal = pos 0
-sign Greater = pos 1
+abbrev pub order_code : Ordering → ℤ
+order_code Less = negsuc 0
+order_code Equal = pos 0
+order_code Greater = pos 1
 
 -- the status for two texts, by whether each is a version
 abbrev pub pair_status : Bool → Bool → ℤ

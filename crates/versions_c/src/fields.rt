@@ -2,7 +2,7 @@
 
 ghost use Rattle.std.specs.Prelude.{◌≡◌, ◌≢◌, IfSome, Some};
 ghost use Rattle.std.specs.Option.{option_and_then};
-ghost use Rattle.version_texts.specs.versioning_ref.Field.{field_place};
+ghost use Rattle.version_texts.specs.versioning_ref.Field.{field_span};
 ghost use Rattle.version_rules.specs.grammar.Versioning.{versioning_of};
 ghost use Rattle.versions_c.specs.Fields.{field_of, field_status};
 
@@ -23,7 +23,7 @@ pub const METADATA: u32 = 4;
 pub extern "C" fn versions_field(text: &[u8], field: u32, start: &mut usize, end: &mut usize) -> i32
     ensures status { result ≡ field_status (field_of field) (versioning_of text.now) }
     ensures place { result ≡ OK → IfSome (versioning_of text.now)
-        (λ v. option_and_then (λ f. field_place f v) (field_of field)
+        (λ v. option_and_then (λ f. field_span f v) (field_of field)
         ≡ Some (start.new, end.new)) }
     ensures kept_start { result ≢ OK → start.new ≡ start.old }
     ensures kept_end { result ≢ OK → end.new ≡ end.old }
@@ -34,7 +34,7 @@ pub extern "C" fn versions_field(text: &[u8], field: u32, start: &mut usize, end
     let Some(version) = VersioningRef::from_bytes(text) else {
         return NO_VERSION;
     };
-    let Some((first, behind)) = version.place(field) else {
+    let Some((first, behind)) = version.span(field) else {
         return NO_FIELD;
     };
     *start = first;

@@ -106,9 +106,5 @@ fn by_range(
     if members.is_empty() {
         return Some(1);
     }
-    if list_matches(members, version)? {
-        Some(1)
-    } else {
-        Some(0)
-    }
+    Some(list_matches(members, version)? as u8)
 }

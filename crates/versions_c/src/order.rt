@@ -4,7 +4,7 @@ ghost use Rattle.std.specs.Prelude.{◌≡◌, ◌≢◌, IfSome, is_some};
 ghost use Rattle.version_rules.specs.key.Key.{key_of, precedence};
 ghost use Rattle.version_rules.specs.order.Orders.{versioning_cmp};
 ghost use Rattle.version_rules.specs.grammar.Versioning.{versioning_of};
-ghost use Rattle.versions_c.specs.Order.{pair_status, sign};
+ghost use Rattle.versions_c.specs.Order.{pair_status, order_code};
 
 use crate::status::{NO_VERSION_A, NO_VERSION_AB, NO_VERSION_B, OK};
 use std::cmp::Ordering;
@@ -17,13 +17,13 @@ pub extern "C" fn versions_compare(a: &[u8], b: &[u8], order: &mut i32) -> i32
         (is_some (versioning_of b.now)) }
     ensures order { IfSome (versioning_of a.now)
         (λ v. IfSome (versioning_of b.now)
-        (λ w. order.new ≡ sign (precedence (key_of v) (key_of w)))) }
+        (λ w. order.new ≡ order_code (precedence (key_of v) (key_of w)))) }
     ensures kept { result ≢ OK → order.new ≡ order.old }
 {
     let (a, b) = (VersioningRef::from_bytes(a), VersioningRef::from_bytes(b));
     match (a, b) {
         (Some(a), Some(b)) => {
-            *order = sign(a.precedence(&b));
+            *order = order_code(a.precedence(&b));
             OK
         }
         _ => pair_status(a.is_some(), b.is_some()),
@@ -36,13 +36,13 @@ pub extern "C" fn versions_compare_total(a: &[u8], b: &[u8], order: &mut i32) ->
     ensures status { result ≡ pair_status (is_some (versioning_of a.now))
         (is_some (versioning_of b.now)) }
     ensures order { IfSome (versioning_of a.now)
-        (λ v. IfSome (versioning_of b.now) (λ w. order.new ≡ sign (versioning_cmp v w))) }
+        (λ v. IfSome (versioning_of b.now) (λ w. order.new ≡ order_code (versioning_cmp v w))) }
     ensures kept { result ≢ OK → order.new ≡ order.old }
 {
     let (a, b) = (VersioningRef::from_bytes(a), VersioningRef::from_bytes(b));
     match (a, b) {
         (Some(a), Some(b)) => {
-            *order = sign(a.cmp(&b));
+            *order = order_code(a.cmp(&b));
             OK
         }
         _ => pair_status(a.is_some(), b.is_some()),
@@ -62,8 +62,8 @@ pub(crate) fn pair_status(a: bool, b: bool) -> i32
 }
 
 // Returns an order as a number.
-fn sign(order: Ordering) -> i32
-    ensures { result ≡ sign order }
+fn order_code(order: Ordering) -> i32
+    ensures { result ≡ order_code order }
 {
     match order {
         Ordering::Less => -1,

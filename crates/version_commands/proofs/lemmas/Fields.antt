@@ -12,12 +12,12 @@ use Rattle.version_rules.specs.grammar.Release.{release_text}
 use Rattle.version_rules.specs.grammar.SemVer.{PlainSemVer, optional_text, semver_text}
 use Rattle.version_rules.specs.grammar.Version.{PlainVersion, epoch_text, version_text}
 use Rattle.version_rules.specs.grammar.Versioning.{PlainVersioning, Ideal, General, Complex, versioning_text}
-use Rattle.version_texts.specs.versioning_ref.Field.{bare_semver, bare_version, body_alone, field_place, field_text, numbers_alone, place_behind}
+use Rattle.version_texts.specs.versioning_ref.Field.{bare_semver, bare_version, body_alone, field_span, field_text, numbers_alone, span_behind}
 use Rattle.version_texts.specs.declared.versioning_ref.field.Field.{Field}
 use Rattle.version_texts.specs.declared.versioning_ref.field.Field.TheVariants.{Epoch, PreRelease, Release, Metadata}
 
 -- a text between others lies where its place says
-between : (before text after : List ℕ) (start end : ℕ) → place_behind before text ≡ (start, end)
+between : (before text after : List ℕ) (start end : ℕ) → span_behind before text ≡ (start, end)
     → take (end - start) (drop start (before ++ (text ++ after))) ≡ text
 between before text after start end place = grind (arith, drop-append_seam, take_at)
 
@@ -34,11 +34,11 @@ marked_text mark text_of (Some x) = refl
 
 marked_taken : (whole front : List ℕ) (mark : ℕ) (field : Option (List ℕ)) (after : List ℕ)
     (start end : ℕ) → whole ≡ front ++ (marked mark field ++ after)
-    → option_map (place_behind (front ++ mark ∷ [])) field ≡ Some (start, end)
+    → option_map (span_behind (front ++ mark ∷ [])) field ≡ Some (start, end)
     → Some (take (end - start) (drop start whole)) ≡ field
 marked_taken whole front mark None after start end is e = cc
 marked_taken whole front mark (Some text) after start end is e =
-    let place : place_behind (front ++ mark ∷ []) text ≡ (start, end) = cc in
+    let place : span_behind (front ++ mark ∷ []) text ≡ (start, end) = cc in
     let cut : whole ≡ (front ++ mark ∷ []) ++ (text ++ after) =
     is ∙ sym (append_assoc front (mark ∷ []) (text ++ after)) in
     ap Some
@@ -48,22 +48,22 @@ marked_taken whole front mark (Some text) after start end is e =
 -- ---- an epoch
 
 epoch_taken : (epoch : Option ℕ) (rest : List ℕ) (start end : ℕ)
-    → option_map (place_behind []) (option_map decimal epoch) ≡ Some (start, end)
+    → option_map (span_behind []) (option_map decimal epoch) ≡ Some (start, end)
     → Some (take (end - start) (drop start (epoch_text epoch ++ rest))) ≡ option_map decimal epoch
 epoch_taken None rest start end e = cc
 epoch_taken (Some n) rest start end e =
-    let place : place_behind [] (decimal n) ≡ (start, end) = cc in
+    let place : span_behind [] (decimal n) ≡ (start, end) = cc in
     ap Some
     (ap (λ (l : List ℕ). take (end - start) (drop start l))
     (append_assoc (decimal n) (colon ∷ []) rest)
     ∙ between [] (decimal n) (colon ∷ rest) start end place)
 
 section_taken : (epoch : Option ℕ) (section rest : List ℕ) (start end : ℕ)
-    → option_map (place_behind []) (option_map (λ n. section) epoch) ≡ Some (start, end)
+    → option_map (span_behind []) (option_map (λ n. section) epoch) ≡ Some (start, end)
     → Some (take (end - start) (drop start (section ++ rest))) ≡ option_map (λ n. section) epoch
 section_taken None section rest start end e = cc
 section_taken (Some n) section rest start end e =
-    let place : place_behind [] section ≡ (start, end) = cc in
+    let place : span_behind [] section ≡ (start, end) = cc in
     ap Some (between [] section rest start end place)
 
 -- ---- the texts of versions around their fields
@@ -90,7 +90,7 @@ version_around_meta v = simp (append_assoc, append-nil)
 
 -- what lies at a field's place is the field
 pub field_taken : (f : Field) (v : PlainVersioning) (start end : ℕ)
-    → field_place f v ≡ Some (start, end)
+    → field_span f v ≡ Some (start, end)
     → Some (take (end - start) (drop start (versioning_text v))) ≡ field_text f v
 field_taken Epoch (Ideal v) start end e = cc
 field_taken Epoch (General v) start end e =

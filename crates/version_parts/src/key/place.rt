@@ -6,7 +6,7 @@ ghost use Rattle.version_parts.specs.Pieces.{after_number_bytes, place_bytes, ru
 ghost use Rattle.version_rules.specs.key.TextBytes.{text_byte};
 
 use crate::key::PartText;
-use crate::scan::Class;
+use version_rules::Class;
 
 // What is read after a number.
 #[derive(Clone, Copy)]

@@ -5,11 +5,11 @@ ghost use Rattle.std.specs.Char.{is_ascii_digit};
 ghost use Rattle.std.specs.Fmt.{decimal};
 ghost use Rattle.std.specs.Iterator.{item_count, YieldsFirst};
 ghost use Rattle.std.specs.List.{list_all, prefix_len};
-ghost use Rattle.version_parts.specs.Class.{contains};
+ghost use Rattle.version_rules.specs.grammar.Class.{contains};
 
 use crate::key::inline::InlineBytes;
-use crate::scan::{Class, run_len};
 use std::marker::Model;
+use version_rules::{Class, run_length};
 
 /// The remaining bytes of the printed text of a part: the digits of a number, a borrowed text, and the digits of a
 /// second number. Does not allocate.
@@ -99,15 +99,15 @@ impl<'a> PartText<'a> {
         ensures { result ≡ prefix_len is_ascii_digit self.now }
     {
         let before = self.before.as_slice();
-        let count = run_len(before, Class::Digit);
+        let count = run_length(before, Class::Digit);
         if count < before.len() {
             return count;
         }
-        let more = run_len(self.text, Class::Digit);
+        let more = run_length(self.text, Class::Digit);
         if more < self.text.len() {
             return count + more;
         }
-        count + more + run_len(self.after.as_slice(), Class::Digit)
+        count + more + run_length(self.after.as_slice(), Class::Digit)
     }
 
     // Takes the run of a class that the text begins with, as far as the borrowed text has it. Takes nothing while
@@ -119,7 +119,7 @@ impl<'a> PartText<'a> {
         if !self.before.as_slice().is_empty() {
             return &[];
         }
-        let (run, rest) = self.text.split_at(run_len(self.text, class));
+        let (run, rest) = self.text.split_at(run_length(self.text, class));
         self.text = rest;
         run
     }

@@ -7,7 +7,7 @@ use Rattle.version_rules.specs.grammar.SemVer.{PlainSemVer, optional_text, semve
 use Rattle.version_rules.specs.grammar.Version.{PlainVersion, version_text}
 use Rattle.version_rules.specs.grammar.Versioning.{PlainVersioning, Ideal, General, Complex, versioning_text}
 use Rattle.version_tasks.specs.Stability.{counted_text}
-use Rattle.version_texts.specs.versioning_ref.Field.{bare_semver, bare_version, field_place, place_behind}
+use Rattle.version_texts.specs.versioning_ref.Field.{bare_semver, bare_version, field_span, span_behind}
 use Rattle.version_texts.specs.declared.versioning_ref.field.Field.TheVariants.{Metadata}
 
 -- a plus and metadata, or nothing
@@ -25,18 +25,18 @@ bare_version_text v = simp (append_assoc, append-nil)
 
 -- what stands before the place of metadata and its plus
 before_place : (front : List ℕ) (meta : Option (List ℕ)) (start end : ℕ)
-    → option_map (place_behind (front ++ plus ∷ [])) meta ≡ Some (start, end)
+    → option_map (span_behind (front ++ plus ∷ [])) meta ≡ Some (start, end)
     → take (start - 1) (front ++ meta_text meta) ≡ front
 before_place front None start end e = cc
 before_place front (Some meta) start end e =
-    let place : place_behind (front ++ plus ∷ []) meta ≡ (start, end) = cc in
+    let place : span_behind (front ++ plus ∷ []) meta ≡ (start, end) = cc in
     let starts : length (front ++ plus ∷ []) ≡ start = ap (λ (p : ℕ × ℕ). p.0) place in
     take_at front (plus ∷ meta) (start - 1)
     (omega (arith, starts, length-append front (plus ∷ [])))
 
 -- what stands before metadata counts
 pub before_metadata : (v : PlainVersioning) (start end : ℕ)
-    → field_place Metadata v ≡ Some (start, end)
+    → field_span Metadata v ≡ Some (start, end)
     → take (start - 1) (versioning_text v) ≡ counted_text v
 before_metadata (Ideal v) start end e =
     ap (take (start - 1)) (bare_semver_text v)

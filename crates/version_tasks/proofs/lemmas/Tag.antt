@@ -1,4 +1,4 @@
--- The version in a tag, sign by sign.
+-- The version in a tag, separator by separator.
 pub mod Starts
 use Rattle.std.proofs.lemmas.Bool.{cases_Bool}
 use Rattle.std.proofs.Common.{◌≡◌, ◌<◌, ◌&&◌, ◌∙◌, if◌then◌else◌, ℕ, zero, suc, Bool, true, false, List, [], ◌∷◌, drop, length, take, Option, Some, None, refl, sym, ap, arith, inl, inr}
@@ -10,8 +10,8 @@ use Rattle.version_rules.specs.grammar.Versioning.{versioning_of, versioning_tex
 use Rattle.version_rules.proofs.lemmas.Versioning.{versioning_of-spells, versioning_printed}
 use Rattle.version_texts.specs.versioning_ref.VersioningRef.{plain_versioning_ref}
 use Rattle.version_texts.specs.declared.versioning_ref.VersioningRef.{VersioningRef}
-use Rattle.version_tasks.specs.AfterSign.{after_sign}
-use Rattle.version_tasks.specs.Tag.{after_prefix, first_below, is_point, is_sign, may_begin, place_in_tag, text_at_beginning, text_in_tag}
+use Rattle.version_tasks.specs.AfterSeparator.{after_separator}
+use Rattle.version_tasks.specs.Tag.{after_prefix, first_below, is_point, is_separator, may_begin, place_in_tag, text_at_beginning, text_in_tag}
 
 -- ---- the first place that passes a test
 
@@ -103,7 +103,7 @@ open_places text zero = refl
 open_places text (suc place) = refl
 
 same_places : (b : ℕ) (text : List ℕ) (place : ℕ)
-    → may_begin (b ∷ text) (suc place) ≡ may_begin_from (is_sign b) text place
+    → may_begin (b ∷ text) (suc place) ≡ may_begin_from (is_separator b) text place
 same_places b text zero = refl
 same_places b text (suc place) = refl
 
@@ -111,7 +111,7 @@ same_places b text (suc place) = refl
 missed_first : (open_first : Bool) (b : ℕ) (text : List ℕ)
     → (open_first && is_some (text_at_beginning (b ∷ text))) ≡ false
     → text_from open_first (b ∷ text)
-    ≡ behind (is_point (b ∷ text) 0) (text_from (is_sign b) text)
+    ≡ behind (is_point (b ∷ text) 0) (text_from (is_separator b) text)
 missed_first open_first b text none =
     let first : first_below (may_begin_from open_first (b ∷ text)) (suc (length text))
     ≡ option_map suc
@@ -119,12 +119,12 @@ missed_first open_first b text none =
     first_below-suc (may_begin_from open_first (b ∷ text)) (length text)
     ∙ behind_first (open_first && is_some (text_at_beginning (b ∷ text))) _ none in
     let same : (place : ℕ) → may_begin (b ∷ text) (suc place)
-    ≡ may_begin_from (is_sign b) text place =
+    ≡ may_begin_from (is_separator b) text place =
     same_places b text in
     ap (text_by (b ∷ text)) (first ∙ ap (option_map suc)
-    (first_below-same (λ place. may_begin (b ∷ text) (suc place)) (may_begin_from (is_sign b) text)
+    (first_below-same (λ place. may_begin (b ∷ text) (suc place)) (may_begin_from (is_separator b) text)
     same (length text)))
-    ∙ text_by-suc b text (first_below (may_begin_from (is_sign b) text) (length text))
+    ∙ text_by-suc b text (first_below (may_begin_from (is_separator b) text) (length text))
 
 -- a tag is open at its beginning
 from_open : (text : List ℕ) → text_from true text ≡ text_in_tag text
@@ -132,29 +132,29 @@ unfolding place_in_tag
 from_open text = ap (text_by text) (first_below-same (may_begin_from true text) (may_begin text)
     (open_places text) (length text))
 
--- a sign is no digit
-sign_no_digit : (b : ℕ) → is_sign b ≡ true → is_ascii_digit b ≡ false
-sign_no_digit b sign = elim (cases_Bool (is_ascii_digit b)) [ inl digit ↦ cc | inr other ↦ other ]
+-- a separator is no digit
+separator_no_digit : (b : ℕ) → is_separator b ≡ true → is_ascii_digit b ≡ false
+separator_no_digit b separator = elim (cases_Bool (is_ascii_digit b)) [ inl digit ↦ cc | inr other ↦ other ]
 
-sign_no_point : (b : ℕ) (text : List ℕ) → is_sign b ≡ true → is_point (b ∷ text) 0 ≡ false
-sign_no_point b text sign = rw (sign_no_digit b sign) refl
+separator_no_point : (b : ℕ) (text : List ℕ) → is_separator b ≡ true → is_point (b ∷ text) 0 ≡ false
+separator_no_point b text separator = rw (separator_no_digit b separator) refl
 
--- a byte is passed, unless it is a sign or begins a point
-passed_byte : (sign point : Bool) → (sign ≡ true → point ≡ false) → (text : List ℕ)
-    → text_from false text ≡ (after_sign text >>= text_in_tag)
-    → behind point (text_from sign text)
-    ≡ ((if sign then Some text else (if point then None else after_sign text)) >>= text_in_tag)
+-- a byte is passed, unless it is a separator or begins a point
+passed_byte : (separator point : Bool) → (separator ≡ true → point ≡ false) → (text : List ℕ)
+    → text_from false text ≡ (after_separator text >>= text_in_tag)
+    → behind point (text_from separator text)
+    ≡ ((if separator then Some text else (if point then None else after_separator text)) >>= text_in_tag)
 passed_byte true true apart text rest = cc (apart refl)
 passed_byte true false apart text rest = from_open text
 passed_byte false true apart text rest = refl
 passed_byte false false apart text rest = rest
 
--- what is left decides, from the next sign on
-passed : (text : List ℕ) → text_from false text ≡ (after_sign text >>= text_in_tag)
+-- what is left decides, from the next separator on
+passed : (text : List ℕ) → text_from false text ≡ (after_separator text >>= text_in_tag)
 passed [] = refl
 passed (b ∷ text) =
     missed_first false b text refl
-    ∙ passed_byte (is_sign b) (is_point (b ∷ text) 0) (sign_no_point b text) text (passed text)
+    ∙ passed_byte (is_separator b) (is_point (b ∷ text) 0) (separator_no_point b text) text (passed text)
 
 -- ---- how a tag is read
 
@@ -167,17 +167,17 @@ begun (b ∷ tag) h =
     ap (text_by (b ∷ tag)) (first_below-suc (may_begin (b ∷ tag)) (length tag)
     ∙ at_first (is_some (text_at_beginning (b ∷ tag))) _ h)
 
--- else what follows the next sign decides
+-- else what follows the next separator decides
 pub missed : (tag : List ℕ) → is_some (text_at_beginning tag) ≡ false
-    → text_in_tag tag ≡ (after_sign tag >>= text_in_tag)
+    → text_in_tag tag ≡ (after_separator tag >>= text_in_tag)
 missed [] h = sym (from_open [])
 missed (b ∷ tag) h =
     sym (from_open (b ∷ tag)) ∙ missed_first true b tag h ∙ sym (missed_first false b tag refl)
     ∙ passed (b ∷ tag)
 
-shorter_byte : (sign point : Bool) (text rest : List ℕ)
-    → (after_sign text ≡ Some rest → length rest < length text)
-    → (if sign then Some text else (if point then None else after_sign text)) ≡ Some rest
+shorter_byte : (separator point : Bool) (text rest : List ℕ)
+    → (after_separator text ≡ Some rest → length rest < length text)
+    → (if separator then Some text else (if point then None else after_separator text)) ≡ Some rest
     → length rest < suc (length text)
 shorter_byte true point text rest shorter h =
     let same : text ≡ rest = cc in
@@ -185,12 +185,12 @@ shorter_byte true point text rest shorter h =
 shorter_byte false true text rest shorter h = cc
 shorter_byte false false text rest shorter h = omega (arith, shorter h)
 
--- what follows a sign is shorter
-pub after_sign_shorter : (text rest : List ℕ) → after_sign text ≡ Some rest
+-- what follows a separator is shorter
+pub after_separator_shorter : (text rest : List ℕ) → after_separator text ≡ Some rest
     → length rest < length text
-after_sign_shorter [] rest h = cc
-after_sign_shorter (b ∷ text) rest h =
-    shorter_byte (is_sign b) (is_point (b ∷ text) 0) text rest (after_sign_shorter text rest) h
+after_separator_shorter [] rest h = cc
+after_separator_shorter (b ∷ text) rest h =
+    shorter_byte (is_separator b) (is_point (b ∷ text) 0) text rest (after_separator_shorter text rest) h
 
 -- ---- what is read off the text of the version
 

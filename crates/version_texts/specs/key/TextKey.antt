@@ -11,7 +11,7 @@ use Rattle.version_rules.specs.grammar.Sep.{is_sep}
 use Rattle.version_rules.specs.key.Key.{Key}
 use Rattle.version_rules.specs.key.Tail.{Tail}
 use Rattle.version_texts.specs.order.Piece.{sign_of}
-use Rattle.version_texts.specs.declared.order.ends.Ends.{Ends}
+use Rattle.version_texts.specs.declared.order.delimiters.Delimiters.{Delimiters}
 use Rattle.version_texts.specs.declared.scan.shape.Shape.{Shape}
 use Rattle.version_texts.specs.declared.scan.shape.TailKind.{TailKind}
 use Rattle.version_texts.specs.declared.scan.shape.TailKind.TheVariants.{PreRelease, Nothing, Release, Sections}
@@ -40,7 +40,7 @@ abbrev pub sections_of : List ℕ → List (List PartKey)
 sections_of text = map parts_of (slice_split is_sep text)
 
 -- the same, where signs divide sections if they end parts
-abbrev pub lists_of : Ends → List ℕ → List (List PartKey)
+abbrev pub lists_of : Delimiters → List ℕ → List (List PartKey)
 lists_of ends text = map parts_of (slice_split (sign_of ends) text)
 
 -- the tail of one section or more

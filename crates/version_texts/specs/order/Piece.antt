@@ -4,11 +4,11 @@ use Rattle.std.specs.Char.{is_ascii_digit}
 use Rattle.std.specs.List.{before_first, position_or_len, prefix_len, slice_split}
 use Rattle.version_rules.specs.grammar.Bytes.{dot}
 use Rattle.version_rules.specs.grammar.Sep.{is_sep}
-use Rattle.version_texts.specs.scan.Class.{is_mark}
-use Rattle.version_texts.specs.declared.order.ends.Ends.{Ends}
-use Rattle.version_texts.specs.declared.order.ends.Ends.TheVariants.{Dots, Marks}
-use Rattle.version_texts.specs.declared.order.ends.Run.{Run}
-use Rattle.version_texts.specs.declared.order.ends.Run.TheVariants.{Part, Word}
+use Rattle.version_rules.specs.grammar.Class.{is_mark}
+use Rattle.version_texts.specs.declared.order.delimiters.Delimiters.{Delimiters}
+use Rattle.version_texts.specs.declared.order.delimiters.Delimiters.TheVariants.{Dots, Marks}
+use Rattle.version_texts.specs.declared.order.delimiters.Run.{Run}
+use Rattle.version_texts.specs.declared.order.delimiters.Run.TheVariants.{Part, Word}
 
 -- whether a byte is a dot
 abbrev pub is_dot : ℕ → Bool
@@ -36,15 +36,15 @@ abbrev pub behind_digits : List ℕ → List ℕ
 behind_digits text = drop (prefix_len is_ascii_digit text) text
 
 -- whether a byte ends a part, and whether it ends a section too
-abbrev pub end_of : Ends → ℕ → Bool
-end_of Dots b = is_dot b
-end_of Marks b = is_mark b
+abbrev pub delimits : Delimiters → ℕ → Bool
+delimits Dots b = is_dot b
+delimits Marks b = is_mark b
 
-abbrev pub sign_of : Ends → ℕ → Bool
+abbrev pub sign_of : Delimiters → ℕ → Bool
 sign_of Dots b = false
 sign_of Marks b = is_sep b
 
 -- whether a byte is of a run: it ends no part, and is no digit in what stands before the first one
 abbrev pub in_run : Run → ℕ → Bool
-in_run (Part ends) b = not (end_of ends b)
-in_run (Word ends) b = not (end_of ends b) && not (is_ascii_digit b)
+in_run (Part ends) b = not (delimits ends b)
+in_run (Word ends) b = not (delimits ends b) && not (is_ascii_digit b)

@@ -9,15 +9,15 @@ use Rattle.version_rules.specs.requirement.Requirement.{PlainRequirement}
 use Rattle.version_texts.specs.requirement.Empty.{IsEmpty}
 use Rattle.version_texts.specs.requirement.MemberPlace.{IsMember}
 use Rattle.version_texts.specs.declared.requirement.conflict.Conflict.{Conflict}
-use Rattle.version_texts.specs.declared.requirement.conflict.Place.{Place}
+use Rattle.version_texts.specs.declared.requirement.conflict.Span.{Span}
 
 -- A member of the text begins and ends there, and parses as the requirement.
-pub record IsAt (text : List ℕ) (place : Place) (r : PlainRequirement) : Type 0 where
+pub record IsAt (text : List ℕ) (span : Span) (r : PlainRequirement) : Type 0 where
   pub member : List ℕ
-  pub is : IsMember text place.start member r
-  pub end_is : place.end ≡ place.start + length member
+  pub is : IsMember text span.start member r
+  pub end_is : span.end ≡ span.start + length member
 
--- The members at the two places exclude each other: what their ranges have in common is empty.
+-- The members at the two spans exclude each other: what their ranges have in common is empty.
 pub record ExcludeEachOther (text : List ℕ) (conflict : Conflict) : Type 0 where
   pub one : PlainRequirement
   pub other : PlainRequirement
@@ -25,7 +25,7 @@ pub record ExcludeEachOther (text : List ℕ) (conflict : Conflict) : Type 0 whe
   pub other_is : IsAt text conflict.other other
   pub empty : IsEmpty (common (requirement_range one) (requirement_range other))
 
--- The members at the two places give a range its ends: the one begins no earlier, and the other
+-- The members at the two spans give a range its ends: the one begins no earlier, and the other
 -- ends no later.
 pub record GiveEnds (text : List ℕ) (range : PlainRange) (conflict : Conflict) : Type 0 where
   pub one : PlainRequirement
@@ -41,10 +41,10 @@ abbrev pub IsByEnds : List ℕ → PlainRange → Conflict → Type 0
 IsByEnds text range conflict = (conflict.one ≡ conflict.other) ⊎ GiveEnds text range conflict
 
 -- A member that fails a test lies there, and has this range.
-pub record IsFailing (Passes : PlainRequirement → Type 0) (text : List ℕ) (place : Place)
+pub record IsFailing (Passes : PlainRequirement → Type 0) (text : List ℕ) (span : Span)
     (range : PlainRange) : Type 0 where
   pub requirement : PlainRequirement
-  pub is : IsAt text place requirement
+  pub is : IsAt text span requirement
   pub range_is : range ≡ requirement_range requirement
   pub fails : ¬ (Passes requirement)
 

@@ -7,7 +7,7 @@ use Rattle.version_rules.specs.grammar.Bytes.{hyphen, is_identifier_byte, is_met
 use Rattle.version_rules.specs.grammar.DigitRun.{is_digits}
 use Rattle.version_rules.specs.grammar.Front.{begins}
 use Rattle.version_rules.specs.declared.kind.Kind.{Kind}
-use Rattle.version_texts.specs.scan.Class.{is_mark}
+use Rattle.version_rules.specs.grammar.Class.{is_mark}
 use Rattle.version_texts.specs.scan.Shape.{behind_body, body_start, from_body, is_section_byte}
 use Rattle.version_texts.specs.key.TextKey.{pieces}
 use Rattle.version_rules.specs.declared.kind.Kind.TheVariants as kind

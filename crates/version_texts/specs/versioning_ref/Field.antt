@@ -50,12 +50,12 @@ text_before Metadata (General v) = version_text (bare_version v) ++ plus ∷ []
 text_before _ _ = []
 
 -- where a text lies behind another
-abbrev pub place_behind : List ℕ → List ℕ → ℕ × ℕ
-place_behind before text = (length before, length before + length text)
+abbrev pub span_behind : List ℕ → List ℕ → ℕ × ℕ
+span_behind before text = (length before, length before + length text)
 
 -- where a field lies in the text of a version, if the version has it
-abbrev pub field_place : Field → PlainVersioning → Option (ℕ × ℕ)
-field_place f v = option_map (place_behind (text_before f v)) (field_text f v)
+abbrev pub field_span : Field → PlainVersioning → Option (ℕ × ℕ)
+field_span f v = option_map (span_behind (text_before f v)) (field_text f v)
 
 -- the text of the epoch with its colon, which is empty without an epoch, and that of the parts with
 -- dots between them; None of a messy version

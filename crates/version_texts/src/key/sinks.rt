@@ -1,20 +1,10 @@
-//! Sinks: a count of bytes, a buffer with room, and comparisons with given bytes.
+//! Sinks: a count of bytes, a buffer with room, and a comparison with given bytes.
 
-ghost use Rattle.std.specs.Prelude.{◌≡◌, ◌+◌, ◌≤◌, [], length, ⊤};
-ghost use Rattle.version_rules.specs.requirement.Ends.{end_bytes};
-ghost use Rattle.version_rules.specs.key.KeyBytes.{key_bytes};
-ghost use Rattle.version_rules.specs.order.Lists.{bytes_cmp};
-ghost use Rattle.version_rules.specs.key.Tail.{tail_bytes};
-ghost use Rattle.version_texts.specs.scan.Shape.{tail_in, Fits};
-ghost use Rattle.version_texts.specs.key.Sinks.{count_with, leads_both, leads_none, order_with, put_at, room_both, room_first, room_none, room_then, FitsRoom, Leads, TakesRoom};
-ghost use Rattle.version_texts.specs.key.TextKey.{tail_of, text_key};
+ghost use Rattle.std.specs.Prelude.{◌≡◌, [], ⊤};
+ghost use Rattle.version_texts.specs.key.Sinks.{count_with, leads_both, leads_none, order_with, room_both, room_first, room_none, room_then, FitsRoom, Leads, TakesRoom};
 
 use crate::key::sink::Sink;
-use crate::key::{put_front, put_tail, tail_at};
-use crate::requirement::range::put_end;
-use crate::scan::shape::Shape;
 use std::cmp::Ordering;
-use version_rules::End;
 
 /// A count of bytes. Past the largest number it stays there.
 #[derive(Drop)]
@@ -147,67 +137,4 @@ impl<'a> Beside<'a> {
             Ordering::Less
         }
     }
-}
-
-// Writes the key of a version into a buffer from a place on, and returns the place after it. The tail has a sink of its
-// own, here and in a comparison: so the compiler keeps both in registers.
-#[inline(always)]
-pub(crate) fn write_key(text: &[u8], shape: Shape, room: &mut [u8], start: usize) -> usize
-    requires shape { Fits text.now shape }
-    requires room { start + length (key_bytes (text_key text.now shape)) ≤ length room.old }
-    ensures bytes { room.new ≡ put_at room.old start (key_bytes (text_key text.now shape)) }
-    ensures end { result ≡ start + length (key_bytes (text_key text.now shape)) }
-{
-    let mut sink = Room { room, end: start };
-    put_front(&mut sink, text, shape);
-    let end = sink.end;
-    write_tail(text, shape, room, end)
-}
-
-// Writes the tail of a key into a buffer from a place on, and returns the place after it.
-#[inline(always)]
-fn write_tail(text: &[u8], shape: Shape, room: &mut [u8], start: usize) -> usize
-    requires shape { Fits text.now shape }
-    requires room { start + length (tail_bytes (tail_of shape.tail (tail_in text.now shape)))
-        ≤ length room.old }
-    ensures bytes { room.new ≡ put_at room.old start
-        (tail_bytes (tail_of shape.tail (tail_in text.now shape))) }
-    ensures end { result ≡ start
-        + length (tail_bytes (tail_of shape.tail (tail_in text.now shape))) }
-{
-    let mut sink = Room { room, end: start };
-    put_tail(&mut sink, shape.tail, tail_at(text, shape));
-    sink.end
-}
-
-// Compares the key of a version with given bytes, up to the first difference.
-#[inline(always)]
-pub(crate) fn compare_key(text: &[u8], shape: Shape, bytes: &[u8]) -> Ordering
-    requires { Fits text.now shape }
-    ensures { result ≡ bytes_cmp (key_bytes (text_key text.now shape)) bytes.now }
-{
-    let mut front = Beside {
-        left: bytes,
-        order: Ordering::Equal,
-    };
-    if !put_front(&mut front, text, shape) {
-        return front.order();
-    }
-    let mut tail = front;
-    put_tail(&mut tail, shape.tail, tail_at(text, shape));
-    tail.order()
-}
-
-/// Compares an end of a range with given bytes, up to the first difference.
-#[inline(always)]
-pub fn compare_end(text: &[u8], shape: Shape, end: End, bytes: &[u8]) -> Ordering
-    requires { Fits text.now shape }
-    ensures { result ≡ bytes_cmp (end_bytes end (text_key text.now shape)) bytes.now }
-{
-    let mut sink = Beside {
-        left: bytes,
-        order: Ordering::Equal,
-    };
-    put_end(&mut sink, text, shape, end);
-    sink.order()
 }

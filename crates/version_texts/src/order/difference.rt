@@ -6,7 +6,7 @@ ghost use Rattle.version_texts.specs.scan.Shape.{Fits};
 ghost use Rattle.version_texts.specs.key.TextKey.{parts_of, text_key};
 
 use crate::key::body_at;
-use crate::order::ends::Ends;
+use crate::order::delimiters::Delimiters;
 use crate::order::part::compare_parts_to;
 use crate::order::piece::behind_first;
 use crate::order::{compare_epochs, compare_tails};
@@ -58,7 +58,7 @@ fn first_differing(x: &[u8], y: &[u8]) -> Option<usize>
     let (mut a, mut b) = (x, y);
     let mut place = 0;
     'parts: loop {
-        let firsts = compare_parts_to(Ends::Dots, a, b);
+        let firsts = compare_parts_to(Delimiters::Dots, a, b);
         if firsts.order.is_ne() {
             return Some(place);
         }

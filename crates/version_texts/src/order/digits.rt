@@ -9,8 +9,8 @@ ghost use Rattle.version_rules.specs.grammar.DigitRun.{run_value, starts_with_di
 ghost use Rattle.version_texts.specs.order.Piece.{behind_digits};
 
 use crate::order::run::Compared;
-use crate::scan::class::{Class, begins_with};
 use std::cmp::Ordering;
+use version_rules::{Class, begins_with};
 
 // Compares the numbers at the starts of two texts, without leading zeros: by the count of digits, and then by the first
 // digits that differ. A text that begins with no digit has the number 0. No more digits are read of one number than the

@@ -6,12 +6,12 @@ ghost use Rattle.version_rules.specs.key.PartKey.{list_cmp, part_cmp, part_key};
 ghost use Rattle.version_rules.specs.key.Tail.{sections_cmp};
 ghost use Rattle.version_texts.specs.key.TextKey.{lists_of, parts_of, sections_of};
 
+use crate::order::delimiters::Delimiters;
 use crate::order::digits::compare_if_numbers;
-use crate::order::ends::Ends;
 use crate::order::part::compare_parts_to;
 use crate::order::piece::{after_mark, behind_first};
-use crate::scan::class::{Class, begins_with};
 use std::cmp::Ordering;
+use version_rules::{Class, begins_with};
 
 // Compares two lists of parts. The first place where they differ decides:
 // word < end of the list < number.
@@ -70,7 +70,7 @@ fn compare_first_numbers(x: &[u8], y: &[u8]) -> Option<Ordering>
 fn compare_in_turn(x: &[u8], y: &[u8]) -> Ordering
     ensures { result ≡ list_cmp (parts_of x.now) (parts_of y.now) }
 {
-    compare_lists(Ends::Dots, x, y)
+    compare_lists(Delimiters::Dots, x, y)
 }
 
 // Compares two lists of sections, part by part. A prefix comes before the longer list.
@@ -78,18 +78,18 @@ fn compare_in_turn(x: &[u8], y: &[u8]) -> Ordering
 pub(crate) fn compare_sections(x: &[u8], y: &[u8]) -> Ordering
     ensures { result ≡ sections_cmp (sections_of x.now) (sections_of y.now) }
 {
-    compare_lists(Ends::Marks, x, y)
+    compare_lists(Delimiters::Marks, x, y)
 }
 
 // Compares two lists of sections, which signs divide if these are ends of parts: part by part, and not section by
 // section, since one may be much longer than the other.
 #[inline(always)]
-fn compare_lists(ends: Ends, x: &[u8], y: &[u8]) -> Ordering
-    ensures { result ≡ sections_cmp (lists_of ends x.now) (lists_of ends y.now) }
+fn compare_lists(delimiters: Delimiters, x: &[u8], y: &[u8]) -> Ordering
+    ensures { result ≡ sections_cmp (lists_of delimiters x.now) (lists_of delimiters y.now) }
 {
     let (mut a, mut b) = (x, y);
     'parts: loop {
-        let parts = compare_parts_to(ends, a, b);
+        let parts = compare_parts_to(delimiters, a, b);
         if parts.order != Ordering::Equal {
             return parts.order;
         }

@@ -9,24 +9,24 @@ ghost use Rattle.version_rules.specs.grammar.Front.{begins};
 ghost use Rattle.version_rules.specs.order.Lists.{bytes_cmp, none_last_cmp};
 ghost use Rattle.version_rules.specs.key.PartKey.{part_cmp, part_key, suffix_of};
 ghost use Rattle.version_rules.specs.key.Split.{numbered_cmp, split_cmp, split_of};
-ghost use Rattle.version_texts.specs.declared.order.ends.Run.TheVariants.{Word};
-ghost use Rattle.version_texts.specs.order.Piece.{end_of, from_first, in_run};
+ghost use Rattle.version_texts.specs.declared.order.delimiters.Run.TheVariants.{Word};
+ghost use Rattle.version_texts.specs.order.Piece.{delimits, from_first, in_run};
 
+use crate::order::delimiters::{Delimiters, Run};
 use crate::order::digits::compare_numbers;
-use crate::order::ends::{Ends, Run};
 use crate::order::run::{Compared, compare_runs};
-use crate::scan::class::{Class, begins_with};
 use std::cmp::Ordering;
+use version_rules::{Class, begins_with};
 
 // Compares two texts by their first parts, which go to the ends that are given. If these are equal, returns what
 // follows them.
 #[inline(always)]
-pub(crate) fn compare_parts_to<'a>(ends: Ends, a: &'a [u8], b: &'a [u8]) -> Compared<'a>
-    ensures order { result.order ≡ part_cmp (Some (part_key (before_first (end_of ends) a.now)))
-        (Some (part_key (before_first (end_of ends) b.now))) }
-    ensures rest { result.order ≡ Equal → result.rest.now ≡ from_first (end_of ends) a.now }
+pub(crate) fn compare_parts_to<'a>(delimiters: Delimiters, a: &'a [u8], b: &'a [u8]) -> Compared<'a>
+    ensures order { result.order ≡ part_cmp (Some (part_key (before_first (delimits delimiters) a.now)))
+        (Some (part_key (before_first (delimits delimiters) b.now))) }
+    ensures rest { result.order ≡ Equal → result.rest.now ≡ from_first (delimits delimiters) a.now }
     ensures other_rest { result.order ≡ Equal
-        → result.other_rest.now ≡ from_first (end_of ends) b.now }
+        → result.other_rest.now ≡ from_first (delimits delimiters) b.now }
 {
     match (begins_with(a, Class::Digit), begins_with(b, Class::Digit)) {
         (true, true) => {
@@ -34,26 +34,29 @@ pub(crate) fn compare_parts_to<'a>(ends: Ends, a: &'a [u8], b: &'a [u8]) -> Comp
             if numbers.order != Ordering::Equal {
                 return numbers;
             }
-            compare_suffixes(ends, numbers.rest, numbers.other_rest)
+            compare_suffixes(delimiters, numbers.rest, numbers.other_rest)
         }
         (true, false) => Compared::new(Ordering::Greater, a, b),
         (false, true) => Compared::new(Ordering::Less, a, b),
-        (false, false) => compare_words(ends, a, b),
+        (false, false) => compare_words(delimiters, a, b),
     }
 }
 
 // Compares what follows two numbers, up to the ends of the parts. An empty suffix comes last.
 #[inline(always)]
-fn compare_suffixes<'a>(ends: Ends, a: &'a [u8], b: &'a [u8]) -> Compared<'a>
+fn compare_suffixes<'a>(delimiters: Delimiters, a: &'a [u8], b: &'a [u8]) -> Compared<'a>
     ensures order { result.order
-        ≡ none_last_cmp split_cmp (suffix_of (before_first (end_of ends) a.now))
-        (suffix_of (before_first (end_of ends) b.now)) }
-    ensures rest { result.order ≡ Equal → result.rest.now ≡ from_first (end_of ends) a.now }
+        ≡ none_last_cmp split_cmp (suffix_of (before_first (delimits delimiters) a.now))
+        (suffix_of (before_first (delimits delimiters) b.now)) }
+    ensures rest { result.order ≡ Equal → result.rest.now ≡ from_first (delimits delimiters) a.now }
     ensures other_rest { result.order ≡ Equal
-        → result.other_rest.now ≡ from_first (end_of ends) b.now }
+        → result.other_rest.now ≡ from_first (delimits delimiters) b.now }
 {
-    match (Run::Part(ends).begins(a), Run::Part(ends).begins(b)) {
-        (true, true) => compare_words(ends, a, b),
+    match (
+        Run::Part(delimiters).begins(a),
+        Run::Part(delimiters).begins(b),
+    ) {
+        (true, true) => compare_words(delimiters, a, b),
         (true, false) => Compared::new(Ordering::Less, a, b),
         (false, true) => Compared::new(Ordering::Greater, a, b),
         (false, false) => Compared::new(Ordering::Equal, a, b),
@@ -63,32 +66,32 @@ fn compare_suffixes<'a>(ends: Ends, a: &'a [u8], b: &'a [u8]) -> Compared<'a>
 // Compares two texts by their first parts as words: by the bytes before the first digits, then by the numbers there,
 // then by the bytes after these.
 #[inline(never)]
-fn compare_words<'a>(ends: Ends, a: &'a [u8], b: &'a [u8]) -> Compared<'a>
-    ensures order { result.order ≡ split_cmp (split_of (before_first (end_of ends) a.now))
-        (split_of (before_first (end_of ends) b.now)) }
-    ensures rest { result.order ≡ Equal → result.rest.now ≡ from_first (end_of ends) a.now }
+fn compare_words<'a>(delimiters: Delimiters, a: &'a [u8], b: &'a [u8]) -> Compared<'a>
+    ensures order { result.order ≡ split_cmp (split_of (before_first (delimits delimiters) a.now))
+        (split_of (before_first (delimits delimiters) b.now)) }
+    ensures rest { result.order ≡ Equal → result.rest.now ≡ from_first (delimits delimiters) a.now }
     ensures other_rest { result.order ≡ Equal
-        → result.other_rest.now ≡ from_first (end_of ends) b.now }
+        → result.other_rest.now ≡ from_first (delimits delimiters) b.now }
 {
-    let words = compare_runs(a, b, Run::Word(ends));
+    let words = compare_runs(a, b, Run::Word(delimiters));
     if words.order != Ordering::Equal {
         return words;
     }
-    compare_numbered(ends, words.rest, words.other_rest)
+    compare_numbered(delimiters, words.rest, words.other_rest)
 }
 
 // Compares two parts that are empty or begin with digits: no number < a number, numbers by value, then the bytes after
 // them.
 #[inline(always)]
-fn compare_numbered<'a>(ends: Ends, a: &'a [u8], b: &'a [u8]) -> Compared<'a>
-    requires a { begins (in_run (Word ends)) a.now ≡ false }
-    requires b { begins (in_run (Word ends)) b.now ≡ false }
+fn compare_numbered<'a>(delimiters: Delimiters, a: &'a [u8], b: &'a [u8]) -> Compared<'a>
+    requires a { begins (in_run (Word delimiters)) a.now ≡ false }
+    requires b { begins (in_run (Word delimiters)) b.now ≡ false }
     ensures order { result.order
-        ≡ option_cmp numbered_cmp (number_front (before_first (end_of ends) a.now))
-        (number_front (before_first (end_of ends) b.now)) }
-    ensures rest { result.order ≡ Equal → result.rest.now ≡ from_first (end_of ends) a.now }
+        ≡ option_cmp numbered_cmp (number_front (before_first (delimits delimiters) a.now))
+        (number_front (before_first (delimits delimiters) b.now)) }
+    ensures rest { result.order ≡ Equal → result.rest.now ≡ from_first (delimits delimiters) a.now }
     ensures other_rest { result.order ≡ Equal
-        → result.other_rest.now ≡ from_first (end_of ends) b.now }
+        → result.other_rest.now ≡ from_first (delimits delimiters) b.now }
 {
     match (begins_with(a, Class::Digit), begins_with(b, Class::Digit)) {
         (true, true) => {
@@ -96,7 +99,7 @@ fn compare_numbered<'a>(ends: Ends, a: &'a [u8], b: &'a [u8]) -> Compared<'a>
             if numbers.order != Ordering::Equal {
                 return numbers;
             }
-            compare_texts(ends, numbers.rest, numbers.other_rest)
+            compare_texts(delimiters, numbers.rest, numbers.other_rest)
         }
         (true, false) => Compared::new(Ordering::Greater, a, b),
         (false, true) => Compared::new(Ordering::Less, a, b),
@@ -106,12 +109,12 @@ fn compare_numbered<'a>(ends: Ends, a: &'a [u8], b: &'a [u8]) -> Compared<'a>
 
 // Compares two texts by the bytes before their first ends.
 #[inline(always)]
-pub(crate) fn compare_texts<'a>(ends: Ends, a: &'a [u8], b: &'a [u8]) -> Compared<'a>
+pub(crate) fn compare_texts<'a>(delimiters: Delimiters, a: &'a [u8], b: &'a [u8]) -> Compared<'a>
     ensures order { result.order
-        ≡ bytes_cmp (before_first (end_of ends) a.now) (before_first (end_of ends) b.now) }
-    ensures rest { result.order ≡ Equal → result.rest.now ≡ from_first (end_of ends) a.now }
+        ≡ bytes_cmp (before_first (delimits delimiters) a.now) (before_first (delimits delimiters) b.now) }
+    ensures rest { result.order ≡ Equal → result.rest.now ≡ from_first (delimits delimiters) a.now }
     ensures other_rest { result.order ≡ Equal
-        → result.other_rest.now ≡ from_first (end_of ends) b.now }
+        → result.other_rest.now ≡ from_first (delimits delimiters) b.now }
 {
-    compare_runs(a, b, Run::Part(ends))
+    compare_runs(a, b, Run::Part(delimiters))
 }

@@ -10,13 +10,13 @@ ghost use Rattle.version_rules.specs.order.ReleaseOrder.{chunk_cmp, release_cmp}
 ghost use Rattle.version_texts.specs.order.Piece.{behind_piece, first_piece};
 ghost use Rattle.version_texts.specs.key.TextKey.{chunk_of, chunks_of};
 
+use crate::order::delimiters::Delimiters;
 use crate::order::digits::compare_numbers;
-use crate::order::ends::Ends;
 use crate::order::part::compare_texts;
 use crate::order::piece::{behind_first, piece_is_empty};
 use crate::order::run::Compared;
-use crate::scan::class::{Class, split_run};
 use std::cmp::Ordering;
+use version_rules::{Class, split_run};
 
 // Compares two releases chunk by chunk. A prefix comes before the longer release.
 #[inline(never)]
@@ -61,7 +61,7 @@ fn compare_first_chunks<'a>(a: &'a [u8], b: &'a [u8]) -> Compared<'a>
             (true, true) => numbers,
             (true, false) => Compared::new(Ordering::Less, a, b),
             (false, true) => Compared::new(Ordering::Greater, a, b),
-            (false, false) => compare_texts(Ends::Dots, a, b),
+            (false, false) => compare_texts(Delimiters::Dots, a, b),
         },
     }
 }
@@ -76,7 +76,7 @@ fn compare_greater(a: &[u8], b: &[u8]) -> Ordering
     if chunk_is_number(b) {
         return Ordering::Greater;
     }
-    let texts = compare_texts(Ends::Dots, a, b).order;
+    let texts = compare_texts(Delimiters::Dots, a, b).order;
     if texts == Ordering::Less || !chunk_is_number(a) {
         return texts;
     }

@@ -6,7 +6,7 @@ ghost use Rattle.std.specs.declared.cmp.Ordering.TheVariants.{Equal};
 ghost use Rattle.version_rules.specs.order.Lists.{bytes_cmp};
 ghost use Rattle.version_texts.specs.order.Piece.{in_run};
 
-use crate::order::ends::Run;
+use crate::order::delimiters::Run;
 use std::cmp::Ordering;
 
 /// How two texts compare by what they begin with, and what follows that if it is equal.

@@ -7,9 +7,9 @@ ghost use Rattle.version_texts.specs.scan.Shape.{body_start};
 ghost use Rattle.version_texts.specs.order.Ties.{bodies_tie, byte_place, general_tie, is_lettered, is_numbered, last_tie, messy_tie};
 
 use crate::order::piece::after_mark;
-use crate::scan::class::{COLON, Class, begins_with, rank_at, run_end, split_run};
 use crate::scan::numeral::spells_numeral;
 use std::cmp::Ordering;
+use version_rules::{COLON, Class, begins_with, rank_at, run_end, split_run};
 
 // Compares two general versions: no epoch first, then their parts, then what follows these. Reads the texts up to the
 // part in which they differ.

@@ -18,7 +18,7 @@ use version_rules::{Kind, Kinds};
 
 /// Where a member of a list lies.
 #[derive(Clone, Copy, Debug, PartialEq, Eq)]
-pub struct Place {
+pub struct Span {
     /// Where it begins in the list.
     pub start: usize,
     /// Where it ends.
@@ -29,9 +29,9 @@ pub struct Place {
 #[derive(Clone, Copy, Debug, PartialEq, Eq)]
 pub struct Conflict {
     /// Of two members whose ends exclude each other the one with the greatest low end.
-    pub one: Place,
+    pub one: Span,
     /// The one with the least high end.
-    pub other: Place,
+    pub other: Span,
 }
 
 /// Returns two members of a list that exclude each other: what their ranges have in common is empty, so the list
@@ -117,7 +117,7 @@ impl ListTest for HasKind {
 }
 
 // Returns where the first member that fails lies, and its range.
-fn failing<'a, T: ListTest>(list: &'a [u8], test: &T) -> Option<(Place, RangeRef<'a>)>
+fn failing<'a, T: ListTest>(list: &'a [u8], test: &T) -> Option<(Span, RangeRef<'a>)>
     requires { NotEach (T.passes test.now) (requirements_of list.now) }
     ensures { IsSomeAnd result (λ found.
         IsFailing (T.passes test.now) list.now found.0 (plain_range_ref found.1)) }
@@ -125,7 +125,7 @@ fn failing<'a, T: ListTest>(list: &'a [u8], test: &T) -> Option<(Place, RangeRef
     let (start, member) = first_failing(list, test);
     let end = start + member.len();
     let range = RangeRef::of(RequirementRef::from_bytes(member)?);
-    Some((Place { start, end }, range))
+    Some((Span { start, end }, range))
 }
 
 // Returns the member with the greatest low end and the one with the least high end, or one twice that has no version in

@@ -12,16 +12,15 @@ ghost use Rattle.version_texts.specs.scan.Shape.{Fits};
 ghost use Rattle.version_texts.specs.key.TextKey.{parts_of, text_key};
 
 use crate::key::body_at;
-use crate::key::sinks::compare_end;
-use crate::order::ends::Ends;
+use crate::key::whole::compare_end;
+use crate::order::delimiters::Delimiters;
 use crate::order::part::compare_parts_to;
 use crate::order::piece::behind_first;
 use crate::order::{compare, compare_epochs};
 use crate::requirement::range::kept_parts;
-use crate::scan::class::{Class, begins_with};
 use crate::scan::shape::Shape;
 use std::cmp::Ordering;
-use version_rules::{End, Kept};
+use version_rules::{Class, End, Kept, begins_with};
 
 /// Compares two ends of ranges by the texts and the shapes of their versions.
 pub fn compare_ends(
@@ -121,7 +120,7 @@ fn compare_fronts(x: Option<&[u8]>, x_mark: u8, y: Option<&[u8]>, y_mark: u8) ->
         let Some(second) = b else {
             return part_mark(first).cmp(&y_mark);
         };
-        let firsts = compare_parts_to(Ends::Dots, first, second);
+        let firsts = compare_parts_to(Delimiters::Dots, first, second);
         if firsts.order != Ordering::Equal {
             return firsts.order;
         }

@@ -1,16 +1,21 @@
 //! The members of a list of requirements that its range leaves open.
 
-ghost use Rattle.std.specs.Prelude.{◌≡◌, ◌∷◌, [], IfNone, IfSome, length};
-ghost use Rattle.std.specs.List.{join_with_byte};
-ghost use Rattle.version_rules.specs.requirement.Requirements.{comma};
+ghost use Rattle.std.specs.Prelude.{◌≡◌, ◌↔◌, ◌∷◌, [], IfNone, IfSome, IsTrue, length};
+ghost use Rattle.std.specs.List.{join_with_byte, All};
+ghost use Rattle.std.specs.Option.{IsSomeAnd};
+ghost use Rattle.version_rules.specs.requirement.Matching.{MatchesAll};
+ghost use Rattle.version_rules.specs.requirement.Range.{requirement_range, IsIn};
+ghost use Rattle.version_rules.specs.requirement.Requirements.{comma, requirements_of};
 ghost use Rattle.version_texts.specs.requirement.Inexact.{inexact_part, inexact_pieces, is_inexact};
 ghost use Rattle.version_texts.specs.requirement.Members.{cut_at_commas, pieces_of};
 ghost use Rattle.version_texts.specs.key.Sinks.{saturated, IsWritten};
+ghost use Rattle.version_texts.specs.versioning_ref.VersioningRef.{plain_versioning_ref};
 
 use crate::key::sink::{Sink, put_all};
 use crate::key::sinks::{Count, Room};
 use crate::requirement::members::Members;
 use crate::requirement::requirement_ref::RequirementRef;
+use crate::versioning_ref::VersioningRef;
 
 /// Writes the members of a list that need not match each version in their range, joined by commas, into a buffer, if
 /// they fit there. Returns how many bytes they are. For a version in the range of the list these members decide. Does
@@ -66,4 +71,24 @@ fn is_inexact(piece: &[u8]) -> bool
         Some(member) => !member.is_exact(),
         None => false,
     }
+}
+
+// Returns whether each member of a text matches a version that is in the range of each: members that every version in
+// their range matches are not asked.
+pub(crate) fn inexact_match(text: &[u8], version: &VersioningRef<'_>) -> bool
+    requires { IfSome (requirements_of text.now)
+        (All (λ r. IsIn (requirement_range r) (plain_versioning_ref version.now))) }
+    ensures { IsTrue result ↔ IsSomeAnd (requirements_of text.now)
+        (λ list. MatchesAll list (plain_versioning_ref version.now)) }
+{
+    let mut members = Members::of(text);
+    while let Some(member) = members.next() {
+        let Some(member) = RequirementRef::from_bytes(member) else {
+            return false;
+        };
+        if !member.is_exact() && !member.matches(version) {
+            return false;
+        }
+    }
+    true
 }

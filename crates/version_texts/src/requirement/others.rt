@@ -1,17 +1,15 @@
 //! Members of a list of requirements, by the range that they ask for together.
 
-ghost use Rattle.std.specs.Prelude.{◌≡◌, ◌↔◌, IfSome, IsTrue, Some};
-ghost use Rattle.std.specs.List.{All};
-ghost use Rattle.std.specs.Option.{is_some, option_map, IsSomeAnd};
+ghost use Rattle.std.specs.Prelude.{◌≡◌, ◌↔◌, IsTrue, Some};
+ghost use Rattle.std.specs.Option.{option_map};
 ghost use Rattle.version_rules.specs.requirement.Matching.{MatchesAll};
-ghost use Rattle.version_rules.specs.requirement.Range.{range_of, requirement_range, IsIn};
+ghost use Rattle.version_rules.specs.requirement.Range.{range_of};
 ghost use Rattle.version_rules.specs.requirement.Requirements.{requirements_of};
 ghost use Rattle.version_texts.specs.requirement.RangeRef.{plain_range_ref};
 ghost use Rattle.version_texts.specs.versioning_ref.VersioningRef.{plain_versioning_ref};
 
-use crate::requirement::members::Members;
+use crate::requirement::inexact::inexact_match;
 use crate::requirement::range_ref::RangeRef;
-use crate::requirement::requirement_ref::RequirementRef;
 use crate::versioning_ref::VersioningRef;
 
 /// Members of a list: their text, and the range that they ask for together.
@@ -44,23 +42,4 @@ impl<'a> Others<'a> {
     {
         self.range.has(version) && (self.range.is_exact || inexact_match(self.text, version))
     }
-}
-
-// Returns whether each member of a text matches a version that is in the range of each.
-fn inexact_match(text: &[u8], version: &VersioningRef<'_>) -> bool
-    requires { IfSome (requirements_of text.now)
-        (All (λ r. IsIn (requirement_range r) (plain_versioning_ref version.now))) }
-    ensures { IsTrue result ↔ IsSomeAnd (requirements_of text.now)
-        (λ list. MatchesAll list (plain_versioning_ref version.now)) }
-{
-    let mut members = Members::of(text);
-    while let Some(member) = members.next() {
-        let Some(member) = RequirementRef::from_bytes(member) else {
-            return false;
-        };
-        if !member.is_exact() && !member.matches(version) {
-            return false;
-        }
-    }
-    true
 }

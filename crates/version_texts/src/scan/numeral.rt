@@ -7,7 +7,7 @@ ghost use Rattle.version_rules.specs.grammar.MChunk.{value_of_digits};
 ghost use Rattle.version_texts.specs.versioning_ref.Numbers.{numeral_value};
 ghost use Rattle.version_texts.specs.scan.TextKind.{is_numeral};
 
-use crate::scan::class::{Class, begins_with, split_run};
+use version_rules::{Class, begins_with, split_run};
 
 /// Returns whether digits are a numeral.
 #[inline(always)]

@@ -9,10 +9,9 @@ ghost use Rattle.version_texts.specs.versioning_ref.VersioningRef.{version_in};
 
 use crate::key::body_at;
 use crate::order::piece::{after_mark, behind_first, split_piece};
-use crate::scan::class::{Class, split_run};
 use crate::scan::numeral::{numeral_value, small_number};
 use crate::scan::shape::Shape;
-use version_rules::Kind;
+use version_rules::{Class, Kind, split_run};
 
 /// The largest epoch that is given as a number where numbers have a sign, as in SQL: a larger one is given as this.
 pub const LARGEST_EPOCH: u64 = 0x7FFF_FFFF_FFFF_FFFF;

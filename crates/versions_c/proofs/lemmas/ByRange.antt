@@ -1,6 +1,7 @@
 -- The answer about a version by a range and the members that it leaves open, and by the list that
 -- these tell.
-use Rattle.std.proofs.Common.{◌≡◌, ◌∙◌, ◌⊎◌, ◌↔◌, inl, inr, ℕ, Bool, true, false, List, [], ◌∷◌, Option, Some, None, IsSomeAnd, IsTrue, is_some, if◌then◌else◌, ap, refl, sym}
+use Rattle.std.proofs.Common.{◌≡◌, ◌∙◌, ◌⊎◌, ◌↔◌, inl, inr, ℕ, Bool, true, false, List, [], ◌∷◌, Option, Some, None, IsSomeAnd, IsTrue, is_some, ap, refl, sym}
+use mir.Val.{bool_byte}
 use Rattle.version_rules.proofs.lemmas.Inexact.{inexact_decide, inexact_none, inexact_parse, nothing_parses}
 use Rattle.version_rules.proofs.lemmas.Range.{list_in}
 use Rattle.version_rules.specs.grammar.Versioning.{PlainVersioning}
@@ -22,7 +23,7 @@ bit_same (inr not_p) (inl q) e = absurd (not_p (e.1 q))
 bit_same (inr not_p) (inr not_q) e = refl
 
 bit_told : {P : Type 0} (p : P ⊎ ¬ P) (all : Bool) → IsTrue all ↔ P
-    → (if all then 1 else 0) ≡ bit p
+    → bool_byte all ≡ bit p
 bit_told (inl p) true e = refl
 bit_told (inl p) false e = cc (e.1 p)
 bit_told (inr not_p) true e = absurd (not_p (e.0 refl))
@@ -45,12 +46,12 @@ pub by_members : (range : PlainRange) (text : List ℕ) (v : PlainVersioning) (n
     → n ≡ in_range_code range (Some v) → ¬ (n ≡ 0) → (all : Bool)
     → true ≡ is_some (requirements_of text)
     → IsTrue all ↔ IsSomeAnd (requirements_of text) (λ few. MatchesAll few v)
-    → Some (if all then 1 else 0) ≡ by_range range text v
+    → Some (bool_byte all) ≡ by_range range text v
 by_members range text v n is inside all parse told = by (requirements_of text) refl parse told
   where
     by : (o : Option (List PlainRequirement)) → requirements_of text ≡ o → true ≡ is_some o
         → IsTrue all ↔ IsSomeAnd o (λ few. MatchesAll few v)
-        → Some (if all then 1 else 0) ≡ by_range range text v
+        → Some (bool_byte all) ≡ by_range range text v
     by None e parse told = cc parse
     by (Some few) e parse told = ap Some (bit_told (matches_all_or_not few v) all told)
         ∙ sym (asked (is_in_or_not range v) few v (λ none. inside (is ∙ none)))

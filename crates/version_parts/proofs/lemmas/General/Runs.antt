@@ -10,10 +10,10 @@ use Rattle.std.specs.List.{prefix_len}
 use Rattle.std.specs.Str.{IsAscii, IsCharBoundary, IsUtf8}
 use Rattle.std.specs.Char.{is_ascii_alphabetic, is_ascii_alphanumeric, is_ascii_digit}
 use Rattle.version_rules.specs.grammar.Bytes.{is_identifier_byte}
-use Rattle.version_parts.specs.Class.{contains}
+use Rattle.version_rules.specs.grammar.Class.{IsAsciiClass, contains}
 use Rattle.version_rules.specs.grammar.Sep.{PlainSep, sep_of}
-use Rattle.version_parts.specs.declared.scan.Class.{Class}
-use Rattle.version_parts.specs.declared.scan.Class.TheVariants.{Digit, Letter, Alphanumeric, Identifier, Metadata}
+use Rattle.version_rules.specs.declared.class.Class.{Class}
+use Rattle.version_rules.specs.declared.class.Class.TheVariants.{Digit, Letter, Alphanumeric, Identifier, Metadata, Mark, NotDot, NotSign}
 use Rattle.version_rules.proofs.lemmas.Bytes.{metadata_ascii}
 
 pub digit_ascii : (b : ℕ) → is_ascii_digit b ≡ true → b < 128
@@ -28,35 +28,39 @@ letter_ascii b h = grind (arith, nat_tests)
 pub identifier_ascii : (b : ℕ) → is_identifier_byte b ≡ true → b < 128
 identifier_ascii b h = grind (arith, nat_tests)
 
--- a class has bytes of ASCII alone
-pub contains_ascii : (class : Class) (b : ℕ) → contains class b ≡ true → b < 128
-contains_ascii Digit b h = digit_ascii b h
-contains_ascii Letter b h = letter_ascii b h
-contains_ascii Alphanumeric b h = alphanumeric_ascii b h
-contains_ascii Identifier b h = identifier_ascii b h
-contains_ascii Metadata b h = metadata_ascii b h
+-- a class of ASCII has no other bytes
+pub contains_ascii : (class : Class) → IsAsciiClass class
+    → (b : ℕ) → contains class b ≡ true → b < 128
+contains_ascii Digit ascii b h = digit_ascii b h
+contains_ascii Letter ascii b h = letter_ascii b h
+contains_ascii Alphanumeric ascii b h = alphanumeric_ascii b h
+contains_ascii Identifier ascii b h = identifier_ascii b h
+contains_ascii Metadata ascii b h = metadata_ascii b h
+contains_ascii Mark ascii b h = grind (arith, nat_tests)
+contains_ascii NotDot ascii b h = cc ascii
+contains_ascii NotSign ascii b h = cc ascii
 
 -- a run of a class is ASCII
-pub run_ascii : (class : Class) (text : List ℕ)
+pub run_ascii : (class : Class) → IsAsciiClass class → (text : List ℕ)
     → IsAscii (take (prefix_len (contains class) text) text)
-run_ascii class text i =
+run_ascii class ascii text i =
     let n = prefix_len (contains class) text in
     let fits : n ≤ length text = prefix_len-le-length (contains class) text in
     elim (cases_lt i n) [
       | inl inside ↦
           rw get_or-take
-          (contains_ascii class _ (prefix_len_passes (contains class) text i 0 inside))
+          (contains_ascii class ascii _ (prefix_len_passes (contains class) text i 0 inside))
       | inr past ↦
           let long : length (take n text) ≤ i = rw (length-take-le n text fits) past in
           rw (get_or_past (take n text) i 0 long) (omega arith)
     ]
 
 -- a text may be cut after a run
-pub run_boundary : (class : Class) (text : List ℕ) → IsUtf8 text
+pub run_boundary : (class : Class) → IsAsciiClass class → (text : List ℕ) → IsUtf8 text
     → IsCharBoundary text (prefix_len (contains class) text)
-run_boundary class text utf8 =
+run_boundary class ascii text utf8 =
     let fits = prefix_len-le-length (contains class) text in
-    IsCharBoundary-from_take text _ utf8 fits (IsUtf8-from_ascii _ (run_ascii class text))
+    IsCharBoundary-from_take text _ utf8 fits (IsUtf8-from_ascii _ (run_ascii class ascii text))
 
 -- a sign is ASCII
 pub sep_ascii : (b : ℕ) (sign : PlainSep) → sep_of b ≡ Some sign → b < 128

@@ -7,4 +7,4 @@ pub returns-in-Some : goal.returns-in-Some
 returns-in-Some c =
     ap (take (c.in-Some.start - 1)) c.bytes-text.ensures.printed
     ∙ before_metadata (plain_versioning_ref c.args.version.now) c.in-Some.start
-    c.in-Some.field-0-1 (sym c.place.ensures ∙ c.in-Some.is)
+    c.in-Some.field-0-1 (sym c.span.ensures ∙ c.in-Some.is)

@@ -1,9 +1,9 @@
 use Rattle.std.proofs.Common.{◌≡◌, ◌∙◌, Bor, List, ℕ, Option, Some, None, false, true, refl, sym, ap}
 use Rattle.std.specs.Option.{is_some, option_map}
 use Rattle.version_rules.specs.grammar.Front.{◌>>=◌}
-use Rattle.version_tasks.specs.AfterSign.{after_sign}
+use Rattle.version_tasks.specs.AfterSeparator.{after_separator}
 use Rattle.version_tasks.specs.Tag.{text_at_beginning, text_in_tag}
-use Rattle.version_tasks.proofs.lemmas.Tag.{after_sign_shorter, begun, missed}
+use Rattle.version_tasks.proofs.lemmas.Tag.{after_separator_shorter, begun, missed}
 use Rattle.version_tasks.proofs.tag.text_in_tag.Goals as goal
 
 -- the bytes of a slice, if there is one
@@ -22,9 +22,9 @@ returns-then-is_some c =
     ∙ c.if-is_some.true in
     c.text_at_beginning-text.ensures ∙ sym (begun c.words.left.now some) ∙ c.words.invariant
 
--- what follows the next sign decides
+-- what follows the next separator decides
 next : (left : List ℕ) (text : Option (Bor (List ℕ))) → bytes_of text ≡ text_at_beginning left
-    → is_some text ≡ false → (after : Option (List ℕ)) → after ≡ after_sign left
+    → is_some text ≡ false → (after : Option (List ℕ)) → after ≡ after_separator left
     → (after >>= text_in_tag) ≡ text_in_tag left
 next left text at_beginning none after is =
     ap (λ o. o >>= text_in_tag) is
@@ -39,7 +39,7 @@ returns-in_err-left c =
 
 pub words-smaller : goal.words-smaller
 words-smaller c =
-    after_sign_shorter c.words.left.now c.in_ok-left.left.now (sym c.in_ok-left.ensures)
+    after_separator_shorter c.words.left.now c.in_ok-left.left.now (sym c.in_ok-left.ensures)
 
 pub words-preserved : goal.words-preserved
 words-preserved c =

@@ -1,6 +1,6 @@
 use Rattle.std.proofs.Common.{◌∙◌, ◌∷◌, [], ℕ, List, ap, drop, refl, sym}
 use Rattle.std.specs.List.{prefix_len, take_while}
-use Rattle.version_texts.specs.scan.Class.{contains}
+use Rattle.version_rules.specs.grammar.Class.{contains}
 use Rattle.version_texts.proofs.lemmas.scan.General.Runs.{run_cons}
 use Rattle.version_texts.proofs.lemmas.key.TextKey.Taking.{next_fits, owes_all, owes_rest, owes_same}
 use Rattle.version_texts.proofs.key.put_run.Goals as goal

@@ -1,6 +1,6 @@
 use Rattle.std.proofs.Common.{◌≡◌, drop, length}
 use Rattle.std.specs.List.{prefix_len, take_while}
-use Rattle.version_texts.specs.scan.Class.{contains}
+use Rattle.version_rules.specs.grammar.Class.{contains}
 use Rattle.version_texts.proofs.lemmas.key.TextKey.Taking.{Owes}
 use Rattle.version_texts.proofs.key.put_run.Given as goal
 

@@ -1,6 +1,6 @@
 -- The first piece of a text: its digits, and how the other pieces follow.
 pub mod Chunks
-pub mod Ends
+pub mod Delimiters
 pub mod Kept
 pub mod Order
 pub mod Spelled

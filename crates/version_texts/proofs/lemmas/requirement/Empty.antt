@@ -21,7 +21,7 @@ use Rattle.version_texts.proofs.lemmas.requirement.FirstFailing.{first_and_other
 use Rattle.version_texts.proofs.lemmas.requirement.RangeRef.{narrowed}
 use Rattle.version_texts.specs.requirement.Conflict.{ExcludeEachOther, IsAt, IsByEnds}
 use Rattle.version_texts.specs.declared.requirement.conflict.Conflict.{Conflict}
-use Rattle.version_texts.specs.declared.requirement.conflict.Place.{Place}
+use Rattle.version_texts.specs.declared.requirement.conflict.Span.{Span}
 use Rattle.version_texts.specs.requirement.Empty.{IsCrossed, IsEmpty}
 use Rattle.version_texts.specs.requirement.MemberPlace.{NotEach}
 use Rattle.version_texts.specs.requirement.Members.{cut_at_commas, list_of}
@@ -346,10 +346,10 @@ of_member Passes (piece ∷ before) member behind r parsed all =
     of_member Passes before member behind r parsed
     (first_and_others Passes (requirement_of piece) (list_of (before ++ member ∷ behind)) all).1
 
-matches_at : (text : List ℕ) (place : Place) (r : PlainRequirement) (v : PlainVersioning)
-    (list : List PlainRequirement) → IsAt text place r → requirements_of text ≡ Some list
+matches_at : (text : List ℕ) (span : Span) (r : PlainRequirement) (v : PlainVersioning)
+    (list : List PlainRequirement) → IsAt text span r → requirements_of text ≡ Some list
     → MatchesAll list v → IsIn (requirement_range r) v
-matches_at text place r v list at parsed all =
+matches_at text span r v list at parsed all =
     let asked : IsSomeAnd (requirements_of text) (All (λ q. Matches q v)) = rw parsed all in
     requirement_in r v
     (of_member (λ q. Matches q v) at.is.before at.member at.is.behind r at.is.parsed

@@ -4,7 +4,7 @@ use Rattle.std.proofs.lemmas.Bool.{eq-eqb, eqb-true, ne_eqb}
 use Rattle.std.proofs.lemmas.Bool.Decides.{nat_tests}
 use Rattle.version_rules.specs.grammar.Bytes.{colon, dot, hyphen, plus}
 use Rattle.version_rules.specs.grammar.Front.{begins}
-use Rattle.version_texts.specs.scan.Class.{byte_rank, first_rank}
+use Rattle.version_rules.specs.grammar.Class.{byte_rank, first_rank}
 use Rattle.version_texts.proofs.lemmas.scan.TextKind.Messy.{at_byte}
 use Rattle.version_texts.proofs.lemmas.scan.Shape.Section.{begins_within}
 

@@ -28,7 +28,7 @@ use Rattle.version_rules.proofs.lemmas.Conversions.{version_of_semver_printed, s
 use Rattle.version_rules.proofs.lemmas.Version.{version_printed}
 use Rattle.version_texts.specs.declared.scan.shape.Shape.{Shape}
 use Rattle.version_texts.specs.declared.scan.shape.TailKind.{TailKind}
-use Rattle.version_texts.specs.versioning_ref.Field.{bare_semver, bare_version, body_alone, field_place, numbers_alone, place_behind}
+use Rattle.version_texts.specs.versioning_ref.Field.{bare_semver, bare_version, body_alone, field_span, numbers_alone, span_behind}
 use Rattle.version_texts.specs.scan.Shape.{behind_body, body_end, body_start, shape_at, shape_of}
 use Rattle.version_texts.specs.scan.TextKind.{is_not_plus}
 use Rattle.version_texts.specs.versioning_ref.VersioningRef.{version_in}
@@ -66,7 +66,7 @@ epoch_value text =
 
 module _ (text epoch body rest : List ℕ) (cut : IsCut text epoch body rest) where
   pub counted : (digits : Option (List ℕ)) (n : Option ℕ) → IsCounted epoch digits n
-      → (option_map (place_behind []) digits ≡ epoch_place text) × (n ≡ epoch_value text)
+      → (option_map (span_behind []) digits ≡ epoch_place text) × (n ≡ epoch_value text)
   counted None None s = rw (cut.starts, s) (refl, refl)
   counted None (Some n) s = absurd s
   counted (Some digits) None s = absurd s
@@ -111,7 +111,7 @@ dashed_place text =
 
 placed : (text before : List ℕ) (o : Option (List PlainChunk)) → IsDashed text o
     → length before ≡ body_end text + 1 → dashed_end text ≤ length text
-    → option_map (place_behind before) (option_map release_text o) ≡ dashed_place text
+    → option_map (span_behind before) (option_map release_text o) ≡ dashed_place text
 placed text before None d starts within = rw d.0 refl
 placed text before (Some chunks) d starts within =
     let printed = release_printed _ chunks d.2 in
@@ -128,7 +128,7 @@ metadata_place text =
 metadata_placed : (text before meta : List ℕ) (o : Option (List ℕ))
     → SpellsOptional plus SpellsMetadata meta o → length before ≡ dashed_end text + 1
     → length text ≡ dashed_end text + length meta
-    → option_map (place_behind before) o ≡ metadata_place text
+    → option_map (span_behind before) o ≡ metadata_place text
 unfolding SpellsOptional
 metadata_placed text before meta None s starts whole =
     let none : nat_lt (dashed_end text) (length text) ≡ false =
@@ -210,11 +210,11 @@ module _ (text : List ℕ) (v : PlainVersion) (s : SpellsVersion text v) where
   within : dashed_end text ≤ length text
   within = dashed_within text s.epoch s.body (s.release ++ s.meta) cut
 
-  pub release_placed : option_map (place_behind (version_text (body_alone v) ++ hyphen ∷ []))
+  pub release_placed : option_map (span_behind (version_text (body_alone v) ++ hyphen ∷ []))
       (option_map release_text v.release) ≡ dashed_place text
   release_placed = placed text _ v.release (version_dashed text v s) alone_length within
 
-  pub meta_placed : option_map (place_behind (version_text (bare_version v) ++ plus ∷ [])) v.meta
+  pub meta_placed : option_map (span_behind (version_text (bare_version v) ++ plus ∷ [])) v.meta
       ≡ metadata_place text
   meta_placed =
       grind (arith, metadata_placed, bare_length, length_cut, cut, length-append, tail_length)
@@ -223,14 +223,14 @@ module _ (text : List ℕ) (v : PlainVersion) (s : SpellsVersion text v) where
 
 -- where the fields of a version lie, by the shape of its text
 pub record ArePlaced (text : List ℕ) (s : Shape) (v : PlainVersioning) : Type 0 where
-  pub epoch : field_place field.Epoch v ≡ (if s.body == 0 then None else Some (0, s.body - 1))
+  pub epoch : field_span field.Epoch v ≡ (if s.body == 0 then None else Some (0, s.body - 1))
   pub value : versioning_epoch v
       ≡ (if s.body == 0 then None else Some (digits_value 10 (take (s.body - 1) text)))
-  pub pre_release : field_place field.PreRelease v
+  pub pre_release : field_span field.PreRelease v
       ≡ (if is_prerelease_tail s.tail then Some (s.end + 1, s.tail_end) else None)
-  pub release : field_place field.Release v
+  pub release : field_span field.Release v
       ≡ (if is_release_tail s.tail then Some (s.end + 1, s.tail_end) else None)
-  pub metadata : field_place field.Metadata v
+  pub metadata : field_span field.Metadata v
       ≡ (if nat_lt s.tail_end (length text) then Some (s.tail_end + 1, length text) else None)
 
 -- what stands behind a hyphen, or nothing, has a place by its tail
@@ -314,7 +314,7 @@ placed_by_kind text (General v) s = general_placed text v s.0
 placed_by_kind text (Complex m) s = messy_placed text m s.0
 
 -- the fields lie where the shape says
-pub fields_placed : (text : List ℕ) (s : Shape) → shape_of text ≡ Some s
+pub field_spans : (text : List ℕ) (s : Shape) → shape_of text ≡ Some s
     → ArePlaced text s (version_in text)
-fields_placed text s e =
+field_spans text s e =
     rw (spelled text s e).1 (placed_by_kind text (version_in text) (spells-is text s e))

@@ -3,7 +3,7 @@ use Rattle.std.proofs.lemmas.Grind.{common_steps}
 use Rattle.std.specs.Char.{is_ascii_alphanumeric}
 use Rattle.std.specs.List.{list_all}
 use Rattle.version_rules.specs.grammar.DigitRun.{is_digits}
-use Rattle.version_texts.specs.scan.Class.{first_rank}
+use Rattle.version_rules.specs.grammar.Class.{first_rank}
 use Rattle.version_texts.specs.scan.Shape.{body_start, has_epoch}
 use Rattle.version_texts.specs.scan.TextKind.{is_chunk, is_run, section_end, section_pieces}
 use Rattle.version_texts.proofs.lemmas.scan.Class.{next_colon}

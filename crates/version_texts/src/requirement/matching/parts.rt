@@ -5,7 +5,7 @@ ghost use Rattle.version_rules.specs.key.Key.{strict_body};
 ghost use Rattle.version_rules.specs.requirement.SemVerMatch.{MatchesCaret, Numbers};
 ghost use Rattle.version_texts.specs.order.Parts.{first_part, more_parts};
 
-use crate::order::ends::Ends;
+use crate::order::delimiters::Delimiters;
 use crate::order::list::compare_parts;
 use crate::order::part::compare_parts_to;
 use crate::order::piece::{behind_first, split_piece};
@@ -23,12 +23,14 @@ impl<'a> Parts for TextParts<'a> {
 
     #[inline(always)]
     fn compare_first(self, other: TextParts<'a>) -> Ordering {
-        compare_parts_to(Ends::Dots, self.0, other.0).order
+        compare_parts_to(Delimiters::Dots, self.0, other.0).order
     }
 
     #[inline(always)]
     fn begins_with_zero(self) -> bool {
-        compare_parts_to(Ends::Dots, self.0, b"0").order.is_eq()
+        compare_parts_to(Delimiters::Dots, self.0, b"0")
+            .order
+            .is_eq()
     }
 
     #[inline(always)]

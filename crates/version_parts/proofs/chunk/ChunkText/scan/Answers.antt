@@ -1,6 +1,6 @@
 use Rattle.std.proofs.Common.{◌≡◌, ◌∙◌, ap}
 use Rattle.version_rules.specs.grammar.Chunk.{Numeric}
-use Rattle.version_parts.specs.Class.{contains}
+use Rattle.version_rules.specs.grammar.Class.{contains}
 use Rattle.version_rules.specs.grammar.Front.{map_value}
 use Rattle.version_parts.proofs.lemmas.General.Runs.{run_boundary}
 use Rattle.version_parts.proofs.lemmas.Chunk.ShortRuns.{behind_more, more_by_rests, no_more_by_rests, numeral_scanned, run_by_rests, run_scanned}
@@ -10,8 +10,8 @@ pub split_at-requires : goal.split_at-requires
 split_at-requires c =
     let rest : c.split_run-2.result.1.now ≡ behind_more (contains c.args.class) c.args.i.now =
     rw (← c.split_run.ensures.rest) c.split_run-2.ensures.rest in
-    rw (rest, (run_by_rests (contains c.args.class) c.requires c.args.i.now).0)
-    (run_boundary c.args.class c.args.i.now c.utf8.i)
+    rw (rest, (run_by_rests (contains c.args.class) c.requires.digits c.args.i.now).0)
+    (run_boundary c.args.class c.requires.ascii c.args.i.now c.utf8.i)
 
 pub returns-then-rest-behind-clause-chunk : goal.returns-then-rest-behind-clause-chunk
 returns-then-rest-behind-clause-chunk c =
@@ -23,9 +23,9 @@ returns-then-rest-behind-clause-chunk c =
       c.split_at.ensures.front,
       c.split_at.ensures.back,
       rest,
-      (run_by_rests (contains c.args.class) c.requires c.args.i.now).0,
+      (run_by_rests (contains c.args.class) c.requires.digits c.args.i.now).0,
     )
-    (run_scanned _ c.requires _ more)
+    (run_scanned _ c.requires.digits _ more)
 
 pub returns-in-Some-clause-chunk : goal.returns-in-Some-clause-chunk
 returns-in-Some-clause-chunk c =
@@ -33,7 +33,7 @@ returns-in-Some-clause-chunk c =
     rw (← c.split_run.ensures.rest) c.split_run-2.ensures.rest in
     let ends = no_more_by_rests (contains c.args.class) c.args.i.now
     (rw (rest, c.split_run.ensures.rest) at c.if-rest-behind.false) in
-    ap (map_value Numeric) c.in-Some.ensures.read ∙ numeral_scanned _ c.requires _ ends
+    ap (map_value Numeric) c.in-Some.ensures.read ∙ numeral_scanned _ c.requires.digits _ ends
 
 pub returns-in-None-clause-chunk : goal.returns-in-None-clause-chunk
 returns-in-None-clause-chunk c =
@@ -41,4 +41,4 @@ returns-in-None-clause-chunk c =
     rw (← c.split_run.ensures.rest) c.split_run-2.ensures.rest in
     let ends = no_more_by_rests (contains c.args.class) c.args.i.now
     (rw (rest, c.split_run.ensures.rest) at c.if-rest-behind.false) in
-    ap (map_value Numeric) c.in-None.ensures.read ∙ numeral_scanned _ c.requires _ ends
+    ap (map_value Numeric) c.in-None.ensures.read ∙ numeral_scanned _ c.requires.digits _ ends

@@ -15,7 +15,7 @@ use Rattle.version_rules.proofs.lemmas.MChunk.{mchunk_printed}
 use Rattle.version_rules.proofs.lemmas.Front.Runs.{all_weaker}
 use Rattle.version_rules.specs.key.Key.{section_epoch}
 use Rattle.version_rules.specs.grammar.Mess.{Further, Section, SpellsFurther, SpellsSection}
-use Rattle.version_texts.specs.scan.Class.{is_mark}
+use Rattle.version_rules.specs.grammar.Class.{is_mark}
 use Rattle.version_texts.specs.declared.scan.shape.TailKind.TheVariants.{Sections}
 use Rattle.version_texts.specs.scan.Shape.{is_section_byte, is_tail_byte}
 use Rattle.version_texts.specs.key.TextKey.{parts_of, sections_of}

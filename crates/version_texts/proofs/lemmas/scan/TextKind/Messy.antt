@@ -7,7 +7,7 @@ use Rattle.std.proofs.Math.Seq.{drop-cons}
 use Rattle.std.specs.Char.{is_ascii_alphanumeric}
 use Rattle.std.specs.List.{take_while, list_all, prefix_len}
 use Rattle.version_rules.specs.grammar.Bytes.{is_metadata_byte}
-use Rattle.version_texts.specs.scan.Class.{is_mark}
+use Rattle.version_rules.specs.grammar.Class.{is_mark}
 use Rattle.version_texts.specs.scan.TextKind.{are_marked_runs, is_messy, is_metadata_tail, is_run}
 use Rattle.version_texts.proofs.lemmas.scan.General.Runs.{and-false, behind_run, split_end, split_mark, split_other}
 use Rattle.std.proofs.lemmas.List.Sums.{prefix_len-le-length}

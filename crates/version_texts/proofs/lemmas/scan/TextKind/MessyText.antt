@@ -16,7 +16,7 @@ use Rattle.version_rules.proofs.lemmas.MChunk.{byte_of_sep, mchunk_sound, spelle
 use Rattle.version_rules.proofs.lemmas.Front.Runs.{run_front-reads}
 use Rattle.version_rules.specs.grammar.Mess.{Further, PlainMess, mess_of, Section, SpellsFurther, SpellsMess, SpellsSection}
 use Rattle.version_rules.proofs.lemmas.Mess.{mess_of-Some, mess_of-spells}
-use Rattle.version_texts.specs.scan.Class.{is_mark}
+use Rattle.version_rules.specs.grammar.Class.{is_mark}
 use Rattle.version_texts.specs.scan.TextKind.{is_messy, is_run}
 use Rattle.version_texts.proofs.lemmas.scan.TextKind.Chunks.{run_from, run_some, told_by_test}
 use Rattle.version_texts.proofs.lemmas.scan.TextKind.Messy.{no_mark_in_run}

@@ -4,7 +4,7 @@ use Rattle.std.specs.Ordering.{ordering_then}
 use Rattle.std.specs.declared.cmp.Ordering.TheVariants.{Less, Equal, Greater}
 use Rattle.version_rules.specs.key.PartKey.{list_cmp}
 use Rattle.version_rules.specs.key.Tail.{sections_cmp}
-use Rattle.version_texts.specs.declared.order.ends.Ends.TheVariants.{Dots}
+use Rattle.version_texts.specs.declared.order.delimiters.Delimiters.TheVariants.{Dots}
 use Rattle.version_texts.specs.key.TextKey.{lists_of, parts_of}
 use Rattle.version_texts.proofs.order.list.compare_in_turn.Goals as goal
 

@@ -8,12 +8,12 @@ use Rattle.version_texts.proofs.order.list.compare_lists.Goals as goal
 pub returns-then-ne : goal.returns-then-ne
 returns-then-ne c =
     decides c.compare_parts_to-parts.result.order _ _ _ c.compare_parts_to-parts.ensures.order
-    (compared c.args.ends c.parts.a.now c.parts.b.now) (sym c.if-ne.true ∙ c.ne.ensures)
+    (compared c.args.delimiters c.parts.a.now c.parts.b.now) (sym c.if-ne.true ∙ c.ne.ensures)
     ∙ c.parts.invariant
 
 pub parts-preserved-in-Some-Some : goal.parts-preserved-in-Some-Some
 parts-preserved-in-Some-Some c =
-    let ends = c.args.ends in
+    let ends = c.args.delimiters in
     let left = first_equal ends c.parts.a.now c.parts.b.now _ _ _ _
     c.compare_parts_to-parts.ensures (sym c.if-ne.false ∙ c.ne.ensures) c.parts.invariant in
     sym (parts_follow ends c.in-Some-Some.more.now c.in-Some-Some.others.now)
@@ -21,7 +21,7 @@ parts-preserved-in-Some-Some c =
 
 pub returns-in-Some-None : goal.returns-in-Some-None
 returns-in-Some-None c =
-    let ends = c.args.ends in
+    let ends = c.args.delimiters in
     let left = first_equal ends c.parts.a.now c.parts.b.now _ _ _ _
     c.compare_parts_to-parts.ensures (sym c.if-ne.false ∙ c.ne.ensures) c.parts.invariant in
     let above = part_and_end ends c.in-Some-None.more.now _ left.2 c.in-Some-None.ensures' in
@@ -31,7 +31,7 @@ returns-in-Some-None c =
 
 pub returns-in-None-Some : goal.returns-in-None-Some
 returns-in-None-Some c =
-    let ends = c.args.ends in
+    let ends = c.args.delimiters in
     let left = first_equal ends c.parts.a.now c.parts.b.now _ _ _ _
     c.compare_parts_to-parts.ensures (sym c.if-ne.false ∙ c.ne.ensures) c.parts.invariant in
     let below = part_and_end ends c.in-None-Some.others.now _ left.1 c.in-None-Some.ensures in
@@ -40,7 +40,7 @@ returns-in-None-Some c =
 
 pub parts-preserved : goal.parts-preserved
 parts-preserved c =
-    let ends = c.args.ends in
+    let ends = c.args.delimiters in
     let left = first_equal ends c.parts.a.now c.parts.b.now _ _ _ _
     c.compare_parts_to-parts.ensures (sym c.if-ne.false ∙ c.ne.ensures) c.parts.invariant in
     let first = c.in-Some-Some-2.ensures.some in
@@ -52,7 +52,7 @@ parts-preserved c =
 
 pub returns-in-Some-None-2 : goal.returns-in-Some-None-2
 returns-in-Some-None-2 c =
-    let ends = c.args.ends in
+    let ends = c.args.delimiters in
     let left = first_equal ends c.parts.a.now c.parts.b.now _ _ _ _
     c.compare_parts_to-parts.ensures (sym c.if-ne.false ∙ c.ne.ensures) c.parts.invariant in
     let first = c.in-Some-None-2.ensures.some in
@@ -62,7 +62,7 @@ returns-in-Some-None-2 c =
 
 pub returns-in-None-Some-2 : goal.returns-in-None-Some-2
 returns-in-None-Some-2 c =
-    let ends = c.args.ends in
+    let ends = c.args.delimiters in
     let left = first_equal ends c.parts.a.now c.parts.b.now _ _ _ _
     c.compare_parts_to-parts.ensures (sym c.if-ne.false ∙ c.ne.ensures) c.parts.invariant in
     let second = c.in-None-Some-2.ensures'.some in
@@ -72,7 +72,7 @@ returns-in-None-Some-2 c =
 
 pub returns-in-None-None-2 : goal.returns-in-None-None-2
 returns-in-None-None-2 c =
-    let ends = c.args.ends in
+    let ends = c.args.delimiters in
     let left = first_equal ends c.parts.a.now c.parts.b.now _ _ _ _
     c.compare_parts_to-parts.ensures (sym c.if-ne.false ∙ c.ne.ensures) c.parts.invariant in
     (λ i. others_cmp ends (sym c.in-None-None-2.ensures.none i)

@@ -2,35 +2,35 @@ use Rattle.std.proofs.Common.{◌∙◌, ap, sym}
 use Rattle.std.specs.List.{before_first}
 use Rattle.version_rules.specs.order.Lists.{bytes_cmp}
 use Rattle.version_texts.proofs.lemmas.order.Piece.{digits_same}
-use Rattle.version_texts.proofs.lemmas.order.Piece.Ends.{digit_no_end}
+use Rattle.version_texts.proofs.lemmas.order.Piece.Delimiters.{digit_no_end}
 use Rattle.version_texts.proofs.lemmas.order.Piece.Order.{decides, leaves, numbered_compared, tied}
-use Rattle.version_texts.specs.order.Piece.{end_of, from_first}
+use Rattle.version_texts.specs.order.Piece.{delimits, from_first}
 use Rattle.version_texts.proofs.order.part.compare_numbered.Goals as goal
 
 pub returns-then-ne-clause-order : goal.returns-then-ne-clause-order
 returns-then-ne-clause-order c =
     let both =
-    numbered_compared (end_of c.args.ends) (digit_no_end c.args.ends) c.args.a.now c.args.b.now
+    numbered_compared (delimits c.args.delimiters) (digit_no_end c.args.delimiters) c.args.a.now c.args.b.now
     (sym c.in-true-true.ensures) (sym c.in-true-true.ensures') in
     decides c.compare_numbers-numbers.result.order _ _ _ c.compare_numbers-numbers.ensures.order
     both (sym c.if-ne.true ∙ c.ne.ensures)
 
 pub returns-else-ne : goal.returns-else-ne
 returns-else-ne c =
-    let ends = c.args.ends in
-    let both = numbered_compared (end_of ends) (digit_no_end ends) c.args.a.now c.args.b.now
+    let ends = c.args.delimiters in
+    let both = numbered_compared (delimits ends) (digit_no_end ends) c.args.a.now c.args.b.now
     (sym c.in-true-true.ensures) (sym c.in-true-true.ensures') in
     let numbers = c.compare_numbers-numbers.ensures in
     let same = tied c.compare_numbers-numbers.result.order (sym c.if-ne.false ∙ c.ne.ensures) in
     record {
       order = c.compare_texts.ensures.order
-          ∙ (λ i. bytes_cmp (before_first (end_of ends) (numbers.rest same i))
-          (before_first (end_of ends) (numbers.other_rest same i))) ∙ leaves
+          ∙ (λ i. bytes_cmp (before_first (delimits ends) (numbers.rest same i))
+          (before_first (delimits ends) (numbers.other_rest same i))) ∙ leaves
           c.compare_numbers-numbers.result.order _ _ _ numbers.order both same;
-      rest = λ e. c.compare_texts.ensures.rest e ∙ ap (from_first (end_of ends))
+      rest = λ e. c.compare_texts.ensures.rest e ∙ ap (from_first (delimits ends))
           (c.compare_numbers-numbers.ensures.rest same)
-          ∙ (digits_same (end_of ends) (digit_no_end ends) c.args.a.now).2;
-      other_rest = λ e. c.compare_texts.ensures.other_rest e ∙ ap (from_first (end_of ends))
+          ∙ (digits_same (delimits ends) (digit_no_end ends) c.args.a.now).2;
+      other_rest = λ e. c.compare_texts.ensures.other_rest e ∙ ap (from_first (delimits ends))
           (c.compare_numbers-numbers.ensures.other_rest same)
-          ∙ (digits_same (end_of ends) (digit_no_end ends) c.args.b.now).2;
+          ∙ (digits_same (delimits ends) (digit_no_end ends) c.args.b.now).2;
     }

@@ -4,51 +4,51 @@ use Rattle.version_rules.specs.order.Lists.{none_last_cmp}
 use Rattle.version_rules.specs.key.PartKey.{suffix_of}
 use Rattle.version_rules.specs.key.Split.{split_cmp}
 use Rattle.version_texts.proofs.lemmas.order.Piece.{digits_same}
-use Rattle.version_texts.proofs.lemmas.order.Piece.Ends.{digit_no_end}
+use Rattle.version_texts.proofs.lemmas.order.Piece.Delimiters.{digit_no_end}
 use Rattle.version_texts.proofs.lemmas.order.Piece.Order.{decides, leaves, number_above_word, numbers_compared, tied, word_below_number, words_compared}
-use Rattle.version_texts.specs.order.Piece.{end_of, from_first}
+use Rattle.version_texts.specs.order.Piece.{delimits, from_first}
 use Rattle.version_texts.proofs.order.part.compare_parts_to.Goals as goal
 
 pub returns-then-ne-clause-order : goal.returns-then-ne-clause-order
 returns-then-ne-clause-order c =
     let both =
-    numbers_compared (end_of c.args.ends) (digit_no_end c.args.ends) c.args.a.now c.args.b.now
+    numbers_compared (delimits c.args.delimiters) (digit_no_end c.args.delimiters) c.args.a.now c.args.b.now
     (sym c.in-true-true.ensures) (sym c.in-true-true.ensures') in
     decides c.compare_numbers-numbers.result.order _ _ _ c.compare_numbers-numbers.ensures.order
     both (sym c.if-ne.true ∙ c.ne.ensures)
 
 pub returns-else-ne : goal.returns-else-ne
 returns-else-ne c =
-    let ends = c.args.ends in
-    let both = numbers_compared (end_of ends) (digit_no_end ends) c.args.a.now c.args.b.now
+    let ends = c.args.delimiters in
+    let both = numbers_compared (delimits ends) (digit_no_end ends) c.args.a.now c.args.b.now
     (sym c.in-true-true.ensures) (sym c.in-true-true.ensures') in
     let numbers = c.compare_numbers-numbers.ensures in
     let same = tied c.compare_numbers-numbers.result.order (sym c.if-ne.false ∙ c.ne.ensures) in
     record {
       order = c.compare_suffixes.ensures.order
-          ∙ (λ i. none_last_cmp split_cmp (suffix_of (before_first (end_of ends)
-          (numbers.rest same i))) (suffix_of (before_first (end_of ends) (numbers.other_rest same
+          ∙ (λ i. none_last_cmp split_cmp (suffix_of (before_first (delimits ends)
+          (numbers.rest same i))) (suffix_of (before_first (delimits ends) (numbers.other_rest same
           i)))) ∙ leaves c.compare_numbers-numbers.result.order _ _ _ numbers.order both same;
-      rest = λ e. c.compare_suffixes.ensures.rest e ∙ ap (from_first (end_of ends))
+      rest = λ e. c.compare_suffixes.ensures.rest e ∙ ap (from_first (delimits ends))
           (c.compare_numbers-numbers.ensures.rest same)
-          ∙ (digits_same (end_of ends) (digit_no_end ends) c.args.a.now).2;
-      other_rest = λ e. c.compare_suffixes.ensures.other_rest e ∙ ap (from_first (end_of ends))
+          ∙ (digits_same (delimits ends) (digit_no_end ends) c.args.a.now).2;
+      other_rest = λ e. c.compare_suffixes.ensures.other_rest e ∙ ap (from_first (delimits ends))
           (c.compare_numbers-numbers.ensures.other_rest same)
-          ∙ (digits_same (end_of ends) (digit_no_end ends) c.args.b.now).2;
+          ∙ (digits_same (delimits ends) (digit_no_end ends) c.args.b.now).2;
     }
 
 pub returns-in-false-false-clause-order : goal.returns-in-false-false-clause-order
 returns-in-false-false-clause-order c =
     c.compare_words.ensures.order
-    ∙ sym (words_compared (end_of c.args.ends) (digit_no_end c.args.ends) c.args.a.now c.args.b.now
+    ∙ sym (words_compared (delimits c.args.delimiters) (digit_no_end c.args.delimiters) c.args.a.now c.args.b.now
     (sym c.in-false-false.ensures) (sym c.in-false-false.ensures'))
 
 pub returns-in-true-false-clause-order : goal.returns-in-true-false-clause-order
 returns-in-true-false-clause-order c =
-    c.new.ensures.order ∙ sym (number_above_word (end_of c.args.ends) (digit_no_end c.args.ends) c.args.a.now c.args.b.now
+    c.new.ensures.order ∙ sym (number_above_word (delimits c.args.delimiters) (digit_no_end c.args.delimiters) c.args.a.now c.args.b.now
     (sym c.in-true-false.ensures) (sym c.in-true-false.ensures'))
 
 pub returns-in-false-true-clause-order : goal.returns-in-false-true-clause-order
 returns-in-false-true-clause-order c =
-    c.new-in-false-true.ensures.order ∙ sym (word_below_number (end_of c.args.ends) (digit_no_end c.args.ends) c.args.a.now c.args.b.now
+    c.new-in-false-true.ensures.order ∙ sym (word_below_number (delimits c.args.delimiters) (digit_no_end c.args.delimiters) c.args.a.now c.args.b.now
     (sym c.in-false-true.ensures) (sym c.in-false-true.ensures'))

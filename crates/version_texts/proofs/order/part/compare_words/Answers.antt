@@ -7,36 +7,36 @@ use Rattle.version_rules.specs.grammar.DigitRun.{number_front}
 use Rattle.version_rules.specs.grammar.Front.{begins}
 use Rattle.version_rules.specs.order.Lists.{bytes_cmp}
 use Rattle.version_rules.specs.key.Split.{numbered_cmp, split_cmp, split_of}
-use Rattle.version_texts.specs.declared.order.ends.Ends.{Ends}
-use Rattle.version_texts.specs.declared.order.ends.Run.TheVariants.{Word}
+use Rattle.version_texts.specs.declared.order.delimiters.Delimiters.{Delimiters}
+use Rattle.version_texts.specs.declared.order.delimiters.Run.TheVariants.{Word}
 use Rattle.version_texts.proofs.lemmas.order.Piece.Order.{decides, leaves, tied}
 use Rattle.version_texts.proofs.lemmas.order.Piece.Words.{run_is_word}
-use Rattle.version_texts.specs.order.Piece.{end_of, from_first, in_run}
+use Rattle.version_texts.specs.order.Piece.{delimits, from_first, in_run}
 use Rattle.version_texts.proofs.order.part.compare_words.Goals as goal
 
-abbrev behind_word : Ends → List ℕ → List ℕ
+abbrev behind_word : Delimiters → List ℕ → List ℕ
 behind_word ends text = drop (prefix_len (in_run (Word ends)) text) text
 
 -- two words compare by the bytes before their first digits, and then by what follows these
-by_words : (ends : Ends) (a b : List ℕ)
-    → split_cmp (split_of (before_first (end_of ends) a)) (split_of (before_first (end_of ends) b))
+by_words : (ends : Delimiters) (a b : List ℕ)
+    → split_cmp (split_of (before_first (delimits ends) a)) (split_of (before_first (delimits ends) b))
     ≡ ordering_then
     (bytes_cmp (take_while (in_run (Word ends)) a) (take_while (in_run (Word ends)) b))
-    (option_cmp numbered_cmp (number_front (before_first (end_of ends) (behind_word ends a)))
-    (number_front (before_first (end_of ends) (behind_word ends b))))
+    (option_cmp numbered_cmp (number_front (before_first (delimits ends) (behind_word ends a)))
+    (number_front (before_first (delimits ends) (behind_word ends b))))
 by_words ends a b =
-    let first = run_is_word (end_of ends) a in
-    let second = run_is_word (end_of ends) b in
+    let first = run_is_word (delimits ends) a in
+    let second = run_is_word (delimits ends) b in
     rw (first.0, first.1, second.0, second.1) refl
 
 pub returns-then-ne-clause-order : goal.returns-then-ne-clause-order
 returns-then-ne-clause-order c =
     decides c.compare_runs-words.result.order _ _ _ (c.compare_runs-words.ensures.order)
-    (by_words c.args.ends c.args.a.now c.args.b.now) (sym c.if-ne.true ∙ c.ne.ensures)
+    (by_words c.args.delimiters c.args.a.now c.args.b.now) (sym c.if-ne.true ∙ c.ne.ensures)
 
 pub compare_numbered-requires : goal.compare_numbered-requires
 compare_numbered-requires c =
-    let ends = c.args.ends in
+    let ends = c.args.delimiters in
     let same = tied c.compare_runs-words.result.order (sym c.if-ne.false ∙ c.ne.ensures) in
     record {
       a = ap (begins (in_run (Word ends))) (c.compare_runs-words.ensures.rest same) ∙ begins-drop
@@ -47,20 +47,20 @@ compare_numbered-requires c =
 
 pub returns : goal.returns
 returns c =
-    let ends = c.args.ends in
+    let ends = c.args.delimiters in
     let same = tied c.compare_runs-words.result.order (sym c.if-ne.false ∙ c.ne.ensures) in
     let rest = c.compare_runs-words.ensures.rest same in
     let other_rest = c.compare_runs-words.ensures.other_rest same in
     record {
       order = c.compare_numbered.ensures.order
-          ∙ (λ i. option_cmp numbered_cmp (number_front (before_first (end_of ends) (rest i)))
-          (number_front (before_first (end_of ends) (other_rest i)))) ∙ leaves
+          ∙ (λ i. option_cmp numbered_cmp (number_front (before_first (delimits ends) (rest i)))
+          (number_front (before_first (delimits ends) (other_rest i)))) ∙ leaves
           c.compare_runs-words.result.order _ _ _ (c.compare_runs-words.ensures.order)
           (by_words ends c.args.a.now c.args.b.now) same;
-      rest = λ e. c.compare_numbered.ensures.rest e ∙ ap (from_first (end_of c.args.ends))
+      rest = λ e. c.compare_numbered.ensures.rest e ∙ ap (from_first (delimits c.args.delimiters))
           (c.compare_runs-words.ensures.rest same)
-          ∙ (run_is_word (end_of c.args.ends) c.args.a.now).2;
+          ∙ (run_is_word (delimits c.args.delimiters) c.args.a.now).2;
       other_rest = λ e. c.compare_numbered.ensures.other_rest e ∙ ap
-          (from_first (end_of c.args.ends)) (c.compare_runs-words.ensures.other_rest same)
-          ∙ (run_is_word (end_of c.args.ends) c.args.b.now).2;
+          (from_first (delimits c.args.delimiters)) (c.compare_runs-words.ensures.other_rest same)
+          ∙ (run_is_word (delimits c.args.delimiters) c.args.b.now).2;
     }

@@ -5,7 +5,7 @@ use Rattle.std.specs.List.{prefix_len}
 use Rattle.version_rules.specs.grammar.Bytes.{colon}
 use Rattle.version_rules.specs.grammar.DigitRun.{starts_with_digit}
 use Rattle.version_rules.specs.grammar.Front.{begins}
-use Rattle.version_texts.specs.scan.Class.{first_rank}
+use Rattle.version_rules.specs.grammar.Class.{first_rank}
 use Rattle.version_texts.specs.scan.Shape.{digits_len, has_epoch}
 use Rattle.version_texts.proofs.lemmas.scan.Class.{next_colon}
 use Rattle.version_texts.proofs.lemmas.scan.Shape.Scanned.{behind_colon, no_epoch}

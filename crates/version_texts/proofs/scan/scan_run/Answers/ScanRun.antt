@@ -7,10 +7,10 @@ use Rattle.std.specs.List.{list_all, prefix_len, take_while}
 use Rattle.version_rules.specs.grammar.Bytes.{HasDigits}
 use Rattle.version_rules.specs.grammar.DigitRun.{is_digits}
 use Rattle.version_rules.specs.grammar.Front.{begins}
-use Rattle.version_texts.specs.scan.Class.{contains}
+use Rattle.version_rules.specs.grammar.Class.{contains}
 use Rattle.version_texts.specs.scan.Shape.{digits_len}
 use Rattle.version_texts.specs.scan.TextKind.{is_chunk, is_numeral}
-use Rattle.version_texts.specs.declared.scan.class.Class.{Class}
+use Rattle.version_rules.specs.declared.class.Class.{Class}
 use Rattle.version_texts.proofs.lemmas.scan.General.Runs.{all_smaller, larger_run, some_larger}
 use Rattle.version_texts.proofs.lemmas.scan.TextKind.Runs.{chunk_digits, chunk_word, digits_not, digits_some}
 

@@ -10,13 +10,13 @@ use Rattle.version_rules.specs.grammar.Front.{begins}
 use Rattle.version_rules.specs.key.PartKey.{PartKey, list_cmp, part_cmp, part_key}
 use Rattle.version_rules.specs.key.Tail.{sections_cmp}
 use Rattle.version_rules.proofs.lemmas.Front.Runs.{begins-drop}
-use Rattle.version_texts.specs.declared.order.ends.Ends.{Ends}
-use Rattle.version_texts.proofs.lemmas.order.Piece.Ends.{digit_no_end, dot_no_sign, dot_or_sign}
+use Rattle.version_texts.specs.declared.order.delimiters.Delimiters.{Delimiters}
+use Rattle.version_texts.proofs.lemmas.order.Piece.Delimiters.{digit_no_end, dot_no_sign, dot_or_sign}
 use Rattle.version_texts.proofs.lemmas.order.Piece.Order.{leaves, tied}
 use Rattle.version_texts.proofs.lemmas.order.Piece.Words.{run_is_piece}
 use Rattle.version_texts.proofs.lemmas.scan.General.Runs.{not_false}
 use Rattle.version_texts.proofs.lemmas.order.Piece.{part_of_number, part_of_word, piece_ends, piece_grows, pieces_are}
-use Rattle.version_texts.specs.order.Piece.{end_of, from_first, further_pieces, is_dot, sign_of}
+use Rattle.version_texts.specs.order.Piece.{delimits, from_first, further_pieces, is_dot, sign_of}
 use Rattle.version_texts.specs.key.TextKey.{parts_of}
 
 in_turn : (o p q : Ordering)
@@ -25,12 +25,12 @@ in_turn Less p q = refl
 in_turn Equal p q = refl
 in_turn Greater p q = refl
 
-module _ (kind : Ends) where
+module _ (kind : Delimiters) where
   abbrev sign : ℕ → Bool
   sign = sign_of kind
 
   abbrev ends : ℕ → Bool
-  ends = end_of kind
+  ends = delimits kind
 
   abbrev inside : ℕ → Bool
   inside b = not (ends b)

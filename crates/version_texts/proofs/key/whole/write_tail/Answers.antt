@@ -1,5 +1,5 @@
 use Rattle.std.proofs.Common.{rules}
-use Rattle.version_texts.proofs.key.sinks.write_tail.Goals as goal
+use Rattle.version_texts.proofs.key.whole.write_tail.Goals as goal
 
 pub put_tail-requires-clause-fits : goal.put_tail-requires-clause-fits
 put_tail-requires-clause-fits c = rw c.tail_at.ensures c.requires.room

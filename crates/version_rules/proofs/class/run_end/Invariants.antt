@@ -1,7 +1,7 @@
 use Rattle.std.proofs.Common.{◌≡◌, ◌+◌, ◌-◌, ◌≤◌, drop, length}
 use Rattle.std.specs.List.{prefix_len}
-use Rattle.version_texts.specs.scan.Class.{contains}
-use Rattle.version_texts.proofs.scan.class.run_end.Given as goal
+use Rattle.version_rules.specs.grammar.Class.{contains}
+use Rattle.version_rules.proofs.class.run_end.Given as goal
 
 -- all bytes so far are of the class
 abbrev pub invariant-loop-end : goal.invariant-loop-end

@@ -1,10 +1,10 @@
 -- The classes of bytes whose runs are scanned.
-use Rattle.std.specs.Prelude.{◌==◌, ◌||◌, ℕ, Bool, List, [], ◌∷◌, not, if◌then◌else◌}
+use Rattle.std.specs.Prelude.{◌==◌, ◌||◌, ℕ, Bool, true, false, List, [], ◌∷◌, IsTrue, not, if◌then◌else◌}
 use Rattle.std.specs.Char.{is_ascii_alphabetic, is_ascii_alphanumeric, is_ascii_digit}
 use Rattle.version_rules.specs.grammar.Bytes.{colon, dot, hyphen, is_identifier_byte, is_metadata_byte, plus}
 use Rattle.version_rules.specs.grammar.Sep.{is_sep}
-use Rattle.version_texts.specs.declared.scan.class.Class.{Class}
-use Rattle.version_texts.specs.declared.scan.class.Class.TheVariants.{Digit, Letter, Alphanumeric, Identifier, Metadata, Mark, NotDot, NotSign}
+use Rattle.version_rules.specs.declared.class.Class.{Class}
+use Rattle.version_rules.specs.declared.class.Class.TheVariants.{Digit, Letter, Alphanumeric, Identifier, Metadata, Mark, NotDot, NotSign}
 
 -- a dot or a sign
 abbrev pub is_mark : ℕ → Bool
@@ -37,3 +37,12 @@ contains Metadata b = is_metadata_byte b
 contains Mark b = is_mark b
 contains NotDot b = not (b == dot)
 contains NotSign b = not (is_sep b)
+
+-- all bytes of the class are ASCII, so a text may be cut behind a run of them
+abbrev pub is_ascii_class : Class → Bool
+is_ascii_class NotDot = false
+is_ascii_class NotSign = false
+is_ascii_class _ = true
+
+abbrev pub IsAsciiClass : Class → Type 0
+IsAsciiClass class = IsTrue (is_ascii_class class)

@@ -6,8 +6,8 @@ use Rattle.version_texts.proofs.lemmas.requirement.RequirementsRef.Members.{list
 use Rattle.version_texts.specs.requirement.Members.{list_of, pieces_of}
 use Rattle.version_texts.specs.requirement.RequirementRef.{plain_requirement_ref}
 use Rattle.version_texts.specs.versioning_ref.VersioningRef.{plain_versioning_ref}
-use Rattle.version_texts.proofs.requirement.others.inexact_match.Goals.{else-not-is_exact-via-else-not-is_exact, else-not-is_exact-via-then-not-is_exact+else-not-matches}
-use Rattle.version_texts.proofs.requirement.others.inexact_match.Goals as goal
+use Rattle.version_texts.proofs.requirement.inexact.inexact_match.Goals.{else-not-is_exact-via-else-not-is_exact, else-not-is_exact-via-then-not-is_exact+else-not-matches}
+use Rattle.version_texts.proofs.requirement.inexact.inexact_match.Goals as goal
 
 pub returns-then-not-matches : goal.returns-then-not-matches
 returns-then-not-matches c =

@@ -4,7 +4,7 @@ use Rattle.version_rules.specs.key.Tail.{tail_bytes}
 use Rattle.version_texts.specs.key.Sinks.{order_with}
 use Rattle.version_texts.specs.key.TextKey.{front_bytes, tail_of, text_key}
 use Rattle.version_texts.proofs.lemmas.key.TextKey.Taking.{key_halves}
-use Rattle.version_texts.proofs.key.sinks.compare_key.Goals as goal
+use Rattle.version_texts.proofs.key.whole.compare_key.Goals as goal
 
 pub returns : goal.returns
 returns c =

@@ -5,7 +5,7 @@ ghost use Rattle.std.specs.List.{prefix_len, take_while};
 ghost use Rattle.version_rules.specs.grammar.Bytes.{HasDigits};
 ghost use Rattle.version_rules.specs.grammar.Front.{begins};
 ghost use Rattle.version_rules.specs.grammar.Sep.{is_sep};
-ghost use Rattle.version_texts.specs.scan.Class.{byte_rank, contains, first_rank};
+ghost use Rattle.version_rules.specs.grammar.Class.{byte_rank, contains, first_rank};
 
 /// A class of bytes.
 #[derive(Clone, Copy)]
@@ -27,7 +27,7 @@ pub enum Class {
 }
 
 /// The ranks of a letter, a hyphen, a dot, a plus and a colon, and the rank where a text ends.
-pub const LETTER: u8 = 1;
+const LETTER: u8 = 1;
 
 pub const HYPHEN: u8 = 2;
 
@@ -96,9 +96,9 @@ impl Class {
     }
 }
 
-// Whether a byte is a sign between sections.
+/// Returns whether a byte is a sign between the sections of a messy version. Does not allocate.
 #[inline(always)]
-pub(crate) fn is_sign(byte: u8) -> bool
+pub fn is_sign(byte: u8) -> bool
     ensures { result ≡ is_sep byte }
 {
     matches!(byte, b':' | b'-' | b'+' | b'_' | b'~')
@@ -130,13 +130,22 @@ pub fn run_end(text: &[u8], start: usize, class: Class) -> usize
     end
 }
 
+/// Returns how many bytes of a class a text begins with. Does not allocate.
+#[inline(always)]
+pub fn run_length(text: &[u8], class: Class) -> usize
+    ensures length { result ≡ prefix_len (contains class) text.now }
+    ensures within { result ≤ length text.now }
+{
+    run_end(text, 0, class)
+}
+
 /// Returns the longest run of a class at the start of a text, which may be empty, and the rest. Does not allocate.
 #[inline(always)]
 pub fn split_run(text: &[u8], class: Class) -> (&[u8], &[u8])
     ensures run { result.0.now ≡ take_while (contains class) text.now }
     ensures rest { result.1.now ≡ drop (prefix_len (contains class) text.now) text.now }
 {
-    text.split_at(run_end(text, 0, class))
+    text.split_at(run_length(text, class))
 }
 
 /// Returns whether a text begins with a byte of a class. Does not allocate.

@@ -3,24 +3,24 @@ use Rattle.std.proofs.Common.{◌≡◌, ◌||◌, ℕ, Bool, true, false, arith
 use Rattle.std.proofs.lemmas.Bool.Decides.{nat_tests}
 use Rattle.std.specs.Char.{is_ascii_digit}
 use Rattle.version_rules.specs.grammar.Bytes.{dot}
-use Rattle.version_texts.specs.declared.order.ends.Ends.{Ends}
-use Rattle.version_texts.specs.declared.order.ends.Ends.TheVariants.{Dots, Marks}
+use Rattle.version_texts.specs.declared.order.delimiters.Delimiters.{Delimiters}
+use Rattle.version_texts.specs.declared.order.delimiters.Delimiters.TheVariants.{Dots, Marks}
 use Rattle.version_texts.proofs.lemmas.order.Piece.Spelled.{digit_no_dot}
-use Rattle.version_texts.specs.order.Piece.{end_of, is_dot, sign_of}
+use Rattle.version_texts.specs.order.Piece.{delimits, is_dot, sign_of}
 
 or-false : (p : Bool) → (p || false) ≡ p
 or-false true = refl
 or-false false = refl
 
-pub digit_no_end : (ends : Ends) (b : ℕ) → is_ascii_digit b ≡ true → end_of ends b ≡ false
+pub digit_no_end : (ends : Delimiters) (b : ℕ) → is_ascii_digit b ≡ true → delimits ends b ≡ false
 digit_no_end Dots b digit = digit_no_dot b digit
 digit_no_end Marks b digit = grind (arith, nat_tests)
 
 -- a dot or a sign ends a part
-pub dot_or_sign : (ends : Ends) (b : ℕ) → end_of ends b ≡ (is_dot b || sign_of ends b)
+pub dot_or_sign : (ends : Delimiters) (b : ℕ) → delimits ends b ≡ (is_dot b || sign_of ends b)
 dot_or_sign Dots b = sym (or-false (is_dot b))
 dot_or_sign Marks b = refl
 
-pub dot_no_sign : (ends : Ends) → sign_of ends dot ≡ false
+pub dot_no_sign : (ends : Delimiters) → sign_of ends dot ≡ false
 dot_no_sign Dots = refl
 dot_no_sign Marks = refl

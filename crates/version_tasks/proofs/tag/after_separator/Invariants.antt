@@ -1,10 +1,10 @@
 use Rattle.std.proofs.Common.{◌≡◌, length}
-use Rattle.version_tasks.specs.AfterSign.{after_sign}
-use Rattle.version_tasks.proofs.tag.after_sign.Given as goal
+use Rattle.version_tasks.specs.AfterSeparator.{after_separator}
+use Rattle.version_tasks.proofs.tag.after_separator.Given as goal
 
 -- what is left decides
 abbrev pub invariant-bytes : goal.invariant-bytes
-invariant-bytes l = after_sign l.left ≡ after_sign l.text
+invariant-bytes l = after_separator l.left ≡ after_separator l.text
 
 abbrev pub decreases-bytes : goal.decreases-bytes
 decreases-bytes l = length l.left

@@ -2,8 +2,8 @@
 use Rattle.std.proofs.Common.{◌≡◌, ◌<◌, ◌∙◌, ℕ, List, get_or, map, refl, ap, zero-add}
 use Rattle.std.proofs.lemmas.List.FromFn.{get_or-map-range_with_len}
 use Rattle.std.specs.List.{range_with_len}
-use Rattle.version_texts.specs.scan.Class.{byte_rank}
-use Rattle.version_texts.specs.declared.scan.class.TheConstants.{RANKS}
+use Rattle.version_rules.specs.grammar.Class.{byte_rank}
+use Rattle.version_rules.specs.declared.class.TheConstants.{RANKS}
 
 -- it has the rank of each byte at its place
 ranks : RANKS ≡ map byte_rank (range_with_len 0 256)

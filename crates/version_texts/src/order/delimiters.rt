@@ -2,26 +2,26 @@
 
 ghost use Rattle.std.specs.Prelude.{◌≡◌};
 ghost use Rattle.version_rules.specs.grammar.Front.{begins};
-ghost use Rattle.version_texts.specs.order.Piece.{end_of, in_run};
+ghost use Rattle.version_texts.specs.order.Piece.{delimits, in_run};
 
-use crate::scan::class::is_sign;
+use version_rules::is_sign;
 
 /// What ends a part: a dot in a body, a dot or a sign in sections.
 #[derive(Clone, Copy)]
-pub(crate) enum Ends {
+pub(crate) enum Delimiters {
     Dots,
     Marks,
 }
 
-impl Ends {
+impl Delimiters {
     // Whether a byte ends a part.
     #[inline(always)]
     fn contains(self, byte: u8) -> bool
-        ensures { result ≡ end_of self byte }
+        ensures { result ≡ delimits self byte }
     {
         match self {
-            Ends::Dots => byte == b'.',
-            Ends::Marks => byte == b'.' || is_sign(byte),
+            Delimiters::Dots => byte == b'.',
+            Delimiters::Marks => byte == b'.' || is_sign(byte),
         }
     }
 }
@@ -29,8 +29,8 @@ impl Ends {
 /// A run of bytes at the start of a text: a part, or what stands in it before its first digit.
 #[derive(Clone, Copy)]
 pub(crate) enum Run {
-    Part(Ends),
-    Word(Ends),
+    Part(Delimiters),
+    Word(Delimiters),
 }
 
 impl Run {
@@ -40,8 +40,8 @@ impl Run {
         ensures { result ≡ in_run self byte }
     {
         match self {
-            Run::Part(ends) => !ends.contains(byte),
-            Run::Word(ends) => !ends.contains(byte) && !byte.is_ascii_digit(),
+            Run::Part(delimiters) => !delimiters.contains(byte),
+            Run::Word(delimiters) => !delimiters.contains(byte) && !byte.is_ascii_digit(),
         }
     }
 
