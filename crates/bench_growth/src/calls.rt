@@ -14,33 +14,43 @@ use versions::key::compare_bytes;
 
 /// Times each call on the text of a version.
 pub fn on_version(rt: &HostRuntime, watch: &mut Watch<'_>, text: &str) -> io::Result<()> {
-    watch.start()?;
+    watch.start();
     let version = Versioning::new(rt.alloc(), text)?.ok_or(ErrorKind::InvalidInput)?;
-    watch.lap("read")?;
+    watch.lap("read");
     let key = on_owned(rt, watch, &version, text)?;
-    watch.go_on()?;
+    on_text(rt, watch, text, key.as_slice())
+}
+
+// Times each call on a version that owns nothing.
+fn on_text(rt: &HostRuntime, watch: &mut Watch<'_>, text: &str, key: &[u8]) -> io::Result<()> {
+    watch.go_on();
     let spelled = VersioningRef::new(text).ok_or(ErrorKind::InvalidInput)?;
-    let from_text = spelled.compare_key(key.as_slice()).is_eq();
-    watch.lap("spelled_key")?;
+    let from_text = spelled.compare_key(key).is_eq();
+    watch.lap("spelled_key");
+    let spelled = VersioningRef::new(text).ok_or(ErrorKind::InvalidInput)?;
     let mut block = Vec::new(rt.alloc());
-    let spelled = VersioningRef::new(text).ok_or(ErrorKind::InvalidInput)?;
     spelled.append_key(&mut block)?;
-    watch.lap("appended_key")?;
+    watch.lap("appended_key");
     let length = spelled.key_length();
-    watch.lap("key_length")?;
+    watch.lap("key_length");
     let tagged = version_in_tag(text.as_bytes());
-    watch.lap("in_tag")?;
+    watch.lap("in_tag");
     let stable = stability_of(&spelled) == Stability::Stable;
-    watch.lap("stability")?;
+    watch.lap("stability");
     let again = String::from_str(rt.alloc(), text)?;
-    let again = VersioningRef::new(again.as_str()).ok_or(ErrorKind::InvalidInput)?;
-    let unchanged = spelled.difference(&again) == Difference::Same;
-    watch.lap("difference")?;
+    let difference = VersioningRef::new(again.as_str()).map(|again| spelled.difference(&again));
+    watch.lap("difference");
     let following = next_of(&spelled, 0);
-    watch.lap("next")?;
-    holds(from_text && block == key && length == key.len() && stable && unchanged)?;
-    holds(tagged.is_none_or(|found| found == spelled))?;
-    holds(following.is_none_or(|found| found.length() > 0))
+    watch.lap("next");
+    holds(
+        from_text
+            && block.as_slice() == key
+            && length == key.len()
+            && stable
+            && difference == Some(Difference::Same)
+            && tagged.is_none_or(|found| found == spelled)
+            && following.is_none_or(|found| found.length() > 0),
+    )
 }
 
 /// Times each call on the version of a text, or on its messy version. Returns its key.
@@ -50,30 +60,31 @@ pub fn on_owned(
     version: &Versioning,
     text: &str,
 ) -> io::Result<Vec<u8>> {
-    watch.go_on()?;
+    watch.go_on();
     let printed = version.to_string(rt.alloc())?;
-    watch.lap("printed")?;
+    watch.lap("printed");
     let key = version.sort_key(rt.alloc())?;
-    watch.lap("keyed")?;
+    watch.lap("keyed");
     let keyed = compare_bytes(&mut version.key_bytes(), &mut key.iter().copied()).is_eq();
-    watch.lap("key_bytes")?;
+    watch.lap("key_bytes");
     let copy = version.clone(rt.alloc())?;
-    watch.lap("cloned")?;
+    watch.lap("cloned");
     let tie = version.precedence(&copy).is_eq();
-    watch.lap("precedence")?;
+    watch.lap("precedence");
     let same = version.cmp(&copy).is_eq();
-    watch.lap("cmp")?;
+    watch.lap("cmp");
     let equal = *version == copy;
-    watch.lap("equal")?;
+    watch.lap("equal");
     let hash = hash_of(version);
-    watch.lap("hashed")?;
+    watch.lap("hashed");
     let number = version.nth(usize::MAX);
-    watch.lap("nth")?;
-    holds(printed.as_str() == text && keyed && tie && same && equal && number.is_none())?;
-    holds(hash == hash_of(&copy))?;
-    watch.go_on()?;
+    watch.lap("nth");
+    let hashed = hash == hash_of(&copy);
+    watch.go_on();
     drop(copy);
-    watch.lap("dropped")?;
+    watch.lap("dropped");
+    let is_right = keyed && tie && same && equal && number.is_none() && hashed;
+    holds(is_right && printed.as_str() == text)?;
     Ok(key)
 }
 
@@ -85,34 +96,33 @@ pub fn on_list(
     version: &str,
 ) -> io::Result<()> {
     let version = VersioningRef::new(version).ok_or(ErrorKind::InvalidInput)?;
-    watch.start()?;
+    watch.start();
     let list = RequirementsRef::new(text).ok_or(ErrorKind::InvalidInput)?;
-    watch.lap("list_read")?;
+    watch.lap("list_read");
     let all = list.matches(&version);
-    watch.lap("list_matches")?;
+    watch.lap("list_matches");
     let asked = list_matches(text.as_bytes(), &version);
-    watch.lap("list_asked_once")?;
+    watch.lap("list_asked_once");
     let range = RangeRef::from_bytes(text.as_bytes()).ok_or(ErrorKind::InvalidInput)?;
-    watch.lap("list_range")?;
+    watch.lap("list_range");
     // The last member excludes the version, and each other member.
-    let mut closed = String::from_str(rt.alloc(), text)?;
-    closed.push_str(",<0")?;
-    watch.go_on()?;
+    let closed = format!(in rt.alloc(); "{text},<0")?;
+    watch.go_on();
     let is_excluded = matches!(why_not(closed.as_bytes(), &version), Some(Some(_)));
-    watch.lap("list_why_not")?;
+    watch.lap("list_why_not");
     let is_empty = matches!(conflict_in(closed.as_bytes()), Some(Some(_)));
-    watch.lap("list_conflict")?;
+    watch.lap("list_conflict");
     holds(all && asked == Some(true) && range.has(&version) && is_excluded && is_empty)
 }
 
 /// Times each call on a tag, of which all but the last byte are the prefix. A version is an error.
 pub fn on_tag(watch: &mut Watch<'_>, tag: &[u8]) -> io::Result<()> {
     let (_, prefix) = tag.split_last().ok_or(ErrorKind::InvalidInput)?;
-    watch.start()?;
+    watch.start();
     let found = version_in_tag(tag).is_some();
-    watch.lap("in_tag")?;
+    watch.lap("in_tag");
     let found_after = version_after_prefix(prefix, tag).is_some();
-    watch.lap("after_prefix")?;
+    watch.lap("after_prefix");
     holds(!found && !found_after)
 }
 

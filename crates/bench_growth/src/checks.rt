@@ -23,7 +23,7 @@ pub fn check_version(rt: &HostRuntime, text: &str, kind: Kind) -> io::Result<()>
         Versioning::General(general) => general.to_mess(rt.alloc())?,
         Versioning::Complex(mess) => mess.clone(rt.alloc())?,
     };
-    on_owned(rt, &mut Watch::new(rt)?, &Versioning::Complex(messy), text)?;
+    on_owned(rt, &mut Watch::new(rt), &Versioning::Complex(messy), text)?;
     if text.starts_with("1_") {
         check_debug(rt, &version, text)?;
     }
@@ -31,17 +31,32 @@ pub fn check_version(rt: &HostRuntime, text: &str, kind: Kind) -> io::Result<()>
 }
 
 /// Checks that the first member of a list decides, and the last, where all others match a version.
-pub fn check_list(rt: &HostRuntime, text: &str, version: &str) -> io::Result<()> {
-    let version = Versioning::new(rt.alloc(), version)?.ok_or(ErrorKind::InvalidInput)?;
-    for (front, end, matches) in [("", "", true), ("<0,", "", false), ("", ",<0", false)] {
-        let text = format!(in rt.alloc(); "{front}{text}{end}")?;
-        let list = Requirements::new(rt.alloc(), text.as_str())?.ok_or(ErrorKind::InvalidData)?;
-        holds(list.0.len() == text.split(',').count())?;
-        holds(list.to_string(rt.alloc())? == text && list.clone(rt.alloc())? == list)?;
-        holds(list.matches(&version) == matches)?;
+pub fn check_list(rt: &HostRuntime, text: &str, front: &str, end: &str) -> io::Result<()> {
+    let version = format!(in rt.alloc(); "{front}{end}")?;
+    let version = Versioning::new(rt.alloc(), version.as_str())?.ok_or(ErrorKind::InvalidInput)?;
+    for (before, behind, matches) in [("", "", true), ("<0,", "", false), ("", ",<0", false)] {
+        let text = format!(in rt.alloc(); "{before}{text}{behind}")?;
+        check_members(rt, text.as_str(), &version, matches)?;
     }
     let open = format!(in rt.alloc(); "{text},")?;
     holds(Requirements::new(rt.alloc(), open.as_str())?.is_none())
+}
+
+fn check_members(
+    rt: &HostRuntime,
+    text: &str,
+    version: &Versioning,
+    matches: bool,
+) -> io::Result<()> {
+    let list = Requirements::new(rt.alloc(), text)?.ok_or(ErrorKind::InvalidData)?;
+    let printed = list.to_string(rt.alloc())?;
+    let copy = list.clone(rt.alloc())?;
+    holds(
+        list.0.len() == text.split(',').count()
+            && printed.as_str() == text
+            && copy == list
+            && list.matches(version) == matches,
+    )
 }
 
 // `Debug` nests each section in the one before it. Pretty, it goes on for far longer than the writer takes.

@@ -68,7 +68,7 @@ fn bytes_of(megabytes: &str) -> Option<usize> {
 
 // Prints a line for each call, with the nanoseconds for each byte of the text.
 fn time(rt: &HostRuntime, name: &str, bytes: Option<usize>) -> io::Result<()> {
-    let mut watch = Watch::new(rt)?;
+    let mut watch = Watch::new(rt);
     let mut length = None;
     for _ in 0..ROUNDS {
         length = make_calls(rt, &mut watch, name, bytes, false)?.map(|texts| texts.1);
@@ -76,6 +76,7 @@ fn time(rt: &HostRuntime, name: &str, bytes: Option<usize>) -> io::Result<()> {
     let Some(length) = length else {
         return println!(rt; "{USAGE}");
     };
+    watch.check()?;
     for (call, time) in &watch.least {
         let of_a_byte = time.as_secs_f64() * 1e9 / nearest_usize_to_f64(length);
         println!(rt; "{call} {of_a_byte:.2}")?;
@@ -96,10 +97,11 @@ fn check(rt: &HostRuntime) -> io::Result<()> {
 
 // Prints a line for a shape, with a short text or the length of a long one, and the calls whose results were checked.
 fn check_shape(rt: &HostRuntime, name: &str, bytes: Option<usize>) -> io::Result<()> {
-    let mut watch = Watch::new(rt)?;
+    let mut watch = Watch::new(rt);
     let Some((texts, length)) = make_calls(rt, &mut watch, name, bytes, true)? else {
         return println!(rt; "{USAGE}");
     };
+    watch.check()?;
     match bytes {
         Some(FEW) => print!(rt; "{name} {texts}:")?,
         _ => print!(rt; "{name} of {length} bytes:")?,
@@ -121,40 +123,61 @@ fn make_calls(
     let Some(bytes) = bytes else {
         return Ok(None);
     };
-    for (shape, kind, front, further) in VERSIONS {
-        if shape == name {
-            let text = filled(rt.alloc(), front, further, bytes)?;
-            on_version(rt, watch, text.as_str())?;
-            if is_checked {
-                check_version(rt, text.as_str(), kind)?;
-            }
-            let length = text.len();
-            return Ok(Some((text, length)));
+    for shape in VERSIONS {
+        if shape.0 == name {
+            return Ok(Some(of_version(rt, watch, shape, bytes, is_checked)?));
         }
     }
-    for (shape, [member, further_member, front, further, end]) in LISTS {
+    for (shape, pieces) in LISTS {
         if shape == name {
-            let mut text = filled(rt.alloc(), member, further_member, bytes)?;
-            let mut version = filled(rt.alloc(), front, further, bytes)?;
-            version.push_str(end)?;
-            on_list(rt, watch, text.as_str(), version.as_str())?;
-            if is_checked {
-                let short = format!(in rt.alloc(); "{front}{end}")?;
-                check_list(rt, text.as_str(), short.as_str())?;
-            }
-            let length = text.len();
-            text.push_str(" ")?;
-            text.push_str(version.as_str())?;
-            return Ok(Some((text, length)));
+            return Ok(Some(of_list(rt, watch, pieces, bytes, is_checked)?));
         }
     }
-    if name != TAG {
-        return Ok(None);
+    if name == TAG {
+        return Ok(Some(of_tag(rt, watch, bytes)?));
     }
-    let text = filled(rt.alloc(), "-", "v-", bytes)?;
-    on_tag(watch, text.as_bytes())?;
+    Ok(None)
+}
+
+fn of_version(
+    rt: &HostRuntime,
+    watch: &mut Watch<'_>,
+    (_, kind, front, further): (&str, Kind, &str, &str),
+    bytes: usize,
+    is_checked: bool,
+) -> io::Result<(String, usize)> {
+    let text = filled(rt.alloc(), front, further, bytes)?;
+    on_version(rt, watch, text.as_str())?;
+    if is_checked {
+        check_version(rt, text.as_str(), kind)?;
+    }
     let length = text.len();
-    Ok(Some((text, length)))
+    Ok((text, length))
+}
+
+fn of_list(
+    rt: &HostRuntime,
+    watch: &mut Watch<'_>,
+    [member, further_member, front, further, end]: [&str; 5],
+    bytes: usize,
+    is_checked: bool,
+) -> io::Result<(String, usize)> {
+    let list = filled(rt.alloc(), member, further_member, bytes)?;
+    let mut version = filled(rt.alloc(), front, further, bytes)?;
+    version.push_str(end)?;
+    on_list(rt, watch, list.as_str(), version.as_str())?;
+    if is_checked {
+        check_list(rt, list.as_str(), front, end)?;
+    }
+    let both = format!(in rt.alloc(); "{list} {version}")?;
+    Ok((both, list.len()))
+}
+
+fn of_tag(rt: &HostRuntime, watch: &mut Watch<'_>, bytes: usize) -> io::Result<(String, usize)> {
+    let tag = filled(rt.alloc(), "-", "v-", bytes)?;
+    on_tag(watch, tag.as_bytes())?;
+    let length = tag.len();
+    Ok((tag, length))
 }
 
 // Returns a text that goes on as it began, of as many bytes or a few more.
