@@ -1,0 +1,4 @@
+pub mod Ends
+pub mod Form
+pub mod Merge
+pub mod Set

@@ -1,0 +1,78 @@
+//! Sets as bytes.
+
+ghost use Rattle.std.specs.Prelude.{◌≡◌, ◌∷◌, ◌+◌, ◌*◌, ◌^◌, ◌<◌, ◌≤◌, [], IfNone, IfSome, List, drop, length, ℕ};
+ghost use Rattle.std.specs.Option.{IsSomeAnd};
+ghost use Rattle.version_sets.specs.Form.{form_bytes, over_at};
+
+/// A set as bytes: the number of its order, how many ends it has, where each is over among the bytes of all, and these.
+/// Any bytes that are long enough are read so, and no call reads past them.
+#[derive(Clone, Copy)]
+pub struct Form<'a> {
+    count: usize,
+    numbers: &'a [u8],
+    ends: &'a [u8],
+    ghost whole: { length numbers.now ≡ 8 * count },
+    ghost few: { count < 2 ^ 61 },
+    ghost small: { length ends.now < 2 ^ 63 },
+}
+
+impl<'a> Form<'a> {
+    ghost use Rattle.version_sets.specs.Set.{ends_of};
+
+    /// Reads a set, with the number of its order. None where the bytes end too early. Does not allocate.
+    pub fn of(bytes: &'a [u8]) -> Option<(u8, Form<'a>)>
+        ensures { (order : ℕ) (ends : List (List ℕ)) → bytes.now ≡ form_bytes order ends
+            → IsSomeAnd result (λ set. (set.0 ≡ order) × (ends_of set.1 ≡ ends)) }
+    {
+        let (order, rest) = bytes.split_first()?;
+        let (count, rest) = rest.split_first_chunk::<8>()?;
+        let count = u64::from_le_bytes(*count) as usize;
+        let (numbers, ends) = rest.split_at_checked(count.checked_mul(8)?)?;
+        Some((
+            *order,
+            Form {
+                count,
+                numbers,
+                ends,
+            },
+        ))
+    }
+
+    /// Returns how many ends it has. Does not allocate.
+    pub fn count(&self) -> usize
+        ensures { result ≡ length (ends_of self.now) }
+    {
+        self.count
+    }
+
+    /// Returns the end at a place, or None where it has fewer. Does not allocate.
+    pub fn end(&self, place: usize) -> Option<&'a [u8]>
+        ensures some { IfSome result
+            (λ end. drop place (ends_of self.now) ≡ end.now ∷ drop (place + 1) (ends_of self.now)) }
+        ensures none { IfNone result (drop place (ends_of self.now) ≡ []) }
+        ensures within { IfSome result (λ _. place < self.now.count) }
+    {
+        if place >= self.count {
+            return None;
+        }
+        match self.ends.get(self.over(place)..self.over(place + 1)) {
+            Some(end) => Some(end),
+            None => Some(&[]),
+        }
+    }
+
+    // Returns where so many ends are over.
+    fn over(&self, count: usize) -> usize
+        requires { count ≤ self.now.count }
+        ensures { result ≡ over_at self.now.numbers.now count }
+    {
+        if count == 0 {
+            return 0;
+        }
+        let (_, rest) = self.numbers.split_at(8 * (count - 1));
+        match rest.split_first_chunk::<8>() {
+            Some((number, _)) => u64::from_le_bytes(*number) as usize,
+            None => 0,
+        }
+    }
+}
