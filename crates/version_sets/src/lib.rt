@@ -5,6 +5,8 @@
 
 mod algebra;
 mod form;
+mod has;
+mod keyed;
 mod laws;
 mod merge;
 #[cfg(test)]
@@ -12,5 +14,6 @@ mod tests;
 mod write;
 
 pub use form::Form;
+pub use keyed::Keyed;
 pub use merge::{Merge, Rule};
 pub use write::write_merge;

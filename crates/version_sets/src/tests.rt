@@ -1,10 +1,15 @@
 //! What rules make of two sets, beside the keys that are in each.
 
+ghost use Rattle.std.specs.Prelude.{◌∷◌, []};
+
 use crate::form::Form;
+use crate::keyed::Keyed;
 use crate::merge::{Merge, Rule};
 use crate::write::write_merge;
 use std::alloc::AllocError;
+use std::cmp::Ordering;
 use std::test::Fail;
+use version_texts::VersioningRef;
 
 const ORDER: u8 = 7;
 
@@ -32,6 +37,7 @@ fn compare(rt: &impl AllocGlobal, one: Form<'_>, other: Form<'_>) -> Result<(), 
         let made = read(room.as_slice().get(..length).ok_or("no room")?)?;
         holds(rises(&made), "ends that do not rise")?;
         for key in KEYS.as_bytes() {
+            holds(made.has(&Letter(*key)) == has(&made, *key), "halves")?;
             let wanted = match rule {
                 Rule::Both => has(&one, *key) && has(&other, *key),
                 Rule::Either => has(&one, *key) || has(&other, *key),
@@ -83,11 +89,49 @@ fn has(set: &Form<'_>, key: u8) -> bool {
     is_in
 }
 
+// Keys that are a letter each.
+#[derive(Clone, Copy)]
+struct Letter(u8);
+
+impl Keyed for Letter {
+    ghost key = { λ letter. letter.0 ∷ [] };
+
+    fn compare_key(&self, bytes: &[u8]) -> Ordering {
+        [self.0].as_slice().cmp(bytes)
+    }
+}
+
 fn holds(fact: bool, of: &str) -> Result<(), Fail> {
     match fact {
         true => Ok(()),
         false => Err(of.into()),
     }
+}
+
+// From 1.2 up to below 2, by the keys of these versions.
+#[test]
+fn versions_between_two_keys(rt: HostRuntime) -> Result<(), Fail> {
+    let mut bytes = vec![in rt.alloc(); ORDER; 1]?;
+    let (mut low, mut high) = (Vec::new(rt.alloc()), Vec::new(rt.alloc()));
+    version("1.2")?.append_key(&mut low)?;
+    version("2")?.append_key(&mut high)?;
+    for number in [2, low.len(), low.len().saturating_add(high.len())] {
+        bytes.extend_from_slice(&(number as u64).to_le_bytes())?;
+    }
+    bytes.extend_from_slice(low.as_slice())?;
+    bytes.extend_from_slice(high.as_slice())?;
+    let set = read(bytes.as_slice())?;
+    for text in ["1.2", "1.2.5", "1.9.0-rc.1", "1.10"] {
+        holds(set.has(&version(text)?), text)?;
+    }
+    for text in ["1.2rc1", "2", "2.0.0", "1.1", "0:2", "1:1.5"] {
+        holds(!set.has(&version(text)?), text)?;
+    }
+    Ok(())
+}
+
+fn version(text: &str) -> Result<VersioningRef<'_>, Fail> {
+    Ok(VersioningRef::new(text).ok_or("no version")?)
 }
 
 // Bytes that end too early.

@@ -1,6 +1,7 @@
 -- Sets of keys by their ends: two that hold the same keys have the same ends; all else; a merge.
-use Rattle.std.proofs.Common.{subst, ◌==◌, ◌≡◌, ◌∙◌, ◌⊎◌, inl, inr, ℕ, Bool, true, false, not, List, [], ◌∷◌, length, if◌then◌else◌, ap, refl, sym}
+use Rattle.std.proofs.Common.{arith, ◌<◌, zero, suc, ◌+◌, ◌%◌, drop, lit<, subst, ◌==◌, ◌≡◌, ◌∙◌, ◌⊎◌, inl, inr, ℕ, Bool, true, false, not, List, [], ◌∷◌, length, if◌then◌else◌, ap, refl, sym}
 use Rattle.std.proofs.lemmas.Cmp.{nat_list_cmp_total}
+use Rattle.std.proofs.Math.Nat.{mod-lt, suc-mod}
 use Rattle.std.proofs.lemmas.Bool.{eqb-true}
 use Rattle.std.proofs.lemmas.List.{nil_from_length}
 use Rattle.std.specs.Bool.{beq}
@@ -100,7 +101,7 @@ same (x ∷ one) (y ∷ other) rise rise_too e =
 
 -- ---- a merge: what is the end of a set by a rule, of the ends of two sets
 
-abbrev flip : Bool → Bool → Bool
+abbrev pub flip : Bool → Bool → Bool
 flip true b = not b
 flip false b = b
 
@@ -370,3 +371,73 @@ are_merged rule neither one other rise rise_too = record {
   rise = merged_rise rule false false one other rise rise_too;
   are = in_both rule neither one other rise rise_too;
 }
+
+-- ---- a key among the ends
+
+abbrev pub odd : ℕ → Bool
+odd n = n % 2 == 1
+
+odd_next : (n : ℕ) → odd (n + 1) ≡ not (odd n)
+odd_next n = ap odd (omega arith) ∙ ap (λ r. r == 1) (suc-mod n 2) ∙ by (n % 2) (mod-lt n (lit< tt))
+  where
+    by : (r : ℕ) → r < 2 → (suc r % 2 == 1) ≡ not (r == 1)
+    by zero small = refl
+    by (suc zero) small = refl
+    by (suc (suc r)) small = absurd (omega (arith, small))
+
+pub rise_drop : (ends : List (List ℕ)) (n : ℕ) → Rise ends → Rise (drop n ends)
+unfolding IsStrictlySortedBy
+rise_drop ends zero rise = rise
+rise_drop [] (suc n) rise = tt
+rise_drop (end ∷ ends) (suc n) rise = rise_drop ends n rise.1
+
+-- a key is below each end from a place on if it is below the first of them
+pub above_from : (ends : List (List ℕ)) (place : ℕ) (end : List ℕ) (behind : List (List ℕ)) (key : List ℕ)
+    → Rise ends → drop place ends ≡ end ∷ behind → bytes_cmp key end ≡ Less
+    → Above key (drop place ends)
+unfolding IsStrictlySortedBy
+above_from ends place end behind key rise is less =
+    let rising = subst Rise is (rise_drop ends place rise) in
+    subst (Above key) (sym is) (less, below_all key end behind less rising.0)
+
+below_later : (first : List ℕ) (ends : List (List ℕ)) (place : ℕ) (end : List ℕ) (behind : List (List ℕ))
+    → AllByRecursion (λ further. bytes_cmp first further ≡ Less) ends → drop place ends ≡ end ∷ behind
+    → bytes_cmp first end ≡ Less
+below_later first [] zero end behind all is = cc is
+below_later first [] (suc place) end behind all is = cc is
+below_later first (next ∷ ends) zero end behind all is = ap (bytes_cmp first) (sym (cc is)) ∙ all.0
+below_later first (next ∷ ends) (suc place) end behind all is =
+    below_later first ends place end behind all.1 is
+
+-- a key that is not below an end has passed it, and all before it
+pub passed_from : (ends : List (List ℕ)) (place : ℕ) (end : List ℕ) (key : List ℕ) → Rise ends
+    → drop place ends ≡ end ∷ drop (place + 1) ends → ¬ (bytes_cmp key end ≡ Less)
+    → has ends key ≡ flip (odd (place + 1)) (has (drop (place + 1) ends) key)
+unfolding IsStrictlySortedBy
+passed_from [] zero end key rise is from = cc is
+passed_from [] (suc place) end key rise is from = cc is
+passed_from (first ∷ ends) zero end key rise is from =
+    from_there key first ends (λ less. from (ap (bytes_cmp key) (sym (cc is)) ∙ less))
+passed_from (first ∷ ends) (suc place) end key rise is from =
+    let further : suc place + 1 ≡ suc (place + 1) = omega arith in
+    let here : drop place ends ≡ end ∷ drop (place + 1) ends =
+    is ∙ ap (λ n. end ∷ drop n (first ∷ ends)) further in
+    let below = below_later first ends place end (drop (place + 1) ends) rise.0 here in
+    from_there key first ends (λ less. from (total.trans key first end less below))
+    ∙ ap not (passed_from ends place end key rise.1 here from)
+    ∙ turn (odd (place + 1)) (has (drop (place + 1) ends) key)
+    ∙ ap (λ side. flip side (has (drop (place + 1) ends) key))
+    (sym (ap odd further ∙ ap odd (omega arith) ∙ odd_next (place + 1)))
+    ∙ ap (λ n. flip (odd (suc place + 1)) (has (drop n (first ∷ ends)) key)) (sym further)
+  where
+    turn : (side b : Bool) → not (flip side b) ≡ flip (not side) b
+    turn true true = refl
+    turn true false = refl
+    turn false true = refl
+    turn false false = refl
+
+-- where no end is left that is not above the key, what is passed decides
+pub decided : (ends : List (List ℕ)) (low : ℕ) (key : List ℕ)
+    → has ends key ≡ flip (odd low) (has (drop low ends) key) → Above key (drop low ends)
+    → has ends key ≡ odd low
+decided ends low key passed over = passed ∙ flip_none (odd low) (drop low ends) key over
