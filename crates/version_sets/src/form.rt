@@ -1,8 +1,8 @@
 //! Sets as bytes.
 
-ghost use Rattle.std.specs.Prelude.{◌≡◌, ◌∷◌, ◌+◌, ◌*◌, ◌^◌, ◌<◌, ◌≤◌, [], IfNone, IfSome, List, drop, length, ℕ};
+ghost use Rattle.std.specs.Prelude.{◌≡◌, ◌∷◌, ◌++◌, ◌+◌, ◌*◌, ◌^◌, ◌<◌, ◌≤◌, [], IfNone, IfSome, List, drop, length, ℕ};
 ghost use Rattle.std.specs.Option.{IsSomeAnd};
-ghost use Rattle.version_sets.specs.Form.{form_bytes, over_at};
+ghost use Rattle.version_sets.specs.Form.{form_bytes, number, over_at};
 
 /// A set as bytes: the number of its order, how many ends it has, where each is over among the bytes of all, and these.
 /// Any bytes that are long enough are read so, and no call reads past them.
@@ -21,8 +21,12 @@ impl<'a> Form<'a> {
 
     /// Reads a set, with the number of its order. None where the bytes end too early. Does not allocate.
     pub fn of(bytes: &'a [u8]) -> Option<(u8, Form<'a>)>
-        ensures { (order : ℕ) (ends : List (List ℕ)) → bytes.now ≡ form_bytes order ends
+        ensures form { (order : ℕ) (ends : List (List ℕ)) → bytes.now ≡ form_bytes order ends
             → IsSomeAnd result (λ set. (set.0 ≡ order) × (ends_of set.1 ≡ ends)) }
+
+        // What is read are these bytes, taken apart, and no others.
+        ensures read { IfSome result (λ set. bytes.now
+            ≡ set.0 ∷ (number set.1.count ++ (set.1.numbers.now ++ set.1.ends.now))) }
     {
         let (order, rest) = bytes.split_first()?;
         let (count, rest) = rest.split_first_chunk::<8>()?;

@@ -1,19 +1,22 @@
-use Rattle.std.proofs.Common.{◌≡◌, ◌∙◌, ◌*◌, ◌<◌, ◌^◌, ap, arith, drop, length, sym, take}
+use Rattle.std.proofs.Common.{◌++◌, ◌∷◌, ℕ, List, get_or, inl, inr, subst, suc, ◌≡◌, ◌∙◌, ◌*◌, ◌<◌, ◌^◌, ap, arith, drop, length, sym, take}
 use Rattle.version_sets.proofs.lemmas.Form.{are_read, ends_are, number_told}
-use Rattle.version_sets.specs.Form.{ends_in, form_bytes}
+use Rattle.std.proofs.lemmas.Bool.{cases_lt}
+use Rattle.std.proofs.lemmas.List.{get_or-take, get_or_past, length-take, length-take-le, take-append-drop}
+use Rattle.std.proofs.lemmas.Nat.{le_bytes_8}
+use Rattle.version_sets.specs.Form.{ends_in, form_bytes, number}
 use Rattle.version_sets.proofs.form.Form.of.Goals as goal
 
-pub returns-in_err-order : goal.returns-in_err-order
+pub returns-in_err-order-clause-form : goal.returns-in_err-order-clause-form
 unfolding form_bytes
-returns-in_err-order c order ends is = absurd (omega (arith, ap length is, c.in_err-order.ensures.cases))
+returns-in_err-order-clause-form c order ends is = absurd (omega (arith, ap length is, c.in_err-order.ensures.cases))
 
-pub returns-in_err-count : goal.returns-in_err-count
-returns-in_err-count c order ends is =
+pub returns-in_err-count-clause-form : goal.returns-in_err-count-clause-form
+returns-in_err-count-clause-form c order ends is =
     let read = (are_read order _ _ ends (sym c.in_ok-order.ensures.cases.0 ∙ is)).1 in
     absurd (omega (arith, read.long, c.in_err-count.ensures.cases))
 
-pub returns-in_err-checked_mul : goal.returns-in_err-checked_mul
-returns-in_err-checked_mul c order ends is =
+pub returns-in_err-checked_mul-clause-form : goal.returns-in_err-checked_mul-clause-form
+returns-in_err-checked_mul-clause-form c order ends is =
     let read = (are_read order _ _ ends (sym c.in_ok-order.ensures.cases.0 ∙ is)).1 in
     let small : length ends < 2 ^ 64 =
     omega (arith, read.long, c.in_ok-order.ensures.cases.1, c.well_formed.0.0) in
@@ -21,8 +24,8 @@ returns-in_err-checked_mul c order ends is =
     absurd (c.in_err-checked_mul.ensures
     (omega (arith, count, read.long, c.in_ok-order.ensures.cases.1, c.well_formed.0.0)))
 
-pub returns-in_err-numbers : goal.returns-in_err-numbers
-returns-in_err-numbers c order ends is =
+pub returns-in_err-numbers-clause-form : goal.returns-in_err-numbers-clause-form
+returns-in_err-numbers-clause-form c order ends is =
     let read = (are_read order _ _ ends (sym c.in_ok-order.ensures.cases.0 ∙ is)).1 in
     let small : length ends < 2 ^ 64 =
     omega (arith, read.long, c.in_ok-order.ensures.cases.1, c.well_formed.0.0) in
@@ -36,8 +39,8 @@ returns-in_err-numbers c order ends is =
       c.in_ok-count.ensures.cases.2,
     ))
 
-pub returns : goal.returns
-returns c order ends is =
+pub returns-clause-form : goal.returns-clause-form
+returns-clause-form c order ends is =
     let told = are_read order _ _ ends (sym c.in_ok-order.ensures.cases.0 ∙ is) in
     let read = told.1 in
     let small : length ends < 2 ^ 64 =
@@ -60,3 +63,32 @@ returns c order ends is =
             c.well_formed.0.0,
           )),
     )
+
+-- the bytes of a beginning are bytes
+small_in : (bytes rest : List ℕ) (first : ℕ) → bytes ≡ first ∷ rest
+    → ((i : ℕ) → get_or bytes i 0 < 256) → (i : ℕ) → get_or (take 8 rest) i 0 < 256
+small_in bytes rest first is small i = elim (cases_lt i 8) [
+  | inl inside ↦
+      rw (get_or-take 8 rest i 0 inside)
+      (subst (λ n. n < 256) (ap (λ l. get_or l (suc i) 0) is) (small (suc i)))
+  | inr past ↦
+      rw (get_or_past (take 8 rest) i 0 (omega (arith, past, length-take 8 rest))) (omega arith)
+]
+
+pub returns-clause-read : goal.returns-clause-read
+unfolding number
+returns-clause-read c =
+    let rest = c.in_ok-order.rest.now in
+    let first = c.in_ok-order.ensures.cases in
+    let count = c.in_ok-count.ensures.cases in
+    let parts = c.in_ok-numbers.ensures.cases in
+    let few : length c.in_ok-count.count.now ≡ 8 =
+    ap length count.0 ∙ length-take-le 8 rest (omega (arith, count.2)) in
+    let told = le_bytes_8 c.in_ok-count.count.now _ few
+    (subst (λ (l : List ℕ). (i : ℕ) → get_or l i 0 < 256) (sym count.0)
+    (small_in _ _ _ first.0 (λ i. omega (arith, c.type_inv.bytes i)))) c.from_le_bytes-count.ensures in
+    first.0 ∙ ap (λ (l : List ℕ). c.in_ok-order.order.now ∷ l)
+    (sym (take-append-drop 8 rest)
+    ∙ (λ i. (sym count.0 ∙ sym told) i ++ (sym count.1
+    ∙ sym (take-append-drop c.in_ok-checked_mul.field-0 c.in_ok-count.rest.now)
+    ∙ (λ j. sym parts.1 j ++ sym parts.2 j)) i))
