@@ -20,6 +20,8 @@ pub enum Kept {
     All,
     /// The parts before the last one.
     ButLast,
+    /// The parts before the last one, or the only one.
+    ButLastOrOnly,
     /// The parts through the first one that is not a plain zero, or all if each is one.
     ThroughOther,
 }

@@ -6,7 +6,6 @@
 mod algebra;
 mod form;
 mod has;
-mod keyed;
 mod laws;
 mod merge;
 #[cfg(test)]
@@ -14,6 +13,5 @@ mod tests;
 mod write;
 
 pub use form::Form;
-pub use keyed::Keyed;
 pub use merge::{Merge, Rule};
 pub use write::write_merge;

@@ -1,22 +1,18 @@
 //! What rules make of two sets, beside the keys that are in each.
 
-ghost use Rattle.std.specs.Prelude.{◌∷◌, []};
-
 use crate::form::Form;
-use crate::keyed::Keyed;
 use crate::merge::{Merge, Rule};
 use crate::write::write_merge;
 use std::alloc::AllocError;
-use std::cmp::Ordering;
 use std::test::Fail;
 use version_texts::VersioningRef;
 
 const ORDER: u8 = 7;
 
-// Sets by their ends, a letter each, and keys before, between and behind these.
-const SETS: &str = "|b|d|f|h|bd|bf|bh|df|dh|fh|bdf|bdh|bfh|dfh|bdfh";
+// Sets by their ends, each the key of a version, and versions before, between and behind these.
+const SETS: &str = "|2|4|6|8|24|26|28|46|48|68|246|248|268|468|2468";
 
-const KEYS: &str = "abcdefghi";
+const VERSIONS: &str = "1|2|3|4|5|6|7|8|9";
 
 #[test]
 fn each_two_sets_by_each_rule(rt: HostRuntime) -> Result<(), Fail> {
@@ -36,35 +32,43 @@ fn compare(rt: &impl AllocGlobal, one: Form<'_>, other: Form<'_>) -> Result<(), 
         let length = write_merge(ORDER, Merge::of(rule, one, other), room.as_mut_slice());
         let made = read(room.as_slice().get(..length).ok_or("no room")?)?;
         holds(rises(&made), "ends that do not rise")?;
-        for key in KEYS.as_bytes() {
-            holds(made.has(&Letter(*key)) == has(&made, *key), "halves")?;
+        for text in VERSIONS.split('|') {
+            let key = version(text)?;
+            holds(made.has(&key) == has(&made, &key), "halves")?;
             let wanted = match rule {
-                Rule::Both => has(&one, *key) && has(&other, *key),
-                Rule::Either => has(&one, *key) || has(&other, *key),
-                Rule::FirstAlone => has(&one, *key) && !has(&other, *key),
+                Rule::Both => has(&one, &key) && has(&other, &key),
+                Rule::Either => has(&one, &key) || has(&other, &key),
+                Rule::FirstAlone => has(&one, &key) && !has(&other, &key),
             };
-            holds(has(&made, *key) == wanted, "another key")?;
+            holds(has(&made, &key) == wanted, "another key")?;
         }
         let mut short = vec![in rt.alloc(); b'!'; length.saturating_sub(1)]?;
         let told = write_merge(ORDER, Merge::of(rule, one, other), short.as_mut_slice());
         let kept = short.as_slice().iter().all(|byte| *byte == b'!');
         holds(told == length && kept, "what does not fit")?;
     }
-    let keys = KEYS.as_bytes();
-    let within = keys.iter().all(|key| !has(&one, *key) || has(&other, *key));
-    let common = keys.iter().any(|key| has(&one, *key) && has(&other, *key));
+    let (mut within, mut common) = (true, false);
+    for text in VERSIONS.split('|') {
+        let key = version(text)?;
+        within = within && (!has(&one, &key) || has(&other, &key));
+        common = common || (has(&one, &key) && has(&other, &key));
+    }
     holds(one.is_part_of(&other) == within, "part of")?;
     holds(one.meets(&other) == common, "meets")
 }
 
-// Returns the bytes of a set whose ends are letters.
-fn bytes_of(rt: &impl AllocGlobal, ends: &str) -> Result<Vec<u8>, AllocError> {
+// Returns the bytes of a set whose ends are keys of versions, of a digit each.
+fn bytes_of(rt: &impl AllocGlobal, versions: &str) -> Result<Vec<u8>, Fail> {
     let mut bytes = vec![in rt.alloc(); ORDER; 1]?;
-    bytes.extend_from_slice(&(ends.len() as u64).to_le_bytes())?;
-    for over in 0..ends.len() {
-        bytes.extend_from_slice(&(over as u64).saturating_add(1).to_le_bytes())?;
+    let mut ends = Vec::new(rt.alloc());
+    bytes.extend_from_slice(&(versions.len() as u64).to_le_bytes())?;
+    for digit in versions.as_bytes() {
+        let text = [*digit];
+        let version = VersioningRef::from_bytes(&text).ok_or("no digit")?;
+        version.append_key(&mut ends)?;
+        bytes.extend_from_slice(&(ends.len() as u64).to_le_bytes())?;
     }
-    bytes.extend_from_slice(ends.as_bytes())?;
+    bytes.extend_from_slice(ends.as_slice())?;
     Ok(bytes)
 }
 
@@ -79,26 +83,17 @@ fn rises(set: &Form<'_>) -> bool {
 }
 
 // Whether an odd number of ends is not above a key.
-fn has(set: &Form<'_>, key: u8) -> bool {
+fn has(set: &Form<'_>, key: &VersioningRef<'_>) -> bool {
     let mut is_in = false;
     for place in 0..set.count() {
-        if set.end(place).is_some_and(|end| end <= [key].as_slice()) {
+        if set
+            .end(place)
+            .is_some_and(|end| key.compare_key(end).is_ge())
+        {
             is_in = !is_in;
         }
     }
     is_in
-}
-
-// Keys that are a letter each.
-#[derive(Clone, Copy)]
-struct Letter(u8);
-
-impl Keyed for Letter {
-    ghost key = { λ letter. letter.0 ∷ [] };
-
-    fn compare_key(&self, bytes: &[u8]) -> Ordering {
-        [self.0].as_slice().cmp(bytes)
-    }
 }
 
 fn holds(fact: bool, of: &str) -> Result<(), Fail> {

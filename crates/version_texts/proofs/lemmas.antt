@@ -1,4 +1,5 @@
 pub mod key
+pub mod keyed
 pub mod order
 pub mod requirement
 pub mod scan

@@ -5,6 +5,7 @@
 #![tactic(auto)]
 
 mod key;
+mod keyed;
 mod laws;
 mod order;
 mod requirement;
@@ -15,6 +16,7 @@ pub use key::length::room_for;
 pub use key::sink::{Sink, put_all};
 pub use key::sinks::{Count, Room};
 pub use key::ties::{compare_key_ties, mark_kind, marked_kind, marked_number};
+pub use keyed::Keyed;
 pub use order::difference::Difference;
 pub use order::piece::split_piece;
 pub use requirement::conflict::{Conflict, Span, conflict_in};
@@ -29,3 +31,4 @@ pub use scan::numeral::{is_digits, numeral_value, spells_numeral};
 pub use versioning_ref::VersioningRef;
 pub use versioning_ref::field::Field;
 pub use versioning_ref::numbers::{LARGEST_EPOCH, from_piece};
+pub use versioning_ref::slip::Slip;

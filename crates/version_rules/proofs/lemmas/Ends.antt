@@ -6,7 +6,7 @@ use Rattle.version_rules.specs.key.Codes.{items_bytes}
 use Rattle.version_rules.specs.grammar.Last.{last_text}
 use Rattle.version_rules.specs.key.PartKey.{PartKey, chunk_parts, part_bytes, part_key}
 use Rattle.version_rules.specs.declared.ends.Kept.{Kept}
-use Rattle.version_rules.specs.declared.ends.Kept.TheVariants.{All, ButLast, ThroughOther}
+use Rattle.version_rules.specs.declared.ends.Kept.TheVariants.{All, ButLast, ButLastOrOnly, ThroughOther}
 use Rattle.version_rules.specs.requirement.Ends.{kept_parts}
 use Rattle.version_rules.specs.key.Key.{strict_body}
 use Rattle.version_rules.specs.grammar.Kind.{versioning_kind}
@@ -38,6 +38,7 @@ pub last_kept : (kept : Kept) (part : PartKey) → ¬ (kept ≡ ButLast)
     → items_bytes part_bytes (kept_parts kept (part ∷ [])) ≡ part_bytes (Some part)
 last_kept All part other = append-nil (part_bytes (Some part))
 last_kept ButLast part other = absurd (other refl)
+last_kept ButLastOrOnly part other = append-nil (part_bytes (Some part))
 last_kept ThroughOther part other = elim (cases_Bool (is_plain_zero part)) [
   | inl zero ↦ rw zero (append-nil (part_bytes (Some part)))
   | inr not ↦ rw not (append-nil (part_bytes (Some part)))

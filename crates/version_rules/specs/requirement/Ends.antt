@@ -5,16 +5,17 @@ use Rattle.version_rules.specs.key.PartKey.{PartKey}
 use Rattle.version_rules.specs.declared.ends.End.{End}
 use Rattle.version_rules.specs.declared.ends.Ends.{Ends}
 use Rattle.version_rules.specs.declared.ends.Kept.{Kept}
-use Rattle.version_rules.specs.declared.ends.Kept.TheVariants.{All, ButLast, ThroughOther}
+use Rattle.version_rules.specs.declared.ends.Kept.TheVariants.{All, ButLast, ButLastOrOnly, ThroughOther}
 use Rattle.version_rules.specs.key.Key.{Key}
 use Rattle.version_rules.specs.key.KeyBytes.{key_bytes}
-use Rattle.version_rules.specs.requirement.Range.{PlainRange, above_begun, after, begun, but_last, through_other}
+use Rattle.version_rules.specs.requirement.Range.{PlainRange, above_begun, after, begun, but_last, but_last_or_only, through_other}
 use Rattle.version_rules.specs.declared.ends.End.TheVariants as end
 
 -- the parts that are kept of those of a body
 abbrev pub kept_parts : Kept → List PartKey → List PartKey
 kept_parts All parts = parts
 kept_parts ButLast parts = but_last parts
+kept_parts ButLastOrOnly parts = but_last_or_only parts
 kept_parts ThroughOther parts = through_other parts
 
 -- the bytes of an end, by the key of the version

@@ -94,6 +94,15 @@ above_begun epoch parts = begun epoch parts ++ 4 ∷ []
 abbrev pub but_last : List PartKey → List PartKey
 but_last parts = option_map_or (λ split. split.0) (split_last parts) []
 
+-- parts, or others where there are none
+abbrev pub or_others : List PartKey → List PartKey → List PartKey
+or_others [] others = others
+or_others (part ∷ parts) others = part ∷ parts
+
+-- the parts before the last one, or the only one
+abbrev pub but_last_or_only : List PartKey → List PartKey
+but_last_or_only parts = or_others (but_last parts) parts
+
 -- the parts through the first one that is not a plain zero, or all if each is one
 abbrev pub through_other : List PartKey → List PartKey
 through_other [] = []

@@ -1,4 +1,5 @@
 pub mod EpochAndParts
 pub mod Field
 pub mod Numbers
+pub mod Slip
 pub mod VersioningRef

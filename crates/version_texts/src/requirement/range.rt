@@ -55,6 +55,10 @@ pub(crate) fn kept_parts(body: &[u8], kept: Kept) -> Option<&[u8]>
     match kept {
         Kept::All => Some(body),
         Kept::ButLast => before_last_dot(body),
+        Kept::ButLastOrOnly => match before_last_dot(body) {
+            Some(front) => Some(front),
+            None => Some(body),
+        },
         Kept::ThroughOther => Some(through_other(body)),
     }
 }

@@ -10,6 +10,7 @@ ghost use Rattle.version_rules.specs.grammar.Kind.{versioning_kind};
 ghost use Rattle.version_rules.specs.requirement.Range.{begun};
 ghost use Rattle.versions.specs.Range.{plain_range};
 ghost use Rattle.versions.specs.Versioning.{plain_versioning};
+ghost use Rattle.version_rules.specs.declared.ends.Kept.TheVariants.{ButLastOrOnly};
 ghost use Rattle.version_rules.specs.declared.kind.Kind.TheVariants.{Complex};
 
 use crate::numbers::Numbers;
@@ -122,12 +123,18 @@ fn append_parts(
         ++ begun epoch (kept_parts kept (first_part parts.entry ∷ more_parts parts.entry))) }
 {
     PieceBytes::number(epoch).append_to(list)?;
+    let kept = match kept {
+        Kept::ButLastOrOnly if parts.rest().is_some() => Kept::ButLast,
+        Kept::ButLastOrOnly => Kept::All,
+        _ => kept,
+    };
     append_kept(parts, kept, list)
 }
 
 // Appends the bytes of the parts that are kept to a list.
 #[tactic(auto, using(version_rules::proofs::lemmas::Ends::last_kept))]
 fn append_kept(mut parts: BodyParts<'_>, kept: Kept, list: &mut Vec<u8>) -> Result<(), AllocError>
+    requires { ¬ (kept ≡ ButLastOrOnly) }
     ensures { OnOk result (list.new.items ≡ list.old.items ++ items_bytes part_bytes
         (kept_parts kept (first_part parts.entry ∷ more_parts parts.entry))) }
 {

@@ -7,9 +7,9 @@ use Rattle.version_sets.proofs.form.Form.has.Given as goal
 -- the ends before the low place are not above the key, and it is below those from the high one on
 abbrev pub invariant-loop-low : goal.invariant-loop-low
 invariant-loop-low g l = record {
-  passed : Rise (ends_of l.self) → has (ends_of l.self) (g.K.Keyed.key l.value)
-      ≡ flip (odd l.low) (has (drop l.low (ends_of l.self)) (g.K.Keyed.key l.value));
-  above : Rise (ends_of l.self) → Above (g.K.Keyed.key l.value) (drop l.high (ends_of l.self));
+  passed : Rise (ends_of l.self) → has (ends_of l.self) (g.V.Keyed.plain l.version).key
+      ≡ flip (odd l.low) (has (drop l.low (ends_of l.self)) (g.V.Keyed.plain l.version).key);
+  above : Rise (ends_of l.self) → Above (g.V.Keyed.plain l.version).key (drop l.high (ends_of l.self));
   order : l.low ≤ l.high;
   within : l.high ≤ length (ends_of l.self);
 }

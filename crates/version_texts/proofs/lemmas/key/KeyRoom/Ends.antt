@@ -9,13 +9,13 @@ use Rattle.version_rules.specs.key.KeyBytes.{key_bytes}
 use Rattle.version_rules.specs.order.Lists.{split_last}
 use Rattle.version_rules.specs.key.NumberBytes.{number_bytes}
 use Rattle.version_rules.specs.key.PartKey.{PartKey, part_bytes}
-use Rattle.version_rules.specs.requirement.Range.{begun, but_last, through_other}
+use Rattle.version_rules.specs.requirement.Range.{begun, but_last, or_others, through_other}
 use Rattle.version_rules.specs.requirement.VersionMatch.{is_plain_zero}
 use Rattle.version_rules.specs.declared.ends.End.{End}
 use Rattle.version_rules.specs.declared.ends.End.TheVariants.{AboveBegun, AfterKey, Begun, Lowest, Zero}
 use Rattle.version_rules.specs.declared.ends.End.TheVariants as variant
 use Rattle.version_rules.specs.declared.ends.Kept.{Kept}
-use Rattle.version_rules.specs.declared.ends.Kept.TheVariants.{All, ButLast, ThroughOther}
+use Rattle.version_rules.specs.declared.ends.Kept.TheVariants.{All, ButLast, ButLastOrOnly, ThroughOther}
 use Rattle.version_texts.proofs.lemmas.key.KeyRoom.{key_length}
 use Rattle.version_texts.proofs.lemmas.key.KeyRoom.Parts.{list_length}
 
@@ -43,6 +43,11 @@ but_last_length (part ∷ parts) = by (split_last parts) (but_last_length parts)
     by None fewer = omega arith
     by (Some s) fewer = omega (arith, fewer, one_more part s.0, one_more part parts)
 
+pub or_others_length : (kept parts : List PartKey) → length_of kept ≤ length_of parts
+    → length_of (or_others kept parts) ≤ length_of parts
+or_others_length [] parts fewer = omega arith
+or_others_length (part ∷ kept) parts fewer = fewer
+
 pub through_other_length : (parts : List PartKey) → length_of (through_other parts) ≤ length_of parts
 through_other_length [] = omega arith
 through_other_length (part ∷ parts) = by (is_plain_zero part) (through_other_length parts)
@@ -67,6 +72,7 @@ kept_length : (kept : Kept) (parts : List PartKey)
     → length_of (kept_parts kept parts) ≤ length_of parts
 kept_length All parts = omega arith
 kept_length ButLast parts = but_last_length parts
+kept_length ButLastOrOnly parts = or_others_length (but_last parts) parts (but_last_length parts)
 kept_length ThroughOther parts = through_other_length parts
 
 pub end_length : (end : End) (k : Key) → length (end_bytes end k) ≤ length (key_bytes k) + 1

@@ -10,7 +10,7 @@ use Rattle.std.specs.Cmp.{first_so}
 use Rattle.std.specs.List.{list_all}
 use Rattle.version_rules.specs.key.PartKey.{PartKey, part_key}
 use Rattle.version_rules.proofs.lemmas.Lists.{split_last-append}
-use Rattle.version_rules.specs.requirement.Range.{but_last, through_other}
+use Rattle.version_rules.specs.requirement.Range.{but_last, but_last_or_only, or_others, through_other}
 use Rattle.version_rules.specs.requirement.VersionMatch.{is_plain_zero}
 use Rattle.version_texts.specs.order.Piece.{behind_piece, first_piece, is_dot}
 use Rattle.version_texts.specs.key.TextKey.{parts_of, pieces}
@@ -62,6 +62,13 @@ pub no_last : (text left : List ℕ) → Undotted text left → length left < 1
 no_last text [] so_far none =
     sym (ap but_last (ap parts_of so_far.whole ∙ one_part so_far.behind so_far.no_dots))
 no_last text (b ∷ left) so_far none = absurd (omega arith)
+
+-- the parts of a text are some
+pub some_before : (front : List ℕ) (parts : List PartKey) → parts_of front ≡ but_last parts
+    → parts_of front ≡ but_last_or_only parts
+some_before front parts are =
+    parts_begin front
+    ∙ sym (ap (λ (l : List PartKey). or_others l parts) (sym are ∙ parts_begin front))
 
 -- ---- through the first part that is not a plain zero
 

@@ -4,19 +4,20 @@ use Rattle.version_rules.specs.requirement.Ends.{kept_parts}
 use Rattle.version_rules.specs.key.PartKey.{PartKey, part_bytes}
 use Rattle.version_rules.specs.requirement.VersionMatch.{is_plain_zero}
 use Rattle.version_rules.specs.declared.ends.Kept.{Kept}
-use Rattle.version_rules.specs.declared.ends.Kept.TheVariants.{All, ButLast, ThroughOther}
+use Rattle.version_rules.specs.declared.ends.Kept.TheVariants.{All, ButLast, ButLastOrOnly, ThroughOther}
 use Rattle.versions.specs.BodyParts.{first_part, more_parts}
 use Rattle.versions.proofs.range.build.append_kept.Goals.{else-eq-via-then-eq+else-not-begins_with_zero, else-eq-via-else-eq}
 use Rattle.versions.proofs.range.build.append_kept.Goals as goal
 
 -- a part that others follow is kept, and what is kept of these, unless the walk ends at it
 goes_on : (kept : Kept) (w x : PartKey) (more : List PartKey)
-    → (kept ≡ ThroughOther → is_plain_zero w ≡ true)
+    → ¬ (kept ≡ ButLastOrOnly) → (kept ≡ ThroughOther → is_plain_zero w ≡ true)
     → items_bytes part_bytes (kept_parts kept (w ∷ x ∷ more))
     ≡ part_bytes (Some w) ++ items_bytes part_bytes (kept_parts kept (x ∷ more))
-goes_on All w x more zero = refl
-goes_on ButLast w x more zero = refl
-goes_on ThroughOther w x more zero = rw (zero refl) refl
+goes_on All w x more other zero = refl
+goes_on ButLast w x more other zero = refl
+goes_on ButLastOrOnly w x more other zero = absurd (other refl)
+goes_on ThroughOther w x more other zero = rw (zero refl) refl
 
 pub loop-rest-preserved : goal.loop-rest-preserved
 loop-rest-preserved c =
@@ -28,7 +29,7 @@ loop-rest-preserved c =
       | else-eq-via-else-eq w ↦ λ same. cc (rw same at c.eq.ensures, w.if-eq.false)
     ] in
     let whole = goes_on c.args.kept first (first_part c.in-Some.rest) (more_parts c.in-Some.rest)
-    zero in
+    c.requires zero in
     let appended = c.part.ensures ∙ ap (λ (k : PartKey). part_bytes (Some k)) c.first.ensures in
     let kept = items_bytes part_bytes
     (kept_parts c.args.kept (first_part c.in-Some.rest ∷ more_parts c.in-Some.rest)) in
