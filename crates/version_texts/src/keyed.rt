@@ -18,7 +18,7 @@ use std::cmp::Ordering;
 use version_rules::End;
 
 /// A version of an order, read from a text: it has a key, and keys compare byte by byte as the order has it.
-pub trait Keyed<'t>: Sized {
+pub trait Keyed<'t>: Copy {
     // What a text is read as, and a version.
     ghost read_as: { List ℕ → Option PlainKeyed };
 
