@@ -1,4 +1,10 @@
+pub mod Comparison
 pub mod Ends
 pub mod Form
 pub mod Merge
+pub mod Pieces
+pub mod Pile
+pub mod Reader
+pub mod Reading
 pub mod Set
+pub mod Steps

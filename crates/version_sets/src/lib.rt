@@ -8,10 +8,14 @@ mod form;
 mod has;
 mod laws;
 mod merge;
+mod read;
 #[cfg(test)]
 mod tests;
 mod write;
 
 pub use form::Form;
 pub use merge::{Merge, Rule};
+pub use read::comparison::Comparison;
+pub use read::fault::{Fault, Reason};
+pub use read::{Unread, read_set, set_room};
 pub use write::write_merge;

@@ -2,6 +2,7 @@
 
 use crate::form::Form;
 use crate::merge::{Merge, Rule};
+use crate::read::{Unread, read_set, set_room};
 use crate::write::write_merge;
 use std::alloc::AllocError;
 use std::test::Fail;
@@ -127,6 +128,104 @@ fn versions_between_two_keys(rt: HostRuntime) -> Result<(), Fail> {
 
 fn version(text: &str) -> Result<VersioningRef<'_>, Fail> {
     Ok(VersioningRef::new(text).ok_or("no version")?)
+}
+
+// Sets, versions that they have, and after `!` versions that they have not.
+const READ: &str = "\
+>=1.2, <2|1.2 1.2.5 1.9.0-rc.1 !1.2rc1 !2 !2.0.0-rc.1
+^1.2|1.2 1.2.5 1.2.0-rc.1 1.10 1.2_3 !1.1.9 !1.2rc1 !2 !2.0.0-rc.1
+~1.2.3|1.2.3 1.2.4 1.2.3.1 !1.2.3-rc.1 !1.3.0
+~1.2|1.2 1.5 !2 !1.1
+~1|1 1.5 !2 !0.9
+=1.2.*|1.2 1.2-1 1.2.0-rc.1 1.2.x !1.2rc1 !1.20
+!=1.5, >=1|1.5.1 1 !1.5 !0:1.5 !1.5+x !0.9
+<1 || >=2 <3|0.9 2.5 !1 !3
+*|1 v1 0.0.0-0 9:1_1
+!=1.2.*|1.20 1.2rc1 !1.2 !1.2.0-rc.1
+==1.5|1.5 0:1.5 1.5+x !1.5.0
+^0.2.3|0.2.3 0.2.9 !0.3 !1
+^0|0 0.9 !1
+~=1.4.2|1.4.2 1.4.9 !1.5
+>1.2|1.2.0 1.3 !1.2 !1.1
+<=1.2|1.2 1.1 0:1.2 !1.2.0
+>= 1.2 < 2|1.2 !2
+>= 1 ,\t<2||=3|1 3 !2 !4
+=1 =2|!1 !2
+^1||^2||^3||^4||^5|1 2.1 3.9 4 5 !6 !0.9
+>=1 >=2 >=3 <9 <8|3 7 !2 !8";
+
+#[test]
+fn sets_as_written(rt: HostRuntime) -> Result<(), Fail> {
+    for row in READ.lines() {
+        let (text, versions) = row.rsplit_once('|').ok_or("no versions")?;
+        let size = set_room::<VersioningRef<'_>>(text.as_bytes());
+        let mut room = vec![in rt.alloc(); 0; size]?;
+        let length = match read_set::<VersioningRef<'_>>(
+            ORDER,
+            text.as_bytes(),
+            room.as_mut_slice(),
+        ) {
+            Ok(length) => length,
+            Err(_) => return Err(text.into()),
+        };
+        let set = read(room.as_slice().get(..length).ok_or("no room")?)?;
+        for word in versions.split(' ') {
+            let wanted = !word.starts_with('!');
+            holds(
+                set.has(&version(word.trim_start_matches('!'))?) == wanted,
+                row,
+            )?;
+        }
+    }
+    Ok(())
+}
+
+// Texts that are no sets, and where they are wrong.
+const WRONG: &str = "\
+|0
+ |1
+,|0
+>=1.2,|6
+>=1.2,,<2|6
+|||0
+=1|||4
+=1||||4
+|| =1|0
+=1 || |6
+>= |3
+>=, 1|2
+>=1.2 | <2|6
+=>1|1
+1.2|0
+1 - 2|0
+=1 1.2|3
+*1|0
+>=1.x|2
+>=v1.2|2
+>=latest|2
+^1.*|1
+=1-2.*|1
+=1..2|1
+>=1.2 >= =2|9
+!1|0";
+
+#[test]
+fn texts_that_are_no_sets(rt: HostRuntime) -> Result<(), Fail> {
+    for row in WRONG.lines() {
+        let (text, place) = row.rsplit_once('|').ok_or("no place")?;
+        let size = set_room::<VersioningRef<'_>>(text.as_bytes());
+        let mut room = vec![in rt.alloc(); 0; size]?;
+        let wrong = match read_set::<VersioningRef<'_>>(
+            ORDER,
+            text.as_bytes(),
+            room.as_mut_slice(),
+        ) {
+            Err(Unread::Wrong(fault)) => fault.place == place.parse::<usize>()?,
+            _ => false,
+        };
+        holds(wrong, row)?;
+    }
+    Ok(())
 }
 
 // Bytes that end too early.

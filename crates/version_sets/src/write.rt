@@ -59,7 +59,7 @@ fn put_form<S: Sink>(sink: &mut S, order: u8, count: usize, merge: Merge<'_>)
 
 // Writes a number in eight bytes.
 #[tactic(auto, unfolding(crate::specs::Form::number))]
-fn put_number<S: Sink>(sink: &mut S, count: usize)
+pub(crate) fn put_number<S: Sink>(sink: &mut S, count: usize)
     requires { S.fits sink.old (number count) }
     ensures { S.takes sink.old (number count) sink.new }
 {

@@ -1,0 +1,167 @@
+-- What stands before `.*`, and the bytes of a member.
+use Rattle.std.proofs.Common.{◌≡◌, ◌∙◌, ◌<◌, ◌==◌, ◌⊎◌, ℕ, Bor, true, false, List, [], ◌∷◌, ◌++◌, length, Option, Some, None, append-nil, ap, arith, inl, inr, refl, sym}
+use Rattle.std.proofs.lemmas.Bool.{cases_Bool, eqb-true}
+use Rattle.std.proofs.lemmas.List.{length-map}
+use Rattle.std.specs.List.{concat, flat_map}
+use Rattle.std.specs.Option.{MatchOption, option_map}
+use Rattle.version_rules.specs.declared.ends.End.{End}
+use Rattle.std.specs.Cmp.{nat_cmp_total, ranks, tied_itself}
+use Rattle.std.specs.List.Sorted.{IsStrictlySortedBy}
+use Rattle.std.specs.Ordering.{MatchOrdering, nat_cmp}
+use Rattle.std.specs.declared.cmp.Ordering.{Ordering}
+use Rattle.std.specs.declared.cmp.Ordering.TheVariants.{Less, Equal, Greater}
+use Rattle.version_rules.specs.declared.ends.Kept.{Kept}
+use Rattle.version_rules.specs.order.Lists.{bytes_cmp}
+use Rattle.version_rules.specs.requirement.Range.{after}
+use Rattle.version_texts.specs.keyed.Keyed.{BeginsKey, PlainKeyed, end_of}
+use Rattle.version_sets.specs.Comparison.{asks_parts, before_star, bytes_of, comparison_ends, ends_with, is_star}
+use Rattle.version_sets.specs.Ends.{Rise}
+use Rattle.version_sets.specs.Form.{form_bytes, number, places}
+use Rattle.version_sets.specs.declared.read.comparison.Comparison.{Comparison}
+use Rattle.version_rules.specs.declared.ends.Kept.TheVariants as kept
+use Rattle.version_sets.specs.declared.read.comparison.Comparison.TheVariants as comparison
+
+-- ---- before a star
+
+longer : (b : ℕ) (front : List ℕ) → is_star (b ∷ (front ++ 46 ∷ 42 ∷ [])) ≡ false
+longer b [] = refl
+longer b (c ∷ []) = refl
+longer b (c ∷ d ∷ front) = refl
+
+pub star_found : (front : List ℕ) → before_star (front ++ 46 ∷ 42 ∷ []) ≡ Some front
+star_found [] = refl
+star_found (b ∷ front) =
+    rw (longer b front) (ap (option_map (λ (l : List ℕ). b ∷ l)) (star_found front))
+
+is_both : (text : List ℕ) → is_star text ≡ true → text ≡ 46 ∷ 42 ∷ []
+is_both [] e = cc e
+is_both (a ∷ []) e = cc e
+is_both (a ∷ b ∷ []) e = by (cases_Bool (a == 46)) (cases_Bool (b == 42))
+  where
+    by : ((a == 46) ≡ true) ⊎ ((a == 46) ≡ false) → ((b == 42) ≡ true) ⊎ ((b == 42) ≡ false)
+        → a ∷ b ∷ [] ≡ 46 ∷ 42 ∷ []
+    by (inl dot) (inl star) = λ i. eqb-true a 46 dot i ∷ eqb-true b 42 star i ∷ []
+    by (inl dot) (inr other) = cc (rw (dot, other) at e)
+    by (inr other) star = cc (rw other at e)
+is_both (a ∷ b ∷ c ∷ text) e = cc e
+
+pub star_is : (text front : List ℕ) → before_star text ≡ Some front → text ≡ front ++ 46 ∷ 42 ∷ []
+star_is [] front e = cc e
+star_is (b ∷ text) front e = by (cases_Bool (is_star (b ∷ text))) (star_is text)
+  where
+    further : (before : Option (List ℕ)) → before_star text ≡ before
+        → ((front : List ℕ) → before_star text ≡ Some front → text ≡ front ++ 46 ∷ 42 ∷ [])
+        → option_map (λ (l : List ℕ). b ∷ l) before ≡ Some front → b ∷ text ≡ front ++ 46 ∷ 42 ∷ []
+    further None is step e = cc e
+    further (Some before) is step e =
+        let same : b ∷ before ≡ front = cc e in
+        ap (λ (l : List ℕ). b ∷ l) (step before is)
+        ∙ ap (λ (l : List ℕ). l ++ 46 ∷ 42 ∷ []) same
+
+    by : (is_star (b ∷ text) ≡ true) ⊎ (is_star (b ∷ text) ≡ false)
+        → ((front : List ℕ) → before_star text ≡ Some front → text ≡ front ++ 46 ∷ 42 ∷ [])
+        → b ∷ text ≡ front ++ 46 ∷ 42 ∷ []
+    by (inl star) step =
+        let same : [] ≡ front = cc (rw star at e) in
+        is_both (b ∷ text) star ∙ ap (λ (l : List ℕ). l ++ 46 ∷ 42 ∷ []) same
+    by (inr other) step = further (before_star text) refl step (rw other at e)
+
+pub star_cut : (text : List ℕ) (cut : Option (Bor (List ℕ)))
+    → MatchOption cut ((front : List ℕ) → ¬ (text ≡ front ++ 46 ∷ 42 ∷ []))
+    (λ front. text ≡ front.now ++ 46 ∷ 42 ∷ [])
+    → option_map (λ front. front.now) cut ≡ before_star text
+star_cut text None none = by (before_star text) refl
+  where
+    by : (before : Option (List ℕ)) → before_star text ≡ before → None ≡ before
+    by None e = refl
+    by (Some front) e = absurd (none front (star_is text front e))
+star_cut text (Some front) whole = sym (ap before_star whole ∙ star_found front.now)
+
+-- ---- bytes
+
+-- a set by ends of ranges, in turn
+pub form_of : (order : ℕ) (c : Comparison) (version : PlainKeyed) (ends : List End) → ends ≡ comparison_ends c
+    → form_bytes order (ends_with c version)
+    ≡ (order ∷ []) ++ (number (length ends)
+    ++ (flat_map number (places 0 (bytes_of version ends)) ++ concat (bytes_of version ends)))
+unfolding form_bytes
+form_of order c version ends is =
+    ap (λ (kept : List End). form_bytes order (bytes_of version kept)) (sym is)
+    ∙ ap (λ n. order ∷ (number n
+    ++ (flat_map number (places 0 (bytes_of version ends)) ++ concat (bytes_of version ends))))
+    (length-map ends (λ end. end_of end version))
+
+-- the set of all
+pub form_all : (order : ℕ)
+    → form_bytes order ([] ∷ []) ≡ (order ∷ []) ++ (number 1 ++ (number 0 ++ []))
+unfolding form_bytes
+form_all order = ap (λ (l : List ℕ). order ∷ (number 1 ++ l)) (append-nil (number 0 ++ []))
+
+-- ---- the ends of a comparison rise
+
+begins_less : (bytes : List ℕ) (b : ℕ) (more : List ℕ) → bytes_cmp bytes (bytes ++ b ∷ more) ≡ Less
+begins_less [] b more = refl
+begins_less (x ∷ bytes) b more = rw (tied_itself nat_cmp_total x) (begins_less bytes b more)
+
+none_less : (bytes : List ℕ) → ¬ (bytes ≡ []) → bytes_cmp [] bytes ≡ Less
+none_less [] some = absurd (some refl)
+none_less (b ∷ bytes) some = refl
+
+below_four : (byte : ℕ) → byte < 4 → nat_cmp byte 4 ≡ Less
+below_four byte low = by (nat_cmp byte 4) (ranks byte 4)
+  where
+    by : (r : Ordering) → MatchOrdering r (byte < 4) (byte ≡ 4) (4 < byte) → r ≡ Less
+    by Less k = refl
+    by Equal k = absurd (omega (arith, k, low))
+    by Greater k = absurd (omega (arith, k, low))
+
+above_less : (begun : List ℕ) (byte : ℕ) (rest : List ℕ) → byte < 4
+    → bytes_cmp (begun ++ byte ∷ rest) (begun ++ 4 ∷ []) ≡ Less
+above_less [] byte rest low = rw (below_four byte low) refl
+above_less (b ∷ begun) byte rest low = rw (tied_itself nat_cmp_total b) (above_less begun byte rest low)
+
+key_above : (begun key : List ℕ) → BeginsKey begun key → bytes_cmp key (begun ++ 4 ∷ []) ≡ Less
+key_above begun key is =
+    ap (λ (l : List ℕ). bytes_cmp l (begun ++ 4 ∷ [])) is.whole ∙ above_less begun is.byte is.rest is.below
+
+two_rise : (low high : List ℕ) → bytes_cmp low high ≡ Less → Rise (low ∷ high ∷ [])
+unfolding IsStrictlySortedBy
+two_rise low high less = ((less, tt), (tt, tt))
+
+three_rise : (low middle high : List ℕ) → bytes_cmp low middle ≡ Less → bytes_cmp middle high ≡ Less
+    → bytes_cmp low high ≡ Less → Rise (low ∷ middle ∷ high ∷ [])
+unfolding IsStrictlySortedBy
+three_rise low middle high first second both = ((first, (both, tt)), two_rise middle high second)
+
+pub one_rises : (end : List ℕ) → Rise (end ∷ [])
+unfolding IsStrictlySortedBy
+one_rises end = (tt, tt)
+
+some_more : (bytes : List ℕ) (b : ℕ) → ¬ (bytes ++ b ∷ [] ≡ [])
+some_more [] b e = cc e
+some_more (x ∷ bytes) b e = cc e
+
+pub rises : (c : Comparison) (version : PlainKeyed) → ¬ (version.key ≡ [])
+    → (asks_parts c ≡ true → (kept : Kept) → BeginsKey (version.begun kept) version.key)
+    → Rise (ends_with c version)
+rises comparison.Equal version some begins = two_rise version.key (after version.key) (begins_less version.key 0 [])
+rises comparison.Unequal version some begins =
+    three_rise [] version.key (after version.key) (none_less version.key some) (begins_less version.key 0 [])
+    (none_less (after version.key) (some_more version.key 0))
+rises comparison.Less version some begins = two_rise [] version.key (none_less version.key some)
+rises comparison.LessEq version some begins =
+    two_rise [] (after version.key) (none_less (after version.key) (some_more version.key 0))
+rises comparison.Greater version some begins = one_rises (after version.key)
+rises comparison.GreaterEq version some begins = one_rises version.key
+rises comparison.Tilde version some begins =
+    two_rise version.key (version.begun kept.ButLastOrOnly ++ 4 ∷ [])
+    (key_above (version.begun kept.ButLastOrOnly) version.key (begins refl kept.ButLastOrOnly))
+rises comparison.Caret version some begins =
+    two_rise version.key (version.begun kept.ThroughOther ++ 4 ∷ [])
+    (key_above (version.begun kept.ThroughOther) version.key (begins refl kept.ThroughOther))
+rises comparison.Prefix version some begins =
+    two_rise (version.begun kept.All) (version.begun kept.All ++ 4 ∷ []) (begins_less (version.begun kept.All) 4 [])
+rises comparison.NotPrefix version some begins =
+    let begun = version.begun kept.All in
+    three_rise [] begun (begun ++ 4 ∷ []) (none_less begun (begins refl kept.All).some) (begins_less begun 4 [])
+    (none_less (begun ++ 4 ∷ []) (some_more begun 4))

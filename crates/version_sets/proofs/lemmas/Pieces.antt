@@ -1,0 +1,139 @@
+-- The pieces of a text, by what it begins with.
+use Rattle.std.proofs.Common.{◌≡◌, ◌∙◌, ◌+◌, ◌≤◌, ◌==◌, ◌&&◌, ◌⊎◌, ℕ, suc, Bool, true, false, List, [], ◌∷◌, ◌++◌, length, ap, arith, inl, inr, refl, sym}
+use Rattle.std.proofs.lemmas.Bool.{cases_Bool, eqb-true, ne_eqb}
+use Rattle.std.specs.List.{list_all}
+use Rattle.version_rules.specs.grammar.Front.{begins}
+use Rattle.version_sets.specs.Pieces.{PlainPiece, Bar, Bars, Comma, Word, is_bar, is_blank, is_comma, is_word_byte, pieces, with_byte, with_piece}
+
+-- ---- bytes
+
+no_bar_at : (b : ℕ) → is_blank b ≡ true → is_bar b ≡ false
+no_bar_at b blank = by (cases_Bool (b == 32)) (cases_Bool (b == 9))
+  where
+    by : ((b == 32) ≡ true) ⊎ ((b == 32) ≡ false) → ((b == 9) ≡ true) ⊎ ((b == 9) ≡ false)
+        → is_bar b ≡ false
+    by (inl space) tab = rw (eqb-true b 32 space) refl
+    by (inr other) (inl tab) = rw (eqb-true b 9 tab) refl
+    by (inr other) (inr no_tab) = cc (rw (other, no_tab) at blank)
+
+-- a byte of a word is none of the others
+record IsOfWord (b : ℕ) : Type 0 where
+  no_blank : is_blank b ≡ false
+  no_comma : is_comma b ≡ false
+  no_bar : is_bar b ≡ false
+
+of_word : (b : ℕ) → is_word_byte b ≡ true → IsOfWord b
+of_word b word = by (is_blank b) (is_comma b) (is_bar b) refl refl refl
+  where
+    by : (blank comma bar : Bool) → is_blank b ≡ blank → is_comma b ≡ comma → is_bar b ≡ bar → IsOfWord b
+    by false false false e f g = record { no_blank = e; no_comma = f; no_bar = g }
+    by true comma bar e f g = cc (rw e at word)
+    by false true bar e f g = cc (rw (e, f) at word)
+    by false false true e f g = cc (rw (e, f, g) at word)
+
+-- ---- pieces
+
+pub past_blank : (place b : ℕ) (text : List ℕ) → is_blank b ≡ true
+    → pieces (suc place) text ≡ pieces place (b ∷ text)
+past_blank place b [] blank = rw blank refl
+past_blank place b (c ∷ text) blank = rw (no_bar_at b blank, blank) refl
+
+pub at_comma : (place : ℕ) (text : List ℕ) → pieces place (44 ∷ text) ≡ (place, Comma) ∷ pieces (suc place) text
+at_comma place [] = refl
+at_comma place (c ∷ text) = refl
+
+pub at_bars : (place : ℕ) (text : List ℕ)
+    → pieces place (124 ∷ 124 ∷ text) ≡ (place, Bars) ∷ pieces (suc (suc place)) text
+at_bars place text = refl
+
+pub at_bar : (place : ℕ) (text : List ℕ) → begins is_bar text ≡ false
+    → pieces place (124 ∷ text) ≡ (place, Bar) ∷ pieces (suc place) text
+at_bar place [] other = refl
+at_bar place (c ∷ text) other = rw other refl
+
+-- a byte of a word before pieces
+one_byte : (place b : ℕ) (next : Bool) (more : List (ℕ × PlainPiece)) → IsOfWord b
+    → with_piece place b next more ≡ with_byte place b next more
+one_byte place b next more is = rw (is.no_blank, is.no_comma, is.no_bar) refl
+
+no_bars : (place b c : ℕ) (text : List ℕ) → is_bar b ≡ false
+    → pieces place (b ∷ c ∷ text) ≡ with_piece place b (is_word_byte c) (pieces (suc place) (c ∷ text))
+no_bars place b c text no_bar = rw no_bar refl
+
+pub at_word : (place b : ℕ) (word rest : List ℕ) → is_word_byte b ≡ true → list_all is_word_byte word ≡ true
+    → begins is_word_byte rest ≡ false
+    → pieces place ((b ∷ word) ++ rest)
+    ≡ (place, Word (b ∷ word)) ∷ pieces (suc place + length word) rest
+at_word place b [] [] is all other = one_byte place b false [] (of_word b is)
+at_word place b [] (c ∷ rest) is all other =
+    let byte = of_word b is in
+    no_bars place b c rest byte.no_bar ∙ one_byte place b (is_word_byte c) (pieces (suc place) (c ∷ rest)) byte
+    ∙ ap (λ next. with_byte place b next (pieces (suc place) (c ∷ rest))) other
+    ∙ ap (λ n. (place, Word (b ∷ [])) ∷ pieces n (c ∷ rest)) (omega arith)
+at_word place b (w ∷ word) rest is all other =
+    let byte = of_word b is in
+    let next : is_word_byte w ≡ true = first (is_word_byte w) (list_all is_word_byte word) all in
+    let more = at_word (suc place) w word rest next (rw next at all) other in
+    no_bars place b w (word ++ rest) byte.no_bar
+    ∙ one_byte place b (is_word_byte w) (pieces (suc place) (w ∷ (word ++ rest))) byte
+    ∙ (λ i. with_byte place b (next i) (more i))
+    ∙ ap (λ n. (place, Word (b ∷ w ∷ word)) ∷ pieces n rest) (omega arith)
+  where
+    first : (b c : Bool) → (b && c) ≡ true → b ≡ true
+    first true c e = refl
+    first false c e = cc e
+
+-- a word with one byte more
+pub one_more : (word : List ℕ) (b : ℕ) → list_all is_word_byte word ≡ true → is_word_byte b ≡ true
+    → list_all is_word_byte (word ++ b ∷ []) ≡ true
+one_more [] b all is = rw is refl
+one_more (w ∷ word) b all is = by (is_word_byte w) all (one_more word b)
+  where
+    by : (first : Bool) → (first && list_all is_word_byte word) ≡ true
+        → (list_all is_word_byte word ≡ true → is_word_byte b ≡ true
+        → list_all is_word_byte (word ++ b ∷ []) ≡ true)
+        → (first && list_all is_word_byte (word ++ b ∷ [])) ≡ true
+    by true more step = step more is
+    by false more step = cc more
+
+-- ---- pieces, from a place on
+
+pub first_comma : (text rest : List ℕ) (first : ℕ) → text ≡ first ∷ rest → first ≡ 44 → (place : ℕ)
+    → pieces place text ≡ (place, Comma) ∷ pieces (place + 1) rest
+first_comma text rest first whole is place =
+    ap (pieces place) (whole ∙ ap (λ b. b ∷ rest) is) ∙ at_comma place rest
+    ∙ ap (λ n. (place, Comma) ∷ pieces n rest) (omega arith)
+
+pub first_bars : (text rest behind : List ℕ) (first : ℕ) → text ≡ first ∷ rest → first ≡ 124
+    → rest ≡ 124 ∷ behind → (place : ℕ) → pieces place text ≡ (place, Bars) ∷ pieces (place + 2) behind
+first_bars text rest behind first whole is more place =
+    ap (pieces place) (whole ∙ λ i. is i ∷ more i)
+    ∙ ap (λ n. (place, Bars) ∷ pieces n behind) (omega arith)
+
+pub first_bar : (text rest : List ℕ) (first : ℕ) → text ≡ first ∷ rest → first ≡ 124
+    → begins is_bar rest ≡ false → (place : ℕ) → pieces place text ≡ (place, Bar) ∷ pieces (place + 1) rest
+first_bar text rest first whole is other place =
+    ap (pieces place) (whole ∙ ap (λ b. b ∷ rest) is) ∙ at_bar place rest other
+    ∙ ap (λ n. (place, Bar) ∷ pieces n rest) (omega arith)
+
+-- a byte that is no blank, comma or bar
+pub no_other : (b : ℕ) → is_blank b ≡ false → ¬ (b ≡ 44) → ¬ (b ≡ 124) → is_word_byte b ≡ true
+no_other b no_blank no_comma no_bar = rw (no_blank, ne_eqb b 44 no_comma, ne_eqb b 124 no_bar) refl
+
+pub first_word : (text tail word rest : List ℕ) (first : ℕ) → text ≡ first ∷ tail
+    → is_word_byte first ≡ true → text ≡ word ++ rest → list_all is_word_byte word ≡ true
+    → begins is_word_byte rest ≡ false
+    → ((place : ℕ) → pieces place text ≡ (place, Word word) ∷ pieces (place + length word) rest)
+    × (1 ≤ length word)
+first_word text tail [] rest first whole is cut all other =
+    let here : begins is_word_byte rest ≡ true = ap (begins is_word_byte) (sym cut ∙ whole) ∙ is in
+    cc (here, other)
+first_word text tail (b ∷ word) rest first whole is cut all other = (
+  λ place.
+      ap (pieces place) cut ∙ at_word place b word rest (rw same at is) (rw (rw same at is) at all) other
+      ∙ ap (λ n. (place, Word (b ∷ word)) ∷ pieces n rest) (omega arith),
+  omega arith,
+)
+  where
+    same : first ≡ b
+    same = cc (sym whole ∙ cut)

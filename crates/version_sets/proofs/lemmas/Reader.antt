@@ -1,0 +1,151 @@
+-- A set while it is read: one member more, the end of an alternative, the end of the text.
+use Rattle.std.proofs.Common.{◌≡◌, ◌∙◌, ◌+◌, ◌≤◌, ◌&&◌, ◌||◌, ℕ, zero, suc, Bool, true, false, List, [], ◌∷◌, ◌++◌, append-nil, append_assoc, ap, arith, drop, length, length-append, refl, sym, take}
+use Rattle.std.proofs.lemmas.List.{take-append-drop, take_at}
+use Rattle.std.specs.List.{list_all}
+use Rattle.version_texts.specs.key.Sinks.{put_at}
+use Rattle.version_sets.specs.Ends.{Rise, has}
+use Rattle.version_sets.specs.Form.{form_bytes}
+use Rattle.version_sets.specs.Pile.{IsPile, through}
+use Rattle.version_sets.specs.Reader.{Continues}
+use Rattle.version_sets.specs.Reading.{Reading, Right, Wrong, next_alternative, set_has, with_member}
+use Rattle.version_sets.specs.declared.read.pile.Pile.{Pile}
+
+-- ---- rooms
+
+-- bytes written from a place on, and those before it
+pub put_taken : (room : List ℕ) (start : ℕ) (bytes : List ℕ) → start + length bytes ≤ length room
+    → (take (start + length bytes) (put_at room start bytes) ≡ take start room ++ bytes)
+    × (take start (put_at room start bytes) ≡ take start room)
+put_taken room zero [] fits = (refl, refl)
+put_taken [] zero (b ∷ bytes) fits = absurd (omega (arith, fits))
+put_taken [] (suc start) bytes fits = absurd (omega (arith, fits))
+put_taken (x ∷ room) zero (b ∷ bytes) fits =
+    let rest = put_taken room zero bytes (omega (arith, fits)) in (
+      ap (λ n. take n (b ∷ put_at room 0 bytes)) place ∙ ap (λ (l : List ℕ). b ∷ l) rest.0,
+      refl,
+    )
+  where
+    place : 0 + length (b ∷ bytes) ≡ suc (0 + length bytes)
+    place = omega arith
+put_taken (x ∷ room) (suc start) bytes fits =
+    let rest = put_taken room start bytes (omega (arith, fits)) in (
+      ap (λ n. take n (x ∷ put_at room start bytes)) place ∙ ap (λ (l : List ℕ). x ∷ l) rest.0,
+      ap (λ (l : List ℕ). x ∷ l) rest.1,
+    )
+  where
+    place : suc start + length bytes ≡ suc (start + length bytes)
+    place = omega arith
+
+-- the bytes through sets begin with those below them
+through_begins : (order : ℕ) (below : List ℕ) (sets : List (List (List ℕ)))
+    → (more : List ℕ) × (through order below sets ≡ below ++ more)
+through_begins order below [] = ([], sym (append-nil below))
+through_begins order below (last ∷ sets) =
+    let front = through_begins order below sets in (
+      front.0 ++ form_bytes order last,
+      ap (λ (l : List ℕ). l ++ form_bytes order last) front.1
+          ∙ append_assoc below front.0 (form_bytes order last),
+    )
+
+-- what lies below a pile
+pub below_kept : (room below : List ℕ) (pile : Pile) (end : ℕ) (sets : List (List (List ℕ)))
+    → IsPile room below pile end sets → take (length below) room ≡ below
+below_kept room below pile end sets is =
+    let front = through_begins pile.order below sets in
+    let whole : room ≡ below ++ (front.0 ++ drop end room) =
+    sym (take-append-drop end room)
+    ∙ ap (λ (l : List ℕ). l ++ drop end room) (is.bytes ∙ front.1)
+    ∙ append_assoc below front.0 (drop end room) in
+    ap (take (length below)) whole ∙ take_at below (front.0 ++ drop end room) (length below) refl
+
+-- a pile lies in each room that begins with the same bytes
+pub same_bytes : (room other below : List ℕ) (pile : Pile) (end : ℕ) (sets : List (List (List ℕ)))
+    → take end other ≡ take end room → IsPile room below pile end sets → IsPile other below pile end sets
+same_bytes room other below pile end sets same is = record {
+  bytes = same ∙ is.bytes;
+  size = is.size;
+  begin = is.begin;
+  rise = is.rise;
+}
+
+-- the one set of a pile of one
+pub record IsOfOne (room below : List ℕ) (pile : Pile) (end : ℕ) (sets : List (List (List ℕ))) : Type 0 where
+  pub ends : List (List ℕ)
+  pub sets_are : sets ≡ ends ∷ []
+  pub rise : Rise ends
+  pub bytes : take end room ≡ below ++ form_bytes pile.order ends
+  pub size : end ≡ length below + length (form_bytes pile.order ends)
+
+pub of_one : (room below : List ℕ) (pile : Pile) (end : ℕ) (sets : List (List (List ℕ)))
+    → IsPile room below pile end sets → 1 ≤ pile.depth → pile.depth ≤ 1
+    → IsOfOne room below pile end sets
+of_one room below pile end [] is some few = absurd (omega (arith, is.begin, some))
+of_one room below pile end (ends ∷ []) is some few = record {
+  ends = ends;
+  sets_are = refl;
+  rise = is.rise.0;
+  bytes = is.bytes;
+  size = is.size ∙ length-append below (form_bytes pile.order ends);
+}
+of_one room below pile end (ends ∷ next ∷ sets) is some few =
+    absurd (omega (arith, is.begin.1, is.begin.3.1, few))
+
+-- ---- what is read
+
+pub and_turned : (a b : Bool) → (a && b) ≡ (b && a)
+and_turned true true = refl
+and_turned true false = refl
+and_turned false true = refl
+and_turned false false = refl
+
+pub or_turned : (a b : Bool) → (a || b) ≡ (b || a)
+or_turned true true = refl
+or_turned true false = refl
+or_turned false true = refl
+or_turned false false = refl
+
+pub and_true : (b : Bool) → (b && true) ≡ b
+and_true true = refl
+and_true false = refl
+
+pub or_false : (b : Bool) → (b || false) ≡ b
+or_false true = refl
+or_false false = refl
+
+and_between : (a b c : Bool) → (a && (b && c)) ≡ ((a && b) && c)
+and_between true b c = refl
+and_between false b c = refl
+
+or_between : (a b c : Bool) → (a || (b || c)) ≡ ((a || b) || c)
+or_between true b c = refl
+or_between false b c = refl
+
+pub at_first : (whole : Reading) → Continues whole (λ key. false) (λ key. true) whole
+at_first (Wrong place reason) = refl
+at_first (Right first others) = (first, others, refl, λ key. refl)
+
+pub with_one : (whole rest : Reading) (done own : List ℕ → Bool) (ends : List (List ℕ))
+    → Continues whole done own (with_member ends rest)
+    → Continues whole done (λ key. own key && has ends key) rest
+with_one whole (Wrong place reason) done own ends is = is
+with_one whole (Right first others) done own ends is = (
+  is.0,
+  is.1,
+  is.2,
+  λ key. is.3 key
+      ∙ ap (λ b. done key || (b || set_has others key))
+      (and_between (own key) (has ends key) (list_all (λ ends. has ends key) first)),
+)
+
+pub with_next : (whole rest : Reading) (done own : List ℕ → Bool)
+    → Continues whole done own (next_alternative rest)
+    → Continues whole (λ key. done key || own key) (λ key. true) rest
+with_next whole (Wrong place reason) done own is = is
+with_next whole (Right first others) done own is = (
+  is.0,
+  is.1,
+  is.2,
+  λ key. is.3 key
+      ∙ ap (λ b. done key || (b || set_has (first ∷ others) key)) (and_true (own key))
+      ∙ or_between (done key) (own key) (set_has (first ∷ others) key),
+)

@@ -1,0 +1,23 @@
+use Rattle.std.proofs.Common.{◌≡◌, ◌+◌, ◌*◌, ◌≤◌, Bool, List, length, ℕ}
+use Rattle.version_sets.specs.Pieces.{pieces}
+use Rattle.version_sets.specs.Reader.{Continues, Fits, Holds}
+use Rattle.version_sets.specs.Reading.{pieces_room, read_pieces, read_set}
+use Rattle.version_sets.specs.declared.read.steps.State.TheVariants.{Come}
+use Rattle.version_sets.proofs.read.read_pieces.Given as goal
+
+-- what is read so far, and what the pieces that are left are read as
+abbrev pub invariant-loop-place : goal.invariant-loop-place
+invariant-loop-place g l = record {
+  fits : Fits l.reader;
+  come : l.state ≡ Come → 1 ≤ l.reader.members.depth;
+  end : l.pieces.place + length l.pieces.left.now ≡ length l.fn.text;
+  room : 2 * (l.reader.end + pieces_room g.V.Keyed.most (pieces l.pieces.place l.pieces.left.now)) ≤ length l.room;
+  order : l.reader.order ≡ l.fn.order;
+  reads : (done own : List ℕ → Bool) × Holds l.room l.reader done own
+      × Continues (read_set g.V.Keyed.read_as g.V.Keyed.parts l.fn.text) done own
+      (read_pieces g.V.Keyed.read_as g.V.Keyed.parts (length l.fn.text) l.state
+      (pieces l.pieces.place l.pieces.left.now));
+}
+
+abbrev pub decreases-loop-place : goal.decreases-loop-place
+decreases-loop-place g l = length l.pieces.left.now

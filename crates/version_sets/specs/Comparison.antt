@@ -1,0 +1,77 @@
+-- The comparisons of members: the words for them, and the ends of what they hold.
+use Rattle.std.specs.Prelude.{◌==◌, ◌&&◌, ℕ, Bool, true, false, List, [], ◌∷◌, codes, if◌then◌else◌, map, Option, Some, None}
+use Rattle.std.specs.Option.{option_map, option_or}
+use Rattle.version_rules.specs.declared.ends.End.{End}
+use Rattle.version_rules.specs.declared.ends.End.TheVariants.{AboveBegun, AfterKey, Begun, Key, Lowest}
+use Rattle.version_rules.specs.declared.ends.Kept.TheVariants.{All, ButLastOrOnly, ThroughOther}
+use Rattle.version_rules.specs.grammar.Front.{Front}
+use Rattle.version_rules.specs.requirement.Op.{after_word}
+use Rattle.version_texts.specs.keyed.Keyed.{PlainKeyed, end_of}
+use Rattle.version_sets.specs.declared.read.comparison.Comparison.{Comparison}
+use Rattle.version_sets.specs.declared.read.comparison.Comparison.TheVariants as comparison
+
+-- the words for comparisons; of two that begin alike, the longer first
+abbrev pub words : List (List ℕ × Comparison)
+words =
+    (codes "==", comparison.Equal) ∷ (codes "=", comparison.Equal) ∷ (codes "!=", comparison.Unequal)
+    ∷ (codes "<=", comparison.LessEq) ∷ (codes "<", comparison.Less) ∷ (codes ">=", comparison.GreaterEq)
+    ∷ (codes ">", comparison.Greater) ∷ (codes "~=", comparison.Tilde) ∷ (codes "~>", comparison.Tilde)
+    ∷ (codes "~", comparison.Tilde) ∷ (codes "^", comparison.Caret) ∷ []
+
+-- the comparison of the first of some words with which a text begins, and the rest
+abbrev pub first_word : List (List ℕ × Comparison) → Front Comparison
+first_word [] text = None
+first_word (word ∷ more) text =
+    option_or (option_map (λ rest. (word.1, rest)) (after_word word.0 text)) (first_word more text)
+
+unfoldable pub comparison_front : Front Comparison
+comparison_front = first_word words
+
+-- the same with `.*` behind its version, which is for equality alone
+abbrev pub starred : Comparison → Option Comparison
+starred comparison.Equal = Some comparison.Prefix
+starred comparison.Unequal = Some comparison.NotPrefix
+starred other = None
+
+-- the ends of what a comparison with a version holds
+abbrev pub comparison_ends : Comparison → List End
+comparison_ends comparison.Equal = Key ∷ AfterKey ∷ []
+comparison_ends comparison.Unequal = Lowest ∷ Key ∷ AfterKey ∷ []
+comparison_ends comparison.Less = Lowest ∷ Key ∷ []
+comparison_ends comparison.LessEq = Lowest ∷ AfterKey ∷ []
+comparison_ends comparison.Greater = AfterKey ∷ []
+comparison_ends comparison.GreaterEq = Key ∷ []
+comparison_ends comparison.Tilde = Key ∷ AboveBegun ButLastOrOnly ∷ []
+comparison_ends comparison.Caret = Key ∷ AboveBegun ThroughOther ∷ []
+comparison_ends comparison.Prefix = Begun All ∷ AboveBegun All ∷ []
+comparison_ends comparison.NotPrefix = Lowest ∷ Begun All ∷ AboveBegun All ∷ []
+
+-- the bytes of ends of ranges
+abbrev pub bytes_of : PlainKeyed → List End → List (List ℕ)
+bytes_of version ends = map (λ end. end_of end version) ends
+
+abbrev pub ends_with : Comparison → PlainKeyed → List (List ℕ)
+ends_with c version = bytes_of version (comparison_ends c)
+
+-- whether a comparison is by parts, and whether it is of versions that have these alone
+abbrev pub asks_parts : Comparison → Bool
+asks_parts comparison.Tilde = true
+asks_parts comparison.Caret = true
+asks_parts comparison.Prefix = true
+asks_parts comparison.NotPrefix = true
+asks_parts other = false
+
+abbrev pub asks_bare : Comparison → Bool
+asks_bare comparison.Prefix = true
+asks_bare comparison.NotPrefix = true
+asks_bare other = false
+
+-- whether a text is `.*`, and what stands before these at the end of a text
+abbrev pub is_star : List ℕ → Bool
+is_star (dot ∷ star ∷ []) = dot == 46 && star == 42
+is_star text = false
+
+abbrev pub before_star : List ℕ → Option (List ℕ)
+before_star [] = None
+before_star (b ∷ text) =
+    if is_star (b ∷ text) then Some [] else option_map (λ front. b ∷ front) (before_star text)

@@ -1,0 +1,176 @@
+//! Sets one behind another in a room, of which a rule makes one: each two of about as many members in turn, so that the
+//! whole takes a logarithm of their number as long as one set.
+
+ghost use Rattle.std.specs.Prelude.{◌≡◌, ◌∷◌, ◌++◌, ◌*◌, ◌+◌, ◌<◌, ◌≤◌, false, get_or, length, set, take, IfSome, List, ℕ};
+ghost use Rattle.std.specs.Option.{IsSomeAnd};
+ghost use Rattle.version_sets.specs.Ends.{Rise};
+ghost use Rattle.version_sets.specs.Form.{form_bytes};
+ghost use Rattle.version_sets.specs.Merge.{merged};
+ghost use Rattle.version_sets.specs.Pile.{all_have, through, Begin, IsPile, Kept};
+ghost use Rattle.version_sets.specs.Set.{by_rule, ends_of, left};
+ghost use Rattle.version_sets.specs.declared.merge.Rule.TheVariants.{FirstAlone};
+
+use crate::form::Form;
+use crate::merge::{Merge, Rule};
+use crate::write::write_merge;
+
+// More sets than these of different numbers of members fit into no room.
+const DEPTH: usize = 64;
+
+/// The sets of a pile, by where each begins in the room.
+#[derive(Clone, Copy)]
+pub(crate) struct Pile {
+    pub order: u8,
+    pub rule: Rule,
+    pub starts: [usize; DEPTH],
+    pub depth: usize,
+    pub members: u64,
+}
+
+impl Pile {
+    // Returns a pile without sets.
+    pub fn new(order: u8, rule: Rule) -> Pile
+        ensures order { result.order ≡ order }
+        ensures rule { result.rule ≡ rule }
+        ensures depth { result.depth ≡ 0 }
+    {
+        Pile {
+            order,
+            rule,
+            starts: [0; DEPTH],
+            depth: 0,
+            members: 0,
+        }
+    }
+
+    // Takes the set that lies in the room from a place on, and makes one of each two that have as many members. Returns
+    // where the pile ends.
+    pub fn push(&mut self, room: &mut [u8], start: usize, end: usize) -> usize
+        requires depth { self.old.depth < 64 }
+        requires room { 2 * end ≤ length room.old }
+        requires rule { ¬ (self.old.rule ≡ FirstAlone) }
+        ensures sets { (below : List ℕ) (sets : List (List (List ℕ))) (ends : List (List ℕ))
+            → IsPile room.old below self.old start sets → Rise ends
+            → take end room.old ≡ take start room.old ++ form_bytes self.old.order ends
+            → end ≡ start + length (form_bytes self.old.order ends)
+            → (left : List (List (List ℕ))) × IsPile room.new below self.new result left
+            × ((key : List ℕ) → all_have self.old.rule left key ≡ all_have self.old.rule (ends ∷ sets) key) }
+        ensures depth { self.new.depth < 64 }
+        ensures some { 1 ≤ self.new.depth }
+        ensures end { result ≤ end }
+        ensures same { (self.new.order ≡ self.old.order) × (self.new.rule ≡ self.old.rule)
+            × (length room.new ≡ length room.old) }
+    {
+        self.begin(start);
+        let mut end = end;
+        let mut members = self.members;
+        while self.depth > 1 && (members % 2 == 0 || self.depth == DEPTH) {
+            end = self.merge(room, end);
+            members /= 2;
+        }
+        end
+    }
+
+    // Takes the place where a set begins.
+    fn begin(&mut self, start: usize)
+        requires { self.old.depth < 64 }
+        ensures within { self.old.depth < length self.old.starts }
+        ensures new { (members : ℕ) × (self.new ≡ record {
+          order = self.old.order;
+          rule = self.old.rule;
+          starts = set self.old.starts self.old.depth start;
+          depth = self.old.depth + 1;
+          members = members;
+        }) }
+    {
+        self.starts[self.depth] = start;
+        self.depth += 1;
+        self.members = self.members.saturating_add(1);
+    }
+
+    // Makes one set of all, and returns where it ends.
+    pub fn collapse(&mut self, room: &mut [u8], end: usize) -> usize
+        requires room { 2 * end ≤ length room.old }
+        requires rule { ¬ (self.old.rule ≡ FirstAlone) }
+        ensures kept { Kept room.old self.old end room.new self.new result }
+        ensures depth { self.new.depth ≤ 1 }
+        ensures some { 1 ≤ self.old.depth → 1 ≤ self.new.depth }
+        ensures end { result ≤ end }
+        ensures same { (self.new.order ≡ self.old.order) × (self.new.rule ≡ self.old.rule)
+            × (length room.new ≡ length room.old) }
+    {
+        let mut end = end;
+        while self.depth > 1 {
+            end = self.merge(room, end);
+        }
+        end
+    }
+
+    // Makes one set of the last two, and returns where it ends.
+    fn merge(&mut self, room: &mut [u8], end: usize) -> usize
+        requires depth { 1 < self.old.depth }
+        requires room { 2 * end ≤ length room.old }
+        requires rule { ¬ (self.old.rule ≡ FirstAlone) }
+        ensures kept { Kept room.old self.old end room.new self.new result }
+        ensures depth { self.new.depth + 1 ≡ self.old.depth }
+        ensures end { result ≤ end }
+        ensures same { (self.new.order ≡ self.old.order) × (self.new.rule ≡ self.old.rule)
+            × (length room.new ≡ length room.old) }
+    {
+        self.depth -= 1;
+        let (sets, free) = room.split_at_mut(end);
+        let Some((first, merge)) = self.last_two(sets) else {
+            return end;
+        };
+        let length = write_merge(self.order, merge, free);
+        if length > end - first {
+            return end;
+        }
+        room.copy_within(end..end + length, first);
+        first + length
+    }
+
+    // Returns where the last two sets begin, of which the last is out of the pile already, and what the rule makes of
+    // them. None where there are none.
+    fn last_two<'s>(&self, sets: &'s [u8]) -> Option<(usize, Merge<'s>)>
+        ensures within { IfSome result (λ two. two.0 ≤ length sets.now) }
+        ensures two { (below : List ℕ) (last first : List (List ℕ)) (before : List (List (List ℕ)))
+            → sets.now ≡ through self.now.order below (last ∷ first ∷ before)
+            → Begin self.now.order below self.now.starts (self.now.depth + 1) (last ∷ first ∷ before)
+            → IsSomeAnd result (λ two. (two.0 ≡ length (through self.now.order below before))
+            × (left two.1 ≡ merged (by_rule self.now.rule) false false first last)) }
+    {
+        let first = self.start(self.depth.saturating_sub(1));
+        let second = self.start(self.depth);
+        let one = set_at(sets, first, second)?;
+        let other = set_at(sets, second, sets.len())?;
+        Some((first, Merge::of(self.rule, one, other)))
+    }
+
+    // Returns where a set begins, or 0 where there are fewer.
+    fn start(&self, place: usize) -> usize
+        ensures { result ≡ get_or self.now.starts place 0 }
+    {
+        match self.starts.get(place) {
+            Some(start) => *start,
+            None => 0,
+        }
+    }
+}
+
+// Returns the set that lies between two places, or None where none does.
+fn set_at(sets: &[u8], start: usize, end: usize) -> Option<Form<'_>>
+    ensures within { IfSome result (λ _. start ≤ length sets.now) }
+    ensures set { (order : ℕ) (before after : List ℕ) (ends : List (List ℕ))
+        → sets.now ≡ before ++ (form_bytes order ends ++ after) → start ≡ length before
+        → end ≡ start + length (form_bytes order ends)
+        → IsSomeAnd result (λ set. ends_of set ≡ ends) }
+{
+    if start > end || end > sets.len() {
+        return None;
+    }
+    match Form::of(&sets[start..end]) {
+        Some((_, set)) => Some(set),
+        None => None,
+    }
+}

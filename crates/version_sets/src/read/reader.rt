@@ -1,0 +1,163 @@
+//! A set while it is read: its alternatives that are done, and the members of the one that is not over, one behind
+//! another in a room.
+
+ghost use Rattle.std.specs.Prelude.{◌≡◌, ◌∷◌, ◌*◌, ◌+◌, ◌<◌, ◌≤◌, ◌^◌, ◌&&◌, ◌||◌, [], false, length, true, Bool, IfErr, IfOk, List, ℕ};
+ghost use Rattle.version_sets.specs.Comparison.{asks_parts, ends_with};
+ghost use Rattle.version_sets.specs.Ends.{has};
+ghost use Rattle.version_sets.specs.Form.{form_bytes};
+ghost use Rattle.version_sets.specs.Pieces.{piece_length, plain_piece};
+ghost use Rattle.version_sets.specs.Reader.{Continues, Fits, Holds, IsWrittenSet};
+ghost use Rattle.version_sets.specs.Reading.{after_step, piece_room, Reading, Wrong};
+ghost use Rattle.version_sets.specs.Steps.{step};
+ghost use Rattle.version_sets.specs.declared.read.steps.State.{State as States};
+ghost use Rattle.version_sets.specs.declared.read.steps.State.TheVariants.{Come};
+ghost use Rattle.version_texts.specs.keyed.Keyed.{AreWithin};
+
+use crate::merge::Rule;
+use crate::read::comparison::Comparison;
+use crate::read::fault::Fault;
+use crate::read::member::{asked, write_all, write_member};
+use crate::read::pieces::Piece;
+use crate::read::pile::Pile;
+use crate::read::steps::{State, Step};
+use version_texts::Keyed;
+
+/// What is read so far: the alternatives that are done end where the members of the next one begin.
+#[derive(Clone, Copy)]
+pub(crate) struct Reader {
+    pub order: u8,
+    pub start: usize,
+    pub end: usize,
+    pub alternatives: Pile,
+    pub members: Pile,
+}
+
+impl Reader {
+    // Returns a reader of nothing so far.
+    pub fn new(order: u8) -> Reader
+        ensures fits { Fits result }
+        ensures holds { (room : List ℕ) → Holds room result (λ key. false) (λ key. true) }
+        ensures end { result.end ≡ 0 }
+        ensures order { result.order ≡ order }
+    {
+        Reader {
+            order,
+            start: 0,
+            end: 0,
+            alternatives: Pile::new(order, Rule::Either),
+            members: Pile::new(order, Rule::Both),
+        }
+    }
+
+    // Takes a piece in a state, and returns the next state.
+    pub fn take<'t, V: Keyed<'t>>(
+        &mut self,
+        room: &mut [u8],
+        state: State,
+        place: usize,
+        piece: Piece<'t>,
+    ) -> Result<State, Fault>
+        requires fits { Fits self.old }
+        requires enough { AreWithin V.read_as V.most }
+        requires come { state ≡ Come → 1 ≤ self.old.members.depth }
+        requires place { place + piece_length (plain_piece piece) < 2 ^ 64 }
+        requires room { 2 * (self.old.end + piece_room V.most (plain_piece piece)) ≤ length room.old }
+        ensures fits { Fits self.new }
+        ensures ok { IfOk result (λ next. (whole : Reading) (rest : States → Reading) (done own : List ℕ → Bool)
+            → Holds room.old self.old done own
+            → Continues whole done own (after_step V.read_as V.parts rest (step state place (plain_piece piece.entry)))
+            → (done_after own_after : List ℕ → Bool) × Holds room.new self.new done_after own_after
+            × Continues whole done_after own_after (rest next)) }
+        ensures err { IfErr result (λ fault. (whole : Reading) (rest : States → Reading) (done own : List ℕ → Bool)
+            → Continues whole done own (after_step V.read_as V.parts rest (step state place (plain_piece piece.entry)))
+            → whole ≡ Wrong fault.place fault.reason) }
+        ensures come { IfOk result (λ next. next ≡ Come → 1 ≤ self.new.members.depth) }
+        ensures end { self.new.end ≤ self.old.end + piece_room V.most (plain_piece piece.entry) }
+        ensures same { (length room.new ≡ length room.old) × (self.new.order ≡ self.old.order) }
+    {
+        match state.step(place, piece) {
+            Step::Wrong(fault) => Err(fault),
+            Step::Goes(next) => Ok(next),
+            Step::Closes => {
+                self.close(room);
+                Ok(State::Wanted)
+            }
+            Step::All => {
+                self.all(room);
+                Ok(State::Come)
+            }
+            Step::Asks(comparison, place, text) => match asked::<V>(comparison, text) {
+                Ok(member) => {
+                    self.member(room, member);
+                    Ok(State::Come)
+                }
+                Err(reason) => Err(Fault { place, reason }),
+            },
+        }
+    }
+
+    // Takes a comparison with a version as a member.
+    fn member<'t, V: Keyed<'t>>(&mut self, room: &mut [u8], member: (Comparison, V))
+        requires fits { Fits self.old }
+        requires parts { asks_parts member.0 ≡ true → V.parts ≡ true }
+        requires room { 2 * (self.old.end
+            + length (form_bytes self.old.order (ends_with member.0 (V.plain member.1)))) ≤ length room.old }
+        ensures fits { Fits self.new }
+        ensures holds { (done own : List ℕ → Bool) → Holds room.old self.old done own
+            → Holds room.new self.new done
+            (λ key. own key && has (ends_with member.0 (V.plain member.1)) key) }
+        ensures some { 1 ≤ self.new.members.depth }
+        ensures end { self.new.end ≤ self.old.end
+            + length (form_bytes self.old.order (ends_with member.0 (V.plain member.1))) }
+        ensures same { (length room.new ≡ length room.old) × (self.new.order ≡ self.old.order) }
+    {
+        let end = write_member(self.order, member, room, self.end);
+        self.end = self.members.push(room, self.end, end);
+    }
+
+    // Takes a member that has all keys.
+    fn all(&mut self, room: &mut [u8])
+        requires fits { Fits self.old }
+        requires room { 2 * (self.old.end + length (form_bytes self.old.order ([] ∷ []))) ≤ length room.old }
+        ensures fits { Fits self.new }
+        ensures holds { (done own : List ℕ → Bool) → Holds room.old self.old done own
+            → Holds room.new self.new done (λ key. own key && has ([] ∷ []) key) }
+        ensures some { 1 ≤ self.new.members.depth }
+        ensures end { self.new.end ≤ self.old.end + length (form_bytes self.old.order ([] ∷ [])) }
+        ensures same { (length room.new ≡ length room.old) × (self.new.order ≡ self.old.order) }
+    {
+        let end = write_all(self.order, room, self.end);
+        self.end = self.members.push(room, self.end, end);
+    }
+
+    // Ends an alternative.
+    fn close(&mut self, room: &mut [u8])
+        requires fits { Fits self.old }
+        requires some { 1 ≤ self.old.members.depth }
+        requires room { 2 * self.old.end ≤ length room.old }
+        ensures fits { Fits self.new }
+        ensures holds { (done own : List ℕ → Bool) → Holds room.old self.old done own
+            → Holds room.new self.new (λ key. done key || own key) (λ key. true) }
+        ensures read { 1 ≤ self.new.alternatives.depth }
+        ensures over { self.new.start ≡ self.new.end }
+        ensures end { self.new.end ≤ self.old.end }
+        ensures same { (length room.new ≡ length room.old) × (self.new.order ≡ self.old.order) }
+    {
+        let end = self.members.collapse(room, self.end);
+        self.end = self.alternatives.push(room, self.start, end);
+        self.start = self.end;
+        self.members = Pile::new(self.order, Rule::Both);
+    }
+
+    // Ends the last alternative, makes one set of all, and returns how many bytes it has.
+    pub fn finish(&mut self, room: &mut [u8]) -> usize
+        requires fits { Fits self.old }
+        requires some { 1 ≤ self.old.members.depth }
+        requires room { 2 * self.old.end ≤ length room.old }
+        ensures { (done own : List ℕ → Bool) → Holds room.old self.old done own
+            → IsWrittenSet room.new self.old.order result (λ key. done key || own key) }
+    {
+        self.close(room);
+        self.alternatives.collapse(room, self.end)
+    }
+}
