@@ -1,6 +1,7 @@
 pub mod Comparison
 pub mod Ends
 pub mod Form
+pub mod Members
 pub mod Merge
 pub mod Pieces
 pub mod Pile

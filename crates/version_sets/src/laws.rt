@@ -1,8 +1,18 @@
-//! Laws of sets by their ends. Each is the contract of a function that does nothing.
+//! Laws of sets by their ends, and of their members. Each is the contract of a function that does nothing.
 
-ghost use Rattle.std.specs.Prelude.{◌≡◌, Bool, List, false, ℕ};
+ghost use Rattle.std.specs.Prelude.{◌≡◌, ◌↔◌, Bool, List, false, not, true, ℕ};
+ghost use Rattle.std.specs.declared.cmp.Ordering.TheVariants.{Less};
+ghost use Rattle.version_rules.specs.grammar.Versioning.{PlainVersioning};
+ghost use Rattle.version_rules.specs.key.Key.{key_of, precedence};
+ghost use Rattle.version_rules.specs.requirement.Range.{but_last_or_only, through_other};
+ghost use Rattle.version_sets.specs.Comparison.{ends_with};
 ghost use Rattle.version_sets.specs.Ends.{has, AreMerged, Rise};
+ghost use Rattle.version_sets.specs.Members.{AreByOrder, BeginsWith};
 ghost use Rattle.version_sets.specs.Merge.{merged};
+ghost use Rattle.version_sets.specs.declared.read.comparison.Comparison.TheVariants.{Caret, NotPrefix, Prefix, Tilde};
+ghost use Rattle.version_texts.specs.keyed.Mixed.{mixed};
+
+use version_texts::Keyed;
 
 // Sets that hold the same keys have the same ends. What a rule makes of two sets, by which a key in neither is not in
 // it, has the ends that their merge gives.
@@ -11,4 +21,29 @@ fn sets()
         → ((key : List ℕ) → has one key ≡ has other key) → one ≡ other }
     ensures merges { (rule : Bool → Bool → Bool) → rule false false ≡ false → (one other : List (List ℕ))
         → Rise one → Rise other → AreMerged rule one other (merged rule false false one other) }
+{}
+
+// In each order a comparison with a version holds what the order says of the two.
+fn comparisons<'t, V: Keyed<'t>>()
+    ensures { (version other : V) → AreByOrder (V.order version other)
+        (λ c. has (ends_with c (V.plain other)) (V.plain version).key) }
+{}
+
+// In the order of all versions, `.*` holds what has the epoch and begins with the parts of a version, or all else. `~`
+// and `^` hold what isn't before a version, has its epoch, and begins with some of its parts.
+fn series()
+    ensures prefix { (other version : PlainVersioning)
+        → (has (ends_with Prefix (mixed other)) (mixed version).key ≡ true)
+        ↔ BeginsWith (key_of other).epoch (key_of other).body (key_of version) }
+    ensures not_prefix { (other version : PlainVersioning)
+        → has (ends_with NotPrefix (mixed other)) (mixed version).key
+        ≡ not (has (ends_with Prefix (mixed other)) (mixed version).key) }
+    ensures tilde { (other version : PlainVersioning)
+        → (has (ends_with Tilde (mixed other)) (mixed version).key ≡ true)
+        ↔ ((¬ (precedence (key_of version) (key_of other) ≡ Less))
+        × BeginsWith (key_of other).epoch (but_last_or_only (key_of other).body) (key_of version)) }
+    ensures caret { (other version : PlainVersioning)
+        → (has (ends_with Caret (mixed other)) (mixed version).key ≡ true)
+        ↔ ((¬ (precedence (key_of version) (key_of other) ≡ Less))
+        × BeginsWith (key_of other).epoch (through_other (key_of other).body) (key_of version)) }
 {}
