@@ -60,9 +60,13 @@ fn word_room<'t, V: Keyed<'t>>(word: &[u8]) -> usize
         .saturating_add(9)
 }
 
-/// Reads a set of an order from a text (docs/SETS.md), and writes its one form into a room that is as large as
-/// `set_room` says, with a number for the order. Returns how many bytes the form has. Takes time linear in the text
-/// times the logarithm of the number of its members. Does not allocate.
+/// Reads a set of an order from a text, and writes its one form into a room that is as large as `set_room` says, with a
+/// number for the order. Returns how many bytes the form has.
+///
+/// A set is alternatives with `||` between them, and has what one of them has. An alternative is members with a comma,
+/// spaces or tabs between them, and has what all of them have. A member is `*`, which has all, or an operator and a
+/// version, or `=`, `==` or `!=` and a version with `.*` behind it (`Comparison`). Spaces and tabs may stand around
+/// each. Takes time linear in the text times the logarithm of the number of its members. Does not allocate.
 pub fn read_set<'t, V: Keyed<'t>>(
     order: u8,
     text: &'t [u8],

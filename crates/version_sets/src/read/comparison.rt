@@ -6,7 +6,7 @@ ghost use Rattle.version_sets.specs.Comparison.{asks_bare, asks_parts, compariso
 
 use version_rules::{End, Kept};
 
-/// How a version compares with that of a member (docs/SETS.md).
+/// How a version compares with that of a member.
 #[derive(Clone, Copy, Debug, PartialEq, Eq)]
 pub enum Comparison {
     /// `=` or `==`: it ties.

@@ -2,7 +2,7 @@
 
 use version_texts::Slip;
 
-/// Why a text is no set (docs/SETS.md).
+/// Why a text is no set.
 #[derive(Clone, Copy, Debug, PartialEq, Eq)]
 pub enum Reason {
     /// A member has to come: at the beginning, after a comma or after `||`.
