@@ -42,10 +42,6 @@ pub at_comma : (place : ℕ) (text : List ℕ) → pieces place (44 ∷ text) �
 at_comma place [] = refl
 at_comma place (c ∷ text) = refl
 
-pub at_bars : (place : ℕ) (text : List ℕ)
-    → pieces place (124 ∷ 124 ∷ text) ≡ (place, Bars) ∷ pieces (suc (suc place)) text
-at_bars place text = refl
-
 pub at_bar : (place : ℕ) (text : List ℕ) → begins is_bar text ≡ false
     → pieces place (124 ∷ text) ≡ (place, Bar) ∷ pieces (suc place) text
 at_bar place [] other = refl

@@ -20,27 +20,6 @@ use Rattle.version_sets.specs.declared.read.pile.Pile.{Pile}
 use Rattle.version_sets.proofs.lemmas.Ends.{are_merged}
 use Rattle.version_sets.proofs.lemmas.Form.{form_length}
 
--- ---- what lay in a room is kept
-
-pub kept_none : (room : List ℕ) (pile : Pile) (end : ℕ) → Kept room pile end room pile end
-kept_none room pile end below sets is = (sets, is, λ key. refl)
-
-pub kept_both : (room : List ℕ) (pile : Pile) (end : ℕ) (between : List ℕ) (pile_between : Pile)
-    (end_between : ℕ) (after : List ℕ) (pile_after : Pile) (end_after : ℕ)
-    → pile_between.rule ≡ pile.rule → Kept room pile end between pile_between end_between
-    → Kept between pile_between end_between after pile_after end_after
-    → Kept room pile end after pile_after end_after
-kept_both room pile end between pile_between end_between after pile_after end_after same first second
-    below sets is =
-    let one = first below sets is in
-    let other = second below one.0 one.1 in (
-      other.0,
-      other.1,
-      λ key.
-          ap (λ rule. all_have rule other.0 key) (sym same) ∙ other.2 key
-          ∙ ap (λ rule. all_have rule one.0 key) same ∙ one.2 key,
-    )
-
 -- ---- how long a merge may be
 
 -- the bytes of ends with eight for the place of each

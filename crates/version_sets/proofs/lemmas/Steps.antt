@@ -133,12 +133,6 @@ all_room most Come place Comma e = cc e
 all_room most Come place Bars e = cc e
 all_room most Come place Bar e = cc e
 
--- a text that may end has come to a member
-pub finished : (state : State) → unfinished state ≡ None → state ≡ Come
-finished Wanted e = cc e
-finished (Opened c) e = cc e
-finished Come e = refl
-
 -- ---- what was asked
 
 -- a version that a text not longer is read as, with parts where the comparison asks for these

@@ -1,7 +1,7 @@
 //! Sets one behind another in a room, of which a rule makes one: each two of about as many members in turn, so that the
 //! whole takes a logarithm of their number as long as one set.
 
-ghost use Rattle.std.specs.Prelude.{◌≡◌, ◌∷◌, ◌++◌, ◌*◌, ◌+◌, ◌<◌, ◌≤◌, false, get_or, length, set, take, IfSome, List, ℕ};
+ghost use Rattle.std.specs.Prelude.{◌≡◌, ◌∷◌, ◌++◌, ◌*◌, ◌+◌, ◌<◌, ◌≤◌, false, get_or, length, set, take, true, IfSome, List, ℕ};
 ghost use Rattle.std.specs.Option.{IsSomeAnd};
 ghost use Rattle.version_sets.specs.Ends.{Rise};
 ghost use Rattle.version_sets.specs.Form.{form_bytes};
@@ -64,11 +64,19 @@ impl Pile {
         self.begin(start);
         let mut end = end;
         let mut members = self.members;
-        while self.depth > 1 && (members % 2 == 0 || self.depth == DEPTH) {
+        while self.is_due(members) {
             end = self.merge(room, end);
             members /= 2;
         }
         end
+    }
+
+    // Whether the last two sets stand for as many members each, as how many there are tells; or the pile is full.
+    fn is_due(&self, members: u64) -> bool
+        ensures yes { result ≡ true → 1 < self.now.depth }
+        ensures no { result ≡ false → self.now.depth ≤ 64 → self.now.depth < 64 }
+    {
+        self.depth > 1 && (members % 2 == 0 || self.depth == DEPTH)
     }
 
     // Takes the place where a set begins.

@@ -2,8 +2,7 @@
 //! another in a room.
 
 ghost use Rattle.std.specs.Prelude.{◌≡◌, ◌∷◌, ◌*◌, ◌+◌, ◌<◌, ◌≤◌, ◌^◌, ◌&&◌, ◌||◌, [], false, length, true, Bool, IfErr, IfOk, List, ℕ};
-ghost use Rattle.version_sets.specs.Comparison.{asks_parts, ends_with};
-ghost use Rattle.version_sets.specs.Ends.{has};
+ghost use Rattle.version_sets.specs.Ends.{has, Rise};
 ghost use Rattle.version_sets.specs.Form.{form_bytes};
 ghost use Rattle.version_sets.specs.Pieces.{piece_length, plain_piece};
 ghost use Rattle.version_sets.specs.Reader.{Continues, Fits, Holds, IsWrittenSet};
@@ -11,10 +10,10 @@ ghost use Rattle.version_sets.specs.Reading.{after_step, piece_room, Reading, Wr
 ghost use Rattle.version_sets.specs.Steps.{step};
 ghost use Rattle.version_sets.specs.declared.read.steps.State.{State as States};
 ghost use Rattle.version_sets.specs.declared.read.steps.State.TheVariants.{Come};
+ghost use Rattle.version_texts.specs.key.Sinks.{put_at};
 ghost use Rattle.version_texts.specs.keyed.Keyed.{AreWithin};
 
 use crate::merge::Rule;
-use crate::read::comparison::Comparison;
 use crate::read::fault::Fault;
 use crate::read::member::{asked, write_all, write_member};
 use crate::read::pieces::Piece;
@@ -83,12 +82,14 @@ impl Reader {
                 Ok(State::Wanted)
             }
             Step::All => {
-                self.all(room);
+                let end = write_all(self.order, room, self.end);
+                self.add(room, end);
                 Ok(State::Come)
             }
             Step::Asks(comparison, place, text) => match asked::<V>(comparison, text) {
                 Ok(member) => {
-                    self.member(room, member);
+                    let end = write_member(self.order, member, room, self.end);
+                    self.add(room, end);
                     Ok(State::Come)
                 }
                 Err(reason) => Err(Fault { place, reason }),
@@ -96,37 +97,20 @@ impl Reader {
         }
     }
 
-    // Takes a comparison with a version as a member.
-    fn member<'t, V: Keyed<'t>>(&mut self, room: &mut [u8], member: (Comparison, V))
+    // Takes the set that was written behind the members as a further one, up to a place.
+    fn add(&mut self, room: &mut [u8], end: usize)
         requires fits { Fits self.old }
-        requires parts { asks_parts member.0 ≡ true → V.parts ≡ true }
-        requires room { 2 * (self.old.end
-            + length (form_bytes self.old.order (ends_with member.0 (V.plain member.1)))) ≤ length room.old }
+        requires room { 2 * end ≤ length room.old }
         ensures fits { Fits self.new }
-        ensures holds { (done own : List ℕ → Bool) → Holds room.old self.old done own
-            → Holds room.new self.new done
-            (λ key. own key && has (ends_with member.0 (V.plain member.1)) key) }
+        ensures holds { (before : List ℕ) (ends : List (List ℕ)) (done own : List ℕ → Bool)
+            → Holds before self.old done own → Rise ends
+            → room.old ≡ put_at before self.old.end (form_bytes self.old.order ends)
+            → end ≡ self.old.end + length (form_bytes self.old.order ends)
+            → Holds room.new self.new done (λ key. own key && has ends key) }
         ensures some { 1 ≤ self.new.members.depth }
-        ensures end { self.new.end ≤ self.old.end
-            + length (form_bytes self.old.order (ends_with member.0 (V.plain member.1))) }
+        ensures end { self.new.end ≤ end }
         ensures same { (length room.new ≡ length room.old) × (self.new.order ≡ self.old.order) }
     {
-        let end = write_member(self.order, member, room, self.end);
-        self.end = self.members.push(room, self.end, end);
-    }
-
-    // Takes a member that has all keys.
-    fn all(&mut self, room: &mut [u8])
-        requires fits { Fits self.old }
-        requires room { 2 * (self.old.end + length (form_bytes self.old.order ([] ∷ []))) ≤ length room.old }
-        ensures fits { Fits self.new }
-        ensures holds { (done own : List ℕ → Bool) → Holds room.old self.old done own
-            → Holds room.new self.new done (λ key. own key && has ([] ∷ []) key) }
-        ensures some { 1 ≤ self.new.members.depth }
-        ensures end { self.new.end ≤ self.old.end + length (form_bytes self.old.order ([] ∷ [])) }
-        ensures same { (length room.new ≡ length room.old) × (self.new.order ≡ self.old.order) }
-    {
-        let end = write_all(self.order, room, self.end);
         self.end = self.members.push(room, self.end, end);
     }
 

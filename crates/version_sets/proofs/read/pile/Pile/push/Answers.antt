@@ -4,23 +4,8 @@ use Rattle.version_sets.specs.declared.read.pile.Pile.{Pile}
 use Rattle.version_sets.proofs.lemmas.Pile.{one_more}
 use Rattle.version_sets.proofs.read.pile.Pile.push.Goals as goal
 
-pub returns-else-self-eq-DEPTH-clause-sets : goal.returns-else-self-eq-DEPTH-clause-sets
-returns-else-self-eq-DEPTH-clause-sets c below sets ends is rise bytes size =
-    let begun = c.begin.ensures.new in
-    let start = one_more c.args.room.now below c.args.self.now c.args.start c.args.end begun.0 ends sets is rise
-    c.begin.ensures.within bytes size in
-    let same : c.begin.new.self.rule ≡ c.args.self.now.rule = ap (λ (pile : Pile). pile.rule) begun.1 in
-    let made = c.loop-self.invariant.kept below (ends ∷ sets)
-    (subst (λ (pile : Pile). IsPile c.args.room.now below pile c.args.end (ends ∷ sets)) (sym begun.1) start) in (
-      made.0,
-      made.1,
-      λ key.
-          ap (λ rule. all_have rule made.0 key) (sym same) ∙ made.2 key
-          ∙ ap (λ rule. all_have rule (ends ∷ sets) key) same,
-    )
-
-pub returns-after-loop-self-clause-sets : goal.returns-after-loop-self-clause-sets
-returns-after-loop-self-clause-sets c below sets ends is rise bytes size =
+pub returns-clause-sets : goal.returns-clause-sets
+returns-clause-sets c below sets ends is rise bytes size =
     let begun = c.begin.ensures.new in
     let start = one_more c.args.room.now below c.args.self.now c.args.start c.args.end begun.0 ends sets is rise
     c.begin.ensures.within bytes size in
