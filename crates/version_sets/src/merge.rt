@@ -4,6 +4,7 @@ ghost use Rattle.std.specs.Prelude.{false, ◌≡◌, ◌<◌, ◌==◌, ◌∷�
 
 use crate::form::Form;
 use std::cmp::Ordering;
+use version_texts::compare_bytes;
 
 /// Whether a set that is made of two has what the one has or not, and the other has or not.
 #[derive(Clone, Copy)]
@@ -139,7 +140,7 @@ impl<'a> Merge<'a> {
                 self.other.pass();
                 Some(end)
             }
-            (Some(end), Some(other)) => match end.cmp(other) {
+            (Some(end), Some(other)) => match compare_bytes(end, other) {
                 Ordering::Less => {
                     self.one.pass();
                     Some(end)

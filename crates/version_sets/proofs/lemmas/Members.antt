@@ -1,5 +1,5 @@
 -- What members hold: by the order, and by the parts with which versions begin.
-use Rattle.std.proofs.Common.{◌≡◌, ◌∙◌, ◌↔◌, ◌<◌, ◌⊎◌, ℕ, Bool, true, false, not, List, [], ◌∷◌, ◌++◌, Some, None, append-nil, append_assoc, ap, arith, nat_cmp, refl, sym}
+use Rattle.std.proofs.Common.{◌≡◌, ◌∙◌, ◌↔◌, ℕ, true, false, not, List, [], ◌∷◌, ◌++◌, Some, append-nil, append_assoc, ap, nat_cmp, refl, sym}
 use Rattle.std.specs.Cmp.{nat_cmp_total, tied_itself}
 use Rattle.std.specs.FinMap.{nat_cmp-IsAntisymmetric}
 use Rattle.std.specs.Ordering.{is_eq, is_ge, is_gt, is_le, is_lt, ordering_then}
@@ -16,16 +16,13 @@ use Rattle.version_rules.specs.key.KeyBytes.{key_bytes}
 use Rattle.version_rules.specs.key.NumberBytes.{number_bytes}
 use Rattle.version_rules.specs.key.PartKey.{PartKey, Number, Word, part_bytes, part_cmp, parts_bytes}
 use Rattle.version_rules.specs.key.Tail.{tail_bytes}
-use Rattle.version_rules.specs.laws.Order.{then_equal}
 use Rattle.version_rules.specs.laws.Part.{part_total}
 use Rattle.version_rules.specs.order.Lists.{bytes_cmp}
 use Rattle.version_rules.specs.requirement.Range.{after, begun}
 use Rattle.version_texts.specs.keyed.Keyed.{BeginsKey, PlainKeyed}
-use Rattle.version_texts.specs.keyed.Mixed.{mixed, mixed_begins}
 use Rattle.version_sets.specs.Comparison.{ends_with}
 use Rattle.version_sets.specs.Ends.{has}
 use Rattle.version_sets.specs.Members.{AreByOrder, BeginsWith}
-use Rattle.version_sets.specs.declared.read.comparison.Comparison.{Comparison}
 
 -- ---- by the order
 
@@ -164,8 +161,7 @@ parts_between [] (Word w ∷ more) x = (not_below (parts_bytes (Word w ∷ more)
 parts_between [] (Number n suffix ∷ more) x = (not_below (parts_bytes (Number n suffix ∷ more) ++ x), refl)
 parts_between (p ∷ ps) more x =
     let rest = parts_between ps more x in
-    let tied = tied_itself part_total (Some p) in
-    (
+    let tied = tied_itself part_total (Some p) in (
       λ less. rest.0 (sym ((rw tied at (by_first p p (ps ++ more) ps x []))) ∙ less),
       (rw tied at (by_first p p (ps ++ more) ps x (4 ∷ []))) ∙ rest.1,
     )
@@ -188,10 +184,9 @@ between k epoch ps = (
       let tied : nat_cmp k.epoch epoch ≡ Equal =
       ap (λ n. nat_cmp n epoch) begins.epoch_is ∙ tied_itself nat_cmp_total epoch in
       let at : (y : List ℕ) → bytes_cmp (key_bytes k) (begun epoch ps ++ y)
-          ≡ bytes_cmp (parts_bytes (ps ++ begins.more) ++ tail_bytes k.tail) (items ps ++ y) =
+      ≡ bytes_cmp (parts_bytes (ps ++ begins.more) ++ tail_bytes k.tail) (items ps ++ y) =
       λ y. (rw tied at (bound_is k epoch ps y))
-          ∙ ap (λ body. bytes_cmp (parts_bytes body ++ tail_bytes k.tail) (items ps ++ y)) begins.parts_are in
-      (
+      ∙ ap (λ body. bytes_cmp (parts_bytes body ++ tail_bytes k.tail) (items ps ++ y)) begins.parts_are in (
         λ less. inside.0 (sym (at []) ∙ ap (bytes_cmp (key_bytes k)) (append-nil (begun epoch ps)) ∙ less),
         at (4 ∷ []) ∙ inside.1,
       ),
@@ -245,11 +240,9 @@ pub series_is : (k key_r : Key) (epoch : ℕ) (ps : List PartKey) → BeginsKey 
 series_is k key_r epoch ps key_begins =
     let inside = interval (key_bytes k) (key_bytes key_r) (begun epoch ps ++ 4 ∷ []) in
     let begins = between k epoch ps in
-    let same = writes_alone key_writes k key_r in
-    (
+    let same = writes_alone key_writes k key_r in (
       λ e.
-          let is = inside.0 e in
-          (
+          let is = inside.0 e in (
             λ less. is.0 (same ∙ less),
             begins.0 (
               λ less. is.0 (ap (bytes_cmp (key_bytes k)) key_begins.whole

@@ -12,7 +12,7 @@ use Rattle.version_texts.proofs.lemmas.key.Sinks.{put_fits}
 use Rattle.version_sets.specs.Ends.{Rise, has}
 use Rattle.version_sets.specs.Form.{form_bytes}
 use Rattle.version_sets.specs.Merge.{kept, merged}
-use Rattle.version_sets.specs.Pile.{Begin, IsPile, Kept, all_have, through}
+use Rattle.version_sets.specs.Pile.{Begin, IsPile, all_have, through}
 use Rattle.version_sets.specs.Set.{by_rule}
 use Rattle.version_sets.specs.declared.merge.Rule.{Rule}
 use Rattle.version_sets.specs.declared.merge.Rule.TheVariants.{Both, Either, FirstAlone}

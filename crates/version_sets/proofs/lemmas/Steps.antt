@@ -13,7 +13,7 @@ use Rattle.version_sets.specs.Comparison.{asks_bare, asks_parts, before_star, by
 use Rattle.version_sets.specs.Form.{form_bytes}
 use Rattle.version_sets.specs.Pieces.{PlainPiece, Bar, Bars, Comma, Word}
 use Rattle.version_sets.specs.Reading.{Asked, With, allowed, asked, piece_room, unless_slip, with_version}
-use Rattle.version_sets.specs.Steps.{All, Asks, begin_member, is_all, step, unfinished}
+use Rattle.version_sets.specs.Steps.{All, Asks, begin_member, is_all, step}
 use Rattle.version_sets.specs.declared.read.comparison.Comparison.{Comparison}
 use Rattle.version_sets.specs.declared.read.steps.State.{State}
 use Rattle.version_sets.specs.declared.read.steps.State.TheVariants.{Come, Opened, Wanted}

@@ -1,8 +1,7 @@
-use Rattle.std.proofs.Common.{◌++◌, ◌∷◌, []}
 use Rattle.version_rules.specs.declared.ends.Kept.TheVariants.{ButLastOrOnly, ThroughOther}
 use Rattle.version_rules.specs.key.Key.{key_of}
 use Rattle.version_texts.specs.keyed.Mixed.{mixed, mixed_begins}
-use Rattle.version_rules.specs.requirement.Range.{begun, but_last_or_only, through_other}
+use Rattle.version_rules.specs.requirement.Range.{but_last_or_only, through_other}
 use Rattle.version_sets.specs.Comparison.{ends_with}
 use Rattle.version_sets.specs.declared.read.comparison.Comparison.TheVariants.{Prefix}
 use Rattle.version_sets.proofs.lemmas.Members.{all_but, prefix_is, series_is}

@@ -1,4 +1,4 @@
-use Rattle.std.proofs.Common.{◌≡◌, ◌∙◌, ◌+◌, ◌≤◌, ◌&&◌, ◌∷◌, ◌++◌, [], ap, arith, length, sym, take, ℕ}
+use Rattle.std.proofs.Common.{◌≡◌, ◌∙◌, ◌+◌, ◌≤◌, ◌&&◌, ◌∷◌, ◌++◌, [], ap, arith, length, sym, take}
 use Rattle.version_sets.specs.Ends.{has}
 use Rattle.version_sets.specs.Form.{form_bytes}
 use Rattle.version_sets.specs.Pile.{all_have, through}

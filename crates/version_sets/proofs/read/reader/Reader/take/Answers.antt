@@ -1,4 +1,4 @@
-use Rattle.std.proofs.Common.{◌≡◌, ◌∙◌, ◌+◌, ◌≤◌, ◌||◌, ◌&&◌, ◌∷◌, Bool, List, [], ap, arith, length, refl, rules, subst, sym, true, ℕ}
+use Rattle.std.proofs.Common.{◌≡◌, ◌∙◌, ◌||◌, ◌&&◌, ◌∷◌, [], ap, arith, length, refl, rules, subst, sym, true}
 use Rattle.version_rules.specs.declared.ends.Kept.{Kept}
 use Rattle.version_texts.specs.key.Sinks.{length-put}
 use Rattle.version_texts.specs.keyed.Keyed.{BeginsKey}
@@ -21,8 +21,7 @@ use Rattle.version_sets.proofs.read.reader.Reader.take.Goals as goal
 pub returns-in-Closes-clause-ok : goal.returns-in-Closes-clause-ok
 returns-in-Closes-clause-ok g c whole rest done own holds continues =
     let is : step c.args.state c.args.place (plain_piece c.args.piece) ≡ Closes =
-    sym c.step.ensures ∙ rw c.in-Closes.is refl in
-    (
+    sym c.step.ensures ∙ rw c.in-Closes.is refl in (
       λ key. done key || own key,
       λ key. true,
       c.close.ensures.holds done own holds,
@@ -60,8 +59,7 @@ add-requires-clause-room g c =
 pub returns-in-All-clause-ok : goal.returns-in-All-clause-ok
 returns-in-All-clause-ok g c whole rest done own holds continues =
     let is : step c.args.state c.args.place (plain_piece c.args.piece) ≡ All =
-    sym c.step.ensures ∙ rw c.in-All.is refl in
-    (
+    sym c.step.ensures ∙ rw c.in-All.is refl in (
       done,
       λ key. own key && has ([] ∷ []) key,
       c.add.ensures.holds c.args.room.now ([] ∷ []) done own holds (one_rises []) c.write_all-end.ensures.bytes
@@ -120,7 +118,7 @@ add-requires-in-Ok-clause-room g c =
       c.write_member-end.ensures.end,
       ap length c.write_member-end.ensures.bytes,
       length-put c.args.room.now c.args.self.now.end
-      (form_bytes c.args.self.now.order (ends_with c.in-Ok.member.0 version)),
+          (form_bytes c.args.self.now.order (ends_with c.in-Ok.member.0 version)),
       small,
       ap (piece_room V.most) word.is,
     )
@@ -140,8 +138,7 @@ returns-in-Ok-clause-ok g c whole rest done own holds continues =
     let begins : V.parts ≡ true → (kept : Kept) → BeginsKey (version.begun kept) version.key = search rules in
     let ends = ends_with c.in-Ok.member.0 version in
     let rise : Rise ends = rises c.in-Ok.member.0 version some (λ asks. begins (read.allowed_is asks)) in
-    let stepped = subst (λ s. Continues whole done own (after_step V.read_as V.parts rest s)) is continues in
-    (
+    let stepped = subst (λ s. Continues whole done own (after_step V.read_as V.parts rest s)) is continues in (
       done,
       λ key. own key && has ends key,
       c.add-in-Ok.ensures.holds c.args.room.now ends done own holds rise c.write_member-end.ensures.bytes
