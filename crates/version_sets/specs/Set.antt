@@ -22,10 +22,6 @@ by_rule FirstAlone one other = one && not other
 abbrev pub ends_left : Side → ℕ
 ends_left side = side.set.count - side.place
 
--- a side behind its next end
-abbrev pub passed : Side → Side
-passed side = record { set = side.set; place = side.place + 1; has = not side.has }
-
 -- whether the set that is made has what lies behind the ends that are passed
 abbrev pub has_here : Merge → Bool
 has_here merge = by_rule merge.rule merge.one.has merge.other.has
@@ -33,6 +29,10 @@ has_here merge = by_rule merge.rule merge.one.has merge.other.has
 -- the ends of a side that are left, and those of the set that is made
 abbrev pub side_left : Side → List (List ℕ)
 side_left side = drop side.place (ends_of side.set)
+
+-- the ends of a side behind the next one
+abbrev pub passed : Side → List (List ℕ)
+passed side = drop (side.place + 1) (ends_of side.set)
 
 abbrev pub left : Merge → List (List ℕ)
 left merge =

@@ -1,6 +1,7 @@
 //! What a rule makes of two sets, end by end.
 
-ghost use Rattle.std.specs.Prelude.{false, ◌≡◌, ◌<◌, ◌==◌, ◌∷◌, [], IfNone, IfSome, length};
+ghost use Rattle.std.specs.Prelude.{false, not, ◌≡◌, ◌+◌, ◌-◌, ◌<◌, ◌==◌, ◌∷◌, [], IfNone, IfSome, drop, length};
+ghost use Rattle.version_sets.specs.Form.{ends_in};
 
 use crate::form::Form;
 use std::cmp::Ordering;
@@ -32,33 +33,67 @@ impl Rule {
     }
 }
 
-// A set, how many of its ends are passed, and whether it has what lies behind these.
+// A set, how many of its ends are passed, whether it has what lies behind these, and the next end if one is left.
 #[derive(Clone, Copy)]
 struct Side<'a> {
     set: Form<'a>,
     place: usize,
     has: bool,
+    next: &'a [u8],
+    ghost is_next: { place < set.count → drop place (ends_in set.count set.numbers.now set.ends.now)
+        ≡ next.now ∷ drop (place + 1) (ends_in set.count set.numbers.now set.ends.now) },
 }
 
 impl<'a> Side<'a> {
-    ghost use Rattle.version_sets.specs.Set.{ends_left, passed, side_left};
+    ghost use Rattle.version_sets.specs.Set.{ends_left, ends_of, passed, side_left};
+
+    // Begins before the first end of a set.
+    fn of(set: Form<'a>) -> Side<'a>
+        ensures left { side_left result ≡ ends_of set.entry }
+        ensures has { result.has ≡ false }
+    {
+        Side::at(set, 0, false)
+    }
+
+    // Stands at a place in a set, and has what lies before its end there or not.
+    fn at(set: Form<'a>, place: usize, has: bool) -> Side<'a>
+        ensures left { side_left result ≡ drop place (ends_of set.entry) }
+        ensures has { result.has ≡ has }
+        ensures number { ends_left result ≡ set.entry.count - place }
+    {
+        let next = match set.end(place) {
+            Some(end) => end,
+            None => &[],
+        };
+        Side {
+            set,
+            place,
+            has,
+            next,
+        }
+    }
 
     // The next end, or None if none is left.
     fn end(&self) -> Option<&'a [u8]>
-        ensures some { IfSome result (λ end. side_left self.now ≡ end.now ∷ side_left (passed self.now)) }
+        ensures some { IfSome result (λ end. side_left self.now ≡ end.now ∷ passed self.now) }
         ensures none { IfNone result (side_left self.now ≡ []) }
         ensures left { IfSome result (λ _. 0 < ends_left self.now) }
     {
-        self.set.end(self.place)
+        if self.place < self.set.count() {
+            Some(self.next)
+        } else {
+            None
+        }
     }
 
     // Passes an end, which is left.
     fn pass(&mut self)
         requires { 0 < ends_left self.old }
-        ensures { self.new ≡ passed self.old }
+        ensures left { side_left self.new ≡ passed self.old }
+        ensures has { self.new.has ≡ not self.old.has }
+        ensures number { ends_left self.new + 1 ≡ ends_left self.old }
     {
-        self.place += 1;
-        self.has = !self.has;
+        *self = Side::at(self.set, self.place + 1, !self.has);
     }
 }
 
@@ -79,15 +114,10 @@ impl<'a> Merge<'a> {
         ensures { left result
             ≡ merged (by_rule rule) false false (ends_of one.entry) (ends_of other.entry) }
     {
-        let begun = |set| Side {
-            set,
-            place: 0,
-            has: false,
-        };
         Merge {
             rule,
-            one: begun(one),
-            other: begun(other),
+            one: Side::of(one),
+            other: Side::of(other),
         }
     }
 
