@@ -1,4 +1,4 @@
-use Rattle.std.proofs.Common.{◌≡◌, ◌∙◌, ◌+◌, ◌<◌, ◌∷◌, List, ap, arith, drop, length, sym, ℕ}
+use Rattle.std.proofs.Common.{◌∙◌, ◌+◌, ◌∷◌, List, ap, arith, drop, length, sym, ℕ}
 use Rattle.std.proofs.lemmas.List.{length-drop}
 use Rattle.std.proofs.lemmas.List.FromFn.{length-map-range_with_len}
 use Rattle.version_sets.specs.Form.{end_at, ends_in}
