@@ -1,10 +1,10 @@
 //! Sets as people write them.
 
-ghost use Rattle.std.specs.Prelude.{◌≡◌, ◌∷◌, ◌+◌, ◌*◌, ◌<◌, ◌≤◌, length, IfErr, IfOk, List, ℕ};
-ghost use Rattle.version_sets.specs.Reading.{read_set, set_has, set_room, Right, Wrong};
+ghost use Rattle.std.specs.Prelude.{◌≡◌, ◌∷◌, ◌<◌, length, IfErr, IfOk, List, ℕ};
+ghost use Rattle.version_sets.specs.Reading.{piece_room, read_set, set_has, set_room, Right};
+ghost use Rattle.version_sets.specs.Pieces.{plain_piece};
 ghost use Rattle.version_sets.specs.Reader.{IsUnread, IsWrittenSet};
 ghost use Rattle.version_texts.specs.key.Sinks.{saturated};
-ghost use Rattle.version_texts.specs.keyed.Keyed.{AreWithin};
 
 pub(crate) mod comparison;
 pub(crate) mod fault;
@@ -32,36 +32,34 @@ pub enum Unread {
 /// Returns a size of room in which a set of an order is read from a text, whatever it is. It is linear in the text.
 /// Does not allocate.
 pub fn set_room<'t, V: Keyed<'t>>(text: &[u8]) -> usize
-    ensures room { result ≡ saturated (set_room V.most text.now) }
-    ensures enough { AreWithin V.read_as V.most }
+    ensures { result ≡ saturated (set_room V.most text.now) }
 {
     let mut pieces = Pieces {
         left: text,
         place: 0,
     };
-    // Also without words, what it promises of every text counts.
-    V::key_room(0);
     let mut room: usize = 0;
     while let Some((_, piece)) = pieces.next() {
-        if let Piece::Word(word) = piece {
-            room = room.saturating_add(word_room::<V>(word));
-        }
+        room = room.saturating_add(piece_room::<V>(piece));
     }
     room.saturating_mul(2)
 }
 
-// Returns how many bytes a member with a word has at most.
-fn word_room<'t, V: Keyed<'t>>(word: &[u8]) -> usize
-    ensures { result ≡ saturated (9 + 3 * (9 + V.most (length word.now))) }
+// Returns how many bytes a member with a piece for its version has at most.
+fn piece_room<'t, V: Keyed<'t>>(piece: Piece<'_>) -> usize
+    ensures { result ≡ saturated (piece_room V.most (plain_piece piece.entry)) }
 {
-    V::key_room(word.len())
-        .saturating_add(9)
-        .saturating_mul(3)
-        .saturating_add(9)
+    match piece {
+        Piece::Word(word) => V::key_room(word.len())
+            .saturating_add(9)
+            .saturating_mul(3)
+            .saturating_add(9),
+        _ => 0,
+    }
 }
 
-/// Reads a set of an order from a text, and writes its one form into a room that is as large as `set_room` says, with a
-/// number for the order. Returns how many bytes the form has.
+/// Reads a set of an order from a text, and writes its one form into a room, with a number for the order. Returns how
+/// many bytes the form has. A room that is as large as `set_room` says is enough, and a smaller one may be.
 ///
 /// A set is alternatives with `||` between them, and has what one of them has. An alternative is members with a comma,
 /// spaces or tabs between them, and has what all of them have. A member is `*`, which has all, or an operator and a
@@ -78,25 +76,8 @@ pub fn read_set<'t, V: Keyed<'t>>(
     ensures wrong { IfErr result (λ unread. IsUnread unread (read_set V.read_as V.parts text.now)
         (length room.old < set_room V.most text.now)) }
 {
-    if room.len() < set_room::<V>(text) {
-        return Err(Unread::NoRoom);
-    }
-    match read_pieces::<V>(order, text, room) {
-        Ok(size) => Ok(size),
-        Err(fault) => Err(Unread::Wrong(fault)),
-    }
-}
-
-// Reads a set, for which there is room.
-fn read_pieces<'t, V: Keyed<'t>>(order: u8, text: &'t [u8], room: &mut [u8]) -> Result<usize, Fault>
-    requires room { set_room V.most text.now ≤ length room.old }
-    requires enough { AreWithin V.read_as V.most }
-    ensures ok { IfOk result (λ size. (first : List (List (List ℕ))) × (others : List (List (List (List ℕ))))
-        × (read_set V.read_as V.parts text.now ≡ Right first others)
-        × IsWrittenSet room.new order size (set_has (first ∷ others))) }
-    ensures wrong { IfErr result (λ fault.
-        read_set V.read_as V.parts text.now ≡ Wrong fault.place fault.reason) }
-{
+    // Called for what it promises of every text.
+    V::key_room(0);
     let mut pieces = Pieces {
         left: text,
         place: 0,
@@ -104,16 +85,19 @@ fn read_pieces<'t, V: Keyed<'t>>(order: u8, text: &'t [u8], room: &mut [u8]) -> 
     let mut reader = Reader::new(order);
     let mut state = State::Wanted;
     while let Some((place, piece)) = pieces.next() {
+        if reader.end.saturating_add(piece_room::<V>(piece)) > room.len() / 2 {
+            return Err(Unread::NoRoom);
+        }
         match reader.take::<V>(room, state, place, piece) {
             Ok(next) => state = next,
-            Err(fault) => return Err(fault),
+            Err(fault) => return Err(Unread::Wrong(fault)),
         }
     }
     match state.unfinished() {
-        Some(reason) => Err(Fault {
+        Some(reason) => Err(Unread::Wrong(Fault {
             place: text.len(),
             reason,
-        }),
+        })),
         None => Ok(reader.finish(room)),
     }
 }

@@ -1,18 +1,20 @@
-use Rattle.std.proofs.Common.{◌≡◌, ◌∙◌, ◌+◌, ◌||◌, ◌&&◌, None, ap, arith, false, length, subst, sym, true}
+use Rattle.std.proofs.Common.{◌≡◌, ◌∙◌, ◌+◌, ◌*◌, ◌≤◌, ◌||◌, ◌&&◌, None, ap, arith, false, length, refl, subst, sym, true}
 use Rattle.version_sets.specs.Form.{form_bytes}
 use Rattle.version_sets.specs.Pieces.{pieces, plain_piece}
 use Rattle.version_sets.specs.Reader.{Continues}
 use Rattle.version_sets.specs.Reading.{at_end, piece_room, pieces_room, read_pieces, read_set}
 use Rattle.version_sets.specs.Steps.{unfinished}
 use Rattle.version_sets.proofs.lemmas.Reader.{and_true, at_first, or_false}
-use Rattle.version_sets.proofs.read.read_pieces.Goals as goal
+use Rattle.version_sets.proofs.read.read_set.Goals as goal
 
 pub loop-place-init : goal.loop-place-init
 loop-place-init g c = record {
   fits = c.new-reader.ensures.fits;
   come = λ same. cc same;
   end = omega arith;
-  room = omega (arith, c.requires.room, c.new-reader.ensures.end);
+  room = omega (arith, c.new-reader.ensures.end);
+  half = omega (arith, c.new-reader.ensures.end);
+  size = refl;
   order = c.new-reader.ensures.order;
   reads = (λ key. false, λ key. true, c.new-reader.ensures.holds c.args.room.now, at_first _);
 }
@@ -40,18 +42,22 @@ loop-place-preserved g c =
     let here : pieces_room V.most (pieces c.loop-place.pieces.place c.loop-place.pieces.left.now)
     ≡ piece_room V.most (plain_piece c.in-Some.piece) + pieces_room V.most behind =
     ap (pieces_room V.most) c.in-Some.ensures.some in
+    let fits : 2 * (c.loop-place.reader.end + piece_room V.most (plain_piece c.in-Some.piece)) ≤ length c.loop-place.room =
+    omega (
+      arith,
+      c.if-saturating_add-room.false,
+      c.saturating_add.ensures,
+      c.piece_room.ensures,
+      c.loop-place.invariant.size,
+      c.well_formed.1.1.0,
+    ) in
     record {
       fits = c.take.ensures.fits;
       come = c.in-Ok.ensures.come;
       end = omega (arith, c.in-Some.ensures.end, c.loop-place.invariant.end);
-      room =
-          omega (
-            arith,
-            c.take.ensures.end,
-            c.take.ensures.same.0,
-            c.loop-place.invariant.room,
-            here,
-          );
+      room = omega (arith, c.take.ensures.end, c.loop-place.invariant.room, here);
+      half = omega (arith, c.take.ensures.end, c.take.ensures.same.0, fits);
+      size = c.take.ensures.same.0 ∙ c.loop-place.invariant.size;
       order = c.take.ensures.same.1 ∙ c.loop-place.invariant.order;
       reads = c.in-Ok.ensures.ok whole (λ next. read_pieces V.read_as V.parts end next behind)
           reads.0 reads.1 reads.2 stepped;
