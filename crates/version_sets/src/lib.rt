@@ -1,6 +1,6 @@
 //! Sets of versions by the ends of their intervals among the bytes of sort keys: a set begins at its first end, is left
 //! at the next, and so on, and the ends rise. So a set has one form, and what two sets make is one merge of their ends.
-//! A set is bytes in the caller's room, and no call allocates. What reads sets as people write them is to follow.
+//! A set is bytes in the caller's room, also where it is read as people write it, and no call allocates.
 #![tactic(auto)]
 
 mod algebra;
