@@ -1,8 +1,10 @@
 """What the scripts of tests/ that are written in Python share: what they need, how they count, and how they end."""
+import importlib
 import os
 import shutil
 import subprocess
 import sys
+import zipfile
 from pathlib import Path
 
 TOP = Path(__file__).resolve().parent.parent.parent
@@ -49,6 +51,14 @@ def needs_library(work):
         folder = os.path.join(work, "library")
         built(TOP / "c/build", folder)
     return str(Path(folder).resolve())
+
+
+def built_package(folder):
+    """The package for Python, built into a folder by the library that C_LIBRARY names."""
+    with zipfile.ZipFile(built(TOP / "python/build-wheel", folder)) as wheel:
+        wheel.extractall(f"{folder}/package")
+    sys.path.insert(0, f"{folder}/package")
+    return importlib.import_module("versions")
 
 
 def check(name, holds, *said):

@@ -18,11 +18,9 @@ TOP = Path(__file__).resolve().parent.parent.parent
 JOBS = int(os.environ.get("JOBS", "3"))
 WORDS = sys.argv[1:]
 
-# Tests of great lengths, by the prefixes of their names. Each would take `rt try` minutes.
-LARGE = re.compile(r"^#\[test\]\nfn ((?:a_million|ten_megabytes)\w*)\(.*?^}\n", re.M | re.S)
+# Rows of crates/vectors on texts of great lengths. Together they would take `rt try` minutes.
+LARGE = re.compile(r"^.*\*\d{6,}\].*\n", re.M)
 SCRIPTS = ("tests/examples", "tests/unused")
-# The crate whose calls `tests/refused_memory` makes.
-MEMORY = "vectors_memory"
 
 # Faults of docs/VERS.md that no run has: the words, the input and the status. Nothing is written.
 FAULTS = (
@@ -67,19 +65,23 @@ def cases_of_vers():
     yield from cases_of_runs(*runs.VERS, *runs.VERS_WITHOUT_MEMORY)
 
 
-def cases_of_memory():
-    yield "calls", [], "", (TOP / "crates" / MEMORY / "stdout").read_text(), 0
+def cases_of_vectors():
+    """The rows but for those of great lengths, which the last line of the output counts too."""
+    own = TOP / "crates/vectors"
+    given, left = LARGE.subn("", (own / "stdin").read_text())
+    output = re.sub(r"\d+\n\Z", lambda count: f"{int(count[0]) - left}\n", (own / "stdout").read_text())
+    yield "rows", [], given, output, 0
 
 
 def left_to_the_gate():
-    """What the gate runs and this does not, but for tests of great lengths."""
+    """What the gate runs and this does not."""
     scripts = dict.fromkeys(re.findall(r"\btests/\w+\b(?!/)", (TOP / ".ci/run").read_text()))
     others = [name for name in scripts if name not in (*SCRIPTS, "tests/quick")]
-    return ["every proof, and the must-fail edits", *others, "bench_growth"]
+    return ["every proof, and the must-fail edits", *others, "the rows of vectors on great lengths", "bench_growth"]
 
 
 class Tests:
-    """The tests of a crate, but for those of great lengths."""
+    """The tests of a crate."""
 
     command = ["rt", "try", "--test"]
 
@@ -190,25 +192,19 @@ def run(parts):
 def main(copy):
     shutil.copytree(TOP / "crates", copy / "crates", ignore=shutil.ignore_patterns("out"))
     shutil.copy(TOP / "crates.txt", copy)
-    left, tested = [], set()
-    for file in sorted((copy / "crates").glob("*/src/**/*.rt")):
-        text = file.read_text()
-        crate = file.relative_to(copy).parts[1]
-        if "#[test]" in text:
-            tested.add(crate)
-        left += [f"{crate}: {name}" for name in LARGE.findall(text)]
-        file.write_text(LARGE.sub("", text))
+    sources = sorted((copy / "crates").glob("*/src/**/*.rt"))
+    tested = {file.relative_to(copy).parts[1] for file in sources if "#[test]" in file.read_text()}
 
     # The longest parts come first, so that the processors end together.
     parts = []
     if WORDS != ["rest"]:
         parts += [Tests(copy, crate) for crate in sorted(tested)]
-        parts += [Cases(copy, MEMORY, cases_of_memory())]
+        parts += [Cases(copy, "vectors", cases_of_vectors())]
         parts += [Cases(copy, "versions_program", cases_of_runs(*runs.VERSIONS, *runs.MISSPELT))]
         parts += [Cases(copy, "vers", cases_of_vers())]
     parts += [Script(SCRIPTS[0]), FirstCommand(copy), Script(SCRIPTS[1])]
     passed, failed = run(parts)
-    print("left to the gate:", *left_to_the_gate(), *left, sep="\n  ")
+    print("left to the gate:", *left_to_the_gate(), sep="\n  ")
     return passed, failed
 
 
