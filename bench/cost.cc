@@ -70,6 +70,43 @@ static long in_range(const std::string &a, const std::string &b) {
   return is_in;
 }
 
+// The form of a set.
+static std::vector<uint8_t> form_of(const std::string &text) {
+  size_t length = 0;
+  versions_set_bound(VERSIONS_MIXED, text.data(), text.size(), &length);
+  std::vector<uint8_t> form(length);
+  versions_set(VERSIONS_MIXED, text.data(), text.size(), form.data(), form.size(), &length);
+  form.resize(length);
+  return form;
+}
+
+static long set_of_two(const std::string &, const std::string &) {
+  static uint8_t form[1024];
+  size_t length = 0;
+  versions_set(VERSIONS_MIXED, ">=1.2.3, <2.0.0", 15, form, sizeof form, &length);
+  return static_cast<long>(length);
+}
+
+static long has(const std::vector<uint8_t> &form, const std::string &text) {
+  bool has = false;
+  versions_set_has(form.data(), form.size(), text.data(), text.size(), &has);
+  return has;
+}
+
+static long has_one(const std::string &a, const std::string &) {
+  static const std::vector<uint8_t> form = form_of(">=1.2.3, <2.0.0");
+  return has(form, a);
+}
+
+static long has_sixteen(const std::string &a, const std::string &) {
+  static const std::vector<uint8_t> form = [] {
+    std::string text = ">=0.1 <0.2";
+    for (int i = 1; i < 16; i++) text += " || >=" + std::to_string(i) + ".1 <" + std::to_string(i) + ".2";
+    return form_of(text);
+  }();
+  return has(form, a);
+}
+
 static const struct {
   const char *name;
   Call call;
@@ -81,6 +118,9 @@ static const struct {
     {"versions_matches", matches},
     {"versions_range", range_of},
     {"versions_in_range", in_range},
+    {"versions_set", set_of_two},
+    {"versions_set_has_of_one", has_one},
+    {"versions_set_has_of_sixteen", has_sixteen},
 #ifdef WITH_RPM
     {"rpmvercmp", [](const std::string &a, const std::string &b) -> long { return rpmvercmp(a.c_str(), b.c_str()); }},
 #endif

@@ -182,6 +182,7 @@ def roff(text, parameters=()):
     if text.startswith("    "):
         return "\n".join([".nf", *(line[4:] for line in text.splitlines()), ".fi"])
     text = re.sub(r"(\\-)?\bVERSIONS_\w+|\bversions_\w+", r"\\fB\g<0>\\fR", " ".join(text.split()))
+    text = re.sub(r"^(?=\.)", r"\\&", text)  # else the line would be a request
     passed = "|".join([r"`[^`]+`", r"\*\w+", r"\b\w+\[[^]]+\]", *(rf"\b{name}\b" for name in parameters)])
     return re.sub(passed, lambda found: rf"\fI{found[0].strip('`')}\fR", text)
 

@@ -16,6 +16,12 @@
  * Alignment. A pointer is aligned as its type is: to int64_t, uint64_t or size_t to 8 bytes, to int32_t or uint32_t to 4.
  * Offsets that lie within a buffer of bytes, such as a file's, may not be: copy them first.
  *
+ * Sets. A set of versions, such as >=1.2, <2 || ^3, is read once, by versions_set, and is then its form: bytes that the
+ * other calls read in the place of its text. With one scheme, two sets have the same keys exactly if their forms are
+ * the same bytes. A key is in the set if the number of its ends that are not above the key is odd; a set is of keys, so
+ * versions that compare equal are in it together. No call reads past the bytes that it gets, but of bytes that no call
+ * wrote it may answer anything: versions_set_count tells whether bytes are a form.
+ *
  * Null pointers. A null pointer with length 0 is an empty text or an empty array. Any other null pointer is an error:
  * the call returns VERSIONS_NULL, whatever else is wrong, and reads and writes nothing.
  *
@@ -61,12 +67,17 @@ extern "C" {
 #define VERSIONS_NO_MEMORY 9        /* memory allocation failed; reserved: no call allocates, and none returns this */
 #define VERSIONS_NULL 10            /* a pointer is null, and what it should point to is not empty */
 #define VERSIONS_NO_FIELD 11        /* the version has no such field */
-#define VERSIONS_NO_WRONG_MEMBER 12 /* each member of the list is a requirement */
+#define VERSIONS_NO_WRONG_MEMBER 12 /* each member of the list is a requirement, or the text is a set */
 #define VERSIONS_LARGE_EPOCH 13     /* the epoch is above 9223372036854775807 */
 #define VERSIONS_UNKNOWN_FIELD 14   /* no field has that number */
 #define VERSIONS_ALL_MATCH 15       /* each member of the list matches the version */
 #define VERSIONS_NO_CONFLICT 16     /* no two members of the list exclude each other */
 #define VERSIONS_NO_NEXT 17         /* the version has no next one at that place */
+#define VERSIONS_NO_SET 18          /* the text is not a set of versions */
+#define VERSIONS_NO_FORM 19         /* the bytes are not the form of a set */
+#define VERSIONS_NO_SCHEME 20       /* no scheme has that number */
+#define VERSIONS_OTHER_SCHEME 21    /* the two sets are of different schemes */
+#define VERSIONS_NO_INTERVAL 22     /* the set has no interval at that place */
 
 /* The kinds. */
 #define VERSIONS_NONE 0    /* not a version */
@@ -109,6 +120,22 @@ extern "C" {
 #define VERSIONS_WHY_BELOW 2 /* its key is below the range */
 #define VERSIONS_WHY_ABOVE 3 /* its key is not below the high bound of the range */
 #define VERSIONS_WHY_PARTS 4 /* none of these: parts or fields differ */
+
+/* The schemes: which texts are versions, and how these compare. */
+#define VERSIONS_MIXED 1 /* every version, in the one order of versions_compare */
+
+/* Why a text is not a set. */
+#define VERSIONS_SET_NO_MEMBER 1    /* a member has to come: first, or after a comma or || */
+#define VERSIONS_SET_NO_VERSION 2   /* a version has to come, after an operator */
+#define VERSIONS_SET_NO_OPERATOR 3  /* a version has no operator before it */
+#define VERSIONS_SET_ONE_BAR 4      /* a bar stands alone, where two stand between alternatives */
+#define VERSIONS_SET_NOT_VERSION 5  /* what follows an operator is not a version */
+#define VERSIONS_SET_STAR 6         /* .* stands after another operator than =, == and != */
+#define VERSIONS_SET_NOT_BARE 7     /* .* stands behind a version that has more than an epoch and parts */
+#define VERSIONS_SET_NO_PARTS 8     /* the operator asks for parts, which versions of the scheme do not have */
+#define VERSIONS_SET_LETTER_V 9     /* the version begins with v or V and a digit, as a tag does */
+#define VERSIONS_SET_PART_X 10      /* the version has a part x or X, as a pattern does */
+#define VERSIONS_SET_NO_DIGIT 11    /* the version has no digit, as latest */
 
 /*
  * Returns the kind of a text: VERSIONS_NONE, VERSIONS_IDEAL, VERSIONS_GENERAL or VERSIONS_COMPLEX.
@@ -441,6 +468,163 @@ int versions_why_text(const char *list, size_t list_len, const char *text, size_
  */
 int versions_conflict(const char *list, size_t list_len, size_t *start, size_t *end, size_t *other_start,
                       size_t *other_end);
+
+/*
+ * Reads a set of versions of a scheme, and writes its form.
+ *
+ * A set is alternatives with || between them, and has what one of them has. An alternative is members with a comma or
+ * blanks between them, and has what all of them have. A member is one of these, where blanks may stand around the
+ * operator and the version; blanks are spaces and tabs:
+ *
+ *     *                  all versions
+ *     =r, ==r            what compares equal to r
+ *     !=r                all else
+ *     <r, <=r, >r, >=r   what is before r, not after it, after it, not before it
+ *     =r.*, ==r.*        what has the epoch of r and begins with its parts
+ *     !=r.*              all else
+ *     ~r, ~=r, ~>r       what is not before r, and begins with its parts but the last
+ *     ^r                 what is not before r, and begins with some of its parts
+ *
+ * With .* the version has nothing behind its parts. With ~ and ^ the epoch is the same too: ~ asks for an only part, and
+ * ^ for the parts through the first that is no plain zero, or for all.
+ *
+ * `room` is the size of the buffer `form`. The call sets *form_len to the length of the form, which is the first bytes
+ * of `form`; the bytes behind it are unspecified. If it returns VERSIONS_NO_ROOM, it sets *form_len to a size that is
+ * enough, that of versions_set_bound. With every other status than VERSIONS_OK and VERSIONS_NO_SCHEME the whole buffer
+ * is unspecified. It is linear in the text, times the logarithm of the number of members.
+ *
+ * Returns VERSIONS_OK, VERSIONS_NO_SCHEME, VERSIONS_NO_SET or VERSIONS_NO_ROOM.
+ */
+int versions_set(uint32_t scheme, const char *text, size_t text_len, uint8_t *form, size_t room, size_t *form_len);
+
+/*
+ * Gets a buffer size in which versions_set reads a text, whatever the text is. It is linear in the length of the words
+ * of the text: blanks take no room.
+ *
+ * Returns VERSIONS_OK or VERSIONS_NO_SCHEME.
+ */
+int versions_set_bound(uint32_t scheme, const char *text, size_t text_len, size_t *bound);
+
+/*
+ * Finds where a text is not a set of versions, and why not.
+ *
+ * Sets *place to where the first wrong piece of the text begins, in bytes from 0, and *reason to why it is wrong:
+ * VERSIONS_SET_NO_MEMBER to VERSIONS_SET_NO_DIGIT. The piece ends before a blank, a comma or a bar. Where something is
+ * missing at the end of the text, *place is text_len.
+ *
+ * Returns VERSIONS_OK, VERSIONS_NO_SCHEME, or VERSIONS_NO_WRONG_MEMBER if the text is a set.
+ */
+int versions_set_wrong(uint32_t scheme, const char *text, size_t text_len, size_t *place, uint32_t *reason);
+
+/*
+ * Writes why a text is not a set of versions, and what to write, as a sentence in English without a full stop: for
+ * 1.2, an operator is missing: write = or ^ before the version.
+ *
+ * Writes the sentence into the first bytes of `why`, which has `room` bytes, without a byte 0 after it, and its length
+ * to *why_len, also with VERSIONS_NO_ROOM. 100 bytes are always enough. To get the length alone, pass room 0 and a null
+ * pointer.
+ *
+ * Returns VERSIONS_OK, VERSIONS_NO_SCHEME, VERSIONS_NO_WRONG_MEMBER if the text is a set, or VERSIONS_NO_ROOM.
+ */
+int versions_set_wrong_text(uint32_t scheme, const char *text, size_t text_len, char *why, size_t room,
+                            size_t *why_len);
+
+/*
+ * Writes the form of the set of the versions that compare equal to one. The version may be any: a text that
+ * versions_set refuses as a slip, such as latest, is none here.
+ *
+ * `room` is the size of the buffer `form`. The call sets *form_len to the length of the form, also if it returns
+ * VERSIONS_NO_ROOM, and then writes nothing to `form`. To get the length alone, pass room 0 and a null pointer.
+ *
+ * Returns VERSIONS_OK, VERSIONS_NO_SCHEME, VERSIONS_NO_VERSION or VERSIONS_NO_ROOM.
+ */
+int versions_set_of_version(uint32_t scheme, const char *text, size_t text_len, uint8_t *form, size_t room,
+                            size_t *form_len);
+
+/*
+ * Tests whether a version is in a set, by the set's form. Reads the version once, and as many ends of the set as the
+ * logarithm of their number.
+ *
+ * Sets *has to true or false.
+ *
+ * Returns VERSIONS_OK, VERSIONS_NO_FORM if the bytes end too early, VERSIONS_NO_SCHEME or VERSIONS_NO_VERSION.
+ */
+int versions_set_has(const uint8_t *form, size_t form_len, const char *text, size_t text_len, bool *has);
+
+/*
+ * Tests for each of n texts whether its version is in a set.
+ *
+ * Sets answers[i] to 1 if the version is in the set, to 0 if it is not, and to 2 if the text is not a version.
+ * offsets_len is n + 1, and answers_len is n.
+ *
+ * Returns VERSIONS_OK, VERSIONS_BAD_OFFSETS (whatever the form is), VERSIONS_NO_FORM if its bytes end too early, or
+ * VERSIONS_NO_SCHEME.
+ */
+int versions_set_has_all(const uint8_t *form, size_t form_len, const char *texts, size_t texts_len,
+                         const int64_t *offsets, size_t offsets_len, uint8_t *answers, size_t answers_len);
+
+/*
+ * Writes the form of the set of what two sets both have.
+ *
+ * `room` is the size of the buffer `form`. The call sets *form_len to the length of the form, also if it returns
+ * VERSIONS_NO_ROOM, and then writes nothing to `form`; one_len and other_len bytes together are always enough. To get
+ * the length alone, pass room 0 and a null pointer.
+ *
+ * Returns VERSIONS_OK, VERSIONS_NO_FORM if the bytes of one end too early, VERSIONS_OTHER_SCHEME or VERSIONS_NO_ROOM.
+ */
+int versions_set_and(const uint8_t *one, size_t one_len, const uint8_t *other, size_t other_len, uint8_t *form,
+                     size_t room, size_t *form_len);
+
+/*
+ * Writes the form of the set of what one of two sets has, or both. The buffer and the statuses are those of
+ * versions_set_and.
+ */
+int versions_set_or(const uint8_t *one, size_t one_len, const uint8_t *other, size_t other_len, uint8_t *form,
+                    size_t room, size_t *form_len);
+
+/*
+ * Writes the form of the set of all that a set does not have. The buffer is that of versions_set_and; set_len and 17
+ * bytes are always enough.
+ *
+ * Returns VERSIONS_OK, VERSIONS_NO_FORM if the bytes end too early, or VERSIONS_NO_ROOM.
+ */
+int versions_set_not(const uint8_t *set, size_t set_len, uint8_t *form, size_t room, size_t *form_len);
+
+/*
+ * Tests whether a set has all that another has: sets *is_part to true if each key of the first is in the other, and
+ * then each version is too.
+ *
+ * Returns VERSIONS_OK, VERSIONS_NO_FORM if the bytes of one end too early, or VERSIONS_OTHER_SCHEME.
+ */
+int versions_set_part_of(const uint8_t *one, size_t one_len, const uint8_t *other, size_t other_len, bool *is_part);
+
+/*
+ * Tests whether two sets meet: sets *meet to true if a key is in both. If it is false, no version is in both. A set can
+ * have keys and no version, as >1.2 <1.2-0 has.
+ *
+ * Returns VERSIONS_OK, VERSIONS_NO_FORM if the bytes of one end too early, or VERSIONS_OTHER_SCHEME.
+ */
+int versions_set_meets(const uint8_t *one, size_t one_len, const uint8_t *other, size_t other_len, bool *meet);
+
+/*
+ * Counts the intervals of a set, and checks its form whole: whether it is the bytes that a call writes for a set. The
+ * other calls do not. It takes time linear in the form.
+ *
+ * Returns VERSIONS_OK, VERSIONS_NO_FORM or VERSIONS_NO_SCHEME.
+ */
+int versions_set_count(const uint8_t *form, size_t form_len, size_t *count);
+
+/*
+ * Finds the ends of an interval of a set. Places are counted from 0, and the intervals rise.
+ *
+ * The interval has the keys from the low end on, and below the high end. The low end is the bytes of the form from *low
+ * up to, but without, *low_end, and the high end those from *high up to, but without, *high_end. Where *high is
+ * *high_end, the interval has no high end: all keys from the low one on are in it.
+ *
+ * Returns VERSIONS_OK, VERSIONS_NO_FORM if the bytes end too early, or VERSIONS_NO_INTERVAL if the set has fewer.
+ */
+int versions_set_interval(const uint8_t *form, size_t form_len, size_t place, size_t *low, size_t *low_end,
+                          size_t *high, size_t *high_end);
 
 /*
  * Writes the kind of each of n texts, as versions_kind returns it.

@@ -110,7 +110,7 @@ setup(
     ext_modules=[
         Extension(
             "versions._library",
-            [f"versions/_{name}.c" for name in ("library", "texts", "values", "arrow")],
+            [f"versions/_{name}.c" for name in ("library", "texts", "values", "sets", "arrow")],
             depends=["versions/_library.h"],
             define_macros=[("Py_LIMITED_API", "0x03090000")],
             py_limited_api=True,

@@ -1465,7 +1465,7 @@ static void bad_offsets(void) {
 // Every status has its own text, its comment in the header up to a semicolon.
 static void statuses(void) {
   CHECK(strcmp(versions_status_text(VERSIONS_NO_MEMORY), "memory allocation failed") == 0);
-  for (int a = VERSIONS_OK; a <= VERSIONS_NO_NEXT + 1; a++) {
+  for (int a = VERSIONS_OK; a <= VERSIONS_NO_INTERVAL + 1; a++) {
     CHECK(strlen(versions_status_text(a)) > 5);
     for (int b = VERSIONS_OK; b < a; b++) CHECK(strcmp(versions_status_text(a), versions_status_text(b)) != 0);
   }
@@ -1477,6 +1477,108 @@ static void library(void) {
   snprintf(version, sizeof version, "%d.%d.%d", VERSIONS_VERSION_MAJOR, VERSIONS_VERSION_MINOR, VERSIONS_VERSION_PATCH);
   CHECK(strcmp(version, VERSIONS_VERSION) == 0);
   CHECK(strcmp(versions_version(), VERSIONS_VERSION) == 0);
+}
+
+// A form in a block of just its length, of a text that is a set.
+static uint8_t *form_of(const char *text, size_t *form_length) {
+  size_t length = strlen(text), bound = 77, needed = 77;
+  CHECK(versions_set_bound(VERSIONS_MIXED, text, length, &bound) == VERSIONS_OK && bound != 77);
+  uint8_t *room = (uint8_t *)block(bound);
+  CHECK(versions_set(VERSIONS_MIXED, text, length, room, bound, form_length) == VERSIONS_OK && *form_length <= bound);
+  uint8_t *form = (uint8_t *)block(*form_length);
+  memcpy(form, room, *form_length);
+  release(room);
+  CHECK(versions_set(VERSIONS_MIXED, text, length, NULL, 0, &needed) == VERSIONS_NO_ROOM && needed == bound);
+  return form;
+}
+
+// Whether a call makes these bytes of one set, or of two, in a block of just their length, and in none smaller.
+static bool makes(int (*call)(const uint8_t *, size_t, const uint8_t *, size_t, uint8_t *, size_t, size_t *),
+                  const uint8_t *one, size_t one_length, const uint8_t *other, size_t other_length,
+                  const uint8_t *wanted, size_t wanted_length) {
+  size_t length = 77;
+  if (call(one, one_length, other, other_length, NULL, 0, &length) != VERSIONS_NO_ROOM || length != wanted_length)
+    return false;
+  uint8_t *made = (uint8_t *)block(length);
+  memset(made, 170, length);
+  bool refused = call(one, one_length, other, other_length, made, length - 1, &length) == VERSIONS_NO_ROOM;
+  for (size_t i = 0; i < length; i++) refused = refused && made[i] == 170;
+  int status = call(one, one_length, other, other_length, made, length, &length);
+  bool same = status == VERSIONS_OK && length == wanted_length && memcmp(made, wanted, length) == 0;
+  release(made);
+  return refused && same;
+}
+
+// versions_set_not as a call of two sets, of which the second counts for nothing.
+static int negated(const uint8_t *one, size_t one_length, const uint8_t *other, size_t other_length, uint8_t *form,
+                   size_t room, size_t *form_length) {
+  CHECK(other != NULL && other_length != 0);
+  return versions_set_not(one, one_length, form, room, form_length);
+}
+
+// Each call about sets, on rows worked out by hand: two sets, what both have, what either has, and what the first has not.
+static void worked_sets(void) {
+  static const struct {
+    const char *one, *other, *both, *either, *rest;
+    bool is_part, meet;
+  } rows[] = {
+      {">=1.2, <2", "^1.5", "^1.5", ">=1.2 <2 || ^1.5", "<1.2 || >=2", false, true},
+      {"=1", ">0 <2", "==1 || =01", "> 0, <2 || =1", "!=1", true, true},
+      {"<1", ">=1", "=1 !=1", "*", ">=1", false, false},
+      {"*", "=1 =2", ">2 <1", "*", "=1,=2", false, false},
+      {"=1.*", "!=1.*", "<0 >0", "*", "!=1.*", false, false},
+      {"=1 || =2 || =3", "!=2", "=3 || =1", "*", "!=1 !=2 !=3", false, true},
+      {"~1.2.3", "~1.2", "~1.2.3", "~1.2", "<1.2.3 || !=1.2.* >1.2.3", true, true},
+  };
+  for (size_t i = 0; i < sizeof rows / sizeof *rows; i++) {
+    size_t one_length, other_length, both_length, either_length, rest_length;
+    uint8_t *one = form_of(rows[i].one, &one_length), *other = form_of(rows[i].other, &other_length);
+    uint8_t *both = form_of(rows[i].both, &both_length), *either = form_of(rows[i].either, &either_length);
+    uint8_t *rest = form_of(rows[i].rest, &rest_length);
+    bool is_part = !rows[i].is_part, meet = !rows[i].meet;
+    CHECK(makes(versions_set_and, one, one_length, other, other_length, both, both_length));
+    CHECK(makes(versions_set_or, one, one_length, other, other_length, either, either_length));
+    CHECK(makes(negated, one, one_length, other, other_length, rest, rest_length));
+    CHECK(versions_set_part_of(one, one_length, other, other_length, &is_part) == VERSIONS_OK && is_part == rows[i].is_part);
+    CHECK(versions_set_meets(one, one_length, other, other_length, &meet) == VERSIONS_OK && meet == rows[i].meet);
+    release(one), release(other), release(both), release(either), release(rest);
+  }
+
+  size_t length, count = 77, low = 77, low_end = 77, high = 77, high_end = 77;
+  uint8_t *form = form_of("=1.2 || >3", &length);
+  bool has = false;
+  uint8_t answers[3] = {9, 9, 9};
+  const int64_t offsets[] = {0, 3, 4, 7};
+  CHECK(versions_set_count(form, length, &count) == VERSIONS_OK && count == 2);
+  CHECK(versions_set_interval(form, length, 0, &low, &low_end, &high, &high_end) == VERSIONS_OK);
+  CHECK(high_end - high == low_end - low + 1 && memcmp(form + low, form + high, low_end - low) == 0);
+  CHECK(versions_set_interval(form, length, 1, &low, &low_end, &high, &high_end) == VERSIONS_OK);
+  CHECK(high == high_end && low < low_end && low_end == length);
+  CHECK(versions_set_interval(form, length, 2, &low, &low_end, &high, &high_end) == VERSIONS_NO_INTERVAL);
+  CHECK(versions_set_has(form, length, "1.2+x", 5, &has) == VERSIONS_OK && has);
+  CHECK(versions_set_has(form, length, "3", 1, &has) == VERSIONS_OK && !has);
+  CHECK(versions_set_has(form, length, "3..", 3, &has) == VERSIONS_NO_VERSION);
+  CHECK(versions_set_has_all(form, length, "0:1!3.1", 7, offsets, 4, answers, 3) == VERSIONS_OK);
+  CHECK(answers[0] == 0 && answers[1] == 2 && answers[2] == 1);
+  release(form);
+  form = form_of("=1.2", &length);
+  uint8_t *made = (uint8_t *)block(length);
+  size_t made_length = 77;
+  CHECK(versions_set_of_version(VERSIONS_MIXED, "0:1.02", 6, made, length - 1, &made_length) == VERSIONS_NO_ROOM);
+  CHECK(made_length == length);
+  CHECK(versions_set_of_version(VERSIONS_MIXED, "0:1.02", 6, made, length, &made_length) == VERSIONS_OK);
+  CHECK(made_length == length && memcmp(made, form, length) == 0);
+  release(form), release(made);
+  size_t place = 77, why_length = 77;
+  uint32_t reason = 77;
+  CHECK(versions_set_wrong(VERSIONS_MIXED, ">=1, 2", 6, &place, &reason) == VERSIONS_OK);
+  CHECK(place == 5 && reason == VERSIONS_SET_NO_OPERATOR);
+  CHECK(versions_set_wrong(VERSIONS_MIXED, ">=1, =2", 7, &place, &reason) == VERSIONS_NO_WRONG_MEMBER);
+  CHECK(versions_set_wrong_text(VERSIONS_MIXED, "2", 1, NULL, 0, &why_length) == VERSIONS_NO_ROOM && why_length < 100);
+  char *why = (char *)block(why_length);
+  CHECK(versions_set_wrong_text(VERSIONS_MIXED, "2", 1, why, why_length, &why_length) == VERSIONS_OK);
+  CHECK(memcmp(why, "an operator is missing", 22) == 0);
+  release(why);
 }
 
 // Makes every call on a long text: a piece many times, and one more byte.
@@ -1912,6 +2014,7 @@ static void without_memory(const struct lines *lines) {
   CHECK(versions_nth("1.2_a", 5, 1, &number) == VERSIONS_OK && number == 2);
   check_values("18446744073709551616:1", 22, VERSIONS_COMPLEX);
   CHECK(versions_matches("^1.2.3-a,<9,>0.1a", 17, "1.2.3-rc.10+x", 13, &matches) == VERSIONS_OK && matches);
+  worked_sets();
 }
 
 int main(int count, char **words) {
@@ -1937,6 +2040,7 @@ int main(int count, char **words) {
     sorted_places();
     refused_lengths();
     bad_offsets();
+    worked_sets();
     statuses();
     library();
   } else if (strcmp(word, "long") == 0) {

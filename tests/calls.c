@@ -107,6 +107,38 @@ static void of_list(const char *list, size_t list_len, const char *text, size_t 
   answer(status);
 }
 
+// The calls about sets: of a text that may be one, of a version, and of what is made of both.
+static void of_set(const char *text, size_t text_len, const char *version, size_t version_len) {
+  static uint8_t made[2 * ROOM];
+  size_t one_len = 0, other_len = 0, made_len = 0;
+  int status = versions_set_wrong_text(VERSIONS_MIXED, text, text_len, (char *)buffer, ROOM, &made_len);
+  numbers[0] = made_len;
+  answer_with(status, made_len);
+  answer(versions_set_wrong(VERSIONS_MIXED, text, text_len, NUMBER(size_t, 0), NUMBER(uint32_t, 1)));
+  answer(versions_set_bound(VERSIONS_MIXED, text, text_len, NUMBER(size_t, 0)));
+  int other = versions_set_of_version(VERSIONS_MIXED, version, version_len, other_buffer, ROOM, &other_len);
+  numbers[0] = other_len;
+  answer(other);
+  if (other == VERSIONS_OK) write_bytes(other_buffer, other_len);
+  status = versions_set(VERSIONS_MIXED, text, text_len, buffer, ROOM, &one_len);
+  numbers[0] = one_len;
+  answer_with(status, one_len);
+  if (status != VERSIONS_OK || other != VERSIONS_OK) return;
+  answer(versions_set_has(buffer, one_len, version, version_len, NUMBER(bool, 0)));
+  answer(versions_set_part_of(other_buffer, other_len, buffer, one_len, NUMBER(bool, 0)));
+  answer(versions_set_meets(other_buffer, other_len, buffer, one_len, NUMBER(bool, 0)));
+  answer(versions_set_count(buffer, one_len, NUMBER(size_t, 0)));
+  answer(versions_set_interval(buffer, one_len, 0, NUMBER(size_t, 0), NUMBER(size_t, 1), NUMBER(size_t, 2),
+                               NUMBER(size_t, 3)));
+  int statuses[] = {
+      versions_set_and(buffer, one_len, other_buffer, other_len, made, sizeof made, &made_len),
+      versions_set_or(buffer, one_len, other_buffer, other_len, made, sizeof made, &made_len),
+      versions_set_not(buffer, one_len, made, sizeof made, &made_len),
+  };
+  for (size_t i = 0; i < 3; i++) answer(statuses[i]);
+  write_bytes(made, made_len);
+}
+
 // The calls that take many texts, on `many` of them from `first` on. Offsets of a part still begin the same array.
 static void of_many(size_t first, size_t many, const char *list, size_t list_len) {
   static uint8_t small[200000], keys[1 << 26];
@@ -131,6 +163,10 @@ static void of_many(size_t first, size_t many, const char *list, size_t list_len
   if (status == VERSIONS_OK) write_bytes(small, many);
   for (uint32_t least = 0; least <= VERSIONS_STABLE; least++) {
     answer(versions_newest(texts, texts_len, from, offsets_len, list, list_len, least, least % 2, NUMBER(size_t, 0)));
+  }
+  if (versions_set(VERSIONS_MIXED, list, list_len, buffer, ROOM, &low_len) == VERSIONS_OK) {
+    answer(versions_set_has_all(buffer, low_len, texts, texts_len, from, offsets_len, small, many));
+    write_bytes(small, many);
   }
   status = versions_range(list, list_len, buffer, ROOM, &low_len, other_buffer, ROOM, &high_len, &flags);
   if (status != VERSIONS_OK) return;
@@ -180,11 +216,12 @@ int main(void) {
     of_two(text_of(i), length_of(i), text_of(i + 1), length_of(i + 1));
     of_list(list, list_len, text_of(i + 1), length_of(i + 1));
     of_list(text_of(i), length_of(i), text_of(i + 1), length_of(i + 1));
+    of_set(list, list_len, text_of(i + 1), length_of(i + 1));
     if (i % 1000 == 0) of_many(i, count - i < 1000 ? count - i : 1000, list, list_len);
   }
   of_many(0, count, ">=1,<2", 6);
   if (puts(versions_version()) < 0) return 1;
-  for (int status = -1; status < 20; status++)
+  for (int status = -1; status < 24; status++)
     if (puts(versions_status_text(status)) < 0) return 1;
   return fflush(stdout) == 0 ? 0 : 1;
 }

@@ -80,6 +80,41 @@ static struct texts read_texts(const char *name) {
 #define U32(place) ((uint32_t *)&slots[place])
 #define SIZE(place) ((size_t *)&slots[place])
 
+// A form that a call writes, with its status and length.
+static size_t digest_form(const char *name, int status, const uint8_t *form) {
+  return digest_slots(name, status, 1, 8) ? digest(name, form, slots[0]), slots[0] : 0;
+}
+
+// The list as a set, the set of a version, and what is made of both.
+static void digest_sets(struct text a, struct text list) {
+  CLEAR, digest_slots("set_bound", versions_set_bound(VERSIONS_MIXED, list.at, list.length, SIZE(0)), 1, 8);
+  size_t room = slots[0], tied_room = 6 * a.length + 64;
+  uint8_t *form = (uint8_t *)allocated(room), *tied = (uint8_t *)allocated(tied_room);
+  uint8_t *made = (uint8_t *)allocated(room + tied_room);
+  CLEAR;
+  size_t length = digest_form("set", versions_set(VERSIONS_MIXED, list.at, list.length, form, room, SIZE(0)), form);
+  CLEAR;
+  int status = versions_set_of_version(VERSIONS_MIXED, a.at, a.length, tied, tied_room, SIZE(0));
+  size_t tied_length = digest_form("set_of_version", status, tied);
+  CLEAR, digest_slots("set_wrong", versions_set_wrong(VERSIONS_MIXED, list.at, list.length, SIZE(0), U32(1)), 2, 8);
+  CLEAR, status = versions_set_wrong_text(VERSIONS_MIXED, list.at, list.length, (char *)made, room + tied_room, SIZE(0));
+  digest_form("set_wrong_text", status, made);
+  CLEAR, digest_slots("set_has", versions_set_has(form, length, a.at, a.length, (bool *)&slots[0]), 1, 1);
+  CLEAR, digest_slots("set_count", versions_set_count(form, length, SIZE(0)), 1, 8);
+  CLEAR, status = versions_set_interval(form, length, 0, SIZE(0), SIZE(1), SIZE(2), SIZE(3));
+  digest_slots("set_interval", status, 4, 8);
+  CLEAR, status = versions_set_part_of(tied, tied_length, form, length, (bool *)&slots[0]);
+  digest_slots("set_part_of", status, 1, 1);
+  CLEAR, status = versions_set_meets(tied, tied_length, form, length, (bool *)&slots[0]);
+  digest_slots("set_meets", status, 1, 1);
+  CLEAR, status = versions_set_and(form, length, tied, tied_length, made, room + tied_room, SIZE(0));
+  digest_form("set_and", status, made);
+  CLEAR, status = versions_set_or(form, length, tied, tied_length, made, room + tied_room, SIZE(0));
+  digest_form("set_or", status, made);
+  CLEAR, digest_form("set_not", versions_set_not(tied, tied_length, made, room + tied_room, SIZE(0)), made);
+  free(form), free(tied), free(made);
+}
+
 static void digest_one(struct text a, struct text b, struct text list) {
   size_t room = 3 * (a.length > list.length ? a.length : list.length) + 5;
   uint8_t *out = (uint8_t *)allocated(room), *high = (uint8_t *)allocated(room);
@@ -120,6 +155,7 @@ static void digest_one(struct text a, struct text b, struct text list) {
   CLEAR;
   if (digest_slots("inexact", versions_inexact(list.at, list.length, (char *)out, room, SIZE(0)), 1, 8))
     digest("inexact", out, slots[0]);
+  digest_sets(a, list);
   for (uint32_t n = 0; n < 4; n++) {
     CLEAR, digest_slots("nth", versions_nth(a.at, a.length, n, U32(0)), 1, 8);
     CLEAR, digest_slots("field", versions_field(a.at, a.length, n + 1, SIZE(0), SIZE(1)), 2, 8);
@@ -170,6 +206,12 @@ static void digest_all(struct texts lines, struct texts lists) {
     if (digest_slots("match_all", versions_match_all(list.at, list.length, texts, size, offsets, n + 1, keys, n), 0, 8))
       digest("match_all", keys, n);
   }
+  uint8_t form[256];
+  CLEAR;
+  if (!digest_slots("set", versions_set(VERSIONS_MIXED, "!=1", 3, form, sizeof form, SIZE(0)), 0, 8)) exit(2);
+  size_t length = slots[0];
+  digest_slots("set_has_all", versions_set_has_all(form, length, texts, size, offsets, n + 1, keys, n), 0, 8);
+  digest("set_has_all", keys, n);
   const uint8_t low[] = {0, 3, 1, 49, 2}, high[] = {0, 3, 1, 50, 2};
   int status = versions_in_range_all(texts, size, offsets, n + 1, low, sizeof low, high, sizeof high, 15, keys, n);
   digest_slots("in_range_all", status, 0, 8);

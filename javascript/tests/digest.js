@@ -29,6 +29,7 @@ class Digest {
 
 const PREFIX = 2;
 const ROOM = 64;
+const MIXED = 1; // VERSIONS_MIXED
 
 export function digest(library, lines, lists) {
   const { FIRST, SLOTS, START, reserve, slot } = library;
@@ -88,6 +89,33 @@ export function digest(library, lines, lists) {
       ask("match_in_range", [...a, ...range, ...wanted, SLOTS[0]], 1, 1);
     }
     written("inexact", ask("inexact", [...wanted, ...key, SLOTS[0]], 1), slot(0));
+    // The list as a set, the set of a version, and what is made of both.
+    ask("set_bound", [MIXED, ...wanted, SLOTS[0]], 1);
+    const form = out + 2 * room;
+    const formRoom = slot(0);
+    const tied = form + formRoom;
+    const tiedRoom = 6 * line.length + 64;
+    const made = tied + tiedRoom;
+    const madeRoom = formRoom + tiedRoom;
+    reserve(made + madeRoom);
+    const writes = (name, passed, at, its) => {
+      const status = ask(name, [...passed, BigInt(at), BigInt(its), SLOTS[0]], 1);
+      const length = status === 0 ? slot(0) : 0;
+      of(name).bytes(library.bytes, at, at + length);
+      return [BigInt(at), BigInt(length)];
+    };
+    const set = writes("set", [MIXED, ...wanted], form, formRoom);
+    const its = writes("set_of_version", [MIXED, ...a], tied, tiedRoom);
+    ask("set_wrong", [MIXED, ...wanted, SLOTS[0], SLOTS[1]], 2);
+    writes("set_wrong_text", [MIXED, ...wanted], made, madeRoom);
+    ask("set_has", [...set, ...a, SLOTS[0]], 1, 1);
+    ask("set_count", [...set, SLOTS[0]], 1);
+    ask("set_interval", [...set, 0n, SLOTS[0], SLOTS[1], SLOTS[2], SLOTS[3]], 4);
+    ask("set_part_of", [...its, ...set, SLOTS[0]], 1, 1);
+    ask("set_meets", [...its, ...set, SLOTS[0]], 1, 1);
+    writes("set_and", [...set, ...its], made, madeRoom);
+    writes("set_or", [...set, ...its], made, madeRoom);
+    writes("set_not", its, made, madeRoom);
     for (let n = 0; n < 4; n++) {
       ask("nth", [...a, BigInt(n), SLOTS[0]], 1);
       ask("field", [...a, n + 1, SLOTS[0], SLOTS[1]], 2);
@@ -109,7 +137,7 @@ export function digest(library, lines, lists) {
   const room = 3 * size + 5 * count;
   const keys = from + size;
   const list = keys + room;
-  reserve(list + Math.max(...lists.map((each) => each.length)) + 8);
+  reserve(list + Math.max(...lists.map((each) => each.length)) + 512);
   let end = from;
   lines.forEach((line, place) => {
     library.words[offsets / 4 + 2 * place] = end - from;
@@ -138,6 +166,10 @@ export function digest(library, lines, lists) {
     for (let flags = 0; flags < 2; flags++) ask("newest", [...texts, ...wanted, 4 * flags, flags, SLOTS[0]], 1);
     if (ask("match_all", [...wanted, ...texts, ...answers], 0) === 0) digestAnswers("match_all", keys, count);
   }
+  const negated = write(Uint8Array.of(33, 61, 49), list); // !=1
+  ask("set", [MIXED, ...negated, BigInt(list + 8), 256n, SLOTS[0]], 0);
+  ask("set_has_all", [BigInt(list + 8), BigInt(slot(0)), ...texts, ...answers], 0);
+  digestAnswers("set_has_all", keys, count);
   const bounds = Uint8Array.of(0, 3, 1, 49, 2, 0, 3, 1, 50, 2);
   const [bound] = write(bounds, list);
   ask("in_range_all", [...texts, bound, 5n, bound + 5n, 5n, 15, ...answers], 0);

@@ -17,9 +17,17 @@ HERE = os.path.dirname(os.path.abspath(__file__))
 TOP = os.path.join(HERE, "..", "..")
 PAGES = [os.path.join(TOP, name) for name in ("README.md", "docs/PYTHON.md", "docs/COOKBOOK.md", "python/README.md")]
 
+
+class Finder(doctest.DocTestFinder):
+    """Finds the examples of methods too, whose functions are of the module that they are written in."""
+
+    def _from_module(self, module, object):
+        return str(getattr(object, "__module__", "")).startswith("versions._") or super()._from_module(module, object)
+
+
 names = {name[: -len(".py")] for name in os.listdir(HERE) if name.startswith("test_") and name.endswith(".py")}
 suites = {name: unittest.defaultTestLoader.loadTestsFromName(name) for name in sorted(names - set(sys.argv[1:]))}
-suites["versions"] = doctest.DocTestSuite(versions)
+suites["versions"] = doctest.DocTestSuite(versions, test_finder=Finder())
 suites["versions._library"] = doctest.DocTestSuite(versions._library, extraglobs=vars(versions))
 for page in PAGES:
     suites[page] = doctest.DocFileSuite(page, module_relative=False, encoding="utf-8")

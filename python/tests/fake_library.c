@@ -12,6 +12,8 @@ int fake_number = 0; /* what each answer about many texts is */
 const char *fake_asked;    /* by what it was asked last whether a version matches: "list" or "range" */
 size_t fake_bound_len = 4; /* of both bounds: zeros, and bytes 255 */
 uint32_t fake_flags = VERSIONS_RANGE_GENERAL | VERSIONS_RANGE_HIGH;
+size_t fake_room = 0, fake_form_len = 0; /* what room a set asks for, and what its form takes of it: bytes 7 */
+size_t fake_place = 0;                   /* of what is wrong with a set */
 
 const char *versions_version(void) { return "9.9.9"; }
 
@@ -69,4 +71,28 @@ int versions_in_range_all(const char *texts, size_t texts_len, const int64_t *of
                           uint8_t *answers, size_t answers_len) {
   fake_asked = "range";
   return answer(answers, answers_len);
+}
+
+int versions_set_bound(uint32_t scheme, const char *text, size_t text_len, size_t *bound) {
+  *bound = fake_room;
+  return fake_status == VERSIONS_NO_SET ? VERSIONS_OK : fake_status;
+}
+
+int versions_set(uint32_t scheme, const char *text, size_t text_len, uint8_t *form, size_t room, size_t *form_len) {
+  if (scheme != VERSIONS_MIXED || room != fake_room) return VERSIONS_NO_ROOM;
+  memset(form, 7, fake_form_len);
+  *form_len = fake_form_len;
+  return fake_status;
+}
+
+int versions_set_wrong(uint32_t scheme, const char *text, size_t text_len, size_t *place, uint32_t *reason) {
+  *place = fake_place;
+  return fake_status;
+}
+
+int versions_set_wrong_text(uint32_t scheme, const char *text, size_t text_len, char *why, size_t room,
+                            size_t *why_len) {
+  memset(why, '!', room);
+  *why_len = room;
+  return fake_status;
 }

@@ -96,6 +96,9 @@ class Columns(unittest.TestCase):
                 self.assertEqual([key is None for key in versions.sort_keys(column)], [k is None for k in kinds])
                 self.assertEqual(versions.match_all("<1.9", column), [False, None, False, None, True])
                 self.assertEqual(versions.Requirement(">=1.9").filter(column), ["1.10", "1.9"])
+                self.assertEqual(versions.VersionSet("<1.9").has_all(column), [False, None, False, None, True])
+                self.assertEqual(versions.VersionSet(">=1.9").filter(column), ["1.10", "1.9"])
+                self.assertEqual(versions.newest(column, versions.VersionSet("<1.10")), "1.9")
                 self.assertEqual(versions.in_tags(column), ["1.10", None, "1.9", None, "1.2.3"])
                 stable = versions.Stability.STABLE
                 self.assertEqual(versions.stabilities(column), [stable, None, stable, None, stable])
@@ -109,6 +112,8 @@ class Columns(unittest.TestCase):
                     self.assertEqual(versions.kinds(texts), ["general", None])
                     self.assertEqual(versions.match_all("*", texts), [True, None])
                     self.assertEqual(versions.Requirement("*").filter(texts), ["1.2"])
+                    self.assertEqual(versions.VersionSet("*").has_all(texts), [True, None])
+                    self.assertEqual(versions.VersionSet("*").filter(texts), ["1.2"])
                     self.assertEqual(versions.sorted(texts, invalid="last", reverse=True)[0], "1.2")
         for other in (numpy.float32(1.2), numpy.int64(1), numpy.bool_(False), pandas.Timestamp("2026-01-01")):
             self.assertRaises(TypeError, versions.kinds, ["1.2", other])

@@ -17,10 +17,10 @@ KEYS = [None if kind is None else key_of(text) for text, kind in zip(USUAL, KIND
 STABILITIES = [None if kind is None else versions.Version(text).stability for text, kind in zip(USUAL, KINDS)]
 # Each of them has itself as a tag.
 VERSIONS = [None if kind is None else text for text, kind in zip(USUAL, KINDS)]
-ANSWERS = KINDS, KEYS, WANTED, STABILITIES, VERSIONS
+ANSWERS = KINDS, KEYS, WANTED, STABILITIES, VERSIONS, WANTED
 CALLS = (
     *(versions.kinds, versions.sort_keys, lambda texts: versions.match_all(">=1.2,<1:0", texts)),
-    *(versions.stabilities, versions.in_tags),
+    *(versions.stabilities, versions.in_tags, versions.VersionSet(">=1.2, <1:0").has_all),
 )
 FORMATS = (b"u", b"U", b"z", b"Z")
 
@@ -324,7 +324,8 @@ class Arrow(unittest.TestCase):
         self.assertRaisesRegex(OSError, "mine", versions.kinds, Refusing())
 
     def test_sorted_newest_and_filter_take_no_arrays(self):
-        for call in (versions.sorted, versions.newest, versions.Requirement("*").filter):
+        filters = versions.Requirement("*").filter, versions.VersionSet("*").filter
+        for call in (versions.sorted, versions.newest, *filters):
             self.assertRaises(TypeError, call, arrow.Array([b"1.2"]))
 
 
@@ -337,6 +338,7 @@ class FromC(WithFolder):
         [True, None, None, True],
         [versions.Stability.STABLE, None, None, versions.Stability.STABLE],
         ["1.2.3", None, None, "1.10"],
+        [True, None, None, True],
     ]
 
     @classmethod

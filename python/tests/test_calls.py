@@ -558,7 +558,28 @@ class Threads(unittest.TestCase):
         long, many = "1." * 3_000_000 + "1", ["1.2.3-rc.1"] * 400_000
         wanted, strict = versions.Requirement("=1.2"), versions.Requirement("=1.2.3")
         version, longer = versions.Version(long), versions.Requirement(f">={long},<={long}")
+        dashes = "-" * 30_000_000
+        tag = dashes + "1"
+
+        def often(call):
+            """A call that takes no longer than a thread waits for a processor."""
+            return lambda: [call() for _ in range(10)]
+
+        large = versions.VersionSet(" || ".join(f"=1.{n}.0" for n in range(200_000)))
+        others, larger, pickled = ~large, large | versions.VersionSet("=2.*"), (large._form, None, None)
         calls = {
+            "VersionSet": lambda: versions.VersionSet(">" + long),
+            "VersionSet.of": lambda: versions.VersionSet.of(long),
+            "VersionSet of a pickle": often(lambda: versions.VersionSet._of_form(*pickled)),
+            "no VersionSet": lambda: versions.InvalidVersionSet(">" + long + ",").start,
+            "and": lambda: large & larger,
+            "or": lambda: large | larger,
+            "not": lambda: ~large,
+            "part of": often(lambda: large <= larger),
+            "isdisjoint": often(lambda: large.isdisjoint(others)),
+            "in a set": lambda: long in large,
+            "has_all": lambda: large.has_all(many),
+            "filter by a set": lambda: large.filter(many),
             "kind": lambda: versions.kind(long),
             "sort_key": lambda: versions.sort_key(long),
             "compare": lambda: versions.compare(long, long),
@@ -566,7 +587,7 @@ class Threads(unittest.TestCase):
             "nth": lambda: version.nth(2_000_000),
             "epoch": lambda: version.epoch,
             "from_tag": lambda: versions.Version.from_tag("-" * 3_000_000 + "1"),
-            "from_tag with a prefix": lambda: versions.Version.from_tag("-" * 3_000_000 + "1", "-" * 3_000_000),
+            "from_tag with a prefix": often(lambda: versions.Version.from_tag(tag, dashes)),
             "stability": lambda: version.stability,
             "why_not": lambda: longer.why_not("1"),
             "conflict": lambda: longer.conflict,
@@ -614,8 +635,8 @@ class Package(unittest.TestCase):
                 self.assertNotIn(b"_library", pickled)
         for name in ("kind", "sort_key", "compare", "compare_total", "match_all"):
             self.assertIsInstance(getattr(versions, name), types.BuiltinFunctionType)
-        errors = "InvalidVersion", "InvalidRequirement"
-        more = "Stability", "Difference", "DifferenceKind", "Mismatch", "Reason"
+        errors = "InvalidVersion", "InvalidRequirement", "InvalidVersionSet"
+        more = "Stability", "Difference", "DifferenceKind", "Mismatch", "Reason", "VersionSet"
         for name in ("Version", "Requirement", "Range", *more, *errors):
             self.assertEqual(getattr(versions, name).__module__, "versions")
 

@@ -27,6 +27,7 @@ import versions
 assert versions.kinds(["1.2", versions.Version("1.2.3")]) == ["general", "ideal"]
 assert versions.Version("1") < versions.Version("2")
 assert versions.Version("1.2.3") in versions.Requirement("^1.2.3")
+assert (versions.VersionSet("^1.2") & ~versions.VersionSet("=1.3")).has_all(["1.2", "1.3"]) == [True, False]
 try:
     versions.Version("1..2")
 except versions.InvalidVersion:
@@ -64,6 +65,7 @@ texts = [f"{n % 7}.{n % 1000}.{n}" for n in range(20_000)]
 for _ in range(5):
     assert len(versions.sorted(map(versions.Version, texts), reverse=True)) == 20_000
     assert len(versions.Requirement(">=3.0.0").filter(map(versions.Version, texts))) == 11_428
+    assert len((~versions.VersionSet("<3.0.0")).filter(map(versions.Version, texts))) == 11_428
 """
         program = f"""
 import sys, threading

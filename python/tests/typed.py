@@ -6,7 +6,7 @@ from typing import Optional, Union
 
 import versions
 from versions import Difference, DifferenceKind, Mismatch, Reason, Stability
-from versions import InvalidRequirement, InvalidVersion, Kind, Requirement, Version
+from versions import InvalidRequirement, InvalidVersion, InvalidVersionSet, Kind, Requirement, Version, VersionSet
 
 version = Version("1.2.3")
 kind: Kind = version.kind
@@ -50,12 +50,22 @@ with_missing: list[Optional[str]] = versions.sorted(["1.2", None], invalid="last
 with_all: list[Union[str, Version, None]] = versions.sorted(["1.2", version, None], invalid="last")
 rows: list[tuple[int, str]] = versions.sorted([(1, "1.2")], key=lambda row: row[1], reverse=True)
 rows_last: list[tuple[Optional[str]]] = versions.sorted([("1.2",), (None,)], key=lambda row: row[0], invalid="last")
+in_set: VersionSet = VersionSet("^1.2") & ~VersionSet("=1.3") | VersionSet.of(version) | VersionSet.of("1.2")
+in_sets: bool = "1.2" in in_set or version in in_set or in_set <= ~in_set or in_set.isdisjoint(in_set) or bool(in_set)
+has_all: list[Optional[bool]] = in_set.has_all(["1.2", version, None]) + versions.match_all(in_set, ["1.2"])
+kept_versions: list[Version] = in_set.filter(in_order)
+kept_texts: list[str] = in_set.filter(["1.2", None])
+intervals: tuple[tuple[bytes, Optional[bytes]], ...] = in_set.intervals
+newest_in_set: Optional[str] = versions.newest(["1.2", None], in_set, tags=True)
+no_set = InvalidVersionSet("1")
+why_no_set: tuple[str, int, str] = (no_set.text, no_set.start, no_set.reason)
+sets: dict[VersionSet, str] = {in_set: str(in_set)}
 of_versions: Optional[Kind] = versions.kind(version)
 key_of_version: bytes = versions.sort_key(version)
 order_of_versions: int = versions.compare(version, "1.3") + versions.compare_total("1.2", version)
 again: Version = Version(version)
 text: str = InvalidVersion("1..2").text + InvalidRequirement("1").text + versions.__version__
-errors: list[type[ValueError]] = [InvalidVersion, InvalidRequirement]
+errors: list[type[ValueError]] = [InvalidVersion, InvalidRequirement, InvalidVersionSet]
 
 
 class Mine(Version):
@@ -66,6 +76,13 @@ mine: Mine = Mine("1.2")
 mine_following: Mine = mine.next(0)
 mine_of_tag: Mine = Mine.from_tag("v1.2")
 below: bool = mine < version
+
+
+class MySet(VersionSet):
+    pass
+
+
+my_set: MySet = MySet.of("1.2")
 
 # What is wrong at run time is an error of the type checker, too: each comment is one that it must need.
 version < "1.2"  # type: ignore[operator]
@@ -83,3 +100,13 @@ versions.newest([1.2])  # type: ignore[type-var]
 versions.newest(["1.2"], stability="betta")  # type: ignore[arg-type]
 versions.newest(["1.2"], stability=True)  # type: ignore[arg-type]
 version.key = b""  # type: ignore[misc]
+VersionSet(version)  # type: ignore[arg-type]
+VersionSet.of(1.2)  # type: ignore[arg-type]
+in_set & wanted  # type: ignore[operator]
+in_set | "1.2"  # type: ignore[operator]
+in_set <= {"1.2"}  # type: ignore[operator]
+in_set.isdisjoint(["1.2"])  # type: ignore[arg-type]
+1.2 in in_set  # type: ignore[operator]
+in_set.has_all([1.2])  # type: ignore[list-item]
+in_set.intervals = ()  # type: ignore[misc]
+my_set = my_set & in_set  # type: ignore[assignment]

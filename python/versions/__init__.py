@@ -5,14 +5,14 @@
 ['1.9', '1.10rc1', '1.10']
 >>> versions.Version("1.0") == versions.Version("0:1.0")
 True
->>> "1.3.0" in versions.Requirement("^1.2.0")
-True
+>>> "1.3.0" in versions.Requirement("^1.2.0"), "3" in versions.VersionSet(">=1.2, <2 || ^3")
+(True, True)
 
 The package has no state, and any thread may make any call. While the library works on more than 64 KiB of texts, other
 threads of Python go on.
 """
 
-from ._errors import InvalidRequirement, InvalidVersion
+from ._errors import InvalidRequirement, InvalidVersion, InvalidVersionSet
 from ._library import (
     __version__,
     compare,
@@ -28,6 +28,7 @@ from ._library import (
 )
 from ._library import sorted as sorted
 from ._requirement import Mismatch, Range, Reason, Requirement
+from ._set import VersionSet
 from ._version import Difference, DifferenceKind, Kind, Stability, Version
 
 # Without `sorted`, which would hide Python's own from `from versions import *`.
@@ -36,6 +37,7 @@ __all__ = [
     "DifferenceKind",
     "InvalidRequirement",
     "InvalidVersion",
+    "InvalidVersionSet",
     "Kind",
     "Mismatch",
     "Range",
@@ -43,6 +45,7 @@ __all__ = [
     "Requirement",
     "Stability",
     "Version",
+    "VersionSet",
     "__version__",
     "compare",
     "compare_total",

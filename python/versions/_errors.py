@@ -1,4 +1,4 @@
-"""What the calls raise where a text is not a version or not a requirement."""
+"""What the calls raise where a text is not a version, not a requirement or not a set of versions."""
 
 from __future__ import annotations
 
@@ -66,3 +66,39 @@ class InvalidRequirement(_Invalid):
         start, member = self.start, self.member
         wrong = "" if member == self.text else f"; its member {member!r} at {start} is wrong"
         return f"{super().__str__()}{wrong}; a list looks like '>=1.2,<2'"
+
+
+class InvalidVersionSet(_Invalid):
+    """A text that is not a set of versions, which `text` is.
+
+    Its first wrong piece begins at `start`, a place of the text as Python counts them; at its end where something is
+    missing there. `reason` says why it is wrong, and what to write. A piece with a lone surrogate is wrong.
+
+    >>> try:
+    ...     VersionSet(">=1.2, 2")
+    ... except InvalidVersionSet as error:
+    ...     print(error)
+    ...     print(error.start, error.reason)
+    not a set of versions: '>=1.2, 2'; at 7: an operator is missing: write = or ^ before the version
+    7 an operator is missing: write = or ^ before the version
+    """
+
+    _wanted = "set of versions"
+
+    @property
+    def start(self) -> int:
+        """The place where the first wrong piece begins."""
+        return self._wrong()[0]
+
+    @property
+    def reason(self) -> str:
+        """Why that piece is wrong: a sentence of the library's, without a full stop."""
+        return self._wrong()[1]
+
+    def _wrong(self) -> tuple[int, str]:
+        return _library.wrong_set(self.text) or (0, "")
+
+    def __str__(self) -> str:
+        start, reason = self._wrong()
+        wrong = f"; at {start}: {reason}" if reason else ""
+        return f"{super().__str__()}{wrong}"

@@ -2,8 +2,8 @@
  * _library.c: the calls of versions.h as functions of Python, in the stable ABI of Python 3.9 and later.
  *
  * What a version is, how versions compare and what matches is asked of the library alone. This file passes it texts and
- * hands its answers on. The public functions are functions of this file; the types of which `Version` and `Requirement`
- * are made are in _values.c.
+ * hands its answers on. The public functions are functions of this file; the types of which `Version`, `Requirement`
+ * and `VersionSet` are made are in _values.c and _sets.c.
  */
 #include "_library.h"
 
@@ -324,8 +324,7 @@ static PyObject *wrong_member(PyObject *Py_UNUSED(module), PyObject *object) {
   return answer;
 }
 
-/* The two members, or NULL where either is. Their references are given away. */
-static PyObject *pair_of(PyObject *first, PyObject *second) {
+PyObject *pair_of(PyObject *first, PyObject *second) {
   PyObject *pair = first == NULL || second == NULL ? NULL : PyTuple_Pack(2, first, second);
 
   Py_XDECREF(first);
@@ -428,19 +427,24 @@ static int append_versions(PyObject *answers, const struct texts *texts, const i
   return failed;
 }
 
-static int ask_in_tags(const struct call *Py_UNUSED(call), const struct texts *texts, PyObject *answers) {
-  int64_t *starts = allocated(texts->count, sizeof *starts);
+int64_t *starts_in(const struct texts *tags) {
+  int64_t *starts = allocated(tags->count, sizeof *starts);
   PyThreadState *thread;
-  int status, failed = -1;
+  int status;
 
-  if (starts == NULL) return -1;
-  thread = let_go_of(texts);
-  status = versions_in_tags(texts->bytes, texts->size, texts->offsets, texts->count + 1, starts, texts->count);
+  if (starts == NULL) return NULL;
+  thread = let_go_of(tags);
+  status = versions_in_tags(tags->bytes, tags->size, tags->offsets, tags->count + 1, starts, tags->count);
   take_again(thread);
-  if (status == VERSIONS_OK)
-    failed = append_versions(answers, texts, starts);
-  else
-    raise_status(status);
+  if (status == VERSIONS_OK) return starts;
+  PyMem_Free(starts);
+  return raise_status(status);
+}
+
+static int ask_in_tags(const struct call *Py_UNUSED(call), const struct texts *texts, PyObject *answers) {
+  int64_t *starts = starts_in(texts);
+  int failed = starts == NULL ? -1 : append_versions(answers, texts, starts);
+
   PyMem_Free(starts);
   return failed;
 }
@@ -450,8 +454,9 @@ static int ask_matches(const struct call *call, const struct texts *texts, PyObj
   uint8_t *numbers = allocated(texts->count, 1);
   int failed = -1;
 
-  if (numbers != NULL && match_texts(call->wanted, texts, numbers) == 0)
-    failed = append_all(answers, texts, numbers, meanings, 2);
+  if (numbers != NULL)
+    failed = call->set == NULL ? match_texts(call->wanted, texts, numbers) : has_texts(call->set, texts, numbers);
+  if (failed == 0) failed = append_all(answers, texts, numbers, meanings, 2);
   PyMem_Free(numbers);
   return failed;
 }
@@ -531,8 +536,7 @@ static int ask_sort_keys(const struct call *Py_UNUSED(call), const struct texts 
   return failed;
 }
 
-/* Gathers the texts that an iterator gives. A missing value, where those are taken, becomes a text of no version. */
-static int gather(struct gathered *gathered, PyObject *iterator, bool takes_missing) {
+int gather(struct gathered *gathered, PyObject *iterator, bool takes_missing) {
   PyObject *item;
   int failed = 0;
 
@@ -635,13 +639,16 @@ static PyObject *sort_keys(PyObject *Py_UNUSED(module), PyObject *args, PyObject
 static PyObject *match_all(PyObject *Py_UNUSED(module), PyObject *args, PyObject *named) {
   static char *names[] = {"requirement", "texts", NULL};
   struct range wanted;
-  const struct call call = {.ask = ask_matches, .wanted = &wanted};
+  struct call call = {.ask = ask_matches, .wanted = &wanted};
   PyObject *requirement, *texts, *answers;
 
+  if (read_arguments(args, named, "OO:match_all", names, &requirement, &texts) < 0) return NULL;
+  if (is_formed(requirement)) {
+    call.set = requirement;
+    return answers_of(&call, texts);
+  }
   /* The requirement is judged first, whatever the texts are. */
-  if (read_arguments(args, named, "OO:match_all", names, &requirement, &texts) < 0 ||
-      read_range(requirement, &wanted) < 0)
-    return NULL;
+  if (read_range(requirement, &wanted) < 0) return NULL;
   answers = answers_of(&call, texts);
   clear_range(&wanted);
   return answers;
@@ -882,12 +889,12 @@ static PyObject *newest_item(struct search *search) {
   return PyList_GetItem(search->items, by_keys < 0 ? by_texts : by_keys);
 }
 
-/* Reads the requirement, which is `*` where none is given. */
+/* Reads the requirement, which is `*` where none is given, or a VersionSet in its place. */
 static int read_wanted(PyObject *requirement, struct range *wanted) {
   PyObject *all;
   int failed;
 
-  if (requirement != Py_None) return read_range(requirement, wanted);
+  if (requirement != Py_None && !is_formed(requirement)) return read_range(requirement, wanted);
   all = PyUnicode_FromString("*");
   if (all == NULL) return -1;
   failed = read_range(all, wanted);
@@ -920,6 +927,16 @@ static int read_stability(PyObject *object, uint32_t *number) {
   return 0;
 }
 
+/* A list of the items that are searched: all, or those in a VersionSet. */
+static PyObject *items_of(PyObject *texts, PyObject *requirement, bool tags) {
+  PyObject *items = PySequence_List(texts), *kept;
+
+  if (items == NULL || !is_formed(requirement)) return items;
+  kept = kept_in(requirement, items, tags);
+  Py_DECREF(items);
+  return kept;
+}
+
 static PyObject *newest(PyObject *Py_UNUSED(module), PyObject *args, PyObject *named) {
   static char *names[] = {"texts", "requirement", "stability", "tags", NULL};
   PyObject *texts, *requirement = Py_None, *stability = Py_None, *item;
@@ -932,7 +949,7 @@ static PyObject *newest(PyObject *Py_UNUSED(module), PyObject *args, PyObject *n
     return NULL;
   search.flags = tags ? VERSIONS_NEWEST_TAGS : 0;
   search.keyed = NULL;
-  search.items = PySequence_List(texts);
+  search.items = items_of(texts, requirement, tags);
   item = search.items == NULL ? NULL : newest_item(&search);
   Py_XINCREF(item);
   Py_XDECREF(search.items);
@@ -1021,8 +1038,9 @@ PyDoc_STRVAR(match_all_doc,
              "match_all(requirement, texts)\n--\n\n"
              "Whether a requirement matches each of many texts, and None for a text that is not a version.\n"
              "\n"
-             "`requirement` is a `Requirement` or a text, `texts` is what `kinds` takes.\n"
-             "`InvalidRequirement` where the text is not a requirement.\n"
+             "`requirement` is a `Requirement` or a text, or a `VersionSet`, of which the answers are those of its "
+             "`has_all`.\n"
+             "`texts` is what `kinds` takes. `InvalidRequirement` where the text is not a requirement.\n"
              "\n"
              ">>> match_all(\">=1.1.1,<2.0.0\", [\"1.5\", \"2.0.0\", \"1..2\", None])\n"
              "[True, False, None, None]\n");
@@ -1075,11 +1093,11 @@ PyDoc_STRVAR(newest_doc,
              "values, as\n"
              "`kinds` has them, are passed over. So are versions that the `requirement` doesn't match, a `Requirement` "
              "or a text,\n"
-             "and versions that are less stable than a `stability`, a `Stability` or its name. With `tags`, a text has "
-             "its version\n"
-             "as `Version.from_tag` finds it, and the text of a `Version` counts as a tag too. `InvalidRequirement` "
-             "where the text\n"
-             "is not a requirement.\n"
+             "or that aren't in it, a `VersionSet`; and versions that are less stable than a `stability`, a "
+             "`Stability` or\n"
+             "its name. With `tags`, a text has its version as `Version.from_tag` finds it, and the text of a "
+             "`Version` counts\n"
+             "as a tag too. `InvalidRequirement` where the text is not a requirement.\n"
              "\n"
              ">>> newest([\"1.9\", \"1.10\", \"2.0rc1\", \"x y\", None])\n"
              "'2.0rc1'\n"
@@ -1111,6 +1129,7 @@ static PyMethodDef functions[] = {
     {"wrong_member", wrong_member, METH_O, NULL},
     {"conflict", conflict, METH_O, NULL},
     {"why_text", why_text, METH_VARARGS, NULL},
+    {"wrong_set", wrong_set, METH_O, NULL},
     {NULL, NULL, 0, NULL},
 };
 
@@ -1159,7 +1178,9 @@ static int fill(PyObject *module) {
     state->kinds[number] = PyUnicode_InternFromString(kind_names[number]);
     if (state->kinds[number] == NULL) return -1;
   }
-  if (add_type(module, "Keyed", &keyed_spec) < 0 || add_type(module, "Ranged", &ranged_spec) < 0) return -1;
+  if (add_type(module, "Keyed", &keyed_spec) < 0 || add_type(module, "Ranged", &ranged_spec) < 0 ||
+      add_type(module, "Formed", &formed_spec) < 0)
+    return -1;
   if (add_numbers(module) < 0) return -1;
   return PyModule_AddStringConstant(module, "__version__", versions_version());
 }

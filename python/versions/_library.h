@@ -1,9 +1,9 @@
 /*
  * _library.h: what the C files of the extension share.
  *
- * _texts.c reads texts and raises errors, _values.c has the types of which Version and Requirement are made, _arrow.c
- * reads Arrow arrays, and _library.c has the calls and the module. All of them ask versions.h what a version is, how
- * versions compare and what matches.
+ * _texts.c reads texts and raises errors, _values.c has the types of which Version and Requirement are made, _sets.c
+ * that of VersionSet, _arrow.c reads Arrow arrays, and _library.c has the calls and the module. All of them ask
+ * versions.h what a version is, how versions compare and what matches.
  *
  * A function that fails raises an error of Python, and returns -1 or NULL. A pointer to a PyObject is borrowed, and one
  * that a function returns is new, if its comment says nothing else.
@@ -42,8 +42,11 @@ void put_back(struct error error);
 /* Makes an error that was put aside the context of the one that is raised since, or forgets it where none is. */
 void add_context(struct error context);
 
-/* Raises an error of the package that holds the text, InvalidVersion or InvalidRequirement. */
+/* Raises an error of the package that holds the text, such as InvalidVersion. */
 void *raise_invalid(const char *name, PyObject *text);
+
+/* Raises a TypeError for an object of another type than what is wanted, as in "a text is a str". */
+void *raise_other(const char *wanted, PyObject *object);
 
 /* Raises the error of a status that does not speak of one text. */
 void *raise_status(int status);
@@ -165,8 +168,36 @@ PyObject *keyed_text(PyObject *keyed);
 /* Below, equal to or above 0 as the key of one Version is below, equal to or above that of another. */
 int order_of_keyed(PyObject *a, PyObject *b);
 
+/* Whether an object is of a type of this extension, the one with that function, or of a class made of it. */
+bool is_made_by(PyObject *object, destructor dealloc);
+
+/* Frees an object whose fields are released. */
+void free_object(PyObject *self);
+
 /* The types Keyed and Ranged. */
 extern PyType_Spec keyed_spec, ranged_spec;
+
+/*
+ * Sets (_sets.c)
+ */
+
+/* Whether an object is a VersionSet. */
+bool is_formed(PyObject *object);
+
+/* Writes for each of many texts whether its version is in a VersionSet: 0, 1, or 2 if it is not a version. */
+int has_texts(PyObject *set, const struct texts *texts, uint8_t *answers);
+
+/* The items of a list whose versions are in a VersionSet. With `tags`, a text has its version as a tag has it. */
+PyObject *kept_in(PyObject *set, PyObject *items, bool tags);
+
+/* wrong_set(text) of the module */
+PyObject *wrong_set(PyObject *module, PyObject *object);
+
+/* The type Formed. */
+extern PyType_Spec formed_spec;
+
+/* A pair of two objects, or NULL where either is. Their references are given away. */
+PyObject *pair_of(PyObject *first, PyObject *second);
 
 /*
  * Calls on many texts (_library.c, _arrow.c)
@@ -176,8 +207,15 @@ extern PyType_Spec keyed_spec, ranged_spec;
 struct call {
   int (*ask)(const struct call *call, const struct texts *texts, PyObject *answers);
   PyObject *const *meanings;  /* the answers of kinds and stabilities, by their numbers */
-  const struct range *wanted; /* the requirement of match_all */
+  const struct range *wanted; /* the requirement of match_all, */
+  PyObject *set;              /* or the VersionSet in its place */
 };
+
+/* Gathers the texts that an iterator gives. A missing value, where those are taken, becomes a text of no version. */
+int gather(struct gathered *gathered, PyObject *iterator, bool takes_missing);
+
+/* Where the version in each of many tags begins, or the tag ends if it has none: an array that PyMem_Free frees. */
+int64_t *starts_in(const struct texts *tags);
 
 /*
  * Makes a call on texts of Arrow. Returns 1, or 0 if the object offers none: without an error, or with the one that

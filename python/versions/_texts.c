@@ -33,11 +33,12 @@ void *raise_invalid(const char *name, PyObject *text) {
   return NULL;
 }
 
-static void raise_not_a_text(PyObject *object) {
+void *raise_other(const char *wanted, PyObject *object) {
   PyObject *name = PyObject_GetAttrString((PyObject *)Py_TYPE(object), "__name__");
 
-  if (name != NULL) fail(PyExc_TypeError, "a text is a str, and this is of type %S: %R", name, object);
+  if (name != NULL) fail(PyExc_TypeError, "%s, and this is of type %S: %R", wanted, name, object);
   Py_XDECREF(name);
+  return NULL;
 }
 
 void *raise_status(int status) {
@@ -83,7 +84,7 @@ int read_text(PyObject *object, struct text *text) {
   Py_ssize_t size;
 
   if (!PyUnicode_Check(object)) {
-    raise_not_a_text(object);
+    raise_other("a text is a str", object);
     return -1;
   }
   text->bytes = PyUnicode_AsUTF8AndSize(object, &size);

@@ -122,8 +122,7 @@ static PyObject *keyed_new(PyTypeObject *type, PyObject *args, PyObject *named) 
   return (PyObject *)keyed;
 }
 
-/* Frees an object whose fields are released. */
-static void free_object(PyObject *self) {
+void free_object(PyObject *self) {
   PyTypeObject *type = Py_TYPE(self);
   freefunc release = (freefunc)PyType_GetSlot(type, Py_tp_free);
 
@@ -141,9 +140,9 @@ static void keyed_dealloc(PyObject *self) {
 
 /*
  * Of the types that the object's type inherits from, the one just above `object`, which alone of them is not of the
- * heap, is Keyed or is not. Python 3.9 finds the module of a method by no call of the stable ABI.
+ * heap, is that type or is not. Python 3.9 finds the module of a method by no call of the stable ABI.
  */
-static bool is_made_by(PyObject *object, destructor dealloc) {
+bool is_made_by(PyObject *object, destructor dealloc) {
   PyTypeObject *type = Py_TYPE(object), *base;
 
   while (PyType_GetFlags(type) & Py_TPFLAGS_HEAPTYPE) {

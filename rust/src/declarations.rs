@@ -22,6 +22,11 @@ pub const UNKNOWN_FIELD: c_int = 14;
 pub const ALL_MATCH: c_int = 15;
 pub const NO_CONFLICT: c_int = 16;
 pub const NO_NEXT: c_int = 17;
+pub const NO_SET: c_int = 18;
+pub const NO_FORM: c_int = 19;
+pub const NO_SCHEME: c_int = 20;
+pub const OTHER_SCHEME: c_int = 21;
+pub const NO_INTERVAL: c_int = 22;
 
 pub const NONE: c_int = 0;
 pub const IDEAL: c_int = 1;
@@ -57,6 +62,20 @@ pub const WHY_KIND: u32 = 1;
 pub const WHY_BELOW: u32 = 2;
 pub const WHY_ABOVE: u32 = 3;
 pub const WHY_PARTS: u32 = 4;
+
+pub const MIXED: u32 = 1;
+
+pub const SET_NO_MEMBER: u32 = 1;
+pub const SET_NO_VERSION: u32 = 2;
+pub const SET_NO_OPERATOR: u32 = 3;
+pub const SET_ONE_BAR: u32 = 4;
+pub const SET_NOT_VERSION: u32 = 5;
+pub const SET_STAR: u32 = 6;
+pub const SET_NOT_BARE: u32 = 7;
+pub const SET_NO_PARTS: u32 = 8;
+pub const SET_LETTER_V: u32 = 9;
+pub const SET_PART_X: u32 = 10;
+pub const SET_NO_DIGIT: u32 = 11;
 
 extern "C" {
     pub fn versions_kind(text: *const c_char, text_len: usize) -> c_int;
@@ -207,6 +226,109 @@ extern "C" {
         end: *mut usize,
         other_start: *mut usize,
         other_end: *mut usize,
+    ) -> c_int;
+    pub fn versions_set(
+        scheme: u32,
+        text: *const c_char,
+        text_len: usize,
+        form: *mut u8,
+        room: usize,
+        form_len: *mut usize,
+    ) -> c_int;
+    pub fn versions_set_bound(
+        scheme: u32,
+        text: *const c_char,
+        text_len: usize,
+        bound: *mut usize,
+    ) -> c_int;
+    pub fn versions_set_wrong(
+        scheme: u32,
+        text: *const c_char,
+        text_len: usize,
+        place: *mut usize,
+        reason: *mut u32,
+    ) -> c_int;
+    pub fn versions_set_wrong_text(
+        scheme: u32,
+        text: *const c_char,
+        text_len: usize,
+        why: *mut c_char,
+        room: usize,
+        why_len: *mut usize,
+    ) -> c_int;
+    pub fn versions_set_of_version(
+        scheme: u32,
+        text: *const c_char,
+        text_len: usize,
+        form: *mut u8,
+        room: usize,
+        form_len: *mut usize,
+    ) -> c_int;
+    pub fn versions_set_has(
+        form: *const u8,
+        form_len: usize,
+        text: *const c_char,
+        text_len: usize,
+        has: *mut u8,
+    ) -> c_int;
+    pub fn versions_set_has_all(
+        form: *const u8,
+        form_len: usize,
+        texts: *const c_char,
+        texts_len: usize,
+        offsets: *const i64,
+        offsets_len: usize,
+        answers: *mut u8,
+        answers_len: usize,
+    ) -> c_int;
+    pub fn versions_set_and(
+        one: *const u8,
+        one_len: usize,
+        other: *const u8,
+        other_len: usize,
+        form: *mut u8,
+        room: usize,
+        form_len: *mut usize,
+    ) -> c_int;
+    pub fn versions_set_or(
+        one: *const u8,
+        one_len: usize,
+        other: *const u8,
+        other_len: usize,
+        form: *mut u8,
+        room: usize,
+        form_len: *mut usize,
+    ) -> c_int;
+    pub fn versions_set_not(
+        set: *const u8,
+        set_len: usize,
+        form: *mut u8,
+        room: usize,
+        form_len: *mut usize,
+    ) -> c_int;
+    pub fn versions_set_part_of(
+        one: *const u8,
+        one_len: usize,
+        other: *const u8,
+        other_len: usize,
+        is_part: *mut u8,
+    ) -> c_int;
+    pub fn versions_set_meets(
+        one: *const u8,
+        one_len: usize,
+        other: *const u8,
+        other_len: usize,
+        meet: *mut u8,
+    ) -> c_int;
+    pub fn versions_set_count(form: *const u8, form_len: usize, count: *mut usize) -> c_int;
+    pub fn versions_set_interval(
+        form: *const u8,
+        form_len: usize,
+        place: usize,
+        low: *mut usize,
+        low_end: *mut usize,
+        high: *mut usize,
+        high_end: *mut usize,
     ) -> c_int;
     pub fn versions_kinds(
         texts: *const c_char,

@@ -7,7 +7,7 @@ from declarations import Header  # noqa: E402
 
 
 def stand_ins(header):
-    """A source with the calls that return an int and begin with a text: each returns stand_in(text, text_len).
+    """A source with the calls that return an int: each returns stand_in of its first text or bytes and their length.
 
     They are weak, so the file that has stand_in can have calls of its own in their place.
     """
@@ -15,6 +15,7 @@ def stand_ins(header):
     made += "int stand_in(const char *, size_t);\n"
     for call in Header(header).calls.values():
         if call.result == "int" and len(call.parameters) > 1:
-            (_, text), (_, length), *_ = call.parameters
-            made += f"__attribute__((weak)) {call.prototype()} {{ return stand_in({text}, {length}); }}\n"
+            first = next(place for place, (kind, _) in enumerate(call.parameters) if kind.endswith("*"))
+            (_, text), (_, length), *_ = call.parameters[first:]
+            made += f"__attribute__((weak)) {call.prototype()} {{ return stand_in((const char *){text}, {length}); }}\n"
     return made

@@ -2,7 +2,11 @@ pub mod Comparison
 pub mod Ends
 pub mod Form
 pub mod Members
+pub mod Merge
 pub mod Pieces
 pub mod Pile
 pub mod Reader
+pub mod Start
 pub mod Steps
+pub mod Whole
+pub mod Written

@@ -26,8 +26,8 @@ pub record Fits (reader : Reader) : Type 0 where
   pub both : reader.members.rule ≡ Both
   pub order : reader.alternatives.order ≡ reader.order
   pub members_order : reader.members.order ≡ reader.order
-  pub low : reader.alternatives.depth < 64
-  pub members_low : reader.members.depth < 64
+  pub low : reader.alternatives.depth < 24
+  pub members_low : reader.members.depth < 24
 
 -- what a whole text is read as, by what is done, and what the rest is read as
 abbrev pub Continues : Reading → (List ℕ → Bool) → (List ℕ → Bool) → Reading → Type 0

@@ -107,6 +107,11 @@ module _ (read_as : List ℕ → Option PlainKeyed) (parts : Bool) where
 abbrev pub set_has : List (List (List (List ℕ))) → List ℕ → Bool
 set_has alternatives key = list_any (list_all (λ ends. has ends key)) alternatives
 
+-- where and why a text is wrong, if it is
+abbrev pub fault_of : Reading → Option (ℕ × Reason)
+fault_of (Wrong place reason) = Some (place, reason)
+fault_of (Right first others) = None
+
 -- ---- room
 
 -- how many bytes a member with this word for its version has at most, as a set by itself, by the most that a

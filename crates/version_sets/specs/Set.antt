@@ -1,5 +1,5 @@
 -- The ends that the bytes of a set hold, and those of what a rule makes of two sets.
-use Rattle.std.specs.Prelude.{◌+◌, ◌-◌, ◌&&◌, ◌||◌, ℕ, Bool, List, drop, not}
+use Rattle.std.specs.Prelude.{◌+◌, ◌-◌, ◌&&◌, ◌||◌, ℕ, Bool, List, drop, length, not}
 use Rattle.version_sets.specs.Form.{ends_in}
 use Rattle.version_sets.specs.Merge.{merged}
 use Rattle.version_sets.specs.declared.form.Form.{Form}
@@ -37,6 +37,10 @@ passed side = drop (side.place + 1) (ends_of side.set)
 abbrev pub left : Merge → List (List ℕ)
 left merge =
     merged (by_rule merge.rule) merge.one.has merge.other.has (side_left merge.one) (side_left merge.other)
+
+-- how many ends both sets have
+abbrev pub both_ends : Merge → ℕ
+both_ends merge = length (ends_of merge.one.set) + length (ends_of merge.other.set)
 
 -- how many ends of both are left
 abbrev pub merge_left : Merge → ℕ

@@ -2,7 +2,10 @@
 
 ghost use Rattle.std.specs.Prelude.{◌≡◌, ◌∷◌, ◌++◌, ◌+◌, ◌*◌, ◌^◌, ◌<◌, ◌≤◌, [], IfNone, IfSome, List, drop, length, ℕ};
 ghost use Rattle.std.specs.Option.{IsSomeAnd};
-ghost use Rattle.version_sets.specs.Form.{form_bytes, number, over_at};
+ghost use Rattle.version_sets.specs.Form.{between, form_bytes, number, over_at};
+
+pub(crate) mod intervals;
+mod whole;
 
 /// A set as bytes: the number of its order, how many ends it has, where each is over among the bytes of all, and these.
 /// Any bytes that are long enough are read so, and no call reads past them.
@@ -12,7 +15,7 @@ pub struct Form<'a> {
     numbers: &'a [u8],
     ends: &'a [u8],
     ghost whole: { length numbers.now ≡ 8 * count },
-    ghost few: { count < 2 ^ 61 },
+    ghost few: { count < 2 ^ 60 },
     ghost small: { length ends.now < 2 ^ 63 },
 }
 
@@ -49,6 +52,31 @@ impl<'a> Form<'a> {
         self.count
     }
 
+    // Returns in how many bytes the places of its ends lie.
+    pub(crate) fn numbers_len(&self) -> usize
+        ensures { result ≡ 8 * self.now.count }
+    {
+        self.numbers.len()
+    }
+
+    /// Returns the set that has all keys. Does not allocate.
+    pub fn all() -> Form<'static>
+        ensures { ends_of result ≡ [] ∷ [] }
+    {
+        Form {
+            count: 1,
+            numbers: &[0; 8],
+            ends: &[],
+        }
+    }
+
+    /// Returns where the bytes of its ends begin among those of the set. Does not allocate.
+    pub fn start(&self) -> usize
+        ensures { result ≡ 9 + 8 * self.now.count }
+    {
+        9 + self.numbers.len()
+    }
+
     /// Returns the end at a place, or None where it has fewer. Does not allocate.
     pub fn end(&self, place: usize) -> Option<&'a [u8]>
         ensures some { IfSome result
@@ -56,13 +84,26 @@ impl<'a> Form<'a> {
         ensures none { IfNone result (drop place (ends_of self.now) ≡ []) }
         ensures within { IfSome result (λ _. place < self.now.count) }
     {
+        let (from, over) = self.span(place)?;
+        Some(&self.ends[from..over])
+    }
+
+    // Returns where the end at a place begins and is over among the bytes of all, or None where it has fewer.
+    pub(crate) fn span(&self, place: usize) -> Option<(usize, usize)>
+        ensures some { IfSome result (λ span. drop place (ends_of self.now)
+            ≡ between self.now.ends.now span.0 span.1 ∷ drop (place + 1) (ends_of self.now)) }
+        ensures none { IfNone result (drop place (ends_of self.now) ≡ []) }
+        ensures within { IfSome result (λ span.
+            (place < self.now.count) × (span.0 ≤ span.1) × (span.1 ≤ length self.now.ends.now)) }
+    {
         if place >= self.count {
             return None;
         }
-        match self.ends.get(self.over(place)..self.over(place + 1)) {
-            Some(end) => Some(end),
-            None => Some(&[]),
+        let (from, over) = (self.over(place), self.over(place + 1));
+        if from > over || over > self.ends.len() {
+            return Some((0, 0));
         }
+        Some((from, over))
     }
 
     // Returns where so many ends are over.

@@ -1,10 +1,51 @@
 //! Whether a set has a key.
 
-ghost use Rattle.std.specs.Prelude.{◌≡◌};
+ghost use Rattle.std.specs.Prelude.{◌≡◌, List, ℕ};
+ghost use Rattle.version_rules.specs.order.Lists.{bytes_cmp};
 ghost use Rattle.version_sets.specs.Ends.{has, Rise};
 
 use crate::form::Form;
-use version_texts::Keyed;
+use crate::start::Start;
+use std::cmp::Ordering;
+use version_rules::End;
+use version_texts::{Keyed, compare_bytes};
+
+// With more ends than these, writing a key costs less than comparing it off its text with each end.
+const FEW: usize = 4;
+
+// What is compared with ends: a key.
+trait Key<'t> {
+    ghost key: { Self → List ℕ };
+
+    fn compare(&self, bytes: &[u8]) -> Ordering
+        ensures { result ≡ bytes_cmp (key self.now) bytes.now };
+}
+
+// A key that is written.
+#[derive(Drop)]
+struct Written<'k>(&'k [u8]);
+
+impl<'t> Key<'t> for Written<'t> {
+    ghost key = { λ written. written.0.now };
+
+    #[inline(always)]
+    fn compare(&self, bytes: &[u8]) -> Ordering {
+        compare_bytes(self.0, bytes)
+    }
+}
+
+// The key of a version, compared off its text.
+#[derive(Drop)]
+struct Unwritten<V>(V);
+
+impl<'t, V: Keyed<'t>> Key<'t> for Unwritten<V> {
+    ghost key = { λ unwritten. (V.plain unwritten.0).key };
+
+    #[inline(always)]
+    fn compare(&self, bytes: &[u8]) -> Ordering {
+        self.0.compare_key(bytes)
+    }
+}
 
 impl<'a> Form<'a> {
     ghost use Rattle.version_sets.specs.Set.{ends_of};
@@ -14,6 +55,21 @@ impl<'a> Form<'a> {
     pub fn has<'t, V: Keyed<'t>>(&self, version: &V) -> bool
         ensures { Rise (ends_of self.now) → result ≡ has (ends_of self.now) (V.plain version.now).key }
     {
+        if self.count() > FEW {
+            let mut start = Start::new();
+            version.put_end(End::Key, &mut start);
+            if let Some(key) = start.whole() {
+                return self.has_key(&Written(key));
+            }
+        }
+        self.has_key(&Unwritten(*version))
+    }
+
+    // Returns whether it has a key.
+    #[inline(always)]
+    fn has_key<'t, K: Key<'t>>(&self, key: &K) -> bool
+        ensures { Rise (ends_of self.now) → result ≡ has (ends_of self.now) (K.key key.now) }
+    {
         let mut low = 0;
         let mut high = self.count();
         while low < high {
@@ -21,7 +77,7 @@ impl<'a> Form<'a> {
             let Some(end) = self.end(middle) else {
                 return false;
             };
-            if version.compare_key(end).is_lt() {
+            if key.compare(end).is_lt() {
                 high = middle;
             } else {
                 low = middle + 1;

@@ -9,13 +9,20 @@ mod has;
 mod laws;
 mod merge;
 mod read;
+mod start;
 #[cfg(test)]
 mod tests;
 mod write;
 
+/// The number of the order of all versions.
+pub const MIXED: u8 = 1;
+
 pub use form::Form;
+pub use form::intervals::Interval;
 pub use merge::{Merge, Rule};
 pub use read::comparison::Comparison;
 pub use read::fault::{Fault, Reason};
+pub use read::find::find_fault;
+pub use read::member::write_tied;
 pub use read::{Unread, read_set, set_room};
 pub use write::write_merge;

@@ -1,6 +1,6 @@
 //! What a rule makes of two sets, end by end.
 
-ghost use Rattle.std.specs.Prelude.{false, not, ◌≡◌, ◌+◌, ◌-◌, ◌<◌, ◌==◌, ◌∷◌, [], IfNone, IfSome, drop, length};
+ghost use Rattle.std.specs.Prelude.{false, not, ◌≡◌, ◌+◌, ◌*◌, ◌-◌, ◌<◌, ◌≤◌, ◌==◌, ◌∷◌, [], IfNone, IfSome, drop, length};
 ghost use Rattle.version_sets.specs.Form.{ends_in};
 
 use crate::form::Form;
@@ -49,6 +49,7 @@ impl<'a> Side<'a> {
 
     // Begins before the first end of a set.
     fn of(set: Form<'a>) -> Side<'a>
+        ensures set { result.set ≡ set.entry }
         ensures left { side_left result ≡ ends_of set.entry }
         ensures has { result.has ≡ false }
     {
@@ -57,6 +58,7 @@ impl<'a> Side<'a> {
 
     // Stands at a place in a set, and has what lies before its end there or not.
     fn at(set: Form<'a>, place: usize, has: bool) -> Side<'a>
+        ensures set { result.set ≡ set.entry }
         ensures left { side_left result ≡ drop place (ends_of set.entry) }
         ensures has { result.has ≡ has }
         ensures number { ends_left result ≡ set.entry.count - place }
@@ -106,13 +108,14 @@ pub struct Merge<'a> {
 }
 
 impl<'a> Merge<'a> {
-    ghost use Rattle.version_sets.specs.Set.{by_rule, ends_of, has_here, left, merge_left};
+    ghost use Rattle.version_sets.specs.Set.{both_ends, by_rule, ends_of, has_here, left, merge_left};
     ghost use Rattle.version_sets.specs.Merge.{kept, merged};
 
     /// Begins what a rule makes of two sets. Does not allocate.
     pub fn of(rule: Rule, one: Form<'a>, other: Form<'a>) -> Merge<'a>
-        ensures { left result
+        ensures left { left result
             ≡ merged (by_rule rule) false false (ends_of one.entry) (ends_of other.entry) }
+        ensures ends { both_ends result ≡ length (ends_of one.entry) + length (ends_of other.entry) }
     {
         Merge {
             rule,
@@ -144,6 +147,13 @@ impl<'a> Merge<'a> {
             Some(_) => false,
             None => true,
         }
+    }
+
+    // Returns how many bytes the places of all ends of both have.
+    pub(crate) fn most_numbers(&self) -> usize
+        ensures { result ≡ 8 * both_ends self.now }
+    {
+        self.one.set.numbers_len() + self.other.set.numbers_len()
     }
 
     // Whether the set that is made has what lies behind the ends that are passed.

@@ -8,6 +8,7 @@ ghost use Rattle.version_texts.specs.key.Sinks.{saturated};
 
 pub(crate) mod comparison;
 pub(crate) mod fault;
+pub(crate) mod find;
 pub(crate) mod member;
 pub(crate) mod pieces;
 pub(crate) mod pile;

@@ -1,13 +1,12 @@
 //! Sets written as bytes.
 
-ghost use Rattle.std.specs.Prelude.{◌≡◌, ◌^◌, ◌<◌, length, ℕ};
+ghost use Rattle.std.specs.Prelude.{◌≡◌, ◌∷◌, ◌++◌, ◌*◌, ◌+◌, ◌^◌, ◌<◌, ◌≤◌, IfSome, IsSome, false, length, true, ℕ};
 ghost use Rattle.std.specs.List.{concat, flat_map};
 ghost use Rattle.version_sets.specs.Form.{form_bytes, number, places};
 ghost use Rattle.version_sets.specs.Set.{left};
-ghost use Rattle.version_texts.specs.key.Sinks.{saturated, IsWritten};
+ghost use Rattle.version_texts.specs.key.Sinks.{put_at, saturated, IsWritten};
 
 use crate::merge::Merge;
-use version_texts::{Room, Sink, put_all};
 
 /// Writes what a rule makes of two sets into a buffer, if it fits there. Returns how many bytes it has. Does not
 /// allocate.
@@ -17,7 +16,10 @@ pub fn write_merge(order: u8, merge: Merge<'_>, room: &mut [u8]) -> usize
 {
     let size = Size::of(merge);
     if size.whole <= room.len() {
-        put_form(&mut Room { room, end: 0 }, order, size.count, merge);
+        let (head, rest) = room.split_at_mut(9);
+        let (numbers, ends) = rest.split_at_mut(8 * size.count);
+        write_head(head, order, size.count);
+        write_ends(merge, numbers, ends);
     }
     size.whole
 }
@@ -44,47 +46,67 @@ impl Size {
     }
 }
 
-// Writes a set with the ends that are left, so many.
-fn put_form<S: Sink>(sink: &mut S, order: u8, count: usize, merge: Merge<'_>)
-    requires count { count ≡ length (left merge) }
-    requires small { length (concat (left merge)) < 2 ^ 63 }
-    requires fits { S.fits sink.old (form_bytes order (left merge)) }
-    ensures { S.takes sink.old (form_bytes order (left merge.entry)) sink.new }
+// Writes the number of an order, and how many ends a set has.
+pub(crate) fn write_head(head: &mut [u8], order: u8, count: usize)
+    requires { length head.old ≡ 9 }
+    ensures { head.new ≡ order ∷ number count }
 {
-    sink.put(order);
-    put_number(sink, count);
-    put_places(sink, merge);
-    put_ends(sink, merge);
+    let (first, rest) = head.split_at_mut(1);
+    first.copy_from_slice(&[order]);
+    rest.copy_from_slice(&number(count));
 }
 
-// Writes a number in eight bytes.
-#[tactic(auto, unfolding(crate::specs::Form::number))]
-pub(crate) fn put_number<S: Sink>(sink: &mut S, count: usize)
-    requires { S.fits sink.old (number count) }
-    ensures { S.takes sink.old (number count) sink.new }
+// Writes the ends that are left, one behind another, and apart from them where each is over. Returns how many ends there
+// are, and how many bytes they have; None where either doesn't fit.
+pub(crate) fn write_ends(
+    mut merge: Merge<'_>,
+    numbers: &mut [u8],
+    ends: &mut [u8],
+) -> Option<(usize, usize)>
+    ensures some { 8 * length (left merge.entry) ≤ length numbers.old → length (concat (left merge.entry)) ≤ length ends.old
+        → IsSome result }
+    ensures within { IfSome result (λ size. (8 * size.0 ≤ length numbers.old) × (size.1 ≤ length ends.old)) }
+    ensures count { IfSome result (λ size. size.0 ≡ length (left merge.entry)) }
+    ensures length { IfSome result (λ size. size.1 ≡ length (concat (left merge.entry))) }
+    ensures numbers { IfSome result (λ _. numbers.new
+        ≡ put_at numbers.old 0 (flat_map number (places 0 (left merge.entry)))) }
+    ensures ends { IfSome result (λ _. ends.new ≡ put_at ends.old 0 (concat (left merge.entry))) }
 {
-    put_all(sink, &(count as u64).to_le_bytes());
-}
-
-// Writes where each end that is left is over.
-fn put_places<S: Sink>(sink: &mut S, mut merge: Merge<'_>)
-    requires small { length (concat (left merge)) < 2 ^ 63 }
-    requires fits { S.fits sink.old (flat_map number (places 0 (left merge))) }
-    ensures { S.takes sink.old (flat_map number (places 0 (left merge.entry))) sink.new }
-{
-    let mut over = 0;
+    let (mut count, mut over) = (0, 0);
     while let Some(end) = merge.next() {
+        if !write_at(ends, over, end) {
+            return None;
+        }
         over += end.len();
-        put_number(sink, over);
+        if !write_at(numbers, 8 * count, &number(over)) {
+            return None;
+        }
+        count += 1;
     }
+    Some((count, over))
 }
 
-// Writes the ends that are left.
-fn put_ends<S: Sink>(sink: &mut S, mut merge: Merge<'_>)
-    requires { S.fits sink.old (concat (left merge)) }
-    ensures { S.takes sink.old (concat (left merge.entry)) sink.new }
+// Writes bytes into a buffer from a place on, if they fit there. Returns whether they do.
+#[inline(always)]
+pub(crate) fn write_at(room: &mut [u8], start: usize, bytes: &[u8]) -> bool
+    ensures yes { result ≡ true → start + length bytes.now ≤ length room.old }
+    ensures no { result ≡ false → length room.old < start + length bytes.now }
+    ensures written { IsWritten room.old start bytes.now room.new }
 {
-    while let Some(end) = merge.next() {
-        put_all(sink, end);
+    if start > room.len() || bytes.len() > room.len() - start {
+        return false;
     }
+    let (_, rest) = room.split_at_mut(start);
+    let (place, _) = rest.split_at_mut(bytes.len());
+    place.copy_from_slice(bytes);
+    true
+}
+
+// Returns a number in eight bytes.
+#[inline(always)]
+#[tactic(auto, unfolding(crate::specs::Form::number))]
+pub(crate) fn number(n: usize) -> [u8; 8]
+    ensures { result ≡ number n }
+{
+    (n as u64).to_le_bytes()
 }

@@ -7,3 +7,4 @@ pub mod Next
 pub mod Ranges
 pub mod Sorting
 pub mod Tags
+pub mod Written

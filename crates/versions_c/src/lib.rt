@@ -15,6 +15,8 @@ mod numbers;
 mod offsets;
 mod order;
 mod ranges;
+mod set_algebra;
+mod sets;
 mod sorting;
 mod stabilities;
 mod status;

@@ -32,3 +32,13 @@ pub const ALL_MATCH: i32 = 15;
 pub const NO_CONFLICT: i32 = 16;
 /// The version has no next one at that place.
 pub const NO_NEXT: i32 = 17;
+/// The text is not a set of versions.
+pub const NO_SET: i32 = 18;
+/// The bytes are not the form of a set.
+pub const NO_FORM: i32 = 19;
+/// No scheme has that number.
+pub const NO_SCHEME: i32 = 20;
+/// The two sets are of different schemes.
+pub const OTHER_SCHEME: i32 = 21;
+/// The set has no interval at that place.
+pub const NO_INTERVAL: i32 = 22;

@@ -1,10 +1,7 @@
--- What stands before `.*`, and the bytes of a member.
-use Rattle.std.proofs.Common.{◌≡◌, ◌∙◌, ◌<◌, ◌==◌, ◌⊎◌, ℕ, Bor, true, false, List, [], ◌∷◌, ◌++◌, length, Option, Some, None, append-nil, ap, arith, inl, inr, refl, sym}
+-- What stands before `.*`, and the ends of comparisons.
+use Rattle.std.proofs.Common.{◌≡◌, ◌∙◌, ◌<◌, ◌==◌, ◌⊎◌, ℕ, Bor, true, false, List, [], ◌∷◌, ◌++◌, Option, Some, None, ap, arith, inl, inr, refl, sym}
 use Rattle.std.proofs.lemmas.Bool.{cases_Bool, eqb-true}
-use Rattle.std.proofs.lemmas.List.{length-map}
-use Rattle.std.specs.List.{concat, flat_map}
 use Rattle.std.specs.Option.{MatchOption, option_map}
-use Rattle.version_rules.specs.declared.ends.End.{End}
 use Rattle.std.specs.Cmp.{nat_cmp_total, ranks, tied_itself}
 use Rattle.std.specs.List.Sorted.{IsStrictlySortedBy}
 use Rattle.std.specs.Ordering.{MatchOrdering, nat_cmp}
@@ -13,10 +10,9 @@ use Rattle.std.specs.declared.cmp.Ordering.TheVariants.{Less, Equal, Greater}
 use Rattle.version_rules.specs.declared.ends.Kept.{Kept}
 use Rattle.version_rules.specs.order.Lists.{bytes_cmp}
 use Rattle.version_rules.specs.requirement.Range.{after}
-use Rattle.version_texts.specs.keyed.Keyed.{BeginsKey, PlainKeyed, end_of}
-use Rattle.version_sets.specs.Comparison.{asks_parts, before_star, bytes_of, comparison_ends, ends_with, is_star}
+use Rattle.version_texts.specs.keyed.Keyed.{BeginsKey, PlainKeyed}
+use Rattle.version_sets.specs.Comparison.{asks_parts, before_star, ends_with, is_star}
 use Rattle.version_sets.specs.Ends.{Rise}
-use Rattle.version_sets.specs.Form.{form_bytes, number, places}
 use Rattle.version_sets.specs.declared.read.comparison.Comparison.{Comparison}
 use Rattle.version_rules.specs.declared.ends.Kept.TheVariants as kept
 use Rattle.version_sets.specs.declared.read.comparison.Comparison.TheVariants as comparison
@@ -76,26 +72,6 @@ star_cut text None none = by (before_star text) refl
     by None e = refl
     by (Some front) e = absurd (none front (star_is text front e))
 star_cut text (Some front) whole = sym (ap before_star whole ∙ star_found front.now)
-
--- ---- bytes
-
--- a set by ends of ranges, in turn
-pub form_of : (order : ℕ) (c : Comparison) (version : PlainKeyed) (ends : List End) → ends ≡ comparison_ends c
-    → form_bytes order (ends_with c version)
-    ≡ (order ∷ []) ++ (number (length ends)
-    ++ (flat_map number (places 0 (bytes_of version ends)) ++ concat (bytes_of version ends)))
-unfolding form_bytes
-form_of order c version ends is =
-    ap (λ (kept : List End). form_bytes order (bytes_of version kept)) (sym is)
-    ∙ ap (λ n. order ∷ (number n
-    ++ (flat_map number (places 0 (bytes_of version ends)) ++ concat (bytes_of version ends))))
-    (length-map ends (λ end. end_of end version))
-
--- the set of all
-pub form_all : (order : ℕ)
-    → form_bytes order ([] ∷ []) ≡ (order ∷ []) ++ (number 1 ++ (number 0 ++ []))
-unfolding form_bytes
-form_all order = ap (λ (l : List ℕ). order ∷ (number 1 ++ l)) (append-nil (number 0 ++ []))
 
 -- ---- the ends of a comparison rise
 

@@ -25,7 +25,7 @@ before : (ends : List (List ℕ)) (key : List ℕ) → AllByRecursion (λ end. b
 before [] key all = refl
 before (end ∷ ends) key all = rw all.0 refl
 
-below_all : (low end : List ℕ) (ends : List (List ℕ)) → bytes_cmp low end ≡ Less
+pub below_all : (low end : List ℕ) (ends : List (List ℕ)) → bytes_cmp low end ≡ Less
     → AllByRecursion (λ further. bytes_cmp end further ≡ Less) ends
     → AllByRecursion (λ further. bytes_cmp low further ≡ Less) ends
 below_all low end [] less all = tt

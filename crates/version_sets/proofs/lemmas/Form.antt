@@ -8,7 +8,7 @@ use Rattle.std.proofs.lemmas.Nat.{from_le_bytes-to_le_bytes_8}
 use Rattle.std.specs.Int.{from_le_bytes, w64}
 use Rattle.version_sets.specs.Form.{between, end_at, ends_in, form_bytes, number, over_at, places}
 
-number_length : (n : ℕ) → length (number n) ≡ 8
+pub number_length : (n : ℕ) → length (number n) ≡ 8
 unfolding number
 number_length n = refl
 
@@ -114,6 +114,9 @@ row_length [] = refl
 row_length (n ∷ ns) =
     omega (arith, row_length ns, length-append (number n) (flat_map number ns), number_length n)
 
+pub row_size : (ends : List (List ℕ)) → length (flat_map number (places 0 ends)) ≡ 8 * length ends
+row_size ends = row_length (places 0 ends) ∙ ap (λ n. 8 * n) (places_length 0 ends)
+
 pub form_length : (order : ℕ) (ends : List (List ℕ))
     → length (form_bytes order ends) ≡ 9 + 8 * length ends + length (concat ends)
 unfolding form_bytes number
@@ -121,8 +124,7 @@ form_length order ends =
     let row = flat_map number (places 0 ends) in
     omega (
       arith,
-      row_length (places 0 ends),
-      places_length 0 ends,
+      row_size ends,
       number_length (length ends),
       length-append (number (length ends)) (row ++ concat ends),
       length-append row (concat ends),
@@ -140,8 +142,7 @@ pub are_read : (order first : ℕ) (rest : List ℕ) (ends : List (List ℕ))
 unfolding form_bytes number
 are_read order first rest ends is =
     let row = flat_map number (places 0 ends) in
-    let size : length row ≡ 8 * length ends =
-    row_length (places 0 ends) ∙ ap (λ n. 8 * n) (places_length 0 ends) in
+    let size = row_size ends in
     let rest_is : rest ≡ number (length ends) ++ (row ++ concat ends) = cc is in
     let behind : drop 8 rest ≡ row ++ concat ends =
     ap (drop 8) rest_is ∙ drop-append_seam (number (length ends)) (row ++ concat ends) in (
@@ -218,26 +219,34 @@ module _ (count : ℕ) (row bytes : List ℕ) (place : ℕ) where
 
   module _ (within : place < count) (from over : ℕ) (from_is : from ≡ over_at row place)
       (over_is : over ≡ over_at row (place + 1)) where
-    left_between : (end : List ℕ) → end ≡ between bytes from over
-        → drop place (ends_in count row bytes) ≡ end ∷ drop (place + 1) (ends_in count row bytes)
-    left_between end is =
+    pub left_at : drop place (ends_in count row bytes)
+        ≡ between bytes from over ∷ drop (place + 1) (ends_in count row bytes)
+    left_at =
         let next : place + 1 ≡ suc place = omega arith in
         ends_left_from (end_at row bytes) 0 count place within
         ∙ ap (λ (l : List ℕ). l ∷ drop (place + 1) (ends_in count row bytes))
         (ap (end_at row bytes) (omega arith)
-        ∙ sym (is ∙ (λ i. between bytes (from_is i) ((over_is ∙ ap (over_at row) next) i))))
+        ∙ sym (λ i. between bytes (from_is i) ((over_is ∙ ap (over_at row) next) i)))
 
-    pub left_at : (end : List ℕ) → from ≤ over → over ≤ length bytes
-        → end ≡ take (over - from) (drop from bytes)
-        → drop place (ends_in count row bytes) ≡ end ∷ drop (place + 1) (ends_in count row bytes)
-    left_at end rise fits is =
-        left_between end (is ∙ sym (rw (le-ltb over from rise, le-ltb (length bytes) over fits) refl))
+-- ---- the bytes between two places
 
-    pub empty_at : (over < from) ⊎ (length bytes < over)
-        → drop place (ends_in count row bytes) ≡ [] ∷ drop (place + 1) (ends_in count row bytes)
-    empty_at (inl fall) = left_between [] (rw (lt-ltb over from fall) refl)
-    empty_at (inr past) = left_between [] (sym (by (nat_lt over from)))
-      where
-        by : (b : Bool) → (if b || nat_lt (length bytes) over then [] else take (over - from) (drop from bytes)) ≡ []
-        by true = refl
-        by false = rw (lt-ltb (length bytes) over past) refl
+pub between_is : (bytes : List ℕ) (from over : ℕ) → from ≤ over → over ≤ length bytes
+    → between bytes from over ≡ take (over - from) (drop from bytes)
+between_is bytes from over rise fits = rw (le-ltb over from rise, le-ltb (length bytes) over fits) refl
+
+pub nothing_between : (bytes : List ℕ) (from over : ℕ) → (over < from) ⊎ (length bytes < over)
+    → between bytes from over ≡ between bytes 0 0
+nothing_between bytes from over wrong = by wrong ∙ sym (none (nat_lt 0 0 || nat_lt (length bytes) 0))
+  where
+    none : (b : Bool) → (if b then [] else take (0 - 0) (drop 0 bytes)) ≡ []
+    none true = refl
+    none false = refl
+
+    past : (b : Bool) → nat_lt (length bytes) over ≡ true
+        → (if b || nat_lt (length bytes) over then [] else take (over - from) (drop from bytes)) ≡ []
+    past true behind = refl
+    past false behind = rw behind refl
+
+    by : (over < from) ⊎ (length bytes < over) → between bytes from over ≡ []
+    by (inl fall) = rw (lt-ltb over from fall) refl
+    by (inr behind) = past (nat_lt over from) (lt-ltb (length bytes) over behind)

@@ -1,87 +1,22 @@
 -- Sets one behind another in a room: one more, and one in the place of two.
-use Rattle.std.proofs.Common.{◌≡◌, ◌∙◌, ◌+◌, ◌-◌, ◌*◌, ◌<◌, ◌≤◌, ◌&&◌, ◌||◌, ℕ, Bool, true, false, not, List, [], ◌∷◌, ◌++◌, append_assoc, ap, arith, drop, get_or, length, length-append, refl, set, sym, take}
-use Rattle.std.proofs.Math.Seq.{paste}
-use Rattle.std.proofs.lemmas.List.{drop_at, get_or-set_other, get_or-set_same, take_at}
-use Rattle.std.proofs.lemmas.List.Edits.{take-paste}
-use Rattle.std.specs.List.{concat, copy_within}
-use Rattle.std.specs.declared.cmp.Ordering.{Ordering}
-use Rattle.std.specs.declared.cmp.Ordering.TheVariants.{Less, Equal, Greater}
-use Rattle.version_rules.specs.order.Lists.{bytes_cmp}
-use Rattle.version_texts.specs.key.Sinks.{put_at}
-use Rattle.version_texts.proofs.lemmas.key.Sinks.{put_fits}
+use Rattle.std.proofs.Common.{◌≡◌, ◌∙◌, ◌+◌, ◌-◌, ◌*◌, ◌<◌, ◌≤◌, ◌&&◌, ◌||◌, ℕ, Bool, true, false, List, [], ◌∷◌, ◌++◌, Option, None, Some, append_assoc, ap, arith, get_or, length, length-append, refl, set, subst, sym, take}
+use Rattle.std.proofs.lemmas.List.{get_or-set_other, get_or-set_same, take_at}
+use Rattle.std.specs.List.{concat, flat_map}
+use Rattle.std.specs.Option.{IsSomeAnd}
 use Rattle.version_sets.specs.Ends.{Rise, has}
-use Rattle.version_sets.specs.Form.{form_bytes}
-use Rattle.version_sets.specs.Merge.{kept, merged}
+use Rattle.version_sets.specs.Form.{form_bytes, number, places}
+use Rattle.version_sets.specs.Merge.{merged}
 use Rattle.version_sets.specs.Pile.{Begin, IsPile, all_have, through}
-use Rattle.version_sets.specs.Set.{by_rule}
+use Rattle.version_sets.specs.Set.{both_ends, by_rule, left}
+use Rattle.version_sets.specs.declared.merge.Merge.{Merge}
 use Rattle.version_sets.specs.declared.merge.Rule.{Rule}
 use Rattle.version_sets.specs.declared.merge.Rule.TheVariants.{Both, Either, FirstAlone}
 use Rattle.version_sets.specs.declared.read.pile.Pile.{Pile}
 use Rattle.version_sets.proofs.lemmas.Ends.{are_merged}
 use Rattle.version_sets.proofs.lemmas.Form.{form_length}
+use Rattle.version_sets.proofs.lemmas.Merge.{merged_few, merged_short}
 
 -- ---- how long a merge may be
-
--- the bytes of ends with eight for the place of each
-abbrev weight : List (List ℕ) → ℕ
-weight ends = 8 * length ends + length (concat ends)
-
-weight_more : (end : List ℕ) (ends : List (List ℕ))
-    → weight (end ∷ ends) ≡ 8 + length end + weight ends
-weight_more end ends = omega (arith, length-append end (concat ends))
-
-kept_weight : (now after : Bool) (end : List ℕ) (ends : List (List ℕ))
-    → weight (kept now after end ends) ≤ 8 + length end + weight ends
-kept_weight true true end ends = omega arith
-kept_weight true false end ends = omega (arith, weight_more end ends)
-kept_weight false true end ends = omega (arith, weight_more end ends)
-kept_weight false false end ends = omega arith
-
-merged_weight : (rule : Bool → Bool → Bool) (a b : Bool) (one other : List (List ℕ))
-    → weight (merged rule a b one other) ≤ weight one + weight other
-merged_weight rule a b [] [] = omega arith
-merged_weight rule a b (x ∷ one) [] =
-    omega (
-      arith,
-      kept_weight (rule a b) (rule (not a) b) x (merged rule (not a) b one []),
-      merged_weight rule (not a) b one [],
-      weight_more x one,
-    )
-merged_weight rule a b [] (y ∷ other) =
-    omega (
-      arith,
-      kept_weight (rule a b) (rule a (not b)) y (merged rule a (not b) [] other),
-      merged_weight rule a (not b) [] other,
-      weight_more y other,
-    )
-merged_weight rule a b (x ∷ one) (y ∷ other) = by (bytes_cmp x y) refl
-    (merged_weight rule (not a) b one (y ∷ other)) (merged_weight rule a (not b) (x ∷ one) other)
-    (merged_weight rule (not a) (not b) one other)
-  where
-    by : (o : Ordering) → bytes_cmp x y ≡ o
-        → weight (merged rule (not a) b one (y ∷ other)) ≤ weight one + weight (y ∷ other)
-        → weight (merged rule a (not b) (x ∷ one) other) ≤ weight (x ∷ one) + weight other
-        → weight (merged rule (not a) (not b) one other) ≤ weight one + weight other
-        → weight (merged rule a b (x ∷ one) (y ∷ other)) ≤ weight (x ∷ one) + weight (y ∷ other)
-    by Less e before_y before_x both = rw e (omega (
-      arith,
-      kept_weight (rule a b) (rule (not a) b) x (merged rule (not a) b one (y ∷ other)),
-      before_y,
-      weight_more x one,
-    ))
-    by Greater e before_y before_x both = rw e (omega (
-      arith,
-      kept_weight (rule a b) (rule a (not b)) y (merged rule a (not b) (x ∷ one) other),
-      before_x,
-      weight_more y other,
-    ))
-    by Equal e before_y before_x both = rw e (omega (
-      arith,
-      kept_weight (rule a b) (rule (not a) (not b)) x (merged rule (not a) (not b) one other),
-      both,
-      weight_more x one,
-      weight_more y other,
-    ))
 
 -- what is made of two sets is no longer than both
 pub no_longer : (order : ℕ) (rule : Bool → Bool → Bool) (one other : List (List ℕ))
@@ -93,12 +28,13 @@ no_longer order rule one other =
       form_length order one,
       form_length order other,
       form_length order (merged rule false false one other),
-      merged_weight rule false false one other,
+      merged_few rule false false one other,
+      merged_short rule false false one other,
     )
 
 -- ---- one in the place of two
 
-nothing_alone : (rule : Rule) → by_rule rule false false ≡ false
+pub nothing_alone : (rule : Rule) → by_rule rule false false ≡ false
 nothing_alone Both = refl
 nothing_alone Either = refl
 nothing_alone FirstAlone = refl
@@ -195,38 +131,92 @@ made room after below pile end first_at last first before is other at ends ends_
           (ap (λ (l : List (List ℕ)). has l key) ends_are ∙ are.are key),
     )
 
--- bytes written behind sets, and copied to where the last two of these begin
-pub copied : (sets free bytes after u v : List ℕ) (end first n : ℕ) → length sets ≡ end → sets ≡ u ++ v
-    → first ≡ length u → n ≡ length bytes → length bytes ≤ length free
-    → after ≡ copy_within (sets ++ put_at free 0 bytes) end (end + n) first
-    → take (first + n) after ≡ u ++ bytes
-copied sets free bytes after u v end first n long cut at size fits is =
-    let all = sets ++ put_at free 0 bytes in
-    let behind : drop end all ≡ bytes ++ drop (length bytes) free =
-    drop_at sets (put_at free 0 bytes) end long ∙ put_fits free bytes fits in
-    let front : take first all ≡ u =
-    ap (take first) (ap (λ (l : List ℕ). l ++ put_at free 0 bytes) cut ∙ append_assoc u v (put_at free 0 bytes))
-    ∙ take_at u (v ++ put_at free 0 bytes) first (sym at) in
-    let many : end + n - end ≡ n = omega arith in
-    let enough : n ≤ length (drop end all) =
-    omega (
-      arith,
-      size,
-      ap (λ (l : List ℕ). length l) behind,
-      length-append bytes (drop (length bytes) free),
-    ) in
-    let within : first ≤ length all =
-    omega (
-      arith,
-      at,
-      ap (λ (l : List ℕ). length l) cut,
-      length-append u v,
-      length-append sets (put_at free 0 bytes),
-    ) in
-    ap (take (first + n)) (is ∙ ap (paste all first (drop end all)) many)
-    ∙ take-paste all first (drop end all) n within enough
-    ∙ (λ i. front i ++ take n (behind i))
-    ∙ ap (λ (l : List ℕ). u ++ l) (take_at bytes (drop (length bytes) free) n (sym size))
+-- a set in three pieces behind some bytes
+pub through_pieces : (order : ℕ) (ends : List (List ℕ)) (front behind free : List ℕ) (n : ℕ)
+    → n ≡ length front + length (form_bytes order ends)
+    → take n ((front ++ ((order ∷ number (length ends)) ++ (flat_map number (places 0 ends) ++ (concat ends ++ behind)))) ++ free)
+    ≡ front ++ form_bytes order ends
+unfolding form_bytes
+through_pieces order ends front behind free n size =
+    let form = form_bytes order ends in
+    let count = number (length ends) in
+    let row = flat_map number (places 0 ends) in
+    let pieces : (order ∷ count) ++ (row ++ (concat ends ++ behind)) ≡ form ++ behind =
+    ap (λ (l : List ℕ). order ∷ l) (ap (λ (l : List ℕ). count ++ l) (sym (append_assoc row (concat ends) behind))
+    ∙ sym (append_assoc count (row ++ concat ends) behind)) in
+    ap (λ (l : List ℕ). take n ((front ++ l) ++ free)) pieces
+    ∙ ap (λ (l : List ℕ). take n (l ++ free)) (sym (append_assoc front form behind))
+    ∙ ap (take n) (append_assoc (front ++ form) behind free)
+    ∙ take_at (front ++ form) (behind ++ free) n (omega (arith, size, length-append front form))
+
+then_also : {T : Type 0} {P Q : T → Type 0} (result : Option T) → IsSomeAnd result P → ((x : T) → P x → Q x)
+    → IsSomeAnd result Q
+then_also None some also = some
+then_also (Some x) is also = also x is
+
+-- What the last two sets of a pile are, of which a rule makes others from a place on.
+pub record AreTwo (room below : List ℕ) (pile : Pile) (end first_at : ℕ) (sets : List (List (List ℕ)))
+    (merge : Merge) : Type 0 where
+  pub two : IsOfTwo room below pile end sets
+  pub are : IsPile room below pile end (two.last ∷ two.first ∷ two.before)
+  pub at : first_at ≡ length (through pile.order below two.before)
+  pub merged_are : left merge ≡ merged (by_rule pile.rule) false false two.first two.last
+  pub both_are : both_ends merge ≡ length two.first + length two.last
+
+module _ (room below : List ℕ) (pile : Pile) (end : ℕ) (sets : List (List (List ℕ))) where
+  pub are_two : (front : List ℕ) (result : Option (ℕ × Merge)) → IsPile room below pile end sets → 1 < pile.depth
+      → front ≡ take end room
+      → ((below : List ℕ) (last first : List (List ℕ)) (before : List (List (List ℕ)))
+      → front ≡ through pile.order below (last ∷ first ∷ before)
+      → Begin pile.order below pile.starts (pile.depth - 1 + 1) (last ∷ first ∷ before)
+      → IsSomeAnd result (λ two. (two.0 ≡ length (through pile.order below before))
+      × (left two.1 ≡ merged (by_rule pile.rule) false false first last)
+      × (both_ends two.1 ≡ length first + length last)))
+      → IsSomeAnd result (λ two. AreTwo room below pile end two.0 sets two.1)
+  are_two front result is deep whole told =
+      let two = of_two room below pile end sets is deep in
+      let are = subst (IsPile room below pile end) two.sets_are is in
+      then_also result (told below two.last two.first two.before (whole ∙ are.bytes)
+      (subst (λ n. Begin pile.order below pile.starts n (two.last ∷ two.first ∷ two.before)) (omega (arith, deep))
+      are.begin)) (λ found is.
+      record { two = two; are = are; at = is.0; merged_are = is.1; both_are = is.2 })
+
+  module _ (first_at : ℕ) (merge : Merge) (is : AreTwo room below pile end first_at sets merge) where
+    -- what is made has room in their place, and behind them
+    pub in_place : length (form_bytes pile.order (left merge)) ≤ end - first_at
+    in_place =
+        omega (
+          arith,
+          ap (λ (ends : List (List ℕ)). length (form_bytes pile.order ends)) is.merged_are,
+          no_longer pile.order (by_rule pile.rule) is.two.first is.two.last,
+          is.are.size,
+          is.at,
+          length-append (through pile.order below (is.two.first ∷ is.two.before)) (form_bytes pile.order is.two.last),
+          length-append (through pile.order below is.two.before) (form_bytes pile.order is.two.first),
+        )
+
+    pub behind_them : 8 * both_ends merge + length (concat (left merge)) ≤ end
+    behind_them =
+        omega (
+          arith,
+          ap (λ (ends : List (List ℕ)). length (concat ends)) is.merged_are,
+          merged_short (by_rule pile.rule) false false is.two.first is.two.last,
+          is.both_are,
+          is.are.size,
+          length-append (through pile.order below (is.two.first ∷ is.two.before)) (form_bytes pile.order is.two.last),
+          length-append (through pile.order below is.two.before) (form_bytes pile.order is.two.first),
+          form_length pile.order is.two.first,
+          form_length pile.order is.two.last,
+        )
+
+    pub few_enough : length (left merge) ≤ both_ends merge
+    few_enough =
+        omega (
+          arith,
+          ap (λ (ends : List (List ℕ)). length ends) is.merged_are,
+          merged_few (by_rule pile.rule) false false is.two.first is.two.last,
+          is.both_are,
+        )
 
 -- one set more
 begin_set : (order : ℕ) (below starts : List ℕ) (depth place start : ℕ) (sets : List (List (List ℕ)))

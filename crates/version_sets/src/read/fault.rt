@@ -1,5 +1,8 @@
 //! Why a text is no set, and where.
 
+ghost use Rattle.std.specs.Prelude.{◌≡◌};
+ghost use Rattle.version_sets.specs.Reason.{reason_text};
+
 use version_texts::Slip;
 
 /// Why a text is no set.
@@ -23,6 +26,29 @@ pub enum Reason {
     NoParts,
     /// The version may have been meant as something else.
     Slip(Slip),
+}
+
+impl Reason {
+    /// Returns what is said of the text, and what to write: a sentence in English without a full stop.
+    pub fn text(self) -> &'static str
+        ensures { result.now ≡ reason_text self }
+    {
+        match self {
+            Reason::NoMember => "a member is missing: * has all versions",
+            Reason::NoVersion => "a version is missing behind the operator",
+            Reason::NoOperator => "an operator is missing: write = or ^ before the version",
+            Reason::OneBar => "one bar stands alone: write || between alternatives",
+            Reason::NotVersion => "what follows the operator is not a version",
+            Reason::StarBehind => ".* stands after =, == and != alone: cut it off",
+            Reason::NotBare =>
+                ".* stands behind an epoch and parts alone: cut off what follows these",
+            Reason::NoParts => "versions of this scheme have no parts, which ~, ^ and .* ask for",
+            Reason::Slip(Slip::LetterV) => "the version begins with v: cut it off",
+            Reason::Slip(Slip::PartX) =>
+                "the version has a part x: write =1.* for what begins with 1",
+            Reason::Slip(Slip::NoDigit) => "the version has no digit",
+        }
+    }
 }
 
 /// Where the first wrong piece of a text begins, in bytes from 0, and why it is wrong.

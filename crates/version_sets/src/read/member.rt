@@ -1,19 +1,20 @@
 //! Members with a version: the version that is asked for, and the set that they are by themselves.
 
-ghost use Rattle.std.specs.Prelude.{◌≡◌, ◌+◌, ◌*◌, ◌<◌, ◌≤◌, ◌^◌, ◌∷◌, [], length};
+ghost use Rattle.std.specs.Prelude.{◌≡◌, ◌+◌, ◌*◌, ◌≤◌, ◌∷◌, [], length, ℕ};
 ghost use Rattle.std.specs.List.{concat, flat_map};
 ghost use Rattle.std.specs.Option.{option_map};
 ghost use Rattle.version_sets.specs.Comparison.{before_star, bytes_of, ends_with};
 ghost use Rattle.version_sets.specs.Form.{form_bytes, number, places};
 ghost use Rattle.version_sets.specs.Reading.{asked, plain_asked, with_version};
-ghost use Rattle.version_texts.specs.key.Sinks.{put_at, saturated};
+ghost use Rattle.version_sets.specs.declared.read.comparison.Comparison.TheVariants.{Equal};
+ghost use Rattle.version_texts.specs.key.Sinks.{put_at, saturated, IsWritten};
 ghost use Rattle.version_texts.specs.keyed.Keyed.{end_of};
 
 use crate::read::comparison::Comparison;
 use crate::read::fault::Reason;
-use crate::write::put_number;
+use crate::write::{number, write_at, write_head};
 use version_rules::End;
-use version_texts::{Count, Keyed, Room, Sink};
+use version_texts::{Count, Keyed, Room};
 
 // Returns a comparison with the text of its version, behind which `.*` may stand, or why there is none.
 pub(crate) fn asked<'t, V: Keyed<'t>>(
@@ -22,10 +23,11 @@ pub(crate) fn asked<'t, V: Keyed<'t>>(
 ) -> Result<(Comparison, V), Reason>
     ensures { plain_asked V.plain result ≡ asked V.read_as V.parts comparison text.now }
 {
-    match before_star(text) {
-        Some(front) => with_version(comparison.starred().ok_or(Reason::StarBehind)?, front),
-        None => with_version(comparison, text),
-    }
+    let (comparison, text) = match before_star(text) {
+        Some(front) => (comparison.starred().ok_or(Reason::StarBehind)?, front),
+        None => (comparison, text),
+    };
+    with_version(comparison, text)
 }
 
 // Returns what stands before `.*` at the end of a text, or None without it.
@@ -36,6 +38,7 @@ fn before_star(text: &[u8]) -> Option<&[u8]>
 }
 
 // Returns a comparison with the version that a text is, or why there is none.
+#[inline(always)]
 fn with_version<'t, V: Keyed<'t>>(
     comparison: Comparison,
     text: &'t [u8],
@@ -62,13 +65,76 @@ pub(crate) fn write_member<'t, V: Keyed<'t>>(
     room: &mut [u8],
     start: usize,
 ) -> usize
-    requires { 2 * (start + length (form_bytes order (ends_with member.0 (V.plain member.1))))
-        ≤ length room.old }
+    requires { start + length (form_bytes order (ends_with member.0 (V.plain member.1))) ≤ length room.old }
     ensures bytes { room.new ≡ put_at room.old start (form_bytes order (ends_with member.0 (V.plain member.1))) }
     ensures end { result ≡ start + length (form_bytes order (ends_with member.0 (V.plain member.1))) }
 {
+    let ends = member.0.ends();
+    let (_, rest) = room.split_at_mut(start);
+    let (head, rest) = rest.split_at_mut(9);
+    let (numbers, rest) = rest.split_at_mut(8 * ends.len());
+    write_head(head, order, ends.len());
+    start + 9 + 8 * ends.len() + write_ends(member.1, ends, numbers, rest)
+}
+
+/// Writes the set of what ties with a version of an order into a buffer, with a number for the order, if it fits there.
+/// The version may be any one: of a value that is given none is a slip. Returns how many bytes the set has. Does not
+/// allocate.
+pub fn write_tied<'t, V: Keyed<'t>>(order: u8, version: V, room: &mut [u8]) -> usize
+    ensures length { result ≡ saturated (length (form_bytes order (ends_with Equal (V.plain version)))) }
+    ensures bytes { IsWritten room.old 0 (form_bytes order (ends_with Equal (V.plain version))) room.new }
+{
+    let length = tied_length(version);
+    if length <= room.len() {
+        write_member(order, (Comparison::Equal, version), room, 0);
+    }
+    length
+}
+
+// Returns how many bytes the set of what ties with a version has.
+fn tied_length<'t, V: Keyed<'t>>(version: V) -> usize
+    ensures { (order : ℕ) → result ≡ saturated (length (form_bytes order (ends_with Equal (V.plain version)))) }
+{
+    let mut count = Count { length: 25 };
+    version.put_end(End::Key, &mut count);
+    version.put_end(End::AfterKey, &mut count);
+    count.length()
+}
+
+// Writes the ends of a version, one behind another, and apart from them where each is over. Returns how many bytes they
+// have.
+fn write_ends<'t, V: Keyed<'t>>(
+    version: V,
+    ends: &[End],
+    numbers: &mut [u8],
+    bytes: &mut [u8],
+) -> usize
+    requires numbers { length numbers.old ≡ 8 * length ends.now }
+    requires bytes { length (concat (bytes_of (V.plain version) ends.now)) ≤ length bytes.old }
+    ensures numbers { numbers.new ≡ flat_map number (places 0 (bytes_of (V.plain version) ends.now)) }
+    ensures bytes { bytes.new ≡ put_at bytes.old 0 (concat (bytes_of (V.plain version) ends.now)) }
+    ensures length { result ≡ length (concat (bytes_of (V.plain version) ends.now)) }
+{
+    let mut left = ends;
+    let (mut place, mut over) = (0, 0);
+    while let Some((end, rest)) = left.split_first() {
+        over = write_end(version, *end, bytes, over);
+        write_at(numbers, place, &number(over));
+        place += 8;
+        left = rest;
+    }
+    over
+}
+
+// Writes an end of a version into a buffer from a place on, and returns the place after it.
+#[inline(always)]
+fn write_end<'t, V: Keyed<'t>>(version: V, end: End, room: &mut [u8], start: usize) -> usize
+    requires { start + length (end_of end (V.plain version)) ≤ length room.old }
+    ensures bytes { room.new ≡ put_at room.old start (end_of end (V.plain version)) }
+    ensures end { result ≡ start + length (end_of end (V.plain version)) }
+{
     let mut sink = Room { room, end: start };
-    put_member(&mut sink, order, member);
+    version.put_end(end, &mut sink);
     sink.end
 }
 
@@ -78,67 +144,10 @@ pub(crate) fn write_all(order: u8, room: &mut [u8], start: usize) -> usize
     ensures bytes { room.new ≡ put_at room.old start (form_bytes order ([] ∷ [])) }
     ensures end { result ≡ start + length (form_bytes order ([] ∷ [])) }
 {
-    let mut sink = Room { room, end: start };
-    put_all(&mut sink, order);
-    sink.end
-}
-
-// Writes the set of a comparison with a version.
-fn put_member<'t, V: Keyed<'t>, S: Sink>(sink: &mut S, order: u8, member: (Comparison, V))
-    requires small { length (concat (ends_with member.0 (V.plain member.1))) < 2 ^ 63 }
-    requires fits { S.fits sink.old (form_bytes order (ends_with member.0 (V.plain member.1))) }
-    ensures { S.takes sink.old (form_bytes order (ends_with member.0 (V.plain member.1))) sink.new }
-{
-    let ends = member.0.ends();
-    sink.put(order);
-    put_number(sink, ends.len());
-    put_places(sink, member.1, ends);
-    put_bytes(sink, member.1, ends);
-}
-
-// Writes where each end is over among the bytes of all.
-fn put_places<'t, V: Keyed<'t>, S: Sink>(sink: &mut S, version: V, ends: &[End])
-    requires small { length (concat (bytes_of (V.plain version) ends.now)) < 2 ^ 63 }
-    requires fits { S.fits sink.old (flat_map number (places 0 (bytes_of (V.plain version) ends.now))) }
-    ensures { S.takes sink.old (flat_map number (places 0 (bytes_of (V.plain version) ends.now)))
-        sink.new }
-{
-    let mut left = ends;
-    let mut over = 0;
-    while let Some((end, rest)) = left.split_first() {
-        over += length_of(version, *end);
-        put_number(sink, over);
-        left = rest;
-    }
-}
-
-// Writes the bytes of all ends.
-fn put_bytes<'t, V: Keyed<'t>, S: Sink>(sink: &mut S, version: V, ends: &[End])
-    requires { S.fits sink.old (concat (bytes_of (V.plain version) ends.now)) }
-    ensures { S.takes sink.old (concat (bytes_of (V.plain version) ends.now)) sink.new }
-{
-    let mut left = ends;
-    while let Some((end, rest)) = left.split_first() {
-        version.put_end(*end, sink);
-        left = rest;
-    }
-}
-
-// Returns how many bytes an end has.
-fn length_of<'t, V: Keyed<'t>>(version: V, end: End) -> usize
-    ensures { result ≡ saturated (length (end_of end (V.plain version))) }
-{
-    let mut count = Count { length: 0 };
-    version.put_end(end, &mut count);
-    count.length()
-}
-
-// Writes the set that has all keys.
-fn put_all<S: Sink>(sink: &mut S, order: u8)
-    requires { S.fits sink.old (form_bytes order ([] ∷ [])) }
-    ensures { S.takes sink.old (form_bytes order ([] ∷ [])) sink.new }
-{
-    sink.put(order);
-    put_number(sink, 1);
-    put_number(sink, 0);
+    let (_, rest) = room.split_at_mut(start);
+    let (head, rest) = rest.split_at_mut(9);
+    let (numbers, _) = rest.split_at_mut(8);
+    write_head(head, order, 1);
+    numbers.copy_from_slice(&number(0));
+    start + 17
 }

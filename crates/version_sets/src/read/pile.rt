@@ -7,15 +7,15 @@ ghost use Rattle.version_sets.specs.Ends.{Rise};
 ghost use Rattle.version_sets.specs.Form.{form_bytes};
 ghost use Rattle.version_sets.specs.Merge.{merged};
 ghost use Rattle.version_sets.specs.Pile.{all_have, through, Begin, IsPile, Kept};
-ghost use Rattle.version_sets.specs.Set.{by_rule, ends_of, left};
+ghost use Rattle.version_sets.specs.Set.{both_ends, by_rule, ends_of, left};
 ghost use Rattle.version_sets.specs.declared.merge.Rule.TheVariants.{FirstAlone};
 
 use crate::form::Form;
 use crate::merge::{Merge, Rule};
-use crate::write::write_merge;
+use crate::write::{write_ends, write_head};
 
-// More sets than these of different numbers of members fit into no room.
-const DEPTH: usize = 64;
+// So many sets, each of twice as many members as the next, have sixteen million. A full pile is merged too.
+const DEPTH: usize = 24;
 
 /// The sets of a pile, by where each begins in the room.
 #[derive(Clone, Copy)]
@@ -43,10 +43,19 @@ impl Pile {
         }
     }
 
+    // Drops all sets.
+    pub fn clear(&mut self)
+        ensures depth { self.new.depth ≡ 0 }
+        ensures same { (self.new.order ≡ self.old.order) × (self.new.rule ≡ self.old.rule) }
+    {
+        self.depth = 0;
+        self.members = 0;
+    }
+
     // Takes the set that lies in the room from a place on, and makes one of each two that have as many members. Returns
     // where the pile ends.
     pub fn push(&mut self, room: &mut [u8], start: usize, end: usize) -> usize
-        requires depth { self.old.depth < 64 }
+        requires depth { self.old.depth < 24 }
         requires room { 2 * end ≤ length room.old }
         requires rule { ¬ (self.old.rule ≡ FirstAlone) }
         ensures sets { (below : List ℕ) (sets : List (List (List ℕ))) (ends : List (List ℕ))
@@ -55,7 +64,7 @@ impl Pile {
             → end ≡ start + length (form_bytes self.old.order ends)
             → (left : List (List (List ℕ))) × IsPile room.new below self.new result left
             × ((key : List ℕ) → all_have self.old.rule left key ≡ all_have self.old.rule (ends ∷ sets) key) }
-        ensures depth { self.new.depth < 64 }
+        ensures depth { self.new.depth < 24 }
         ensures some { 1 ≤ self.new.depth }
         ensures end { result ≤ end }
         ensures same { (self.new.order ≡ self.old.order) × (self.new.rule ≡ self.old.rule)
@@ -74,14 +83,14 @@ impl Pile {
     // Whether the last two sets stand for as many members each, as how many there are tells; or the pile is full.
     fn is_due(&self, members: u64) -> bool
         ensures yes { result ≡ true → 1 < self.now.depth }
-        ensures no { result ≡ false → self.now.depth ≤ 64 → self.now.depth < 64 }
+        ensures no { result ≡ false → self.now.depth ≤ 24 → self.now.depth < 24 }
     {
         self.depth > 1 && (members % 2 == 0 || self.depth == DEPTH)
     }
 
     // Takes the place where a set begins.
     fn begin(&mut self, start: usize)
-        requires { self.old.depth < 64 }
+        requires { self.old.depth < 24 }
         ensures within { self.old.depth < length self.old.starts }
         ensures new { (members : ℕ) × (self.new ≡ record {
           order = self.old.order;
@@ -130,12 +139,24 @@ impl Pile {
         let Some((first, merge)) = self.last_two(sets) else {
             return end;
         };
-        let length = write_merge(self.order, merge, free);
-        if length > end - first {
+        let Some((numbers, ends)) = free.split_at_mut_checked(merge.most_numbers()) else {
+            return end;
+        };
+        let Some((count, length)) = write_ends(merge, numbers, ends) else {
+            return end;
+        };
+        let whole = 9 + 8 * count + length;
+        if whole > end - first {
             return end;
         }
-        room.copy_within(end..end + length, first);
-        first + length
+        let (_, place) = sets.split_at_mut(first);
+        let (head, rest) = place.split_at_mut(9);
+        write_head(head, self.order, count);
+        let (front, rest) = rest.split_at_mut(8 * count);
+        front.copy_from_slice(&numbers[..8 * count]);
+        let (bytes, _) = rest.split_at_mut(length);
+        bytes.copy_from_slice(&ends[..length]);
+        first + whole
     }
 
     // Returns where the last two sets begin, of which the last is out of the pile already, and what the rule makes of
@@ -146,7 +167,8 @@ impl Pile {
             → sets.now ≡ through self.now.order below (last ∷ first ∷ before)
             → Begin self.now.order below self.now.starts (self.now.depth + 1) (last ∷ first ∷ before)
             → IsSomeAnd result (λ two. (two.0 ≡ length (through self.now.order below before))
-            × (left two.1 ≡ merged (by_rule self.now.rule) false false first last)) }
+            × (left two.1 ≡ merged (by_rule self.now.rule) false false first last)
+            × (both_ends two.1 ≡ length first + length last)) }
     {
         let first = self.start(self.depth.saturating_sub(1));
         let second = self.start(self.depth);

@@ -130,7 +130,7 @@ impl Reader {
         let end = self.members.collapse(room, self.end);
         self.end = self.alternatives.push(room, self.start, end);
         self.start = self.end;
-        self.members = Pile::new(self.order, Rule::Both);
+        self.members.clear();
     }
 
     // Ends the last alternative, makes one set of all, and returns how many bytes it has.

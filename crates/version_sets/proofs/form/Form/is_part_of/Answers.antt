@@ -16,12 +16,12 @@ outside false other some = cc some
 
 pub returns-clause-yes : goal.returns-clause-yes
 returns-clause-yes c is rise rise_too key =
-    let none = ap (λ ends. length ends == 0) (sym c.of.ensures) ∙ sym c.is_empty.ensures ∙ is in
+    let none = ap (λ ends. length ends == 0) (sym c.of.ensures.left) ∙ sym c.is_empty.ensures ∙ is in
     within _ _ (none_in (by_rule FirstAlone) refl _ _ rise rise_too none key)
 
 pub returns-clause-no : goal.returns-clause-no
 returns-clause-no c is rise rise_too =
-    let some = ap (λ ends. length ends == 0) (sym c.of.ensures) ∙ sym c.is_empty.ensures ∙ is in
+    let some = ap (λ ends. length ends == 0) (sym c.of.ensures.left) ∙ sym c.is_empty.ensures ∙ is in
     let found = some_in (by_rule FirstAlone) refl _ _ rise rise_too some in
     let sides = outside _ _ found.1 in
     (found.0, sides.0, sides.1)

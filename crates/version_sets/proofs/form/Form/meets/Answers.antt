@@ -16,12 +16,12 @@ both false other some = cc some
 
 pub returns-clause-yes : goal.returns-clause-yes
 returns-clause-yes c is rise rise_too =
-    let some = ap (λ ends. length ends == 0) (sym c.of.ensures) ∙ sym c.is_empty.ensures ∙ not_true _ is in
+    let some = ap (λ ends. length ends == 0) (sym c.of.ensures.left) ∙ sym c.is_empty.ensures ∙ not_true _ is in
     let found = some_in (by_rule Both) refl _ _ rise rise_too some in
     let sides = both _ _ found.1 in
     (found.0, sides.0, sides.1)
 
 pub returns-clause-no : goal.returns-clause-no
 returns-clause-no c is rise rise_too key =
-    let none = ap (λ ends. length ends == 0) (sym c.of.ensures) ∙ sym c.is_empty.ensures ∙ not_false _ is in
+    let none = ap (λ ends. length ends == 0) (sym c.of.ensures.left) ∙ sym c.is_empty.ensures ∙ not_false _ is in
     apart _ _ (none_in (by_rule Both) refl _ _ rise rise_too none key)

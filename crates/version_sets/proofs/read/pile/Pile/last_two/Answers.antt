@@ -1,4 +1,4 @@
-use Rattle.std.proofs.Common.{◌≡◌, ◌∙◌, ◌∷◌, ◌++◌, List, [], append-nil, append_assoc, ap, arith, false, get_or, length, length-append, sym, ℕ}
+use Rattle.std.proofs.Common.{◌≡◌, ◌∙◌, ◌+◌, ◌∷◌, ◌++◌, List, [], append-nil, append_assoc, ap, arith, false, get_or, length, length-append, sym, ℕ}
 use Rattle.std.specs.Option.{IsSomeAnd}
 use Rattle.version_sets.specs.Form.{form_bytes}
 use Rattle.version_sets.specs.Merge.{merged}
@@ -58,5 +58,8 @@ returns-clause-two c below last first before bytes begin =
       length-append (through order below before) (form_bytes order first),
     )) in
     let one_is : ends_of c.in_ok-one.one ≡ first = rw c.in_ok-one.was at one in
-    let other_is : ends_of c.in_ok-other.other ≡ last = rw c.in_ok-other.was at other in
-    (first_is, c.of.ensures ∙ λ i. merged (by_rule pile.rule) false false (one_is i) (other_is i))
+    let other_is : ends_of c.in_ok-other.other ≡ last = rw c.in_ok-other.was at other in (
+      first_is,
+      c.of.ensures.left ∙ (λ i. merged (by_rule pile.rule) false false (one_is i) (other_is i)),
+      c.of.ensures.ends ∙ (λ i. length (one_is i) + length (other_is i)),
+    )

@@ -1,81 +1,115 @@
-use Rattle.std.proofs.Common.{◌≡◌, ◌∙◌, ◌+◌, ◌-◌, ◌≤◌, ◌∷◌, ◌++◌, List, append_assoc, ap, arith, length, length-append, subst, ℕ}
-use Rattle.version_sets.specs.Form.{form_bytes}
-use Rattle.version_sets.specs.Pile.{Begin, IsPile, through}
-use Rattle.version_sets.specs.Set.{by_rule, left}
-use Rattle.version_sets.proofs.lemmas.Pile.{copied, made, no_longer, of_two}
+use Rattle.std.proofs.Common.{◌≡◌, ◌∙◌, ◌+◌, ◌*◌, ◌≤◌, ◌∷◌, ◌++◌, List, append_assoc, ap, arith, drop, length, sym, take, ℕ}
+use Rattle.std.specs.List.{concat, flat_map}
+use Rattle.std.proofs.lemmas.Bool.{true≢false}
+use Rattle.std.proofs.lemmas.List.{take_at}
+use Rattle.version_texts.specs.key.Sinks.{put_at}
+use Rattle.version_texts.proofs.lemmas.key.Sinks.{put_fits}
+use Rattle.version_sets.specs.Form.{form_bytes, number, places}
+use Rattle.version_sets.specs.Pile.{through}
+use Rattle.version_sets.specs.Set.{left}
+use Rattle.version_sets.proofs.lemmas.Form.{form_length, row_size}
+use Rattle.version_sets.proofs.lemmas.Pile.{are_two, behind_them, few_enough, in_place, made, through_pieces}
 use Rattle.version_sets.proofs.read.pile.Pile.merge.Goals as goal
+
+-- bytes written at the beginning of a buffer
+written : (room bytes : List ℕ) (n : ℕ) (after : List ℕ) → after ≡ put_at room 0 bytes → length bytes ≤ length room
+    → n ≡ length bytes → take n after ≡ bytes
+written room bytes n after is fits size =
+    ap (take n) (is ∙ put_fits room bytes fits) ∙ take_at bytes (drop (length bytes) room) n (sym size)
 
 pub returns-in_default-clause-kept : goal.returns-in_default-clause-kept
 returns-in_default-clause-kept c below sets is =
-    let pile = c.args.self.now in
-    let two = of_two c.args.room.now below pile c.args.end sets is c.requires.depth in
-    let is_two = subst (IsPile c.args.room.now below pile c.args.end) two.sets_are is in
-    let begin : Begin pile.order below pile.starts (pile.depth - 1 + 1) (two.last ∷ two.first ∷ two.before) =
-    subst (λ n. Begin pile.order below pile.starts n (two.last ∷ two.first ∷ two.before))
-    (omega (arith, c.requires.depth)) is_two.begin in
     absurd (rw c.in_default.is at
-    (c.last_two.ensures.two below two.last two.first two.before
-    (c.split_at_mut-sets.ensures.front ∙ is_two.bytes) begin))
+    (are_two c.args.room.now below c.args.self.now c.args.end sets c.split_at_mut-sets.result.0.now c.last_two.result
+    is c.requires.depth c.split_at_mut-sets.ensures.front c.last_two.ensures.two))
 
-pub returns-then-length-end-clause-kept : goal.returns-then-length-end-clause-kept
-returns-then-length-end-clause-kept c below sets is =
-    let pile = c.args.self.now in
-    let order = pile.order in
-    let two = of_two c.args.room.now below pile c.args.end sets is c.requires.depth in
-    let is_two = subst (IsPile c.args.room.now below pile c.args.end) two.sets_are is in
-    let begin : Begin order below pile.starts (pile.depth - 1 + 1) (two.last ∷ two.first ∷ two.before) =
-    subst (λ n. Begin order below pile.starts n (two.last ∷ two.first ∷ two.before))
-    (omega (arith, c.requires.depth)) is_two.begin in
-    let found = rw c.in-Some.is at
-    (c.last_two.ensures.two below two.last two.first two.before
-    (c.split_at_mut-sets.ensures.front ∙ is_two.bytes) begin) in
+pub returns-in_default-split_at_mut_checked-clause-kept : goal.returns-in_default-split_at_mut_checked-clause-kept
+returns-in_default-split_at_mut_checked-clause-kept c below sets is =
+    let two = rw c.in-Some.is at
+    (are_two c.args.room.now below c.args.self.now c.args.end sets c.split_at_mut-sets.result.0.now c.last_two.result
+    is c.requires.depth c.split_at_mut-sets.ensures.front c.last_two.ensures.two) in
+    let small = c.in_default-split_at_mut_checked.ensures.cases in
     absurd (omega (
       arith,
-      c.if-length-end.true,
-      c.write_merge-length.ensures.length,
-      ap (λ (ends : List (List ℕ)). length (form_bytes order ends)) found.1,
-      no_longer order (by_rule pile.rule) two.first two.last,
-      is_two.size,
-      found.0,
-      length-append (through order below (two.first ∷ two.before)) (form_bytes order two.last),
-      length-append (through order below two.before) (form_bytes order two.first),
+      small,
+      behind_them _ below _ _ sets _ _ two,
+      c.most_numbers.ensures,
+      c.requires.room,
+      c.split_at_mut-sets.ensures.back_len,
+    ))
+
+pub returns-in_default-write_ends-clause-kept : goal.returns-in_default-write_ends-clause-kept
+returns-in_default-write_ends-clause-kept c below sets is =
+    let two = rw c.in-Some.is at
+    (are_two c.args.room.now below c.args.self.now c.args.end sets c.split_at_mut-sets.result.0.now c.last_two.result
+    is c.requires.depth c.split_at_mut-sets.ensures.front c.last_two.ensures.two) in
+    let split = c.in-Some-split_at_mut_checked.ensures.cases in
+    absurd (true≢false (sym (c.in_default-write_ends.ensures.some
+    (omega (arith, few_enough _ below _ _ sets _ _ two, c.most_numbers.ensures, split.1))
+    (omega (
+      arith,
+      behind_them _ below _ _ sets _ _ two,
+      c.most_numbers.ensures,
+      c.requires.room,
+      c.split_at_mut-sets.ensures.back_len,
+      split.4,
+    )))))
+
+pub returns-then-whole-end-clause-kept : goal.returns-then-whole-end-clause-kept
+returns-then-whole-end-clause-kept c below sets is =
+    let two = rw c.in-Some.is at
+    (are_two c.args.room.now below c.args.self.now c.args.end sets c.split_at_mut-sets.result.0.now c.last_two.result
+    is c.requires.depth c.split_at_mut-sets.ensures.front c.last_two.ensures.two) in
+    absurd (omega (
+      arith,
+      c.if-whole-end.true,
+      in_place _ below _ _ sets _ _ two,
+      form_length c.args.self.now.order (left c.in-Some.merge),
+      c.in-Some-write_ends.ensures.count,
+      c.in-Some-write_ends.ensures.length,
     ))
 
 pub returns-clause-kept : goal.returns-clause-kept
 returns-clause-kept c below sets is =
     let pile = c.args.self.now in
-    let order = pile.order in
-    let two = of_two c.args.room.now below pile c.args.end sets is c.requires.depth in
-    let is_two = subst (IsPile c.args.room.now below pile c.args.end) two.sets_are is in
-    let begin : Begin order below pile.starts (pile.depth - 1 + 1) (two.last ∷ two.first ∷ two.before) =
-    subst (λ n. Begin order below pile.starts n (two.last ∷ two.first ∷ two.before))
-    (omega (arith, c.requires.depth)) is_two.begin in
-    let bytes = c.split_at_mut-sets.ensures.front ∙ is_two.bytes in
-    let found = rw c.in-Some.is at
-    (c.last_two.ensures.two below two.last two.first two.before bytes begin) in
+    let two = rw c.in-Some.is at
+    (are_two c.args.room.now below pile c.args.end sets c.split_at_mut-sets.result.0.now c.last_two.result
+    is c.requires.depth c.split_at_mut-sets.ensures.front c.last_two.ensures.two) in
     let ends = left c.in-Some.merge in
-    let form = form_bytes order ends in
-    let front = through order below two.before in
-    let behind = form_bytes order two.first ++ form_bytes order two.last in
-    let short : length form ≤ c.args.end - c.in-Some.first =
-    omega (
+    let count = c.in-Some-write_ends.ensures.count in
+    let size : 9 + 8 * c.in-Some-write_ends.count + c.in-Some-write_ends.length ≡ length (form_bytes pile.order ends) =
+    omega (arith, form_length pile.order ends, count, c.in-Some-write_ends.ensures.length) in
+    let row = flat_map number (places 0 ends) in
+    let split = c.in-Some-split_at_mut_checked.ensures.cases in
+    let before = through pile.order below two.two.before in
+    let front = c.split_at_mut-place.ensures.front
+    ∙ ap (take c.in-Some.first) (c.split_at_mut-sets.ensures.front ∙ two.are.bytes
+    ∙ append_assoc before (form_bytes pile.order two.two.first) (form_bytes pile.order two.two.last))
+    ∙ take_at before (form_bytes pile.order two.two.first ++ form_bytes pile.order two.two.last) c.in-Some.first
+    (sym two.at) in
+    let head = c.write_head.ensures ∙ ap (λ n. pile.order ∷ number n) count in
+    let numbers = c.copy_from_slice.ensures.after
+    ∙ written c.in-Some-split_at_mut_checked.numbers.now row (8 * c.in-Some-write_ends.count)
+    c.write_ends.new.numbers c.in-Some-write_ends.ensures.numbers
+    (omega (arith, few_enough _ below _ _ sets _ _ two, c.most_numbers.ensures, split.1, row_size ends))
+    (omega (arith, count, row_size ends)) in
+    let bytes = c.copy_from_slice-2.ensures.after
+    ∙ written c.in-Some-split_at_mut_checked.ends.now (concat ends) c.in-Some-write_ends.length
+    c.write_ends.new.ends c.in-Some-write_ends.ensures.ends
+    (omega (
       arith,
-      ap (λ (ends : List (List ℕ)). length (form_bytes order ends)) found.1,
-      no_longer order (by_rule pile.rule) two.first two.last,
-      is_two.size,
-      found.0,
-      length-append (through order below (two.first ∷ two.before)) (form_bytes order two.last),
-      length-append front (form_bytes order two.first),
-    ) in
-    let size : c.write_merge-length.result ≡ length form =
-    omega (arith, c.write_merge-length.ensures.length, short, c.ranges.end.fits) in
-    let fits : length form ≤ length c.split_at_mut-sets.result.1.now =
-    omega (arith, short, c.requires.room, c.split_at_mut-sets.ensures.back_len) in
-    let written = c.write_merge-length.ensures.bytes.fitting (omega (arith, fits)) in
-    let done = copied c.split_at_mut-sets.result.0.now c.split_at_mut-sets.result.1.now form _ front behind
-    c.args.end c.in-Some.first c.write_merge-length.result c.split_at_mut-sets.ensures.front_len
-    (bytes ∙ append_assoc front (form_bytes order two.first) (form_bytes order two.last)) found.0 size fits
-    (rw written at c.copy_within.ensures.after) in
-    let answer = made c.args.room.now c.copy_within.new.self below pile c.args.end c.in-Some.first two.last two.first
-    two.before is_two c.requires.rule found.0 ends found.1 (rw size at done) in
-    rw (two.sets_are, size) answer
+      behind_them _ below _ _ sets _ _ two,
+      c.most_numbers.ensures,
+      c.requires.room,
+      c.split_at_mut-sets.ensures.back_len,
+      split.4,
+    ))
+    c.in-Some-write_ends.ensures.length in
+    let behind = c.split_at_mut-bytes.result.1.now in
+    let free = c.write_ends.new.numbers ++ c.write_ends.new.ends in
+    let end = c.in-Some.first + length (form_bytes pile.order ends) in
+    let bytes_are = (λ i. take end ((front i ++ (head i ++ (numbers i ++ (bytes i ++ behind)))) ++ free))
+    ∙ through_pieces pile.order ends before behind free end (omega (arith, two.at)) in
+    let answer = made c.args.room.now _ below pile c.args.end c.in-Some.first two.two.last two.two.first
+    two.two.before two.are c.requires.rule two.at ends two.merged_are bytes_are in
+    rw (two.two.sets_are, size) answer

@@ -6,7 +6,7 @@ use Rattle.version_sets.proofs.read.pile.Pile.push.Given as goal
 abbrev pub invariant-loop-self : goal.invariant-loop-self
 invariant-loop-self l = record {
   kept : Kept l.initial.room l.initial.self l.initial.end l.room l.self l.end;
-  depth : l.self.depth ≤ 64;
+  depth : l.self.depth ≤ 24;
   some : 1 ≤ l.self.depth;
   end : l.end ≤ l.initial.end;
   order : l.self.order ≡ l.initial.self.order;

@@ -38,6 +38,6 @@ returns-clause-holds c done own holds =
           ∙ (λ i. own_is i || holds.have key i) ∙ or_turned (own key) (done key);
       members = [];
       members_are =
-          record { bytes = pushed.1.bytes; size = pushed.1.size; begin = c.new-self.ensures.depth; rise = tt };
+          record { bytes = pushed.1.bytes; size = pushed.1.size; begin = c.clear.ensures.depth; rise = tt };
       members_have = λ key. refl;
     }

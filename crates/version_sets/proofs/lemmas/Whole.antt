@@ -1,0 +1,149 @@
+-- The bytes of a set, one end further.
+use Rattle.std.proofs.Common.{◌≡◌, ◌∙◌, ◌+◌, ◌-◌, ◌<◌, ◌^◌, ℕ, true, List, [], ◌∷◌, ◌++◌, Option, None, Some, ap, arith, drop, length, length-append, refl, subst, sym, take}
+use Rattle.std.proofs.Math.Seq.{drop-append_seam, take-append_seam}
+use Rattle.std.proofs.lemmas.List.{drop_at, take_at}
+use Rattle.std.proofs.lemmas.Nat.{from_le_bytes-to_le_bytes_8}
+use Rattle.std.specs.Int.{from_le_bytes, w64}
+use Rattle.std.specs.List.{concat, flat_map}
+use Rattle.std.specs.List.Sorted.{IsStrictlySortedBy}
+use Rattle.std.specs.Ordering.{is_lt}
+use Rattle.std.specs.declared.cmp.Ordering.{Ordering}
+use Rattle.std.specs.declared.cmp.Ordering.TheVariants.{Less, Equal, Greater}
+use Rattle.version_rules.specs.order.Lists.{bytes_cmp}
+use Rattle.version_sets.specs.Ends.{Rise}
+use Rattle.version_sets.specs.Form.{number, places}
+use Rattle.version_sets.specs.Whole.{AreLeft, RiseAbove, is_above}
+use Rattle.version_sets.proofs.lemmas.Ends.{below_all}
+use Rattle.version_sets.proofs.lemmas.Form.{number_length}
+
+less : (o : Ordering) → is_lt o ≡ true → o ≡ Less
+less Less e = refl
+less Equal e = cc e
+less Greater e = cc e
+
+above : (last : Option (List ℕ)) (end : List ℕ) (ends : List (List ℕ)) → is_above last end ≡ true
+    → Rise (end ∷ ends) → RiseAbove last (end ∷ ends)
+unfolding IsStrictlySortedBy
+above None end ends is rise = rise
+above (Some last) end ends is rise =
+    let below = less (bytes_cmp last end) is in
+    ((below, below_all last end ends below rise.0), rise)
+
+-- an end before those that are left behind it
+pub with_end : (from : ℕ) (last : Option (List ℕ)) (row rest bytes end behind : List ℕ) (over : ℕ)
+    (ends : List (List ℕ)) → row ≡ number over ++ rest → bytes ≡ end ++ behind → over ≡ from + length end
+    → is_above last end ≡ true → AreLeft over (Some end) rest behind ends
+    → AreLeft from last row bytes (end ∷ ends)
+with_end from last row rest bytes end behind over ends row_is bytes_are over_is is left = record {
+  row_is = row_is ∙ (λ i. number (over_is i) ++ (left.row_is
+      ∙ ap (λ n. flat_map number (places n ends)) over_is) i);
+  bytes_are = bytes_are ∙ ap (λ (l : List ℕ). end ++ l) left.bytes_are;
+  rise = above last end ends is left.rise;
+}
+
+-- The first of the ends that are left.
+pub record IsNext (from : ℕ) (last : Option (List ℕ)) (over : ℕ) (rest bytes : List ℕ) : Type 0 where
+  pub end : List ℕ
+  pub ends : List (List ℕ)
+  pub over_is : number over ≡ number (from + length end)
+  pub bytes_are : bytes ≡ end ++ concat ends
+  pub is_above : is_above last end ≡ true
+  pub left : AreLeft (from + length end) (Some end) rest (concat ends) ends
+
+is_lower : (last : Option (List ℕ)) (end : List ℕ) (ends : List (List ℕ)) → RiseAbove last (end ∷ ends)
+    → is_above last end ≡ true
+unfolding IsStrictlySortedBy
+is_lower None end ends rise = refl
+is_lower (Some last) end ends rise = ap is_lt rise.0.0
+
+rises : (last : Option (List ℕ)) (end : List ℕ) (ends : List (List ℕ)) → RiseAbove last (end ∷ ends)
+    → Rise (end ∷ ends)
+unfolding IsStrictlySortedBy
+rises None end ends rise = rise
+rises (Some last) end ends rise = rise.1
+
+pub next : (from : ℕ) (last : Option (List ℕ)) (over : ℕ) (row rest bytes : List ℕ) (ends : List (List ℕ))
+    → row ≡ number over ++ rest → AreLeft from last row bytes ends → IsNext from last over rest bytes
+next from last over row rest bytes [] is left =
+    absurd (omega (
+      arith,
+      ap length (sym is ∙ left.row_is),
+      number_length over,
+      length-append (number over) rest,
+    ))
+next from last over row rest bytes (end ∷ ends) is left =
+    let told = from + length end in
+    let row_is : number over ++ rest ≡ number told ++ flat_map number (places told ends) = sym is ∙ left.row_is in
+    let size : length (number over) ≡ length (number told) = omega (arith, number_length over, number_length told) in
+    record {
+      end = end;
+      ends = ends;
+      over_is =
+          sym (take-append_seam (number over) rest) ∙ (λ i. take (size i) (row_is i))
+          ∙ take-append_seam (number told) (flat_map number (places told ends));
+      bytes_are = left.bytes_are;
+      is_above = is_lower last end ends left.rise;
+      left = record {
+        row_is =
+            sym (drop-append_seam (number over) rest) ∙ (λ i. drop (size i) (row_is i))
+            ∙ drop-append_seam (number told) (flat_map number (places told ends));
+        bytes_are = refl;
+        rise = rises last end ends left.rise;
+      };
+    }
+
+-- where no number is left no end is
+pub none_left : (from : ℕ) (last : Option (List ℕ)) (bytes : List ℕ) (ends : List (List ℕ))
+    → AreLeft from last [] bytes ends → bytes ≡ []
+none_left from last bytes [] left = left.bytes_are
+none_left from last bytes (end ∷ ends) left =
+    let over = from + length end in
+    absurd (omega (
+      arith,
+      ap length left.row_is,
+      number_length over,
+      length-append (number over) (flat_map number (places over ends)),
+    ))
+
+pub none_more : (from : ℕ) (last : Option (List ℕ)) → AreLeft from last [] [] []
+unfolding IsStrictlySortedBy
+none_more from None = record { row_is = refl; bytes_are = refl; rise = tt }
+none_more from (Some last) = record { row_is = refl; bytes_are = refl; rise = (tt, tt) }
+
+-- a number has its own eight bytes
+same_number : (n m : ℕ) → number n ≡ number m → n < 2 ^ 64 → m < 2 ^ 64 → n ≡ m
+unfolding number
+same_number n m same small small_too =
+    sym (from_le_bytes-to_le_bytes_8 n small) ∙ ap (from_le_bytes w64) same ∙ from_le_bytes-to_le_bytes_8 m small_too
+
+module _ (from : ℕ) (last : Option (List ℕ)) (over : ℕ) (rest bytes : List ℕ)
+    (first : IsNext from last over rest bytes) (small : over < 2 ^ 64) (within : from + length bytes < 2 ^ 64) where
+  -- where the first end is over, itself, and what is behind it
+  pub first_over : over ≡ from + length first.end
+  first_over =
+      same_number over (from + length first.end) first.over_is small
+      (omega (
+        arith,
+        within,
+        ap length first.bytes_are,
+        length-append first.end (concat first.ends),
+      ))
+
+  pub first_end : take (over - from) bytes ≡ first.end
+  first_end =
+      ap (take (over - from)) first.bytes_are
+      ∙ take_at first.end (concat first.ends) (over - from) (omega (arith, first_over))
+
+  first_behind : drop (over - from) bytes ≡ concat first.ends
+  first_behind =
+      ap (drop (over - from)) first.bytes_are
+      ∙ drop_at first.end (concat first.ends) (over - from) (omega (arith, first_over))
+
+  pub first_left : (end behind : List ℕ) → end ≡ take (over - from) bytes → behind ≡ drop (over - from) bytes
+      → AreLeft over (Some end) rest behind first.ends
+  first_left end behind end_is behind_is =
+      subst (λ n. AreLeft n (Some end) rest behind first.ends) (sym first_over)
+      (subst (λ (e : List ℕ). AreLeft (from + length first.end) (Some e) rest behind first.ends)
+      (sym (end_is ∙ first_end))
+      (subst (λ (b : List ℕ). AreLeft (from + length first.end) (Some first.end) rest b first.ends)
+      (sym (behind_is ∙ first_behind)) first.left))

@@ -1,0 +1,114 @@
+-- Sets of versions in the caller's buffers, and what is answered of them.
+use Rattle.std.specs.Prelude.{◌≡◌, ◌⊎◌, ◌<◌, ◌≤◌, ◌∷◌, ⊤, ℕ, ℤ, Bool, true, false, eqb, List, Option, Some, None, if◌then◌else◌, length, slice_range}
+use Rattle.std.specs.Option.{option_map}
+use Rattle.version_rules.specs.grammar.Versioning.{PlainVersioning, versioning_of}
+use Rattle.version_sets.specs.Ends.{Rise, has}
+use Rattle.version_sets.specs.Form.{form_bytes}
+use Rattle.version_sets.specs.Reader.{IsWrittenSet}
+use Rattle.version_sets.specs.Reading.{Reading, Right, Wrong, read_set, set_has, set_room}
+use Rattle.version_sets.specs.declared.TheConstants.{MIXED}
+use Rattle.version_sets.specs.declared.read.fault.Reason.{Reason}
+use Rattle.version_sets.specs.declared.read.fault.Reason.TheVariants.{NoMember, NoOperator, NoParts, NoVersion, NotBare, NotVersion, OneBar, Slip, StarBehind}
+use Rattle.version_texts.specs.declared.versioning_ref.slip.Slip.TheVariants.{LetterV, NoDigit, PartX}
+use Rattle.version_texts.specs.key.KeyRoom.{room_for}
+use Rattle.version_texts.specs.key.Sinks.{saturated}
+use Rattle.version_texts.specs.keyed.Mixed.{mixed}
+use Rattle.versions_c.specs.Kinds.{version_status}
+use Rattle.versions_c.specs.Ranges.{one_if}
+use Rattle.versions_c.specs.Written.{IsWritten}
+use Rattle.versions_c.specs.declared.sets.TheConstants as reason
+use Rattle.versions_c.specs.declared.status.TheConstants.{NO_INTERVAL, NO_ROOM, NO_SCHEME, NO_SET, NO_WRONG_MEMBER, OK}
+
+-- ---- texts
+
+-- what a text is read as, by the order of all versions
+abbrev pub mixed_reading : List ℕ → Reading
+mixed_reading = read_set (λ text. option_map mixed (versioning_of text)) true
+
+-- how many bytes are enough for the set of a text
+abbrev pub mixed_room : List ℕ → ℕ
+mixed_room = set_room room_for
+
+-- the form of what a text is read as begins a buffer
+abbrev pub IsForm : Reading → List ℕ → ℕ → Type 0
+IsForm (Wrong place why) new len = ⊥
+IsForm (Right first others) new len = IsWrittenSet new MIXED len (set_has (first ∷ others))
+
+-- whether a text is wrong
+abbrev pub IsWrong : Reading → Type 0
+IsWrong (Wrong place why) = ⊤
+IsWrong (Right first others) = ⊥
+
+-- What is answered for a text: its form begins the buffer; or it is no set; or the buffer is smaller than
+-- what is enough.
+abbrev pub IsRead : List ℕ → List ℕ → List ℕ → ℕ → ℤ → Type 0
+IsRead text old new len status =
+    ((status ≡ OK) × IsForm (mixed_reading text) new len)
+    ⊎ ((status ≡ NO_SET) × IsWrong (mixed_reading text))
+    ⊎ ((status ≡ NO_ROOM) × (length old < mixed_room text) × (len ≡ saturated (mixed_room text)))
+
+-- the number of a reason
+abbrev pub reason_code : Reason → ℕ
+reason_code NoMember = reason.NO_MEMBER
+reason_code NoVersion = reason.NO_VERSION_BEHIND
+reason_code NoOperator = reason.NO_OPERATOR
+reason_code OneBar = reason.ONE_BAR
+reason_code NotVersion = reason.NOT_VERSION
+reason_code StarBehind = reason.STAR
+reason_code NotBare = reason.NOT_BARE
+reason_code NoParts = reason.NO_PARTS
+reason_code (Slip LetterV) = reason.LETTER_V
+reason_code (Slip PartX) = reason.PART_X
+reason_code (Slip NoDigit) = reason.NO_DIGIT
+
+-- the status for a text that may be a set, when what is wrong is asked for
+abbrev pub wrong_set_status : Option (ℕ × Reason) → ℤ
+wrong_set_status None = NO_WRONG_MEMBER
+wrong_set_status (Some fault) = OK
+
+-- ---- forms
+
+-- the status for a set of a scheme, and for it with a text
+abbrev pub scheme_status : ℕ → ℤ
+scheme_status scheme = if eqb scheme MIXED then OK else NO_SCHEME
+
+abbrev pub has_status : ℕ → Option PlainVersioning → ℤ
+has_status scheme version = if eqb scheme MIXED then version_status version else NO_SCHEME
+
+-- the answer for a text: 1 if its version is in the set, 0 if it is not, 2 if it is not a version
+abbrev pub has_code : List (List ℕ) → Option PlainVersioning → ℕ
+has_code ends None = 2
+has_code ends (Some v) = one_if (has ends (mixed v).key)
+
+-- A set that has these keys, and no more than so many bytes, is written into a buffer if it fits.
+pub record IsMade (holds : List ℕ → Bool) (most scheme : ℕ) (old new : List ℕ) (len : ℕ) (status : ℤ) : Type 0 where
+  pub ends : List (List ℕ)
+  pub rise : Rise ends
+  pub have : (key : List ℕ) → has ends key ≡ holds key
+  pub short : length (form_bytes scheme ends) ≤ most
+  pub written : IsWritten (form_bytes scheme ends) old new len status
+
+-- whether all keys of one set are in another
+abbrev pub IsPart : Bool → List (List ℕ) → List (List ℕ) → Type 0
+IsPart true one other = (key : List ℕ) → has one key ≡ true → has other key ≡ true
+IsPart false one other = (key : List ℕ) × (has one key ≡ true) × (has other key ≡ false)
+
+-- whether two sets have a key in common
+abbrev pub Meet : Bool → List (List ℕ) → List (List ℕ) → Type 0
+Meet true one other = (key : List ℕ) × (has one key ≡ true) × (has other key ≡ true)
+Meet false one other = (key : List ℕ) → has one key ≡ true → has other key ≡ false
+
+-- ---- intervals
+
+-- the status for a place of a set
+abbrev pub interval_status : Option (List ℕ × Option (List ℕ)) → ℤ
+interval_status None = NO_INTERVAL
+interval_status (Some interval) = OK
+
+-- the ends of an interval lie between places of a form; where there is no high end, nothing does
+abbrev pub IsInterval : List ℕ → Option (List ℕ × Option (List ℕ)) → ℕ × ℕ → ℕ × ℕ → Type 0
+IsInterval form None low high = ⊤
+IsInterval form (Some (end, None)) low high =
+    (slice_range form low.0 low.1 ≡ end) × (high.0 ≡ high.1)
+IsInterval form (Some (end, Some other)) low high =
+    (slice_range form low.0 low.1 ≡ end) × (slice_range form high.0 high.1 ≡ other)

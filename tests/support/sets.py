@@ -1,0 +1,72 @@
+"""A model of sets of versions, written from docs/SETS.md alone: which texts are sets, where others are wrong, and which
+versions a set has. Of what kind a version is, and how two compare, is asked of the library.
+"""
+import re
+
+OPERATORS = ("==", "=", "!=", "<=", "<", ">=", ">", "~=", "~>", "~", "^")
+PIECE = re.compile(r"\|\||[|,]|[^ \t|,]+")
+
+
+class Wrong(ValueError):
+    """The place of the first wrong piece."""
+
+
+def parts_of(text):
+    """The parts between the epoch and what follows the first of -, +, _, ~ and another colon."""
+    return re.split("[-+_~:]", re.sub("^[0-9]+:", "", text))[0].split(".")
+
+
+class Model:
+    def __init__(self, kind, compare):
+        self.kind, self.compare = kind, compare
+
+    def read(self, text):
+        """The alternatives of a set, each with its members: an operator, whether `.*` stands behind, and a version."""
+        alternatives, wanted, operator = [[]], True, None
+        for found in PIECE.finditer(text):
+            piece, place = found[0], found.start()
+            if piece in (",", "||", "|"):
+                if wanted or piece == "|":
+                    raise Wrong(place)
+                alternatives, wanted = alternatives + [[]] if piece == "||" else alternatives, True
+                continue
+            if operator is None and piece != "*":
+                operator = next((each for each in OPERATORS if piece.startswith(each)), None)
+                piece, place, wanted = piece[len(operator or "") :], place + len(operator or ""), True
+            front = piece.removesuffix(".*")
+            if piece and not (self.may_follow(operator, front, front != piece) if operator else piece == "*"):
+                raise Wrong(place)
+            if piece:
+                alternatives[-1].append((operator, front != piece, front))
+                operator, wanted = None, False
+        if wanted:
+            raise Wrong(len(text))
+        return alternatives
+
+    def may_follow(self, operator, text, of_parts):
+        """Whether a version may stand behind an operator: one that is meant as a tag, a pattern or a word may not."""
+        is_meant = re.search("[0-9]", text) and not re.match("[vV][0-9]", text) and not {*"xX"} & {*parts_of(text)}
+        is_bare = self.kind(text) != "complex" and not re.search("[-+]", text)
+        return self.kind(text) and is_meant and (not of_parts or (operator in ("=", "==", "!=") and is_bare))
+
+    def has(self, alternatives, version):
+        return any(all(self.holds(*member, version) for member in members) for members in alternatives)
+
+    def holds(self, operator, of_parts, text, version):
+        if operator is None:
+            return True
+        order, parts = self.compare(version, text), parts_of(text)
+        others = next((n for n, part in enumerate(parts) if self.compare(part, "0") != 0), len(parts) - 1)
+        count = len(parts) if of_parts else others + 1 if operator == "^" else max(len(parts) - 1, 1)
+        if of_parts:
+            return self.begins(version, text, count) != (operator == "!=")
+        if operator[0] in "~^":
+            return order >= 0 and self.begins(version, text, count)
+        answers = {"!=": order != 0, "<": order < 0, "<=": order <= 0, ">": order > 0, ">=": order >= 0}
+        return answers.get(operator, order == 0)
+
+    def begins(self, version, text, count):
+        """Whether a version has the epoch and the first parts of another."""
+        epochs = [int((re.match("([0-9]+):", each) or ["", "0"])[1]) for each in (version, text)]
+        pairs = list(zip(parts_of(version), parts_of(text)))[:count]
+        return epochs[0] == epochs[1] and len(pairs) == count and all(self.compare(a, b) == 0 for a, b in pairs)
