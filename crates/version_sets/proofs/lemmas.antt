@@ -1,5 +1,6 @@
 pub mod Comparison
 pub mod Ends
+pub mod Excluding
 pub mod Form
 pub mod Members
 pub mod Merge

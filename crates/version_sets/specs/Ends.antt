@@ -1,6 +1,6 @@
 -- Sets of keys by the ends of their intervals: a set begins at its first end, is left at the next, and so
 -- on.
-use Rattle.std.specs.Prelude.{◌≡◌, ℕ, Bool, false, not, List, [], ◌∷◌, if◌then◌else◌}
+use Rattle.std.specs.Prelude.{◌≡◌, ℕ, Bool, false, true, not, List, [], ◌∷◌, if◌then◌else◌}
 use Rattle.std.specs.List.Sorted.{IsStrictlySortedBy}
 use Rattle.std.specs.Ordering.{is_lt}
 use Rattle.version_rules.specs.order.Lists.{bytes_cmp}
@@ -20,3 +20,15 @@ Rise = IsStrictlySortedBy bytes_cmp
 pub record AreMerged (rule : Bool → Bool → Bool) (one other ends : List (List ℕ)) : Type 0 where
   pub rise : Rise ends
   pub are : (key : List ℕ) → has ends key ≡ rule (has one key) (has other key)
+
+-- ---- two sets, by which keys they have
+
+-- whether the other has all that the one has
+abbrev pub IsPart : Bool → (List ℕ → Bool) → (List ℕ → Bool) → Type 0
+IsPart true one other = (key : List ℕ) → one key ≡ true → other key ≡ true
+IsPart false one other = (key : List ℕ) × (one key ≡ true) × (other key ≡ false)
+
+-- whether both have a key
+abbrev pub Meet : Bool → (List ℕ → Bool) → (List ℕ → Bool) → Type 0
+Meet true one other = (key : List ℕ) × (one key ≡ true) × (other key ≡ true)
+Meet false one other = (key : List ℕ) → one key ≡ true → other key ≡ false

@@ -40,3 +40,10 @@ end_at row bytes place = between bytes (over_at row place) (over_at row (suc pla
 -- so many ends
 abbrev pub ends_in : ℕ → List ℕ → List ℕ → List (List ℕ)
 ends_in count row bytes = map (end_at row bytes) (range_with_len 0 count)
+
+-- the ends that the bytes of a set hold
+abbrev pub form_ends : List ℕ → List (List ℕ)
+form_ends bytes =
+    let count = from_le_bytes w64 (take 8 (drop 1 bytes)) in
+    let rest = drop 9 bytes in
+    ends_in count (take (8 * count) rest) (drop (8 * count) rest)

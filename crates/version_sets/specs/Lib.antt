@@ -1,9 +1,11 @@
 pub mod Comparison
 pub mod Ends
+pub mod Excluding
 pub mod Form
 pub mod Intervals
 pub mod Members
 pub mod Merge
+pub mod Mixed
 pub mod Pieces
 pub mod Pile
 pub mod Reader

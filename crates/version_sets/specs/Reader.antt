@@ -4,7 +4,7 @@ use Rattle.std.specs.List.{list_all}
 use Rattle.version_sets.specs.Ends.{Rise, has}
 use Rattle.version_sets.specs.Form.{form_bytes}
 use Rattle.version_sets.specs.Pile.{IsPile, all_have, through}
-use Rattle.version_sets.specs.Reading.{Reading, Right, Wrong, set_has}
+use Rattle.version_sets.specs.Reading.{Member, Reading, Right, Wrong, set_has}
 use Rattle.version_sets.specs.declared.merge.Rule.TheVariants.{Both, Either}
 use Rattle.version_sets.specs.declared.read.Unread.{Unread}
 use Rattle.version_sets.specs.declared.read.Unread.TheVariants as unread
@@ -32,10 +32,9 @@ pub record Fits (reader : Reader) : Type 0 where
 -- what a whole text is read as, by what is done, and what the rest is read as
 abbrev pub Continues : Reading → (List ℕ → Bool) → (List ℕ → Bool) → Reading → Type 0
 Continues whole done own (Wrong place reason) = whole ≡ Wrong place reason
-Continues whole done own (Right first others) = (one : List (List (List ℕ)))
-    × (more : List (List (List (List ℕ)))) × (whole ≡ Right one more)
+Continues whole done own (Right first others) = (one : List Member) × (more : List (List Member)) × (whole ≡ Right one more)
     × ((key : List ℕ) → set_has (one ∷ more) key
-    ≡ (done key || ((own key && list_all (λ ends. has ends key) first) || set_has others key)))
+    ≡ (done key || ((own key && list_all (λ member. has member.ends key) first) || set_has others key)))
 
 -- a room begins with the one form of a set
 pub record IsWrittenSet (room : List ℕ) (order size : ℕ) (holds : List ℕ → Bool) : Type 0 where

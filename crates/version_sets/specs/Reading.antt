@@ -1,5 +1,5 @@
 -- What a text is read as: a set by its alternatives, each by its members, or where it is wrong, and why.
-use Rattle.std.specs.Prelude.{◌+◌, ◌*◌, ◌&&◌, ℕ, Bool, not, List, [], ◌∷◌, if◌then◌else◌, length, Option, Some, None}
+use Rattle.std.specs.Prelude.{◌+◌, ◌*◌, ◌&&◌, ℕ, suc, Bool, not, List, [], ◌∷◌, if◌then◌else◌, length, Option, Some, None}
 use Rattle.std.specs.List.{list_all, list_any}
 use Rattle.std.specs.declared.result.Result.{Result}
 use Rattle.std.specs.declared.result.Result.TheVariants.{Err, Ok}
@@ -22,16 +22,22 @@ pub data Asked : Type 0 where
   Not : Reason → Asked
   With : Comparison → PlainKeyed → Asked
 
+-- where a member begins and is over in the text, and its ends
+pub record Member : Type 0 where
+  pub start : ℕ
+  pub end : ℕ
+  pub ends : List (List ℕ)
+
 -- where the first wrong piece begins, and why it is wrong; or the first alternative and the others, each by
--- the ends of its members
+-- its members
 pub data Reading : Type 0 where
   Wrong : ℕ → Reason → Reading
-  Right : List (List (List ℕ)) → List (List (List (List ℕ))) → Reading
+  Right : List Member → List (List Member) → Reading
 
 -- one member more in the first alternative
-abbrev pub with_member : List (List ℕ) → Reading → Reading
-with_member ends (Wrong place reason) = Wrong place reason
-with_member ends (Right first others) = Right (ends ∷ first) others
+abbrev pub with_member : Member → Reading → Reading
+with_member member (Wrong place reason) = Wrong place reason
+with_member member (Right first others) = Right (member ∷ first) others
 
 -- an alternative before the first
 abbrev pub next_alternative : Reading → Reading
@@ -81,18 +87,22 @@ module _ (read_as : List ℕ → Option PlainKeyed) (parts : Bool) where
       by None = with_version c text
       by (Some front) = of_star (starred c) front
 
-  -- a member with a version whose text begins at a place, before what is read of the pieces behind it
-  abbrev pub answered : ℕ → Asked → Reading → Reading
-  answered place (Not reason) rest = Wrong place reason
-  answered place (With c version) rest = with_member (ends_with c version) rest
+  -- a member from a place to another, with a version whose text begins between these, before what is read of
+  -- the pieces behind it
+  abbrev pub answered : ℕ → ℕ → ℕ → Asked → Reading → Reading
+  answered start place end (Not reason) rest = Wrong place reason
+  answered start place end (With c version) rest =
+      with_member (record { start = start; end = end; ends = ends_with c version }) rest
 
   -- what a piece does, before what the pieces behind it are read as in any state
   abbrev pub after_step : (State → Reading) → PlainStep → Reading
   after_step rest (Fault place reason) = Wrong place reason
   after_step rest (Goes next) = rest next
   after_step rest Closes = next_alternative (rest Wanted)
-  after_step rest All = with_member ([] ∷ []) (rest Come)
-  after_step rest (Asks c place text) = answered place (asked c text) (rest Come)
+  after_step rest (All place) =
+      with_member (record { start = place; end = suc place; ends = [] ∷ [] }) (rest Come)
+  after_step rest (Asks c start place text) =
+      answered start place (place + length text) (asked c text) (rest Come)
 
   -- the pieces that are left of a text, which ends at a place
   abbrev pub read_pieces : ℕ → State → List (ℕ × PlainPiece) → Reading
@@ -104,8 +114,8 @@ module _ (read_as : List ℕ → Option PlainKeyed) (parts : Bool) where
   read_set text = read_pieces (length text) Wanted (pieces 0 text)
 
 -- whether alternatives have a key: whether each member of one of them has it
-abbrev pub set_has : List (List (List (List ℕ))) → List ℕ → Bool
-set_has alternatives key = list_any (list_all (λ ends. has ends key)) alternatives
+abbrev pub set_has : List (List Member) → List ℕ → Bool
+set_has alternatives key = list_any (list_all (λ member. has member.ends key)) alternatives
 
 -- where and why a text is wrong, if it is
 abbrev pub fault_of : Reading → Option (ℕ × Reason)

@@ -1,12 +1,14 @@
 //! Laws of sets by their ends, and of their members. Each is the contract of a function that does nothing.
 
-ghost use Rattle.std.specs.Prelude.{◌≡◌, ◌↔◌, Bool, List, false, not, true, ℕ};
+ghost use Rattle.std.specs.Prelude.{◌≡◌, ◌↔◌, Bool, List, false, length, not, true, ℕ};
 ghost use Rattle.std.specs.declared.cmp.Ordering.TheVariants.{Less};
 ghost use Rattle.version_rules.specs.grammar.Versioning.{PlainVersioning};
 ghost use Rattle.version_rules.specs.key.Key.{key_of, precedence};
 ghost use Rattle.version_rules.specs.requirement.Range.{but_last_or_only, through_other};
 ghost use Rattle.version_sets.specs.Comparison.{ends_with};
 ghost use Rattle.version_sets.specs.Ends.{has, AreMerged, Rise};
+ghost use Rattle.version_sets.specs.Excluding.{leave_out};
+ghost use Rattle.version_sets.specs.Reading.{set_has, Member};
 ghost use Rattle.version_sets.specs.Members.{AreByOrder, BeginsWith};
 ghost use Rattle.version_sets.specs.Merge.{merged};
 ghost use Rattle.version_sets.specs.declared.read.comparison.Comparison.TheVariants.{Caret, NotPrefix, Prefix, Tilde};
@@ -46,4 +48,10 @@ fn series()
         → (has (ends_with Caret (mixed other)) (mixed version).key ≡ true)
         ↔ ((¬ (precedence (key_of version) (key_of other) ≡ Less))
         × BeginsWith (key_of other).epoch (through_other (key_of other).body) (key_of version)) }
+{}
+
+// Where a set has not a key, each of its alternatives has a member that leaves it out.
+fn members_out()
+    ensures { (key : List ℕ) (all : List (List Member)) → set_has all key ≡ false
+        → length (leave_out key all) ≡ length all }
 {}

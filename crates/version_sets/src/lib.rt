@@ -21,6 +21,7 @@ pub use form::Form;
 pub use form::intervals::Interval;
 pub use merge::{Merge, Rule};
 pub use read::comparison::Comparison;
+pub use read::excluding::{Alternatives, NoRoom, Span};
 pub use read::fault::{Fault, Reason};
 pub use read::find::find_fault;
 pub use read::member::write_tied;

@@ -1,12 +1,13 @@
 //! Sets as people write them.
 
 ghost use Rattle.std.specs.Prelude.{◌≡◌, ◌∷◌, ◌<◌, length, IfErr, IfOk, List, ℕ};
-ghost use Rattle.version_sets.specs.Reading.{piece_room, read_set, set_has, set_room, Right};
+ghost use Rattle.version_sets.specs.Reading.{piece_room, read_set, set_has, set_room, Member, Right};
 ghost use Rattle.version_sets.specs.Pieces.{plain_piece};
 ghost use Rattle.version_sets.specs.Reader.{IsUnread, IsWrittenSet};
 ghost use Rattle.version_texts.specs.key.Sinks.{saturated};
 
 pub(crate) mod comparison;
+pub(crate) mod excluding;
 pub(crate) mod fault;
 pub(crate) mod find;
 pub(crate) mod member;
@@ -47,7 +48,7 @@ pub fn set_room<'t, V: Keyed<'t>>(text: &[u8]) -> usize
 }
 
 // Returns how many bytes a member with a piece for its version has at most.
-fn piece_room<'t, V: Keyed<'t>>(piece: Piece<'_>) -> usize
+pub(crate) fn piece_room<'t, V: Keyed<'t>>(piece: Piece<'_>) -> usize
     ensures { result ≡ saturated (piece_room V.most (plain_piece piece.entry)) }
 {
     match piece {
@@ -71,7 +72,7 @@ pub fn read_set<'t, V: Keyed<'t>>(
     text: &'t [u8],
     room: &mut [u8],
 ) -> Result<usize, Unread>
-    ensures ok { IfOk result (λ size. (first : List (List (List ℕ))) × (others : List (List (List (List ℕ))))
+    ensures ok { IfOk result (λ size. (first : List Member) × (others : List (List Member))
         × (read_set V.read_as V.parts text.now ≡ Right first others)
         × IsWrittenSet room.new order size (set_has (first ∷ others))) }
     ensures wrong { IfErr result (λ unread. IsUnread unread (read_set V.read_as V.parts text.now)

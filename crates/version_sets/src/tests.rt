@@ -2,6 +2,7 @@
 
 use crate::form::Form;
 use crate::merge::{Merge, Rule};
+use crate::read::excluding::{Alternatives, Span};
 use crate::read::{Unread, read_set, set_room};
 use crate::write::write_merge;
 use std::alloc::AllocError;
@@ -226,6 +227,53 @@ fn texts_that_are_no_sets(rt: HostRuntime) -> Result<(), Fail> {
         holds(wrong, row)?;
     }
     Ok(())
+}
+
+// Sets, versions, and of each alternative that leaves these out the first member that does.
+const EXCLUDING: &str = "\
+>=1.2, <2|1.4|
+>=1.2, <2|2.1|<2
+>=1.2, <2|1.0|>=1.2
+^1.2 || ^2|3.0|^1.2;^2
+^1||^2||^3|2.5|^1;^3
+^1 || >= 3 , <4|2|^1;>= 3
+=1 =2|1|=2
+=1 =2|3|=1
+!= 1.5 >=1|0:1.5|!= 1.5
+*, <1|1|<1
+* || <1|1|<1
+<1 || *|1|<1
+=1.* ||\t<0.5|0.9|=1.*;<0.5
+>1 >2 >3 || <0 || ~=1.4|1.5|>2;<0";
+
+#[test]
+fn members_that_leave_a_version_out(rt: HostRuntime) -> Result<(), Fail> {
+    for row in EXCLUDING.lines() {
+        let (front, members) = row.rsplit_once('|').ok_or("no members")?;
+        let (text, word) = front.rsplit_once('|').ok_or("no version")?;
+        let version = version(word)?;
+        let size = set_room::<VersioningRef<'_>>(text.as_bytes());
+        let mut room = vec![in rt.alloc(); 0; size]?;
+        let mut left = Alternatives::of(text.as_bytes());
+        for member in members.split(';').filter(|member| !member.is_empty()) {
+            let span = next_excluding(&mut left, &version, room.as_mut_slice())?.ok_or(row)?;
+            holds(text.get(span.start..span.end) == Some(member), row)?;
+        }
+        let more = next_excluding(&mut left, &version, room.as_mut_slice())?;
+        holds(more.is_none(), row)?;
+    }
+    Ok(())
+}
+
+fn next_excluding<'t>(
+    left: &mut Alternatives<'t>,
+    version: &VersioningRef<'t>,
+    room: &mut [u8],
+) -> Result<Option<Span>, Fail> {
+    match left.next_excluding(version, room) {
+        Ok(found) => Ok(found),
+        Err(_) => Err("no room".into()),
+    }
 }
 
 // Bytes that end too early.

@@ -1,16 +1,15 @@
 -- Sets of versions in the caller's buffers, and what is answered of them.
-use Rattle.std.specs.Prelude.{◌≡◌, ◌⊎◌, ◌<◌, ◌≤◌, ◌∷◌, ⊤, ℕ, ℤ, Bool, true, false, eqb, List, Option, Some, None, if◌then◌else◌, length, slice_range}
-use Rattle.std.specs.Option.{option_map}
-use Rattle.version_rules.specs.grammar.Versioning.{PlainVersioning, versioning_of}
+use Rattle.std.specs.Prelude.{◌≡◌, ◌⊎◌, ◌<◌, ◌≤◌, ◌∷◌, ⊤, ℕ, ℤ, Bool, eqb, List, Option, Some, None, if◌then◌else◌, length, slice_range}
+use Rattle.version_rules.specs.grammar.Versioning.{PlainVersioning}
 use Rattle.version_sets.specs.Ends.{Rise, has}
 use Rattle.version_sets.specs.Form.{form_bytes}
+use Rattle.version_sets.specs.Mixed.{mixed_reading, mixed_room}
 use Rattle.version_sets.specs.Reader.{IsWrittenSet}
-use Rattle.version_sets.specs.Reading.{Reading, Right, Wrong, read_set, set_has, set_room}
+use Rattle.version_sets.specs.Reading.{Reading, Right, Wrong, set_has}
 use Rattle.version_sets.specs.declared.TheConstants.{MIXED}
 use Rattle.version_sets.specs.declared.read.fault.Reason.{Reason}
 use Rattle.version_sets.specs.declared.read.fault.Reason.TheVariants.{NoMember, NoOperator, NoParts, NoVersion, NotBare, NotVersion, OneBar, Slip, StarBehind}
 use Rattle.version_texts.specs.declared.versioning_ref.slip.Slip.TheVariants.{LetterV, NoDigit, PartX}
-use Rattle.version_texts.specs.key.KeyRoom.{room_for}
 use Rattle.version_texts.specs.key.Sinks.{saturated}
 use Rattle.version_texts.specs.keyed.Mixed.{mixed}
 use Rattle.versions_c.specs.Kinds.{version_status}
@@ -20,14 +19,6 @@ use Rattle.versions_c.specs.declared.sets.TheConstants as reason
 use Rattle.versions_c.specs.declared.status.TheConstants.{NO_INTERVAL, NO_ROOM, NO_SCHEME, NO_SET, NO_WRONG_MEMBER, OK}
 
 -- ---- texts
-
--- what a text is read as, by the order of all versions
-abbrev pub mixed_reading : List ℕ → Reading
-mixed_reading = read_set (λ text. option_map mixed (versioning_of text)) true
-
--- how many bytes are enough for the set of a text
-abbrev pub mixed_room : List ℕ → ℕ
-mixed_room = set_room room_for
 
 -- the form of what a text is read as begins a buffer
 abbrev pub IsForm : Reading → List ℕ → ℕ → Type 0
@@ -87,16 +78,6 @@ pub record IsMade (holds : List ℕ → Bool) (most scheme : ℕ) (old new : Lis
   pub have : (key : List ℕ) → has ends key ≡ holds key
   pub short : length (form_bytes scheme ends) ≤ most
   pub written : IsWritten (form_bytes scheme ends) old new len status
-
--- whether all keys of one set are in another
-abbrev pub IsPart : Bool → List (List ℕ) → List (List ℕ) → Type 0
-IsPart true one other = (key : List ℕ) → has one key ≡ true → has other key ≡ true
-IsPart false one other = (key : List ℕ) × (has one key ≡ true) × (has other key ≡ false)
-
--- whether two sets have a key in common
-abbrev pub Meet : Bool → List (List ℕ) → List (List ℕ) → Type 0
-Meet true one other = (key : List ℕ) × (has one key ≡ true) × (has other key ≡ true)
-Meet false one other = (key : List ℕ) → has one key ≡ true → has other key ≡ false
 
 -- ---- intervals
 

@@ -3,7 +3,7 @@
 ghost use Rattle.std.specs.Prelude.{◌≡◌, ◌≢◌, ◌⊎◌, Err, IfErr, ◌+◌, ◌≤◌, ◌<◌, ◌&&◌, ◌||◌, List, not, length, slice_index, IfSome, Bool, ℕ};
 ghost use Rattle.std.specs.Result.{IsOkAnd};
 ghost use Rattle.version_rules.specs.grammar.Versioning.{versioning_of};
-ghost use Rattle.version_sets.specs.Ends.{has, Rise};
+ghost use Rattle.version_sets.specs.Ends.{has, IsPart, Meet, Rise};
 ghost use Rattle.version_sets.specs.Form.{form_bytes};
 ghost use Rattle.version_sets.specs.Intervals.{interval_at, intervals};
 ghost use Rattle.version_sets.specs.Set.{by_rule, ends_of, left};
@@ -11,7 +11,7 @@ ghost use Rattle.version_sets.specs.declared.TheConstants.{MIXED};
 ghost use Rattle.version_texts.specs.keyed.Mixed.{mixed};
 ghost use Rattle.versions_c.specs.Offsets.{text_at, AreOffsets};
 ghost use Rattle.versions_c.specs.Ranges.{one_if};
-ghost use Rattle.versions_c.specs.Sets.{has_code, has_status, interval_status, scheme_status, IsInterval, IsMade, IsPart, Meet};
+ghost use Rattle.versions_c.specs.Sets.{has_code, has_status, interval_status, scheme_status, IsInterval, IsMade};
 ghost use Rattle.versions_c.specs.Written.{IsWritten};
 
 use crate::offsets::{answer_each, are_offsets};
@@ -195,7 +195,7 @@ fn write(scheme: u8, merge: Merge<'_>, form: &mut [u8], form_len: &mut usize) ->
 pub extern "C" fn versions_set_part_of(one: &[u8], other: &[u8], is_part: &mut u8) -> i32
     ensures part { (scheme : ℕ) (first second : List (List ℕ)) → one.now ≡ form_bytes scheme first
         → other.now ≡ form_bytes scheme second → Rise first → Rise second
-        → (result ≡ OK) × ((b : Bool) × (is_part.new ≡ one_if b) × IsPart b first second) }
+        → (result ≡ OK) × ((b : Bool) × (is_part.new ≡ one_if b) × IsPart b (has first) (has second)) }
     ensures other { (scheme another : ℕ) (first second : List (List ℕ)) → one.now ≡ form_bytes scheme first
         → other.now ≡ form_bytes another second → scheme ≢ another → result ≡ OTHER_SCHEME }
     ensures kept { result ≢ OK → is_part.new ≡ is_part.old }
@@ -212,7 +212,7 @@ pub extern "C" fn versions_set_part_of(one: &[u8], other: &[u8], is_part: &mut u
 pub extern "C" fn versions_set_meets(one: &[u8], other: &[u8], meet: &mut u8) -> i32
     ensures meet { (scheme : ℕ) (first second : List (List ℕ)) → one.now ≡ form_bytes scheme first
         → other.now ≡ form_bytes scheme second → Rise first → Rise second
-        → (result ≡ OK) × ((b : Bool) × (meet.new ≡ one_if b) × Meet b first second) }
+        → (result ≡ OK) × ((b : Bool) × (meet.new ≡ one_if b) × Meet b (has first) (has second)) }
     ensures other { (scheme another : ℕ) (first second : List (List ℕ)) → one.now ≡ form_bytes scheme first
         → other.now ≡ form_bytes another second → scheme ≢ another → result ≡ OTHER_SCHEME }
     ensures kept { result ≢ OK → meet.new ≡ meet.old }
@@ -229,7 +229,7 @@ pub extern "C" fn versions_set_meets(one: &[u8], other: &[u8], meet: &mut u8) ->
 pub extern "C" fn versions_set_count(form: &[u8], count: &mut usize) -> i32
     ensures count { (scheme : ℕ) (ends : List (List ℕ)) → form.now ≡ form_bytes scheme ends → Rise ends
         → (result ≡ scheme_status scheme) × (result ≡ OK → count.new ≡ intervals ends) }
-    ensures whole { result ≡ OK → (ends : List (List ℕ)) × (form.now ≡ form_bytes MIXED ends) × Rise ends }
+    ensures whole { (result ≡ NO_FORM) ⊎ ((scheme : ℕ) × (ends : List (List ℕ)) × (form.now ≡ form_bytes scheme ends) × Rise ends) }
     ensures kept { result ≢ OK → count.new ≡ count.old }
 {
     let Some((scheme, set)) = Form::whole(form) else {

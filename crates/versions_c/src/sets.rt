@@ -4,13 +4,14 @@ ghost use Rattle.std.specs.Prelude.{◌≡◌, ◌≢◌, eqb, None, Some, IfSom
 ghost use Rattle.version_rules.specs.grammar.Versioning.{versioning_of};
 ghost use Rattle.version_sets.specs.Comparison.{ends_with};
 ghost use Rattle.version_sets.specs.Form.{form_bytes};
+ghost use Rattle.version_sets.specs.Mixed.{mixed_reading, mixed_room};
 ghost use Rattle.version_sets.specs.Reading.{fault_of};
 ghost use Rattle.version_sets.specs.Reason.{reason_text};
 ghost use Rattle.version_sets.specs.declared.TheConstants.{MIXED};
 ghost use Rattle.version_sets.specs.declared.read.comparison.Comparison.TheVariants.{Equal};
 ghost use Rattle.version_texts.specs.key.Sinks.{saturated};
 ghost use Rattle.version_texts.specs.keyed.Mixed.{mixed};
-ghost use Rattle.versions_c.specs.Sets.{mixed_reading, mixed_room, reason_code, scheme_status, wrong_set_status, IsRead};
+ghost use Rattle.versions_c.specs.Sets.{reason_code, scheme_status, wrong_set_status, IsRead};
 ghost use Rattle.versions_c.specs.Written.{IsWritten};
 
 use crate::status::{NO_ROOM, NO_SCHEME, NO_SET, NO_VERSION, NO_WRONG_MEMBER, OK};

@@ -33,7 +33,7 @@ below_all low end (further ∷ ends) less all =
     (total.trans low end further less all.0, below_all low end ends less all.1)
 
 -- an end itself is in the set that begins there
-at_first : (end : List ℕ) (ends : List (List ℕ)) → Rise (end ∷ ends) → has (end ∷ ends) end ≡ true
+pub at_first : (end : List ℕ) (ends : List (List ℕ)) → Rise (end ∷ ends) → has (end ∷ ends) end ≡ true
 unfolding IsStrictlySortedBy
 at_first end ends rise = rw (tied_itself total end, before ends end rise.0) refl
 

@@ -6,7 +6,7 @@ use Rattle.std.proofs.lemmas.List.{length-append}
 use Rattle.std.specs.List.{concat, flat_map, range_with_len}
 use Rattle.std.proofs.lemmas.Nat.{from_le_bytes-to_le_bytes_8}
 use Rattle.std.specs.Int.{from_le_bytes, w64}
-use Rattle.version_sets.specs.Form.{between, end_at, ends_in, form_bytes, number, over_at, places}
+use Rattle.version_sets.specs.Form.{between, end_at, ends_in, form_bytes, form_ends, number, over_at, places}
 
 pub number_length : (n : ℕ) → length (number n) ≡ 8
 unfolding number
@@ -192,6 +192,28 @@ pub ends_are : (ends : List (List ℕ)) → length (concat ends) < 2 ^ 64
 ends_are ends small =
     ends_from (end_at (flat_map number (places 0 ends)) (concat ends)) [] ends
     (λ place within. end_read ends place within small)
+
+-- the bytes of a set hold its ends
+pub holds_ends : (order : ℕ) (ends : List (List ℕ)) → length (form_bytes order ends) < 2 ^ 64
+    → form_ends (form_bytes order ends) ≡ ends
+unfolding form_bytes
+holds_ends order ends small =
+    let row = flat_map number (places 0 ends) in
+    let rest = number (length ends) ++ (row ++ concat ends) in
+    let read = (are_read order order rest ends refl).1 in
+    let few : length ends < 2 ^ 64 = omega (arith, read.long, small) in
+    let count = number_told (take 8 rest) rest (length ends) refl read.count_is few in
+    let numbers = ap (λ n. take (8 * n) (drop 8 rest)) count ∙ read.numbers_are in
+    let bytes = ap (λ n. drop (8 * n) (drop 8 rest)) count ∙ read.ends_are in
+    let short : length (concat ends) < 2 ^ 64 =
+    omega (
+      arith,
+      small,
+      number_length (length ends),
+      length-append (number (length ends)) (row ++ concat ends),
+      length-append row (concat ends),
+    ) in
+    (λ i. ends_in (count i) (numbers i) (bytes i)) ∙ ends_are ends short
 
 -- ---- the ends that are left from a place on
 

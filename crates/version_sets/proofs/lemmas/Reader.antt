@@ -7,7 +7,7 @@ use Rattle.version_sets.specs.Ends.{Rise, has}
 use Rattle.version_sets.specs.Form.{form_bytes}
 use Rattle.version_sets.specs.Pile.{IsPile, through}
 use Rattle.version_sets.specs.Reader.{Continues}
-use Rattle.version_sets.specs.Reading.{Reading, Right, Wrong, next_alternative, set_has, with_member}
+use Rattle.version_sets.specs.Reading.{Member, Reading, Right, Wrong, next_alternative, set_has, with_member}
 use Rattle.version_sets.specs.declared.read.pile.Pile.{Pile}
 
 -- ---- rooms
@@ -124,17 +124,17 @@ pub at_first : (whole : Reading) → Continues whole (λ key. false) (λ key. tr
 at_first (Wrong place reason) = refl
 at_first (Right first others) = (first, others, refl, λ key. refl)
 
-pub with_one : (whole rest : Reading) (done own : List ℕ → Bool) (ends : List (List ℕ))
-    → Continues whole done own (with_member ends rest)
-    → Continues whole done (λ key. own key && has ends key) rest
-with_one whole (Wrong place reason) done own ends is = is
-with_one whole (Right first others) done own ends is = (
+pub with_one : (whole rest : Reading) (done own : List ℕ → Bool) (member : Member)
+    → Continues whole done own (with_member member rest)
+    → Continues whole done (λ key. own key && has member.ends key) rest
+with_one whole (Wrong place reason) done own member is = is
+with_one whole (Right first others) done own member is = (
   is.0,
   is.1,
   is.2,
   λ key. is.3 key
       ∙ ap (λ b. done key || (b || set_has others key))
-      (and_between (own key) (has ends key) (list_all (λ ends. has ends key) first)),
+      (and_between (own key) (has member.ends key) (list_all (λ member. has member.ends key) first)),
 )
 
 pub with_next : (whole rest : Reading) (done own : List ℕ → Bool)

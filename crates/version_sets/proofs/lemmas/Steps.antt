@@ -1,5 +1,5 @@
 -- What a step tells of its piece, and what was asked.
-use Rattle.std.proofs.Common.{◌≡◌, ◌∙◌, ◌+◌, ◌*◌, ◌≤◌, ◌==◌, ◌&&◌, ◌⊎◌, ℕ, Bool, true, false, not, List, [], ◌∷◌, ◌++◌, Option, Some, None, ap, arith, inl, inr, length, length-append, refl}
+use Rattle.std.proofs.Common.{◌≡◌, ◌∙◌, ◌+◌, ◌-◌, ◌*◌, ◌≤◌, ◌==◌, ◌&&◌, ◌⊎◌, ℕ, Bool, true, false, not, List, [], ◌∷◌, ◌++◌, Option, Some, None, ap, arith, inl, inr, length, length-append, refl}
 use Rattle.std.proofs.lemmas.Bool.{cases_Bool}
 use Rattle.std.proofs.lemmas.List.{length-map}
 use Rattle.std.specs.List.{concat}
@@ -74,64 +74,74 @@ front_shorter text rest c e = first_shorter words text rest c e
 
 -- ---- steps
 
--- a piece with a word, which is no shorter than a text
-pub record HasWord (piece : PlainPiece) (text : List ℕ) : Type 0 where
+-- a piece at a place with a word, which ends with a text that begins at another place
+pub record HasWord (piece : PlainPiece) (place at : ℕ) (text : List ℕ) : Type 0 where
   pub word : List ℕ
   pub is : piece ≡ Word word
   pub longer : length text ≤ length word
+  pub over : at + length text ≡ place + length word
 
-begin_asks : (place : ℕ) (word : List ℕ) (c : Comparison) (at : ℕ) (text : List ℕ)
-    → begin_member place word ≡ Asks c at text → length text ≤ length word
-begin_asks place word c at text e = by (comparison_front word) refl
+begin_asks : (place : ℕ) (word : List ℕ) (c : Comparison) (from at : ℕ) (text : List ℕ)
+    → begin_member place word ≡ Asks c from at text → HasWord (Word word) place at text
+begin_asks place word c from at text e = by (comparison_front word) refl
   where
     by : (front : Option (Comparison × List ℕ)) → comparison_front word ≡ front
-        → length text ≤ length word
+        → HasWord (Word word) place at text
     by None is = none (cases_Bool (is_all word))
       where
-        none : (is_all word ≡ true) ⊎ (is_all word ≡ false) → length text ≤ length word
+        none : (is_all word ≡ true) ⊎ (is_all word ≡ false) → HasWord (Word word) place at text
         none (inl all) = cc (rw (is, all) at e)
         none (inr other) = cc (rw (is, other) at e)
     by (Some (found, [])) is = cc (rw is at e)
     by (Some (found, b ∷ rest)) is =
         let same : b ∷ rest ≡ text = cc (rw is at e) in
-        omega (
-          arith,
-          front_shorter word (b ∷ rest) found is,
-          ap (λ (l : List ℕ). length l) same,
-        )
+        let begins : place + (length word - length (b ∷ rest)) ≡ at = cc (rw is at e) in
+        let shorter = front_shorter word (b ∷ rest) found is in
+        let long = ap (λ (l : List ℕ). length l) same in
+        record {
+          word = word;
+          is = refl;
+          longer = omega (arith, shorter, long);
+          over = omega (arith, shorter, long, begins);
+        }
 
-pub asks_word : (state : State) (place : ℕ) (piece : PlainPiece) (c : Comparison) (at : ℕ) (text : List ℕ)
-    → step state place piece ≡ Asks c at text → HasWord piece text
-asks_word Wanted place (Word word) c at text e =
-    record { word = word; is = refl; longer = begin_asks place word c at text e }
-asks_word Come place (Word word) c at text e =
-    record { word = word; is = refl; longer = begin_asks place word c at text e }
-asks_word (Opened first) place (Word word) c at text e =
+pub asks_word : (state : State) (place : ℕ) (piece : PlainPiece) (c : Comparison) (from at : ℕ)
+    (text : List ℕ) → step state place piece ≡ Asks c from at text → HasWord piece place at text
+asks_word Wanted place (Word word) c from at text e = begin_asks place word c from at text e
+asks_word Come place (Word word) c from at text e = begin_asks place word c from at text e
+asks_word (Opened first start) place (Word word) c from at text e =
     let same : word ≡ text = cc e in
-    record { word = word; is = refl; longer = omega (arith, ap (λ (l : List ℕ). length l) same) }
-asks_word Wanted place Comma c at text e = cc e
-asks_word Wanted place Bars c at text e = cc e
-asks_word Wanted place Bar c at text e = cc e
-asks_word (Opened first) place Comma c at text e = cc e
-asks_word (Opened first) place Bars c at text e = cc e
-asks_word (Opened first) place Bar c at text e = cc e
-asks_word Come place Comma c at text e = cc e
-asks_word Come place Bars c at text e = cc e
-asks_word Come place Bar c at text e = cc e
+    let begins : place ≡ at = cc e in
+    let long = ap (λ (l : List ℕ). length l) same in
+    record {
+      word = word;
+      is = refl;
+      longer = omega (arith, long);
+      over = omega (arith, long, begins);
+    }
+asks_word Wanted place Comma c from at text e = cc e
+asks_word Wanted place Bars c from at text e = cc e
+asks_word Wanted place Bar c from at text e = cc e
+asks_word (Opened first start) place Comma c from at text e = cc e
+asks_word (Opened first start) place Bars c from at text e = cc e
+asks_word (Opened first start) place Bar c from at text e = cc e
+asks_word Come place Comma c from at text e = cc e
+asks_word Come place Bars c from at text e = cc e
+asks_word Come place Bar c from at text e = cc e
 
 -- a member that has all is a word
-pub all_room : (most : ℕ → ℕ) (state : State) (place : ℕ) (piece : PlainPiece)
-    → step state place piece ≡ All → 36 ≤ piece_room most piece
-all_room most state place (Word word) e = omega arith
-all_room most Wanted place Comma e = cc e
-all_room most Wanted place Bars e = cc e
-all_room most Wanted place Bar e = cc e
-all_room most (Opened first) place Comma e = cc e
-all_room most (Opened first) place Bars e = cc e
-all_room most (Opened first) place Bar e = cc e
-all_room most Come place Comma e = cc e
-all_room most Come place Bars e = cc e
-all_room most Come place Bar e = cc e
+pub all_room : (most : ℕ → ℕ) (state : State) (place at : ℕ) (piece : PlainPiece)
+    → step state place piece ≡ All at → 36 ≤ piece_room most piece
+all_room most state place at (Word word) e = omega arith
+all_room most Wanted place at Comma e = cc e
+all_room most Wanted place at Bars e = cc e
+all_room most Wanted place at Bar e = cc e
+all_room most (Opened first start) place at Comma e = cc e
+all_room most (Opened first start) place at Bars e = cc e
+all_room most (Opened first start) place at Bar e = cc e
+all_room most Come place at Comma e = cc e
+all_room most Come place at Bars e = cc e
+all_room most Come place at Bar e = cc e
 
 -- ---- what was asked
 
@@ -265,4 +275,18 @@ member_small order read_as most parts c other text word plain within e longer =
       length-map (comparison_ends other) (λ end. end_of end plain),
       few_ends other,
       three_small plain (most (length word) + 1) (comparison_ends other) small (few_ends other),
+    )
+
+-- the member that a piece asks for fits into the room that is asked for the piece
+pub asked_small : (order : ℕ) (read_as : List ℕ → Option PlainKeyed) (most : ℕ → ℕ) (parts : Bool) (state : State)
+    (place : ℕ) (piece : PlainPiece) (c other : Comparison) (from at : ℕ) (text : List ℕ) (plain : PlainKeyed)
+    → AreWithin read_as most → step state place piece ≡ Asks c from at text
+    → asked read_as parts c text ≡ With other plain
+    → length (form_bytes order (ends_with other plain)) ≤ piece_room most piece
+asked_small order read_as most parts state place piece c other from at text plain within stepped given =
+    let word = asks_word state place piece c from at text stepped in
+    omega (
+      arith,
+      member_small order read_as most parts c other text word.word plain within given word.longer,
+      ap (piece_room most) word.is,
     )

@@ -51,8 +51,8 @@ fn after<'t, V: Keyed<'t>>(state: State, place: usize, piece: Piece<'t>) -> Resu
         Step::Wrong(fault) => Err(fault),
         Step::Goes(next) => Ok(next),
         Step::Closes => Ok(State::Wanted),
-        Step::All => Ok(State::Come),
-        Step::Asks(comparison, place, text) => match asked::<V>(comparison, text) {
+        Step::All(_) => Ok(State::Come),
+        Step::Asks(comparison, _, place, text) => match asked::<V>(comparison, text) {
             Ok(_) => Ok(State::Come),
             Err(reason) => Err(Fault { place, reason }),
         },

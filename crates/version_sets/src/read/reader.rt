@@ -81,12 +81,12 @@ impl Reader {
                 self.close(room);
                 Ok(State::Wanted)
             }
-            Step::All => {
+            Step::All(_) => {
                 let end = write_all(self.order, room, self.end);
                 self.add(room, end);
                 Ok(State::Come)
             }
-            Step::Asks(comparison, place, text) => match asked::<V>(comparison, text) {
+            Step::Asks(comparison, _, place, text) => match asked::<V>(comparison, text) {
                 Ok(member) => {
                     let end = write_member(self.order, member, room, self.end);
                     self.add(room, end);

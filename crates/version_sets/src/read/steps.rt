@@ -13,8 +13,8 @@ use crate::read::pieces::Piece;
 pub(crate) enum State {
     /// Nothing of a member that has to come.
     Wanted,
-    /// The operator of a member, whose version has to come.
-    Opened(Comparison),
+    /// The operator of a member that begins at a place, whose version has to come.
+    Opened(Comparison, usize),
     /// A member.
     Come,
 }
@@ -28,10 +28,10 @@ pub(crate) enum Step<'t> {
     Goes(State),
     /// It ends an alternative, and another one has to come.
     Closes,
-    /// It is a member that holds all versions.
-    All,
-    /// It ends a member, by the text of its version, which begins at a place.
-    Asks(Comparison, usize, &'t [u8]),
+    /// It is a member that holds all versions, at a place.
+    All(usize),
+    /// It ends a member that begins at a place, by the text of its version, which begins at another.
+    Asks(Comparison, usize, usize, &'t [u8]),
 }
 
 impl State {
@@ -42,13 +42,13 @@ impl State {
     {
         let reason = match (piece, self) {
             (Piece::Bar, _) => Reason::OneBar,
-            (Piece::Word(word), State::Opened(comparison)) => {
-                return Step::Asks(comparison, place, word);
+            (Piece::Word(word), State::Opened(comparison, start)) => {
+                return Step::Asks(comparison, start, place, word);
             }
             (Piece::Word(word), _) => return begin_member(place, word),
             (Piece::Comma, State::Come) => return Step::Goes(State::Wanted),
             (Piece::Bars, State::Come) => return Step::Closes,
-            (_, State::Opened(_)) => Reason::NoVersion,
+            (_, State::Opened(_, _)) => Reason::NoVersion,
             (_, _) => Reason::NoMember,
         };
         Step::Wrong(Fault { place, reason })
@@ -60,7 +60,7 @@ impl State {
     {
         match self {
             State::Wanted => Some(Reason::NoMember),
-            State::Opened(_) => Some(Reason::NoVersion),
+            State::Opened(_, _) => Some(Reason::NoVersion),
             State::Come => None,
         }
     }
@@ -72,11 +72,11 @@ fn begin_member<'t>(place: usize, word: &'t [u8]) -> Step<'t>
     ensures { plain_step result ≡ begin_member place word.now }
 {
     match Comparison::front(word) {
-        Some((comparison, [])) => Step::Goes(State::Opened(comparison)),
+        Some((comparison, [])) => Step::Goes(State::Opened(comparison, place)),
         Some((comparison, rest)) => {
-            Step::Asks(comparison, place + (word.len() - rest.len()), rest)
+            Step::Asks(comparison, place, place + (word.len() - rest.len()), rest)
         }
-        None if matches!(word, [b'*']) => Step::All,
+        None if matches!(word, [b'*']) => Step::All(place),
         None => Step::Wrong(Fault {
             place,
             reason: Reason::NoOperator,

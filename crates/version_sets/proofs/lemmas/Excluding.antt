@@ -1,0 +1,135 @@
+-- Alternatives that leave a key out: what a reading says of the members behind a piece.
+use Rattle.std.proofs.Common.{◌≡◌, ◌∙◌, ◌≤◌, ◌<◌, ◌||◌, ◌&&◌, ℕ, suc, Bool, true, false, not, List, [], ◌∷◌, length, Option, Some, None, IfSome, ap, arith, refl, sym}
+use Rattle.std.specs.List.{list_all}
+use Rattle.std.specs.Option.{is_some}
+use Rattle.version_texts.specs.keyed.Keyed.{PlainKeyed}
+use Rattle.version_sets.specs.Comparison.{ends_with}
+use Rattle.version_sets.specs.Ends.{has}
+use Rattle.version_sets.specs.Excluding.{AreLeft, first_out, found_or, leave_out, left_read, room_left, span_of, steps_left, with_found}
+use Rattle.version_sets.specs.Pieces.{pieces}
+use Rattle.version_sets.specs.Reading.{Asked, Member, Not, Reading, Right, With, Wrong, answered, pieces_room, set_has, with_member}
+use Rattle.version_sets.specs.declared.read.comparison.Comparison.{Comparison}
+use Rattle.version_sets.specs.declared.read.excluding.Span.{Span}
+use Rattle.version_sets.specs.declared.read.pieces.Pieces.{Pieces}
+use Rattle.version_sets.specs.declared.read.steps.State.TheVariants.{Wanted}
+
+-- a reading is one with a member more
+pub record IsMore (member : Member) (rest : Reading) (first : List Member) (others : List (List Member)) : Type 0 where
+  pub more : List Member
+  pub rest_is : rest ≡ Right more others
+  pub first_is : first ≡ member ∷ more
+
+pub one_more : (member : Member) (rest : Reading) (first : List Member) (others : List (List Member))
+    → with_member member rest ≡ Right first others → IsMore member rest first others
+one_more member (Wrong place reason) first others e = cc e
+one_more member (Right more behind) first others e =
+    record { more = more; rest_is = cc e; first_is = cc e }
+
+-- a member was asked for, and there is one
+pub record IsAsked (member : List (List ℕ) → Member) (given : Asked) (rest : Reading) (first : List Member)
+    (others : List (List Member)) : Type 0 where
+  pub comparison : Comparison
+  pub version : PlainKeyed
+  pub is : given ≡ With comparison version
+  pub has_more : IsMore (member (ends_with comparison version)) rest first others
+
+pub is_asked : (read_as : List ℕ → Option PlainKeyed) (parts : Bool) (start place end : ℕ) (given : Asked)
+    (rest : Reading) (first : List Member) (others : List (List Member))
+    → answered read_as parts start place end given rest ≡ Right first others
+    → IsAsked (λ ends. record { start = start; end = end; ends = ends }) given rest first others
+is_asked read_as parts start place end (Not reason) rest first others e = cc e
+is_asked read_as parts start place end (With c version) rest first others e =
+    record { comparison = c; version = version; is = refl; has_more = one_more _ rest first others e }
+
+-- a member that has a key, and one that has not
+pub passes : (key : List ℕ) (member : Member) (more : List Member) → has member.ends key ≡ true
+    → first_out key (member ∷ more) ≡ first_out key more
+passes key member more has_it = rw has_it refl
+
+pub stops : (key : List ℕ) (member : Member) (more : List Member) → has member.ends key ≡ false
+    → first_out key (member ∷ more) ≡ Some (span_of member)
+stops key member more lacks = rw lacks refl
+
+-- what has all has each key
+pub all_has : (key : List ℕ) → has ([] ∷ []) key ≡ true
+all_has [] = refl
+all_has (b ∷ key) = refl
+
+pub not_true : (b : Bool) → not b ≡ true → b ≡ false
+not_true true e = cc e
+not_true false e = refl
+
+pub not_false : (b : Bool) → not b ≡ false → b ≡ true
+not_false true e = refl
+not_false false e = cc e
+
+-- what is found next is all where nothing was found before, and nothing where something was
+pub none_found : (found next : Option Span) → is_some found ≡ false → found_or found next ≡ next
+none_found None next e = refl
+none_found (Some span) next e = cc e
+
+pub once_found : (found next other : Option Span) → is_some found ≡ true
+    → found_or found next ≡ found_or found other
+once_found None next other e = cc e
+once_found (Some span) next other e = refl
+
+-- ---- alternatives
+
+-- what an alternative leaves out stands before what those behind it do
+pub behind_one : (read_as : List ℕ → Option PlainKeyed) (parts : Bool) (key : List ℕ) (found : Option Span)
+    (here : Pieces) (after : Option Pieces)
+    → ((first : List Member) (others : List (List Member)) → left_read read_as parts Wanted here ≡ Right first others
+    → (found ≡ first_out key first) × AreLeft read_as parts after others)
+    → (all : List (List Member)) → AreLeft read_as parts (Some here) all
+    → (rest : List (List Member)) × AreLeft read_as parts after rest
+    × (leave_out key all ≡ with_found found (leave_out key rest))
+behind_one read_as parts key found here after reads all left =
+    let is = reads left.0 left.1 left.3 in (
+      left.1,
+      is.1,
+      ap (leave_out key) left.2 ∙ ap (λ found. with_found found (leave_out key left.1)) (sym is.0),
+    )
+
+pub no_span : (found : Option Span) (more : List Span) → is_some found ≡ false → with_found found more ≡ more
+no_span None more e = refl
+no_span (Some span) more e = cc e
+
+pub room_kept : (most : ℕ → ℕ) (after : Option Pieces) (room : ℕ)
+    → IfSome after (λ after. pieces_room most (pieces after.place after.left.now) ≤ room) → room_left most after ≤ room
+room_kept most None room less = omega arith
+room_kept most (Some after) room less = less
+
+-- what is left behind an alternative is less
+pub fewer : (after : Option Pieces) (n : ℕ) → IfSome after (λ after. length after.left.now < n) → steps_left after ≤ n
+fewer None n less = omega arith
+fewer (Some after) n less = omega (arith, less)
+
+-- ---- a key that a set has not
+
+neither : (a b : Bool) → (a || b) ≡ false → (a ≡ false) × (b ≡ false)
+neither true b e = cc e
+neither false b e = (refl, e)
+
+-- one of the members of an alternative leaves it out
+one_out : (key : List ℕ) (first : List Member) (more : List Span)
+    → list_all (λ member. has member.ends key) first ≡ false
+    → length (with_found (first_out key first) more) ≡ suc (length more)
+one_out key [] more e = cc e
+one_out key (member ∷ first) more e = by (has member.ends key) refl (one_out key first more)
+  where
+    all_have : List Member → Bool
+    all_have = list_all (λ member. has member.ends key)
+
+    by : (has_it : Bool) → has member.ends key ≡ has_it
+        → (all_have first ≡ false → length (with_found (first_out key first) more) ≡ suc (length more))
+        → length (with_found (first_out key (member ∷ first)) more) ≡ suc (length more)
+    by true is rest = rw is (rest (ap (λ b. b && all_have first) (sym is) ∙ e))
+    by false is rest = rw is refl
+
+-- so that there are as many such members as alternatives
+pub all_out : (key : List ℕ) (all : List (List Member)) → set_has all key ≡ false
+    → length (leave_out key all) ≡ length all
+all_out key [] e = refl
+all_out key (first ∷ others) e =
+    let none = neither (list_all (λ member. has member.ends key) first) (set_has others key) e in
+    one_out key first (leave_out key others) none.0 ∙ ap suc (all_out key others none.1)

@@ -1,0 +1,58 @@
+use Rattle.std.proofs.Common.{◌≡◌, ◌∙◌, ◌∷◌, IfSome, List, Option, Some, None, ap, arith, rules, subst}
+use Rattle.version_sets.specs.Excluding.{AreLeft, leave_out, room_left, steps_left, with_found}
+use Rattle.version_sets.specs.Pieces.{pieces}
+use Rattle.version_sets.specs.Reading.{Member, pieces_room}
+use Rattle.version_sets.specs.declared.read.excluding.Span.{Span}
+use Rattle.version_sets.proofs.lemmas.Excluding.{behind_one, fewer, no_span, room_kept}
+use Rattle.version_sets.proofs.read.excluding.Alternatives.next_excluding.Goals as goal
+
+pub returns-then-is_some-clause-some : goal.returns-then-is_some-clause-some
+returns-then-is_some-clause-some g c =
+    by c.in_ok-found.found (λ all left.
+    let before = c.loop-self.invariant.reads all left in
+    let here = subst (λ l. AreLeft g.V.Keyed.read_as g.V.Keyed.parts l before.0) c.in-Some.is before.1 in
+    let after = behind_one g.V.Keyed.read_as g.V.Keyed.parts (g.V.Keyed.plain c.args.version.now).key c.in_ok-found.found c.in-Some.pieces
+    c.in_ok-found.left c.in_ok-found.ensures.read before.0 here in
+    (after.0, after.1, before.2 ∙ after.2))
+  where
+    by : (found : Option Span)
+        → ((all : List (List Member)) → AreLeft g.V.Keyed.read_as g.V.Keyed.parts c.args.self.now.left all
+        → (rest : List (List Member)) × AreLeft g.V.Keyed.read_as g.V.Keyed.parts c.in_ok-found.left rest
+        × (leave_out (g.V.Keyed.plain c.args.version.now).key all ≡ with_found found (leave_out (g.V.Keyed.plain c.args.version.now).key rest)))
+        → IfSome found (λ span. (all : List (List Member)) → AreLeft g.V.Keyed.read_as g.V.Keyed.parts c.args.self.now.left all
+        → (rest : List (List Member)) × AreLeft g.V.Keyed.read_as g.V.Keyed.parts c.in_ok-found.left rest
+        × (leave_out (g.V.Keyed.plain c.args.version.now).key all ≡ span ∷ leave_out (g.V.Keyed.plain c.args.version.now).key rest))
+    by None all = tt
+    by (Some span) all = all
+
+pub loop-self-preserved : goal.loop-self-preserved
+loop-self-preserved g c =
+    let V = g.V.Keyed in
+    let key = (V.plain c.args.version.now).key in
+    record {
+      room =
+          omega (
+            arith,
+            room_kept V.most c.in_ok-found.left
+                (pieces_room V.most (pieces c.in-Some.pieces.place c.in-Some.pieces.left.now))
+                c.in_ok-found.ensures.room,
+            ap (room_left V.most) c.in-Some.is,
+            c.loop-self.invariant.room,
+          );
+      nearer = omega (
+        arith,
+        fewer c.in_ok-found.left _ c.in_ok-found.ensures.nearer,
+        ap steps_left c.in-Some.is,
+        c.loop-self.invariant.nearer,
+      );
+      size = c.first_excluding.ensures.same ∙ c.loop-self.invariant.size;
+      reads = λ all left.
+          let before = c.loop-self.invariant.reads all left in
+          let here = subst (λ l. AreLeft V.read_as V.parts l before.0) c.in-Some.is before.1 in
+          let after = behind_one V.read_as V.parts key c.in_ok-found.found c.in-Some.pieces
+          c.in_ok-found.left c.in_ok-found.ensures.read before.0 here in (
+            after.0,
+            after.1,
+            before.2 ∙ after.2 ∙ no_span c.in_ok-found.found (leave_out key after.0) (search rules),
+          );
+    }

@@ -1,0 +1,25 @@
+use Rattle.std.proofs.Common.{◌≡◌, ◌+◌, ◌≤◌, List, length}
+use Rattle.version_sets.specs.Excluding.{first_out, found_or, left_read}
+use Rattle.version_sets.specs.Pieces.{pieces}
+use Rattle.version_sets.specs.Reading.{Member, Right, pieces_room}
+use Rattle.version_sets.specs.declared.read.steps.State.TheVariants.{Wanted}
+use Rattle.version_sets.proofs.read.excluding.first_excluding.Given as goal
+
+-- what is left of the alternative, and what was found before it
+abbrev pub invariant-loop-place : goal.invariant-loop-place
+invariant-loop-place g l = record {
+  end : l.pieces.place + length l.pieces.left.now ≡ l.fn.left.place + length l.fn.left.left.now;
+  nearer : length l.pieces.left.now ≤ length l.fn.left.left.now;
+  room : pieces_room g.V.Keyed.most (pieces l.pieces.place l.pieces.left.now)
+      ≤ pieces_room g.V.Keyed.most (pieces l.fn.left.place l.fn.left.left.now);
+  size : length l.room ≡ length l.initial.room;
+  reads : (first : List Member) (others : List (List Member))
+      → left_read g.V.Keyed.read_as g.V.Keyed.parts Wanted l.fn.left ≡ Right first others
+      → (more : List Member)
+      × (left_read g.V.Keyed.read_as g.V.Keyed.parts l.state l.pieces ≡ Right more others)
+      × (first_out (g.V.Keyed.plain l.fn.version).key first
+      ≡ found_or l.found (first_out (g.V.Keyed.plain l.fn.version).key more));
+}
+
+abbrev pub decreases-loop-place : goal.decreases-loop-place
+decreases-loop-place g l = length l.pieces.left.now

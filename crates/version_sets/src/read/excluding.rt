@@ -1,0 +1,161 @@
+//! Which members of a set leave a version out.
+
+ghost use Rattle.std.specs.Prelude.{◌≡◌, ◌∷◌, ◌+◌, ◌*◌, ◌≤◌, ◌<◌, ◌^◌, [], length, not, Bool, IfErr, IfNone, IfOk, IfSome, List, Option, ℕ};
+ghost use Rattle.std.proofs.Props.{props};
+ghost use Rattle.version_sets.specs.Ends.{has};
+ghost use Rattle.version_sets.specs.Excluding.{first_out, leave_out, left_read, room_left, steps_left, AreLeft};
+ghost use Rattle.version_sets.specs.Comparison.{ends_with};
+ghost use Rattle.version_sets.specs.Pieces.{pieces, Word};
+ghost use Rattle.version_sets.specs.Reading.{asked, piece_room, pieces_room, read_set, set_room, Member, Right, With};
+ghost use Rattle.version_sets.specs.declared.read.comparison.Comparison.{Comparison as Comparisons};
+ghost use Rattle.version_sets.specs.declared.read.steps.State.TheVariants.{Wanted};
+ghost use Rattle.version_texts.specs.keyed.Keyed.{AreWithin, PlainKeyed};
+
+use crate::form::Form;
+use crate::read::comparison::Comparison;
+use crate::read::member::{asked, write_member};
+use crate::read::piece_room;
+use crate::read::pieces::Pieces;
+use crate::read::steps::{State, Step};
+use version_texts::Keyed;
+
+/// Where a member of a set stands in its text: from its operator to the end of its version, in bytes from 0.
+#[derive(Clone, Copy, Debug, PartialEq, Eq)]
+pub struct Span {
+    pub start: usize,
+    pub end: usize,
+}
+
+/// The room is smaller than a set takes.
+#[derive(Clone, Copy, Debug, PartialEq, Eq)]
+pub struct NoRoom;
+
+/// The alternatives that are left of a set as people write it.
+#[derive(Clone, Copy)]
+pub struct Alternatives<'t> {
+    left: Option<Pieces<'t>>,
+    ghost small: { IfSome left (λ pieces. pieces.place + length pieces.left.now < 2 ^ 64) } by { Prim.hlevel props },
+}
+
+impl<'t> Alternatives<'t> {
+    /// Returns all alternatives of a text. Does not allocate.
+    pub fn of(text: &'t [u8]) -> Alternatives<'t>
+        ensures all { (read_as : List ℕ → Option PlainKeyed) (parts : Bool) (first : List Member)
+            (others : List (List Member)) → read_set read_as parts text.now ≡ Right first others
+            → AreLeft read_as parts result.left (first ∷ others) }
+        ensures room { (most : ℕ → ℕ) → set_room most text.now ≡ 2 * room_left most result.left }
+    {
+        Alternatives {
+            left: Some(Pieces {
+                left: text,
+                place: 0,
+            }),
+        }
+    }
+
+    /// Returns the first member that leaves a version out, of the next alternative that does. None where no other one
+    /// does: none at all of a set that has the version, of one that has it not as many as it has alternatives. A room in
+    /// which the set can be read is enough, and is overwritten. Does not allocate.
+    pub fn next_excluding<V: Keyed<'t>>(
+        &mut self,
+        version: &V,
+        room: &mut [u8],
+    ) -> Result<Option<Span>, NoRoom>
+        ensures some { IfOk result (λ found. IfSome found (λ span. (all : List (List Member))
+            → AreLeft V.read_as V.parts self.old.left all → (rest : List (List Member))
+            × AreLeft V.read_as V.parts self.new.left rest
+            × (leave_out (V.plain version.now).key all ≡ span ∷ leave_out (V.plain version.now).key rest))) }
+        ensures none { IfOk result (λ found. IfNone found ((all : List (List Member))
+            → AreLeft V.read_as V.parts self.old.left all → leave_out (V.plain version.now).key all ≡ [])) }
+        ensures nearer { IfOk result (λ found.
+            IfSome found (λ _. steps_left self.new.left < steps_left self.old.left)) }
+        ensures room { IfErr result (λ _. length room.old < room_left V.most self.old.left) }
+        ensures same { length room.new ≡ length room.old }
+    {
+        while let Some(pieces) = self.left {
+            let (found, left) = first_excluding(pieces, version, room)?;
+            self.left = left;
+            if found.is_some() {
+                return Ok(found);
+            }
+        }
+        Ok(None)
+    }
+}
+
+// Returns the first member of the next alternative that leaves a version out, if one does, and what is left of the
+// text behind that alternative, if others follow.
+fn first_excluding<'t, V: Keyed<'t>>(
+    left: Pieces<'t>,
+    version: &V,
+    room: &mut [u8],
+) -> Result<(Option<Span>, Option<Pieces<'t>>), NoRoom>
+    requires place { left.place + length left.left.now < 2 ^ 64 }
+    ensures read { IfOk result (λ found. (first : List Member) (others : List (List Member))
+        → left_read V.read_as V.parts Wanted left.entry ≡ Right first others
+        → (found.0 ≡ first_out (V.plain version.now).key first)
+        × AreLeft V.read_as V.parts found.1 others) }
+    ensures end { IfOk result (λ found. IfSome found.1 (λ after. after.place + length after.left.now
+        ≡ left.entry.place + length left.entry.left.now)) }
+    ensures nearer { IfOk result (λ found.
+        IfSome found.1 (λ after. length after.left.now < length left.entry.left.now)) }
+    ensures room { IfOk result (λ found. IfSome found.1 (λ after. pieces_room V.most (pieces after.place after.left.now)
+        ≤ pieces_room V.most (pieces left.entry.place left.entry.left.now))) }
+    ensures err { IfErr result (λ _.
+        length room.old < pieces_room V.most (pieces left.entry.place left.entry.left.now)) }
+    ensures same { length room.new ≡ length room.old }
+{
+    // Called for what it promises of every text.
+    V::key_room(0);
+    let mut pieces = left;
+    let mut state = State::Wanted;
+    let mut found = None;
+    while let Some((place, piece)) = pieces.next() {
+        if piece_room::<V>(piece) > room.len() {
+            return Err(NoRoom);
+        }
+        match state.step(place, piece) {
+            Step::Goes(next) => state = next,
+            Step::Closes => return Ok((found, Some(pieces))),
+            Step::All(_) => state = State::Come,
+            Step::Asks(comparison, start, place, text) => {
+                if found.is_none() && excludes(comparison, text, version, room) {
+                    found = Some(Span {
+                        start,
+                        end: place + text.len(),
+                    });
+                }
+                state = State::Come;
+            }
+            Step::Wrong(_) => return Ok((None, None)),
+        }
+    }
+    Ok((found, None))
+}
+
+// Whether a comparison with the version that a text is leaves a version out.
+fn excludes<'t, V: Keyed<'t>>(
+    comparison: Comparison,
+    text: &'t [u8],
+    version: &V,
+    room: &mut [u8],
+) -> bool
+    requires enough { AreWithin V.read_as V.most }
+    requires room { (word : List ℕ) × (length text.now ≤ length word)
+        × (piece_room V.most (Word word) ≤ length room.old) }
+    ensures excludes { (c : Comparisons) (other : PlainKeyed)
+        → asked V.read_as V.parts comparison text.now ≡ With c other
+        → result ≡ not (has (ends_with c other) (V.plain version.now).key) }
+    ensures same { length room.new ≡ length room.old }
+{
+    match asked::<V>(comparison, text) {
+        Ok(member) => {
+            let size = write_member(0, member, room, 0);
+            match Form::of(&room[..size]) {
+                Some((_, form)) => !form.has(version),
+                None => false,
+            }
+        }
+        Err(_) => false,
+    }
+}
