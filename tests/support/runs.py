@@ -55,12 +55,14 @@ Usage: versions <COMMAND>
 Commands:
   sort     Write lines in the order of their versions
   newest   Write the line with the newest version, or that of each group
-  filter   Write lines whose versions a list of requirements matches
+  filter   Write lines whose versions are in a set
   show     Write the kind of versions, their numbers and other fields
   key      Write sort keys in hexadecimal, whose order as bytes is that of the versions
   test     End with 0 if it is so, 1 if not, and 2 if a word is wrong; write nothing
   compare  Write <, = or > between two versions
-  why      Write which requirement excludes each version, and on which side
+  why      Write whether each version is in a set, or which members leave it out
+  implies  Write yes, and end with 0, if all that is in a set is in another; else no and 1
+  meets    Write yes, and end with 0, if two sets have something in common; else no and 1
   diff     Write where two versions differ first, or what changed between two lists of names
   next     Write the version that comes next at a place
 
@@ -68,8 +70,8 @@ Options:
   -h, --help     Print help
   -V, --version  Print version
 
-Status: 0 for an answer, even an empty one; 1 for a text that is no version or requirement, and for
-a no of test; 2 for wrong words; 3 if there is no memory, or a file can't be read or written.
+Status: 0 for an answer, even an empty one; 1 for a text that is no version or set, and for a no of
+test, implies and meets; 2 for wrong words; 3 if there is no memory, or a file can't be read or written.
 """
 HELP_OF_KEY = """\
 Write sort keys in hexadecimal, whose order as bytes is that of the versions
@@ -101,6 +103,8 @@ JSON = (
     '{"version":"1.2.0-rc.1","kind":"ideal","epoch":null,"major":1,"minor":2,"patch":0,"pre_release":"rc.1",'
     '"release":null,"metadata":null,"stability":"rc"}\n'
 )
+NO_MEMBER = "a member is missing: * has all versions"
+NO_OPERATOR = "an operator is missing: write = or ^ before the version"
 MORE = "\n\nFor more information, try '--help'.\n"
 OPERATORS = "[possible values: <, <=, =, >=, >, lt, le, eq, ge, gt]"
 STABILITIES = "[possible values: dev, alpha, beta, rc, stable]"
@@ -125,16 +129,21 @@ VERSIONS = (
     Run("newest -n 2 -g 1 -k 2", "left 1.9\nup 2.0\nleft 1.10\nleft 1.8\n", "left 1.10\nleft 1.9\nup 2.0\n"),
     Run("newest -n 2 --match <2", "1.9\n1.11\n1.10\n2.0\n", "1.11\n1.10\n"),
     Run("newest --tags --min-stability stable", "v1.9.0\nv2.0.0-beta.1\nv1.10.0\n", "v1.10.0\n"),
-    Run("filter >=1.2,<2", "1.1\n1.2\nx y\n2.0\n", "1.2\n"),
-    Run("filter -v >=1.2,<2", "1.1\n1.2\nx y\n2.0\n", "1.1\n2.0\n"),
+    Run("filter '>=1.2, <2'", "1.1\n1.2\nx y\n2.0\n", "1.2\n"),
+    Run("filter -v '>=1.2, <2'", "1.1\n1.2\nx y\n2.0\n", "1.1\n2.0\n"),
     Run("show 1:2.0-3", "", FIELDS),
     Run("show --json 1.2.0-rc.1", "", JSON),
     Run("key --crlf", "1.2.3\r\n", "000301310203013202030133020202\n"),
-    Run("why >=1.5,<2 1.4 1.6", "", "1.4 is below >=1.5\n1.6 matches\n"),
+    Run("why '>=1.5, <2 || ^3' 1.4 1.6", "", "1.4 is left out by >=1.5 and by ^3\n1.6 matches\n"),
+    Run("why '>2 <1' 1.4", "", "no version is in >2 <1\n1.4 is left out by >2\n"),
+    Run("implies ^1.2 '>=1, <3'", "", "yes\n"),
+    Run("implies * ^1", "", "no\n", status=1),
+    Run("meets ^1.2 '<1.1 || >=2'", "", "no\n", status=1),
     Run("next minor 1.2.5", "", "1.3.0\n"),
     Run("test 1.10 gt 1.9"),
-    Run("test 1.10 >=1.2,<2"),
+    Run("test 1.10 ^1.2"),
     Run("test 1.9 > 1.10", status=1),
+    Run("test 2 ^1.2", status=1),
     Run("compare --explain 1.10 1.9", "", "> they differ first in part 1\n"),
     Run("diff 1.2.3 1.2.3-rc.1", "", "tail\n"),
     Run("sort", "1.1\nx y\n1.0\n", status=1, fault="versions: line 2 is not a version: x y\n"),
@@ -142,8 +151,9 @@ VERSIONS = (
     Run("show", "1.0\r\n", status=1, fault="versions: line 1 ends in a carriage return: --crlf\n"),
     Run("key 1..2", status=1, fault="versions: not a version: 1..2\n"),
     Run("compare 1 .", status=1, fault="versions: not a version: .\n"),
-    Run("filter >=1.0,", "1.0\n", status=1, fault="versions: not a requirement: >=1.0,\n"),
-    Run("test 1 lt 'x y'", status=2, fault="versions: neither a version nor a requirement: x y\n"),
+    Run("filter >=1.0,", "1.0\n", status=1, fault=f"versions: not a set: >=1.0,; at byte 7: {NO_MEMBER}\n"),
+    Run("test 1 lt 'x y'", status=2, fault="versions: not a version: x y\n"),
+    Run("meets * 1.2", status=2, fault=f"versions: not a set: 1.2; at byte 1: {NO_OPERATOR}\n"),
     Run("next 3 1.2.3", status=1, fault="versions: no version comes next at that place: 1.2.3\n"),
     Run(
         "sort -t ab",

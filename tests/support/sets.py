@@ -1,7 +1,9 @@
 """A model of sets of versions, written from docs/SETS.md alone: which texts are sets, where others are wrong, and which
-versions a set has. Of what kind a version is, and how two compare, is asked of the library.
+versions a set has. Of what kind a version is, and how two compare, is asked of the library. And the page's tables.
 """
 import re
+
+from checks import TOP
 
 OPERATORS = ("==", "=", "!=", "<=", "<", ">=", ">", "~=", "~>", "~", "^")
 PIECE = re.compile(r"\|\||[|,]|[^ \t|,]+")
@@ -70,3 +72,22 @@ class Model:
         epochs = [int((re.match("([0-9]+):", each) or ["", "0"])[1]) for each in (version, text)]
         pairs = list(zip(parts_of(version), parts_of(text)))[:count]
         return epochs[0] == epochs[1] and len(pairs) == count and all(self.compare(a, b) == 0 for a, b in pairs)
+
+
+def rows_of_page(heading):
+    """The rows of the page's table with a heading, each by the texts of its cells."""
+    page = (TOP / "docs/SETS.md").read_text(encoding="utf-8")
+    for line in page.split(f"| {heading} |", 1)[1].split("\n\n")[0].splitlines()[2:]:
+        yield [cell.strip().replace("\\|", "|") for cell in re.split(r"(?<!\\)\|", line)[1:-1]]
+
+
+def worked_rows():
+    """Sets of the page, each with versions that it has, and that it has not."""
+    for text, has, lacks in rows_of_page("set | has | has not"):
+        yield text.strip("`"), re.findall("`(.*?)`", has), re.findall("`(.*?)`", lacks)
+
+
+def wrong_rows():
+    """Texts of the page that are no sets, each with the place and the sentence that are told."""
+    for text, place, sentence in rows_of_page("text | at | what is said"):
+        yield text.strip("`"), int(place), sentence

@@ -13,6 +13,8 @@ STABILITIES = ["dev", "alpha", "beta", "rc", "stable"]
 SIGNS = {"<": "lt", "<=": "le", "=": "eq", ">=": "ge", ">": "gt"}
 HOLDS = {"lt": (-1,), "le": (-1, 0), "eq": (0,), "ge": (0, 1), "gt": (1,)}
 PLACES = ["major", "minor", "patch"]
+# A member of a set, as it stands there.
+MEMBER = re.compile(r"\*|[=!<>~^]+[ \t]*[^ \t,|]+")
 SHOWN = 60
 
 SHORT = {"r": "reverse", "u": "unique", "k": "key", "t": "field-separator", "z": "zero-terminated", "n": "count"}
@@ -31,6 +33,8 @@ COMMANDS = {
     "test": (set(), 2, 3),
     "compare": ({"explain"}, 2, 2),
     "why": (ENDS, 1, None),
+    "implies": (set(), 2, 2),
+    "meets": (set(), 2, 2),
     "diff": ({"lists", "group", "invalid"} | PLACE, 2, 2),
     "next": (ENDS, 1, None),
 }
@@ -80,7 +84,7 @@ class Run:
             else:
                 text = self.read(name)
             if text is None:
-                raise Ended(3, b"cannot be read: " + name.encode())
+                raise Ended(3, b"cannot be read: " + shown(name.encode()))
             texts.append(text if not text or text.endswith(self.end()) else text + self.end())
         return b"".join(texts).split(self.end())[:-1]
 
@@ -121,7 +125,7 @@ class Run:
 
     def lines(self, files, default, arrange):
         """What `sort`, `newest` and `filter` write of their input."""
-        requirement(self.options.get("match", "*"))
+        wanted = version_set(self.options.get("match", "*"))
         asked = self.options.get("invalid", "skip" if "invalid-to" in self.options else default)
         lines = self.input(files)
         texts = self.texts(lines, number(self.options.get("key")))
@@ -131,7 +135,7 @@ class Run:
         levels = versions.stabilities([text for _, text in rows])
         rows = [row for row, level in zip(rows, levels) if STABILITIES.index(str(level)) >= least]
         if "match" in self.options:
-            rows = matching(rows, self.options["match"], True)
+            rows = matching(rows, wanted, True)
         good = [line for line, _ in arrange(rows)]
         if "invalid-to" in self.options:
             self.written[self.options["invalid-to"]] = b"".join(line + self.end() for line in bad)
@@ -167,8 +171,7 @@ class Run:
         return self.lines(files, "fail", arrange)
 
     def filter(self, wanted, *files):
-        requirement(wanted)
-        keeps = "invert-match" not in self.options
+        wanted, keeps = version_set(wanted), "invert-match" not in self.options
         return self.lines(files, "skip", lambda rows: matching(rows, wanted, keeps))
 
     # One version or two.
@@ -191,14 +194,17 @@ class Run:
         return self.each(words, lambda one: one.key.hex().encode() + b"\n")
 
     def why(self, wanted, *words):
-        wanted = requirement(wanted)
-        head = ""
-        if wanted.conflict:
-            one, other = wanted.conflict
-            head = f"{one} excludes every version\n" if one == other else f"{one} and {other} exclude each other\n"
-        return head.encode().replace(b"\n", self.end()) + self.each(
-            words, lambda one: f"{wanted.why_not(one) or f'{one} matches'}\n".encode()
-        )
+        found = version_set(wanted)
+        head = b"" if found else b"no version is in " + wanted.encode() + self.end()
+        alternatives = [[(text, versions.VersionSet(text)) for text in MEMBER.findall(each)] for each in wanted.split("||")]
+
+        def line(one):
+            if one in found:
+                return f"{one} matches\n".encode()
+            first = [next(text for text, member in members if one not in member) for members in alternatives]
+            return f"{one} is left out by {' and by '.join(first)}\n".encode()
+
+        return head + self.each(words, line)
 
     def next(self, place, *words):
         if place not in PLACES and not (re.fullmatch("[0-9]+", place) and int(place) < 2**64):
@@ -216,18 +222,22 @@ class Run:
     def test(self, *words):
         if len(words) == 3 and SIGNS.get(words[1], words[1]) not in HOLDS:
             raise WRONG
-        try:
-            if len(words) == 2:
-                holds = requirement(words[1]).matches(version(words[0]))
-            else:
-                first, second = version(words[0]), version(words[2])
-                holds = versions.compare(first, second) in HOLDS[SIGNS.get(words[1], words[1])]
-        except Ended as ended:
-            word = ended.text.split(b": ", 1)[1]
-            raise Ended(2, b"neither a version nor a requirement: " + word) from None
-        if not holds:
-            raise Ended(1, b"")
-        return b""
+        if len(words) == 2:
+            one = version(words[0], 2)
+            return self.ending(one in version_set(words[1], 2))
+        first, second = version(words[0], 2), version(words[2], 2)
+        return self.ending(versions.compare(first, second) in HOLDS[SIGNS.get(words[1], words[1])])
+
+    def implies(self, one, other):
+        return self.ending(version_set(one, 2) <= version_set(other, 2), b"yes\n", b"no\n")
+
+    def meets(self, one, other):
+        return self.ending(not version_set(one, 2).isdisjoint(version_set(other, 2)), b"yes\n", b"no\n")
+
+    def ending(self, answer, yes=b"", no=b""):
+        """Ends with 0 for yes and 1 for no."""
+        self.status = 0 if answer else 1
+        return yes if answer else no
 
     def compare(self, first, second):
         first, second = version(first), version(second)
@@ -340,18 +350,19 @@ def in_tag(text, prefix):
         return None
 
 
-def version(word):
+def version(word, status=1):
     try:
         return versions.Version(word)
     except versions.InvalidVersion:
-        raise Ended(1, b"not a version: " + shown(word.encode())) from None
+        raise Ended(status, b"not a version: " + shown(word.encode())) from None
 
 
-def requirement(word):
+def version_set(word, status=1):
     try:
-        return versions.Requirement(word)
-    except versions.InvalidRequirement:
-        raise Ended(1, b"not a requirement: " + shown(word.encode())) from None
+        return versions.VersionSet(word)
+    except versions.InvalidVersionSet as error:
+        place, reason = len(word[: error.start].encode()) + 1, error.reason.encode()
+        raise Ended(status, b"not a set: %s; at byte %d: %s" % (shown(word.encode()), place, reason)) from None
 
 
 def matching(rows, wanted, keeps):

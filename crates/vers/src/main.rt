@@ -30,12 +30,12 @@ fn words<R: Env + AllocGlobal>(rt: &R) -> Option<Vec<String>> {
 }
 
 // Returns the exit code: a fault is printed, and sets its status, even if it cannot be printed.
-fn ending(rt: &impl Eprint, outcome: Result<(), Fault<'_>>) -> ExitCode
+fn ending(rt: &impl Eprint, outcome: Result<bool, Fault<'_>>) -> ExitCode
     ensures { MatchResult outcome.entry
         (λ _. exit_status result ≡ 0) (λ fault. exit_status result ≡ status_of fault) }
 {
     match outcome {
-        Ok(()) => ExitCode::SUCCESS,
+        Ok(_) => ExitCode::SUCCESS,
         Err(fault) => {
             let _ = eprintln!(rt; "{fault}");
             ExitCode::from(fault.status())

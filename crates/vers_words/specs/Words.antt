@@ -5,16 +5,15 @@ use Rattle.vers_words.specs.declared.faults.Fault.{Fault}
 use Rattle.vers_words.specs.declared.faults.Fault.TheVariants.{Usage, Task}
 use Rattle.version_commands.specs.declared.faults.Fault.TheVariants.{Memory}
 use Rattle.version_commands.specs.declared.files.NoFiles.{NoFiles}
-use Rattle.version_commands.specs.declared.options.Arrangement.TheVariants.{Filter, Sort}
+use Rattle.version_commands.specs.declared.options.Arrangement.TheVariants.{Sort}
 use Rattle.version_commands.specs.declared.options.EachOptions.{EachOptions}
-use Rattle.version_commands.specs.declared.options.Invalid.{Invalid}
-use Rattle.version_commands.specs.declared.options.Invalid.TheVariants.{Fail, Skip}
+use Rattle.version_commands.specs.declared.options.Invalid.TheVariants.{Fail}
 use Rattle.version_commands.specs.declared.options.Labels.TheVariants.{Every, Strict}
 use Rattle.version_commands.specs.declared.options.LineOptions.{LineOptions}
 use Rattle.version_commands.specs.declared.options.Naming.TheVariants.{Bare}
 use Rattle.version_commands.specs.declared.options.Question.TheVariants.{Key}
 use Rattle.version_commands.specs.declared.options.Task as options
-use Rattle.version_commands.specs.declared.options.Task.TheVariants.{Compare, Each, Label, Lines}
+use Rattle.version_commands.specs.declared.options.Task.TheVariants.{Compare, Each, Label, Lines, Match}
 use Rattle.version_lines.specs.Lines.{line_feed}
 use Rattle.version_tasks.specs.declared.stability.Stability.TheVariants.{Dev}
 
@@ -27,16 +26,15 @@ are_command (name ∷ word ∷ []) = bytes_eq name (codes "key") || bytes_eq nam
 are_command (name ∷ first ∷ second ∷ []) = bytes_eq name (codes "cmp")
 are_command (name ∷ first ∷ second ∷ third ∷ others) = false
 
--- Lines are those of standard input, each of which is its version or has none; this becomes of the
--- lines that have none.
-pub record ArePlain (invalid : Invalid) (options : LineOptions) : Type 0 where
+-- Lines are those of standard input, each of which has to be a version.
+pub record ArePlain (options : LineOptions) : Type 0 where
   pub end_is : options.end ≡ line_feed
   pub crlf_is : options.place.crlf ≡ false
   pub column_is : options.place.column ≡ None
   pub naming_is : options.place.naming ≡ Bare
   pub least_is : options.choice.least ≡ Dev
   pub wanted_is : options.choice.wanted ≡ None
-  pub invalid_is : options.invalid ≡ invalid
+  pub invalid_is : options.invalid ≡ Fail
   pub invalid_to_is : options.invalid_to ≡ None
   pub progress_is : options.progress ≡ false
   pub files_are : options.files.items ≡ []
@@ -57,10 +55,9 @@ Means [] (Label Strict) = ⊤
 Means (name ∷ []) (Label Strict) = IsName (codes "ideal") name
 Means (name ∷ []) (Label Every) = IsName (codes "show") name
 Means (name ∷ []) (Lines (Sort reverse unique) options) =
-    IsName (codes "sort") name × (reverse ≡ false) × (unique ≡ false) × ArePlain Fail options
+    IsName (codes "sort") name × (reverse ≡ false) × (unique ≡ false) × ArePlain options
 Means (name ∷ word ∷ []) (Each Key options) = IsName (codes "key") name × AsksOne word options
-Means (name ∷ word ∷ []) (Lines (Filter list inverted) options) =
-    IsName (codes "match") name × (list.now ≡ word) × (inverted ≡ false) × ArePlain Skip options
+Means (name ∷ word ∷ []) (Match list) = IsName (codes "match") name × (list.now ≡ word)
 Means (name ∷ a ∷ b ∷ []) (Compare first second explain) =
     IsName (codes "cmp") name × (first.now ≡ a) × (second.now ≡ b) × (explain ≡ false)
 Means words other = ⊥

@@ -12,7 +12,7 @@ use version_commands::{Files, NoFiles, serve};
 
 /// Runs the command that the words name. `ideal`, `show`, `sort` and `match R` read the whole input and write their
 /// output for its lines; without words, the command is `ideal`. `cmp A B` and `key V` compare and key their words, and
-/// read nothing. docs/VERS.md has their rules.
+/// read nothing. docs/VERS.md has their rules. None answers no.
 ///
 /// It fails before it reads anything with [`Fault::Usage`] if the words are not a command, and with the first word that
 /// is not what it should be. The whole input is read and checked before anything is written, and all memory is taken
@@ -29,7 +29,7 @@ pub fn run<'w, R: Read, W: Write>(
     words: &'w [String],
     reader: &mut R,
     writer: &mut W,
-) -> Result<(), Fault<'w>>
+) -> Result<bool, Fault<'w>>
     ensures { RunsBy ⟦<NoFiles as Files>⟧.reads ⟦<NoFiles as Files>⟧.puts ⟦<NoFiles as Files>⟧.alters R.remaining no_files no_files
         reader.old reader.new
         (W.contents writer.old) (W.contents writer.new) (Means (map string_bytes words.now))
@@ -38,6 +38,5 @@ pub fn run<'w, R: Read, W: Write>(
     let Some(task) = task_of(alloc, words)? else {
         return Err(Fault::Usage);
     };
-    serve(alloc, &task, &mut NoFiles, reader, writer)?;
-    Ok(())
+    Ok(serve(alloc, &task, &mut NoFiles, reader, writer)?)
 }

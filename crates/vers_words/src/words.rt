@@ -18,7 +18,7 @@ pub fn task_of<'w>(alloc: Global, words: &'w [String]) -> Result<Option<Task<'w>
         [] => Ok(Some(Task::Label(Labels::Strict))),
         [name] => Ok(task_of_name(alloc, name.as_str())),
         [name, word] if name.as_str() == "key" => Ok(Some(key_task(alloc, word.as_str())?)),
-        [name, word] if name.as_str() == "match" => Ok(Some(match_task(alloc, word.as_str()))),
+        [name, word] if name.as_str() == "match" => Ok(Some(Task::Match(word.as_str()))),
         [name, first, second] if name.as_str() == "cmp" => Ok(Some(Task::Compare {
             first: first.as_str(),
             second: second.as_str(),
@@ -40,7 +40,7 @@ fn task_of_name<'w>(alloc: Global, name: &str) -> Option<Task<'w>>
                 reverse: false,
                 unique: false,
             };
-            Some(Task::Lines(arrangement, options(alloc, Invalid::Fail)))
+            Some(Task::Lines(arrangement, options(alloc)))
         }
         _ => None,
     }
@@ -60,20 +60,9 @@ fn key_task<'w>(alloc: Global, version: &'w str) -> Result<Task<'w>, AllocError>
     Ok(Task::Each(Question::Key, options))
 }
 
-// Returns the task to write the lines that a list matches.
-fn match_task<'w>(alloc: Global, list: &'w str) -> Task<'w>
-    ensures { Means (codes "match" ∷ list.now ∷ []) result }
-{
-    let arrangement = Arrangement::Filter {
-        list,
-        inverted: false,
-    };
-    Task::Lines(arrangement, options(alloc, Invalid::Skip))
-}
-
-// Returns the options of a command over lines, each of which is a version or none.
-fn options<'w>(alloc: Global, invalid: Invalid) -> LineOptions<'w>
-    ensures { ArePlain invalid result }
+// Returns the options of a command over lines, each of which has to be a version.
+fn options<'w>(alloc: Global) -> LineOptions<'w>
+    ensures { ArePlain result }
 {
     LineOptions {
         end: b'\n',
@@ -86,7 +75,7 @@ fn options<'w>(alloc: Global, invalid: Invalid) -> LineOptions<'w>
             least: Stability::Dev,
             wanted: None,
         },
-        invalid,
+        invalid: Invalid::Fail,
         invalid_to: None,
         progress: false,
         files: Vec::new(alloc),

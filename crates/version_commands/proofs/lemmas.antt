@@ -10,3 +10,4 @@ pub mod Picked
 pub mod Pieces
 pub mod Place
 pub mod Rows
+pub mod Sets

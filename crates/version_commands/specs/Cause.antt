@@ -1,17 +1,17 @@
 -- Why a task fails: what each of its faults comes of. Refused memory and a writer that takes no more
 -- can end any task.
 use Rattle.std.proofs.Common.{Global, String}
-use Rattle.std.specs.Prelude.{◌≡◌, ◌⊎◌, ⊤, ℕ, Bool, List, [], ◌∷◌, codes, map, Option, Some, None, Result, string_bytes}
+use Rattle.std.specs.Prelude.{◌≡◌, ◌⊎◌, ⊤, ℕ, List, [], ◌∷◌, codes, map, Option, Some, string_bytes}
 use Rattle.std.specs.Io.KnownBytes.{Consumes, IsAtEnd}
 use Rattle.version_commands.specs.Arranged.{policy}
-use Rattle.version_commands.specs.Choice.{wrong_list}
+use Rattle.version_commands.specs.Choice.{wrong_set}
 use Rattle.version_commands.specs.Each.{AreTexts, IsFirstWithoutNext}
-use Rattle.version_commands.specs.Fault.{first_wrong, ComesOfLines, ComesOfPut, ComesOfReading, ComesOfStandard, ComesOfTest, ComesOfWords}
+use Rattle.version_commands.specs.Fault.{first_wrong, ComesOfLines, ComesOfMatching, ComesOfPut, ComesOfReading, ComesOfSets, ComesOfStandard, ComesOfTestOfSet, ComesOfTestOfSets, ComesOfTestOfTwo, ComesOfWords}
 use Rattle.version_commands.specs.Inputs.{joined, names_read, AreInputs, Reading}
 use Rattle.version_commands.specs.Lists.{bad_lines_of, lines_of_list, names_of}
 use Rattle.version_commands.specs.Place.{line_text, text_of}
 use Rattle.version_commands.specs.Quote.{quoted}
-use Rattle.version_commands.specs.Test.{answer_of_two, IsAnswerOfList}
+use Rattle.version_commands.specs.Sets.{IsWrongSet}
 use Rattle.version_commands.specs.declared.faults.Fault.{Fault}
 use Rattle.version_commands.specs.declared.faults.Fault.TheVariants as fault
 use Rattle.version_commands.specs.declared.options.Arrangement.{Arrangement}
@@ -23,10 +23,8 @@ use Rattle.version_commands.specs.declared.options.Question.TheVariants.{Why}
 use Rattle.version_commands.specs.declared.options.Task.{Task}
 use Rattle.version_commands.specs.declared.options.Task.TheVariants as task
 use Rattle.version_commands.specs.declared.options.Invalid.TheVariants.{Fail}
-use Rattle.version_commands.specs.declared.test.WrongWord.{WrongWord}
+use Rattle.version_commands.specs.declared.set.WrongSet.{WrongSet}
 use Rattle.version_lines.specs.Lines.{lines_of}
-use Rattle.version_rules.specs.requirement.Requirements.{requirements_of}
-use Rattle.version_rules.specs.grammar.Versioning.{versioning_of}
 
 -- the faults of a run over the lines of an input: of the lines that have no version, or of the file
 -- for these
@@ -35,11 +33,11 @@ ComesOfArranged options text_of input (fault.Write name) = ComesOfPut options (f
 ComesOfArranged options text_of input other =
     ComesOfLines (policy options) options.place.crlf text_of (lines_of options.end input) other
 
--- the faults of `sort`, `newest` and `filter`: of a word that is no list of requirements, of an input,
--- of the lines that have no version, or of the file for these
+-- the faults of `sort`, `newest` and `filter`: of a word that is no set, of an input, of the lines that
+-- have no version, or of the file for these
 abbrev pub ComesOfArranging : Arrangement → LineOptions → Reading → Option (List ℕ) → Fault → Type 0
-ComesOfArranging arrangement options reads old (fault.NotRequirement text) =
-    wrong_list options.choice arrangement ≡ Some text.now
+ComesOfArranging arrangement options reads old (fault.NotSet wrong) =
+    ComesOfSets (wrong_set options.choice arrangement) (fault.NotSet wrong)
 ComesOfArranging arrangement options reads old (fault.Read name) =
     ComesOfReading reads (names_read (map (λ name. name.now) options.files.items)) (fault.Read name)
 ComesOfArranging arrangement options reads old fault.Memory = ⊤
@@ -48,16 +46,16 @@ ComesOfArranging arrangement options reads old other =
     × AreInputs reads old new (names_read (map (λ name. name.now) options.files.items)) texts
     × ComesOfArranged options (text_of options.place) (joined options.end texts) other
 
--- this is the question's word for its list, which is none
-abbrev pub HasWrongList : Question → List ℕ → Type 0
-HasWrongList (Why list) word = (list.now ≡ word) × (requirements_of word ≡ None)
-HasWrongList other word = ⊥
+-- this is what is wrong with the question's word for its set
+abbrev pub HasWrongSet : Question → WrongSet → Type 0
+HasWrongSet (Why set) wrong = IsWrongSet set.now wrong
+HasWrongSet other wrong = ⊥
 
--- the faults of a question's list
-abbrev pub ComesOfList : Question → Fault → Type 0
-ComesOfList question (fault.NotRequirement word) = HasWrongList question word.now
-ComesOfList question fault.Memory = ⊤
-ComesOfList question other = ⊥
+-- the faults of a question's set
+abbrev pub ComesOfQuestion : Question → Fault → Type 0
+ComesOfQuestion question (fault.NotSet wrong) = HasWrongSet question wrong
+ComesOfQuestion question fault.Memory = ⊤
+ComesOfQuestion question other = ⊥
 
 -- the first of some texts whose version has no next, as a message shows it
 abbrev pub QuotesFirstWithoutNext : Question → ℕ → List (List ℕ) → List ℕ → Type 0
@@ -71,7 +69,7 @@ ComesOfAnswering question end texts other = (other ≡ fault.Memory)
     × QuotesFirstWithoutNext question end texts (string_bytes text))
 
 -- the faults of `show`, `key`, `why` and `next`: of a word that is no version, or without words of
--- standard input or a line of it, of a version that none comes next to, or of the list of `why`
+-- standard input or a line of it, of a version that none comes next to, or of the set of `why`
 abbrev pub ComesOfAsking : Question → EachOptions → Option (List ℕ) → Fault → Type 0
 ComesOfAsking question options old (fault.NotVersion text) =
     first_wrong (map (λ word. word.now) options.versions.items) ≡ Some text.now
@@ -85,7 +83,7 @@ ComesOfAsking question options old (fault.Read name) =
 ComesOfAsking question options old (fault.NoNext text) =
     (new : Option (List ℕ)) × (texts : List (List ℕ)) × AreTexts options old new texts
     × QuotesFirstWithoutNext question options.end texts (string_bytes text)
-ComesOfAsking question options old other = ComesOfList question other
+ComesOfAsking question options old other = ComesOfQuestion question other
 
 -- the faults of the lines without a version of a list
 abbrev pub ComesOfOne : Lists → List ℕ → Fault → Type 0
@@ -105,25 +103,21 @@ ComesOfChanges lists reads old (fault.BadLine number text ends more) =
     × ComesOfEither lists first second (fault.BadLine number text ends more)
 ComesOfChanges lists reads old other = ComesOfReading reads (names_of lists) other
 
--- the faults of `test` with a list
-abbrev pub ComesOfTestOfList : List ℕ → List ℕ → Fault → Type 0
-ComesOfTestOfList version list other =
-    (answer : Result Bool WrongWord)
-    × IsAnswerOfList (versioning_of version) (requirements_of list) answer
-    × ComesOfTest answer version list other
-
 -- the faults of each task, but for a writer that takes no more
 abbrev pub ComesOf : Task → Reading → Option (List ℕ) → Fault → Type 0
 ComesOf (task.Lines arrangement options) reads old fault =
     ComesOfArranging arrangement options reads old fault
 ComesOf (task.Each question options) reads old fault = ComesOfAsking question options old fault
 ComesOf (task.TestTwo a operator b) reads old fault =
-    ComesOfTest (answer_of_two operator (versioning_of a.now) (versioning_of b.now)) a.now b.now fault
-ComesOf (task.TestList version list) reads old fault = ComesOfTestOfList version.now list.now fault
+    ComesOfTestOfTwo (first_wrong (a.now ∷ b.now ∷ [])) fault
+ComesOf (task.TestSet version set) reads old fault = ComesOfTestOfSet version.now set.now fault
+ComesOf (task.Implies one other) reads old fault = ComesOfTestOfSets one.now other.now fault
+ComesOf (task.Meets one other) reads old fault = ComesOfTestOfSets one.now other.now fault
 ComesOf (task.Compare a b explain) reads old fault =
     ComesOfWords (first_wrong (a.now ∷ b.now ∷ [])) fault
 ComesOf (task.Difference a b) reads old fault =
     ComesOfWords (first_wrong (a.now ∷ b.now ∷ [])) fault
 ComesOf (task.Lists lists) reads old fault = ComesOfChanges lists reads old fault
+ComesOf (task.Match list) reads old fault = ComesOfMatching list.now fault
 ComesOf (task.Label labels) reads old fault = ComesOfStandard fault
 ComesOf (task.Say text) reads old fault = ⊥

@@ -8,13 +8,13 @@ use Rattle.version_commands.specs.Next.{WritesNext}
 use Rattle.version_commands.specs.Pieces.{Adds}
 use Rattle.version_commands.specs.Place.{line_text}
 use Rattle.version_commands.specs.Show.{show_text}
-use Rattle.version_commands.specs.Why.{IsConflictText, IsWhyLine}
+use Rattle.version_commands.specs.Why.{IsWhyHead, IsWhyLine}
 use Rattle.version_commands.specs.declared.each.Answers.{Answers}
 use Rattle.version_commands.specs.declared.options.EachOptions.{EachOptions}
 use Rattle.version_commands.specs.declared.options.Question.{Question}
 use Rattle.version_commands.specs.declared.options.Question.TheVariants.{Show, Json, Key, Why, Next}
 use Rattle.version_lines.specs.Lines.{lines_of}
-use Rattle.version_rules.specs.requirement.Requirements.{requirements_of}
+use Rattle.version_sets.specs.Mixed.{set_of}
 use Rattle.version_tasks.specs.Next.{NoNext}
 use Rattle.version_rules.specs.grammar.Versioning.{PlainVersioning, versioning_of}
 
@@ -23,16 +23,16 @@ abbrev pub IsAnswer : Question → ℕ → PlainVersioning → Bool → List ℕ
 IsAnswer Show end v found answer = (found ≡ true) × (answer ≡ show_text end v)
 IsAnswer Json end v found answer = (found ≡ true) × (answer ≡ json_line end v)
 IsAnswer Key end v found answer = (found ≡ true) × (answer ≡ key_line end v)
-IsAnswer (Why list) end v found answer = (found ≡ true) × IsWhyLine end list.now v answer
+IsAnswer (Why set) end v found answer = (found ≡ true) × IsWhyLine end set.now v answer
 IsAnswer (Next place) end v found answer = WritesNext end v place found answer
 
--- the list of `why` is one
-abbrev pub HasList : Question → Type 0
-HasList (Why list) = IsSome (requirements_of list.now)
-HasList Show = ⊤
-HasList Json = ⊤
-HasList Key = ⊤
-HasList (Next place) = ⊤
+-- the set of `why` is one
+abbrev pub HasSet : Question → Type 0
+HasSet (Why set) = IsSome (set_of set.now)
+HasSet Show = ⊤
+HasSet Json = ⊤
+HasSet Key = ⊤
+HasSet (Next place) = ⊤
 
 -- each text is a version, and the answers to them follow one another
 abbrev pub AreAnswered : Question → ℕ → List (List ℕ) → List ℕ → Type 0
@@ -66,9 +66,9 @@ pub record HaveAnswered (first now : Answers) (texts : List (List ℕ)) : Type 0
   pub answers_are : AnsweredOr first.question first.end first.output.items texts now.output.items
       now.unanswered
 
--- what stands before the answers: of `why`, which two members of the list exclude each other
+-- what stands before the answers: of `why`, that no version is in the set
 abbrev pub IsHead : Question → ℕ → List ℕ → Type 0
-IsHead (Why list) end head = IsConflictText end list.now head
+IsHead (Why set) end head = IsWhyHead end set.now head
 IsHead Show end head = head ≡ []
 IsHead Json end head = head ≡ []
 IsHead Key end head = head ≡ []

@@ -1,7 +1,7 @@
 -- What a fault leaves as it was.
 use Rattle.std.specs.Prelude.{◌≡◌, Bool, false, true, Result, IfErr}
 use Rattle.version_commands.specs.declared.faults.Fault.{Fault}
-use Rattle.version_commands.specs.declared.faults.Fault.TheVariants.{Memory, NotRequirement, NotTested, NotVersion, Write}
+use Rattle.version_commands.specs.declared.faults.Fault.TheVariants.{Memory, NotRequirement, NotSet, NotTested, NotTestedSet, NotVersion, Write}
 
 -- whether a fault can come after the file for lines without a version was written
 abbrev pub is_late : Fault → Bool
@@ -17,7 +17,9 @@ UnlessLate Kept result = IfErr result (λ fault. is_late fault ≡ false → Kep
 abbrev pub is_of_word : Fault → Bool
 is_of_word (NotVersion text) = true
 is_of_word (NotRequirement text) = true
+is_of_word (NotSet wrong) = true
 is_of_word (NotTested text) = true
+is_of_word (NotTestedSet wrong) = true
 is_of_word other = false
 
 -- at such a fault this is so

@@ -1,32 +1,36 @@
 -- The faults of a task: what a message says of them, and what they come of.
 use Rattle.std.proofs.Common.{Bor}
-use Rattle.std.specs.Prelude.{◌≡◌, ◌⊎◌, ◌+◌, ◌-◌, ◌^◌, min, ⊤, ℕ, List, [], ◌∷◌, Option, None, Some, Bool, false, Result, Ok, Err, codes, map, true, zero, string_bytes, ◌++◌}
+use Rattle.std.specs.Prelude.{◌≡◌, ◌⊎◌, ◌+◌, ◌-◌, ◌^◌, min, ⊤, ℕ, List, [], ◌∷◌, Option, None, Some, IsSome, IsSomeAnd, Bool, false, codes, map, true, zero, string_bytes, ◌++◌}
 use Rattle.std.specs.Fmt.{decimal}
 use Rattle.std.specs.Option.{option_map_or, option_or}
 use Rattle.version_commands.specs.declared.options.Invalid.{Invalid}
 use Rattle.version_commands.specs.declared.options.Invalid.TheVariants as invalid
 use Rattle.version_commands.specs.declared.options.LineOptions.{LineOptions}
 use Rattle.version_commands.specs.declared.pick.BadLines.{BadLines}
-use Rattle.version_commands.specs.declared.test.WrongWord.{WrongWord}
-use Rattle.version_commands.specs.declared.test.WrongWord.TheVariants as wrong
+use Rattle.version_commands.specs.declared.set.WrongSet.{WrongSet}
 use Rattle.version_lines.specs.declared.input.Trouble.{Trouble}
 use Rattle.version_lines.specs.declared.input.Trouble.TheVariants as trouble
 use Rattle.version_commands.specs.Bad.{Reports}
 use Rattle.version_commands.specs.Inputs.{IsRefused, Reading}
 use Rattle.version_commands.specs.Picked.{bad_lines, good_before}
 use Rattle.version_commands.specs.Quote.{quoted}
+use Rattle.version_commands.specs.Sets.{IsWrongSet}
+use Rattle.version_rules.specs.requirement.Requirements.{requirements_of}
+use Rattle.version_sets.specs.Mixed.{keys_of}
+use Rattle.version_sets.specs.Reason.{reason_text}
 use Rattle.version_rules.specs.grammar.Versioning.{versioning_of}
 use Rattle.version_commands.specs.declared.faults.Fault.{Fault}
-use Rattle.version_commands.specs.declared.faults.Fault.TheVariants.{NotVersion, NotRequirement, NotTested, BadLine, NoNext, Untrue, Memory, Read, Write}
+use Rattle.version_commands.specs.declared.faults.Fault.TheVariants.{NotVersion, NotRequirement, NotSet, NotTested, NotTestedSet, BadLine, NoNext, Memory, Read, Write}
 
 -- the status that a fault ends the program with
 abbrev pub status_of : Fault → ℕ
 status_of (NotVersion text) = 1
 status_of (NotRequirement text) = 1
+status_of (NotSet wrong) = 1
 status_of (NotTested text) = 2
+status_of (NotTestedSet wrong) = 2
 status_of (BadLine number text ends more) = 1
 status_of (NoNext text) = 1
-status_of Untrue = 1
 status_of Memory = 3
 status_of (Read name) = 3
 status_of (Write name) = 3
@@ -43,15 +47,22 @@ bad_line_text number text true more =
 bad_line_text number text false more =
     codes "line " ++ (decimal number ++ (codes " is not a version: " ++ (text ++ others_text more)))
 
+-- what a message says of a word that is no set; places count from 1
+abbrev pub wrong_set_text : WrongSet → List ℕ
+wrong_set_text wrong =
+    codes "not a set: " ++ (quoted wrong.word.now ++ (codes "; at byte "
+    ++ (decimal (min (wrong.place + 1) (2 ^ 64 - 1)) ++ (codes ": " ++ reason_text wrong.reason))))
+
 -- what a message says of a fault
 abbrev pub fault_text : Fault → List ℕ
 fault_text (NotVersion word) = codes "not a version: " ++ quoted word.now
 fault_text (NotRequirement word) = codes "not a requirement: " ++ quoted word.now
-fault_text (NotTested word) = codes "neither a version nor a requirement: " ++ quoted word.now
+fault_text (NotSet wrong) = wrong_set_text wrong
+fault_text (NotTested word) = codes "not a version: " ++ quoted word.now
+fault_text (NotTestedSet wrong) = wrong_set_text wrong
 fault_text (BadLine number text ends_in_return more) =
     bad_line_text number (string_bytes text) ends_in_return more
 fault_text (NoNext text) = codes "no version comes next at that place: " ++ string_bytes text
-fault_text Untrue = []
 fault_text Memory = codes "no memory"
 fault_text (Read name) = codes "cannot be read: " ++ quoted name.now
 fault_text (Write (Some name)) = codes "cannot be written: " ++ quoted name.now
@@ -93,11 +104,22 @@ abbrev pub ComesOfLines : Invalid → Bool → (List ℕ → List ℕ) → List 
 ComesOfLines policy crlf text_of lines =
     ComesOfBadAfter policy crlf (good_before text_of lines) (bad_lines text_of lines)
 
--- the faults that reading lists of requirements can end in, if this is the first word that is none
-abbrev pub ComesOfLists : Option (List ℕ) → Fault → Type 0
-ComesOfLists wrong Memory = ⊤
-ComesOfLists wrong (NotRequirement text) = wrong ≡ Some text.now
-ComesOfLists wrong fault = ⊥
+-- the faults of `match` of `vers`, by the word of its list
+abbrev pub ComesOfMatching : List ℕ → Fault → Type 0
+ComesOfMatching list (NotRequirement word) = (word.now ≡ list) × (requirements_of list ≡ None)
+ComesOfMatching list other = ComesOfStandard other
+
+-- the faults of a word that should be a set
+abbrev pub ComesOfSet : List ℕ → Fault → Type 0
+ComesOfSet word Memory = ⊤
+ComesOfSet word (NotSet wrong) = IsWrongSet word wrong
+ComesOfSet word fault = ⊥
+
+-- the faults that reading sets can end in, if this is the first word that is none
+abbrev pub ComesOfSets : Option (List ℕ) → Fault → Type 0
+ComesOfSets first Memory = ⊤
+ComesOfSets first (NotSet wrong) = IsSomeAnd first (λ word. IsWrongSet word wrong)
+ComesOfSets first fault = ⊥
 
 -- the word, if it is no version
 abbrev pub unless_version : List ℕ → Option (List ℕ)
@@ -114,14 +136,32 @@ ComesOfWords wrong Memory = ⊤
 ComesOfWords wrong (NotVersion text) = wrong ≡ Some text.now
 ComesOfWords wrong fault = ⊥
 
--- the faults that `test` can end in: that the answer is no, and the word that is wrong
-abbrev pub ComesOfTest : Result Bool WrongWord → List ℕ → List ℕ → Fault → Type 0
-ComesOfTest answer first second Memory = ⊤
-ComesOfTest answer first second Untrue = answer ≡ Ok false
-ComesOfTest answer first second (NotTested text) =
-    ((answer ≡ Err wrong.First) × (text.now ≡ first))
-    ⊎ ((answer ≡ Err wrong.Second) × (text.now ≡ second))
-ComesOfTest answer first second fault = ⊥
+-- ---- of tasks that answer by their status
+
+-- those of words which should be versions, if this is the first that is none
+abbrev pub ComesOfTestOfTwo : Option (List ℕ) → Fault → Type 0
+ComesOfTestOfTwo wrong (NotTested text) = wrong ≡ Some text.now
+ComesOfTestOfTwo wrong fault = ⊥
+
+-- those of a word that should be a set
+abbrev pub ComesOfTestedSet : List ℕ → Fault → Type 0
+ComesOfTestedSet word Memory = ⊤
+ComesOfTestedSet word (NotTestedSet wrong) = IsWrongSet word wrong
+ComesOfTestedSet word fault = ⊥
+
+-- those of a version and a set, of which the version comes first
+abbrev pub ComesOfTestOfSet : List ℕ → List ℕ → Fault → Type 0
+ComesOfTestOfSet version set Memory = ⊤
+ComesOfTestOfSet version set (NotTested text) = (text.now ≡ version) × (versioning_of version ≡ None)
+ComesOfTestOfSet version set (NotTestedSet wrong) = IsSome (versioning_of version) × IsWrongSet set wrong
+ComesOfTestOfSet version set fault = ⊥
+
+-- those of two sets
+abbrev pub ComesOfTestOfSets : List ℕ → List ℕ → Fault → Type 0
+ComesOfTestOfSets one other Memory = ⊤
+ComesOfTestOfSets one other (NotTestedSet wrong) =
+    IsWrongSet one wrong ⊎ (IsSome (keys_of one) × IsWrongSet other wrong)
+ComesOfTestOfSets one other fault = ⊥
 
 -- the faults that the file for lines without a version can end in: they name it
 abbrev pub ComesOfPut : LineOptions → Fault → Type 0

@@ -14,6 +14,7 @@ pub mod Json
 pub mod Key
 pub mod Label
 pub mod Lists
+pub mod Matched
 pub mod Next
 pub mod Ordered
 pub mod Output
@@ -22,6 +23,7 @@ pub mod Pieces
 pub mod Place
 pub mod Quote
 pub mod Run
+pub mod Sets
 pub mod Show
 pub mod Test
 pub mod Why

@@ -1,12 +1,11 @@
 -- What `sort`, `newest` and `filter` write.
 use Rattle.std.specs.Prelude.{◌≡◌, ℕ, Bool, List, [], map, Option, Some, if◌then◌else◌}
 use Rattle.version_commands.specs.Arranged.{arranged, placed, policy}
-use Rattle.version_commands.specs.Choice.{chooser_of, is_kept}
+use Rattle.version_commands.specs.Choice.{keeps_of}
 use Rattle.std.specs.Option.{option_map}
 use Rattle.version_commands.specs.Inputs.{joined, names_read, AreInputs, Reading}
 use Rattle.version_commands.specs.Picked.{bad_lines, has, kept_lines}
 use Rattle.version_commands.specs.Place.{group_text, text_of}
-use Rattle.version_commands.specs.declared.choice.Chooser.{Chooser}
 use Rattle.version_commands.specs.declared.options.Arrangement.{Arrangement}
 use Rattle.version_commands.specs.declared.options.Invalid.TheVariants.{Fail}
 use Rattle.version_commands.specs.declared.options.LineOptions.{LineOptions}
@@ -56,10 +55,10 @@ pub record IsOrdered (arrangement : Arrangement) (options : LineOptions) (reads 
     (old new : Option (List ℕ)) (leaves : Option (List ℕ × List ℕ) → Type 0)
     (output : List ℕ) : Type 0 where
   pub texts : List (List ℕ)
-  pub chooser : Chooser
+  pub keeps : PlainVersioning → Bool
   pub texts_are : AreInputs reads old new (names_read (map (λ name. name.now) options.files.items))
       texts
-  pub chooser_is : chooser_of options.choice arrangement ≡ Some chooser
+  pub keeps_are : keeps_of options.choice arrangement ≡ Some keeps
   pub is_arranged : IsArranged (text_of options.place) options (joined options.end texts)
-      (arranged_in (text_of options.place) (is_kept chooser) arrangement options
+      (arranged_in (text_of options.place) keeps arrangement options
       (joined options.end texts)) leaves output

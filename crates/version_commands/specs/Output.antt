@@ -1,5 +1,5 @@
 -- What a task writes.
-use Rattle.std.specs.Prelude.{◌≡◌, ◌==◌, ℕ, Bool, false, true, List, [], ◌∷◌, length, map, Option, None, Some, Ok, string_bytes}
+use Rattle.std.specs.Prelude.{◌≡◌, ◌==◌, ℕ, Bool, false, true, List, [], ◌∷◌, length, map, Option, None, Some, string_bytes}
 use Rattle.version_commands.specs.Compare.{comparison_line}
 use Rattle.version_commands.specs.Difference.{difference_line}
 use Rattle.version_commands.specs.Each.{IsAnswered}
@@ -7,13 +7,14 @@ use Rattle.version_commands.specs.Inputs.{joined, names_read, reads_standard, Ar
 use Rattle.version_commands.specs.Label.{AreLabelled}
 use Rattle.version_commands.specs.Lists.{bad_lines_of, difference_text, names_of, rows_of}
 use Rattle.version_commands.specs.Ordered.{bad_file, IsOrdered}
-use Rattle.version_commands.specs.Test.{answer_of_two, IsAnswerOfList}
+use Rattle.version_commands.specs.Matched.{AreMatched}
+use Rattle.version_commands.specs.Test.{answer_line, answer_of_set, answer_of_two, AreSetsSo}
 use Rattle.version_commands.specs.declared.options.Invalid.TheVariants.{Fail}
 use Rattle.version_commands.specs.declared.options.Lists.{Lists}
 use Rattle.version_commands.specs.declared.options.Task.{Task}
 use Rattle.version_commands.specs.declared.options.Task.TheVariants as task
 use Rattle.version_lines.specs.Lines.{line_feed}
-use Rattle.version_rules.specs.requirement.Requirements.{requirements_of}
+use Rattle.version_sets.specs.Ends.{IsPart, Meet}
 use Rattle.version_rules.specs.grammar.Versioning.{PlainVersioning, versioning_of}
 
 -- the words are versions, and this is the line for the two
@@ -37,24 +38,39 @@ pub record AreChanges (lists : Lists) (reads : Reading) (old new : Option (List 
       (rows_of lists (joined lists.end (first ∷ [])))
       (rows_of lists (joined lists.end (second ∷ [])))
 
+-- the line for the answer about two sets
+abbrev pub IsLineOfSets : (Bool → (List ℕ → Bool) → (List ℕ → Bool) → Type 0) → List ℕ → List ℕ
+    → List ℕ → Type 0
+IsLineOfSets Holds one other output =
+    (yes : Bool) × AreSetsSo (Holds yes) one other × (output ≡ answer_line yes)
+
+-- whether a task answers yes: one that answers by its output alone does
+abbrev pub Answers : Task → Bool → Type 0
+Answers (task.TestTwo a operator b) answer = answer_of_two operator a.now b.now ≡ Some answer
+Answers (task.TestSet version set) answer = answer_of_set version.now set.now ≡ Some answer
+Answers (task.Implies one other) answer = AreSetsSo (IsPart answer) one.now other.now
+Answers (task.Meets one other) answer = AreSetsSo (Meet answer) one.now other.now
+Answers other answer = answer ≡ true
+
 -- What a task that ends well writes, by what its files give and what standard input had before and
--- after, and what it leaves of its files. `test` ends well only if its answer is yes.
+-- after, and what it leaves of its files.
 abbrev pub IsOutput : Task → Reading → Option (List ℕ) → Option (List ℕ)
     → (Option (List ℕ × List ℕ) → Type 0) → List ℕ → Type 0
 IsOutput (task.Lines arrangement options) reads old new leaves output =
     IsOrdered arrangement options reads old new leaves output
 IsOutput (task.Each question options) reads old new leaves output =
     IsAnswered question options old new output
-IsOutput (task.TestTwo a operator b) reads old new leaves output =
-    (output ≡ []) × (answer_of_two operator (versioning_of a.now) (versioning_of b.now) ≡ Ok true)
-IsOutput (task.TestList version list) reads old new leaves output =
-    (output ≡ []) × IsAnswerOfList (versioning_of version.now) (requirements_of list.now) (Ok true)
+IsOutput (task.TestTwo a operator b) reads old new leaves output = output ≡ []
+IsOutput (task.TestSet version set) reads old new leaves output = output ≡ []
+IsOutput (task.Implies one other) reads old new leaves output = IsLineOfSets IsPart one.now other.now output
+IsOutput (task.Meets one other) reads old new leaves output = IsLineOfSets Meet one.now other.now output
 IsOutput (task.Compare a b explain) reads old new leaves output =
     IsLineOfTwo (comparison_line explain line_feed) a.now b.now output
 IsOutput (task.Difference a b) reads old new leaves output =
     IsLineOfTwo (difference_line line_feed) a.now b.now output
 IsOutput (task.Lists lists) reads old new leaves output = AreChanges lists reads old new output
 IsOutput (task.Label labels) reads old new leaves output = AreLabelled labels old new output
+IsOutput (task.Match list) reads old new leaves output = AreMatched list.now old new output
 IsOutput (task.Say text) reads old new leaves output = output ≡ string_bytes text
 
 -- whether a task reads standard input: no other task changes the reader
@@ -64,6 +80,7 @@ asks_reader (task.Lines arrangement options) =
 asks_reader (task.Each question options) = length options.versions.items == 0
 asks_reader (task.Lists lists) = reads_standard (names_of lists)
 asks_reader (task.Label labels) = true
+asks_reader (task.Match list) = true
 asks_reader other = false
 
 -- the file that a task writes: no other task changes the files

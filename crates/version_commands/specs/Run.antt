@@ -1,12 +1,12 @@
 -- How a run of a program ends, by the task that its words mean.
-use Rattle.std.specs.Prelude.{◌≡◌, ◌⊎◌, ℕ, false, List, Option, Result, Ok, Err, IsErrAnd, MatchResult}
+use Rattle.std.specs.Prelude.{◌≡◌, ◌⊎◌, ℕ, Bool, false, List, Option, Result, Ok, Err, IfOk, IsErrAnd, MatchResult}
 use Rattle.std.specs.Io.KnownBytes.{Keeps}
 use Rattle.version_commands.specs.Cause.{ComesOf}
 use Rattle.version_commands.specs.Early.{IfOfWord, UnlessLate}
 use Rattle.version_commands.specs.Ends.{Ends}
 use Rattle.version_commands.specs.Files.{AltersAtMost, Leaves}
 use Rattle.version_commands.specs.Inputs.{Reading}
-use Rattle.version_commands.specs.Output.{asks_reader, file_of, IsOutput}
+use Rattle.version_commands.specs.Output.{asks_reader, file_of, Answers, IsOutput}
 use Rattle.version_commands.specs.declared.faults.Fault.{Fault}
 use Rattle.version_commands.specs.declared.options.Task.{Task}
 
@@ -19,11 +19,12 @@ module _ {F R : Type 0} (reads : F → Reading) (puts : F → F → List ℕ →
     (alters : F → F → List ℕ → Type 0)
     (remaining : R → Option (List ℕ)) (files left : F) (reader after : R) (old new : Option (List ℕ))
   where
-    -- A task was done: it wrote what the task asks for, and left the reader and the files as they were
-    -- where the task doesn't ask for these, or a fault came before.
-    pub record Does {T : Type 0} (task : Task) (result : Result T Fault) : Type 0 where
+    -- A task was done: it answered, wrote what the task asks for, and left the reader and the files as they
+    -- were where the task doesn't ask for these, or a fault came before.
+    pub record Does (task : Task) (result : Result Bool Fault) : Type 0 where
       pub ends : Ends (IsOutput task (reads files) (remaining reader) (remaining after)
           (Leaves puts files left)) (ComesOf task (reads files) (remaining reader)) old new result
+      pub answers : IfOk result (Answers task)
       pub unread : asks_reader task ≡ false → after ≡ reader
       pub files_are : AltersAtMost alters (file_of task) files left
       pub kept : UnlessLate (left ≡ files) result
@@ -37,8 +38,8 @@ module _ {F R : Type 0} (reads : F → Reading) (puts : F → F → List ℕ →
 
     -- The words mean a task, which was done, and its fault is that of the run; or they mean none, this
     -- fault says why, and nothing was done.
-    abbrev pub RunsBy : {T E : Type 0} → (Task → Type 0) → (E → Type 0) → (Fault → E) → Result T E → Type 0
-    RunsBy {T} Means IsWrong of_task result =
+    abbrev pub RunsBy : {E : Type 0} → (Task → Type 0) → (E → Type 0) → (Fault → E) → Result Bool E → Type 0
+    RunsBy Means IsWrong of_task result =
         (IsErrAnd result IsWrong × DoesNothing)
-        ⊎ ((task : Task) × (served : Result T Fault) × Means task × Does task served
+        ⊎ ((task : Task) × (served : Result Bool Fault) × Means task × Does task served
         × EndsAs of_task served result)

@@ -1,15 +1,15 @@
--- What `test` answers.
-use Rattle.std.specs.Prelude.{◌≡◌, ◌↔◌, Bool, List, Option, Some, None, Result, Ok, Err, IsTrue}
+-- What `test`, `implies` and `meets` answer.
+use Rattle.std.specs.Prelude.{◌≡◌, ◌++◌, ◌∷◌, [], ℕ, Bool, List, Option, Some, codes, if◌then◌else◌}
 use Rattle.std.specs.Ordering.{is_lt, is_le, is_eq, is_ge, is_gt}
 use Rattle.std.specs.declared.cmp.Ordering.{Ordering}
 use Rattle.version_commands.specs.declared.options.Operator.{Operator}
 use Rattle.version_commands.specs.declared.options.Operator.TheVariants.{Less, LessOrEqual, Equal, GreaterOrEqual, Greater}
-use Rattle.version_commands.specs.declared.test.WrongWord.{WrongWord}
-use Rattle.version_commands.specs.declared.test.WrongWord.TheVariants.{First, Second}
+use Rattle.version_lines.specs.Lines.{line_feed}
+use Rattle.version_rules.specs.grammar.Front.{◌>>=◌}
+use Rattle.version_rules.specs.grammar.Versioning.{versioning_of}
 use Rattle.version_rules.specs.key.Key.{key_of, precedence}
-use Rattle.version_rules.specs.requirement.Matching.{MatchesAll}
-use Rattle.version_rules.specs.requirement.Requirement.{PlainRequirement}
-use Rattle.version_rules.specs.grammar.Versioning.{PlainVersioning}
+use Rattle.version_sets.specs.Mixed.{keys_of}
+use Rattle.version_texts.specs.keyed.Mixed.{mixed}
 
 -- whether an operator holds between two versions that compare so
 abbrev pub holds : Operator → Ordering → Bool
@@ -19,19 +19,25 @@ holds Equal order = is_eq order
 holds GreaterOrEqual order = is_ge order
 holds Greater order = is_gt order
 
--- whether it holds between two versions, by their precedence, or the first of the words that is no
--- version
-abbrev pub answer_of_two : Operator → Option PlainVersioning → Option PlainVersioning
-    → Result Bool WrongWord
-answer_of_two operator None b = Err First
-answer_of_two operator (Some v) None = Err Second
-answer_of_two operator (Some v) (Some w) = Ok (holds operator (precedence (key_of v) (key_of w)))
+-- whether it holds between two versions, by their precedence; None if a word is none
+abbrev pub answer_of_two : Operator → List ℕ → List ℕ → Option Bool
+answer_of_two operator first second = do
+  v ← versioning_of first
+  w ← versioning_of second
+  Some (holds operator (precedence (key_of v) (key_of w)))
 
--- The answer to whether a list matches a version: yes exactly if each member does; or the first of
--- the words that is no version, or no list.
-abbrev pub IsAnswerOfList : Option PlainVersioning → Option (List PlainRequirement)
-    → Result Bool WrongWord → Type 0
-IsAnswerOfList None list answer = answer ≡ Err First
-IsAnswerOfList (Some v) None answer = answer ≡ Err Second
-IsAnswerOfList (Some v) (Some wanted) answer =
-    (yes : Bool) × (answer ≡ Ok yes) × (IsTrue yes ↔ MatchesAll wanted v)
+-- whether a set has a version; None if a word is none
+abbrev pub answer_of_set : List ℕ → List ℕ → Option Bool
+answer_of_set version set = do
+  v ← versioning_of version
+  keys ← keys_of set
+  Some (keys (mixed v).key)
+
+-- two words are sets, of whose keys this holds
+abbrev pub AreSetsSo : ((List ℕ → Bool) → (List ℕ → Bool) → Type 0) → List ℕ → List ℕ → Type 0
+AreSetsSo Holds one other = (first second : List ℕ → Bool)
+    × (keys_of one ≡ Some first) × (keys_of other ≡ Some second) × Holds first second
+
+-- the line for an answer
+abbrev pub answer_line : Bool → List ℕ
+answer_line answer = (if answer then codes "yes" else codes "no") ++ line_feed ∷ []

@@ -1,45 +1,37 @@
--- What `why` writes for a list of requirements, and for a version.
-use Rattle.std.specs.Prelude.{◌≡◌, ◌==◌, ℕ, List, [], ◌∷◌, ◌++◌, codes, if◌then◌else◌, Option, Some, None, IsSomeAnd}
+-- What `why` writes for a set, and for a version.
+use Rattle.std.specs.Prelude.{◌≡◌, ℕ, Bool, List, [], ◌∷◌, ◌++◌, codes, if◌then◌else◌, Some}
 use Rattle.std.specs.List.{concat}
-use Rattle.version_rules.specs.requirement.Matching.{MatchesAll}
-use Rattle.version_rules.specs.requirement.Range.{range_of}
-use Rattle.version_rules.specs.requirement.Requirements.{requirements_of}
+use Rattle.version_commands.specs.Sets.{HasAny}
 use Rattle.version_rules.specs.grammar.Versioning.{PlainVersioning, versioning_text}
-use Rattle.version_texts.specs.requirement.Conflict.{ExcludeEachOther}
-use Rattle.version_texts.specs.requirement.Empty.{IsEmpty}
-use Rattle.version_texts.specs.requirement.MemberPlace.{text_between}
-use Rattle.version_texts.specs.requirement.Why.{IsExcluded, excluded_text}
-use Rattle.version_texts.specs.declared.requirement.conflict.Conflict.{Conflict}
-use Rattle.version_texts.specs.declared.requirement.why.Excluded.{Excluded}
+use Rattle.version_sets.specs.Excluding.{leave_out}
+use Rattle.version_sets.specs.Form.{between}
+use Rattle.version_sets.specs.Mixed.{keys_of, set_of}
+use Rattle.version_sets.specs.Reading.{Member, set_has}
+use Rattle.version_sets.specs.declared.read.excluding.Span.{Span}
+use Rattle.version_texts.specs.keyed.Mixed.{mixed}
 
--- The line for a version: where each member of the list matches it, that it matches; else why the
--- first member that does not match excludes it.
-abbrev pub IsWhy : ℕ → List ℕ → PlainVersioning → Option Excluded → List ℕ → Type 0
-IsWhy end list v None line =
-    IsSomeAnd (requirements_of list) (λ wanted. MatchesAll wanted v)
-    × (line ≡ concat (versioning_text v ∷ codes " matches" ∷ (end ∷ []) ∷ []))
-IsWhy end list v (Some excluded) line =
-    IsExcluded list v excluded × (line ≡ excluded_text list v excluded ++ end ∷ [])
+-- members between these places of a set: the first behind a word, each other behind "and by"
+abbrev pub members_text : List ℕ → List ℕ → List Span → List ℕ
+members_text word set [] = []
+members_text word set (span ∷ more) =
+    word ++ (between set span.start span.end ++ members_text (codes " and by ") set more)
 
+-- what is said of a version: that it is in the set, or which member of each alternative leaves it out
+abbrev pub why_text : List ℕ → List (List Member) → PlainVersioning → List ℕ
+why_text set alternatives v =
+    if set_has alternatives (mixed v).key
+    then codes " matches"
+    else members_text (codes " is left out by ") set (leave_out (mixed v).key alternatives)
+
+-- the line for a version
 abbrev pub IsWhyLine : ℕ → List ℕ → PlainVersioning → List ℕ → Type 0
-IsWhyLine end list v line = (found : Option Excluded) × IsWhy end list v found line
+IsWhyLine end set v line = (alternatives : List (List Member)) × (set_of set ≡ Some alternatives)
+    × (line ≡ versioning_text v ++ (why_text set alternatives v ++ end ∷ []))
 
--- the line for two members that exclude each other, or for one that excludes every version
-abbrev pub conflict_line : ℕ → List ℕ → Conflict → List ℕ
-conflict_line end list conflict =
-    let one = text_between list conflict.one.start conflict.one.end in
-    let other = text_between list conflict.other.start conflict.other.end in
-    if conflict.one.start == conflict.other.start
-    then concat (one ∷ codes " excludes every version" ∷ (end ∷ []) ∷ [])
-    else concat (one ∷ codes " and " ∷ other ∷ codes " exclude each other" ∷ (end ∷ []) ∷ [])
+-- what stands before the lines: that no version is in the set, if it has no key
+abbrev pub head_text : ℕ → List ℕ → Bool → List ℕ
+head_text end set has_any = if has_any then [] else concat (codes "no version is in " ∷ set ∷ (end ∷ []) ∷ [])
 
--- What is written for a list: the line for members that exclude each other; or nothing, where the
--- range of the list is not empty.
-abbrev pub IsConflict : ℕ → List ℕ → Option Conflict → List ℕ → Type 0
-IsConflict end list None written =
-    IsSomeAnd (requirements_of list) (λ wanted. ¬ (IsEmpty (range_of wanted))) × (written ≡ [])
-IsConflict end list (Some conflict) written =
-    ExcludeEachOther list conflict × (written ≡ conflict_line end list conflict)
-
-abbrev pub IsConflictText : ℕ → List ℕ → List ℕ → Type 0
-IsConflictText end list written = (found : Option Conflict) × IsConflict end list found written
+abbrev pub IsWhyHead : ℕ → List ℕ → List ℕ → Type 0
+IsWhyHead end set head = (keys : List ℕ → Bool) × (has_any : Bool) × (keys_of set ≡ Some keys)
+    × HasAny has_any keys × (head ≡ head_text end set has_any)

@@ -2,16 +2,15 @@
 ghost use Rattle.std.specs.Prelude.{◌≡◌, [], ℕ, List, if◌then◌else◌, false, map, None, Some, IfErr, IfOk, IsTrue, OnOk};
 ghost use Rattle.version_commands.specs.Arranged.{arranged, is_reversed};
 ghost use Rattle.version_commands.specs.Cause.{ComesOfArranged, ComesOfArranging};
-ghost use Rattle.version_commands.specs.Choice.{chooser_of, is_kept, wrong_list};
+ghost use Rattle.version_commands.specs.Choice.{is_kept};
 ghost use Rattle.version_commands.specs.Early.{IfOfWord, UnlessLate};
 ghost use Rattle.version_commands.specs.Ends.{Ends};
-ghost use Rattle.version_commands.specs.Fault.{ComesOfLists};
 ghost use Rattle.version_commands.specs.Files.{AltersAtMost, Leaves};
 ghost use Rattle.version_commands.specs.Inputs.{names_read, reads_standard};
 ghost use Rattle.version_commands.specs.Ordered.{bad_file, arranged_in, kept_in, kept_line, IsArranged, IsOrdered};
 ghost use Rattle.version_commands.specs.Place.{group_text, text_of};
 ghost use Rattle.version_lines.specs.KeyedLines.{lines_in, AreRead};
-ghost use Rattle.version_lines.specs.Lines.{answer_text, output_by, whole_line};
+ghost use Rattle.version_lines.specs.Lines.{output_by, whole_line};
 ghost use Rattle.version_lines.specs.NewestLine.{newest_alone};
 
 use crate::bad::refuse_bad;
@@ -22,11 +21,11 @@ use crate::inputs::read_inputs;
 use crate::options::{Arrangement, Choice, Invalid, LineOptions, VersionPlace};
 use crate::pick::{Chooses, EveryVersion, Takes, pick};
 use crate::place::{ByColumn, ByVersion};
-use crate::write::{write_answers, write_lines};
+use crate::write::{whole_if, write_answers, write_lines};
 use std::alloc::{AllocError, Global};
 use std::io::{Read, Write};
 use version_lines::{Answer, KeyedLines, LineCommand, NewestLine, SortBy, WholeLines};
-use version_texts::{RequirementsRef, VersioningRef};
+use version_texts::VersioningRef;
 
 /// Reads the inputs, and writes those of their lines that the arrangement asks for.
 pub fn serve_lines<'w, F: Files, R: Read, W: Write>(
@@ -47,7 +46,7 @@ pub fn serve_lines<'w, F: Files, R: Read, W: Write>(
     ensures kept { UnlessLate (files.new ≡ files.old) result }
     ensures early { IfOfWord (reader.new ≡ reader.old) result }
 {
-    let chooser = read_chooser(&options.choice, &arrangement)?;
+    let chooser = Chooser::new(alloc, &options.choice, &arrangement)?;
     let input = read_inputs(alloc, options.files.as_slice(), options.end, files, reader)?;
     tell(options, files, Stage::Read(input.len()));
     write_arranged(
@@ -61,24 +60,13 @@ pub fn serve_lines<'w, F: Files, R: Read, W: Write>(
     )
 }
 
-// Reads the lists of requirements. Otherwise the fault has the first word that is none.
-fn read_chooser<'w>(
-    choice: &Choice<'w>,
-    arrangement: &Arrangement<'w>,
-) -> Result<Chooser<'w>, Fault<'w>>
-    ensures ok { IfOk result (λ chooser. chooser_of choice.now arrangement.now ≡ Some chooser) }
-    ensures faults { IfErr result (ComesOfLists (wrong_list choice.now arrangement.now)) }
-{
-    Chooser::new(choice, arrangement).map_err(Fault::NotRequirement)
-}
-
 // Writes those of the lines of an input that the arrangement asks for. Where each line is its version, all of them are
 // kept and the order is not reversed, nothing of that is asked again for each line.
 fn write_arranged<'w, F: Files, W: Write>(
     alloc: Global,
     arrangement: Arrangement<'_>,
     options: &LineOptions<'w>,
-    chooser: &Chooser<'_>,
+    chooser: &Chooser,
     input: &[u8],
     files: &mut F,
     writer: &mut W,
@@ -241,7 +229,7 @@ fn is_reversed(arrangement: &Arrangement<'_>) -> bool
 fn write_kept<'w, F: Files, W: Write>(
     alloc: Global,
     options: &LineOptions<'w>,
-    chooser: &Chooser<'_>,
+    chooser: &Chooser,
     input: &[u8],
     files: &mut F,
     writer: &mut W,
@@ -284,7 +272,7 @@ fn leaves_others_out(options: &LineOptions<'_>) -> bool
 fn write_at_once<'w, W: Write>(
     alloc: Global,
     options: &LineOptions<'_>,
-    chooser: &Chooser<'_>,
+    chooser: &Chooser,
     input: &[u8],
     writer: &mut W,
 ) -> Result<(), Fault<'w>>
@@ -292,18 +280,11 @@ fn write_at_once<'w, W: Write>(
         (kept_line (text_of options.now.place) (is_kept chooser.now) options.now.end) input.now)
         (λ fault. fault ≡ Fault.Memory) (W.contents writer.old) (W.contents writer.new) result }
 {
-    match chooser.only_list() {
-        Some(list) if options.place.is_whole() => {
-            write_answers(alloc, &Listed { list }, options.end, input, writer)
-        }
-        _ => {
-            let chosen = Chosen {
-                place: options.place,
-                chooser,
-            };
-            write_answers(alloc, &chosen, options.end, input, writer)
-        }
-    }
+    let chosen = Chosen {
+        place: options.place,
+        chooser,
+    };
+    write_answers(alloc, &chosen, options.end, input, writer)
 }
 
 // Lines that are kept.
@@ -333,30 +314,11 @@ impl<'a> Takes<'a> for KeptLines<'_, 'a> {
     }
 }
 
-// Whole lines that are versions which a list matches, and nothing of others.
-#[derive(Clone, Copy)]
-struct Listed<'c> {
-    list: &'c RequirementsRef<'c>,
-}
-
-impl LineCommand for Listed<'_> {
-    ghost use Rattle.version_commands.specs.Choice.{is_matched};
-    ghost use Rattle.version_commands.specs.Ordered.{kept_line};
-
-    ghost line_output = { λ listed. kept_line (λ line. line) (is_matched listed.list.now) };
-
-    #[inline(always)]
-    fn answer(&self, line: &[u8]) -> Answer {
-        // Its first bytes decide most lines without a scan.
-        whole_if(self.list.keeps(line))
-    }
-}
-
 // Whole lines whose versions are kept, and nothing of others.
 #[derive(Clone, Copy)]
 struct Chosen<'c> {
     place: VersionPlace<'c>,
-    chooser: &'c Chooser<'c>,
+    chooser: &'c Chooser,
 }
 
 impl LineCommand for Chosen<'_> {
@@ -370,19 +332,6 @@ impl LineCommand for Chosen<'_> {
             Some(version) => self.chooser.keeps(&version),
             None => false,
         })
-    }
-}
-
-// Returns the answer for a line: all of it, if it is kept.
-#[inline(always)]
-fn whole_if(kept: bool) -> Answer
-    ensures { (end : ℕ) → (line : List ℕ) → answer_text end result line
-        ≡ if kept then whole_line end line else [] }
-{
-    if kept {
-        Answer::Line(b"")
-    } else {
-        Answer::Nothing
     }
 }
 

@@ -1,55 +1,58 @@
 //! Which lines that have a version are kept.
-ghost use Rattle.std.specs.Prelude.{◌≡◌, true, Some, None, IfOk, IfErr, IfSome, IsTrue, OnErr};
-ghost use Rattle.version_commands.specs.Choice.{chooser_of, is_kept, is_matched, is_stable_enough, is_wanted, passes_any, wrong_list};
+ghost use Rattle.std.specs.Prelude.{◌≡◌, true, Some, IfErr, IfOk, IsTrue};
+ghost use Rattle.version_commands.specs.Choice.{is_kept, is_stable_enough, is_wanted, keeps_of, passes, wrong_set};
+ghost use Rattle.version_commands.specs.Fault.{ComesOfSets};
 ghost use Rattle.version_rules.specs.grammar.Versioning.{PlainVersioning};
 ghost use Rattle.version_texts.specs.versioning_ref.VersioningRef.{plain_versioning_ref};
 
+use crate::faults::Fault;
 use crate::options::{Arrangement, Choice};
 use crate::pick::Chooses;
+use crate::set::Set;
+use crate::word::set_of_word;
+use std::alloc::Global;
 use version_tasks::{Stability, stability_of};
-use version_texts::{RequirementsRef, VersioningRef};
+use version_texts::VersioningRef;
 
-/// The list of `filter`.
+/// The set of `filter`.
 #[derive(Drop)]
-pub struct Filter<'w> {
-    pub list: RequirementsRef<'w>,
-    /// Whether the lines that it does not match are kept, in place of those that it matches.
+pub struct Filter {
+    pub set: Set,
+    /// Whether the lines that it has not are kept, in place of those that it has.
     pub inverted: bool,
 }
 
-/// Which versions are kept: a choice, and the list of `filter`, read.
+/// Which versions are kept: a choice, and the set of `filter`, read.
 #[derive(Drop)]
-pub struct Chooser<'w> {
+pub struct Chooser {
     /// No less stable ones.
     pub least: Stability,
-    /// Only those that this list matches.
-    pub wanted: Option<RequirementsRef<'w>>,
-    pub filter: Option<Filter<'w>>,
+    /// Only those of this set.
+    pub wanted: Option<Set>,
+    pub filter: Option<Filter>,
 }
 
-impl<'w> Chooser<'w> {
-    /// Reads the lists of a choice and of an arrangement. Fails with the first word of theirs that is no list of
-    /// requirements; the one of `filter` comes first. Does not allocate.
-    pub fn new(choice: &Choice<'w>, arrangement: &Arrangement<'w>) -> Result<Chooser<'w>, &'w str>
-        ensures ok { IfOk result (λ chooser. chooser_of choice.now arrangement.now ≡ Some chooser) }
-        ensures err { OnErr result (chooser_of choice.now arrangement.now ≡ None) }
-        ensures word { IfErr result (λ word. wrong_list choice.now arrangement.now ≡ Some word.now) }
+impl Chooser {
+    /// Reads the sets of a choice and of an arrangement. Otherwise the fault has the first word of theirs that is none;
+    /// the one of `filter` comes first.
+    pub fn new<'w>(
+        alloc: Global,
+        choice: &Choice<'w>,
+        arrangement: &Arrangement<'w>,
+    ) -> Result<Chooser, Fault<'w>>
+        ensures ok { IfOk result (λ chooser.
+            keeps_of choice.now arrangement.now ≡ Some (is_kept chooser)) }
+        ensures faults { IfErr result (ComesOfSets (wrong_set choice.now arrangement.now)) }
     {
         let filter = match arrangement {
-            Arrangement::Filter { list, inverted } => match RequirementsRef::new(list) {
-                Some(list) => Some(Filter {
-                    list,
-                    inverted: *inverted,
-                }),
-                None => return Err(list),
-            },
+            Arrangement::Filter { set, inverted } => Some(Filter {
+                set: set_of_word(alloc, set)?,
+                inverted: *inverted,
+            }),
             _ => None,
         };
         let wanted = match choice.wanted {
-            Some(word) => match RequirementsRef::new(word) {
-                Some(list) => Some(list),
-                None => return Err(word),
-            },
+            Some(word) => Some(set_of_word(alloc, word)?),
             None => None,
         };
         Ok(Chooser {
@@ -80,22 +83,7 @@ impl<'w> Chooser<'w> {
     {
         is_stable_enough(self.least, version)
             && is_wanted(&self.wanted, version)
-            && passes_any(&self.filter, version)
-    }
-
-    /// Returns the list which alone decides what is kept, if there is one.
-    pub fn only_list(&self) -> Option<&RequirementsRef<'w>>
-        ensures { IfSome result
-            (λ list. (v : PlainVersioning) → is_kept self.now v ≡ is_matched list.now v) }
-    {
-        match self {
-            Chooser {
-                least: Stability::Dev,
-                wanted: None,
-                filter: Some(filter),
-            } if !filter.inverted => Some(&filter.list),
-            _ => None,
-        }
+            && passes(&self.filter, version)
     }
 }
 
@@ -107,34 +95,27 @@ fn is_stable_enough(least: Stability, version: &VersioningRef<'_>) -> bool
     least == Stability::Dev || least <= stability_of(version)
 }
 
-// Whether a list of requirements matches a version, if there is a list.
-fn is_wanted(wanted: &Option<RequirementsRef<'_>>, version: &VersioningRef<'_>) -> bool
+// Whether a version is in a set, if there is a set.
+fn is_wanted(wanted: &Option<Set>, version: &VersioningRef<'_>) -> bool
     ensures { result ≡ is_wanted wanted.now (plain_versioning_ref version.now) }
 {
     match wanted {
-        Some(wanted) => is_matched(wanted, version),
+        Some(wanted) => wanted.has(version),
         None => true,
     }
 }
 
 // Whether a filter keeps a version, if there is a filter.
-fn passes_any(filter: &Option<Filter<'_>>, version: &VersioningRef<'_>) -> bool
-    ensures { result ≡ passes_any filter.now (plain_versioning_ref version.now) }
+fn passes(filter: &Option<Filter>, version: &VersioningRef<'_>) -> bool
+    ensures { result ≡ passes filter.now (plain_versioning_ref version.now) }
 {
     match filter {
-        Some(filter) => is_matched(&filter.list, version) != filter.inverted,
+        Some(filter) => filter.set.has(version) != filter.inverted,
         None => true,
     }
 }
 
-// Whether each member of a list of requirements matches a version.
-fn is_matched(wanted: &RequirementsRef<'_>, version: &VersioningRef<'_>) -> bool
-    ensures { result ≡ is_matched wanted.now (plain_versioning_ref version.now) }
-{
-    wanted.matches(version)
-}
-
-impl Chooses for Chooser<'_> {
+impl Chooses for Chooser {
     ghost use Rattle.version_commands.specs.Choice.{is_kept};
 
     ghost keeps = { λ chooser. is_kept chooser };

@@ -1,10 +1,10 @@
 //! The commands that ask the same of each of several versions: `show`, `key`, `why` and `next`.
 ghost use Rattle.std.specs.Prelude.{◌≡◌, ◌==◌, ◌<◌, ◌++◌, ◌∷◌, [], false, length, map, ℕ, List, Option, Some, IfErr, IfOk, OnOk};
 ghost use Rattle.std.specs.Io.KnownBytes.{Consumes, IsAtEnd};
-ghost use Rattle.version_commands.specs.Cause.{ComesOfAnswering, ComesOfAsking, ComesOfList};
+ghost use Rattle.version_commands.specs.Cause.{ComesOfAnswering, ComesOfAsking, ComesOfQuestion};
 ghost use Rattle.version_commands.specs.declared.each.Answers.{Answers};
 ghost use Rattle.version_commands.specs.Early.{IfOfWord};
-ghost use Rattle.version_commands.specs.Each.{AreAnswered, HasList, HaveAnswered, IsAnswer, IsAnswered, IsHead};
+ghost use Rattle.version_commands.specs.Each.{AreAnswered, HasSet, HaveAnswered, IsAnswer, IsAnswered, IsHead};
 ghost use Rattle.version_commands.specs.Pieces.{Adds};
 ghost use Rattle.version_commands.specs.Place.{line_text};
 ghost use Rattle.version_lines.specs.Lines.{lines_of};
@@ -22,11 +22,11 @@ use crate::pick::{EveryVersion, Takes, pick};
 use crate::place::line_text;
 use crate::quote::quoted;
 use crate::show::add_show;
-use crate::why::{add_conflict, add_why};
-use crate::word::version_of_word;
+use crate::why::{add_head, add_why};
+use crate::word::{set_of_word, version_of_word};
 use std::alloc::{AllocError, Global};
 use std::io::Read;
-use version_texts::{RequirementsRef, VersioningRef};
+use version_texts::VersioningRef;
 
 /// Answers the question for each version: of the words, or without any of the lines of the reader.
 pub fn answer_each<'w, R: Read>(
@@ -50,18 +50,16 @@ pub fn answer_each<'w, R: Read>(
     }
 }
 
-// Returns what stands before the answers. It fails if a list of requirements is asked for and is none.
+// Returns what stands before the answers. It fails if a set is asked for and is none.
 fn head_of<'w>(alloc: Global, question: Question<'w>, end: u8) -> Result<Vec<u8>, Fault<'w>>
     ensures head { IfOk result (λ head. IsHead question.entry end head.items) }
-    ensures list { OnOk result (HasList question.entry) }
-    ensures faults { IfErr result (ComesOfList question.entry) }
+    ensures set { OnOk result (HasSet question.entry) }
+    ensures faults { IfErr result (ComesOfQuestion question.entry) }
 {
     let mut head = Vec::new(alloc);
-    if let Question::Why(list) = question {
-        if RequirementsRef::new(list).is_none() {
-            return Err(Fault::NotRequirement(list));
-        }
-        add_conflict(list.as_bytes(), end, &mut head)?;
+    if let Question::Why(word) = question {
+        let set = set_of_word(alloc, word)?;
+        add_head(word.as_bytes(), set.has_any(), end, &mut head)?;
     }
     Ok(head)
 }
@@ -74,7 +72,7 @@ fn answer_words<'w>(
     words: &[&'w str],
     head: Vec<u8>,
 ) -> Result<Vec<u8>, Fault<'w>>
-    requires list { HasList question }
+    requires set { HasSet question }
     requires words { words.now ≡ options.now.versions.items }
     requires some { 0 < length words.now }
     ensures answers { IfOk result (λ output. Adds (AreAnswered question.entry options.now.end
@@ -104,7 +102,7 @@ fn answer_lines<'w>(
     head: Vec<u8>,
     input: &[u8],
 ) -> Result<Vec<u8>, Fault<'w>>
-    requires list { HasList question }
+    requires set { HasSet question }
     requires words { options.now.versions.items ≡ [] }
     ensures answers { IfOk result (λ output. Adds (AreAnswered question.entry options.now.end
         (map (line_text options.now.crlf) (lines_of options.now.end input.now)))
@@ -140,7 +138,7 @@ struct Answers<'q, 'a> {
 impl<'a> Answers<'_, 'a> {
     // Adds the answer for a text, which is this version.
     fn add(&mut self, text: &'a [u8], version: &VersioningRef<'_>) -> Result<(), AllocError>
-        requires list { HasList self.old.question }
+        requires set { HasSet self.old.question }
         requires version { versioning_of text.now ≡ Some (plain_versioning_ref version.now) }
         ensures question { self.new.question ≡ self.old.question }
         ensures crlf { self.new.crlf ≡ self.old.crlf }
@@ -180,12 +178,12 @@ impl<'a> Answers<'_, 'a> {
 
 impl<'a> Takes<'a> for Answers<'_, 'a> {
     ghost use Rattle.std.specs.Prelude.{◌≡◌, ⊤, map};
-    ghost use Rattle.version_commands.specs.Each.{HasList, HaveAnswered};
+    ghost use Rattle.version_commands.specs.Each.{HasSet, HaveAnswered};
     ghost use Rattle.version_commands.specs.Place.{line_text};
 
     ghost text_of = { λ answers. line_text answers.crlf };
 
-    ghost IsReady = { λ answers. HasList answers.question };
+    ghost IsReady = { λ answers. HasSet answers.question };
 
     ghost HasTaken = { λ first now lines.
         HaveAnswered first now (map (line_text first.crlf) lines) };
@@ -207,7 +205,7 @@ fn add_answer(
     end: u8,
     output: &mut Vec<u8>,
 ) -> Result<bool, AllocError>
-    requires { HasList question }
+    requires { HasSet question }
     ensures { IfOk result (λ found. Adds
         (IsAnswer question.entry end (plain_versioning_ref version.now) found)
         output.old.items output.new.items) }
@@ -216,7 +214,7 @@ fn add_answer(
         Question::Show => add_show(version, end, output)?,
         Question::Json => add_json(alloc, version, end, output)?,
         Question::Key => add_key_line(alloc, version, end, output)?,
-        Question::Why(list) => add_why(list.as_bytes(), version, end, output)?,
+        Question::Why(set) => add_why(alloc, set, version, end, output)?,
         Question::Next(place) => return add_next(alloc, version, place, end, output),
     }
     Ok(true)

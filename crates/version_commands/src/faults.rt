@@ -4,13 +4,13 @@ ghost use Rattle.std.specs.Fmt.{DisplaysOnOk};
 ghost use Rattle.version_commands.specs.Quote.{quoted};
 
 use crate::quote::Shown;
+use crate::set::WrongSet;
 use std::alloc::AllocError;
 use std::error::Error;
 use std::fmt;
 use version_lines::NotWritten;
 
-/// Why a task failed. It prints as the line that the program `versions` writes to standard error, after its name;
-/// `Untrue` prints nothing. Of a word, a line or the name of a file a message shows what is UTF-8 in front of the first
+/// Why a task failed. It prints as the line that the program `versions` writes to standard error, after its name. Of a word, a line or the name of a file a message shows what is UTF-8 in front of the first
 /// sixty bytes, with control characters escaped.
 #[derive(Debug, PartialEq, Eq, Drop)]
 pub enum Fault<'w> {
@@ -18,8 +18,12 @@ pub enum Fault<'w> {
     NotVersion(&'w str),
     /// The word that should be a list of requirements but is not.
     NotRequirement(&'w str),
-    /// The same of the words of `test`, whose status tells them from an answer.
+    /// The word that should be a set but is not.
+    NotSet(WrongSet<'w>),
+    /// The first word that should be a version but is not, of a task that answers by its status.
     NotTested(&'w str),
+    /// The word that should be a set but is not, of such a task.
+    NotTestedSet(WrongSet<'w>),
     /// The first line that has no version.
     BadLine {
         /// Its number, counted from 1 through all files.
@@ -33,8 +37,6 @@ pub enum Fault<'w> {
     },
     /// The first version that none comes next to at the place, as a message shows it.
     NoNext(String),
-    /// `test` answers no.
-    Untrue,
     /// An allocation failed.
     Memory,
     /// The file that could not be read to its end; `-` is standard input.
@@ -47,18 +49,18 @@ impl Fault<'_> {
     ghost use Rattle.std.specs.Prelude.{◌≡◌};
     ghost use Rattle.version_commands.specs.Fault.{status_of};
 
-    /// Returns the exit status: 1 for an input that is not a version or a requirement, and for `test` if it does not
-    /// hold; 2 for words of `test` that are no versions or requirements; 3 for a failure of the system.
+    /// Returns the exit status: 1 for an input that is not a version, a requirement or a set; 2 for such words of a task
+    /// that answers by its status; 3 for a failure of the system.
     pub fn status(&self) -> u8
         ensures { result ≡ status_of self.now }
     {
         match self {
             Fault::NotVersion(_)
             | Fault::NotRequirement(_)
+            | Fault::NotSet(_)
             | Fault::BadLine { .. }
-            | Fault::NoNext(_)
-            | Fault::Untrue => 1,
-            Fault::NotTested(_) => 2,
+            | Fault::NoNext(_) => 1,
+            Fault::NotTested(_) | Fault::NotTestedSet(_) => 2,
             Fault::Memory | Fault::Read(_) | Fault::Write(_) => 3,
         }
     }
@@ -72,11 +74,11 @@ impl fmt::Display for Fault<'_> {
 
     fn fmt<W: fmt::Write>(&self, f: &mut fmt::Formatter<W>) -> fmt::Result {
         match self {
-            Fault::NotVersion(word) => write_word(f, "not a version: ", word),
-            Fault::NotRequirement(word) => write_word(f, "not a requirement: ", word),
-            Fault::NotTested(word) => {
-                write_word(f, "neither a version nor a requirement: ", word)
+            Fault::NotVersion(word) | Fault::NotTested(word) => {
+                write_word(f, "not a version: ", word)
             }
+            Fault::NotRequirement(word) => write_word(f, "not a requirement: ", word),
+            Fault::NotSet(wrong) | Fault::NotTestedSet(wrong) => write!(f, "{wrong}"),
             Fault::BadLine {
                 number,
                 ends_in_return: true,
@@ -96,7 +98,6 @@ impl fmt::Display for Fault<'_> {
                 write!(f, "line {number} is not a version: {text}{others}")
             }
             Fault::NoNext(text) => write!(f, "no version comes next at that place: {text}"),
-            Fault::Untrue => Ok(()),
             Fault::Memory => write!(f, "no memory"),
             Fault::Read(name) => write_word(f, "cannot be read: ", name),
             Fault::Write(Some(name)) => write_word(f, "cannot be written: ", name),

@@ -29,7 +29,7 @@ pub struct VersionPlace<'w> {
 pub struct Choice<'w> {
     /// Those whose version is less stable.
     pub least: Stability,
-    /// Those whose version this list of requirements does not match.
+    /// Those whose version is not in this set.
     pub wanted: Option<&'w str>,
 }
 
@@ -63,9 +63,9 @@ pub enum Arrangement<'w> {
         /// The column whose text is the group of a line. Without one, all lines are of one group.
         group: Option<Column>,
     },
-    /// Those whose versions a list of requirements matches, or does not match, in the order of the input.
+    /// Those whose versions are in a set, or are not, in the order of the input.
     Filter {
-        list: &'w str,
+        set: &'w str,
         inverted: bool,
     },
 }
@@ -94,7 +94,7 @@ pub enum Question<'w> {
     Json,
     /// Its sort key, in hexadecimal.
     Key,
-    /// Which member of a list of requirements does not match it, and why.
+    /// Whether it is in a set, or which members leave it out.
     Why(&'w str),
     /// Which version comes next at a place, counted from 0.
     Next(usize),
@@ -153,8 +153,12 @@ pub enum Task<'w> {
     Each(Question<'w>, EachOptions<'w>),
     /// `test A OP B`.
     TestTwo(&'w str, Operator, &'w str),
-    /// `test VERSION LIST`.
-    TestList(&'w str, &'w str),
+    /// `test VERSION SET`.
+    TestSet(&'w str, &'w str),
+    /// `implies SET SET`.
+    Implies(&'w str, &'w str),
+    /// `meets SET SET`.
+    Meets(&'w str, &'w str),
     /// `compare A B`, with `--explain` or without.
     Compare {
         first: &'w str,
@@ -167,6 +171,8 @@ pub enum Task<'w> {
     Lists(Lists<'w>),
     /// `ideal` and `show` of `vers`.
     Label(Labels),
+    /// `match LIST` of `vers`.
+    Match(&'w str),
     /// `--help` and `--version`: the text that is written.
     Say(String),
 }

@@ -1,15 +1,16 @@
 //! What a task does over any files, reader and writer.
-ghost use Rattle.std.specs.Prelude.{◌≡◌, ◌∷◌, [], false, true, None, Ok, Some, IfErr, IfOk, OnOk};
+ghost use Rattle.std.specs.Prelude.{◌≡◌, ◌∷◌, [], false, true, IfErr, IfOk};
 ghost use Rattle.version_commands.specs.Cause.{ComesOf, ComesOfChanges};
 ghost use Rattle.version_commands.specs.Compare.{comparison_line};
 ghost use Rattle.version_commands.specs.Difference.{difference_line};
 ghost use Rattle.version_commands.specs.Early.{IfOfWord, UnlessLate};
 ghost use Rattle.version_commands.specs.Ends.{Ends};
-ghost use Rattle.version_commands.specs.Fault.{first_wrong, ComesOfTest, ComesOfWords};
+ghost use Rattle.version_commands.specs.Fault.{first_wrong, ComesOfWords};
 ghost use Rattle.version_commands.specs.Files.{AltersAtMost, Leaves};
 ghost use Rattle.version_commands.specs.Inputs.{reads_standard};
 ghost use Rattle.version_commands.specs.Lists.{names_of};
-ghost use Rattle.version_commands.specs.Output.{asks_reader, file_of, AreChanges, IsLineOfTwo, IsOutput};
+ghost use Rattle.version_commands.specs.Output.{asks_reader, file_of, Answers, AreChanges, IsLineOfTwo, IsOutput};
+ghost use Rattle.version_commands.specs.Test.{answer_line};
 ghost use Rattle.version_lines.specs.Lines.{line_feed};
 
 use crate::arrange::serve_lines;
@@ -22,15 +23,16 @@ use crate::files::Files;
 use crate::inputs::read_inputs;
 use crate::label::write_labels;
 use crate::lists::{add_lists, read_names};
+use crate::matched::write_matched;
 use crate::options::{Lists, Task};
-use crate::test::{WrongWord, test_list, test_two};
+use crate::test::{answer_line, implies, meets, test_set, test_two};
 use crate::word::version_of_word;
 use crate::write::write_answer;
 use std::alloc::Global;
 use std::io::{Read, Write};
 
-/// Does a task. What it writes is `IsOutput` of the task and of what its files and the reader hold, and a fault
-/// `ComesOf` the same. At a fault the writer got nothing, or a proper beginning if it takes no more. A task that doesn't
+/// Does a task, and returns whether it answers yes: one that answers by its output alone does. What it writes is
+/// `IsOutput` of the task and of what its files and the reader hold, and a fault `ComesOf` the same. At a fault the writer got nothing, or a proper beginning if it takes no more. A task that doesn't
 /// read standard input leaves the reader as it is. Each leaves all files as they are but the one for lines without a
 /// version, at a fault too.
 pub fn serve<'w, F: Files, R: Read, W: Write>(
@@ -39,7 +41,8 @@ pub fn serve<'w, F: Files, R: Read, W: Write>(
     files: &mut F,
     reader: &mut R,
     writer: &mut W,
-) -> Result<(), Fault<'w>>
+) -> Result<bool, Fault<'w>>
+    ensures answers { IfOk result (Answers task.now) }
     ensures ends { Ends (IsOutput task.now (F.reads files.old) (R.remaining reader.old)
         (R.remaining reader.new) (Leaves F.puts files.old files.new))
         (ComesOf task.now (F.reads files.old) (R.remaining reader.old))
@@ -49,50 +52,70 @@ pub fn serve<'w, F: Files, R: Read, W: Write>(
     ensures kept { UnlessLate (files.new ≡ files.old) result }
     ensures early { IfOfWord (reader.new ≡ reader.old) result }
 {
-    let output = match task {
+    match task {
         Task::Lines(arrangement, options) => {
-            return serve_lines(alloc, *arrangement, options, files, reader, writer);
+            serve_lines(alloc, *arrangement, options, files, reader, writer)?;
+            Ok(true)
         }
-        Task::Label(labels) => return write_labels(alloc, *labels, reader, writer),
-        Task::Say(text) => return write_answer(writer, text.as_bytes()),
-        Task::Each(question, options) => answer_each(alloc, *question, options, reader)?,
-        Task::TestTwo(first, operator, second) => {
-            settle(alloc, test_two(first, *operator, second), first, second)?
+        Task::Each(question, options) => {
+            let output = answer_each(alloc, *question, options, reader)?;
+            write_text(writer, output.as_slice())
         }
-        Task::TestList(version, list) => settle(alloc, test_list(version, list), version, list)?,
+        Task::TestTwo(first, operator, second) => test_two(first, *operator, second),
+        Task::TestSet(version, set) => test_set(alloc, version, set),
+        Task::Implies(one, other) => write_yes_or_no(writer, implies(alloc, one, other)?),
+        Task::Meets(one, other) => write_yes_or_no(writer, meets(alloc, one, other)?),
         Task::Compare {
             first,
             second,
-            explain,
+            explain: false,
+        } => write_text(writer, comparison(first, second)?),
+        Task::Compare {
+            first,
+            second,
+            explain: true,
         } => {
-            if !*explain {
-                return write_answer(writer, comparison(first, second)?);
-            }
-            explanation(alloc, first, second)?
+            let output = explanation(alloc, first, second)?;
+            write_text(writer, output.as_slice())
         }
-        Task::Difference(first, second) => difference(alloc, first, second)?,
-        Task::Lists(lists) => changes(alloc, lists, files, reader)?,
-    };
-    write_answer(writer, output.as_slice())
+        Task::Difference(first, second) => {
+            let output = difference(alloc, first, second)?;
+            write_text(writer, output.as_slice())
+        }
+        Task::Lists(lists) => {
+            let output = changes(alloc, lists, files, reader)?;
+            write_text(writer, output.as_slice())
+        }
+        Task::Label(labels) => {
+            write_labels(alloc, *labels, reader, writer)?;
+            Ok(true)
+        }
+        Task::Match(list) => {
+            write_matched(alloc, list, reader, writer)?;
+            Ok(true)
+        }
+        Task::Say(text) => write_text(writer, text.as_bytes()),
+    }
 }
 
-// Ends `test` by its answer, of which nothing is written, or with the word that is wrong.
-fn settle<'w>(
-    alloc: Global,
-    answer: Result<bool, WrongWord>,
-    first: &'w str,
-    second: &'w str,
-) -> Result<Vec<u8>, Fault<'w>>
-    ensures yes { OnOk result (answer ≡ Ok true) }
-    ensures nothing { IfOk result (λ output. output.items ≡ []) }
-    ensures faults { IfErr result (ComesOfTest answer first.now second.now) }
+// Writes what a task answers by its output alone.
+fn write_text<'w, W: Write>(writer: &mut W, text: &[u8]) -> Result<bool, Fault<'w>>
+    ensures ends { Ends (λ output. output ≡ text.now) (λ _. ⊥)
+        (W.contents writer.old) (W.contents writer.new) result }
+    ensures yes { IfOk result (λ answer. answer ≡ true) }
 {
-    match answer {
-        Ok(true) => Ok(Vec::new(alloc)),
-        Ok(false) => Err(Fault::Untrue),
-        Err(WrongWord::First) => Err(Fault::NotTested(first)),
-        Err(WrongWord::Second) => Err(Fault::NotTested(second)),
-    }
+    write_answer(writer, text)?;
+    Ok(true)
+}
+
+// Writes the line for an answer, and returns the answer.
+fn write_yes_or_no<'w, W: Write>(writer: &mut W, yes: bool) -> Result<bool, Fault<'w>>
+    ensures ends { Ends (λ output. output ≡ answer_line yes) (λ _. ⊥)
+        (W.contents writer.old) (W.contents writer.new) result }
+    ensures same { IfOk result (λ answer. answer ≡ yes) }
+{
+    write_answer(writer, answer_line(yes))?;
+    Ok(yes)
 }
 
 // Returns the line of `compare`. Does not allocate.

@@ -1,20 +1,15 @@
-//! The command `test`: whether an operator holds between two versions, or a list of requirements matches one.
+//! The commands `test`, `implies` and `meets`, which answer by their status.
 
-ghost use Rattle.std.specs.Prelude.{◌≡◌};
-ghost use Rattle.version_commands.specs.Test.{answer_of_two, holds, IsAnswerOfList};
-ghost use Rattle.version_rules.specs.requirement.Requirements.{requirements_of};
-ghost use Rattle.version_rules.specs.grammar.Versioning.{versioning_of};
+ghost use Rattle.std.specs.Prelude.{◌≡◌, ◌∷◌, [], Some, IfErr, IfOk};
+ghost use Rattle.version_commands.specs.Fault.{first_wrong, ComesOfTestOfSet, ComesOfTestOfSets, ComesOfTestOfTwo};
+ghost use Rattle.version_commands.specs.Test.{answer_line, answer_of_set, answer_of_two, holds, AreSetsSo};
+ghost use Rattle.version_sets.specs.Ends.{IsPart, Meet};
 
+use crate::faults::Fault;
 use crate::options::Operator;
+use crate::word::{tested_set, tested_version};
+use std::alloc::Global;
 use std::cmp::Ordering;
-use version_texts::{VersioningRef, list_matches};
-
-/// Which of two words is the first that is not what it should be.
-#[derive(Clone, Copy)]
-pub(crate) enum WrongWord {
-    First,
-    Second,
-}
 
 /// Returns whether an operator holds between two versions that compare so.
 pub(crate) fn holds(operator: Operator, order: Ordering) -> bool
@@ -29,21 +24,54 @@ pub(crate) fn holds(operator: Operator, order: Ordering) -> bool
     }
 }
 
-/// Returns whether an operator holds between two versions by their precedence, or which text is no version. Does not
-/// allocate.
-pub(crate) fn test_two(first: &str, operator: Operator, second: &str) -> Result<bool, WrongWord>
-    ensures { result ≡ answer_of_two operator (versioning_of first.now) (versioning_of second.now) }
+/// Returns whether an operator holds between two versions by their precedence. Otherwise the fault has the first word
+/// that is none. Does not allocate.
+pub(crate) fn test_two<'w>(
+    first: &'w str,
+    operator: Operator,
+    second: &'w str,
+) -> Result<bool, Fault<'w>>
+    ensures answer { IfOk result (λ yes. answer_of_two operator first.now second.now ≡ Some yes) }
+    ensures faults { IfErr result (ComesOfTestOfTwo (first_wrong (first.now ∷ second.now ∷ []))) }
 {
-    let first = VersioningRef::new(first).ok_or(WrongWord::First)?;
-    let second = VersioningRef::new(second).ok_or(WrongWord::Second)?;
+    let first = tested_version(first)?;
+    let second = tested_version(second)?;
     Ok(holds(operator, first.precedence(&second)))
 }
 
-/// Returns whether each member of a list of requirements matches a version, or which text is no version, or no list.
-/// Does not allocate.
-pub(crate) fn test_list(version: &str, list: &str) -> Result<bool, WrongWord>
-    ensures { IsAnswerOfList (versioning_of version.now) (requirements_of list.now) result }
+/// Returns whether a set has a version. Otherwise the fault has the first word that is wrong.
+pub(crate) fn test_set<'w>(alloc: Global, version: &'w str, set: &'w str) -> Result<bool, Fault<'w>>
+    ensures answer { IfOk result (λ yes. answer_of_set version.now set.now ≡ Some yes) }
+    ensures faults { IfErr result (ComesOfTestOfSet version.now set.now) }
 {
-    let version = VersioningRef::new(version).ok_or(WrongWord::First)?;
-    list_matches(list.as_bytes(), &version).ok_or(WrongWord::Second)
+    let version = tested_version(version)?;
+    let set = tested_set(alloc, set)?;
+    Ok(set.has(&version))
+}
+
+/// Returns whether another set has all that a set has. Otherwise the fault has the first word that is none.
+pub(crate) fn implies<'w>(alloc: Global, one: &'w str, other: &'w str) -> Result<bool, Fault<'w>>
+    ensures answer { IfOk result (λ yes. AreSetsSo (IsPart yes) one.now other.now) }
+    ensures faults { IfErr result (ComesOfTestOfSets one.now other.now) }
+{
+    let one = tested_set(alloc, one)?;
+    let other = tested_set(alloc, other)?;
+    Ok(one.is_part_of(&other))
+}
+
+/// Returns whether two sets have a key in common. Otherwise the fault has the first word that is none.
+pub(crate) fn meets<'w>(alloc: Global, one: &'w str, other: &'w str) -> Result<bool, Fault<'w>>
+    ensures answer { IfOk result (λ yes. AreSetsSo (Meet yes) one.now other.now) }
+    ensures faults { IfErr result (ComesOfTestOfSets one.now other.now) }
+{
+    let one = tested_set(alloc, one)?;
+    let other = tested_set(alloc, other)?;
+    Ok(one.meets(&other))
+}
+
+/// Returns the line for an answer.
+pub(crate) fn answer_line(yes: bool) -> &'static [u8]
+    ensures { result.now ≡ answer_line yes }
+{
+    if yes { b"yes\n" } else { b"no\n" }
 }

@@ -1,89 +1,105 @@
-//! The command `why`: which member of a list of requirements excludes a version, and which two exclude each other.
+//! The command `why`: which members of a set leave a version out.
 
-ghost use Rattle.std.specs.Prelude.{◌≡◌, ◌∷◌, ◌++◌, [], IsSome, OnOk};
+ghost use Rattle.std.specs.Prelude.{◌≡◌, ◌++◌, codes, IsSome, IsSomeAnd, List, OnOk, Some};
 ghost use Rattle.version_commands.specs.Pieces.{Adds};
-ghost use Rattle.version_commands.specs.Why.{conflict_line, IsConflictText, IsWhyLine};
-ghost use Rattle.version_rules.specs.requirement.Requirements.{requirements_of};
-ghost use Rattle.version_texts.specs.requirement.Conflict.{ExcludeEachOther};
+ghost use Rattle.version_commands.specs.Why.{head_text, members_text, why_text, IsWhyLine};
+ghost use Rattle.version_sets.specs.Excluding.{leave_out};
+ghost use Rattle.version_sets.specs.Form.{between};
+ghost use Rattle.version_sets.specs.Mixed.{set_of};
+ghost use Rattle.version_sets.specs.Reading.{Member};
+ghost use Rattle.version_texts.specs.keyed.Mixed.{mixed};
 ghost use Rattle.version_texts.specs.versioning_ref.VersioningRef.{plain_versioning_ref};
-ghost use Rattle.version_texts.specs.requirement.Why.{reason_text};
 
 use crate::pieces::add_pieces;
-use std::alloc::AllocError;
-use version_texts::{Conflict, VersioningRef, Why, conflict_in, text_between, why_not};
+use crate::set::Set;
+use std::alloc::{AllocError, Global};
+use version_sets::{Alternatives, Span, set_room};
+use version_texts::VersioningRef;
 
-/// Adds the line for a version: that a list matches it, or which member is the first that does not, and why.
+/// Adds the line for a version: that it is in the set that a word is, or which member of each alternative leaves it
+/// out.
 pub(crate) fn add_why(
-    list: &[u8],
+    alloc: Global,
+    word: &str,
     version: &VersioningRef<'_>,
     end: u8,
     output: &mut Vec<u8>,
 ) -> Result<(), AllocError>
-    requires { IsSome (requirements_of list.now) }
-    ensures { OnOk result (Adds (IsWhyLine end list.now (plain_versioning_ref version.now))
+    requires { IsSome (set_of word.now) }
+    ensures { OnOk result (Adds (IsWhyLine end word.now (plain_versioning_ref version.now))
         output.old.items output.new.items) }
 {
-    let text = version.text().as_bytes();
-    match why_not(list, version).unwrap() {
-        Some(excluded) => add_reason(
-            excluded.why,
-            text,
-            text_between(list, excluded.start, excluded.end),
-            end,
-            output,
-        ),
-        None => add_pieces(output, &[text, b" matches", &[end]]),
-    }
+    output.extend_from_slice(version.text().as_bytes())?;
+    add_verdict(alloc, word, version, output)?;
+    output.push(end)?;
+    Ok(())
 }
 
-/// Adds a line if two members of a list exclude each other, or one excludes every version; else nothing.
-pub(crate) fn add_conflict(list: &[u8], end: u8, output: &mut Vec<u8>) -> Result<(), AllocError>
-    requires { IsSome (requirements_of list.now) }
-    ensures { OnOk result (Adds (IsConflictText end list.now) output.old.items output.new.items) }
+// Adds what is said of a version.
+fn add_verdict(
+    alloc: Global,
+    word: &str,
+    version: &VersioningRef<'_>,
+    output: &mut Vec<u8>,
+) -> Result<(), AllocError>
+    requires { IsSome (set_of word.now) }
+    ensures { OnOk result ((alternatives : List (List Member)) → set_of word.now ≡ Some alternatives
+        → output.new.items ≡ output.old.items
+        ++ why_text word.now alternatives (plain_versioning_ref version.now)) }
 {
-    match conflict_in(list).unwrap() {
-        Some(conflict) => add_conflict_line(list, conflict, end, output),
-        None => Ok(()),
+    let set = Set::read(alloc, word)?.unwrap();
+    if set.has(version) {
+        output.extend_from_slice(b" matches")
+    } else {
+        add_members(alloc, word.as_bytes(), version, output)
     }
 }
 
-// Adds the line that says why a member does not match a version.
-fn add_reason(
-    why: Why,
-    version: &[u8],
-    member: &[u8],
+// Adds the first member of each alternative that leaves a version out.
+fn add_members<'t>(
+    alloc: Global,
+    set: &'t [u8],
+    version: &VersioningRef<'t>,
+    output: &mut Vec<u8>,
+) -> Result<(), AllocError>
+    ensures { OnOk result ((alternatives : List (List Member)) → set_of set.now ≡ Some alternatives
+        → output.new.items ≡ output.old.items ++ members_text (codes " is left out by ") set.now
+        (leave_out (mixed (plain_versioning_ref version.now)).key alternatives)) }
+{
+    let mut room = vec![in alloc; 0; set_room::<VersioningRef<'_>>(set)]?;
+    let mut alternatives = Alternatives::of(set);
+    let mut word: &[u8] = b" is left out by ";
+    loop {
+        let Ok(found) = alternatives.next_excluding(version, room.as_mut_slice()) else {
+            return Err(AllocError);
+        };
+        let Some(span) = found else {
+            return Ok(());
+        };
+        output.extend_from_slice(word)?;
+        output.extend_from_slice(member_at(set, span))?;
+        word = b" and by ";
+    }
+}
+
+// Returns the member of a set at a place.
+fn member_at(set: &[u8], span: Span) -> &[u8]
+    ensures { result.now ≡ between set.now span.start span.end }
+{
+    set.get(span.start..span.end).unwrap_or(&[])
+}
+
+/// Adds a line if no version is in a set; else nothing.
+pub(crate) fn add_head(
+    set: &[u8],
+    has_any: bool,
     end: u8,
     output: &mut Vec<u8>,
 ) -> Result<(), AllocError>
-    ensures { OnOk result (output.new.items
-        ≡ output.old.items ++ (reason_text why version.now member.now ++ end ∷ [])) }
+    ensures { OnOk result (output.new.items ≡ output.old.items ++ head_text end set.now has_any) }
 {
-    let (between, after) = why.words();
-    output.extend_from_slice(version)?;
-    output.extend_from_slice(between.as_bytes())?;
-    output.extend_from_slice(member)?;
-    output.extend_from_slice(after.as_bytes())?;
-    output.extend_from_slice(&[end])
-}
-
-// Adds the line for members that exclude each other.
-fn add_conflict_line(
-    list: &[u8],
-    conflict: Conflict,
-    end: u8,
-    output: &mut Vec<u8>,
-) -> Result<(), AllocError>
-    requires { ExcludeEachOther list.now conflict }
-    ensures { OnOk result (output.new.items
-        ≡ output.old.items ++ conflict_line end list.now conflict) }
-{
-    let one = text_between(list, conflict.one.start, conflict.one.end);
-    if conflict.one.start == conflict.other.start {
-        return add_pieces(output, &[one, b" excludes every version", &[end]]);
+    if has_any {
+        return Ok(());
     }
-    let other = text_between(list, conflict.other.start, conflict.other.end);
-    add_pieces(
-        output,
-        &[one, b" and ", other, b" exclude each other", &[end]],
-    )
+    add_pieces(output, &[b"no version is in ", set, &[end]])
 }

@@ -1,5 +1,5 @@
 //! Writing what a command answers.
-ghost use Rattle.std.specs.Prelude.{◌≡◌, ◌++◌, [], None, map, IfErr, IfOk, OnErr, OnOk};
+ghost use Rattle.std.specs.Prelude.{◌≡◌, ◌++◌, [], ℕ, List, None, map, if◌then◌else◌, IfErr, IfOk, OnErr, OnOk};
 ghost use Rattle.std.specs.Io.KnownBytes.{Appends};
 ghost use Rattle.version_commands.specs.Arranged.{placed, policy};
 ghost use Rattle.version_commands.specs.Early.{UnlessLate};
@@ -7,7 +7,7 @@ ghost use Rattle.version_commands.specs.Ends.{Ends};
 ghost use Rattle.version_commands.specs.Fault.{ComesOfPut};
 ghost use Rattle.version_commands.specs.Files.{AltersAtMost, Leaves};
 ghost use Rattle.version_commands.specs.Ordered.{bad_file, put_of, IsPlaced};
-ghost use Rattle.version_lines.specs.Lines.{lines_output, output_by, whole_line};
+ghost use Rattle.version_lines.specs.Lines.{answer_text, lines_output, output_by, whole_line};
 ghost use Rattle.version_lines.specs.Output.{AppendsProperBeginning, AppendsUpTo};
 
 use crate::bad::policy;
@@ -18,7 +18,9 @@ use crate::pick::BadLines;
 use crate::rows::{Rows, put_rows};
 use std::alloc::{AllocError, Global};
 use std::io::Write;
-use version_lines::{LineCommand, NotWritten, Trouble, answer_lines, make_buffer, write_whole};
+use version_lines::{
+    Answer, LineCommand, NotWritten, Trouble, answer_lines, make_buffer, write_whole,
+};
 
 /// Writes the lines in their order, with those that have no version before or after them, or into the file for these.
 /// All memory is taken before anything is written.
@@ -156,6 +158,19 @@ pub fn write_answers<'w, C: LineCommand, W: Write>(
     let mut buffer = make_buffer(alloc)?;
     answer_lines(command, end, input, writer, &mut buffer)?;
     Ok(())
+}
+
+/// Returns the answer for a line: all of it, if it is kept.
+#[inline(always)]
+pub fn whole_if(kept: bool) -> Answer
+    ensures { (end : ℕ) → (line : List ℕ) → answer_text end result line
+        ≡ if kept then whole_line end line else [] }
+{
+    if kept {
+        Answer::Line(b"")
+    } else {
+        Answer::Nothing
+    }
 }
 
 /// Writes an answer that was gathered.

@@ -116,8 +116,14 @@ name_of verb.Key = codes "key"
 name_of verb.Test = codes "test"
 name_of verb.Compare = codes "compare"
 name_of verb.Why = codes "why"
+name_of verb.Implies = codes "implies"
+name_of verb.Meets = codes "meets"
 name_of verb.Diff = codes "diff"
 name_of verb.Next = codes "next"
+
+-- two sets
+abbrev pub sets_rules : List Rule
+sets_rules = word_rule (codes "SET") ∷ word_rule (codes "OTHER") ∷ []
 
 -- what a command takes
 abbrev pub rules_of : Verb → List Rule
@@ -126,12 +132,14 @@ rules_of verb.Sort =
 rules_of verb.Newest =
     words_rule ∷ number_rule (Some 110) (codes "count") ∷ number_rule (Some 103) (codes "group") ∷ lines_rules
 rules_of verb.Filter =
-    word_rule (codes "LIST") ∷ words_rule ∷ flag_rule (Some 118) (codes "invert-match") ∷ lines_rules
+    word_rule (codes "SET") ∷ words_rule ∷ flag_rule (Some 118) (codes "invert-match") ∷ lines_rules
 rules_of verb.Show = words_rule ∷ flag_rule None (codes "json") ∷ ending_rules
 rules_of verb.Key = words_rule ∷ ending_rules
 rules_of verb.Test = two_or_three_rule (codes "WORD") ∷ []
 rules_of verb.Compare = word_rule (codes "A") ∷ word_rule (codes "B") ∷ flag_rule None (codes "explain") ∷ []
-rules_of verb.Why = word_rule (codes "LIST") ∷ words_rule ∷ ending_rules
+rules_of verb.Why = word_rule (codes "SET") ∷ words_rule ∷ ending_rules
+rules_of verb.Implies = sets_rules
+rules_of verb.Meets = sets_rules
 rules_of verb.Diff = word_rule (codes "A") ∷ word_rule (codes "B") ∷ flag_rule None (codes "lists")
     ∷ number_rule (Some 103) (codes "group") ∷ number_rule (Some 107) (codes "key") ∷ separator_rule
     ∷ tags_rule ∷ prefix_rule ∷ invalid_rule ∷ ending_rules
@@ -144,7 +152,7 @@ shape_of_command command = command_shape (name_of command) (rules_of command)
 -- the commands, in the order in which help has them
 abbrev pub commands : List Verb
 commands = verb.Sort ∷ verb.Newest ∷ verb.Filter ∷ verb.Show ∷ verb.Key ∷ verb.Test ∷ verb.Compare
-    ∷ verb.Why ∷ verb.Diff ∷ verb.Next ∷ []
+    ∷ verb.Why ∷ verb.Implies ∷ verb.Meets ∷ verb.Diff ∷ verb.Next ∷ []
 
 -- a command with more arguments
 abbrev pub with_rules : App → List Rule → App

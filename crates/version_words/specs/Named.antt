@@ -23,8 +23,10 @@ verb_named word =
     else (if bytes_eq word (codes "test") then Some verb.Test
     else (if bytes_eq word (codes "compare") then Some verb.Compare
     else (if bytes_eq word (codes "why") then Some verb.Why
+    else (if bytes_eq word (codes "implies") then Some verb.Implies
+    else (if bytes_eq word (codes "meets") then Some verb.Meets
     else (if bytes_eq word (codes "diff") then Some verb.Diff
-    else (if bytes_eq word (codes "next") then Some verb.Next else None)))))))))
+    else (if bytes_eq word (codes "next") then Some verb.Next else None)))))))))))
 
 -- what a word of `--invalid` names
 abbrev pub invalid_named : List ℕ → Option Invalid

@@ -19,7 +19,7 @@ use Rattle.version_lines.specs.declared.column.Column.{Column}
 use Rattle.version_words.specs.Named.{operator_named, place_named}
 use Rattle.version_words.specs.Rows.{column_at, column_of, end_of, has_option_of_lists, invalid_of, is_given, is_set, level_of, number_of, separator_of, word_of, words_of}
 use Rattle.version_words.specs.declared.named.Verb.{Verb}
-use Rattle.version_words.specs.declared.named.Verb.TheVariants.{Compare, Diff, Filter, Key, Newest, Next, Show, Sort, Test, Why}
+use Rattle.version_words.specs.declared.named.Verb.TheVariants.{Compare, Diff, Filter, Implies, Key, Meets, Newest, Next, Show, Sort, Test, Why}
 
 -- how a version stands in its column: `--tags` and `--prefix` exclude each other
 abbrev pub IsNaming : List Row → Naming → Type 0
@@ -37,7 +37,7 @@ pub record IsPlace (rows : List Row) (column : Option Column) (place : VersionPl
 -- which versions are kept
 pub record IsChoice (rows : List Row) (choice : Choice) : Type 0 where
   pub least_is : level_of rows ≡ Some choice.least
-  pub wanted_is : option_map (λ list. list.now) choice.wanted ≡ first_of (codes "match") rows
+  pub wanted_is : option_map (λ set. set.now) choice.wanted ≡ first_of (codes "match") rows
 
 -- what is asked beside the arrangement, with this byte between columns
 pub record AreLineOptions (command : Verb) (separator : Option ℕ) (rows : List Row)
@@ -57,8 +57,8 @@ IsArrangement Sort separator rows (arrangement.Sort reverse unique) =
 IsArrangement Newest separator rows (arrangement.Newest count group) =
     (count ≡ unwrap_or (number_of (codes "count") rows) 1)
     × (group ≡ column_of (codes "group") separator rows)
-IsArrangement Filter separator rows (arrangement.Filter list inverted) =
-    (list.now ≡ word_of (codes "LIST") rows) × (inverted ≡ is_set (codes "invert-match") rows)
+IsArrangement Filter separator rows (arrangement.Filter set inverted) =
+    (set.now ≡ word_of (codes "SET") rows) × (inverted ≡ is_set (codes "invert-match") rows)
 IsArrangement command separator rows other = ⊥
 
 -- what is asked of each version
@@ -66,7 +66,7 @@ abbrev pub IsQuestion : Verb → List Row → Question → Type 0
 IsQuestion Show rows question.Show = is_set (codes "json") rows ≡ false
 IsQuestion Show rows question.Json = is_set (codes "json") rows ≡ true
 IsQuestion Key rows question.Key = ⊤
-IsQuestion Why rows (question.Why list) = list.now ≡ word_of (codes "LIST") rows
+IsQuestion Why rows (question.Why set) = set.now ≡ word_of (codes "SET") rows
 IsQuestion Next rows (question.Next place) =
     place_named (word_of (codes "PLACE") rows) ≡ Some place
 IsQuestion command rows other = ⊥
@@ -92,6 +92,10 @@ pub record AreLists (separator : Option ℕ) (rows : List Row) (lists : Lists) :
       (Some (column_at separator (unwrap_or (number_of (codes "key") rows) 2))) lists.place
   pub invalid_is : invalid_of Diff rows ≡ Some lists.invalid
 
+-- two sets
+abbrev pub AreTwoSets : List Row → List ℕ → List ℕ → Type 0
+AreTwoSets rows one other = (one ≡ word_of (codes "SET") rows) × (other ≡ word_of (codes "OTHER") rows)
+
 -- the command and its rows mean this task
 abbrev pub IsTaskOf : Verb → List Row → Task → Type 0
 IsTaskOf command rows (task.Lines arrangement options) = (separator : Option ℕ)
@@ -102,8 +106,10 @@ IsTaskOf command rows (task.Each question options) =
 IsTaskOf Test rows (task.TestTwo first operator second) = (word : List ℕ)
     × (all_of (codes "WORD") rows ≡ Some (first.now ∷ word ∷ second.now ∷ []))
     × (operator_named word ≡ Some operator)
-IsTaskOf Test rows (task.TestList version list) =
-    all_of (codes "WORD") rows ≡ Some (version.now ∷ list.now ∷ [])
+IsTaskOf Test rows (task.TestSet version set) =
+    all_of (codes "WORD") rows ≡ Some (version.now ∷ set.now ∷ [])
+IsTaskOf Implies rows (task.Implies one other) = AreTwoSets rows one.now other.now
+IsTaskOf Meets rows (task.Meets one other) = AreTwoSets rows one.now other.now
 IsTaskOf Compare rows (task.Compare first second explain) =
     (first.now ≡ word_of (codes "A") rows) × (second.now ≡ word_of (codes "B") rows)
     × (explain ≡ is_set (codes "explain") rows)
@@ -128,7 +134,7 @@ HasWrongLines command rows =
 
 -- of the words of `test`: they are neither two nor three, or no operator is between two
 abbrev pub HasWrongTest : Option (List (List ℕ)) → Type 0
-HasWrongTest (Some (version ∷ list ∷ [])) = ⊥
+HasWrongTest (Some (version ∷ set ∷ [])) = ⊥
 HasWrongTest (Some (first ∷ word ∷ second ∷ [])) = operator_named word ≡ None
 HasWrongTest other = ⊤
 

@@ -20,8 +20,8 @@ const ABOUT: &str = "Sorts, filters and explains version numbers of mixed shapes
 
 // What help says after the commands.
 const STATUSES: &str =
-    "Status: 0 for an answer, even an empty one; 1 for a text that is no version or requirement, and for
-a no of test; 2 for wrong words; 3 if there is no memory, or a file can't be read or written.";
+    "Status: 0 for an answer, even an empty one; 1 for a text that is no version or set, and for a no of
+test, implies and meets; 2 for wrong words; 3 if there is no memory, or a file can't be read or written.";
 
 /// Returns the program with all its commands. The words that it reads begin after its name.
 pub fn program<'a>(alloc: Global) -> Result<Command<'a>, AllocError>

@@ -18,6 +18,8 @@ pub enum Verb {
     Test,
     Compare,
     Why,
+    Implies,
+    Meets,
     Diff,
     Next,
 }
@@ -35,6 +37,8 @@ pub fn verb_named(word: &str) -> Option<Verb>
         "test" => Some(Verb::Test),
         "compare" => Some(Verb::Compare),
         "why" => Some(Verb::Why),
+        "implies" => Some(Verb::Implies),
+        "meets" => Some(Verb::Meets),
         "diff" => Some(Verb::Diff),
         "next" => Some(Verb::Next),
         _ => None,

@@ -11,10 +11,10 @@ use std::alloc::Global;
 use std::io::{Read, Write};
 use version_commands::{Files, serve};
 
-/// Does what the words ask for. docs/VERSIONS.md has the commands.
+/// Does what the words ask for, and returns whether the answer is yes: a command that answers by its output alone does.
+/// docs/VERSIONS.md has the commands.
 ///
-/// The words are read first, and each that should be a version or a list of requirements is checked before anything is
-/// read. The inputs are read to their ends and checked before anything is written, and all memory is taken before. So at
+/// The words are read first, and each that should be a version or a set is checked before anything is read. The inputs are read to their ends and checked before anything is written, and all memory is taken before. So at
 /// a fault the writer got nothing, unless it takes no more; the file for lines without a version may have been written.
 pub fn run<'w, F: Files, R: Read, W: Write>(
     alloc: Global,
@@ -22,12 +22,11 @@ pub fn run<'w, F: Files, R: Read, W: Write>(
     files: &mut F,
     reader: &mut R,
     writer: &mut W,
-) -> Result<(), Fault<'w>>
+) -> Result<bool, Fault<'w>>
     ensures { RunsBy F.reads F.puts F.alters R.remaining files.old files.new reader.old reader.new
         (W.contents writer.old) (W.contents writer.new) (Means (map string_bytes words.now))
         (IsOfWords (map string_bytes words.now)) Task result }
 {
     let task = read_words(alloc, words)?;
-    serve(alloc, &task, files, reader, writer)?;
-    Ok(())
+    Ok(serve(alloc, &task, files, reader, writer)?)
 }

@@ -45,7 +45,7 @@ pub struct Entry {
 }
 
 /// The commands, in the order in which help has them.
-pub const COMMANDS: [Verb; 10] = [
+pub const COMMANDS: [Verb; 12] = [
     Verb::Sort,
     Verb::Newest,
     Verb::Filter,
@@ -54,13 +54,16 @@ pub const COMMANDS: [Verb; 10] = [
     Verb::Test,
     Verb::Compare,
     Verb::Why,
+    Verb::Implies,
+    Verb::Meets,
     Verb::Diff,
     Verb::Next,
 ];
 
 /// The names of the commands.
-pub const NAMES: [&str; 10] = [
-    "sort", "newest", "filter", "show", "key", "test", "compare", "why", "diff", "next",
+pub const NAMES: [&str; 12] = [
+    "sort", "newest", "filter", "show", "key", "test", "compare", "why", "implies", "meets",
+    "diff", "next",
 ];
 
 /// Returns what the table has of a command.
@@ -94,10 +97,10 @@ pub fn entry_of(command: Verb) -> Entry
         },
         Verb::Filter => Entry {
             name: "filter",
-            about: "Write lines whose versions a list of requirements matches",
+            about: "Write lines whose versions are in a set",
             usage: None,
             example: "Example:
-  $ printf '%s\\n' 1.1.9 1.2 1.10.0 2.0.0 | versions filter '>=1.2,<2'
+  $ printf '%s\\n' 1.1.9 1.2 1.10.0 2.0.0 | versions filter '>=1.2, <2'
   1.2
   1.10.0",
             own: &FILTER,
@@ -134,10 +137,10 @@ pub fn entry_of(command: Verb) -> Entry
             about: "End with 0 if it is so, 1 if not, and 2 if a word is wrong; write nothing",
             usage: Some(
                 "versions test A OP B
-       versions test VERSION LIST",
+       versions test VERSION SET",
             ),
             example: "Example:
-  $ versions test 1.10 gt 1.9 && versions test 1.10 '>=1.2,<2' && echo yes
+  $ versions test 1.10 gt 1.9 && versions test 1.10 '^1.2' && echo yes
   yes",
             own: &TEST,
             shared: &NOTHING,
@@ -154,15 +157,35 @@ pub fn entry_of(command: Verb) -> Entry
         },
         Verb::Why => Entry {
             name: "why",
-            about: "Write which requirement excludes each version, and on which side",
+            about: "Write whether each version is in a set, or which members leave it out",
             usage: None,
             example: "Example:
-  $ versions why '>=1.5,<2' 1.4 1.6 2.0
-  1.4 is below >=1.5
+  $ versions why '>=1.5, <2 || ^3' 1.4 1.6 2.0
+  1.4 is left out by >=1.5 and by ^3
   1.6 matches
-  2.0 is above <2",
+  2.0 is left out by <2 and by ^3",
             own: &WHY,
             shared: &ENDS,
+        },
+        Verb::Implies => Entry {
+            name: "implies",
+            about: "Write yes, and end with 0, if all that is in a set is in another; else no and 1",
+            usage: None,
+            example: "Example:
+  $ versions implies '^1.2' '>=1, <3'
+  yes",
+            own: &SETS,
+            shared: &NOTHING,
+        },
+        Verb::Meets => Entry {
+            name: "meets",
+            about: "Write yes, and end with 0, if two sets have something in common; else no and 1",
+            usage: None,
+            example: "Example:
+  $ versions meets '^1.2' '<1.1 || >=2'
+  no",
+            own: &SETS,
+            shared: &NOTHING,
         },
         Verb::Diff => Entry {
             name: "diff",
@@ -187,6 +210,13 @@ pub fn entry_of(command: Verb) -> Entry
         },
     }
 }
+
+const SET: Argument = Argument {
+    form: Form::Word,
+    letter: None,
+    name: "SET",
+    help: "Which versions, such as '>=1.2, <2 || ^3'",
+};
 
 const FILES: Argument = Argument {
     form: Form::Words,
@@ -282,18 +312,13 @@ static NEWEST: [Argument; 4] = [
 ];
 
 static FILTER: [Argument; 4] = [
-    Argument {
-        form: Form::Word,
-        letter: None,
-        name: "LIST",
-        help: "Requirements, of which a version has to match each, such as '>=1.2,<2'",
-    },
+    SET,
     FILES,
     Argument {
         form: Form::Flag,
         letter: Some('v'),
         name: "invert-match",
-        help: "Write the lines that the list doesn't match",
+        help: "Write the lines whose versions are not in the set",
     },
     Argument {
         form: Form::Text("WHAT"),
@@ -319,7 +344,7 @@ static TEST: [Argument; 1] = [Argument {
     form: Form::TwoOrThree,
     letter: None,
     name: "WORD",
-    help: "Two versions with <, <=, =, >=, > or lt, le, eq, ge, gt between them, or a version and a list of requirements",
+    help: "Two versions with <, <=, =, >=, > or lt, le, eq, ge, gt between them, or a version and a set",
 }];
 
 static COMPARE: [Argument; 3] = [
@@ -343,14 +368,16 @@ static COMPARE: [Argument; 3] = [
     },
 ];
 
-static WHY: [Argument; 2] = [
+static WHY: [Argument; 2] = [SET, VERSIONS];
+
+static SETS: [Argument; 2] = [
+    SET,
     Argument {
         form: Form::Word,
         letter: None,
-        name: "LIST",
-        help: "Requirements, such as '>=1.2,<2'",
+        name: "OTHER",
+        help: "Another",
     },
-    VERSIONS,
 ];
 
 static DIFF: [Argument; 9] = [
@@ -429,10 +456,10 @@ static LINES: [Argument; 10] = [
         help: "Leave out versions that are less stable [possible values: dev, alpha, beta, rc, stable]",
     },
     Argument {
-        form: Form::Text("LIST"),
+        form: Form::Text("SET"),
         letter: None,
         name: "match",
-        help: "Leave out versions that this list of requirements doesn't match",
+        help: "Leave out versions that are not in this set",
     },
     ZERO_TERMINATED,
     CRLF,

@@ -37,7 +37,7 @@ pub fn task_of<'w>(alloc: Global, matches: &ArgMatches<'w>) -> Result<Task<'w>, 
         Verb::Show => Ok(Task::Each(show_question(options), each_options(alloc, options)?)),
         Verb::Key => Ok(Task::Each(Question::Key, each_options(alloc, options)?)),
         Verb::Why => {
-            let question = Question::Why(word_of(options, "LIST"));
+            let question = Question::Why(word_of(options, "SET"));
             Ok(Task::Each(question, each_options(alloc, options)?))
         }
         Verb::Next => next_task(alloc, options),
@@ -47,6 +47,8 @@ pub fn task_of<'w>(alloc: Global, matches: &ArgMatches<'w>) -> Result<Task<'w>, 
             second: word_of(options, "B"),
             explain: is_set(options, "explain"),
         }),
+        Verb::Implies => Ok(Task::Implies(word_of(options, "SET"), word_of(options, "OTHER"))),
+        Verb::Meets => Ok(Task::Meets(word_of(options, "SET"), word_of(options, "OTHER"))),
         Verb::Diff => diff_task(alloc, options),
     }
 }
@@ -83,7 +85,7 @@ fn filter_task<'w>(alloc: Global, options: &ArgMatches<'w>) -> Result<Task<'w>, 
 {
     let separator = separator_of(alloc, options)?;
     let arrangement = Arrangement::Filter {
-        list: word_of(options, "LIST"),
+        set: word_of(options, "SET"),
         inverted: is_set(options, "invert-match"),
     };
     let line_options = line_options(alloc, Verb::Filter, separator, options)?;
@@ -197,7 +199,7 @@ fn test_task<'w>(alloc: Global, options: &ArgMatches<'w>) -> Result<Task<'w>, Wo
         (ComesOfWrong (HasWrongTest (all_of (codes "WORD") (rows_in options.now)))) }
 {
     match texts_of(options, "WORD") {
-        Some([version, list]) => Ok(Task::TestList(version, list)),
+        Some([version, set]) => Ok(Task::TestSet(version, set)),
         Some([first, word, second]) => match operator_named(word) {
             Some(operator) => Ok(Task::TestTwo(first, operator, second)),
             None => Err(wrong_operator(alloc, word)),

@@ -2,7 +2,7 @@
 //! docs/VERSIONS.md has its rules.
 #![tactic(auto)]
 
-ghost use Rattle.std.specs.Prelude.{◌≡◌, MatchResult};
+ghost use Rattle.std.specs.Prelude.{◌≡◌, if◌then◌else◌, MatchResult};
 ghost use Rattle.std.specs.Process.{exit_status};
 ghost use Rattle.version_words.specs.Fault.{status_of};
 
@@ -18,6 +18,9 @@ use version_words::{Fault, WordsFault, run};
 
 // The status that a shell gives for a program whose reader has gone: that of the signal SIGPIPE.
 const READER_GONE: u8 = 141;
+
+// The status of an answer that is no.
+const NO: u8 = 1;
 
 fn main(rt: HostRuntime) -> ExitCode {
     let Some(words) = words(&rt) else {
@@ -51,13 +54,15 @@ fn not_text<'w>(rt: &impl AllocGlobal) -> Fault<'w> {
     })
 }
 
-// Returns the exit code: a fault is printed, and sets its status, even if it cannot be printed.
-fn ending(rt: &impl Eprint, outcome: Result<(), Fault<'_>>) -> ExitCode
+// Returns the exit code: 1 where the answer is no. A fault is printed, and sets its status, even if it cannot be printed.
+fn ending(rt: &impl Eprint, outcome: Result<bool, Fault<'_>>) -> ExitCode
     ensures { MatchResult outcome.entry
-        (λ _. exit_status result ≡ 0) (λ fault. exit_status result ≡ status_of fault) }
+        (λ answer. exit_status result ≡ if answer then 0 else 1)
+        (λ fault. exit_status result ≡ status_of fault) }
 {
     match outcome {
-        Ok(()) => ExitCode::SUCCESS,
+        Ok(true) => ExitCode::SUCCESS,
+        Ok(false) => ExitCode::from(NO),
         Err(fault) => {
             tell(rt, &fault);
             ExitCode::from(fault.status())
@@ -65,10 +70,9 @@ fn ending(rt: &impl Eprint, outcome: Result<(), Fault<'_>>) -> ExitCode
     }
 }
 
-// Prints a fault. What `test` answers is told by its status alone, and what is wrong with words says itself whose it is.
+// Prints a fault. What is wrong with words says itself whose it is.
 fn tell(rt: &impl Eprint, fault: &Fault<'_>) {
     let _ = match fault {
-        Fault::Task(version_commands::Fault::Untrue) => Ok(()),
         Fault::Words(WordsFault::Usage(text)) => eprint!(rt; "{text}"),
         fault => eprintln!(rt; "versions: {fault}"),
     };

@@ -7,7 +7,7 @@ use Rattle.version_commands.specs.Inputs.{Reading}
 use Rattle.version_commands.specs.declared.options.Invalid.{Invalid}
 use Rattle.version_commands.specs.declared.pick.BadLines.{BadLines}
 use Rattle.version_commands.specs.declared.faults.Fault.{Fault}
-use Rattle.version_commands.specs.declared.faults.Fault.TheVariants.{NotVersion, NotRequirement, NotTested, BadLine, NoNext, Untrue, Memory, Read, Write}
+use Rattle.version_commands.specs.declared.faults.Fault.TheVariants.{NotVersion, NotRequirement, NotSet, NotTested, NotTestedSet, BadLine, NoNext, Memory, Read, Write}
 
 -- the faults of lines without a version, by the lines themselves
 pub lines-bad : (invalid : Invalid) (crlf : Bool) (at : List ℕ → List ℕ) (lines : List (List ℕ))
@@ -27,11 +27,12 @@ pub bad-cases : (Follows : Fault → Type 0) (policy : Invalid) (crlf : Bool) (b
     → (fault : Fault) → ComesOfBadAfter policy crlf before bad fault → Follows fault
 bad-cases Follows policy crlf before bad memory line (NotVersion text) is = absurd is
 bad-cases Follows policy crlf before bad memory line (NotRequirement text) is = absurd is
+bad-cases Follows policy crlf before bad memory line (NotSet wrong) is = absurd is
 bad-cases Follows policy crlf before bad memory line (NotTested text) is = absurd is
+bad-cases Follows policy crlf before bad memory line (NotTestedSet wrong) is = absurd is
 bad-cases Follows policy crlf before bad memory line (BadLine number text ends more) is =
     line number text ends more is
 bad-cases Follows policy crlf before bad memory line (NoNext text) is = absurd is
-bad-cases Follows policy crlf before bad memory line Untrue is = absurd is
 bad-cases Follows policy crlf before bad memory line Memory is = memory
 bad-cases Follows policy crlf before bad memory line (Read name) is = absurd is
 bad-cases Follows policy crlf before bad memory line (Write name) is = absurd is
@@ -44,10 +45,11 @@ pub reading-cases : (Follows : Fault → Type 0) (reads : Reading) (names : List
     → (fault : Fault) → ComesOfReading reads names fault → Follows fault
 reading-cases Follows reads names memory read (NotVersion text) is = absurd is
 reading-cases Follows reads names memory read (NotRequirement text) is = absurd is
+reading-cases Follows reads names memory read (NotSet wrong) is = absurd is
 reading-cases Follows reads names memory read (NotTested text) is = absurd is
+reading-cases Follows reads names memory read (NotTestedSet wrong) is = absurd is
 reading-cases Follows reads names memory read (BadLine number text ends more) is = absurd is
 reading-cases Follows reads names memory read (NoNext text) is = absurd is
-reading-cases Follows reads names memory read Untrue is = absurd is
 reading-cases Follows reads names memory read Memory is = memory
 reading-cases Follows reads names memory read (Read name) is = read name is
 reading-cases Follows reads names memory read (Write name) is = absurd is

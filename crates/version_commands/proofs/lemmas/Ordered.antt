@@ -1,9 +1,8 @@
 -- The lines that are written, in their order.
-use Rattle.std.proofs.Common.{◌≡◌, ◌++◌, ◌∷◌, List, [], ℕ, Bool, true, Option, None, Some, Result, flat_map, map, refl, subst, sym, ap, Bor, arith}
+use Rattle.std.proofs.Common.{◌≡◌, ◌++◌, ◌∷◌, List, [], ℕ, Bool, true, Option, None, Some, flat_map, map, refl, subst, sym, ap, Bor, arith}
 use Rattle.version_commands.specs.Arranged.{policy}
 use Rattle.version_commands.specs.Cause.{ComesOfArranged, ComesOfArranging}
-use Rattle.version_commands.specs.Choice.{chooser_of, is_kept}
-use Rattle.version_commands.specs.Ends.{Ends}
+use Rattle.version_commands.specs.Choice.{is_kept, keeps_of}
 use Rattle.version_commands.specs.Fault.{ComesOfPut}
 use Rattle.version_commands.specs.Inputs.{joined, names_read, AreInputs, Reading}
 use Rattle.version_commands.specs.Ordered.{arranged_in, kept_in, kept_line, IsArranged, IsOrdered, IsPlaced}
@@ -11,11 +10,10 @@ use Rattle.version_commands.specs.Picked.{bad_lines, has, kept_lines}
 use Rattle.version_commands.specs.Place.{text_of}
 use Rattle.version_commands.specs.declared.choice.Chooser.{Chooser}
 use Rattle.version_commands.specs.declared.faults.Fault.{Fault}
-use Rattle.version_commands.specs.declared.faults.Fault.TheVariants.{NotVersion, NotRequirement, NotTested, BadLine, NoNext, Untrue, Memory, Read, Write}
+use Rattle.version_commands.specs.declared.faults.Fault.TheVariants.{NotVersion, NotRequirement, NotSet, NotTested, NotTestedSet, BadLine, NoNext, Memory, Read, Write}
 use Rattle.version_commands.specs.declared.options.Arrangement.{Arrangement}
 use Rattle.version_commands.specs.declared.options.Invalid.TheVariants.{Fail, Skip}
 use Rattle.version_commands.specs.declared.options.LineOptions.{LineOptions}
-use Rattle.version_commands.proofs.lemmas.Ends.{ends-weaker}
 use Rattle.version_lines.specs.Lines.{lines_of, lines_output, output_by, whole_line}
 use Rattle.version_lines.proofs.lemmas.Sorting.{by_test}
 use Rattle.version_rules.specs.grammar.Versioning.{PlainVersioning}
@@ -40,17 +38,6 @@ written-at-once text_of keeps end (line ∷ lines) =
     (λ passes. rw passes (ap (λ (l : List ℕ). whole_line end line ++ l) others))
     (λ fails. rw fails others)
 
--- where each line is its version and a list alone decides, nothing else has to be asked
-pub ends-listed : {T : Type 0} (text_of : List ℕ → List ℕ) (keeps matched : PlainVersioning → Bool)
-    → ((line : List ℕ) → text_of line ≡ line) → ((v : PlainVersioning) → keeps v ≡ matched v)
-    → (end : ℕ) (input : List ℕ) (Comes : Fault → Type 0) (old new : Option (List ℕ))
-    (result : Result T Fault)
-    → Ends (λ output. output ≡ output_by end (kept_line (λ line. line) matched end) input)
-    Comes old new result
-    → Ends (λ output. output ≡ output_by end (kept_line text_of keeps end) input) Comes old new result
-ends-listed text_of keeps matched whole alike end input Comes old new result =
-    grind (arith, ends-weaker)
-
 pub at-once : (text_of : List ℕ → List ℕ) (keeps : PlainVersioning → Bool) (options : LineOptions)
     (input : List ℕ) (leaves : Option (List ℕ × List ℕ) → Type 0) → options.invalid ≡ Skip
     → options.invalid_to ≡ None → leaves None → (output : List ℕ)
@@ -64,10 +51,11 @@ pub put-faults : (options : LineOptions) (text_of : List ℕ → List ℕ) (inpu
     (fault : Fault) → ComesOfPut options fault → ComesOfArranged options text_of input fault
 put-faults options text_of input (NotVersion text) is = absurd is
 put-faults options text_of input (NotRequirement text) is = absurd is
+put-faults options text_of input (NotSet wrong) is = absurd is
 put-faults options text_of input (NotTested text) is = absurd is
+put-faults options text_of input (NotTestedSet wrong) is = absurd is
 put-faults options text_of input (BadLine number text ends more) is = absurd is
 put-faults options text_of input (NoNext text) is = absurd is
-put-faults options text_of input Untrue is = absurd is
 put-faults options text_of input Memory is = is
 put-faults options text_of input (Read name) is = absurd is
 put-faults options text_of input (Write name) is = is
@@ -83,18 +71,18 @@ module _ (options : LineOptions) (chooser : Chooser) (arrangement : Arrangement)
 
 -- the end of a run whose inputs were read in turn, by how it ends with these
 module _ (arrangement : Arrangement) (options : LineOptions) (reads : Reading)
-    (old new : Option (List ℕ)) (leaves : Option (List ℕ × List ℕ) → Type 0) (chooser : Chooser)
+    (old new : Option (List ℕ)) (leaves : Option (List ℕ × List ℕ) → Type 0) (keeps : PlainVersioning → Bool)
     (texts : List (List ℕ)) (names : List (Bor (List ℕ))) (input : List ℕ)
     (same : names ≡ options.files.items)
     (are : AreInputs reads old new (names_read (map (λ name. name.now) names)) texts)
-    (is : chooser_of options.choice arrangement ≡ Some chooser)
+    (is : keeps_of options.choice arrangement ≡ Some keeps)
     (whole : input ≡ joined options.end texts) where
   read : AreInputs reads old new (names_read (map (λ name. name.now) options.files.items)) texts
   read = subst (λ (n : List (Bor (List ℕ))).
       AreInputs reads old new (names_read (map (λ name. name.now) n)) texts) same are
 
   pub is-ordered : (output : List ℕ) → IsArranged (text_of options.place) options input
-      (arranged_in (text_of options.place) (is_kept chooser) arrangement options input) leaves output
+      (arranged_in (text_of options.place) keeps arrangement options input) leaves output
       → IsOrdered arrangement options reads old new leaves output
   is-ordered output arranged = grind (arith, read)
 
@@ -107,12 +95,13 @@ module _ (arrangement : Arrangement) (options : LineOptions) (reads : Reading)
   pub ordered-faults : (fault : Fault) → ComesOfArranged options (text_of options.place) input fault
       → ComesOfArranging arrangement options reads old fault
   ordered-faults (NotVersion text) comes = since-read (NotVersion text) comes
-  ordered-faults (NotRequirement text) comes = absurd comes
+  ordered-faults (NotRequirement text) comes = since-read (NotRequirement text) comes
+  ordered-faults (NotSet wrong) comes = absurd comes
   ordered-faults (NotTested text) comes = since-read (NotTested text) comes
+  ordered-faults (NotTestedSet wrong) comes = since-read (NotTestedSet wrong) comes
   ordered-faults (BadLine number text ends more) comes =
       since-read (BadLine number text ends more) comes
   ordered-faults (NoNext text) comes = since-read (NoNext text) comes
-  ordered-faults Untrue comes = since-read Untrue comes
   ordered-faults Memory comes = tt
   ordered-faults (Read name) comes = absurd comes
   ordered-faults (Write name) comes = since-read (Write name) comes

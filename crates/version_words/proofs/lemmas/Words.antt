@@ -6,7 +6,7 @@ use Rattle.clap.specs.declared.error.kind.ErrorKind.{ErrorKind}
 use Rattle.clap.specs.declared.parser.matches.ArgMatches.{ArgMatches}
 use Rattle.version_words.specs.declared.faults.WordsFault.{WordsFault}
 use Rattle.version_commands.specs.declared.options.Task.{Task}
-use Rattle.version_commands.specs.declared.options.Task.TheVariants.{Compare, Difference, Each, Label, Lines, Lists, Say, TestList, TestTwo}
+use Rattle.version_commands.specs.declared.options.Task.TheVariants.{Compare, Difference, Each, Implies, Label, Lines, Lists, Match, Meets, Say, TestSet, TestTwo}
 use Rattle.version_words.specs.Grammar.{program_app}
 use Rattle.version_words.specs.Task.{IsTaskOf}
 use Rattle.version_words.specs.Words.{command_in, command_of, faults, shows, AreWrong, ComesOfWrong, HasAnswer, IsMistake, IsTaskIn, IsWrongIn, Means, Shows}
@@ -30,6 +30,8 @@ unsaid verb.Key rows text never = never
 unsaid verb.Test rows text never = never
 unsaid verb.Compare rows text never = never
 unsaid verb.Why rows text never = never
+unsaid verb.Implies rows text never = never
+unsaid verb.Meets rows text never = never
 unsaid verb.Diff rows text never = never
 unsaid verb.Next rows text never = never
 
@@ -42,11 +44,14 @@ module _ (words : List (List ℕ)) where
   meant (Lines arrangement options) right is = (right, is)
   meant (Each question options) right is = (right, is)
   meant (TestTwo first operator second) right is = (right, is)
-  meant (TestList version list) right is = (right, is)
+  meant (TestSet version set) right is = (right, is)
+  meant (Implies one other) right is = (right, is)
+  meant (Meets one other) right is = (right, is)
   meant (Compare first second explain) right is = (right, is)
   meant (Difference first second) right is = (right, is)
   meant (Lists lists) right is = (right, is)
   meant (Label labels) right is = (right, is)
+  meant (Match list) right is = (right, is)
   meant (Say text) right is = absurd (unsaid-in (command_of words) text is)
 
   -- an error that shows a text
@@ -56,11 +61,14 @@ module _ (words : List (List ℕ)) where
   shown (Lines arrangement options) kind answers never = absurd never
   shown (Each question options) kind answers never = absurd never
   shown (TestTwo first operator second) kind answers never = absurd never
-  shown (TestList version list) kind answers never = absurd never
+  shown (TestSet version set) kind answers never = absurd never
+  shown (Implies one other) kind answers never = absurd never
+  shown (Meets one other) kind answers never = absurd never
   shown (Compare first second explain) kind answers never = absurd never
   shown (Difference first second) kind answers never = absurd never
   shown (Lists lists) kind answers never = absurd never
   shown (Label labels) kind answers never = absurd never
+  shown (Match list) kind answers never = absurd never
 
   module _ (app : App) (same : app ≡ program_app) where
     -- a parse that found matches

@@ -1,4 +1,5 @@
 use Rattle.std.proofs.Common.{◌∙◌}
+use Rattle.version_commands.specs.Choice.{is_kept}
 use Rattle.version_commands.specs.Files.{Leaves}
 use Rattle.version_commands.proofs.lemmas.Ends.{ends-weaker}
 use Rattle.version_commands.proofs.lemmas.Ordered.{is-ordered, ordered-faults}
@@ -13,9 +14,9 @@ returns-clause-ends g c =
     let leaves = Leaves g.F.Files.puts c.args.files.now c.write_arranged.new.files in
     let whole = c.as_slice-2.ensures.value ∙ same in
     ends-weaker _ _ _ _ _ _ c.write_arranged.result
-    (is-ordered c.args.arrangement c.args.options.now reads old new leaves c.in_ok-chooser.chooser
+    (is-ordered c.args.arrangement c.args.options.now reads old new leaves (is_kept c.in_ok-chooser.chooser)
     texts c.as_slice.result.now c.as_slice-2.result.now c.as_slice.ensures.value are
     c.in_ok-chooser.ensures.ok whole)
     (ordered-faults c.args.arrangement c.args.options.now reads old new leaves
-    c.in_ok-chooser.chooser texts c.as_slice.result.now c.as_slice-2.result.now
+    (is_kept c.in_ok-chooser.chooser) texts c.as_slice.result.now c.as_slice-2.result.now
     c.as_slice.ensures.value are c.in_ok-chooser.ensures.ok whole) c.write_arranged.ensures.ends

@@ -1,7 +1,7 @@
 use Rattle.std.proofs.Common.{◌≡◌, ◌<◌, ◌++◌, ◌∷◌, [], ℕ, List, Bor, Some, length, map, get_or, take, rules, sym, subst, ap, ◌∙◌, arith}
 use Rattle.std.proofs.lemmas.List.{take_all}
 use Rattle.std.proofs.lemmas.Result.{IfErr-weaker, IfOk-weaker}
-use Rattle.version_commands.specs.Each.{HasList, HaveAnswered}
+use Rattle.version_commands.specs.Each.{HasSet, HaveAnswered}
 use Rattle.version_rules.specs.grammar.Versioning.{versioning_of}
 use Rattle.version_texts.specs.versioning_ref.VersioningRef.{plain_versioning_ref}
 use Rattle.version_commands.proofs.lemmas.Each.{asking-answering, word-texts, wrong-here, wrong-next}
@@ -18,7 +18,7 @@ loop-word-preserved c =
     let here : versioning_of (get_or words i d).now
     ≡ Some (plain_versioning_ref c.in_ok-version.version) = search rules in
     let text : c.as_bytes.result.now ≡ (get_or words i d).now = search rules in (
-      subst HasList (sym c.in_ok-add.ensures.question) list,
+      subst HasSet (sym c.in_ok-add.ensures.question) list,
       subst (HaveAnswered _ c.add.new.self)
           (ap (λ (t : List ℕ). map (λ (word : Bor (List ℕ)). word.now) (take i words) ++ t ∷ []) text
           ∙ sym (texts-next (λ (word : Bor (List ℕ)). word.now) words i d inside))

@@ -1,16 +1,19 @@
-use Rattle.std.proofs.Common.{arith}
-use Rattle.version_texts.proofs.lemmas.requirement.MemberPlace.{member_within}
+use Rattle.std.proofs.Common.{◌≡◌, ◌++◌, refl, rules}
+use Rattle.version_commands.proofs.lemmas.Sets.{has_alternatives, in_turn}
+use Rattle.version_commands.specs.Why.{why_text}
+use Rattle.version_rules.specs.grammar.Versioning.{versioning_text}
+use Rattle.version_sets.specs.Mixed.{set_of}
 use Rattle.version_texts.specs.versioning_ref.VersioningRef.{plain_versioning_ref}
-use Rattle.version_texts.specs.requirement.Why.{IsExcluded}
 use Rattle.version_commands.proofs.why.add_why.Goals as goal
 
-pub text_between-requires-clause-within : goal.text_between-requires-clause-within
-text_between-requires-clause-within c =
-    let excluded = c.in-Some.excluded in
-    let is : IsExcluded c.args.list.now (plain_versioning_ref c.args.version.now) excluded =
-    rw c.in-Some.ensures at c.why_not.ensures.why in
-    omega (
-      arith,
-      is.end_is,
-      member_within c.args.list.now excluded.start is.member is.requirement is.first.place,
+pub returns : goal.returns
+returns c =
+    let v = plain_versioning_ref c.args.version.now in
+    let (all, is) = has_alternatives (set_of c.args.word.now) c.requires in
+    let text : c.extend_from_slice.new.self.items ≡ c.args.output.now.items ++ versioning_text v = search rules in (
+      _,
+      (all, is, refl),
+      in_turn c.args.output.now.items (versioning_text v) (why_text c.args.word.now all v) c.args.end
+          c.extend_from_slice.new.self.items c.add_verdict.new.output.items c.push.new.self.items text
+          (c.in_ok-add_verdict.ensures all is) c.in_ok-push.ensures.items,
     )

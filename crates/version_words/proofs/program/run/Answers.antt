@@ -12,6 +12,7 @@ returns-in_err-serve g c =
       c.in_ok-task.ensures.task,
       record {
         ends = c.serve.ensures.ends;
+        answers = c.serve.ensures.answers;
         unread = c.serve.ensures.unread;
         files_are = c.serve.ensures.files;
         kept = c.serve.ensures.kept;
