@@ -36,6 +36,12 @@ put_taken (x ∷ room) (suc start) bytes fits =
     place : suc start + length bytes ≡ suc (start + length bytes)
     place = omega arith
 
+-- bytes written into a room from its beginning on begin it
+pub begins_room : (old new bytes : List ℕ) (size : ℕ) → length bytes ≤ length old → size ≡ 0 + length bytes
+    → new ≡ put_at old 0 bytes → take size new ≡ bytes
+begins_room old new bytes size fits size_is new_is =
+    (λ i. take (size_is i) (new_is i)) ∙ (put_taken old 0 bytes (omega (arith, fits))).0
+
 -- the bytes through sets begin with those below them
 through_begins : (order : ℕ) (below : List ℕ) (sets : List (List (List ℕ)))
     → (more : List ℕ) × (through order below sets ≡ below ++ more)

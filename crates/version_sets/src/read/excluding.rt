@@ -1,10 +1,11 @@
 //! Which members of a set leave a version out.
 
-ghost use Rattle.std.specs.Prelude.{◌≡◌, ◌∷◌, ◌+◌, ◌*◌, ◌≤◌, ◌<◌, ◌^◌, [], length, not, Bool, IfErr, IfNone, IfOk, IfSome, List, Option, ℕ};
+ghost use Rattle.std.specs.Prelude.{◌≡◌, ◌∷◌, ◌+◌, ◌*◌, ◌≤◌, ◌<◌, ◌^◌, [], length, not, true, Bool, IfErr, IfNone, IfOk, IfSome, List, Option, ℕ};
 ghost use Rattle.std.proofs.Props.{props};
 ghost use Rattle.version_sets.specs.Ends.{has};
 ghost use Rattle.version_sets.specs.Excluding.{first_out, leave_out, left_read, room_left, steps_left, AreLeft};
-ghost use Rattle.version_sets.specs.Comparison.{ends_with};
+ghost use Rattle.version_sets.specs.Comparison.{asks_parts, ends_with};
+ghost use Rattle.version_sets.specs.Form.{form_bytes};
 ghost use Rattle.version_sets.specs.Pieces.{pieces, Word};
 ghost use Rattle.version_sets.specs.Reading.{asked, piece_room, pieces_room, read_set, set_room, Member, Right, With};
 ghost use Rattle.version_sets.specs.declared.read.comparison.Comparison.{Comparison as Comparisons};
@@ -149,13 +150,21 @@ fn excludes<'t, V: Keyed<'t>>(
     ensures same { length room.new ≡ length room.old }
 {
     match asked::<V>(comparison, text) {
-        Ok(member) => {
-            let size = write_member(0, member, room, 0);
-            match Form::of(&room[..size]) {
-                Some((_, form)) => !form.has(version),
-                None => false,
-            }
-        }
+        Ok(member) => leaves_out(member, version, room),
         Err(_) => false,
+    }
+}
+
+// Whether a member leaves a version out.
+fn leaves_out<'t, V: Keyed<'t>>(member: (Comparison, V), version: &V, room: &mut [u8]) -> bool
+    requires room { length (form_bytes 0 (ends_with member.0 (V.plain member.1))) ≤ length room.old }
+    requires parts { asks_parts member.0 ≡ true → V.parts ≡ true }
+    ensures out { result ≡ not (has (ends_with member.0 (V.plain member.1)) (V.plain version.now).key) }
+    ensures same { length room.new ≡ length room.old }
+{
+    let size = write_member(0, member, room, 0);
+    match Form::of(&room[..size]) {
+        Some((_, form)) => !form.has(version),
+        None => false,
     }
 }

@@ -15,15 +15,12 @@ loop-place-preserved-in-All g c =
     let key = (V.plain c.args.version.now).key in
     let end = c.loop-place.pieces.place + length c.loop-place.pieces.left.now in
     let behind = pieces c.next.new.self.place c.next.new.self.left.now in
-    let here : pieces_room V.most (pieces c.loop-place.pieces.place c.loop-place.pieces.left.now)
-    ≡ piece_room V.most (plain_piece c.in-Some.piece) + pieces_room V.most behind =
-    ap (pieces_room V.most) c.in-Some.ensures.some in
     let is : step c.loop-place.state c.in-Some.place (plain_piece c.in-Some.piece) ≡ All c.in-All.field-0 =
     sym c.step.ensures ∙ rw c.in-All.is refl in
     record {
       end = omega (arith, c.in-Some.ensures.end, c.loop-place.invariant.end);
       nearer = omega (arith, c.in-Some.ensures.nearer, c.loop-place.invariant.nearer);
-      room = omega (arith, here, c.loop-place.invariant.room);
+      room = omega (arith, ap (pieces_room V.most) c.in-Some.ensures.some, c.loop-place.invariant.room);
       size = c.loop-place.invariant.size;
       reads = λ first others e.
           let reads = c.loop-place.invariant.reads first others e in
@@ -42,10 +39,6 @@ loop-place-preserved-in-All g c =
 pub excludes-requires : goal.excludes-requires
 excludes-requires g c κs =
     let V = g.V.Keyed in
-    let behind = pieces c.next.new.self.place c.next.new.self.left.now in
-    let here : pieces_room V.most (pieces c.loop-place.pieces.place c.loop-place.pieces.left.now)
-    ≡ piece_room V.most (plain_piece c.in-Some.piece) + pieces_room V.most behind =
-    ap (pieces_room V.most) c.in-Some.ensures.some in
     let is : step c.loop-place.state c.in-Some.place (plain_piece c.in-Some.piece)
     ≡ Asks c.in-Asks.comparison c.in-Asks.start c.in-Asks.place c.in-Asks.text.now =
     sym c.step.ensures ∙ rw c.in-Asks.is refl in
@@ -92,16 +85,13 @@ loop-place-preserved-then-excludes g c =
     let key = (V.plain c.args.version.now).key in
     let end = c.loop-place.pieces.place + length c.loop-place.pieces.left.now in
     let behind = pieces c.next.new.self.place c.next.new.self.left.now in
-    let here : pieces_room V.most (pieces c.loop-place.pieces.place c.loop-place.pieces.left.now)
-    ≡ piece_room V.most (plain_piece c.in-Some.piece) + pieces_room V.most behind =
-    ap (pieces_room V.most) c.in-Some.ensures.some in
     let is : step c.loop-place.state c.in-Some.place (plain_piece c.in-Some.piece)
     ≡ Asks c.in-Asks.comparison c.in-Asks.start c.in-Asks.place c.in-Asks.text.now =
     sym c.step.ensures ∙ rw c.in-Asks.is refl in
     record {
       end = omega (arith, c.in-Some.ensures.end, c.loop-place.invariant.end);
       nearer = omega (arith, c.in-Some.ensures.nearer, c.loop-place.invariant.nearer);
-      room = omega (arith, here, c.loop-place.invariant.room);
+      room = omega (arith, ap (pieces_room V.most) c.in-Some.ensures.some, c.loop-place.invariant.room);
       size = c.excludes.ensures.same ∙ c.loop-place.invariant.size;
       reads = λ first others e.
           let reads = c.loop-place.invariant.reads first others e in
@@ -125,16 +115,13 @@ loop-place-preserved g c =
     let key = (V.plain c.args.version.now).key in
     let end = c.loop-place.pieces.place + length c.loop-place.pieces.left.now in
     let behind = pieces c.next.new.self.place c.next.new.self.left.now in
-    let here : pieces_room V.most (pieces c.loop-place.pieces.place c.loop-place.pieces.left.now)
-    ≡ piece_room V.most (plain_piece c.in-Some.piece) + pieces_room V.most behind =
-    ap (pieces_room V.most) c.in-Some.ensures.some in
     let is : step c.loop-place.state c.in-Some.place (plain_piece c.in-Some.piece)
     ≡ Asks c.in-Asks.comparison c.in-Asks.start c.in-Asks.place c.in-Asks.text.now =
     sym c.step.ensures ∙ rw c.in-Asks.is refl in
     record {
       end = omega (arith, c.in-Some.ensures.end, c.loop-place.invariant.end);
       nearer = omega (arith, c.in-Some.ensures.nearer, c.loop-place.invariant.nearer);
-      room = omega (arith, here, c.loop-place.invariant.room);
+      room = omega (arith, ap (pieces_room V.most) c.in-Some.ensures.some, c.loop-place.invariant.room);
       size =
           elim c.else-is_none.branch [
             | else-is_none-via-then-is_none+else-excludes w ↦
