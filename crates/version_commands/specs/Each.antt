@@ -1,6 +1,6 @@
 -- What `show`, `key`, `why` and `next` write.
 use Rattle.std.proofs.Common.{Bor}
-use Rattle.std.specs.Prelude.{◌≡◌, ⊤, ℕ, Bool, true, List, [], ◌∷◌, ◌++◌, map, Option, None, Some, IsSome}
+use Rattle.std.specs.Prelude.{◌≡◌, ⊤, ℕ, Bool, true, List, [], ◌∷◌, ◌++◌, map, Option, None, Some, IsSomeAnd}
 use Rattle.std.specs.Io.KnownBytes.{Consumes, IsAtEnd}
 use Rattle.version_commands.specs.Json.{json_line}
 use Rattle.version_commands.specs.Key.{key_line}
@@ -14,7 +14,8 @@ use Rattle.version_commands.specs.declared.options.EachOptions.{EachOptions}
 use Rattle.version_commands.specs.declared.options.Question.{Question}
 use Rattle.version_commands.specs.declared.options.Question.TheVariants.{Show, Json, Key, Why, Next}
 use Rattle.version_lines.specs.Lines.{lines_of}
-use Rattle.version_sets.specs.Mixed.{set_of}
+use Rattle.version_sets.specs.Ends.{has}
+use Rattle.version_sets.specs.Mixed.{keys_of}
 use Rattle.version_tasks.specs.Next.{NoNext}
 use Rattle.version_rules.specs.grammar.Versioning.{PlainVersioning, versioning_of}
 
@@ -26,13 +27,13 @@ IsAnswer Key end v found answer = (found ≡ true) × (answer ≡ key_line end v
 IsAnswer (Why set) end v found answer = (found ≡ true) × IsWhyLine end set.now v answer
 IsAnswer (Next place) end v found answer = WritesNext end v place found answer
 
--- the set of `why` is one
-abbrev pub HasSet : Question → Type 0
-HasSet (Why set) = IsSome (set_of set.now)
-HasSet Show = ⊤
-HasSet Json = ⊤
-HasSet Key = ⊤
-HasSet (Next place) = ⊤
+-- the set of `why` is one, and this is it, by its ends
+abbrev pub HasSet : Question → Option (List (List ℕ)) → Type 0
+HasSet (Why word) set = IsSomeAnd set (λ set. keys_of word.now ≡ Some (has set))
+HasSet Show set = ⊤
+HasSet Json set = ⊤
+HasSet Key set = ⊤
+HasSet (Next place) set = ⊤
 
 -- each text is a version, and the answers to them follow one another
 abbrev pub AreAnswered : Question → ℕ → List (List ℕ) → List ℕ → Type 0

@@ -21,6 +21,7 @@ use crate::options::{EachOptions, Question};
 use crate::pick::{EveryVersion, Takes, pick};
 use crate::place::line_text;
 use crate::quote::quoted;
+use crate::set::{Set, room_of};
 use crate::show::add_show;
 use crate::why::{add_head, add_why};
 use crate::word::{set_of_word, version_of_word};
@@ -41,27 +42,44 @@ pub fn answer_each<'w, R: Read>(
     ensures early { IfOfWord (reader.new ≡ reader.old) result }
     ensures faults { IfErr result (ComesOfAsking question.entry options.now (R.remaining reader.old)) }
 {
-    let head = head_of(alloc, question, options.end)?;
+    let asked = ask(alloc, question, options.end)?;
     if options.versions.is_empty() {
         let input = read_standard(alloc, reader)?;
-        answer_lines(alloc, question, options, head, input.as_slice())
+        answer_lines(alloc, question, options, asked, input.as_slice())
     } else {
-        answer_words(alloc, question, options, options.versions.as_slice(), head)
+        answer_words(alloc, question, options, options.versions.as_slice(), asked)
     }
 }
 
-// Returns what stands before the answers. It fails if a set is asked for and is none.
-fn head_of<'w>(alloc: Global, question: Question<'w>, end: u8) -> Result<Vec<u8>, Fault<'w>>
-    ensures head { IfOk result (λ head. IsHead question.entry end head.items) }
-    ensures set { OnOk result (HasSet question.entry) }
+// What stands before the answers, and what a question about a set needs for each: the set, and room for its members.
+#[derive(Drop)]
+struct Asked {
+    head: Vec<u8>,
+    set: Option<Set>,
+    room: Vec<u8>,
+}
+
+// Reads the set that a question is about, if it is about one. It fails if the word is none.
+fn ask<'w>(alloc: Global, question: Question<'w>, end: u8) -> Result<Asked, Fault<'w>>
+    ensures head { IfOk result (λ asked. IsHead question.entry end asked.head.items) }
+    ensures set { IfOk result (λ asked. HasSet question.entry asked.set) }
     ensures faults { IfErr result (ComesOfQuestion question.entry) }
 {
     let mut head = Vec::new(alloc);
-    if let Question::Why(word) = question {
-        let set = set_of_word(alloc, word)?;
-        add_head(word.as_bytes(), set.has_any(), end, &mut head)?;
-    }
-    Ok(head)
+    let Question::Why(word) = question else {
+        return Ok(Asked {
+            head,
+            set: None,
+            room: Vec::new(alloc),
+        });
+    };
+    let set = set_of_word(alloc, word)?;
+    add_head(word.as_bytes(), set.has_any(), end, &mut head)?;
+    Ok(Asked {
+        head,
+        set: Some(set),
+        room: room_of(alloc, word.as_bytes())?,
+    })
 }
 
 // Answers the question for each word. It fails with the first that is no version.
@@ -70,13 +88,13 @@ fn answer_words<'w>(
     question: Question<'w>,
     options: &EachOptions<'_>,
     words: &[&'w str],
-    head: Vec<u8>,
+    asked: Asked,
 ) -> Result<Vec<u8>, Fault<'w>>
-    requires set { HasSet question }
+    requires set { HasSet question asked.set }
     requires words { words.now ≡ options.now.versions.items }
     requires some { 0 < length words.now }
     ensures answers { IfOk result (λ output. Adds (AreAnswered question.entry options.now.end
-        (map (λ word. word.now) words.now)) head.items output.items) }
+        (map (λ word. word.now) words.now)) asked.head.items output.items) }
     ensures faults { (old : Option (List ℕ)) → IfErr result (ComesOfAsking question.entry options.now old) }
 {
     let mut answers = Answers {
@@ -84,7 +102,9 @@ fn answer_words<'w>(
         question,
         end: options.end,
         crlf: options.crlf,
-        output: head,
+        set: asked.set,
+        room: asked.room,
+        output: asked.head,
         unanswered: None,
     };
     for word in words {
@@ -99,14 +119,14 @@ fn answer_lines<'w>(
     alloc: Global,
     question: Question<'w>,
     options: &EachOptions<'w>,
-    head: Vec<u8>,
+    asked: Asked,
     input: &[u8],
 ) -> Result<Vec<u8>, Fault<'w>>
-    requires set { HasSet question }
+    requires set { HasSet question asked.set }
     requires words { options.now.versions.items ≡ [] }
     ensures answers { IfOk result (λ output. Adds (AreAnswered question.entry options.now.end
         (map (line_text options.now.crlf) (lines_of options.now.end input.now)))
-        head.items output.items) }
+        asked.head.items output.items) }
     ensures faults { (old new : Option (List ℕ)) → Consumes old new input.now → IsAtEnd new
         → IfErr result (ComesOfAsking question.entry options.now old) }
 {
@@ -115,7 +135,9 @@ fn answer_lines<'w>(
         question,
         end: options.end,
         crlf: options.crlf,
-        output: head,
+        set: asked.set,
+        room: asked.room,
+        output: asked.head,
         unanswered: None,
     };
     let bad = pick(alloc, &mut answers, &EveryVersion, options.end, input)?;
@@ -130,6 +152,8 @@ struct Answers<'q, 'a> {
     question: Question<'q>,
     end: u8,
     crlf: bool,
+    set: Option<Set>,
+    room: Vec<u8>,
     output: Vec<u8>,
     // The first text whose version has no answer. Those after it are not asked.
     unanswered: Option<&'a [u8]>,
@@ -138,10 +162,11 @@ struct Answers<'q, 'a> {
 impl<'a> Answers<'_, 'a> {
     // Adds the answer for a text, which is this version.
     fn add(&mut self, text: &'a [u8], version: &VersioningRef<'_>) -> Result<(), AllocError>
-        requires set { HasSet self.old.question }
+        requires set { HasSet self.old.question self.old.set }
         requires version { versioning_of text.now ≡ Some (plain_versioning_ref version.now) }
         ensures question { self.new.question ≡ self.old.question }
         ensures crlf { self.new.crlf ≡ self.old.crlf }
+        ensures set { self.new.set ≡ self.old.set }
         ensures answers { OnOk result ((first : Answers) → (texts : List (List ℕ))
             → HaveAnswered first self.old texts
             → HaveAnswered first self.new (texts ++ text.now ∷ [])) }
@@ -150,8 +175,10 @@ impl<'a> Answers<'_, 'a> {
             && !add_answer(
                 self.alloc,
                 self.question,
+                &self.set,
                 version,
                 self.end,
+                self.room.as_mut_slice(),
                 &mut self.output,
             )?
         {
@@ -183,7 +210,7 @@ impl<'a> Takes<'a> for Answers<'_, 'a> {
 
     ghost text_of = { λ answers. line_text answers.crlf };
 
-    ghost IsReady = { λ answers. HasSet answers.question };
+    ghost IsReady = { λ answers. HasSet answers.question answers.set };
 
     ghost HasTaken = { λ first now lines.
         HaveAnswered first now (map (line_text first.crlf) lines) };
@@ -201,11 +228,13 @@ impl<'a> Takes<'a> for Answers<'_, 'a> {
 fn add_answer(
     alloc: Global,
     question: Question<'_>,
+    set: &Option<Set>,
     version: &VersioningRef<'_>,
     end: u8,
+    room: &mut [u8],
     output: &mut Vec<u8>,
 ) -> Result<bool, AllocError>
-    requires { HasSet question }
+    requires { HasSet question set.now }
     ensures { IfOk result (λ found. Adds
         (IsAnswer question.entry end (plain_versioning_ref version.now) found)
         output.old.items output.new.items) }
@@ -214,7 +243,10 @@ fn add_answer(
         Question::Show => add_show(version, end, output)?,
         Question::Json => add_json(alloc, version, end, output)?,
         Question::Key => add_key_line(alloc, version, end, output)?,
-        Question::Why(set) => add_why(alloc, set, version, end, output)?,
+        Question::Why(word) => {
+            let set = set.as_ref().unwrap();
+            add_why(word, set, version, end, room, output)?;
+        }
         Question::Next(place) => return add_next(alloc, version, place, end, output),
     }
     Ok(true)

@@ -39,7 +39,7 @@ impl Set {
         ensures wrong { IfOk result (λ read. IfErr read (IsWrongSet word.now)) }
     {
         let text = word.as_bytes();
-        let mut bytes = vec![in alloc; 0; set_room::<VersioningRef<'_>>(text)]?;
+        let mut bytes = room_of(alloc, text)?;
         match read_set::<VersioningRef<'_>>(MIXED, text, bytes.as_mut_slice()) {
             Ok(size) => {
                 bytes.truncate(size);
@@ -90,6 +90,11 @@ impl Set {
         let (_, form) = Form::of(self.bytes.as_slice()).unwrap();
         form
     }
+}
+
+/// Returns room in which a set can be read, and its members asked.
+pub(crate) fn room_of(alloc: Global, text: &[u8]) -> Result<Vec<u8>, AllocError> {
+    vec![in alloc; 0; set_room::<VersioningRef<'_>>(text)]
 }
 
 /// A word that is no set: where its first wrong piece begins, in bytes from 0, and why it is wrong.

@@ -1,76 +1,77 @@
 //! The command `why`: which members of a set leave a version out.
 
-ghost use Rattle.std.specs.Prelude.{◌≡◌, ◌++◌, codes, IsSome, IsSomeAnd, List, OnOk, Some};
+ghost use Rattle.std.specs.Prelude.{◌≡◌, ◌++◌, codes, List, OnOk, Some};
 ghost use Rattle.version_commands.specs.Pieces.{Adds};
 ghost use Rattle.version_commands.specs.Why.{head_text, members_text, why_text, IsWhyLine};
 ghost use Rattle.version_sets.specs.Excluding.{leave_out};
 ghost use Rattle.version_sets.specs.Form.{between};
-ghost use Rattle.version_sets.specs.Mixed.{set_of};
+ghost use Rattle.version_sets.specs.Ends.{has};
+ghost use Rattle.version_sets.specs.Mixed.{keys_of, set_of};
 ghost use Rattle.version_sets.specs.Reading.{Member};
 ghost use Rattle.version_texts.specs.keyed.Mixed.{mixed};
 ghost use Rattle.version_texts.specs.versioning_ref.VersioningRef.{plain_versioning_ref};
 
 use crate::pieces::add_pieces;
 use crate::set::Set;
-use std::alloc::{AllocError, Global};
-use version_sets::{Alternatives, Span, set_room};
+use std::alloc::AllocError;
+use version_sets::{Alternatives, Span};
 use version_texts::VersioningRef;
 
 /// Adds the line for a version: that it is in the set that a word is, or which member of each alternative leaves it
-/// out.
-pub(crate) fn add_why(
-    alloc: Global,
-    word: &str,
-    version: &VersioningRef<'_>,
+/// out. A room in which the set can be read is enough.
+pub(crate) fn add_why<'t>(
+    word: &'t str,
+    set: &Set,
+    version: &VersioningRef<'t>,
     end: u8,
+    room: &mut [u8],
     output: &mut Vec<u8>,
 ) -> Result<(), AllocError>
-    requires { IsSome (set_of word.now) }
+    requires { keys_of word.now ≡ Some (has set.now) }
     ensures { OnOk result (Adds (IsWhyLine end word.now (plain_versioning_ref version.now))
         output.old.items output.new.items) }
 {
     output.extend_from_slice(version.text().as_bytes())?;
-    add_verdict(alloc, word, version, output)?;
+    add_verdict(word, set, version, room, output)?;
     output.push(end)?;
     Ok(())
 }
 
 // Adds what is said of a version.
-fn add_verdict(
-    alloc: Global,
-    word: &str,
-    version: &VersioningRef<'_>,
+fn add_verdict<'t>(
+    word: &'t str,
+    set: &Set,
+    version: &VersioningRef<'t>,
+    room: &mut [u8],
     output: &mut Vec<u8>,
 ) -> Result<(), AllocError>
-    requires { IsSome (set_of word.now) }
+    requires { keys_of word.now ≡ Some (has set.now) }
     ensures { OnOk result ((alternatives : List (List Member)) → set_of word.now ≡ Some alternatives
         → output.new.items ≡ output.old.items
         ++ why_text word.now alternatives (plain_versioning_ref version.now)) }
 {
-    let set = Set::read(alloc, word)?.unwrap();
     if set.has(version) {
         output.extend_from_slice(b" matches")
     } else {
-        add_members(alloc, word.as_bytes(), version, output)
+        add_members(word.as_bytes(), version, room, output)
     }
 }
 
 // Adds the first member of each alternative that leaves a version out.
 fn add_members<'t>(
-    alloc: Global,
     set: &'t [u8],
     version: &VersioningRef<'t>,
+    room: &mut [u8],
     output: &mut Vec<u8>,
 ) -> Result<(), AllocError>
     ensures { OnOk result ((alternatives : List (List Member)) → set_of set.now ≡ Some alternatives
         → output.new.items ≡ output.old.items ++ members_text (codes " is left out by ") set.now
         (leave_out (mixed (plain_versioning_ref version.now)).key alternatives)) }
 {
-    let mut room = vec![in alloc; 0; set_room::<VersioningRef<'_>>(set)]?;
     let mut alternatives = Alternatives::of(set);
     let mut word: &[u8] = b" is left out by ";
     loop {
-        let Ok(found) = alternatives.next_excluding(version, room.as_mut_slice()) else {
+        let Ok(found) = alternatives.next_excluding(version, room) else {
             return Err(AllocError);
         };
         let Some(span) = found else {

@@ -1,5 +1,5 @@
 -- Sets that words are: their bytes, and what is read off them.
-use Rattle.std.proofs.Common.{◌≡◌, ◌∙◌, ◌<◌, ◌^◌, ◌++◌, ◌∷◌, [], Bor, ℕ, Bool, List, Option, None, Some, IsSome, ap, append_assoc, arith, codes, false, length, nat_lt, option_map, refl, subst, sym, take, true, unwrap_or}
+use Rattle.std.proofs.Common.{◌≡◌, ◌∙◌, ◌<◌, ◌^◌, ◌++◌, ◌∷◌, [], Bor, ℕ, Bool, List, Option, None, Some, ap, append_assoc, arith, codes, false, length, nat_lt, option_map, refl, subst, sym, take, true, unwrap_or}
 use Rattle.std.proofs.Math.Seq.{take-append_seam}
 use Rattle.std.proofs.lemmas.Bool.{lt-ltb}
 use Rattle.version_commands.specs.Choice.{filter_word, wrong_set, wrong_word}
@@ -106,10 +106,14 @@ same_keys word all keys is are key =
     ap (λ (found : Option (List ℕ → Bool)). unwrap_or found (λ other. true) key) same
 
 -- a word that is a set has alternatives
-pub has_alternatives : (found : Option (List (List Member))) → IsSome found
-    → (all : List (List Member)) × (found ≡ Some all)
-has_alternatives None some = cc some
-has_alternatives (Some all) some = (all, refl)
+pub has_alternatives : (word : List ℕ) (keys : List ℕ → Bool) → keys_of word ≡ Some keys
+    → (all : List (List Member)) × (set_of word ≡ Some all)
+has_alternatives word keys are = by (set_of word) refl
+  where
+    by : (found : Option (List (List Member))) → set_of word ≡ found
+        → (all : List (List Member)) × (set_of word ≡ Some all)
+    by None is = cc (rw is at are)
+    by (Some all) is = (all, is)
 
 -- what is said of a version that is in the set, and of another
 pub said_within : (set : List ℕ) (all : List (List Member)) (v : PlainVersioning)

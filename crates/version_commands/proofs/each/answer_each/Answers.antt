@@ -11,11 +11,11 @@ returns-in_ok-input-clause-output g c =
     IfOk-weaker c.answer_lines.result _ _
     (λ output (answers, are, whole). record {
       texts = _;
-      head = c.in_ok-head.head.items;
+      head = c.in_ok-asked.asked.head.items;
       answers = answers;
       texts_are = line-texts options _ _ c.as_slice.result.now (nil_from_length _ nothing)
           (search rules) c.in_ok-input.ensures.end;
-      head_is = c.in_ok-head.ensures.head;
+      head_is = c.in_ok-asked.ensures.head;
       answers_are = are;
       output_is = whole;
     })
@@ -31,10 +31,10 @@ returns-else-is_empty-clause-output g c =
     IfOk-weaker c.answer_words.result _ _
     (λ output (answers, are, whole). record {
       texts = _;
-      head = c.in_ok-head.head.items;
+      head = c.in_ok-asked.asked.head.items;
       answers = answers;
       texts_are = word-texts options _ c.as_slice-else-is_empty.result.now (search rules) (search rules);
-      head_is = c.in_ok-head.ensures.head;
+      head_is = c.in_ok-asked.ensures.head;
       answers_are = are;
       output_is = whole;
     })

@@ -18,7 +18,8 @@ loop-word-preserved c =
     let here : versioning_of (get_or words i d).now
     ≡ Some (plain_versioning_ref c.in_ok-version.version) = search rules in
     let text : c.as_bytes.result.now ≡ (get_or words i d).now = search rules in (
-      subst HasSet (sym c.in_ok-add.ensures.question) list,
+      subst (λ question. HasSet question c.add.new.self.set) (sym c.in_ok-add.ensures.question)
+          (subst (HasSet c.loop-word.answers.question) (sym c.in_ok-add.ensures.set) list),
       subst (HaveAnswered _ c.add.new.self)
           (ap (λ (t : List ℕ). map (λ (word : Bor (List ℕ)). word.now) (take i words) ++ t ∷ []) text
           ∙ sym (texts-next (λ (word : Bor (List ℕ)). word.now) words i d inside))

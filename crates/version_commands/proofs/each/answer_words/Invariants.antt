@@ -7,7 +7,7 @@ use Rattle.version_commands.proofs.each.answer_words.Given as goal
 abbrev pub invariant-loop-word : goal.invariant-loop-word
 invariant-loop-word l =
     let words = l.words in
-    HasSet l.answers.question
+    HasSet l.answers.question l.answers.set
     × HaveAnswered l.initial.answers l.answers (map (λ word. word.now) (take l.word-index words))
     × (first_wrong (map (λ word. word.now) words)
     ≡ first_wrong (map (λ word. word.now) (drop l.word-index words)))

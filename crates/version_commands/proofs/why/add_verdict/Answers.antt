@@ -1,11 +1,10 @@
-use Rattle.std.proofs.Common.{◌≡◌, ◌∙◌, ◌++◌, ℕ, List, Some, ap, codes, false, rules, sym, true}
+use Rattle.std.proofs.Common.{◌≡◌, ◌∙◌, ◌++◌, ℕ, List, ap, codes, false, rules, sym, true}
 use Rattle.std.proofs.lemmas.Result.{on_ok_weaker}
 use Rattle.version_commands.proofs.lemmas.Sets.{said_outside, said_within, same_keys}
 use Rattle.std.specs.Result.{OnOk}
 use Rattle.version_commands.specs.Why.{members_text}
 use Rattle.version_sets.specs.Excluding.{leave_out}
 use Rattle.version_sets.specs.Ends.{has}
-use Rattle.version_sets.specs.Mixed.{keys_of}
 use Rattle.version_texts.specs.keyed.Mixed.{mixed}
 use Rattle.version_texts.specs.versioning_ref.VersioningRef.{plain_versioning_ref}
 use Rattle.version_commands.proofs.why.add_verdict.Goals as goal
@@ -14,8 +13,8 @@ pub returns-then-has : goal.returns-then-has
 returns-then-has c =
     let word = c.args.word.now in
     let v = plain_versioning_ref c.args.version.now in
-    let keys : keys_of word ≡ Some (has c.unwrap-set.result) = search rules in
-    let within : has c.unwrap-set.result (mixed v).key ≡ true = search rules in
+    let keys = c.requires in
+    let within : has c.args.set.now (mixed v).key ≡ true = search rules in
     let grown : OnOk c.extend_from_slice.result
     (c.extend_from_slice.new.self.items ≡ c.args.output.now.items ++ codes " matches") = search rules in
     on_ok_weaker c.extend_from_slice.result
@@ -23,12 +22,12 @@ returns-then-has c =
     (sym (said_within word all v (same_keys word all _ is keys (mixed v).key ∙ within))))
     grown
 
-pub returns : goal.returns
-returns c =
+pub returns-else-has : goal.returns-else-has
+returns-else-has c =
     let word = c.args.word.now in
     let v = plain_versioning_ref c.args.version.now in
-    let keys : keys_of word ≡ Some (has c.unwrap-set.result) = search rules in
-    let outside : has c.unwrap-set.result (mixed v).key ≡ false = search rules in
+    let keys = c.requires in
+    let outside : has c.args.set.now (mixed v).key ≡ false = search rules in
     on_ok_weaker c.add_members.result
     (λ adds all is. adds all (rw c.as_bytes.ensures.value is) ∙ ap (λ (set : List ℕ). c.args.output.now.items
     ++ members_text (codes " is left out by ") set (leave_out (mixed v).key all)) c.as_bytes.ensures.value ∙ ap (λ (said : List ℕ). c.args.output.now.items ++ said)
