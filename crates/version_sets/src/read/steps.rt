@@ -36,6 +36,7 @@ pub(crate) enum Step<'t> {
 
 impl State {
     // Returns what a piece at a place does.
+    #[inline(always)]
     pub fn step<'t>(self, place: usize, piece: Piece<'t>) -> Step<'t>
         requires { place + piece_length (plain_piece piece) < 2 ^ 64 }
         ensures { plain_step result ≡ step self place (plain_piece piece.entry) }
@@ -67,6 +68,7 @@ impl State {
 }
 
 // Returns what a word does where a member may begin.
+#[inline(always)]
 fn begin_member<'t>(place: usize, word: &'t [u8]) -> Step<'t>
     requires { place + length word.now < 2 ^ 64 }
     ensures { plain_step result ≡ begin_member place word.now }
