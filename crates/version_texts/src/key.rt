@@ -61,9 +61,9 @@ fn put_run<'t, S: Sink>(sink: &mut S, text: &'t [u8], class: Class) -> &'t [u8]
     left
 }
 
-// Writes the number at the start of a text, and returns the rest.
+/// Writes the number at the start of a text, 0 where it begins with no digit, and returns the rest. Does not allocate.
 #[inline(always)]
-fn put_number<'t, S: Sink>(sink: &mut S, text: &'t [u8]) -> &'t [u8]
+pub fn put_number<'t, S: Sink>(sink: &mut S, text: &'t [u8]) -> &'t [u8]
     requires { S.fits sink.old (number_bytes (run_value text.now)) }
     ensures bytes { S.takes sink.old (number_bytes (run_value text.now)) sink.new }
     ensures rest { result.now ≡ drop (prefix_len is_ascii_digit text.now) text.now }

@@ -60,6 +60,10 @@ pub trait Keyed<'t>: Copy {
         requires { S.fits sink.old (end_of end (plain self.now)) }
         ensures { S.takes sink.old (end_of end (plain self.now)) sink.new };
 
+    /// Compares it with another version. Does not allocate.
+    fn compare(&self, other: &Self) -> Ordering
+        ensures { result ≡ order self.now other.now };
+
     /// Compares the bytes of its key with given bytes, up to the first difference. Does not allocate.
     fn compare_key(&self, bytes: &[u8]) -> Ordering
         ensures { result ≡ bytes_cmp (plain self.now).key bytes.now };
@@ -125,6 +129,11 @@ impl<'t> Keyed<'t> for VersioningRef<'t> {
     #[inline(always)]
     fn put_end<S: Sink>(&self, end: End, sink: &mut S) {
         VersioningRef::put_end(self, end, sink);
+    }
+
+    #[inline(always)]
+    fn compare(&self, other: &VersioningRef<'t>) -> Ordering {
+        VersioningRef::precedence(self, other)
     }
 
     #[inline(always)]

@@ -49,7 +49,7 @@ number_has n =
       length-append (replicate (size / 255) 255) (size % 255 ∷ []),
     )
 
-some_bytes : (n : ℕ) (more : List ℕ) → ¬ (number_bytes n ++ more ≡ [])
+pub some_bytes : (n : ℕ) (more : List ℕ) → ¬ (number_bytes n ++ more ≡ [])
 some_bytes n more none =
     omega (
       arith,

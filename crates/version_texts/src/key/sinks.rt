@@ -78,11 +78,11 @@ impl<'a> Sink for Room<'a> {
     ghost takes_both = { room_both };
 }
 
-// A comparison of the bytes written with given ones, of which these are left, as far as no byte differed.
+/// A comparison of the bytes written with given ones, of which these are left, as far as no byte differed.
 #[derive(Drop)]
-pub(crate) struct Beside<'a> {
-    pub(crate) left: &'a [u8],
-    pub(crate) order: Ordering,
+pub struct Beside<'a> {
+    pub left: &'a [u8],
+    pub order: Ordering,
 }
 
 impl<'a> Sink for Beside<'a> {
@@ -123,9 +123,9 @@ impl<'a> Sink for Beside<'a> {
 }
 
 impl<'a> Beside<'a> {
-    // How all bytes written compare with the given ones.
+    /// Returns how all bytes written compare with the given ones. Does not allocate.
     #[inline(always)]
-    pub(crate) fn order(&self) -> Ordering
+    pub fn order(&self) -> Ordering
         ensures { result ≡ order_with self.now [] }
     {
         if self.order != Ordering::Equal {

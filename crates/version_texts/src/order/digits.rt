@@ -12,11 +12,11 @@ use crate::order::run::Compared;
 use std::cmp::Ordering;
 use version_rules::{Class, begins_with};
 
-// Compares the numbers at the starts of two texts, without leading zeros: by the count of digits, and then by the first
-// digits that differ. A text that begins with no digit has the number 0. No more digits are read of one number than the
-// other has.
+/// Compares the numbers at the starts of two texts, without leading zeros: by the count of digits, and then by the first
+/// digits that differ. A text that begins with no digit has the number 0. No more digits are read of one number than the
+/// other has. Does not allocate.
 #[inline(always)]
-pub(crate) fn compare_numbers<'t>(x: &'t [u8], y: &'t [u8]) -> Compared<'t>
+pub fn compare_numbers<'t>(x: &'t [u8], y: &'t [u8]) -> Compared<'t>
     ensures order { result.order ≡ nat_cmp (run_value x.now) (run_value y.now) }
     ensures rest { result.order ≡ Equal → result.rest.now ≡ behind_digits x.now }
     ensures other_rest { result.order ≡ Equal → result.other_rest.now ≡ behind_digits y.now }
