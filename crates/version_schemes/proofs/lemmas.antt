@@ -1,0 +1,14 @@
+pub mod Cut
+pub mod DebRoom
+pub mod Gem
+pub mod Orders
+pub mod PypiItems
+pub mod PypiPieces
+pub mod PypiRelease
+pub mod PypiRoom
+pub mod PypiWords
+pub mod Rpm
+pub mod RpmRoom
+pub mod SemVer
+pub mod Some
+pub mod Texts

@@ -1,0 +1,57 @@
+use Rattle.std.proofs.Common.{◌∙◌, ap, refl}
+use Rattle.std.proofs.lemmas.List.{nil_from_length}
+use Rattle.std.specs.List.{list_all}
+use Rattle.version_rules.specs.grammar.Bytes.{is_identifier_byte}
+use Rattle.version_texts.proofs.lemmas.key.TextKey.DotPieces.{chunk_and_more, chunk_of_metadata, first_chunk, last_chunk, not_dot, rest_of_metadata}
+use Rattle.version_texts.proofs.lemmas.key.TextKey.Lists.{behind_shorter}
+use Rattle.version_texts.proofs.lemmas.key.TextKey.Taking.{next_fits, owes_all, owes_rest, owes_same}
+use Rattle.version_schemes.proofs.semver.put_release.Goals as goal
+
+pub identifiers-init : goal.identifiers-init
+identifiers-init g c =
+    let laws = g.met.S.Sink in
+    (owes_all laws.fits_first laws.fits_then laws.takes_both refl c.requires.fits, c.requires.text)
+
+pub identifiers-preserved : goal.identifiers-preserved
+identifiers-preserved g c =
+    let so_far = c.identifiers.invariant in
+    let left = c.identifiers.left.now in
+    let rest = c.split_run.ensures.rest in
+    let cut = c.in-Some.ensures.cases.0 in
+    let more = chunk_and_more left _ _ _ _ c.split_run.ensures.run rest cut in (
+      owes_rest _ _ (owes_same more so_far.0) c.put_chunk.ensures,
+      rest_of_metadata left _ _ _ so_far.1 rest cut,
+    )
+
+pub identifiers-smaller : goal.identifiers-smaller
+identifiers-smaller g c =
+    behind_shorter not_dot _ _ _ _ c.split_run.ensures.rest c.in-Some.ensures.cases.0
+
+pub put_chunk-requires-clause-text : goal.put_chunk-requires-clause-text
+put_chunk-requires-clause-text g c =
+    ap (list_all is_identifier_byte) c.split_run.ensures.run
+    ∙ chunk_of_metadata c.identifiers.left.now c.identifiers.invariant.1
+
+pub put_chunk-requires-clause-fits : goal.put_chunk-requires-clause-fits
+put_chunk-requires-clause-fits g c =
+    next_fits _ _ (owes_same (first_chunk c.identifiers.left.now _ c.split_run.ensures.run).1
+    c.identifiers.invariant.0)
+
+pub put-requires : goal.put-requires
+put-requires g c =
+    let last = last_chunk c.identifiers.left.now _ c.split_run.result.1.now c.split_run.ensures.run
+    c.split_run.ensures.rest (nil_from_length _ c.in-None.ensures.cases) in
+    (owes_rest _ _ (owes_same last c.identifiers.invariant.0) c.put_chunk.ensures).room
+
+pub returns-in-None : goal.returns-in-None
+returns-in-None g c =
+    let last = last_chunk c.identifiers.left.now _ c.split_run.result.1.now c.split_run.ensures.run
+    c.split_run.ensures.rest (nil_from_length _ c.in-None.ensures.cases) in
+    (owes_rest _ _ (owes_same last c.identifiers.invariant.0) c.put_chunk.ensures).ends _ c.put.ensures
+
+pub returns-then-is_decided : goal.returns-then-is_decided
+returns-then-is_decided g c =
+    let left = c.identifiers.left.now in
+    let first = first_chunk left _ c.split_run.ensures.run in
+    (owes_rest _ _ (owes_same first.1 c.identifiers.invariant.0) c.put_chunk.ensures).ends _
+    (c.is_decided.ensures c.if-is_decided.true _)

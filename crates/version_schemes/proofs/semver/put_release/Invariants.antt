@@ -1,0 +1,17 @@
+use Rattle.std.proofs.Common.{◌≡◌, length, true}
+use Rattle.std.specs.List.{list_all}
+use Rattle.version_rules.specs.grammar.Bytes.{is_metadata_byte}
+use Rattle.version_rules.specs.order.ReleaseOrder.{release_bytes}
+use Rattle.version_texts.specs.key.TextKey.{chunks_of}
+use Rattle.version_texts.proofs.lemmas.key.TextKey.Taking.{Owes}
+use Rattle.version_schemes.proofs.semver.put_release.Given as goal
+
+-- the bytes of the chunks that are left are to be written
+abbrev pub invariant-identifiers : goal.invariant-identifiers
+invariant-identifiers g l =
+    Owes g.S.Sink.takes g.S.Sink.fits l.fn.sink (release_bytes (chunks_of l.fn.text)) l.sink
+    (release_bytes (chunks_of l.left))
+    × (list_all is_metadata_byte l.left ≡ true)
+
+abbrev pub decreases-identifiers : goal.decreases-identifiers
+decreases-identifiers g l = length l.left

@@ -1,0 +1,5 @@
+pub mod Deb
+pub mod Laws
+pub mod Order
+pub mod Room
+pub mod Texts

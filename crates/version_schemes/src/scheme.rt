@@ -1,0 +1,83 @@
+//! The schemes, by their names and their numbers.
+
+ghost use Rattle.std.specs.Prelude.{◌≡◌, IfNone, IfSome, Some};
+ghost use Rattle.version_schemes.specs.Scheme.{numbered, scheme_name, scheme_number};
+
+/// A scheme: which texts are versions, and how these compare.
+#[derive(Clone, Copy, Debug, PartialEq, Eq)]
+pub enum Scheme {
+    /// Every version, in the one order of all (docs/ORDER.md).
+    Mixed,
+    /// Debian's versions (Debian Policy, 5.6.12).
+    Deb,
+    /// RPM's versions (rpm-version(7)).
+    Rpm,
+    /// Python's versions (PEP 440).
+    Pypi,
+    /// SemVer 2.0.0 in full.
+    SemVer,
+    /// RubyGems' versions (`Gem::Version`).
+    Gem,
+}
+
+impl Scheme {
+    /// Returns its number, with which the form of a set begins. Does not allocate.
+    pub fn number(self) -> u8
+        ensures number { result ≡ scheme_number self }
+        ensures back { numbered result ≡ Some self }
+    {
+        match self {
+            Scheme::Mixed => 1,
+            Scheme::Deb => 2,
+            Scheme::Rpm => 3,
+            Scheme::Pypi => 4,
+            Scheme::SemVer => 5,
+            Scheme::Gem => 6,
+        }
+    }
+
+    /// Returns the scheme that has a number, or None. Does not allocate.
+    pub fn of_number(number: u32) -> Option<Scheme>
+        ensures { result ≡ numbered number }
+    {
+        match number {
+            1 => Some(Scheme::Mixed),
+            2 => Some(Scheme::Deb),
+            3 => Some(Scheme::Rpm),
+            4 => Some(Scheme::Pypi),
+            5 => Some(Scheme::SemVer),
+            6 => Some(Scheme::Gem),
+            _ => None,
+        }
+    }
+
+    /// Returns its name, as package-url has it, and `mixed`. Does not allocate.
+    pub fn name(self) -> &'static str
+        ensures { result.now ≡ scheme_name self }
+    {
+        match self {
+            Scheme::Mixed => "mixed",
+            Scheme::Deb => "deb",
+            Scheme::Rpm => "rpm",
+            Scheme::Pypi => "pypi",
+            Scheme::SemVer => "semver",
+            Scheme::Gem => "gem",
+        }
+    }
+
+    /// Returns the scheme that has a name, byte by byte, or None. Does not allocate.
+    pub fn of_name(name: &[u8]) -> Option<Scheme>
+        ensures some { IfSome result (λ scheme. scheme_name scheme ≡ name.now) }
+        ensures none { IfNone result ((scheme : Scheme) → ¬ (scheme_name scheme ≡ name.now)) }
+    {
+        match name {
+            b"mixed" => Some(Scheme::Mixed),
+            b"deb" => Some(Scheme::Deb),
+            b"rpm" => Some(Scheme::Rpm),
+            b"pypi" => Some(Scheme::Pypi),
+            b"semver" => Some(Scheme::SemVer),
+            b"gem" => Some(Scheme::Gem),
+            _ => None,
+        }
+    }
+}
