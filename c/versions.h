@@ -122,7 +122,12 @@ extern "C" {
 #define VERSIONS_WHY_PARTS 4 /* none of these: parts or fields differ */
 
 /* The schemes: which texts are versions, and how these compare. */
-#define VERSIONS_MIXED 1 /* every version, in the one order of versions_compare */
+#define VERSIONS_MIXED 1 /* mixed: every version, in the one order of versions_compare */
+#define VERSIONS_DEB 2 /* deb: Debian's versions (Debian Policy, 5.6.12) */
+#define VERSIONS_RPM 3 /* rpm: RPM's versions (rpm-version(7)) */
+#define VERSIONS_PYPI 4 /* pypi: Python's versions (PEP 440) */
+#define VERSIONS_SEMVER 5 /* semver: SemVer 2.0.0 in full */
+#define VERSIONS_GEM 6 /* gem: RubyGems' versions (Gem::Version) */
 
 /* Why a text is not a set. */
 #define VERSIONS_SET_NO_MEMBER 1    /* a member has to come: first, or after a comma or || */
@@ -470,6 +475,93 @@ int versions_conflict(const char *list, size_t list_len, size_t *start, size_t *
                       size_t *other_end);
 
 /*
+ * Finds the scheme that has a name, such as deb, byte by byte. Sets *scheme to its number.
+ *
+ * Returns VERSIONS_OK or VERSIONS_NO_SCHEME.
+ */
+int versions_scheme(const char *name, size_t name_len, uint32_t *scheme);
+
+/*
+ * Writes the name of a scheme. The schemes have the numbers from VERSIONS_MIXED on, without a gap.
+ *
+ * Writes the name into the first bytes of `name`, which has `room` bytes, without a byte 0 after it, and its length to
+ * *name_len, also with VERSIONS_NO_ROOM. 16 bytes are always enough.
+ *
+ * Returns VERSIONS_OK, VERSIONS_NO_SCHEME or VERSIONS_NO_ROOM.
+ */
+int versions_scheme_name(uint32_t scheme, char *name, size_t room, size_t *name_len);
+
+/*
+ * Tests whether a text is a version of a scheme.
+ *
+ * Sets *has to true or false.
+ *
+ * Returns VERSIONS_OK or VERSIONS_NO_SCHEME.
+ */
+int versions_scheme_has(uint32_t scheme, const char *text, size_t text_len, bool *has);
+
+/*
+ * Compares two versions of a scheme by its order, without their keys.
+ *
+ * Sets *order to -1, 0 or 1 if the first is before the second, compares equal to it, or is after it. Different texts may
+ * compare equal, such as 1.0 and 1.0-0 of deb.
+ *
+ * Returns VERSIONS_NO_SCHEME, or the statuses of versions_compare.
+ */
+int versions_scheme_compare(uint32_t scheme, const char *a, size_t a_len, const char *b, size_t b_len, int32_t *order);
+
+/*
+ * Gets a buffer size that is large enough for the key of every text of a length in a scheme, or SIZE_MAX if that does
+ * not fit in a size_t. For n bytes it is 3n + 5 in mixed, 2n + 7 in deb and pypi, 3n + 3 in rpm, 2n in semver, and 5n
+ * in gem.
+ *
+ * Returns VERSIONS_OK or VERSIONS_NO_SCHEME.
+ */
+int versions_scheme_key_bound(uint32_t scheme, size_t text_len, size_t *bound);
+
+/*
+ * Writes the sort key of a version of a scheme.
+ *
+ * Keys of one scheme compare by memcmp, the shorter first if it is a prefix of the other, as their versions compare by
+ * its order. Two keys are equal exactly if their versions compare equal. No key is empty, and no key is a prefix of
+ * another. Keys of different schemes say nothing of each other. Those of mixed are the keys of versions_sort_key.
+ *
+ * `room` is the size of the buffer `key`. The call sets *key_len to the length of the key. It does so also if it
+ * returns VERSIONS_NO_ROOM, and then writes nothing to `key`. To get only the length, pass room 0; `key` may then be
+ * null.
+ *
+ * Returns VERSIONS_OK, VERSIONS_NO_SCHEME, VERSIONS_NO_VERSION or VERSIONS_NO_ROOM.
+ */
+int versions_scheme_key(uint32_t scheme, const char *text, size_t text_len, uint8_t *key, size_t room, size_t *key_len);
+
+/*
+ * Writes the sort keys of n texts in a scheme, one after another, as versions_sort_keys does: a text that is not a
+ * version of the scheme has an empty key.
+ *
+ * The buffers and the lengths are those of versions_sort_keys, also with VERSIONS_NO_ROOM.
+ *
+ * Returns VERSIONS_OK, VERSIONS_NO_ROOM, or VERSIONS_NO_SCHEME or VERSIONS_BAD_OFFSETS, and then writes nothing.
+ */
+int versions_scheme_keys(uint32_t scheme, const char *texts, size_t texts_len, const int64_t *offsets,
+                         size_t offsets_len, uint8_t *keys, size_t room, int64_t *key_offsets, size_t key_offsets_len);
+
+/*
+ * Sorts n texts by the order of a scheme, and writes their places in sorted order.
+ *
+ * `order` gets every place from 0 to n - 1 once, the place of the least version first. Texts that compare equal stay in
+ * the order of their places, as in a stable sort, in mixed too. Texts that are not versions of the scheme come last,
+ * also in the order of their places.
+ *
+ * The buffers and the lengths are those of versions_sort. `keys` and key_offsets get what versions_scheme_keys writes.
+ *
+ * Returns VERSIONS_OK; VERSIONS_NO_ROOM, and then does not write `order`; or VERSIONS_NO_SCHEME or VERSIONS_BAD_OFFSETS,
+ * and then writes nothing.
+ */
+int versions_scheme_sort(uint32_t scheme, const char *texts, size_t texts_len, const int64_t *offsets,
+                         size_t offsets_len, uint8_t *keys, size_t room, int64_t *key_offsets, size_t key_offsets_len,
+                         uint64_t *order, size_t order_len);
+
+/*
  * Reads a set of versions of a scheme, and writes its form.
  *
  * A set is alternatives with || between them, and has what one of them has. An alternative is members with a comma or
@@ -485,8 +577,9 @@ int versions_conflict(const char *list, size_t list_len, size_t *start, size_t *
  *     ~r, ~=r, ~>r       what is not before r, and begins with its parts but the last
  *     ^r                 what is not before r, and begins with some of its parts
  *
- * With .* the version has nothing behind its parts. With ~ and ^ the epoch is the same too: ~ asks for an only part, and
- * ^ for the parts through the first that is no plain zero, or for all.
+ * The last four are for mixed alone, whose versions have parts. With .* the version has nothing behind its parts. With
+ * ~ and ^ the epoch is the same too: ~ asks for an only part, and ^ for the parts through the first that is no plain
+ * zero, or for all.
  *
  * `room` is the size of the buffer `form`. The call sets *form_len to the length of the form, which is the first bytes
  * of `form`; the bytes behind it are unspecified. If it returns VERSIONS_NO_ROOM, it sets *form_len to a size that is
@@ -530,7 +623,7 @@ int versions_set_wrong_text(uint32_t scheme, const char *text, size_t text_len, 
                             size_t *why_len);
 
 /*
- * Writes the form of the set of the versions that compare equal to one. The version may be any: a text that
+ * Writes the form of the set of the versions of a scheme that compare equal to one. The version may be any: a text that
  * versions_set refuses as a slip, such as latest, is none here.
  *
  * `room` is the size of the buffer `form`. The call sets *form_len to the length of the form, also if it returns

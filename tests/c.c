@@ -1581,6 +1581,102 @@ static void worked_sets(void) {
   release(why);
 }
 
+// A key in a block of just its length, of a version of a scheme.
+static uint8_t *key_in(uint32_t scheme, const char *text, size_t *key_length) {
+  size_t length = strlen(text), bound = 77;
+  CHECK(versions_scheme_key_bound(scheme, length, &bound) == VERSIONS_OK);
+  CHECK(versions_scheme_key(scheme, text, length, NULL, 0, key_length) == VERSIONS_NO_ROOM && *key_length <= bound);
+  uint8_t *key = (uint8_t *)block(*key_length);
+  CHECK(versions_scheme_key(scheme, text, length, key, *key_length - 1, key_length) == VERSIONS_NO_ROOM);
+  CHECK(versions_scheme_key(scheme, text, length, key, *key_length, key_length) == VERSIONS_OK);
+  return key;
+}
+
+// Each call about schemes, on rows worked out by hand: two versions, and how they compare; and texts that are none.
+static void worked_schemes(void) {
+  static const struct {
+    uint32_t scheme;
+    const char *one, *other;
+    int order;
+  } rows[] = {
+      {VERSIONS_MIXED, "1.0rc1", "1.0", -1},      {VERSIONS_MIXED, "1.0.0+a", "1.0.0+b", 0},
+      {VERSIONS_DEB, "1.0~rc1", "1.0", -1},       {VERSIONS_DEB, "1.0a", "1.0+", -1},
+      {VERSIONS_DEB, "1.0", "1.0-0", 0},          {VERSIONS_DEB, "1:0", "9", 1},
+      {VERSIONS_RPM, "1.0^git1", "1.0", 1},       {VERSIONS_RPM, "1.0", "1.0-0", -1},
+      {VERSIONS_RPM, "1a", "1.a", 0},             {VERSIONS_PYPI, "1.0.dev1", "1.0a1", -1},
+      {VERSIONS_PYPI, "1.0", "v1", 0},            {VERSIONS_PYPI, "1+2", "1+10", -1},
+      {VERSIONS_SEMVER, "1.0.0-2", "1.0.0-11", -1}, {VERSIONS_SEMVER, "1.0.0+a", "1.0.0+b", 0},
+      {VERSIONS_GEM, "1.0.a", "1", -1},           {VERSIONS_GEM, "1.0", "1", 0},
+  };
+  for (size_t i = 0; i < sizeof rows / sizeof *rows; i++) {
+    uint32_t scheme = rows[i].scheme;
+    const char *one = rows[i].one, *other = rows[i].other;
+    size_t one_length = strlen(one), other_length = strlen(other), one_size, other_size;
+    int32_t order = 77, back = 77;
+    CHECK(versions_scheme_compare(scheme, one, one_length, other, other_length, &order) == VERSIONS_OK);
+    CHECK(versions_scheme_compare(scheme, other, other_length, one, one_length, &back) == VERSIONS_OK);
+    CHECK(order == rows[i].order && back == -order);
+    uint8_t *key = key_in(scheme, one, &one_size), *other_key = key_in(scheme, other, &other_size);
+    int bytes = memcmp(key, other_key, one_size < other_size ? one_size : other_size);
+    CHECK((bytes > 0) - (bytes < 0) == order && (order != 0 || one_size == other_size));
+    release(key), release(other_key);
+
+    char texts[64];
+    uint8_t keys[256];
+    int64_t offsets[] = {0, (int64_t)other_length, (int64_t)other_length + 1, (int64_t)(other_length + 1 + one_length)};
+    int64_t key_offsets[4];
+    uint64_t places[3] = {77, 77, 77};
+    size_t size = (size_t)snprintf(texts, sizeof texts, "%s!%s", other, one);
+    CHECK(versions_scheme_sort(scheme, texts, size, offsets, 4, keys, sizeof keys, key_offsets, 4, places, 3) == VERSIONS_OK);
+    CHECK(places[0] == (order < 0 ? 2 : 0) && places[1] == (order < 0 ? 0 : 2) && places[2] == 1);
+    CHECK((size_t)key_offsets[1] == other_size && key_offsets[2] == key_offsets[1]);
+  }
+
+  static const struct {
+    uint32_t scheme;
+    const char *text;
+  } wrong[] = {
+      {VERSIONS_DEB, "a1"}, {VERSIONS_DEB, "1-"}, {VERSIONS_DEB, "1:a:1"}, {VERSIONS_RPM, "1-2-3"},
+      {VERSIONS_PYPI, "1..0"}, {VERSIONS_SEMVER, "1.0"}, {VERSIONS_GEM, ""}, {VERSIONS_MIXED, "1..2"},
+  };
+  for (size_t i = 0; i < sizeof wrong / sizeof *wrong; i++) {
+    size_t length = strlen(wrong[i].text), written = 77;
+    bool has = true;
+    int32_t order = 77;
+    CHECK(versions_scheme_has(wrong[i].scheme, wrong[i].text, length, &has) == VERSIONS_OK && !has);
+    CHECK(versions_scheme_key(wrong[i].scheme, wrong[i].text, length, NULL, 0, &written) == VERSIONS_NO_VERSION);
+    CHECK(versions_scheme_compare(wrong[i].scheme, wrong[i].text, length, "1.0.0", 5, &order) == VERSIONS_NO_VERSION_A);
+    CHECK(written == 77 && order == 77);
+  }
+
+  static const char *const names[] = {"mixed", "deb", "rpm", "pypi", "semver", "gem"};
+  for (uint32_t scheme = 1; scheme <= 6; scheme++) {
+    size_t length = strlen(names[scheme - 1]), written = 77;
+    uint32_t found = 77;
+    char name[8];
+    CHECK(versions_scheme(names[scheme - 1], length, &found) == VERSIONS_OK && found == scheme);
+    CHECK(versions_scheme(names[scheme - 1], length - 1, &found) == VERSIONS_NO_SCHEME && found == scheme);
+    CHECK(versions_scheme_name(scheme, name, sizeof name, &written) == VERSIONS_OK && written == length);
+    CHECK(memcmp(name, names[scheme - 1], length) == 0);
+    CHECK(versions_scheme_name(scheme, NULL, 0, &written) == VERSIONS_NO_ROOM && written == length);
+  }
+  size_t written = 77;
+  CHECK(versions_scheme_name(0, NULL, 0, &written) == VERSIONS_NO_SCHEME && written == 77);
+  CHECK(versions_scheme_key_bound(7, 1, &written) == VERSIONS_NO_SCHEME && written == 77);
+
+  // A set of a scheme has its number, and goes by its order.
+  uint8_t form[256];
+  size_t form_length, place = 77;
+  uint32_t reason = 77;
+  bool has = false;
+  CHECK(versions_set(VERSIONS_DEB, ">=1.0", 5, form, sizeof form, &form_length) == VERSIONS_OK);
+  CHECK(versions_set_has(form, form_length, "1.0-1", 5, &has) == VERSIONS_OK && has);
+  CHECK(versions_set_has(form, form_length, "1.0~rc1", 7, &has) == VERSIONS_OK && !has);
+  CHECK(versions_set_has(form, form_length, "a", 1, &has) == VERSIONS_NO_VERSION);
+  CHECK(versions_set_wrong(VERSIONS_DEB, "^1", 2, &place, &reason) == VERSIONS_OK);
+  CHECK(place == 1 && reason == VERSIONS_SET_NO_PARTS);
+}
+
 // Makes every call on a long text: a piece many times, and one more byte.
 static void long_text(const char *piece, size_t times, int kind, size_t key_length) {
   size_t piece_length = strlen(piece), length = piece_length * times + 1, needed = 0;
@@ -2015,6 +2111,7 @@ static void without_memory(const struct lines *lines) {
   check_values("18446744073709551616:1", 22, VERSIONS_COMPLEX);
   CHECK(versions_matches("^1.2.3-a,<9,>0.1a", 17, "1.2.3-rc.10+x", 13, &matches) == VERSIONS_OK && matches);
   worked_sets();
+  worked_schemes();
 }
 
 int main(int count, char **words) {
@@ -2041,6 +2138,7 @@ int main(int count, char **words) {
     refused_lengths();
     bad_offsets();
     worked_sets();
+    worked_schemes();
     statuses();
     library();
   } else if (strcmp(word, "long") == 0) {

@@ -156,6 +156,18 @@ static void digest_one(struct text a, struct text b, struct text list) {
   if (digest_slots("inexact", versions_inexact(list.at, list.length, (char *)out, room, SIZE(0)), 1, 8))
     digest("inexact", out, slots[0]);
   digest_sets(a, list);
+  CLEAR, digest_slots("scheme", versions_scheme(a.at, a.length, U32(0)), 1, 8);
+  for (uint32_t scheme = 0; scheme <= VERSIONS_GEM; scheme++) {
+    CLEAR, digest_slots("scheme_has", versions_scheme_has(scheme, a.at, a.length, (bool *)&slots[0]), 1, 1);
+    CLEAR, digest_slots("scheme_key_bound", versions_scheme_key_bound(scheme, a.length, SIZE(0)), 1, 8);
+    CLEAR;
+    int status = versions_scheme_compare(scheme, a.at, a.length, b.at, b.length, I32);
+    digest_slots("scheme_compare", status, 1, 8);
+    CLEAR, status = versions_scheme_key(scheme, a.at, a.length, out, room, SIZE(0));
+    if (digest_slots("scheme_key", status, 1, 8)) digest("scheme_key", out, slots[0]);
+    CLEAR, status = versions_scheme_name(scheme, (char *)out, room, SIZE(0));
+    if (digest_slots("scheme_name", status, 1, 8)) digest("scheme_name", out, slots[0]);
+  }
   for (uint32_t n = 0; n < 4; n++) {
     CLEAR, digest_slots("nth", versions_nth(a.at, a.length, n, U32(0)), 1, 8);
     CLEAR, digest_slots("field", versions_field(a.at, a.length, n + 1, SIZE(0), SIZE(1)), 2, 8);
@@ -175,7 +187,7 @@ static void digest_one(struct text a, struct text b, struct text list) {
 static void digest_all(struct texts lines, struct texts lists) {
   size_t n = lines.count, size = 0;
   for (size_t place = 0; place < n; place++) size += lines.texts[place].length;
-  size_t room = 3 * size + 5 * n;
+  size_t room = 5 * size + 7 * n;
   char *texts = (char *)allocated(size);
   int64_t *offsets = (int64_t *)allocated(8 * (n + 1)), *key_offsets = (int64_t *)allocated(8 * (n + 1));
   uint64_t *order = (uint64_t *)allocated(8 * n);
@@ -196,6 +208,15 @@ static void digest_all(struct texts lines, struct texts lists) {
   digest("sort_keys", keys, (size_t)key_offsets[n]);
   digest_slots("sort", versions_sort(texts, size, offsets, n + 1, keys, room, key_offsets, n + 1, order, n), 0, 8);
   digest("sort", order, 8 * n);
+  for (uint32_t scheme = VERSIONS_MIXED; scheme <= VERSIONS_GEM; scheme++) {
+    int its = versions_scheme_keys(scheme, texts, size, offsets, n + 1, keys, room, key_offsets, n + 1);
+    digest_slots("scheme_keys", its, 0, 8);
+    digest("scheme_keys", key_offsets, 8 * (n + 1));
+    digest("scheme_keys", keys, (size_t)key_offsets[n]);
+    its = versions_scheme_sort(scheme, texts, size, offsets, n + 1, keys, room, key_offsets, n + 1, order, n);
+    digest_slots("scheme_sort", its, 0, 8);
+    digest("scheme_sort", order, 8 * n);
+  }
   for (size_t place = 0; place < lists.count && place < LISTS; place++) {
     struct text list = lists.texts[place];
     for (uint32_t flags = 0; flags < 2; flags++) {

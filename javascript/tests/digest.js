@@ -30,6 +30,7 @@ class Digest {
 const PREFIX = 2;
 const ROOM = 64;
 const MIXED = 1; // VERSIONS_MIXED
+const GEM = 6; // VERSIONS_GEM, the last scheme
 
 export function digest(library, lines, lists) {
   const { FIRST, SLOTS, START, reserve, slot } = library;
@@ -116,6 +117,14 @@ export function digest(library, lines, lists) {
     writes("set_and", [...set, ...its], made, madeRoom);
     writes("set_or", [...set, ...its], made, madeRoom);
     writes("set_not", its, made, madeRoom);
+    ask("scheme", [...a, SLOTS[0]], 1);
+    for (let scheme = 0; scheme <= GEM; scheme++) {
+      ask("scheme_has", [scheme, ...a, SLOTS[0]], 1, 1);
+      ask("scheme_key_bound", [scheme, BigInt(line.length), SLOTS[0]], 1);
+      ask("scheme_compare", [scheme, ...a, ...b, SLOTS[0]], 1);
+      written("scheme_key", ask("scheme_key", [scheme, ...a, ...key, SLOTS[0]], 1), slot(0));
+      written("scheme_name", ask("scheme_name", [scheme, ...key, SLOTS[0]], 1), slot(0));
+    }
     for (let n = 0; n < 4; n++) {
       ask("nth", [...a, BigInt(n), SLOTS[0]], 1);
       ask("field", [...a, n + 1, SLOTS[0], SLOTS[1]], 2);
@@ -134,7 +143,7 @@ export function digest(library, lines, lists) {
   const keyOffsets = offsets + 8 * (count + 1);
   const order = keyOffsets + 8 * (count + 1);
   const from = order + 8 * count;
-  const room = 3 * size + 5 * count;
+  const room = 5 * size + 7 * count;
   const keys = from + size;
   const list = keys + room;
   reserve(list + Math.max(...lists.map((each) => each.length)) + 512);
@@ -156,11 +165,16 @@ export function digest(library, lines, lists) {
   }
   ask("in_tags", [...texts, BigInt(order), BigInt(count)], 0);
   digestAnswers("in_tags", order, 8 * count);
-  ask("sort_keys", [...texts, BigInt(keys), BigInt(room), BigInt(keyOffsets), BigInt(count + 1)], 0);
-  digestAnswers("sort_keys", keyOffsets, 8 * (count + 1));
-  digestAnswers("sort_keys", keys, keys + library.wordPair(keyOffsets + 8 * count) - keys);
-  ask("sort", [...texts, BigInt(keys), BigInt(room), BigInt(keyOffsets), BigInt(count + 1), BigInt(order), BigInt(count)], 0);
-  digestAnswers("sort", order, 8 * count);
+  const allKeys = [...texts, BigInt(keys), BigInt(room), BigInt(keyOffsets), BigInt(count + 1)];
+  const digestSorted = (keysName, sortName, scheme) => {
+    ask(keysName, [...scheme, ...allKeys], 0);
+    digestAnswers(keysName, keyOffsets, 8 * (count + 1));
+    digestAnswers(keysName, keys, library.wordPair(keyOffsets + 8 * count));
+    ask(sortName, [...scheme, ...allKeys, BigInt(order), BigInt(count)], 0);
+    digestAnswers(sortName, order, 8 * count);
+  };
+  digestSorted("sort_keys", "sort", []);
+  for (let scheme = MIXED; scheme <= GEM; scheme++) digestSorted("scheme_keys", "scheme_sort", [scheme]);
   for (const each of lists.slice(0, 20)) {
     const wanted = write(each, list);
     for (let flags = 0; flags < 2; flags++) ask("newest", [...texts, ...wanted, 4 * flags, flags, SLOTS[0]], 1);

@@ -64,6 +64,11 @@ pub const WHY_ABOVE: u32 = 3;
 pub const WHY_PARTS: u32 = 4;
 
 pub const MIXED: u32 = 1;
+pub const DEB: u32 = 2;
+pub const RPM: u32 = 3;
+pub const PYPI: u32 = 4;
+pub const SEMVER: u32 = 5;
+pub const GEM: u32 = 6;
 
 pub const SET_NO_MEMBER: u32 = 1;
 pub const SET_NO_VERSION: u32 = 2;
@@ -226,6 +231,60 @@ extern "C" {
         end: *mut usize,
         other_start: *mut usize,
         other_end: *mut usize,
+    ) -> c_int;
+    pub fn versions_scheme(name: *const c_char, name_len: usize, scheme: *mut u32) -> c_int;
+    pub fn versions_scheme_name(
+        scheme: u32,
+        name: *mut c_char,
+        room: usize,
+        name_len: *mut usize,
+    ) -> c_int;
+    pub fn versions_scheme_has(
+        scheme: u32,
+        text: *const c_char,
+        text_len: usize,
+        has: *mut u8,
+    ) -> c_int;
+    pub fn versions_scheme_compare(
+        scheme: u32,
+        a: *const c_char,
+        a_len: usize,
+        b: *const c_char,
+        b_len: usize,
+        order: *mut i32,
+    ) -> c_int;
+    pub fn versions_scheme_key_bound(scheme: u32, text_len: usize, bound: *mut usize) -> c_int;
+    pub fn versions_scheme_key(
+        scheme: u32,
+        text: *const c_char,
+        text_len: usize,
+        key: *mut u8,
+        room: usize,
+        key_len: *mut usize,
+    ) -> c_int;
+    pub fn versions_scheme_keys(
+        scheme: u32,
+        texts: *const c_char,
+        texts_len: usize,
+        offsets: *const i64,
+        offsets_len: usize,
+        keys: *mut u8,
+        room: usize,
+        key_offsets: *mut i64,
+        key_offsets_len: usize,
+    ) -> c_int;
+    pub fn versions_scheme_sort(
+        scheme: u32,
+        texts: *const c_char,
+        texts_len: usize,
+        offsets: *const i64,
+        offsets_len: usize,
+        keys: *mut u8,
+        room: usize,
+        key_offsets: *mut i64,
+        key_offsets_len: usize,
+        order: *mut u64,
+        order_len: usize,
     ) -> c_int;
     pub fn versions_set(
         scheme: u32,

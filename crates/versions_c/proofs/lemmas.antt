@@ -5,6 +5,7 @@ pub mod Matching
 pub mod Newest
 pub mod Next
 pub mod Ranges
+pub mod Schemes
 pub mod Sorting
 pub mod Tags
 pub mod Written

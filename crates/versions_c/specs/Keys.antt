@@ -12,15 +12,15 @@ use Rattle.versions_c.specs.declared.status.TheConstants.{NO_VERSION}
 abbrev pub spelled_key : List ℕ → Option (List ℕ)
 spelled_key text = option_map (λ v. key_bytes (key_of v)) (versioning_of text)
 
--- the keys of the first texts, one after another, and nothing for a text that is not a version
-abbrev pub keys_before : List ℕ → List ℕ → ℕ → List ℕ
-keys_before texts offsets zero = []
-keys_before texts offsets (suc i) =
-    keys_before texts offsets i ++ unwrap_or (spelled_key (text_at texts offsets i)) []
+-- the keys of the first texts, one after another, and nothing for a text that has none
+abbrev pub keys_before : (List ℕ → Option (List ℕ)) → List ℕ → List ℕ → ℕ → List ℕ
+keys_before key_of texts offsets zero = []
+keys_before key_of texts offsets (suc i) =
+    keys_before key_of texts offsets i ++ unwrap_or (key_of (text_at texts offsets i)) []
 
 -- the keys of all texts
-abbrev pub all_keys : List ℕ → List ℕ → List ℕ
-all_keys texts offsets = keys_before texts offsets (length offsets - 1)
+abbrev pub all_keys : (List ℕ → Option (List ℕ)) → List ℕ → List ℕ → List ℕ
+all_keys key_of texts offsets = keys_before key_of texts offsets (length offsets - 1)
 
 -- offsets of texts in a buffer, and as many for their keys
 pub record AreKeyOffsets (offsets : List ℕ) (buffer key_offsets : ℕ) : Type 0 where

@@ -10,6 +10,7 @@ pub mod Numbers
 pub mod Offsets
 pub mod Order
 pub mod Ranges
+pub mod Schemes
 pub mod Sets
 pub mod Sorting
 pub mod Stabilities

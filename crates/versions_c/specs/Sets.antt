@@ -1,29 +1,28 @@
 -- Sets of versions in the caller's buffers, and what is answered of them.
-use Rattle.std.specs.Prelude.{◌≡◌, ◌⊎◌, ◌<◌, ◌≤◌, ◌∷◌, ⊤, ℕ, ℤ, Bool, eqb, List, Option, Some, None, if◌then◌else◌, length, slice_range}
-use Rattle.version_rules.specs.grammar.Versioning.{PlainVersioning}
+use Rattle.std.specs.Prelude.{◌≡◌, ◌⊎◌, ◌<◌, ◌≤◌, ◌∷◌, ⊤, ℕ, ℤ, Bool, List, Option, Some, None, length, slice_range}
+use Rattle.version_schemes.specs.Scheme.{Rules}
+use Rattle.version_schemes.specs.declared.scheme.Scheme.{Scheme}
 use Rattle.version_sets.specs.Ends.{Rise, has}
 use Rattle.version_sets.specs.Form.{form_bytes}
-use Rattle.version_sets.specs.Mixed.{mixed_reading, mixed_room}
 use Rattle.version_sets.specs.Reader.{IsWrittenSet}
 use Rattle.version_sets.specs.Reading.{Reading, Right, Wrong, set_has}
-use Rattle.version_sets.specs.declared.TheConstants.{MIXED}
 use Rattle.version_sets.specs.declared.read.fault.Reason.{Reason}
 use Rattle.version_sets.specs.declared.read.fault.Reason.TheVariants.{NoMember, NoOperator, NoParts, NoVersion, NotBare, NotVersion, OneBar, Slip, StarBehind}
 use Rattle.version_texts.specs.declared.versioning_ref.slip.Slip.TheVariants.{LetterV, NoDigit, PartX}
 use Rattle.version_texts.specs.key.Sinks.{saturated}
-use Rattle.version_texts.specs.keyed.Mixed.{mixed}
-use Rattle.versions_c.specs.Kinds.{version_status}
+use Rattle.version_texts.specs.keyed.Keyed.{PlainKeyed}
 use Rattle.versions_c.specs.Ranges.{one_if}
+use Rattle.versions_c.specs.Schemes.{reading_by, room_by}
 use Rattle.versions_c.specs.Written.{IsWritten}
 use Rattle.versions_c.specs.declared.sets.TheConstants as reason
-use Rattle.versions_c.specs.declared.status.TheConstants.{NO_INTERVAL, NO_ROOM, NO_SCHEME, NO_SET, NO_WRONG_MEMBER, OK}
+use Rattle.versions_c.specs.declared.status.TheConstants.{NO_INTERVAL, NO_ROOM, NO_SCHEME, NO_SET, NO_VERSION, NO_WRONG_MEMBER, OK}
 
 -- ---- texts
 
 -- the form of what a text is read as begins a buffer
-abbrev pub IsForm : Reading → List ℕ → ℕ → Type 0
-IsForm (Wrong place why) new len = ⊥
-IsForm (Right first others) new len = IsWrittenSet new MIXED len (set_has (first ∷ others))
+abbrev pub IsForm : ℕ → Reading → List ℕ → ℕ → Type 0
+IsForm scheme (Wrong place why) new len = ⊥
+IsForm scheme (Right first others) new len = IsWrittenSet new scheme len (set_has (first ∷ others))
 
 -- whether a text is wrong
 abbrev pub IsWrong : Reading → Type 0
@@ -32,11 +31,11 @@ IsWrong (Right first others) = ⊥
 
 -- What is answered for a text: its form begins the buffer; or it is no set; or the buffer is smaller than
 -- what is enough.
-abbrev pub IsRead : List ℕ → List ℕ → List ℕ → ℕ → ℤ → Type 0
-IsRead text old new len status =
-    ((status ≡ OK) × IsForm (mixed_reading text) new len)
-    ⊎ ((status ≡ NO_SET) × IsWrong (mixed_reading text))
-    ⊎ ((status ≡ NO_ROOM) × (length old < mixed_room text) × (len ≡ saturated (mixed_room text)))
+abbrev pub IsRead : Rules → ℕ → List ℕ → List ℕ → List ℕ → ℕ → ℤ → Type 0
+IsRead rules scheme text old new len status =
+    ((status ≡ OK) × IsForm scheme (reading_by rules text) new len)
+    ⊎ ((status ≡ NO_SET) × IsWrong (reading_by rules text))
+    ⊎ ((status ≡ NO_ROOM) × (length old < room_by rules text) × (len ≡ saturated (room_by rules text)))
 
 -- the number of a reason
 abbrev pub reason_code : Reason → ℕ
@@ -60,16 +59,18 @@ wrong_set_status (Some fault) = OK
 -- ---- forms
 
 -- the status for a set of a scheme, and for it with a text
-abbrev pub scheme_status : ℕ → ℤ
-scheme_status scheme = if eqb scheme MIXED then OK else NO_SCHEME
+abbrev pub scheme_status : Option Scheme → ℤ
+scheme_status None = NO_SCHEME
+scheme_status (Some scheme) = OK
 
-abbrev pub has_status : ℕ → Option PlainVersioning → ℤ
-has_status scheme version = if eqb scheme MIXED then version_status version else NO_SCHEME
+abbrev pub has_status : Option PlainKeyed → ℤ
+has_status None = NO_VERSION
+has_status (Some v) = OK
 
 -- the answer for a text: 1 if its version is in the set, 0 if it is not, 2 if it is not a version
-abbrev pub has_code : List (List ℕ) → Option PlainVersioning → ℕ
+abbrev pub has_code : List (List ℕ) → Option PlainKeyed → ℕ
 has_code ends None = 2
-has_code ends (Some v) = one_if (has ends (mixed v).key)
+has_code ends (Some v) = one_if (has ends v.key)
 
 -- A set that has these keys, and no more than so many bytes, is written into a buffer if it fits.
 pub record IsMade (holds : List ℕ → Bool) (most scheme : ℕ) (old new : List ℕ) (len : ℕ) (status : ℤ) : Type 0 where

@@ -1,5 +1,5 @@
 -- The places of texts, sorted by the texts' versions.
-use Rattle.std.specs.Prelude.{◌≡◌, ◌==◌, ℕ, ◌+◌, ◌-◌, ◌<◌, List, length, slice_index}
+use Rattle.std.specs.Prelude.{◌≡◌, ◌==◌, ℕ, ◌+◌, ◌-◌, ◌<◌, List, length, Option, slice_index}
 use Rattle.std.specs.Cmp.Lexicographic.{slice_cmp}
 use Rattle.std.specs.List.{range_with_len}
 use Rattle.std.specs.List.Sorted.{IsPermutation}
@@ -8,7 +8,7 @@ use Rattle.std.specs.Ordering.{bool_cmp, nat_cmp, on, then_cmp}
 use Rattle.std.specs.declared.cmp.Ordering.{Ordering}
 use Rattle.std.specs.declared.cmp.Ordering.TheVariants.{Less}
 use Rattle.version_rules.specs.grammar.Kind.{versioning_kind}
-use Rattle.version_rules.specs.order.Lists.{none_last_cmp}
+use Rattle.version_rules.specs.order.Lists.{bytes_cmp, none_last_cmp}
 use Rattle.version_rules.specs.order.Orders.{versioning_cmp}
 use Rattle.version_rules.specs.grammar.Versioning.{versioning_of}
 use Rattle.version_rules.specs.declared.kind.Kind.{Kind}
@@ -23,11 +23,14 @@ place_cmp texts offsets =
     then_cmp (on (λ i. versioning_of (text_at texts offsets i)) (none_last_cmp versioning_cmp))
     nat_cmp
 
--- the places of all texts, each below the next
-pub record AreInOrder (texts offsets order : List ℕ) : Type 0 where
-  pub places : IsPermutation (range_with_len 0 (length offsets - 1)) order
-  pub ascending : (k : ℕ) → k + 1 < length order
-      → place_cmp texts offsets (slice_index order k) (slice_index order (k + 1)) ≡ Less
+-- so many places from 0 on, each below the next
+pub record AreSorted (cmp : ℕ → ℕ → Ordering) (count : ℕ) (order : List ℕ) : Type 0 where
+  pub places : IsPermutation (range_with_len 0 count) order
+  pub ascending : (k : ℕ) → k + 1 < length order → cmp (slice_index order k) (slice_index order (k + 1)) ≡ Less
+
+-- the places of all texts in order
+abbrev pub AreInOrder : List ℕ → List ℕ → List ℕ → Type 0
+AreInOrder texts offsets = AreSorted (place_cmp texts offsets) (length offsets - 1)
 
 -- offsets of texts in a buffer, with a place for each, and as many offsets for their keys
 pub record AreSortOffsets (offsets : List ℕ) (buffer key_offsets places : ℕ) : Type 0 where
@@ -61,3 +64,14 @@ abbrev pub keyed_cmp : List ℕ → List ℕ → List ℕ → List ℕ → ℕ �
 keyed_cmp texts offsets keys key_offsets =
     then_cmp (on (λ marked. text_at keys key_offsets (marked_number marked)) keys_cmp)
     (tied_cmp texts offsets)
+
+-- ---- by keys alone
+
+-- two places: by the keys of their texts, a text without one last, and ties as numbers
+abbrev pub key_place_cmp : (List ℕ → Option (List ℕ)) → List ℕ → List ℕ → ℕ → ℕ → Ordering
+key_place_cmp key_of texts offsets =
+    then_cmp (on (λ i. key_of (text_at texts offsets i)) (none_last_cmp bytes_cmp)) nat_cmp
+
+-- two places by the keys that lie there, and then as numbers
+abbrev pub lying_cmp : List ℕ → List ℕ → ℕ → ℕ → Ordering
+lying_cmp keys key_offsets = then_cmp (on (λ i. text_at keys key_offsets i) keys_cmp) nat_cmp

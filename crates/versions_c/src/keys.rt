@@ -87,16 +87,16 @@ pub extern "C" fn versions_sort_keys(
     key_offsets: &mut [u64],
 ) -> i32
     ensures status { AreKeyOffsets offsets.now (length texts.now) (length key_offsets.old)
-        → result ≡ room_status (all_keys texts.now offsets.now) (length keys.old) }
+        → result ≡ room_status (all_keys spelled_key texts.now offsets.now) (length keys.old) }
     ensures keys { result ≡ OK → keys.new
-        ≡ all_keys texts.now offsets.now
-        ++ drop (length (all_keys texts.now offsets.now)) keys.old }
+        ≡ all_keys spelled_key texts.now offsets.now
+        ++ drop (length (all_keys spelled_key texts.now offsets.now)) keys.old }
 
     // Their offsets are reported even if they do not fit.
     ensures offsets { AreKeyOffsets offsets.now (length texts.now) (length key_offsets.old)
         → (i : ℕ) → i < length offsets.now
         → slice_index key_offsets.new i
-        ≡ saturated_signed (length (keys_before texts.now offsets.now i)) }
+        ≡ saturated_signed (length (keys_before spelled_key texts.now offsets.now i)) }
 
     // Otherwise nothing is written.
     ensures bad { ¬ (AreKeyOffsets offsets.now (length texts.now) (length key_offsets.old))
@@ -132,13 +132,13 @@ pub fn put_keys(
     requires offsets { AreOffsets offsets.now (length texts.now) count }
     requires as_many { length key_offsets.old ≡ count + 1 }
     ensures room { IsTrue result
-        ↔ (length (keys_before texts.now offsets.now count) ≤ length keys.old) }
+        ↔ (length (keys_before spelled_key texts.now offsets.now count) ≤ length keys.old) }
     ensures keys { IsTrue result → keys.new
-        ≡ keys_before texts.now offsets.now count
-        ++ drop (length (keys_before texts.now offsets.now count)) keys.old }
+        ≡ keys_before spelled_key texts.now offsets.now count
+        ++ drop (length (keys_before spelled_key texts.now offsets.now count)) keys.old }
     ensures key_offsets { (i : ℕ) → i ≤ count
         → slice_index key_offsets.new i
-        ≡ saturated_signed (length (keys_before texts.now offsets.now i)) }
+        ≡ saturated_signed (length (keys_before spelled_key texts.now offsets.now i)) }
     ensures places { (i : ℕ) → i < count → i < length places.old
         → IsMarked texts.now offsets.now i (slice_index places.new i) }
 {
@@ -158,12 +158,12 @@ fn put_all(
 ) -> usize
     requires offsets { AreOffsets offsets.now (length texts.now) count }
     requires room { length key_offsets.old ≡ count + 1 }
-    ensures end { result ≡ saturated (length (keys_before texts.now offsets.now count)) }
-    ensures keys { length (keys_before texts.now offsets.now count) ≤ length keys.old → keys.new
-        ≡ put_at keys.old 0 (keys_before texts.now offsets.now count) }
+    ensures end { result ≡ saturated (length (keys_before spelled_key texts.now offsets.now count)) }
+    ensures keys { length (keys_before spelled_key texts.now offsets.now count) ≤ length keys.old → keys.new
+        ≡ put_at keys.old 0 (keys_before spelled_key texts.now offsets.now count) }
     ensures key_offsets { (i : ℕ) → i ≤ count
         → slice_index key_offsets.new i
-        ≡ saturated_signed (length (keys_before texts.now offsets.now i)) }
+        ≡ saturated_signed (length (keys_before spelled_key texts.now offsets.now i)) }
     ensures places { (i : ℕ) → i < count → i < length places.old
         → IsMarked texts.now offsets.now i (slice_index places.new i) }
 {
@@ -186,7 +186,7 @@ fn put_all(
 /// Returns whether a room is enough for the keys of any texts with these offsets.
 pub fn is_always_room(texts: &[u8], offsets: &[u64], count: usize, room: usize) -> bool
     requires { AreOffsets offsets.now (length texts.now) count }
-    ensures { IsTrue result → length (keys_before texts.now offsets.now count) ≤ room }
+    ensures { IsTrue result → length (keys_before spelled_key texts.now offsets.now count) ≤ room }
 {
     let fives = 5 * count;
     let bytes = offsets[count] - offsets[0];

@@ -15,6 +15,7 @@ mod numbers;
 mod offsets;
 mod order;
 mod ranges;
+mod schemes;
 mod set_algebra;
 mod sets;
 mod sorting;

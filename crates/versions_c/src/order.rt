@@ -62,7 +62,7 @@ pub(crate) fn pair_status(a: bool, b: bool) -> i32
 }
 
 // Returns an order as a number.
-fn order_code(order: Ordering) -> i32
+pub(crate) fn order_code(order: Ordering) -> i32
     ensures { result ≡ order_code order }
 {
     match order {

@@ -1,49 +1,61 @@
 //! Sets of versions by their forms: what is in them, what is made of two, and their intervals.
 
-ghost use Rattle.std.specs.Prelude.{◌≡◌, ◌≢◌, ◌⊎◌, Err, IfErr, ◌+◌, ◌≤◌, ◌<◌, ◌&&◌, ◌||◌, List, not, length, slice_index, IfSome, Bool, ℕ};
+ghost use Rattle.std.specs.Prelude.{◌≡◌, ◌≢◌, ◌⊎◌, Err, IfErr, ◌+◌, ◌≤◌, ◌<◌, ◌&&◌, ◌||◌, List, not, length, slice_index, IfSome, MatchOption, Bool, ℕ};
 ghost use Rattle.std.specs.Result.{IsOkAnd};
-ghost use Rattle.version_rules.specs.grammar.Versioning.{versioning_of};
+ghost use Rattle.version_schemes.specs.Scheme.{numbered, rules};
 ghost use Rattle.version_sets.specs.Ends.{has, IsPart, Meet, Rise};
 ghost use Rattle.version_sets.specs.Form.{form_bytes};
 ghost use Rattle.version_sets.specs.Intervals.{interval_at, intervals};
 ghost use Rattle.version_sets.specs.Set.{by_rule, ends_of, left};
-ghost use Rattle.version_sets.specs.declared.TheConstants.{MIXED};
-ghost use Rattle.version_texts.specs.keyed.Mixed.{mixed};
 ghost use Rattle.versions_c.specs.Offsets.{text_at, AreOffsets};
 ghost use Rattle.versions_c.specs.Ranges.{one_if};
 ghost use Rattle.versions_c.specs.Sets.{has_code, has_status, interval_status, scheme_status, IsInterval, IsMade};
 ghost use Rattle.versions_c.specs.Written.{IsWritten};
 
 use crate::offsets::{answer_each, are_offsets};
+use crate::schemes::by_scheme;
 use crate::status::{
     BAD_OFFSETS, NO_FORM, NO_INTERVAL, NO_ROOM, NO_SCHEME, NO_VERSION, OK, OTHER_SCHEME,
 };
-use version_sets::{Form, MIXED, Merge, Rule, write_merge};
-use version_texts::VersioningRef;
+use version_schemes::{ByKey, Deb, Gem, Pypi, Rpm, Scheme, SemVer};
+use version_sets::{Form, Merge, Rule, write_merge};
+use version_texts::{Keyed, VersioningRef};
 
-/// Writes whether a version is in a set.
+/// Writes whether a version of its scheme is in a set.
 #[unsafe(no_mangle)]
 pub extern "C" fn versions_set_has(form: &[u8], text: &[u8], answer: &mut u8) -> i32
     ensures status { (scheme : ℕ) (ends : List (List ℕ)) → form.now ≡ form_bytes scheme ends
-        → result ≡ has_status scheme (versioning_of text.now) }
+        → MatchOption (numbered scheme) (result ≡ NO_SCHEME)
+        (λ scheme. result ≡ has_status ((rules scheme).read_as text.now)) }
     ensures has { (scheme : ℕ) (ends : List (List ℕ)) → form.now ≡ form_bytes scheme ends → Rise ends → result ≡ OK
-        → IfSome (versioning_of text.now) (λ v. answer.new ≡ one_if (has ends (mixed v).key)) }
+        → IfSome (numbered scheme) (λ scheme. IfSome ((rules scheme).read_as text.now)
+        (λ v. answer.new ≡ one_if (has ends v.key))) }
     ensures kept { result ≢ OK → answer.new ≡ answer.old }
 {
-    let Some((scheme, set)) = Form::of(form) else {
+    let Some((number, set)) = Form::of(form) else {
         return NO_FORM;
     };
-    if scheme != MIXED {
+    let Some(scheme) = Scheme::of_number(u32::from(number)) else {
         return NO_SCHEME;
-    }
-    let Some(version) = VersioningRef::from_bytes(text) else {
+    };
+    by_scheme!(scheme, put_has(&set, text, answer))
+}
+
+// Writes whether a version is in a set.
+fn put_has<'t, V: Keyed<'t>>(set: &Form<'_>, text: &'t [u8], answer: &mut u8) -> i32
+    ensures status { result ≡ has_status (V.read_as text.now) }
+    ensures has { Rise (ends_of set.now) → IfSome (V.read_as text.now)
+        (λ v. answer.new ≡ one_if (has (ends_of set.now) v.key)) }
+    ensures kept { result ≢ OK → answer.new ≡ answer.old }
+{
+    let Some(version) = V::read(text) else {
         return NO_VERSION;
     };
     *answer = set.has(&version) as u8;
     OK
 }
 
-/// Writes whether each version is in a set.
+/// Writes whether each version of its scheme is in a set.
 #[unsafe(no_mangle)]
 pub extern "C" fn versions_set_has_all(
     form: &[u8],
@@ -52,31 +64,38 @@ pub extern "C" fn versions_set_has_all(
     answers: &mut [u8],
 ) -> i32
     ensures status { (scheme : ℕ) (ends : List (List ℕ)) → form.now ≡ form_bytes scheme ends
-        → AreOffsets offsets.now (length texts.now) (length answers.old) → result ≡ scheme_status scheme }
+        → AreOffsets offsets.now (length texts.now) (length answers.old) → result ≡ scheme_status (numbered scheme) }
     ensures answers { (scheme : ℕ) (ends : List (List ℕ)) → form.now ≡ form_bytes scheme ends → Rise ends → result ≡ OK
-        → (i : ℕ) → i < length answers.old
-        → slice_index answers.new i ≡ has_code ends (versioning_of (text_at texts.now offsets.now i)) }
+        → IfSome (numbered scheme) (λ scheme. (i : ℕ) → i < length answers.old → slice_index answers.new i
+        ≡ has_code ends ((rules scheme).read_as (text_at texts.now offsets.now i))) }
     ensures bad { ¬ (AreOffsets offsets.now (length texts.now) (length answers.old)) → result ≡ BAD_OFFSETS }
     ensures kept { result ≢ OK → answers.new ≡ answers.old }
 {
     if !are_offsets(offsets, texts.len(), answers.len()) {
         return BAD_OFFSETS;
     }
-    let Some((scheme, set)) = Form::of(form) else {
+    let Some((number, set)) = Form::of(form) else {
         return NO_FORM;
     };
-    if scheme != MIXED {
+    let Some(scheme) = Scheme::of_number(u32::from(number)) else {
         return NO_SCHEME;
-    }
-    answer_each(texts, offsets, answers, |text| has_code(&set, text));
+    };
+    answer_each(texts, offsets, answers, |text| has_code(scheme, &set, text));
     OK
 }
 
-// Returns the answer for a text: 1 if its version is in the set, 0 if not, 2 if it is not a version.
-fn has_code(set: &Form<'_>, text: &[u8]) -> u8
-    ensures { Rise (ends_of set.now) → result ≡ has_code (ends_of set.now) (versioning_of text.now) }
+// Returns the answer for a text: 1 if its version is in a set of its scheme, 0 if not, 2 if it is not a version.
+fn has_code(scheme: Scheme, set: &Form<'_>, text: &[u8]) -> u8
+    ensures { Rise (ends_of set.now) → result ≡ has_code (ends_of set.now) ((rules scheme).read_as text.now) }
 {
-    match VersioningRef::from_bytes(text) {
+    by_scheme!(scheme, answer_for(set, text))
+}
+
+// Returns the same for a version of one order.
+fn answer_for<'t, V: Keyed<'t>>(set: &Form<'_>, text: &'t [u8]) -> u8
+    ensures { Rise (ends_of set.now) → result ≡ has_code (ends_of set.now) (V.read_as text.now) }
+{
+    match V::read(text) {
         Some(version) => set.has(&version) as u8,
         None => 2,
     }
@@ -228,14 +247,14 @@ pub extern "C" fn versions_set_meets(one: &[u8], other: &[u8], meet: &mut u8) ->
 #[unsafe(no_mangle)]
 pub extern "C" fn versions_set_count(form: &[u8], count: &mut usize) -> i32
     ensures count { (scheme : ℕ) (ends : List (List ℕ)) → form.now ≡ form_bytes scheme ends → Rise ends
-        → (result ≡ scheme_status scheme) × (result ≡ OK → count.new ≡ intervals ends) }
+        → (result ≡ scheme_status (numbered scheme)) × (result ≡ OK → count.new ≡ intervals ends) }
     ensures whole { (result ≡ NO_FORM) ⊎ ((scheme : ℕ) × (ends : List (List ℕ)) × (form.now ≡ form_bytes scheme ends) × Rise ends) }
     ensures kept { result ≢ OK → count.new ≡ count.old }
 {
     let Some((scheme, set)) = Form::whole(form) else {
         return NO_FORM;
     };
-    if scheme != MIXED {
+    if Scheme::of_number(u32::from(scheme)).is_none() {
         return NO_SCHEME;
     }
     *count = set.intervals();

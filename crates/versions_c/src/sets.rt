@@ -1,22 +1,23 @@
 //! Sets of versions, read from texts: their forms in the caller's buffers, and why a text is none.
 
-ghost use Rattle.std.specs.Prelude.{◌≡◌, ◌≢◌, eqb, None, Some, IfSome};
-ghost use Rattle.version_rules.specs.grammar.Versioning.{versioning_of};
+ghost use Rattle.std.specs.Prelude.{◌≡◌, ◌≢◌, None, IfSome};
+ghost use Rattle.std.specs.Option.{option_map};
+ghost use Rattle.version_schemes.specs.Scheme.{numbered, rules, scheme_number};
 ghost use Rattle.version_sets.specs.Comparison.{ends_with};
 ghost use Rattle.version_sets.specs.Form.{form_bytes};
-ghost use Rattle.version_sets.specs.Mixed.{mixed_reading, mixed_room};
 ghost use Rattle.version_sets.specs.Reading.{fault_of};
 ghost use Rattle.version_sets.specs.Reason.{reason_text};
-ghost use Rattle.version_sets.specs.declared.TheConstants.{MIXED};
 ghost use Rattle.version_sets.specs.declared.read.comparison.Comparison.TheVariants.{Equal};
 ghost use Rattle.version_texts.specs.key.Sinks.{saturated};
-ghost use Rattle.version_texts.specs.keyed.Mixed.{mixed};
-ghost use Rattle.versions_c.specs.Sets.{reason_code, scheme_status, wrong_set_status, IsRead};
+ghost use Rattle.versions_c.specs.Schemes.{reading_by, room_by};
+ghost use Rattle.versions_c.specs.Sets.{reason_code, wrong_set_status, IsRead};
 ghost use Rattle.versions_c.specs.Written.{IsWritten};
 
+use crate::schemes::{by_scheme, write_text};
 use crate::status::{NO_ROOM, NO_SCHEME, NO_SET, NO_VERSION, NO_WRONG_MEMBER, OK};
-use version_sets::{MIXED, Reason, Unread, find_fault, read_set, set_room, write_tied};
-use version_texts::{Slip, VersioningRef};
+use version_schemes::{ByKey, Deb, Gem, Pypi, Rpm, Scheme, SemVer};
+use version_sets::{Fault, Reason, Unread, find_fault, read_set, set_room, write_tied};
+use version_texts::{Keyed, Slip, VersioningRef};
 
 /// A member has to come.
 pub const NO_MEMBER: u32 = 1;
@@ -41,15 +42,7 @@ pub const PART_X: u32 = 10;
 /// The version has no digit.
 pub const NO_DIGIT: u32 = 11;
 
-/// Whether a number is that of the order of all versions.
-#[inline(always)]
-pub fn is_mixed(scheme: u32) -> bool
-    ensures { result ≡ eqb scheme MIXED }
-{
-    scheme == MIXED as u32
-}
-
-/// Writes the form of a set that a text is.
+/// Writes the form of a set of a scheme that a text is.
 #[unsafe(no_mangle)]
 pub extern "C" fn versions_set(
     scheme: u32,
@@ -57,24 +50,50 @@ pub extern "C" fn versions_set(
     form: &mut [u8],
     form_len: &mut usize,
 ) -> i32
-    ensures set { scheme ≡ MIXED → IsRead text.now form.old form.new form_len.new result }
-    ensures no_scheme { scheme ≢ MIXED → result ≡ NO_SCHEME }
+    ensures set { IfSome (numbered scheme) (λ scheme. IsRead (rules scheme) (scheme_number scheme)
+        text.now form.old form.new form_len.new result) }
+    ensures no_scheme { numbered scheme ≡ None → result ≡ NO_SCHEME }
     ensures kept { result ≡ NO_SCHEME → form.new ≡ form.old }
 
     // Where there is no form there is no length.
     ensures no_length { result ≢ OK → result ≢ NO_ROOM → form_len.new ≡ form_len.old }
 {
-    if !is_mixed(scheme) {
+    let Some(scheme) = Scheme::of_number(scheme) else {
         return NO_SCHEME;
-    }
-    match read_set::<VersioningRef<'_>>(MIXED, text, form) {
+    };
+    put_set(scheme, text, form, form_len)
+}
+
+// Writes the form of a set of a scheme that a text is.
+fn put_set(scheme: Scheme, text: &[u8], form: &mut [u8], form_len: &mut usize) -> i32
+    ensures set { IsRead (rules scheme) (scheme_number scheme) text.now form.old form.new form_len.new result }
+    ensures status { result ≢ NO_SCHEME }
+    ensures no_length { result ≢ OK → result ≢ NO_ROOM → form_len.new ≡ form_len.old }
+{
+    let number = scheme.number();
+    by_scheme!(scheme, put_set_of(number, text, form, form_len))
+}
+
+// Writes the form of a set that a text is, with a number for its order.
+fn put_set_of<'t, V: Keyed<'t>>(
+    order: u8,
+    text: &'t [u8],
+    form: &mut [u8],
+    form_len: &mut usize,
+) -> i32
+    ensures set { IsRead (record { read_as = V.read_as; parts = V.parts; most = V.most }) order
+        text.now form.old form.new form_len.new result }
+    ensures status { result ≢ NO_SCHEME }
+    ensures no_length { result ≢ OK → result ≢ NO_ROOM → form_len.new ≡ form_len.old }
+{
+    match read_set::<V>(order, text, form) {
         Ok(length) => {
             *form_len = length;
             OK
         }
         Err(Unread::Wrong(_)) => NO_SET,
         Err(Unread::NoRoom) => {
-            *form_len = set_room::<VersioningRef<'_>>(text);
+            *form_len = set_room::<V>(text);
             NO_ROOM
         }
     }
@@ -83,18 +102,18 @@ pub extern "C" fn versions_set(
 /// Writes a size of buffer that is enough for the form of a text.
 #[unsafe(no_mangle)]
 pub extern "C" fn versions_set_bound(scheme: u32, text: &[u8], bound: &mut usize) -> i32
-    ensures bound { scheme ≡ MIXED → bound.new ≡ saturated (mixed_room text.now) }
-    ensures status { result ≡ scheme_status scheme }
-    ensures kept { result ≢ OK → bound.new ≡ bound.old }
+    ensures bound { IfSome (numbered scheme)
+        (λ scheme. (result ≡ OK) × (bound.new ≡ saturated (room_by (rules scheme) text.now))) }
+    ensures no_scheme { numbered scheme ≡ None → (result ≡ NO_SCHEME) × (bound.new ≡ bound.old) }
 {
-    if !is_mixed(scheme) {
+    let Some(scheme) = Scheme::of_number(scheme) else {
         return NO_SCHEME;
-    }
-    *bound = set_room::<VersioningRef<'_>>(text);
+    };
+    *bound = by_scheme!(scheme, set_room(text));
     OK
 }
 
-/// Writes where a text is no set, and why.
+/// Writes where a text is no set of a scheme, and why.
 #[unsafe(no_mangle)]
 pub extern "C" fn versions_set_wrong(
     scheme: u32,
@@ -102,17 +121,29 @@ pub extern "C" fn versions_set_wrong(
     place: &mut usize,
     reason: &mut u32,
 ) -> i32
-    ensures status { scheme ≡ MIXED → result ≡ wrong_set_status (fault_of (mixed_reading text.now)) }
-    ensures no_scheme { scheme ≢ MIXED → result ≡ NO_SCHEME }
-    ensures wrong { result ≡ OK → IfSome (fault_of (mixed_reading text.now))
+    ensures status { IfSome (numbered scheme)
+        (λ scheme. result ≡ wrong_set_status (fault_of (reading_by (rules scheme) text.now))) }
+    ensures no_scheme { numbered scheme ≡ None → result ≡ NO_SCHEME }
+    ensures wrong { IfSome (numbered scheme) (λ scheme. result ≡ OK → IfSome (fault_of (reading_by (rules scheme) text.now))
+        (λ fault. (place.new ≡ fault.0) × (reason.new ≡ reason_code fault.1))) }
+    ensures kept_place { result ≢ OK → place.new ≡ place.old }
+    ensures kept_reason { result ≢ OK → reason.new ≡ reason.old }
+{
+    let Some(scheme) = Scheme::of_number(scheme) else {
+        return NO_SCHEME;
+    };
+    put_wrong(scheme, text, place, reason)
+}
+
+// Writes where a text is no set of a scheme, and why.
+fn put_wrong(scheme: Scheme, text: &[u8], place: &mut usize, reason: &mut u32) -> i32
+    ensures status { result ≡ wrong_set_status (fault_of (reading_by (rules scheme) text.now)) }
+    ensures wrong { result ≡ OK → IfSome (fault_of (reading_by (rules scheme) text.now))
         (λ fault. (place.new ≡ fault.0) × (reason.new ≡ reason_code fault.1)) }
     ensures kept_place { result ≢ OK → place.new ≡ place.old }
     ensures kept_reason { result ≢ OK → reason.new ≡ reason.old }
 {
-    if !is_mixed(scheme) {
-        return NO_SCHEME;
-    }
-    let Some(fault) = find_fault::<VersioningRef<'_>>(text) else {
+    let Some(fault) = fault_in(scheme, text) else {
         return NO_WRONG_MEMBER;
     };
     *place = fault.place;
@@ -120,7 +151,15 @@ pub extern "C" fn versions_set_wrong(
     OK
 }
 
-/// Writes why a text is no set, as a sentence.
+// Returns where a text is no set of a scheme, and why, or None if it is one.
+fn fault_in(scheme: Scheme, text: &[u8]) -> Option<Fault>
+    ensures { option_map (λ fault. (fault.place, fault.reason)) result
+        ≡ fault_of (reading_by (rules scheme) text.now) }
+{
+    by_scheme!(scheme, find_fault(text))
+}
+
+/// Writes why a text is no set of a scheme, as a sentence.
 #[unsafe(no_mangle)]
 pub extern "C" fn versions_set_wrong_text(
     scheme: u32,
@@ -128,27 +167,32 @@ pub extern "C" fn versions_set_wrong_text(
     why: &mut [u8],
     why_len: &mut usize,
 ) -> i32
-    ensures why { scheme ≡ MIXED → IfSome (fault_of (mixed_reading text.now))
-        (λ fault. IsWritten (reason_text fault.1) why.old why.new why_len.new result) }
-    ensures right { scheme ≡ MIXED → fault_of (mixed_reading text.now) ≡ None → result ≡ NO_WRONG_MEMBER }
-    ensures no_scheme { scheme ≢ MIXED → result ≡ NO_SCHEME }
+    ensures why { IfSome (numbered scheme) (λ scheme. IfSome (fault_of (reading_by (rules scheme) text.now))
+        (λ fault. IsWritten (reason_text fault.1) why.old why.new why_len.new result)) }
+    ensures right { IfSome (numbered scheme)
+        (λ scheme. fault_of (reading_by (rules scheme) text.now) ≡ None → result ≡ NO_WRONG_MEMBER) }
+    ensures no_scheme { numbered scheme ≡ None → result ≡ NO_SCHEME }
     ensures kept { result ≢ OK → why.new ≡ why.old }
     ensures no_length { result ≢ OK → result ≢ NO_ROOM → why_len.new ≡ why_len.old }
 {
-    if !is_mixed(scheme) {
+    let Some(scheme) = Scheme::of_number(scheme) else {
         return NO_SCHEME;
-    }
-    let Some(fault) = find_fault::<VersioningRef<'_>>(text) else {
+    };
+    put_wrong_text(scheme, text, why, why_len)
+}
+
+// Writes why a text is no set of a scheme, as a sentence.
+fn put_wrong_text(scheme: Scheme, text: &[u8], why: &mut [u8], why_len: &mut usize) -> i32
+    ensures why { IfSome (fault_of (reading_by (rules scheme) text.now))
+        (λ fault. IsWritten (reason_text fault.1) why.old why.new why_len.new result) }
+    ensures right { fault_of (reading_by (rules scheme) text.now) ≡ None → result ≡ NO_WRONG_MEMBER }
+    ensures kept { result ≢ OK → why.new ≡ why.old }
+    ensures no_length { result ≢ OK → result ≢ NO_ROOM → why_len.new ≡ why_len.old }
+{
+    let Some(fault) = fault_in(scheme, text) else {
         return NO_WRONG_MEMBER;
     };
-    let sentence = fault.reason.text().as_bytes();
-    *why_len = sentence.len();
-    if sentence.len() > why.len() {
-        return NO_ROOM;
-    }
-    let (place, _) = why.split_at_mut(sentence.len());
-    place.copy_from_slice(sentence);
-    OK
+    write_text(fault.reason.text().as_bytes(), why, why_len)
 }
 
 // Returns the number of a reason.
@@ -170,7 +214,7 @@ fn reason_code(reason: Reason) -> u32
     }
 }
 
-/// Writes the form of the set of what ties with a version.
+/// Writes the form of the set of what ties with a version of a scheme.
 #[unsafe(no_mangle)]
 pub extern "C" fn versions_set_of_version(
     scheme: u32,
@@ -178,20 +222,38 @@ pub extern "C" fn versions_set_of_version(
     form: &mut [u8],
     form_len: &mut usize,
 ) -> i32
-    ensures set { scheme ≡ MIXED → IfSome (versioning_of text.now)
-        (λ v. IsWritten (form_bytes MIXED (ends_with Equal (mixed v))) form.old form.new form_len.new result) }
-    ensures no_version { scheme ≡ MIXED → versioning_of text.now ≡ None → result ≡ NO_VERSION }
-    ensures no_scheme { scheme ≢ MIXED → result ≡ NO_SCHEME }
+    ensures set { IfSome (numbered scheme) (λ scheme. IfSome ((rules scheme).read_as text.now)
+        (λ v. IsWritten (form_bytes (scheme_number scheme) (ends_with Equal v)) form.old form.new form_len.new result)) }
+    ensures no_version { IfSome (numbered scheme)
+        (λ scheme. (rules scheme).read_as text.now ≡ None → result ≡ NO_VERSION) }
+    ensures no_scheme { numbered scheme ≡ None → result ≡ NO_SCHEME }
     ensures kept { result ≢ OK → form.new ≡ form.old }
     ensures no_length { result ≢ OK → result ≢ NO_ROOM → form_len.new ≡ form_len.old }
 {
-    if !is_mixed(scheme) {
+    let Some(scheme) = Scheme::of_number(scheme) else {
         return NO_SCHEME;
-    }
-    let Some(version) = VersioningRef::from_bytes(text) else {
+    };
+    let number = scheme.number();
+    by_scheme!(scheme, put_tied(number, text, form, form_len))
+}
+
+// Writes the form of the set of what ties with a version, with a number for its order.
+fn put_tied<'t, V: Keyed<'t>>(
+    order: u8,
+    text: &'t [u8],
+    form: &mut [u8],
+    form_len: &mut usize,
+) -> i32
+    ensures set { IfSome (V.read_as text.now)
+        (λ v. IsWritten (form_bytes order (ends_with Equal v)) form.old form.new form_len.new result) }
+    ensures no_version { V.read_as text.now ≡ None → result ≡ NO_VERSION }
+    ensures kept { result ≢ OK → form.new ≡ form.old }
+    ensures no_length { result ≢ OK → result ≢ NO_ROOM → form_len.new ≡ form_len.old }
+{
+    let Some(version) = V::read(text) else {
         return NO_VERSION;
     };
-    *form_len = write_tied(MIXED, version, form);
+    *form_len = write_tied(order, version, form);
     if *form_len > form.len() {
         return NO_ROOM;
     }

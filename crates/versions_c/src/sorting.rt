@@ -1,12 +1,13 @@
 //! Many texts, sorted by their versions.
 
 ghost use Rattle.std.specs.Prelude.{◌≡◌, ◌≢◌, ◌↔◌, ℕ, ◌<◌, ◌≤◌, ◌+◌, ◌++◌, drop, false, length, map, slice_index, IsTrue};
+ghost use Rattle.std.specs.List.{range_with_len};
 ghost use Rattle.std.specs.List.Sorted.{IsPermutation, IsSorted};
-ghost use Rattle.versions_c.specs.Keys.{all_keys, keys_before, saturated_signed};
+ghost use Rattle.versions_c.specs.Keys.{all_keys, keys_before, saturated_signed, spelled_key};
 ghost use Rattle.versions_c.specs.Written.{room_status};
 ghost use Rattle.versions_c.specs.Offsets.{text_at, AreOffsets};
 ghost use Rattle.version_texts.specs.key.KeyTies.{marked_number};
-ghost use Rattle.versions_c.specs.Sorting.{keyed_cmp, keys_cmp, tied_cmp, AreInOrder, AreSortOffsets, IsMarked};
+ghost use Rattle.versions_c.specs.Sorting.{keyed_cmp, keys_cmp, lying_cmp, tied_cmp, AreInOrder, AreSortOffsets, IsMarked};
 
 use crate::keys::{is_always_room, put_keys};
 use crate::offsets::{are_offsets, text_at};
@@ -25,19 +26,19 @@ pub extern "C" fn versions_sort(
 ) -> i32
     ensures status { AreSortOffsets offsets.now (length texts.now)
         (length key_offsets.old) (length order.old)
-        → result ≡ room_status (all_keys texts.now offsets.now) (length keys.old) }
+        → result ≡ room_status (all_keys spelled_key texts.now offsets.now) (length keys.old) }
     ensures order { result ≡ OK → AreInOrder texts.now offsets.now order.new }
     ensures kept_order { result ≢ OK → order.new ≡ order.old }
 
     // The keys are those of `versions_sort_keys`. Their offsets are reported even if they do not fit.
     ensures keys { result ≡ OK → keys.new
-        ≡ all_keys texts.now offsets.now
-        ++ drop (length (all_keys texts.now offsets.now)) keys.old }
+        ≡ all_keys spelled_key texts.now offsets.now
+        ++ drop (length (all_keys spelled_key texts.now offsets.now)) keys.old }
     ensures offsets { AreSortOffsets offsets.now (length texts.now)
         (length key_offsets.old) (length order.old)
         → (i : ℕ) → i < length offsets.now
         → slice_index key_offsets.new i
-        ≡ saturated_signed (length (keys_before texts.now offsets.now i)) }
+        ≡ saturated_signed (length (keys_before spelled_key texts.now offsets.now i)) }
 
     // Otherwise nothing is written.
     ensures bad { ¬ (AreSortOffsets offsets.now (length texts.now)
@@ -81,13 +82,13 @@ fn put_places(
     requires offsets { AreOffsets offsets.now (length texts.now) (length order.old) }
     requires as_many { length key_offsets.old ≡ length order.old + 1 }
     ensures room { IsTrue result
-        ↔ (length (keys_before texts.now offsets.now (length order.old)) ≤ length keys.old) }
+        ↔ (length (keys_before spelled_key texts.now offsets.now (length order.old)) ≤ length keys.old) }
     ensures keys { IsTrue result → keys.new
-        ≡ keys_before texts.now offsets.now (length order.old)
-        ++ drop (length (keys_before texts.now offsets.now (length order.old))) keys.old }
+        ≡ keys_before spelled_key texts.now offsets.now (length order.old)
+        ++ drop (length (keys_before spelled_key texts.now offsets.now (length order.old))) keys.old }
     ensures key_offsets { (i : ℕ) → i ≤ length order.old
         → slice_index key_offsets.new i
-        ≡ saturated_signed (length (keys_before texts.now offsets.now i)) }
+        ≡ saturated_signed (length (keys_before spelled_key texts.now offsets.now i)) }
     ensures places { IsTrue result → (i : ℕ) → i < length order.old
         → IsMarked texts.now offsets.now i (slice_index order.new i) }
     ensures kept { result ≡ false → order.new ≡ order.old }
@@ -102,12 +103,12 @@ fn put_places(
     put_keys(texts, offsets, count, keys, key_offsets, order)
 }
 
-// Many pieces in one buffer, each from one offset up to the next.
+/// Many pieces in one buffer, each from one offset up to the next.
 #[derive(Clone, Copy)]
-struct Pieces<'a> {
-    bytes: &'a [u8],
-    offsets: &'a [u64],
-    count: usize,
+pub(crate) struct Pieces<'a> {
+    pub(crate) bytes: &'a [u8],
+    pub(crate) offsets: &'a [u64],
+    pub(crate) count: usize,
     ghost fit: { AreOffsets offsets.now (length bytes.now) count },
 }
 
@@ -174,4 +175,40 @@ fn compare_empty_last(a: &[u8], b: &[u8]) -> Ordering
         return a.is_empty().cmp(&b.is_empty());
     }
     compare_bytes(a, b)
+}
+
+/// Writes the places of pieces in their order: empty ones come last, and places of those that are the same rise.
+pub(crate) fn sort_places(keys: &Pieces<'_>, order: &mut [u64])
+    ensures places { IsPermutation (range_with_len 0 (length order.old)) order.new }
+    ensures sorted { IsSorted (lying_cmp keys.now.bytes.now keys.now.offsets.now) order.new }
+{
+    put_places_of(order);
+    sort_by_keys(keys, order);
+}
+
+// Writes each place from 0 on.
+fn put_places_of(order: &mut [u64])
+    ensures { order.new ≡ range_with_len 0 (length order.old) }
+{
+    for place in 0..order.len() {
+        order[place] = place as u64;
+    }
+}
+
+// Sorts places by their keys.
+fn sort_by_keys(keys: &Pieces<'_>, order: &mut [u64])
+    ensures places { IsPermutation order.old order.new }
+    ensures sorted { IsSorted (lying_cmp keys.now.bytes.now keys.now.offsets.now) order.new }
+{
+    order.sort_unstable_by(|a, b| compare_places(keys, *a, *b));
+}
+
+// Compares two places by their keys, then as numbers.
+fn compare_places(keys: &Pieces<'_>, a: u64, b: u64) -> Ordering
+    ensures { result ≡ lying_cmp keys.now.bytes.now keys.now.offsets.now a b }
+{
+    match compare_empty_last(keys.at(a), keys.at(b)) {
+        Ordering::Equal => a.cmp(&b),
+        order => order,
+    }
 }

@@ -1,4 +1,5 @@
 -- Places in the order of the keys that lie there, and in the order of their texts.
+pub mod ByKeys
 pub mod OneOrder
 use Rattle.std.proofs.Common.{◌≡◌, ◌∙◌, ℕ, ◌+◌, ◌-◌, ◌<◌, ◌≤◌, ◌^◌, ◌==◌, zero, suc, false, List, [], ◌++◌, length, take, drop, get_or, map, Option, Some, None, refl, sym, ap, arith, append-nil, append_assoc, length-append}
 use Rattle.std.proofs.Math.Dec.{eqb}
@@ -42,7 +43,7 @@ pub counted : (xs : List ℕ) (n : ℕ) → length xs ≡ n → ((i : ℕ) → i
 counted xs n long each = fill_by_all (λ i. i) xs n 0 long each ∙ map-id (range_with_len 0 n)
 
 -- the order by keys is total
-keys_total : IsTotalOrder keys_cmp
+pub keys_total : IsTotalOrder keys_cmp
 keys_total = then_total
     (on_total (λ (key : List ℕ). length key == 0) bool_cmp_total) nat_list_cmp_total
 
@@ -78,49 +79,6 @@ keyed_ranks texts offsets keys key_offsets =
 abbrev pub key_or_nothing : Option PlainVersioning → List ℕ
 key_or_nothing spelled = unwrap_or (option_map (λ v. key_bytes (key_of v)) spelled) []
 
--- the keys of all texts begin with those of the first ones
-keys_begin : (texts offsets : List ℕ) (i k : ℕ)
-    → (more : List ℕ) × (keys_before texts offsets (k + i) ≡ keys_before texts offsets i ++ more)
-keys_begin texts offsets i zero =
-    let none : 0 + i ≡ i = omega arith in
-    ([], ap (keys_before texts offsets) none ∙ sym (append-nil (keys_before texts offsets i)))
-keys_begin texts offsets i (suc k) =
-    let shorter = keys_begin texts offsets i k in
-    let next = key_or_nothing (versioning_of (text_at texts offsets (k + i))) in
-    let one_more : suc k + i ≡ suc (k + i) = omega arith in (
-      shorter.0 ++ next,
-      ap (keys_before texts offsets) one_more
-          ∙ ap (λ (l : List ℕ). l ++ next) shorter.1
-          ∙ append_assoc (keys_before texts offsets i) shorter.0 next,
-    )
-
--- the offsets of keys that fit are offsets in their buffer
-pub are_key_offsets : (texts offsets told : List ℕ) (room count : ℕ) → length told ≡ count + 1
-    → length (keys_before texts offsets count) ≤ room
-    → ((i : ℕ) → i ≤ count
-    → get_or told i 0 ≡ saturated_signed (length (keys_before texts offsets i)))
-    → AreOffsets told room count
-are_key_offsets texts offsets told room count many fits each =
-    record {
-      one_more = many;
-      ascending = λ i j d low inside.
-          let more = keys_begin texts offsets i (j - i) in
-          let up_to : j - i + i ≡ j = omega (arith, low) in
-          let longer : length (keys_before texts offsets j)
-          ≡ length (keys_before texts offsets i) + length more.0 =
-          ap (λ k. length (keys_before texts offsets k)) (sym up_to) ∙ ap length more.1
-          ∙ length-append (keys_before texts offsets i) more.0 in
-          omega (
-            arith,
-            longer,
-            each i (omega (arith, low, inside, many)),
-            each j (omega (arith, inside, many)),
-            get_or_default_zero told i d (omega (arith, low, inside)),
-            get_or_default_zero told j d inside,
-          );
-      within = omega (arith, each count (omega arith), fits);
-    }
-
 -- the list between two lists
 between_two : (before key more : List ℕ) (start end : ℕ) → start ≡ length before
     → end ≡ length before + length key
@@ -130,46 +88,90 @@ between_two before key more start end begins ends =
     rw (count, begins)
     (ap (take (length key)) (drop-append_seam before (key ++ more)) ∙ take-append_seam key more)
 
--- the key of each text lies where the offsets of keys say
-pub key_lies : (texts offsets keys key_offsets rest : List ℕ) (count : ℕ)
-    → keys ≡ keys_before texts offsets count ++ rest
-    → length (keys_before texts offsets count) < 2 ^ 63
-    → ((i : ℕ) → i ≤ count
-    → get_or key_offsets i 0 ≡ saturated_signed (length (keys_before texts offsets i)))
-    → (i : ℕ) → i < count
-    → text_at keys key_offsets i ≡ key_or_nothing (versioning_of (text_at texts offsets i))
-key_lies texts offsets keys key_offsets rest count written small told i below =
-    let before = keys_before texts offsets i in
-    let key = key_or_nothing (versioning_of (text_at texts offsets i)) in
-    let one_more : i + 1 ≡ suc i = omega arith in
-    let next : keys_before texts offsets (i + 1) ≡ before ++ key =
-    ap (keys_before texts offsets) one_more in
-    let behind = keys_begin texts offsets (i + 1) (count - (i + 1)) in
-    let up_to : count - (i + 1) + (i + 1) ≡ count = omega (arith, below) in
-    let all : keys_before texts offsets count ≡ (before ++ key) ++ behind.0 =
-    ap (keys_before texts offsets) (sym up_to) ∙ behind.1
-    ∙ ap (λ (l : List ℕ). l ++ behind.0) next in
-    let stands : keys ≡ before ++ (key ++ (behind.0 ++ rest)) =
-    written ∙ ap (λ (l : List ℕ). l ++ rest) all ∙ append_assoc (before ++ key) behind.0 rest
-    ∙ append_assoc before key (behind.0 ++ rest) in
-    let long : length (keys_before texts offsets count)
-    ≡ length before + length key + length behind.0 =
-    ap length all ∙ length-append (before ++ key) behind.0
-    ∙ ap (λ n. n + length behind.0) (length-append before key) in
-    let start : get_or key_offsets i 0 ≡ length before =
-    omega (arith, told i (omega (arith, below)), long, small) in
-    let end : get_or key_offsets (i + 1) 0 ≡ length before + length key =
-    omega (
-      arith,
-      told (i + 1) (omega (arith, below)),
-      ap length next,
-      length-append before key,
-      long,
-      small,
-    ) in
-    ap (λ (l : List ℕ). text_at l key_offsets i) stands
-    ∙ between_two before key (behind.0 ++ rest) (get_or key_offsets i 0)
-    (get_or key_offsets (i + 1) 0) start end
+module _ (key_of : List ℕ → Option (List ℕ)) where
+  -- the keys of all texts begin with those of the first ones
+  keys_begin : (texts offsets : List ℕ) (i k : ℕ)
+      → (more : List ℕ) × (keys_before key_of texts offsets (k + i) ≡ keys_before key_of texts offsets i ++ more)
+  keys_begin texts offsets i zero =
+      let none : 0 + i ≡ i = omega arith in
+      ([], ap (keys_before key_of texts offsets) none ∙ sym (append-nil (keys_before key_of texts offsets i)))
+  keys_begin texts offsets i (suc k) =
+      let shorter = keys_begin texts offsets i k in
+      let next = unwrap_or (key_of (text_at texts offsets (k + i))) [] in
+      let one_more : suc k + i ≡ suc (k + i) = omega arith in (
+        shorter.0 ++ next,
+        ap (keys_before key_of texts offsets) one_more
+            ∙ ap (λ (l : List ℕ). l ++ next) shorter.1
+            ∙ append_assoc (keys_before key_of texts offsets i) shorter.0 next,
+      )
+
+  -- the offsets of keys that fit are offsets in their buffer
+  pub are_key_offsets : (texts offsets told : List ℕ) (room count : ℕ) → length told ≡ count + 1
+      → length (keys_before key_of texts offsets count) ≤ room
+      → ((i : ℕ) → i ≤ count
+      → get_or told i 0 ≡ saturated_signed (length (keys_before key_of texts offsets i)))
+      → AreOffsets told room count
+  are_key_offsets texts offsets told room count many fits each =
+      record {
+        one_more = many;
+        ascending = λ i j d low inside.
+            let more = keys_begin texts offsets i (j - i) in
+            let up_to : j - i + i ≡ j = omega (arith, low) in
+            let longer : length (keys_before key_of texts offsets j)
+            ≡ length (keys_before key_of texts offsets i) + length more.0 =
+            ap (λ k. length (keys_before key_of texts offsets k)) (sym up_to) ∙ ap length more.1
+            ∙ length-append (keys_before key_of texts offsets i) more.0 in
+            omega (
+              arith,
+              longer,
+              each i (omega (arith, low, inside, many)),
+              each j (omega (arith, inside, many)),
+              get_or_default_zero told i d (omega (arith, low, inside)),
+              get_or_default_zero told j d inside,
+            );
+        within = omega (arith, each count (omega arith), fits);
+      }
+
+  -- the key of each text lies where the offsets of keys say
+  pub key_lies : (texts offsets keys key_offsets rest : List ℕ) (count : ℕ)
+      → keys ≡ keys_before key_of texts offsets count ++ rest
+      → length (keys_before key_of texts offsets count) < 2 ^ 63
+      → ((i : ℕ) → i ≤ count
+      → get_or key_offsets i 0 ≡ saturated_signed (length (keys_before key_of texts offsets i)))
+      → (i : ℕ) → i < count
+      → text_at keys key_offsets i ≡ unwrap_or (key_of (text_at texts offsets i)) []
+  key_lies texts offsets keys key_offsets rest count written small told i below =
+      let before = keys_before key_of texts offsets i in
+      let key = unwrap_or (key_of (text_at texts offsets i)) [] in
+      let one_more : i + 1 ≡ suc i = omega arith in
+      let next : keys_before key_of texts offsets (i + 1) ≡ before ++ key =
+      ap (keys_before key_of texts offsets) one_more in
+      let behind = keys_begin texts offsets (i + 1) (count - (i + 1)) in
+      let up_to : count - (i + 1) + (i + 1) ≡ count = omega (arith, below) in
+      let all : keys_before key_of texts offsets count ≡ (before ++ key) ++ behind.0 =
+      ap (keys_before key_of texts offsets) (sym up_to) ∙ behind.1
+      ∙ ap (λ (l : List ℕ). l ++ behind.0) next in
+      let stands : keys ≡ before ++ (key ++ (behind.0 ++ rest)) =
+      written ∙ ap (λ (l : List ℕ). l ++ rest) all ∙ append_assoc (before ++ key) behind.0 rest
+      ∙ append_assoc before key (behind.0 ++ rest) in
+      let long : length (keys_before key_of texts offsets count)
+      ≡ length before + length key + length behind.0 =
+      ap length all ∙ length-append (before ++ key) behind.0
+      ∙ ap (λ n. n + length behind.0) (length-append before key) in
+      let start : get_or key_offsets i 0 ≡ length before =
+      omega (arith, told i (omega (arith, below)), long, small) in
+      let end : get_or key_offsets (i + 1) 0 ≡ length before + length key =
+      omega (
+        arith,
+        told (i + 1) (omega (arith, below)),
+        ap length next,
+        length-append before key,
+        long,
+        small,
+      ) in
+      ap (λ (l : List ℕ). text_at l key_offsets i) stands
+      ∙ between_two before key (behind.0 ++ rest) (get_or key_offsets i 0)
+      (get_or key_offsets (i + 1) 0) start end
 
 -- ---- the order by keys is that of the texts
 
@@ -224,7 +226,7 @@ range_distinct n =
       nat_tests,
     )
 
-places_differ : (order : List ℕ) (n : ℕ) → IsPermutation (range_with_len 0 n) order → (k : ℕ)
+pub places_differ : (order : List ℕ) (n : ℕ) → IsPermutation (range_with_len 0 n) order → (k : ℕ)
     → k + 1 < length order → ¬ (get_or order k 0 ≡ get_or order (k + 1) 0)
 places_differ order n permutes k inside =
     eqb-false _ _
@@ -233,7 +235,7 @@ places_differ order n permutes k inside =
     (range_distinct n)) (omega arith) inside)
 
 -- a place that is neither above nor Equal is below
-below : (o : Ordering) → is_lt (ordering_reverse o) ≡ false → ¬ (o ≡ Equal) → o ≡ Less
+pub below : (o : Ordering) → is_lt (ordering_reverse o) ≡ false → ¬ (o ≡ Equal) → o ≡ Less
 below Less above other = refl
 below Equal above other = absurd (other refl)
 below Greater above other = cc above

@@ -5,7 +5,7 @@ use Rattle.version_rules.specs.key.Key.{key_of}
 use Rattle.version_rules.specs.key.KeyBytes.{key_bytes}
 use Rattle.version_texts.specs.versioning_ref.VersioningRef.{plain_versioning_ref}
 use Rattle.version_texts.specs.key.Sinks.{put_nothing}
-use Rattle.versions_c.specs.Keys.{keys_before}
+use Rattle.versions_c.specs.Keys.{keys_before, spelled_key}
 use Rattle.versions_c.specs.Offsets.{text_at}
 use Rattle.version_rules.specs.grammar.Kind.{versioning_kind}
 use Rattle.version_rules.specs.grammar.Versioning.{versioning_of}
@@ -20,7 +20,7 @@ loop-place-init c = record {
     ended = refl;
     written = λ fits. sym (put_nothing c.args.keys.now 0);
   };
-  told = first_told c.args.texts.now c.args.offsets.now c.args.key_offsets.now
+  told = first_told spelled_key c.args.texts.now c.args.offsets.now c.args.key_offsets.now
       (omega (arith, c.requires.room));
   marked = λ i below inside. absurd (omega (arith, below));
 }
@@ -31,11 +31,11 @@ loop-place-preserved c =
     let offsets = c.args.offsets.now in
     let i = c.loop-place.place in
     let before = c.loop-place.invariant in
-    let put : ArePut c.args.keys.now (keys_before texts offsets (i + 1)) c.match-from_bytes.end
+    let put : ArePut c.args.keys.now (keys_before spelled_key texts offsets (i + 1)) c.match-from_bytes.end
     c.match-from_bytes.keys =
     elim c.match-from_bytes.branch [
       | in-Some w ↦
-          one_more_key texts offsets c.args.keys.now i c.text_at.result.now
+          one_more_key spelled_key texts offsets c.args.keys.now i c.text_at.result.now
           (key_bytes (key_of (plain_versioning_ref w.in-Some.version))) c.loop-place.keys
           c.match-from_bytes.keys c.loop-place.end c.match-from_bytes.end
           (omega arith) c.text_at.ensures
@@ -43,7 +43,7 @@ loop-place-preserved c =
           (w.end-is ∙ w.write_key-end.ensures.end) (rw w.keys-is w.write_key-end.ensures.bytes)
           c.loop-place.auto.keys
       | in_default w ↦
-          no_more_key texts offsets c.args.keys.now i c.text_at.result.now c.match-from_bytes.keys
+          no_more_key spelled_key texts offsets c.args.keys.now i c.text_at.result.now c.match-from_bytes.keys
           c.match-from_bytes.end c.text_at.ensures
           (ap (option_map (λ v. key_bytes (key_of v))) w.in_default.ensures)
           (rw (w.end-is, w.keys-is) before.put)
@@ -75,7 +75,7 @@ loop-place-preserved c =
             rw w.places-is (before.marked j (omega (arith, in_all, w.if-place-places.false)) in_all)
       ];
       put = put;
-      told = next_told texts offsets c.loop-place.key_offsets i c.min.result
+      told = next_told spelled_key texts offsets c.loop-place.key_offsets i c.min.result
           (omega (arith, length-set c.args.key_offsets.now 0 0)) before.told
           (omega (arith, put.ended, c.min.ensures));
     }

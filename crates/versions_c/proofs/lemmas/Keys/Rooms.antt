@@ -22,7 +22,7 @@ key_within text = by (versioning_of text) refl
 -- 3 bytes for each byte of the texts, and 5 for each text
 pub all_within : (texts offsets : List ℕ) (count : ℕ) → AreOffsets offsets (length texts) count
     → (i : ℕ) → i ≤ count
-    → length (keys_before texts offsets i) + 3 * get_or offsets 0 0 ≤ 3 * get_or offsets i 0 + 5 * i
+    → length (keys_before spelled_key texts offsets i) + 3 * get_or offsets 0 0 ≤ 3 * get_or offsets i 0 + 5 * i
 all_within texts offsets count are zero low = omega arith
 all_within texts offsets count are (suc i) low =
     let start = get_or offsets i 0 in
@@ -38,5 +38,5 @@ all_within texts offsets count are (suc i) low =
       up,
       length-take (get_or offsets (i + 1) 0 - start) (drop start texts),
       key_within text,
-      length-append (keys_before texts offsets i) (unwrap_or (spelled_key text) []),
+      length-append (keys_before spelled_key texts offsets i) (unwrap_or (spelled_key text) []),
     )

@@ -1,5 +1,5 @@
 use Rattle.std.proofs.Common.{◌≤◌, length, arith}
-use Rattle.versions_c.specs.Keys.{keys_before}
+use Rattle.versions_c.specs.Keys.{keys_before, spelled_key}
 use Rattle.versions_c.specs.Offsets.{AreOffsets}
 use Rattle.versions_c.proofs.lemmas.Sorting.{are_key_offsets, in_order, key_lies}
 use Rattle.versions_c.proofs.sorting.versions_sort.Goals as goal
@@ -11,10 +11,10 @@ invariant_of-keys c =
     let count = length c.args.order.now in
     let are : AreOffsets offsets (length texts) count =
     c.are_offsets.ensures.0 c.if-not-are_offsets.false in
-    let fits : length (keys_before texts offsets count) ≤ length c.args.keys.now =
+    let fits : length (keys_before spelled_key texts offsets count) ≤ length c.args.keys.now =
     c.put_places.ensures.room.0 c.if-not-put_places.false in
     record {
-      fit = are_key_offsets texts offsets c.put_places.new.key_offsets
+      fit = are_key_offsets spelled_key texts offsets c.put_places.new.key_offsets
           (length c.put_places.new.keys) count
           (omega (
             arith,
@@ -32,9 +32,9 @@ returns-clause-order c = λ ok.
     let count = length c.args.order.now in
     let are : AreOffsets offsets (length texts) count =
     c.are_offsets.ensures.0 c.if-not-are_offsets.false in
-    let fits : length (keys_before texts offsets count) ≤ length c.args.keys.now =
+    let fits : length (keys_before spelled_key texts offsets count) ≤ length c.args.keys.now =
     c.put_places.ensures.room.0 c.if-not-put_places.false in
-    let lies = key_lies texts offsets c.put_places.new.keys c.put_places.new.key_offsets _ count
+    let lies = key_lies spelled_key texts offsets c.put_places.new.keys c.put_places.new.key_offsets _ count
     (c.put_places.ensures.keys c.if-not-put_places.false)
     (omega (arith, fits)) c.put_places.ensures.key_offsets in
     rw c.remove_marks.ensures

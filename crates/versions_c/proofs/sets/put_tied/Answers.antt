@@ -2,26 +2,24 @@ use Rattle.std.proofs.Common.{◌<◌, ◌^◌, arith, length, subst}
 use Rattle.std.specs.Option.{IfSome}
 use Rattle.version_sets.specs.Comparison.{ends_with}
 use Rattle.version_sets.specs.Form.{form_bytes}
-use Rattle.version_sets.specs.declared.TheConstants.{MIXED}
 use Rattle.version_sets.specs.declared.read.comparison.Comparison.TheVariants.{Equal}
-use Rattle.version_texts.specs.keyed.Mixed.{mixed}
 use Rattle.versions_c.specs.Written.{IsWritten}
 use Rattle.versions_c.specs.declared.status.TheConstants.{NO_ROOM, OK}
 use Rattle.versions_c.proofs.lemmas.Written.{fitting, too_long}
-use Rattle.versions_c.proofs.sets.versions_set_of_version.Goals as goal
+use Rattle.versions_c.proofs.sets.put_tied.Goals as goal
 
 pub returns-clause-set : goal.returns-clause-set
-returns-clause-set c is =
+returns-clause-set g c =
     let small : length c.args.form.now < 2 ^ 63 = omega arith in
     let written = fitting _ _ _ _ c.write_tied.ensures.length small c.write_tied.ensures.bytes
     (omega (arith, c.if-form_len-form.false, c.write_tied.auto.room)) in
-    subst (λ spelled. IfSome spelled (λ v. IsWritten (form_bytes MIXED (ends_with Equal (mixed v))) c.args.form.now
+    subst (λ read. IfSome read (λ v. IsWritten (form_bytes c.args.order (ends_with Equal v)) c.args.form.now
     c.write_tied.new.room c.write_tied.result OK)) c.in-Some.ensures written
 
 pub returns-then-form_len-form-clause-set : goal.returns-then-form_len-form-clause-set
-returns-then-form_len-form-clause-set c is =
+returns-then-form_len-form-clause-set g c =
     let small : length c.args.form.now < 2 ^ 63 = omega arith in
     let written = too_long _ _ _ _ c.write_tied.ensures.length small c.write_tied.ensures.bytes
     (omega (arith, c.if-form_len-form.true, c.write_tied.auto.room)) in
-    subst (λ spelled. IfSome spelled (λ v. IsWritten (form_bytes MIXED (ends_with Equal (mixed v))) c.args.form.now
+    subst (λ read. IfSome read (λ v. IsWritten (form_bytes c.args.order (ends_with Equal v)) c.args.form.now
     c.write_tied.new.room c.write_tied.result NO_ROOM)) c.in-Some.ensures written

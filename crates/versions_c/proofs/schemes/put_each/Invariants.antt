@@ -1,0 +1,12 @@
+use Rattle.std.proofs.Common.{◌≡◌, ◌≤◌, ℕ, length, slice_index}
+use Rattle.versions_c.specs.Keys.{keys_before, saturated_signed}
+use Rattle.versions_c.specs.Schemes.{key_by}
+use Rattle.versions_c.proofs.lemmas.Keys.Putting.{ArePut}
+use Rattle.versions_c.proofs.schemes.put_each.Given as goal
+
+abbrev pub invariant-loop-place : goal.invariant-loop-place
+invariant-loop-place g l = record {
+  put : ArePut l.fn.keys (keys_before (key_by g.V.Keyed.read_as) l.texts l.offsets l.place) l.end l.keys;
+  told : (i : ℕ) → i ≤ l.place → slice_index l.key_offsets i
+      ≡ saturated_signed (length (keys_before (key_by g.V.Keyed.read_as) l.texts l.offsets i));
+}
