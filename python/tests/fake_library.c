@@ -14,10 +14,25 @@ size_t fake_bound_len = 4; /* of both bounds: zeros, and bytes 255 */
 uint32_t fake_flags = VERSIONS_RANGE_GENERAL | VERSIONS_RANGE_HIGH;
 size_t fake_room = 0, fake_form_len = 0; /* what room a set asks for, and what its form takes of it: bytes 7 */
 size_t fake_place = 0;                   /* of what is wrong with a set */
+size_t fake_key_bound = 0;               /* of each text */
+int fake_meets = VERSIONS_OK;            /* of two sets */
 
 const char *versions_version(void) { return "9.9.9"; }
 
 int stand_in(const char *text, size_t text_len) { return fake_status; }
+
+/* There are two schemes, whose names have five and three letters. There is none of four. */
+int versions_scheme_name(uint32_t scheme, char *name, size_t room, size_t *name_len) {
+  if (scheme > VERSIONS_DEB) return fake_status == VERSIONS_OK ? VERSIONS_NO_SCHEME : fake_status;
+  *name_len = scheme == VERSIONS_DEB ? 3 : 5;
+  memcpy(name, scheme == VERSIONS_DEB ? "deb" : "mixed", *name_len);
+  return VERSIONS_OK;
+}
+
+int versions_scheme(const char *name, size_t name_len, uint32_t *scheme) {
+  *scheme = name_len == 3 ? VERSIONS_DEB : VERSIONS_MIXED;
+  return name_len == 4 ? VERSIONS_NO_SCHEME : name_len == 3 || name_len == 5 ? VERSIONS_OK : fake_status;
+}
 
 int versions_sort_key(const char *text, size_t text_len, uint8_t *key, size_t room, size_t *key_len) {
   *key_len = 5;
@@ -27,6 +42,32 @@ int versions_sort_key(const char *text, size_t text_len, uint8_t *key, size_t ro
 int versions_parse(const char *text, size_t text_len, uint8_t *kind, uint8_t *key, size_t room, size_t *key_len) {
   if (fake_status == VERSIONS_OK) *kind = VERSIONS_GENERAL, memset(key, 1, 5);
   return versions_sort_key(text, text_len, key, room, key_len);
+}
+
+int versions_scheme_key(uint32_t scheme, const char *text, size_t text_len, uint8_t *key, size_t room,
+                        size_t *key_len) {
+  if (fake_status == VERSIONS_OK) memset(key, (int)scheme, 5);
+  return versions_sort_key(text, text_len, key, room, key_len);
+}
+
+int versions_scheme_key_bound(uint32_t scheme, size_t text_len, size_t *bound) {
+  *bound = fake_key_bound;
+  return fake_status == VERSIONS_NO_ROOM ? VERSIONS_OK : fake_status;
+}
+
+/* Each key takes its bound: bytes 8. */
+int versions_sort_keys(const char *texts, size_t texts_len, const int64_t *offsets, size_t offsets_len, uint8_t *keys,
+                       size_t room, int64_t *key_offsets, size_t key_offsets_len) {
+  size_t place;
+  if (fake_status != VERSIONS_OK || room != fake_key_bound * (offsets_len - 1)) return VERSIONS_NO_ROOM;
+  memset(keys, 8, room);
+  for (place = 0; place < offsets_len; place++) key_offsets[place] = (int64_t)(place * fake_key_bound);
+  return VERSIONS_OK;
+}
+
+int versions_scheme_keys(uint32_t scheme, const char *texts, size_t texts_len, const int64_t *offsets,
+                         size_t offsets_len, uint8_t *keys, size_t room, int64_t *key_offsets, size_t key_offsets_len) {
+  return versions_sort_keys(texts, texts_len, offsets, offsets_len, keys, room, key_offsets, key_offsets_len);
 }
 
 int versions_range(const char *list, size_t list_len, uint8_t *low, size_t low_room, size_t *low_len, uint8_t *high,
@@ -75,14 +116,19 @@ int versions_in_range_all(const char *texts, size_t texts_len, const int64_t *of
 
 int versions_set_bound(uint32_t scheme, const char *text, size_t text_len, size_t *bound) {
   *bound = fake_room;
+  if (scheme > VERSIONS_DEB) return VERSIONS_NO_SCHEME;
   return fake_status == VERSIONS_NO_SET ? VERSIONS_OK : fake_status;
 }
 
 int versions_set(uint32_t scheme, const char *text, size_t text_len, uint8_t *form, size_t room, size_t *form_len) {
-  if (scheme != VERSIONS_MIXED || room != fake_room) return VERSIONS_NO_ROOM;
+  if (room != fake_room) return VERSIONS_NO_ROOM;
   memset(form, 7, fake_form_len);
   *form_len = fake_form_len;
   return fake_status;
+}
+
+int versions_set_meets(const uint8_t *one, size_t one_len, const uint8_t *other, size_t other_len, bool *meet) {
+  return fake_status == VERSIONS_OK ? fake_meets : fake_status;
 }
 
 int versions_set_wrong(uint32_t scheme, const char *text, size_t text_len, size_t *place, uint32_t *reason) {

@@ -135,7 +135,8 @@ class One(unittest.TestCase):
         for wrong in ((), ("1",), ("1", "2", "3")):
             self.assertRaises(TypeError, versions.compare, *wrong)
         texts = ("kinds", "(texts)"), ("match_all", "(requirement, texts)")
-        for function, names in (("kind", "(text)"), ("compare", "(a, b)"), *texts):
+        one = ("kind", "(text)"), ("compare", "(a, b, *, scheme='mixed')"), ("compare_total", "(a, b)")
+        for function, names in (*one, *texts):
             self.assertEqual(str(inspect.signature(getattr(versions, function))), names)
 
     def test_a_subclass_of_str_is_its_text(self):
@@ -469,7 +470,7 @@ class Sorted(unittest.TestCase):
         for wrong in (None, True, b"last"):
             self.assertRaises(TypeError, versions.sorted, ["1"], invalid=wrong)
         self.assertRaises(TypeError, versions.sorted, ["1"], True)
-        signature = "(texts, *, key=None, reverse=False, invalid='raise')"
+        signature = "(texts, *, key=None, reverse=False, invalid='raise', scheme='mixed')"
         self.assertEqual(str(inspect.signature(versions.sorted)), signature)
 
     def test_is_not_among_the_names_of_a_star(self):
@@ -606,6 +607,11 @@ class Threads(unittest.TestCase):
             "in_tags": lambda: versions.in_tags(many),
             "newest": lambda: versions.newest(many),
             "sorted": lambda: versions.sorted(many),
+            "Version in deb": lambda: versions.Version(long, scheme="deb"),
+            "compare in deb": lambda: versions.compare(long, long, scheme="deb"),
+            "sort_keys in deb": lambda: versions.sort_keys(many, scheme="deb"),
+            "newest in deb": lambda: versions.newest(many, scheme="deb"),
+            "sorted in deb": lambda: versions.sorted(many, scheme="deb"),
         }
         # Only letting the lock go passes it on: the interpreter takes it from no thread for as long as this.
         interval = sys.getswitchinterval()

@@ -8,6 +8,7 @@ import copy
 import ctypes
 import gc
 import importlib.util
+import itertools
 import operator
 import os
 import pickle
@@ -40,8 +41,8 @@ class FakeLibrary(WithFolder):
         cls.shared = ctypes.CDLL(cls.path)
 
     def setUp(self):
-        self.set(status=0, number=0)
-        self.set(type=ctypes.c_size_t, bound_len=4, room=0, form_len=0, place=0)
+        self.set(status=0, number=0, meets=0)
+        self.set(type=ctypes.c_size_t, bound_len=4, room=0, form_len=0, place=0, key_bound=0)
 
     def set(self, type=ctypes.c_int, **values):
         for name, value in values.items():
@@ -59,6 +60,7 @@ class FakeLibrary(WithFolder):
     def test_statuses_that_no_call_should_return(self):
         module = self.load()
         version, wanted, made = module.Keyed("1.2"), module.Ranged("*"), module.Formed("*")
+        made_of_deb = module.Formed("*", scheme="deb")
         self.set(status=99)
         calls = {
             "kind": lambda: module.kind("1"),
@@ -95,10 +97,23 @@ class FakeLibrary(WithFolder):
             "match_all": lambda: module.match_all(wanted, ["1"]),
             "match_all of a text": lambda: module.match_all("*", ["1"]),
             "sorted": lambda: module.sorted(["1"]),
+            "a scheme": lambda: module.sort_key("1", scheme="any"[:1]),
+            "sort_key in deb": lambda: module.sort_key("1", scheme="deb"),
+            "Keyed in deb": lambda: module.Keyed("1", scheme="deb"),
+            "compare in deb": lambda: module.compare("1", "2", scheme="deb"),
+            "sort_keys in deb": lambda: module.sort_keys(["1"], scheme="deb"),
+            "sorted in deb": lambda: module.sorted(["1"], scheme="deb"),
+            "newest in deb": lambda: module.newest(["1"], scheme="deb"),
+            "newest in deb in a set": lambda: module.newest(["1"], made_of_deb, scheme="deb"),
+            "Formed in deb": lambda: module.Formed("*", scheme="deb"),
+            "Formed.of in deb": lambda: module.Formed.of("1", scheme="deb"),
+            "in a set in deb": lambda: "1" in made_of_deb,
+            "wrong_set in deb": lambda: module.wrong_set("1", "deb"),
+            "the names of schemes": self.load,
             "Formed": lambda: module.Formed("*"),
             "Formed.of": lambda: module.Formed.of("1"),
             "Formed of a form": lambda: module.Formed._of_form(b"form", None, None),
-            "wrong_set": lambda: module.wrong_set("1"),
+            "wrong_set": lambda: module.wrong_set("1", "mixed"),
             "in a set": lambda: "1" in made,
             "bool of a set": lambda: bool(made),
             "intervals": lambda: made.intervals,
@@ -119,7 +134,9 @@ class FakeLibrary(WithFolder):
                 with self.subTest(name):
                     self.assertRaisesRegex(RuntimeError, f"returned status {status}$", call)
         self.set(status=7)
-        self.assertRaisesRegex(RuntimeError, "returned status 7$", module.sort_key, "1")
+        for named in ({}, {"scheme": "deb"}):
+            self.assertRaisesRegex(RuntimeError, "returned status 7$", lambda: module.sort_key("1", **named))
+            self.assertRaisesRegex(RuntimeError, "returned status 7$", lambda: module.sort_keys(["1"], **named))
         self.assertRaisesRegex(RuntimeError, "returned status 7$", module.next, "1", 0)
         self.set(type=ctypes.c_size_t, bound_len=600)
         self.assertRaisesRegex(RuntimeError, "returned status 7$", module.Ranged, "*")
@@ -141,9 +158,9 @@ class FakeLibrary(WithFolder):
         text = "a\tö\ud800\U0001f600z"
         for place in range(len(text) + 1):
             self.set(type=ctypes.c_size_t, place=len(text[:place].encode("utf-8", "surrogatepass")))
-            self.assertEqual(module.wrong_set(text), (place, "!" * 100))
+            self.assertEqual(module.wrong_set(text, "mixed"), (place, "!" * 100))
         self.set(status=12)
-        self.assertIsNone(module.wrong_set(text))
+        self.assertIsNone(module.wrong_set(text, "deb"))
 
     def test_statuses_of_sets(self):
         module = self.load()
@@ -152,6 +169,34 @@ class FakeLibrary(WithFolder):
             self.assertRaisesRegex(ValueError, "not the form of a set", module.Formed._of_form, b"", None, None)
         self.set(status=18)
         self.assertRaises(versions.InvalidVersionSet, module.Formed, "*")
+
+    def test_the_scheme_of_a_form(self):
+        module = self.load()
+        for status in (99, -10):
+            self.set(meets=status)
+            self.assertRaisesRegex(RuntimeError, f"returned status {status}$", module.Formed._of_form, b"", None, None)
+        # Of another scheme than each that there is
+        self.set(meets=21)
+        self.assertRaisesRegex(RuntimeError, "returned status 20$", module.Formed._of_form, b"", None, None)
+
+    def test_the_names_of_schemes(self):
+        module = self.load()
+        self.assertEqual(module.SCHEMES, ("mixed", "deb"))
+        words = "a scheme is one of mixed, deb, and this is 'none'$"
+        self.assertRaisesRegex(ValueError, words, lambda: module.sort_key("1", scheme="none"))
+        self.assertEqual([module.Keyed("1", scheme=name).scheme for name in module.SCHEMES], ["mixed", "deb"])
+
+    def test_keys_take_the_room_that_the_library_asks_for(self):
+        module = self.load()
+        for scheme, bound in itertools.product(("mixed", "deb"), (0, 1, 9, 100_000)):
+            self.set(type=ctypes.c_size_t, key_bound=bound)
+            keys = module.sort_keys(["1", "", "22"], scheme=scheme)
+            self.assertEqual(keys, [b"\b" * bound or None] * 3)
+            self.assertEqual(module.newest(["1"], scheme="deb"), "1" if bound else None)
+        for bound in (2**64 - 1, 2**63, 2**63 - 1, 2**62):
+            self.set(type=ctypes.c_size_t, key_bound=bound)
+            for call in (module.sort_keys, module.sorted, module.newest):
+                self.assertRaises(MemoryError, lambda: call(["1", "2"], scheme="deb"))
 
     def test_bounds_that_need_more_room(self):
         module = self.load()
@@ -192,7 +237,7 @@ class Odd:
         return "odd"
 
 
-LONG = "1_" * 2000 + "1"
+LONG, LONG_DEB = "1_" * 2000 + "1", "1." * 2000 + "1~rc1"
 MINE = type("Mine", (versions.Version,), {})
 WANTED, STRICT = versions.Requirement("^1.2"), versions.Requirement("^1.2.3")
 
@@ -202,6 +247,7 @@ EPOCH = versions.Version("1:2.7777-3")
 library = versions._library
 SET, OTHER_SET = versions.VersionSet("^1.2 || =3"), versions.VersionSet("<1.5")
 MINE_SET = type("MineSet", (versions.VersionSet,), {})
+DEB, DEB_SET = versions.Version("1:1.0~rc1-1", scheme="deb"), versions.VersionSet("<1.0 || >=2", scheme="deb")
 LONG_SET = versions.VersionSet(f">={LONG}")
 
 # Functions of the extension and what they are called with. They are called without a function of Python between: one
@@ -333,10 +379,11 @@ CALLS = {
     "VersionSet of no form": partial(versions.VersionSet._of_form, SET._form[:-1], None, None),
     "VersionSet of no bytes": partial(versions.VersionSet._of_form, "text", None, None),
     "VersionSet of a form and no text": partial(versions.VersionSet._of_form, SET._form, 3, None),
-    "wrong_set": partial(library.wrong_set, ">=1.2, 2"),
-    "wrong_set of a surrogate": partial(library.wrong_set, ">=1.2, \ud800é"),
-    "wrong_set of a set": partial(library.wrong_set, ">=1.2"),
-    "wrong_set of no text": partial(library.wrong_set, 3),
+    "wrong_set": partial(library.wrong_set, ">=1.2, 2", "mixed"),
+    "wrong_set of a surrogate": partial(library.wrong_set, ">=1.2, \ud800é", "deb"),
+    "wrong_set of a set": partial(library.wrong_set, ">=1.2", "mixed"),
+    "wrong_set of no text": partial(library.wrong_set, 3, "mixed"),
+    "wrong_set in no scheme": partial(library.wrong_set, ">=1.2", "dpkg"),
     "and": partial(operator.and_, SET, OTHER_SET),
     "and of a subclass": partial(operator.and_, MINE_SET("*"), LONG_SET),
     "or": partial(operator.or_, SET, LONG_SET),
@@ -369,6 +416,52 @@ CALLS = {
     "sorted of no version": partial(versions.sorted, ["1.2", PLAIN, "1..2"]),
     "sorted of no text": partial(versions.sorted, ["1.2", None]),
     "sorted of one": partial(versions.sorted, "1.2"),
+    "sorted in deb": partial(versions.sorted, ["1.0", DEB, LONG_DEB, "1-"], scheme="deb", invalid="last", reverse=True),
+    "sorted in deb of no version": partial(versions.sorted, ["1.0", "1-"], scheme="deb"),
+    "sort_key in deb": partial(versions.sort_key, "1.0~rc1", scheme="deb"),
+    "sort_key in deb, long": partial(versions.sort_key, LONG_DEB, scheme="deb"),
+    "sort_key in deb of no version": partial(versions.sort_key, "1-", scheme="deb"),
+    "sort_key in no scheme": partial(versions.sort_key, "1", scheme="dpkg"),
+    "sort_key in what is no text": partial(versions.sort_key, "1", scheme=Odd()),
+    "sort_key of another scheme": partial(versions.sort_key, DEB),
+    "sort_keys in deb": partial(versions.sort_keys, ["1.0", DEB, None, "1-", LONG_DEB], scheme="deb"),
+    "sort_keys of another scheme": partial(versions.sort_keys, [DEB]),
+    "compare in deb": partial(versions.compare, "1.0", DEB, scheme="deb"),
+    "compare in deb of no version": partial(versions.compare, "1.0", "1-", scheme="deb"),
+    "compare of two schemes": partial(versions.compare, PLAIN, DEB),
+    "newest in deb": partial(versions.newest, ["1.0", DEB, None, "1-", LONG_DEB], scheme="deb"),
+    "newest in deb in a set": partial(versions.newest, ["1.0", DEB, None, "1-"], DEB_SET, scheme="deb"),
+    "newest in deb in a text": partial(versions.newest, ["1.0", DEB, None, "1-"], ">1", scheme="deb"),
+    "newest in deb in no set": partial(versions.newest, ["1.0"], ">1-", scheme="deb"),
+    "newest in deb of none": partial(versions.newest, ["1-"], scheme="deb"),
+    "newest in deb of tags": partial(versions.newest, ["1.0"], tags=True, scheme="deb"),
+    "newest in a set of another scheme": partial(versions.newest, ["1.0"], DEB_SET),
+    "Version in deb": partial(versions.Version, "1.0-1", scheme="deb"),
+    "Version in deb of a Version": partial(MINE, DEB, scheme="deb"),
+    "Version in deb of no version": partial(versions.Version, "1-", scheme="deb"),
+    "Version in no scheme": partial(versions.Version, "1", scheme="dpkg"),
+    "comparison in deb": partial(operator.lt, DEB, DEB),
+    "comparison of two schemes": partial(operator.lt, PLAIN, DEB),
+    "equality of two schemes": partial(operator.eq, PLAIN, DEB),
+    "scheme": partial(operator.attrgetter("scheme"), DEB),
+    "kind in deb": partial(operator.attrgetter("kind"), DEB),
+    "text of mixed in deb": partial(operator.attrgetter("_mixed"), DEB),
+    "matches another scheme": partial(STRICT.matches, DEB),
+    "VersionSet in deb": partial(versions.VersionSet, ">=1.0~rc1, <2 || =3", scheme="deb"),
+    "VersionSet in deb of no set": partial(versions.VersionSet, ">=1-", scheme="deb"),
+    "VersionSet.of in deb": partial(MINE_SET.of, DEB, scheme="deb"),
+    "VersionSet.of another scheme": partial(versions.VersionSet.of, DEB),
+    "VersionSet of a form in deb": partial(versions.VersionSet._of_form, DEB_SET._form, None, None),
+    "scheme of a set": partial(operator.attrgetter("scheme"), DEB_SET),
+    "not in deb": partial(operator.invert, DEB_SET),
+    "and of two schemes": partial(operator.and_, SET, DEB_SET),
+    "order of sets of two schemes": partial(operator.le, SET, DEB_SET),
+    "isdisjoint of two schemes": partial(DEB_SET.isdisjoint, SET),
+    "in a set in deb": partial(operator.contains, DEB_SET, DEB),
+    "in a set of another scheme": partial(operator.contains, DEB_SET, PLAIN),
+    "in a set in deb, no version": partial(operator.contains, DEB_SET, "1-"),
+    "filter by a set in deb": partial(DEB_SET.filter, ["1.0~", DEB, None, "1-", LONG_DEB]),
+    "match_all of a set in deb": partial(versions.match_all, DEB_SET, ["1.0~", DEB, None, "1-", LONG_DEB]),
 }
 
 
@@ -394,6 +487,9 @@ PYTHON_CALLS = {
     "copies of sets": lambda: [copy.deepcopy(each) for each in (SET, ~SET, MINE_SET("*"))],
     "has_all": lambda: SET.has_all(["1.2", None, "1..2", PLAIN]),
     "no set": lambda: str(versions.InvalidVersionSet(">=1.2 | 3")),
+    "in deb": lambda: (repr(DEB), repr(DEB_SET), repr(~DEB_SET), str(versions.InvalidVersionSet(">=1-", "deb"))),
+    "pickles in deb": lambda: [pickle.loads(pickle.dumps(each)) for each in (DEB, MINE(DEB, scheme="deb"), ~DEB_SET)],
+    "no parts in deb": lambda: DEB.epoch,
     "newest of a name": lambda: versions.newest(["1.2", "1.3rc1"], stability="stable"),
     "newest of no stability": lambda: versions.newest(["1.2"], stability=7),
     "kinds of what fails": failing_midway,
@@ -498,6 +594,7 @@ class Allocations(WithFolder):
     def test_references_are_kept(self):
         inputs = ["1.2.3-" + "a" * 9, "1..2" + "." * 9, MINE("1.2.4"), versions.Version("1.3"), "1.9-" + "b" * 9]
         held = [*inputs, None, True, False, versions.Version, MINE, versions.kind("1.2.3"), versions.InvalidVersion]
+        held += [DEB, DEB_SET, DEB_SET._form, DEB.key, versions.SCHEMES]
         held += [SET, OTHER_SET, SET._form, versions.VersionSet, MINE_SET, versions.InvalidVersionSet]
 
         def work():
@@ -545,6 +642,16 @@ class Allocations(WithFolder):
                 lambda: SET.has_all([*inputs, None]),
                 lambda: (versions.newest(inputs, SET), versions.newest([*inputs, None], SET, tags=True)),
                 lambda: (pickle.loads(pickle.dumps(~SET)), copy.copy(SET), copy.copy(MINE_SET(">=1"))),
+                lambda: (versions.sort_key(text, scheme="deb"), versions.compare(text, other, scheme="deb")),
+                lambda: versions.sorted([text, other, DEB], scheme="deb"),
+                lambda: versions.newest([text, wrong, DEB, None], DEB_SET, scheme="deb"),
+                lambda: versions.sort_keys([text, mine], scheme="deb"),
+                lambda: (copy.copy(DEB), pickle.loads(pickle.dumps(~DEB_SET)), DEB == mine, DEB.scheme),
+                lambda: (DEB in DEB_SET, DEB_SET.filter([text, DEB, None]), versions.VersionSet.of(DEB, scheme="deb")),
+                lambda: DEB < mine,
+                lambda: DEB_SET & SET,
+                lambda: mine in DEB_SET,
+                lambda: versions.Version(wrong, scheme=text),
             ):
                 outcome(call)
 
@@ -581,6 +688,10 @@ class Allocations(WithFolder):
             lambda: versions.VersionSet(f">={text} |").filter([text]),
             lambda: versions.VersionSet(f"={text}").filter([text, "1..2", None]),
             lambda: str(versions.VersionSet(f"!={text}") | versions.VersionSet("<1")),
+            lambda: versions.Version(text, scheme="deb"),
+            lambda: versions.sort_keys([text, None, "1-"], scheme="deb"),
+            lambda: versions.sorted([text, "1-"], scheme="deb"),
+            lambda: versions.newest([text, "1.1"], f">={text}", scheme="deb"),
         )
         for call in calls:
             outcome(call)

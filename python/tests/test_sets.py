@@ -367,7 +367,8 @@ class Values(unittest.TestCase):
         form, of_form = VersionSet("^1.2 || =3")._form, VersionSet._of_form
         # One of 32 drawn edits may leave a form, of other keys.
         chosen, refused = random.Random(1), 0
-        bad = [form[:size] for size in range(len(form))] + [form + b"\0", b"\xff" * 99, b"\2" + form[1:]]
+        bad = [form[:size] for size in range(len(form))] + [form + b"\0", b"\xff" * 99]
+        bad += [bytes([scheme]) + form[1:] for scheme in (0, len(versions.SCHEMES) + 1, 255)]
         for each in bad:
             self.assertRaisesRegex(ValueError, "not the form of a set", of_form, each, None, None)
         for _ in range(2000):
@@ -378,7 +379,8 @@ class Values(unittest.TestCase):
             except ValueError:
                 refused += 1
             else:
-                self.assertEqual(made.has_all(["1.2", "1..2"])[1:], [None])
+                # It may be of any scheme. In none is the second text a version.
+                self.assertEqual(made.has_all(["1.2", "x y"])[1:], [None])
                 self.assertEqual((~~made, made & made), (made, made))
         self.assertGreater(refused, 500)
         for wrong in ("text", None, 5, bytearray(form), list(form)):

@@ -368,7 +368,7 @@ class Newest(LongLists):
         for wrong in ((), ([], None, None, False, None)):
             self.assertRaises(TypeError, versions.newest, *wrong)
         self.assertRaises(TypeError, versions.newest, [], key=str)
-        signature = "(texts, requirement=None, stability=None, tags=False)"
+        signature = "(texts, requirement=None, stability=None, tags=False, *, scheme='mixed')"
         self.assertEqual(str(inspect.signature(versions.newest)), signature)
 
     def test_what_fails_midway(self):

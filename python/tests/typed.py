@@ -66,6 +66,16 @@ order_of_versions: int = versions.compare(version, "1.3") + versions.compare_tot
 again: Version = Version(version)
 text: str = InvalidVersion("1..2").text + InvalidRequirement("1").text + versions.__version__
 errors: list[type[ValueError]] = [InvalidVersion, InvalidRequirement, InvalidVersionSet]
+schemes: tuple[str, ...] = versions.SCHEMES
+of_deb: Version = Version("1.0", scheme="deb")
+scheme: str = of_deb.scheme + VersionSet("*", scheme=schemes[0]).scheme + InvalidVersion("1-", "deb").scheme
+key_of_deb: bytes = versions.sort_key(of_deb, scheme="deb")
+keys_of_deb: list[Optional[bytes]] = versions.sort_keys(["1.0", None], scheme="deb")
+order_of_deb: int = versions.compare(of_deb, "1.0", scheme="deb")
+newest_of_deb: Optional[str] = versions.newest(["1.0", None], ">=1", scheme="deb")
+sorted_of_deb: list[str] = versions.sorted(["1.0"], scheme="deb")
+rows_of_deb: list[tuple[int, str]] = versions.sorted([(1, "1")], key=lambda row: row[1], invalid="last", scheme="deb")
+set_of_deb: VersionSet = VersionSet.of(of_deb, scheme="deb") | VersionSet(">=1", scheme="deb")
 
 
 class Mine(Version):
@@ -102,6 +112,10 @@ versions.newest(["1.2"], stability=True)  # type: ignore[arg-type]
 version.key = b""  # type: ignore[misc]
 VersionSet(version)  # type: ignore[arg-type]
 VersionSet.of(1.2)  # type: ignore[arg-type]
+Version("1.0", "deb")  # type: ignore[misc]
+versions.compare("1", "2", scheme=2)  # type: ignore[arg-type]
+versions.compare_total("1", "2", scheme="deb")  # type: ignore[call-arg]
+InvalidRequirement("1", "deb")  # type: ignore[call-arg]
 in_set & wanted  # type: ignore[operator]
 in_set | "1.2"  # type: ignore[operator]
 in_set <= {"1.2"}  # type: ignore[operator]

@@ -14,6 +14,7 @@ threads of Python go on.
 
 from ._errors import InvalidRequirement, InvalidVersion, InvalidVersionSet
 from ._library import (
+    SCHEMES,
     __version__,
     compare,
     compare_total,
@@ -43,6 +44,7 @@ __all__ = [
     "Range",
     "Reason",
     "Requirement",
+    "SCHEMES",
     "Stability",
     "Version",
     "VersionSet",

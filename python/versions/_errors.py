@@ -18,14 +18,31 @@ class _Invalid(ValueError):
         return f"not a {self._wanted}: {self.text!r}"
 
 
-class InvalidVersion(_Invalid):
-    """A text that is not a version, which `text` is.
+class _InvalidInScheme(_Invalid):
+    """The same of a text that was read in a scheme, which is its second argument where it isn't mixed."""
+
+    def __init__(self, text: str, scheme: str = "mixed") -> None:
+        super().__init__(text)
+        self.scheme = scheme
+        if scheme != "mixed":
+            self.args = (text, scheme)
+
+    def __str__(self) -> str:
+        of = "" if self.scheme == "mixed" else f" of {self.scheme}"
+        return f"not a {self._wanted}{of}: {self.text!r}"
+
+
+class InvalidVersion(_InvalidInScheme):
+    """A text that is not a version of the `scheme`, which `text` is.
 
     >>> try:
     ...     Version("1..2")
     ... except InvalidVersion as error:
     ...     print(error.text, error)
     1..2 not a version: '1..2'
+    >>> Version("1-", scheme="deb")
+    Traceback (most recent call last):
+    versions.InvalidVersion: not a version of deb: '1-'
     """
 
     _wanted = "version"
@@ -68,8 +85,8 @@ class InvalidRequirement(_Invalid):
         return f"{super().__str__()}{wrong}; a list looks like '>=1.2,<2'"
 
 
-class InvalidVersionSet(_Invalid):
-    """A text that is not a set of versions, which `text` is.
+class InvalidVersionSet(_InvalidInScheme):
+    """A text that is not a set of versions of the `scheme`, which `text` is.
 
     Its first wrong piece begins at `start`, a place of the text as Python counts them; at its end where something is
     missing there. `reason` says why it is wrong, and what to write. A piece with a lone surrogate is wrong.
@@ -96,7 +113,9 @@ class InvalidVersionSet(_Invalid):
         return self._wrong()[1]
 
     def _wrong(self) -> tuple[int, str]:
-        return _library.wrong_set(self.text) or (0, "")
+        # One that was made by hand, or pickled beside a newer library, may name any scheme.
+        found = _library.wrong_set(self.text, self.scheme) if self.scheme in _library.SCHEMES else None
+        return found or (0, "")
 
     def __str__(self) -> str:
         start, reason = self._wrong()

@@ -24,7 +24,8 @@ static PyObject *kind(PyObject *module, PyObject *args, PyObject *named) {
   struct text text;
   int number;
 
-  if (read_arguments(args, named, "O:kind", names, &object, NULL) < 0 || read_item(object, &text) < 0) return NULL;
+  if (read_arguments(args, named, "O:kind", names, &object, NULL) < 0) return NULL;
+  if (read_item(object, VERSIONS_MIXED, &text) < 0) return NULL;
   thread = let_go(text.size);
   number = versions_kind(text.bytes, text.size);
   take_again(thread);
@@ -34,60 +35,73 @@ static PyObject *kind(PyObject *module, PyObject *args, PyObject *named) {
 }
 
 static PyObject *sort_key(PyObject *Py_UNUSED(module), PyObject *args, PyObject *named) {
-  static char *names[] = {"text", NULL};
+  static char *names[] = {"text", "scheme", NULL};
   PyObject *object;
+  uint32_t scheme;
   uint8_t kind;
 
-  return read_arguments(args, named, "O:sort_key", names, &object, NULL) < 0 ? NULL : key_of(object, &kind);
+  if (read_with_scheme(args, named, "O|$O:sort_key", names, &object, NULL, &scheme) < 0) return NULL;
+  return key_of(object, scheme, &kind);
 }
 
-typedef int comparison(const char *, size_t, const char *, size_t, int32_t *);
+typedef int comparison(uint32_t, const char *, size_t, const char *, size_t, int32_t *);
+
+static int compare_in(uint32_t scheme, const char *a, size_t a_len, const char *b, size_t b_len, int32_t *order) {
+  return scheme == VERSIONS_MIXED ? versions_compare(a, a_len, b, b_len, order)
+                                  : versions_scheme_compare(scheme, a, a_len, b, b_len, order);
+}
+
+static int compare_totally(uint32_t Py_UNUSED(scheme), const char *a, size_t a_len, const char *b, size_t b_len,
+                           int32_t *order) {
+  return versions_compare_total(a, a_len, b, b_len, order);
+}
 
 /* Raises the error of a status that speaks of two texts, unless it is VERSIONS_OK. */
-static int check_two(int status, PyObject *first, PyObject *second) {
+static int check_two(int status, uint32_t scheme, PyObject *first, PyObject *second) {
   switch (status) {
     case VERSIONS_OK: return 0;
     case VERSIONS_NO_VERSION_A:
-    case VERSIONS_NO_VERSION_AB: raise_invalid("InvalidVersion", first); return -1;
-    case VERSIONS_NO_VERSION_B: raise_invalid("InvalidVersion", second); return -1;
+    case VERSIONS_NO_VERSION_AB: raise_invalid("InvalidVersion", first, scheme); return -1;
+    case VERSIONS_NO_VERSION_B: raise_invalid("InvalidVersion", second, scheme); return -1;
     default: raise_status(status); return -1;
   }
 }
 
-/* Compares two texts, or those of Versions. */
-static int order_of_items(comparison *call, PyObject *first, PyObject *second, int32_t *order) {
+/* Compares two texts in a scheme, or those of its Versions. */
+static int order_of_items(comparison *call, uint32_t scheme, PyObject *first, PyObject *second, int32_t *order) {
   struct text a, b;
   PyThreadState *thread;
   int status;
 
   *order = 0;
-  if (read_item(first, &a) < 0 || read_item(second, &b) < 0) return -1;
+  if (read_item(first, scheme, &a) < 0 || read_item(second, scheme, &b) < 0) return -1;
   thread = let_go(a.size > b.size ? a.size : b.size);
-  status = call(a.bytes, a.size, b.bytes, b.size, order);
+  status = call(scheme, a.bytes, a.size, b.bytes, b.size, order);
   take_again(thread);
-  return check_two(status, first, second);
+  return check_two(status, scheme, first, second);
 }
 
-static PyObject *compared(comparison *call, PyObject *first, PyObject *second) {
+static PyObject *compared(comparison *call, uint32_t scheme, PyObject *first, PyObject *second) {
   int32_t order;
 
-  return order_of_items(call, first, second, &order) < 0 ? NULL : PyLong_FromLong(order);
+  return order_of_items(call, scheme, first, second, &order) < 0 ? NULL : PyLong_FromLong(order);
 }
 
-static char *two_names[] = {"a", "b", NULL};
-
 static PyObject *compare(PyObject *Py_UNUSED(module), PyObject *args, PyObject *named) {
+  static char *names[] = {"a", "b", "scheme", NULL};
   PyObject *a, *b;
+  uint32_t scheme;
 
-  if (read_arguments(args, named, "OO:compare", two_names, &a, &b) < 0) return NULL;
-  return compared(versions_compare, a, b);
+  if (read_with_scheme(args, named, "OO|$O:compare", names, &a, &b, &scheme) < 0) return NULL;
+  return compared(compare_in, scheme, a, b);
 }
 
 static PyObject *compare_total(PyObject *Py_UNUSED(module), PyObject *args, PyObject *named) {
+  static char *names[] = {"a", "b", NULL};
   PyObject *a, *b;
 
-  if (read_arguments(args, named, "OO:compare_total", two_names, &a, &b) < 0) return NULL;
-  return compared(versions_compare_total, a, b);
+  if (read_arguments(args, named, "OO:compare_total", names, &a, &b) < 0) return NULL;
+  return compared(compare_totally, VERSIONS_MIXED, a, b);
 }
 
 /* difference(a, b): the number of where two versions differ first, and that of the part */
@@ -100,11 +114,12 @@ static PyObject *difference(PyObject *Py_UNUSED(module), PyObject *args) {
   int status;
 
   if (!PyArg_ParseTuple(args, "OO:difference", &first, &second)) return NULL;
-  if (read_item(first, &a) < 0 || read_item(second, &b) < 0) return NULL;
+  if (read_item(first, VERSIONS_MIXED, &a) < 0 || read_item(second, VERSIONS_MIXED, &b) < 0) return NULL;
   thread = let_go(a.size > b.size ? a.size : b.size);
   status = versions_difference(a.bytes, a.size, b.bytes, b.size, &number, &part);
   take_again(thread);
-  return check_two(status, first, second) < 0 ? NULL : Py_BuildValue("(In)", number, (Py_ssize_t)part);
+  if (check_two(status, VERSIONS_MIXED, first, second) < 0) return NULL;
+  return Py_BuildValue("(In)", number, (Py_ssize_t)part);
 }
 
 /*
@@ -117,7 +132,7 @@ static PyObject *none_or_raise(int status, PyObject *object) {
     case VERSIONS_NO_NUMBER:
     case VERSIONS_NO_NEXT:
     case VERSIONS_NO_FIELD: Py_RETURN_NONE;
-    case VERSIONS_NO_VERSION: return raise_invalid("InvalidVersion", object);
+    case VERSIONS_NO_VERSION: return raise_invalid("InvalidVersion", object, VERSIONS_MIXED);
     default: return raise_status(status);
   }
 }
@@ -248,7 +263,7 @@ static PyObject *why_text(PyObject *Py_UNUSED(module), PyObject *args) {
   if (read_text(of_list, &list) < 0 || read_text(of_version, &version) < 0) return NULL;
   status = ask_why(&list, &version, NULL, &size);
   if (status == VERSIONS_ALL_MATCH) return PyUnicode_FromStringAndSize(NULL, 0);
-  if (status == VERSIONS_NO_REQUIREMENTS) return raise_invalid("InvalidRequirement", of_list);
+  if (status == VERSIONS_NO_REQUIREMENTS) return raise_invalid("InvalidRequirement", of_list, VERSIONS_MIXED);
   if (status != VERSIONS_NO_ROOM) return none_or_raise(status, of_version);
   room = allocated(size, 1);
   if (room == NULL) return PyErr_NoMemory();
@@ -266,13 +281,15 @@ static PyObject *in_tag(PyObject *Py_UNUSED(module), PyObject *args) {
   size_t start = 0;
   int status;
 
-  if (!PyArg_ParseTuple(args, "OO:in_tag", &object, &before) || read_item(object, &tag) < 0) return NULL;
+  if (!PyArg_ParseTuple(args, "OO:in_tag", &object, &before)) return NULL;
+  object = text_of(object, VERSIONS_MIXED);
+  if (object == NULL || read_text(object, &tag) < 0) return NULL;
   if (before != Py_None && read_text(before, &prefix) < 0) return NULL;
   thread = let_go(tag.size);
   status = before == Py_None ? versions_in_tag(tag.bytes, tag.size, &start)
                              : versions_after_prefix(prefix.bytes, prefix.size, tag.bytes, tag.size, &start);
   take_again(thread);
-  if (status != VERSIONS_OK) return none_or_raise(status, text_of(object));
+  if (status != VERSIONS_OK) return none_or_raise(status, object);
   return PyUnicode_FromStringAndSize(tag.bytes + start, (Py_ssize_t)(tag.size - start));
 }
 
@@ -286,7 +303,7 @@ static PyObject *stability(PyObject *Py_UNUSED(module), PyObject *object) {
   thread = let_go(text.size);
   number = versions_stability(text.bytes, text.size);
   take_again(thread);
-  if (number == VERSIONS_NONE) return raise_invalid("InvalidVersion", object);
+  if (number == VERSIONS_NONE) return raise_invalid("InvalidVersion", object, VERSIONS_MIXED);
   if (number < VERSIONS_DEV || number > VERSIONS_STABLE) return raise_status(number);
   return PyLong_FromLong(number);
 }
@@ -344,7 +361,7 @@ static PyObject *conflict(PyObject *Py_UNUSED(module), PyObject *object) {
   status = versions_conflict(list.bytes, list.size, &start, &end, &other_start, &other_end);
   take_again(thread);
   if (status == VERSIONS_NO_CONFLICT) Py_RETURN_NONE;
-  if (status == VERSIONS_NO_REQUIREMENTS) return raise_invalid("InvalidRequirement", object);
+  if (status == VERSIONS_NO_REQUIREMENTS) return raise_invalid("InvalidRequirement", object, VERSIONS_MIXED);
   if (status != VERSIONS_OK) return raise_status(status);
   return pair_of(PyUnicode_FromStringAndSize(list.bytes + start, (Py_ssize_t)(end - start)),
                  PyUnicode_FromStringAndSize(list.bytes + other_start, (Py_ssize_t)(other_end - other_start)));
@@ -455,13 +472,13 @@ static int ask_matches(const struct call *call, const struct texts *texts, PyObj
   int failed = -1;
 
   if (numbers != NULL)
-    failed = call->set == NULL ? match_texts(call->wanted, texts, numbers) : has_texts(call->set, texts, numbers);
+    failed = call->wanted != NULL ? match_texts(call->wanted, texts, numbers) : has_texts(&call->set, texts, numbers);
   if (failed == 0) failed = append_all(answers, texts, numbers, meanings, 2);
   PyMem_Free(numbers);
   return failed;
 }
 
-/* The memory of versions_sort_keys and versions_sort. */
+/* The memory of the calls that write the keys of texts, and of those that sort by them. */
 struct keys {
   uint8_t *bytes;
   size_t room;
@@ -473,18 +490,38 @@ static void free_keys(struct keys *keys) {
   PyMem_Free(keys->offsets);
 }
 
-/* Room that is enough for the keys of all texts: 3 bytes for each byte and 5 for each text. */
-static int allocate_keys(const struct texts *texts, struct keys *keys) {
-  int64_t first = texts->offsets[0], last = texts->offsets[texts->count];
-  size_t span = first >= 0 && last > first ? (size_t)(last - first) : 0;
+/* Adds to the room what is enough for the key of the text at a place. Returns a status. */
+static int add_room(uint32_t scheme, const struct texts *texts, size_t place, size_t *room) {
+  int64_t start = texts->offsets[place], end = texts->offsets[place + 1];
+  size_t bound = 0;
+  int status;
+
+  /* Offsets that the library will refuse may ask for any room. */
+  if (start < 0 || end < start || (uint64_t)end > texts->size) return VERSIONS_BAD_OFFSETS;
+  status = versions_scheme_key_bound(scheme, (size_t)(end - start), &bound);
+  if (status != VERSIONS_OK) return status;
+  if (bound > PY_SSIZE_T_MAX - *room) return VERSIONS_NO_MEMORY;
+  *room += bound;
+  return VERSIONS_OK;
+}
+
+/* Room that is enough for the keys of all texts in a scheme. */
+static int allocate_keys(uint32_t scheme, const struct texts *texts, struct keys *keys) {
+  int status = VERSIONS_OK;
+  size_t place;
 
   keys->bytes = NULL;
   keys->offsets = NULL;
-  if (span > PY_SSIZE_T_MAX / 6 || texts->count > PY_SSIZE_T_MAX / 16) {
-    PyErr_NoMemory();
+  keys->room = 0;
+  for (place = 0; status == VERSIONS_OK && place < texts->count; place++)
+    status = add_room(scheme, texts, place, &keys->room);
+  if (status != VERSIONS_OK) {
+    if (status == VERSIONS_NO_MEMORY)
+      PyErr_NoMemory();
+    else
+      raise_status(status);
     return -1;
   }
-  keys->room = 3 * span + 5 * texts->count;
   keys->bytes = allocated(keys->room, 1);
   keys->offsets = keys->bytes == NULL ? NULL : allocated(texts->count, sizeof *keys->offsets);
   return keys->offsets == NULL ? -1 : 0;
@@ -515,35 +552,43 @@ static int append_keys(PyObject *answers, const struct texts *texts, const struc
   return failed;
 }
 
-static int ask_sort_keys(const struct call *Py_UNUSED(call), const struct texts *texts, PyObject *answers) {
-  struct keys keys;
+/* Asks for the keys of all texts in a scheme. The call for mixed alone takes about half of the other's time. */
+static int ask_keys(uint32_t scheme, const struct texts *texts, struct keys *keys) {
+  size_t count = texts->count + 1;
   PyThreadState *thread;
-  int status, failed = allocate_keys(texts, &keys);
+  int status;
 
-  if (failed == 0) {
-    thread = let_go_of(texts);
-    status = versions_sort_keys(texts->bytes, texts->size, texts->offsets, texts->count + 1, keys.bytes, keys.room,
-                                keys.offsets, texts->count + 1);
-    take_again(thread);
-    if (status == VERSIONS_OK) {
-      failed = append_keys(answers, texts, &keys);
-    } else {
-      raise_status(status);
-      failed = -1;
-    }
-  }
+  if (allocate_keys(scheme, texts, keys) < 0) return -1;
+  thread = let_go_of(texts);
+  if (scheme == VERSIONS_MIXED)
+    status = versions_sort_keys(texts->bytes, texts->size, texts->offsets, count, keys->bytes, keys->room,
+                                keys->offsets, count);
+  else
+    status = versions_scheme_keys(scheme, texts->bytes, texts->size, texts->offsets, count, keys->bytes, keys->room,
+                                  keys->offsets, count);
+  take_again(thread);
+  if (status == VERSIONS_OK) return 0;
+  raise_status(status);
+  return -1;
+}
+
+static int ask_sort_keys(const struct call *call, const struct texts *texts, PyObject *answers) {
+  struct keys keys;
+  int failed = ask_keys(call->scheme, texts, &keys);
+
+  if (failed == 0) failed = append_keys(answers, texts, &keys);
   free_keys(&keys);
   return failed;
 }
 
-int gather(struct gathered *gathered, PyObject *iterator, bool takes_missing) {
+int gather(struct gathered *gathered, PyObject *iterator, uint32_t scheme, bool takes_missing) {
   PyObject *item;
   int failed = 0;
 
   while (failed == 0 && (item = PyIter_Next(iterator)) != NULL) {
     struct text text = {NOT_UTF8, sizeof NOT_UTF8 - 1};
 
-    failed = takes_missing ? read_item_or_none(item, &text) : read_item(item, &text);
+    failed = takes_missing ? read_item_or_none(item, scheme, &text) : read_item(item, scheme, &text);
     if (failed >= 0) failed = add_text(gathered, &text);
     Py_DECREF(item);
   }
@@ -552,7 +597,7 @@ int gather(struct gathered *gathered, PyObject *iterator, bool takes_missing) {
 
 static int ask_iterator(const struct call *call, PyObject *iterator, PyObject *answers) {
   struct gathered gathered = {NULL, 0, 0, NULL, 0, 0};
-  int failed = gather(&gathered, iterator, true);
+  int failed = gather(&gathered, iterator, call->scheme, true);
 
   if (failed == 0) {
     struct texts texts = texts_of(&gathered);
@@ -598,7 +643,7 @@ static char *texts_alone[] = {"texts", NULL};
 
 static PyObject *kinds(PyObject *module, PyObject *args, PyObject *named) {
   struct state *state = PyModule_GetState(module);
-  const struct call call = {.ask = ask_kinds, .meanings = state->kinds};
+  const struct call call = {.ask = ask_kinds, .scheme = VERSIONS_MIXED, .meanings = state->kinds};
   PyObject *texts;
 
   return read_arguments(args, named, "O:kinds", texts_alone, &texts, NULL) < 0 ? NULL : answers_of(&call, texts);
@@ -606,7 +651,7 @@ static PyObject *kinds(PyObject *module, PyObject *args, PyObject *named) {
 
 static PyObject *stabilities(PyObject *Py_UNUSED(module), PyObject *args, PyObject *named) {
   PyObject *meanings[VERSIONS_STABLE + 1], *texts, *module, *members, *answers = NULL;
-  const struct call call = {.ask = ask_stabilities, .meanings = meanings};
+  const struct call call = {.ask = ask_stabilities, .scheme = VERSIONS_MIXED, .meanings = meanings};
   int number;
 
   if (read_arguments(args, named, "O:stabilities", texts_alone, &texts, NULL) < 0) return NULL;
@@ -623,28 +668,32 @@ static PyObject *stabilities(PyObject *Py_UNUSED(module), PyObject *args, PyObje
 }
 
 static PyObject *in_tags(PyObject *Py_UNUSED(module), PyObject *args, PyObject *named) {
-  const struct call call = {.ask = ask_in_tags};
+  const struct call call = {.ask = ask_in_tags, .scheme = VERSIONS_MIXED};
   PyObject *texts;
 
   return read_arguments(args, named, "O:in_tags", texts_alone, &texts, NULL) < 0 ? NULL : answers_of(&call, texts);
 }
 
 static PyObject *sort_keys(PyObject *Py_UNUSED(module), PyObject *args, PyObject *named) {
-  const struct call call = {.ask = ask_sort_keys};
+  static char *names[] = {"texts", "scheme", NULL};
+  struct call call = {.ask = ask_sort_keys};
   PyObject *texts;
 
-  return read_arguments(args, named, "O:sort_keys", texts_alone, &texts, NULL) < 0 ? NULL : answers_of(&call, texts);
+  if (read_with_scheme(args, named, "O|$O:sort_keys", names, &texts, NULL, &call.scheme) < 0) return NULL;
+  return answers_of(&call, texts);
 }
 
 static PyObject *match_all(PyObject *Py_UNUSED(module), PyObject *args, PyObject *named) {
   static char *names[] = {"requirement", "texts", NULL};
   struct range wanted;
-  struct call call = {.ask = ask_matches, .wanted = &wanted};
+  struct call call = {.ask = ask_matches, .scheme = VERSIONS_MIXED, .wanted = &wanted};
   PyObject *requirement, *texts, *answers;
 
   if (read_arguments(args, named, "OO:match_all", names, &requirement, &texts) < 0) return NULL;
   if (is_formed(requirement)) {
-    call.set = requirement;
+    call.wanted = NULL;
+    call.set = formed_set(requirement);
+    call.scheme = call.set.scheme;
     return answers_of(&call, texts);
   }
   /* The requirement is judged first, whatever the texts are. */
@@ -663,6 +712,7 @@ static PyObject *match_all(PyObject *Py_UNUSED(module), PyObject *args, PyObject
 struct sort {
   PyObject *items; /* a list that only this call knows */
   PyObject *texts; /* a list of what `key` gives for each item, or `items` where there is no key */
+  uint32_t scheme;
   bool reverse, last;
   struct keys keys;
   uint64_t *order;
@@ -679,7 +729,7 @@ static void *raise_first(const struct sort *sort, size_t good, size_t count) {
   uint64_t place = sort->order[sort->reverse ? count - 1 : good];
 
   /* A Version is one, so this is a str. */
-  return raise_invalid("InvalidVersion", PyList_GetItem(sort->texts, (Py_ssize_t)place));
+  return raise_invalid("InvalidVersion", PyList_GetItem(sort->texts, (Py_ssize_t)place), sort->scheme);
 }
 
 /* Appends the items of the places from `from` up to `end` in sorted order, or in reverse. */
@@ -707,17 +757,30 @@ static PyObject *in_order(const struct sort *sort, size_t count) {
   return answers;
 }
 
+/* Asks for the order of all texts: in mixed that of compare_total. Returns a status. */
+static int ask_sort(struct sort *sort, const struct texts *texts) {
+  const struct keys *keys = &sort->keys;
+  size_t count = texts->count;
+  PyThreadState *thread = let_go_of(texts);
+  int status;
+
+  if (sort->scheme == VERSIONS_MIXED)
+    status = versions_sort(texts->bytes, texts->size, texts->offsets, count + 1, keys->bytes, keys->room,
+                           keys->offsets, count + 1, sort->order, count);
+  else
+    status = versions_scheme_sort(sort->scheme, texts->bytes, texts->size, texts->offsets, count + 1, keys->bytes,
+                                  keys->room, keys->offsets, count + 1, sort->order, count);
+  take_again(thread);
+  return status;
+}
+
 static PyObject *sort_texts(struct sort *sort, const struct texts *texts) {
   PyObject *answers = NULL;
-  PyThreadState *thread;
   int status;
 
   sort->order = allocated(texts->count, sizeof *sort->order);
-  if (allocate_keys(texts, &sort->keys) == 0 && sort->order != NULL) {
-    thread = let_go_of(texts);
-    status = versions_sort(texts->bytes, texts->size, texts->offsets, texts->count + 1, sort->keys.bytes,
-                           sort->keys.room, sort->keys.offsets, texts->count + 1, sort->order, texts->count);
-    take_again(thread);
+  if (allocate_keys(sort->scheme, texts, &sort->keys) == 0 && sort->order != NULL) {
+    status = ask_sort(sort, texts);
     answers = status == VERSIONS_OK ? in_order(sort, texts->count) : raise_status(status);
   }
   free_keys(&sort->keys);
@@ -736,7 +799,7 @@ static PyObject *sort_items(struct sort *sort) {
   struct gathered gathered = {NULL, 0, 0, NULL, 0, 0};
   PyObject *iterator = turn(sort) < 0 ? NULL : PyObject_GetIter(sort->texts), *answers = NULL;
 
-  if (iterator != NULL && gather(&gathered, iterator, sort->last) == 0) {
+  if (iterator != NULL && gather(&gathered, iterator, sort->scheme, sort->last) == 0) {
     struct texts texts = texts_of(&gathered);
 
     answers = sort_texts(sort, &texts);
@@ -769,13 +832,15 @@ static PyObject *texts_by(PyObject *key, PyObject *items) {
 }
 
 static PyObject *sorted(PyObject *Py_UNUSED(module), PyObject *args, PyObject *named) {
-  static char *names[] = {"texts", "key", "reverse", "invalid", NULL};
-  struct sort sort = {NULL, NULL, false, false, {NULL, 0, NULL}, NULL};
+  static char *names[] = {"texts", "key", "reverse", "invalid", "scheme", NULL};
+  struct sort sort = {.scheme = VERSIONS_MIXED};
   const char *invalid = "raise";
-  PyObject *texts, *key = Py_None, *answers;
+  PyObject *texts, *key = Py_None, *scheme = NULL, *answers;
   int reverse = 0;
 
-  if (!PyArg_ParseTupleAndKeywords(args, named, "O|$Ops:sorted", names, &texts, &key, &reverse, &invalid)) return NULL;
+  if (!PyArg_ParseTupleAndKeywords(args, named, "O|$OpsO:sorted", names, &texts, &key, &reverse, &invalid, &scheme))
+    return NULL;
+  if (scheme != NULL && read_scheme(scheme, &sort.scheme) < 0) return NULL;
   sort.reverse = reverse;
   sort.last = strcmp(invalid, "last") == 0;
   if (!sort.last && strcmp(invalid, "raise") != 0)
@@ -789,8 +854,9 @@ static PyObject *sorted(PyObject *Py_UNUSED(module), PyObject *args, PyObject *n
 }
 
 /*
- * newest. A Version is compared by its key where no more than its key and its kind is asked about. Of the other items
- * the library finds the newest, and that of both is then the newest of all.
+ * newest. In mixed, a Version is compared by its key where no more than its key and its kind is asked about. Of the
+ * other items the library finds the newest, and that of both is then the newest of all. In another scheme the newest is
+ * that with the greatest key.
  */
 
 /* What is searched, and for what. */
@@ -817,6 +883,10 @@ static int find_by_keys(struct search *search, Py_ssize_t *newest) {
     int answer;
 
     if (!goes_by_key(search, item)) continue;
+    if (keyed_scheme(item) != VERSIONS_MIXED) {
+      raise_schemes(VERSIONS_MIXED, keyed_scheme(item));
+      return -1;
+    }
     if (*newest >= 0 && order_of_keyed(item, PyList_GetItem(search->items, *newest)) <= 0) continue;
     answer = match_one(&search->wanted, item);
     if (answer < 0) return -1;
@@ -834,7 +904,7 @@ static int gather_others(struct search *search, struct gathered *gathered) {
     struct text text = {NOT_UTF8, sizeof NOT_UTF8 - 1};
 
     if (goes_by_key(search, item)) continue;
-    if (read_item_or_none(item, &text) < 0 || add_text(gathered, &text) < 0) return -1;
+    if (read_item_or_none(item, VERSIONS_MIXED, &text) < 0 || add_text(gathered, &text) < 0) return -1;
   }
   return 0;
 }
@@ -870,7 +940,7 @@ static PyObject *newer_of(const struct search *search, Py_ssize_t a, Py_ssize_t 
   PyObject *second = PyList_GetItem(search->items, a < b ? b : a);
   int32_t order;
 
-  if (order_of_items(versions_compare, first, second, &order) < 0) return NULL;
+  if (order_of_items(compare_in, VERSIONS_MIXED, first, second, &order) < 0) return NULL;
   return order < 0 ? second : first;
 }
 
@@ -889,12 +959,17 @@ static PyObject *newest_item(struct search *search) {
   return PyList_GetItem(search->items, by_keys < 0 ? by_texts : by_keys);
 }
 
-/* Reads the requirement, which is `*` where none is given, or a VersionSet in its place. */
+/* Reads the requirement, which is `*` where none is given, or a VersionSet of mixed in its place. */
 static int read_wanted(PyObject *requirement, struct range *wanted) {
+  bool is_set = is_formed(requirement);
   PyObject *all;
   int failed;
 
-  if (requirement != Py_None && !is_formed(requirement)) return read_range(requirement, wanted);
+  if (!is_set && requirement != Py_None) return read_range(requirement, wanted);
+  if (is_set && formed_set(requirement).scheme != VERSIONS_MIXED) {
+    raise_schemes(VERSIONS_MIXED, formed_set(requirement).scheme);
+    return -1;
+  }
   all = PyUnicode_FromString("*");
   if (all == NULL) return -1;
   failed = read_range(all, wanted);
@@ -927,34 +1002,98 @@ static int read_stability(PyObject *object, uint32_t *number) {
   return 0;
 }
 
-/* A list of the items that are searched: all, or those in a VersionSet. */
-static PyObject *items_of(PyObject *texts, PyObject *requirement, bool tags) {
+/* A list of the items that are searched: all, or those in a set, where its form is not null. */
+static PyObject *items_of(PyObject *texts, const struct set *set, bool tags) {
   PyObject *items = PySequence_List(texts), *kept;
 
-  if (items == NULL || !is_formed(requirement)) return items;
-  kept = kept_in(requirement, items, tags);
+  if (items == NULL || set->form == NULL) return items;
+  kept = kept_in(set, items, tags);
   Py_DECREF(items);
   return kept;
 }
 
-static PyObject *newest(PyObject *Py_UNUSED(module), PyObject *args, PyObject *named) {
-  static char *names[] = {"texts", "requirement", "stability", "tags", NULL};
-  PyObject *texts, *requirement = Py_None, *stability = Py_None, *item;
-  struct search search;
-  int tags = 0;
+static PyObject *newest_in_mixed(PyObject *texts, PyObject *requirement, PyObject *stability, bool tags) {
+  struct search search = {.flags = tags ? VERSIONS_NEWEST_TAGS : 0};
+  struct set set = {NULL, VERSIONS_MIXED};
+  PyObject *item;
 
-  if (!PyArg_ParseTupleAndKeywords(args, named, "O|OOp:newest", names, &texts, &requirement, &stability, &tags) ||
-      read_stability(stability, &search.least) < 0 || refuse_one(texts) < 0 ||
-      read_wanted(requirement, &search.wanted) < 0)
-    return NULL;
-  search.flags = tags ? VERSIONS_NEWEST_TAGS : 0;
-  search.keyed = NULL;
-  search.items = items_of(texts, requirement, tags);
+  if (read_stability(stability, &search.least) < 0 || read_wanted(requirement, &search.wanted) < 0) return NULL;
+  if (is_formed(requirement)) set = formed_set(requirement);
+  search.items = items_of(texts, &set, tags);
   item = search.items == NULL ? NULL : newest_item(&search);
   Py_XINCREF(item);
   Py_XDECREF(search.items);
   clear_range(&search.wanted);
   return item;
+}
+
+/* The place of the greatest key, the first of those; -1 where no text is a version. */
+static Py_ssize_t place_of_greatest(const struct keys *keys, size_t count) {
+  const uint8_t *most = keys->bytes; /* the greatest key, with no byte before there is one */
+  size_t place, most_size = 0;
+  Py_ssize_t greatest = -1;
+
+  for (place = 0; place < count; place++) {
+    const uint8_t *key = keys->bytes + keys->offsets[place];
+    size_t size = (size_t)(keys->offsets[place + 1] - keys->offsets[place]);
+    int order = memcmp(key, most, size < most_size ? size : most_size);
+
+    if (order < 0 || (order == 0 && size <= most_size)) continue;
+    greatest = (Py_ssize_t)place;
+    most = key;
+    most_size = size;
+  }
+  return greatest;
+}
+
+/* The newest of the items of a list by the keys of a scheme; None where there is none. */
+static PyObject *newest_by_keys(uint32_t scheme, PyObject *items) {
+  struct gathered gathered = {NULL, 0, 0, NULL, 0, 0};
+  PyObject *iterator = PyObject_GetIter(items), *item = NULL;
+  struct keys keys = {NULL, 0, NULL};
+
+  if (iterator != NULL && gather(&gathered, iterator, scheme, true) == 0) {
+    struct texts texts = texts_of(&gathered);
+
+    if (ask_keys(scheme, &texts, &keys) == 0) {
+      Py_ssize_t place = place_of_greatest(&keys, texts.count);
+
+      item = place < 0 ? Py_None : PyList_GetItem(items, place);
+      Py_XINCREF(item);
+    }
+  }
+  free_keys(&keys);
+  free_gathered(&gathered);
+  Py_XDECREF(iterator);
+  return item;
+}
+
+static PyObject *newest_in_other(uint32_t scheme, PyObject *texts, PyObject *requirement) {
+  struct set set = {NULL, scheme};
+  PyObject *items, *item;
+
+  if (requirement != Py_None && (set.form = form_in(scheme, requirement)) == NULL) return NULL;
+  items = items_of(texts, &set, false);
+  item = items == NULL ? NULL : newest_by_keys(scheme, items);
+  Py_XDECREF(items);
+  Py_XDECREF(set.form);
+  return item;
+}
+
+static PyObject *newest(PyObject *Py_UNUSED(module), PyObject *args, PyObject *named) {
+  static char *names[] = {"texts", "requirement", "stability", "tags", "scheme", NULL};
+  PyObject *texts, *requirement = Py_None, *stability = Py_None, *name = NULL;
+  uint32_t scheme = VERSIONS_MIXED;
+  int tags = 0;
+
+  if (!PyArg_ParseTupleAndKeywords(args, named, "O|OOp$O:newest", names, &texts, &requirement, &stability, &tags,
+                                   &name) ||
+      (name != NULL && read_scheme(name, &scheme) < 0) || refuse_one(texts) < 0)
+    return NULL;
+  if (scheme == VERSIONS_MIXED) return newest_in_mixed(texts, requirement, stability, tags);
+  if (stability != Py_None || tags)
+    return fail(PyExc_ValueError, "stability and tags are for the scheme mixed alone, and this is %U", name);
+  return newest_in_other(scheme, texts, requirement);
 }
 
 /*
@@ -973,13 +1112,13 @@ PyDoc_STRVAR(
 
 PyDoc_STRVAR(
     sort_key_doc,
-    "sort_key(text)\n--\n\n"
+    "sort_key(text, *, scheme='mixed')\n--\n\n"
     "The sort key of a version: bytes that compare as versions do by precedence, in any program that orders bytes.\n"
     "\n"
     "Versions that compare equal have equal keys, as `1.0` and `0:1.0`. No key is empty or a prefix of another. A key "
-    "has\n"
-    "at most three bytes for each byte of the text and five more. `InvalidVersion` where the text is not a version.\n"
-    "Of a `Version` it is the `key`.\n"
+    "of\n"
+    "mixed has at most three bytes for each byte of the text and five more. `InvalidVersion` where the text is not a\n"
+    "version. Of a `Version` it is the `key`. Keys of two schemes say nothing of each other.\n"
     "\n"
     ">>> sort_key(\"1.2.3\").hex()\n"
     "'000301310203013202030133020202'\n"
@@ -987,13 +1126,16 @@ PyDoc_STRVAR(
     "'1.10'\n");
 
 PyDoc_STRVAR(compare_doc,
-             "compare(a, b)\n--\n\n"
+             "compare(a, b, *, scheme='mixed')\n--\n\n"
              "-1, 0 or 1 where `a` is below, equal to or above `b` by precedence, the one order of all versions.\n"
              "\n"
              "Each is a text or a `Version`. `InvalidVersion` with the first text that is not a version.\n"
+             "With a `scheme`, one of `SCHEMES`, it goes by the order of that.\n"
              "\n"
              ">>> compare(\"1.2.0-rc.1\", \"1.2.0\"), compare(\"1.0\", \"0:1.0\"), compare(\"1:0.1\", \"9.9\")\n"
-             "(-1, 0, 1)\n");
+             "(-1, 0, 1)\n"
+             ">>> compare(\"1.0\", \"1.0~rc1\", scheme=\"deb\"), compare(\"1.0\", \"1.0-0\", scheme=\"deb\")\n"
+             "(1, 0)\n");
 
 PyDoc_STRVAR(compare_total_doc,
              "compare_total(a, b)\n--\n\n"
@@ -1023,12 +1165,12 @@ PyDoc_STRVAR(
     "['ideal', None, 'general', None]\n");
 
 PyDoc_STRVAR(sort_keys_doc,
-             "sort_keys(texts)\n--\n\n"
+             "sort_keys(texts, *, scheme='mixed')\n--\n\n"
              "The sort key of each of many texts, as `sort_key` gives it, and None for a text that is not a version.\n"
              "\n"
-             "`texts` is what `kinds` takes. Beside the answers, the call allocates three bytes for each byte of the "
-             "texts and 13\n"
-             "for each text.\n"
+             "`texts` is what `kinds` takes. Beside the answers, in mixed the call allocates three bytes for each byte "
+             "of the\n"
+             "texts and 13 for each text.\n"
              "\n"
              ">>> keys = sort_keys([\"1.10\", None, \"1.9\", \"1..2\"])\n"
              ">>> [key is None for key in keys], keys[0] > keys[2]\n"
@@ -1046,10 +1188,11 @@ PyDoc_STRVAR(match_all_doc,
              "[True, False, None, None]\n");
 
 PyDoc_STRVAR(sorted_doc,
-             "sorted(texts, *, key=None, reverse=False, invalid='raise')\n--\n\n"
+             "sorted(texts, *, key=None, reverse=False, invalid='raise', scheme='mixed')\n--\n\n"
              "A list of texts or `Version`s in the order of `compare_total`, or in reverse.\n"
              "\n"
              "`texts` is an iterable. Those that `compare_total` ties keep their order, in reverse too.\n"
+             "With another `scheme` than mixed, one of `SCHEMES`, the order is that of `compare`.\n"
              "With `key`, the items may be anything, and they are in the order of what `key` returns for each, which "
              "is a text\n"
              "or a `Version`.\n"
@@ -1060,6 +1203,8 @@ PyDoc_STRVAR(sorted_doc,
              ">>> import versions\n"
              ">>> versions.sorted([\"1.10\", \"0:1.9\", \"1.9\", \"1.10rc1\"])\n"
              "['1.9', '0:1.9', '1.10rc1', '1.10']\n"
+             ">>> versions.sorted([\"1.0a\", \"1.0\", \"1.0~rc1\"], scheme=\"deb\")\n"
+             "['1.0~rc1', '1.0', '1.0a']\n"
              ">>> versions.sorted([\"1.9\", \"x y\", None, \"1.10\"], reverse=True, invalid='last')\n"
              "['1.10', '1.9', 'x y', None]\n"
              ">>> versions.sorted([(\"a\", \"1.10\"), (\"b\", \"1.9\")], key=lambda item: item[1])\n"
@@ -1085,7 +1230,7 @@ PyDoc_STRVAR(in_tags_doc,
              "['1.2.3', '1.10', '1.9', None, None]\n");
 
 PyDoc_STRVAR(newest_doc,
-             "newest(texts, requirement=None, stability=None, tags=False)\n--\n\n"
+             "newest(texts, requirement=None, stability=None, tags=False, *, scheme='mixed')\n--\n\n"
              "The newest of many texts and `Version`s by precedence, the first of those that tie; None where none is "
              "left.\n"
              "\n"
@@ -1098,9 +1243,14 @@ PyDoc_STRVAR(newest_doc,
              "its name. With `tags`, a text has its version as `Version.from_tag` finds it, and the text of a "
              "`Version` counts\n"
              "as a tag too. `InvalidRequirement` where the text is not a requirement.\n"
+             "With another `scheme` than mixed, one of `SCHEMES`, the `requirement` is a `VersionSet` of it or its "
+             "text, and\n"
+             "there is neither `stability` nor `tags`.\n"
              "\n"
              ">>> newest([\"1.9\", \"1.10\", \"2.0rc1\", \"x y\", None])\n"
              "'2.0rc1'\n"
+             ">>> newest([\"1.9\", \"2.0~rc1\", \"2.0\"], \"<2.0\", scheme=\"deb\")\n"
+             "'2.0~rc1'\n"
              ">>> newest([\"v1.10.0\", \"v2.0.0-beta.1\", \"v2.0.0\"], \"<2\", tags=True)\n"
              "'v1.10.0'\n"
              ">>> newest([\"1.9\", \"1.10\", \"2.0rc1\"], stability=\"stable\")\n"
@@ -1129,7 +1279,7 @@ static PyMethodDef functions[] = {
     {"wrong_member", wrong_member, METH_O, NULL},
     {"conflict", conflict, METH_O, NULL},
     {"why_text", why_text, METH_VARARGS, NULL},
-    {"wrong_set", wrong_set, METH_O, NULL},
+    {"wrong_set", wrong_set, METH_VARARGS, NULL},
     {NULL, NULL, 0, NULL},
 };
 
@@ -1168,6 +1318,14 @@ static int add_numbers(PyObject *module) {
   return failed;
 }
 
+static int add_schemes(PyObject *module) {
+  PyObject *names = scheme_names();
+  int failed = names == NULL ? -1 : PyObject_SetAttrString(module, "SCHEMES", names);
+
+  Py_XDECREF(names);
+  return failed;
+}
+
 static int fill(PyObject *module) {
   struct state *state = PyModule_GetState(module);
   int number;
@@ -1181,7 +1339,7 @@ static int fill(PyObject *module) {
   if (add_type(module, "Keyed", &keyed_spec) < 0 || add_type(module, "Ranged", &ranged_spec) < 0 ||
       add_type(module, "Formed", &formed_spec) < 0)
     return -1;
-  if (add_numbers(module) < 0) return -1;
+  if (add_numbers(module) < 0 || add_schemes(module) < 0) return -1;
   return PyModule_AddStringConstant(module, "__version__", versions_version());
 }
 

@@ -42,14 +42,28 @@ void put_back(struct error error);
 /* Makes an error that was put aside the context of the one that is raised since, or forgets it where none is. */
 void add_context(struct error context);
 
-/* Raises an error of the package that holds the text, such as InvalidVersion. */
-void *raise_invalid(const char *name, PyObject *text);
+/* Raises an error of the package that holds the text and the scheme in which it was read, such as InvalidVersion. */
+void *raise_invalid(const char *name, PyObject *text, uint32_t scheme);
 
 /* Raises a TypeError for an object of another type than what is wanted, as in "a text is a str". */
 void *raise_other(const char *wanted, PyObject *object);
 
 /* Raises the error of a status that does not speak of one text. */
 void *raise_status(int status);
+
+/*
+ * Schemes, by their numbers (_texts.c)
+ */
+
+/* A tuple of the names of all schemes, and the name of one. */
+PyObject *scheme_names(void);
+PyObject *scheme_name(uint32_t scheme);
+
+/* Reads a str as the name of a scheme. ValueError where it is none, which lists the names. */
+int read_scheme(PyObject *object, uint32_t *scheme);
+
+/* TypeError for what is of another scheme than is wanted. */
+void *raise_schemes(uint32_t wanted, uint32_t given);
 
 /*
  * One text (_texts.c)
@@ -76,6 +90,10 @@ void take_again(PyThreadState *thread);
  * by their names, takes longer than the comparison of two short texts.
  */
 int read_arguments(PyObject *args, PyObject *named, const char *format, char **names, PyObject **a, PyObject **b);
+
+/* The same where a scheme may come too, by its name: the format ends with "|$O". It is mixed where none is given. */
+int read_with_scheme(PyObject *args, PyObject *named, const char *format, char **names, PyObject **a, PyObject **b,
+                     uint32_t *scheme);
 
 /*
  * Many texts (_texts.c)
@@ -104,17 +122,17 @@ void *allocated(size_t count, size_t size);
 
 PyThreadState *let_go_of(const struct texts *texts);
 
-/* The text of a Version, and any other object as it is; borrowed. */
-PyObject *text_of(PyObject *object);
+/* The text of a Version, which has to be of the scheme, and any other object as it is; borrowed. */
+PyObject *text_of(PyObject *object, uint32_t scheme);
 
-/* Reads the text of a str or of a Version. */
-int read_item(PyObject *item, struct text *text);
+/* Reads the text of a str or of a Version of the scheme. */
+int read_item(PyObject *item, uint32_t scheme, struct text *text);
 
 /*
  * The same. Returns 1, or 0 for a missing value, and leaves `text` as it is then: None, a float of Python or numpy that
  * is not a number, and NA and NaT of pandas.
  */
-int read_item_or_none(PyObject *item, struct text *text);
+int read_item_or_none(PyObject *item, uint32_t scheme, struct text *text);
 
 /* Adds a copy of a text to those that are gathered. */
 int add_text(struct gathered *gathered, const struct text *text);
@@ -148,8 +166,8 @@ struct range {
 /* The names of the kinds, by their numbers. */
 extern const char *const kind_names[];
 
-/* The key of a str or of a Version, and its kind. InvalidVersion for a text that is not a version. */
-PyObject *key_of(PyObject *object, uint8_t *kind);
+/* The key of a str or of a Version in a scheme, and in mixed its kind. InvalidVersion for a text that is no version. */
+PyObject *key_of(PyObject *object, uint32_t scheme, uint8_t *kind);
 
 /* Reads a str as a list of requirements, or copies what a Requirement keeps. InvalidRequirement for any other text. */
 int read_range(PyObject *object, struct range *range);
@@ -161,11 +179,12 @@ int match_one(const struct range *range, PyObject *version);
 /* Writes for each of many texts whether it matches: 0, 1, or 2 if it is not a version. */
 int match_texts(const struct range *range, const struct texts *texts, uint8_t *answers);
 
-/* Whether an object is a Version, and the text of one, which is borrowed. */
+/* Whether an object is a Version; the text of one, which is borrowed, and its scheme. */
 bool is_keyed(PyObject *object);
 PyObject *keyed_text(PyObject *keyed);
+uint32_t keyed_scheme(PyObject *keyed);
 
-/* Below, equal to or above 0 as the key of one Version is below, equal to or above that of another. */
+/* Below, equal to or above 0 as the key of one Version is below, equal to or above that of another of its scheme. */
 int order_of_keyed(PyObject *a, PyObject *b);
 
 /* Whether an object is of a type of this extension, the one with that function, or of a class made of it. */
@@ -181,17 +200,27 @@ extern PyType_Spec keyed_spec, ranged_spec;
  * Sets (_sets.c)
  */
 
-/* Whether an object is a VersionSet. */
+/* A set: its form, which is bytes, and its scheme. */
+struct set {
+  PyObject *form;
+  uint32_t scheme;
+};
+
+/* Whether an object is a VersionSet, and the set of one, whose form is borrowed. */
 bool is_formed(PyObject *object);
+struct set formed_set(PyObject *formed);
 
-/* Writes for each of many texts whether its version is in a VersionSet: 0, 1, or 2 if it is not a version. */
-int has_texts(PyObject *set, const struct texts *texts, uint8_t *answers);
+/* The form of a VersionSet of the scheme, or of the set that a str is. InvalidVersionSet for any other text. */
+PyObject *form_in(uint32_t scheme, PyObject *object);
 
-/* The items of a list whose versions are in a VersionSet. With `tags`, a text has its version as a tag has it. */
-PyObject *kept_in(PyObject *set, PyObject *items, bool tags);
+/* Writes for each of many texts whether its version is in a set: 0, 1, or 2 if it is not a version. */
+int has_texts(const struct set *set, const struct texts *texts, uint8_t *answers);
 
-/* wrong_set(text) of the module */
-PyObject *wrong_set(PyObject *module, PyObject *object);
+/* The items of a list whose versions are in a set. With `tags`, a text has its version as a tag has it. */
+PyObject *kept_in(const struct set *set, PyObject *items, bool tags);
+
+/* wrong_set(text, scheme) of the module */
+PyObject *wrong_set(PyObject *module, PyObject *args);
 
 /* The type Formed. */
 extern PyType_Spec formed_spec;
@@ -206,13 +235,17 @@ PyObject *pair_of(PyObject *first, PyObject *second);
 /* A call on many texts: `ask` appends its answers about `texts` to `answers`. */
 struct call {
   int (*ask)(const struct call *call, const struct texts *texts, PyObject *answers);
+  uint32_t scheme;
   PyObject *const *meanings;  /* the answers of kinds and stabilities, by their numbers */
-  const struct range *wanted; /* the requirement of match_all, */
-  PyObject *set;              /* or the VersionSet in its place */
+  const struct range *wanted; /* the requirement of match_all; null where the set is asked in its place */
+  struct set set;
 };
 
-/* Gathers the texts that an iterator gives. A missing value, where those are taken, becomes a text of no version. */
-int gather(struct gathered *gathered, PyObject *iterator, bool takes_missing);
+/*
+ * Gathers the texts that an iterator gives, in a scheme. A missing value, where those are taken, becomes a text of no
+ * version.
+ */
+int gather(struct gathered *gathered, PyObject *iterator, uint32_t scheme, bool takes_missing);
 
 /* Where the version in each of many tags begins, or the tag ends if it has none: an array that PyMem_Free frees. */
 int64_t *starts_in(const struct texts *tags);

@@ -5,6 +5,7 @@ from __future__ import annotations
 from typing import TYPE_CHECKING, Any, Optional, SupportsIndex, Union
 
 from . import _library
+from ._value import shown_scheme
 
 if TYPE_CHECKING:
     from ._library import Texts
@@ -12,6 +13,9 @@ if TYPE_CHECKING:
 
 class VersionSet(_library.Formed):
     """A set of versions, as `>=1.2, <2 || ^3`, which can't be changed. `InvalidVersionSet` where the text is not a set.
+
+    It is of the `scheme` mixed, or of another of `SCHEMES`, by whose order it goes then. Sets of two are never equal,
+    and with `&`, `<=` and all else a `TypeError`.
 
     It is alternatives with `||` between them, each of members with a comma or blanks between them. A member is `*` for
     all versions, or an operator and a version r. `<r`, `<=r`, `>r` and `>=r` go by precedence, and so does all else, so
@@ -73,10 +77,10 @@ class VersionSet(_library.Formed):
         return " || ".join(shown) or "nothing"
 
     def __repr__(self) -> str:
-        name = type(self).__name__
+        name, of = type(self).__name__, shown_scheme(self.scheme)
         if self._text is not None:
-            return f"{name}({self._text!r})"
-        return f"<{name}: {self}>" if self._version is None else f"{name}.of({self._version!r})"
+            return f"{name}({self._text!r}{of})"
+        return f"<{name}: {self}{of}>" if self._version is None else f"{name}.of({self._version!r}{of})"
 
     def __format__(self, spec: str) -> str:
         return format(str(self), spec)

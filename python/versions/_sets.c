@@ -7,9 +7,9 @@
 #include <structmember.h>
 
 struct formed {
-  PyObject_HEAD PyObject *form;
-  PyObject *text;    /* that was read as the set; null where none was */
-  PyObject *version; /* the text of the version that `of` was called with; null where it wasn't */
+  PyObject_HEAD struct set set; /* whose form is owned */
+  PyObject *text;               /* that was read as the set; null where none was */
+  PyObject *version;            /* the text of the version that `of` was called with; null where it wasn't */
 };
 
 /* What the library is passed of a form. */
@@ -18,17 +18,20 @@ struct form {
   size_t size;
 };
 
-static struct form form_of(PyObject *set) {
-  PyObject *bytes = ((struct formed *)set)->form;
+static struct form form_of_bytes(PyObject *bytes) {
   struct form form = {(const uint8_t *)PyBytes_AsString(bytes), (size_t)PyBytes_Size(bytes)};
 
   return form;
 }
 
+struct set formed_set(PyObject *formed) { return ((struct formed *)formed)->set; }
+
+static struct form form_of(PyObject *formed) { return form_of_bytes(formed_set(formed).form); }
+
 static void formed_dealloc(PyObject *self) {
   struct formed *formed = (struct formed *)self;
 
-  Py_XDECREF(formed->form);
+  Py_XDECREF(formed->set.form);
   Py_XDECREF(formed->text);
   Py_XDECREF(formed->version);
   free_object(self);
@@ -52,15 +55,19 @@ static PyObject *written(uint8_t *room, int status, size_t size) {
   return form;
 }
 
-/* An object that holds a form, whose reference is given away, and what it was made of: a text, a version or neither. */
-static PyObject *made(PyTypeObject *type, PyObject *form, PyObject *text, PyObject *version) {
+/*
+ * An object that holds the form of a set of a scheme, whose reference is given away, and what it was made of: a text, a
+ * version or neither.
+ */
+static PyObject *made(PyTypeObject *type, uint32_t scheme, PyObject *form, PyObject *text, PyObject *version) {
   struct formed *formed = form == NULL ? NULL : (struct formed *)PyType_GenericAlloc(type, 0);
 
   if (formed == NULL) {
     Py_XDECREF(form);
     return NULL;
   }
-  formed->form = form;
+  formed->set.form = form;
+  formed->set.scheme = scheme;
   /* The text of a subclass of str is copied, as it is and not as the subclass shows it. */
   if (text != NULL) formed->text = PyUnicode_FromObject(text);
   if (version != NULL) formed->version = PyUnicode_FromObject(version);
@@ -68,15 +75,15 @@ static PyObject *made(PyTypeObject *type, PyObject *form, PyObject *text, PyObje
   return (PyObject *)formed;
 }
 
-static int ask_bound(const struct text *text, size_t *bound) {
+static int ask_bound(uint32_t scheme, const struct text *text, size_t *bound) {
   PyThreadState *thread = let_go(text->size);
-  int status = versions_set_bound(VERSIONS_MIXED, text->bytes, text->size, bound);
+  int status = versions_set_bound(scheme, text->bytes, text->size, bound);
 
   take_again(thread);
   return status;
 }
 
-static PyObject *form_of_text(PyObject *object) {
+static PyObject *form_of_text(uint32_t scheme, PyObject *object) {
   size_t bound = 0, size = 0;
   PyThreadState *thread;
   struct text text;
@@ -84,66 +91,107 @@ static PyObject *form_of_text(PyObject *object) {
   int status;
 
   if (read_text(object, &text) < 0) return NULL;
-  status = ask_bound(&text, &bound);
+  status = ask_bound(scheme, &text, &bound);
   if (status != VERSIONS_OK) return raise_status(status);
   room = allocated(bound, 1);
   if (room == NULL) return NULL;
   thread = let_go(text.size);
-  status = versions_set(VERSIONS_MIXED, text.bytes, text.size, room, bound, &size);
+  status = versions_set(scheme, text.bytes, text.size, room, bound, &size);
   take_again(thread);
   if (status != VERSIONS_NO_SET) return written(room, status, size);
   PyMem_Free(room);
-  return raise_invalid("InvalidVersionSet", object);
+  return raise_invalid("InvalidVersionSet", object, scheme);
+}
+
+PyObject *form_in(uint32_t scheme, PyObject *object) {
+  struct set set;
+
+  if (!is_formed(object)) return form_of_text(scheme, object);
+  set = formed_set(object);
+  if (set.scheme != scheme) return raise_schemes(scheme, set.scheme);
+  Py_INCREF(set.form);
+  return set.form;
 }
 
 static PyObject *formed_new(PyTypeObject *type, PyObject *args, PyObject *named) {
-  static char *names[] = {"text", NULL};
+  static char *names[] = {"text", "scheme", NULL};
   PyObject *object;
+  uint32_t scheme;
 
-  if (read_arguments(args, named, "O:VersionSet", names, &object, NULL) < 0) return NULL;
-  return made(type, form_of_text(object), object, NULL);
+  if (read_with_scheme(args, named, "O|$O:VersionSet", names, &object, NULL, &scheme) < 0) return NULL;
+  return made(type, scheme, form_of_text(scheme, object), object, NULL);
 }
 
-static int ask_of(const struct text *version, uint8_t *room, size_t *size) {
+static int ask_of(uint32_t scheme, const struct text *version, uint8_t *room, size_t *size) {
   PyThreadState *thread = let_go(version->size);
-  int status = versions_set_of_version(VERSIONS_MIXED, version->bytes, version->size, room, *size, size);
+  int status = versions_set_of_version(scheme, version->bytes, version->size, room, *size, size);
 
   take_again(thread);
   return status;
 }
 
 /* The form of the set of what ties with a version. */
-static PyObject *form_of_version(PyObject *object) {
+static PyObject *form_of_version(uint32_t scheme, PyObject *object) {
   struct text version;
   size_t size = 0;
   uint8_t *room;
   int status;
 
   if (read_text(object, &version) < 0) return NULL;
-  status = ask_of(&version, NULL, &size);
-  if (status == VERSIONS_NO_VERSION) return raise_invalid("InvalidVersion", object);
+  status = ask_of(scheme, &version, NULL, &size);
+  if (status == VERSIONS_NO_VERSION) return raise_invalid("InvalidVersion", object, scheme);
   if (status != VERSIONS_NO_ROOM) return raise_status(status);
   room = allocated(size, 1);
   if (room == NULL) return NULL;
-  status = ask_of(&version, room, &size);
+  status = ask_of(scheme, &version, room, &size);
   return written(room, status, size);
 }
 
 static PyObject *formed_of(PyObject *type, PyObject *args, PyObject *named) {
-  static char *names[] = {"version", NULL};
+  static char *names[] = {"version", "scheme", NULL};
   PyObject *object;
+  uint32_t scheme;
 
-  if (read_arguments(args, named, "O:of", names, &object, NULL) < 0) return NULL;
-  object = text_of(object);
-  return made((PyTypeObject *)type, form_of_version(object), NULL, object);
+  if (read_with_scheme(args, named, "O|$O:of", names, &object, NULL, &scheme) < 0) return NULL;
+  object = text_of(object, scheme);
+  return object == NULL ? NULL : made((PyTypeObject *)type, scheme, form_of_version(scheme, object), NULL, object);
+}
+
+typedef int testing(const uint8_t *, size_t, const uint8_t *, size_t, bool *);
+
+/* Asks something about two forms. Returns a status. */
+static int ask_two(testing *call, struct form a, struct form b, bool *answer) {
+  PyThreadState *thread = let_go(a.size + b.size);
+  int status = call(a.bytes, a.size, b.bytes, b.size, answer);
+
+  take_again(thread);
+  return status;
+}
+
+/* Finds the scheme of a form: it can be asked about with a set of that scheme alone. */
+static int find_scheme(struct form form, uint32_t *scheme) {
+  PyObject *text = PyUnicode_FromString("*"), *all;
+  int status = VERSIONS_OTHER_SCHEME;
+  bool meet;
+
+  for (*scheme = VERSIONS_MIXED; text != NULL; ++*scheme) {
+    all = form_of_text(*scheme, text);
+    if (all == NULL) break;
+    status = ask_two(versions_set_meets, form, form_of_bytes(all), &meet);
+    Py_DECREF(all);
+    if (status != VERSIONS_OTHER_SCHEME) break;
+  }
+  Py_XDECREF(text);
+  if (status == VERSIONS_OK) return 0;
+  if (status != VERSIONS_OTHER_SCHEME) raise_status(status);
+  return -1;
 }
 
 /* Whether bytes are a form. */
-static int check_form(PyObject *bytes) {
-  const uint8_t *form = (const uint8_t *)PyBytes_AsString(bytes);
-  size_t size = (size_t)PyBytes_Size(bytes), count = 0;
-  PyThreadState *thread = let_go(size);
-  int status = versions_set_count(form, size, &count);
+static int check_form(struct form form) {
+  PyThreadState *thread = let_go(form.size);
+  size_t count = 0;
+  int status = versions_set_count(form.bytes, form.size, &count);
 
   take_again(thread);
   if (status == VERSIONS_OK) return 0;
@@ -164,18 +212,29 @@ static int check_text(PyObject *object) {
 /* _of_form(form, text, version): what a pickle holds. That may be anything, so it is checked. */
 static PyObject *formed_of_form(PyObject *type, PyObject *args) {
   PyObject *given, *text, *version, *form;
+  uint32_t scheme = VERSIONS_MIXED;
 
   if (!PyArg_ParseTuple(args, "OOO:_of_form", &given, &text, &version)) return NULL;
   if (!PyBytes_Check(given)) return raise_other("a form is bytes", given);
   if (check_text(text) < 0 || check_text(version) < 0) return NULL;
   form = PyBytes_FromObject(given);
-  if (form != NULL && check_form(form) < 0) Py_CLEAR(form);
-  return made((PyTypeObject *)type, form, text == Py_None ? NULL : text, version == Py_None ? NULL : version);
+  if (form != NULL && (check_form(form_of_bytes(form)) < 0 || find_scheme(form_of_bytes(form), &scheme) < 0))
+    Py_CLEAR(form);
+  return made((PyTypeObject *)type, scheme, form, text == Py_None ? NULL : text, version == Py_None ? NULL : version);
 }
 
 /*
  * Two sets
  */
+
+/* TypeError for sets of two schemes. */
+static int check_schemes(PyObject *one, PyObject *other) {
+  uint32_t first = formed_set(one).scheme, second = formed_set(other).scheme;
+
+  if (first == second) return 0;
+  raise_schemes(first, second);
+  return -1;
+}
 
 /* The class just above Formed: a computed set is of it, also where those that it is computed of are of a subclass. */
 static PyTypeObject *plain_type(PyObject *set) {
@@ -198,6 +257,7 @@ static PyObject *merged(merging *call, PyObject *one, PyObject *other) {
   int status;
 
   if (!is_formed(one) || !is_formed(other)) Py_RETURN_NOTIMPLEMENTED;
+  if (check_schemes(one, other) < 0) return NULL;
   a = form_of(one);
   b = form_of(other);
   most = a.size + b.size;
@@ -206,7 +266,7 @@ static PyObject *merged(merging *call, PyObject *one, PyObject *other) {
   thread = let_go(most);
   status = call(a.bytes, a.size, b.bytes, b.size, room, most, &size);
   take_again(thread);
-  return made(plain_type(one), written(room, status, size), NULL, NULL);
+  return made(plain_type(one), formed_set(one).scheme, written(room, status, size), NULL, NULL);
 }
 
 static PyObject *formed_and(PyObject *one, PyObject *other) { return merged(versions_set_and, one, other); }
@@ -224,19 +284,16 @@ static PyObject *formed_not(PyObject *self) {
   thread = let_go(most);
   status = versions_set_not(form.bytes, form.size, room, most, &size);
   take_again(thread);
-  return made(plain_type(self), written(room, status, size), NULL, NULL);
+  return made(plain_type(self), formed_set(self).scheme, written(room, status, size), NULL, NULL);
 }
-
-typedef int testing(const uint8_t *, size_t, const uint8_t *, size_t, bool *);
 
 /* Asks something about two sets: 0 or 1. */
 static int tested(testing *call, PyObject *one, PyObject *other) {
-  struct form a = form_of(one), b = form_of(other);
-  PyThreadState *thread = let_go(a.size + b.size);
   bool answer = false;
-  int status = call(a.bytes, a.size, b.bytes, b.size, &answer);
+  int status;
 
-  take_again(thread);
+  if (check_schemes(one, other) < 0) return -1;
+  status = ask_two(call, form_of(one), form_of(other), &answer);
   if (status == VERSIONS_OK) return answer;
   raise_status(status);
   return -1;
@@ -252,7 +309,7 @@ static PyObject *formed_isdisjoint(PyObject *self, PyObject *other) {
 
 /* Whether two sets are the same: 0 or 1. */
 static int is_same(PyObject *one, PyObject *other) {
-  return PyObject_RichCompareBool(((struct formed *)one)->form, ((struct formed *)other)->form, Py_EQ);
+  return PyObject_RichCompareBool(formed_set(one).form, formed_set(other).form, Py_EQ);
 }
 
 static PyObject *formed_compare(PyObject *self, PyObject *other, int how) {
@@ -268,7 +325,7 @@ static PyObject *formed_compare(PyObject *self, PyObject *other, int how) {
   return part < 0 ? NULL : PyBool_FromLong(part);
 }
 
-static Py_hash_t formed_hash(PyObject *self) { return PyObject_Hash(((struct formed *)self)->form); }
+static Py_hash_t formed_hash(PyObject *self) { return PyObject_Hash(formed_set(self).form); }
 
 /*
  * Intervals
@@ -327,26 +384,27 @@ static int formed_bool(PyObject *self) {
  */
 
 static int formed_contains(PyObject *self, PyObject *version) {
-  struct form form = form_of(self);
+  struct set set = formed_set(self);
+  struct form form = form_of_bytes(set.form);
   PyThreadState *thread;
   struct text text;
   bool has = false;
   int status;
 
-  if (read_item(version, &text) < 0) return -1;
+  if (read_item(version, set.scheme, &text) < 0) return -1;
   thread = let_go(text.size);
   status = versions_set_has(form.bytes, form.size, text.bytes, text.size, &has);
   take_again(thread);
   if (status == VERSIONS_OK) return has;
   if (status == VERSIONS_NO_VERSION)
-    raise_invalid("InvalidVersion", version);
+    raise_invalid("InvalidVersion", version, set.scheme);
   else
     raise_status(status);
   return -1;
 }
 
-int has_texts(PyObject *set, const struct texts *texts, uint8_t *answers) {
-  struct form form = form_of(set);
+int has_texts(const struct set *set, const struct texts *texts, uint8_t *answers) {
+  struct form form = form_of_bytes(set->form);
   PyThreadState *thread = let_go_of(texts);
   int status = versions_set_has_all(form.bytes, form.size, texts->bytes, texts->size, texts->offsets, texts->count + 1,
                                     answers, texts->count);
@@ -377,7 +435,7 @@ static int cut_tags(struct gathered *tags) {
 }
 
 /* The items whose texts have the answer 1. */
-static PyObject *kept_of(PyObject *set, PyObject *items, const struct texts *texts) {
+static PyObject *kept_of(const struct set *set, PyObject *items, const struct texts *texts) {
   uint8_t *answers = allocated(texts->count, 1);
   PyObject *kept = answers != NULL && has_texts(set, texts, answers) == 0 ? PyList_New(0) : NULL;
   size_t place;
@@ -388,11 +446,12 @@ static PyObject *kept_of(PyObject *set, PyObject *items, const struct texts *tex
   return kept;
 }
 
-PyObject *kept_in(PyObject *set, PyObject *items, bool tags) {
+PyObject *kept_in(const struct set *set, PyObject *items, bool tags) {
   struct gathered gathered = {NULL, 0, 0, NULL, 0, 0};
   PyObject *iterator = PyObject_GetIter(items), *kept = NULL;
 
-  if (iterator != NULL && gather(&gathered, iterator, true) == 0 && (!tags || cut_tags(&gathered) == 0)) {
+  if (iterator != NULL && gather(&gathered, iterator, set->scheme, true) == 0 &&
+      (!tags || cut_tags(&gathered) == 0)) {
     struct texts texts = texts_of(&gathered);
 
     kept = kept_of(set, items, &texts);
@@ -404,11 +463,12 @@ PyObject *kept_in(PyObject *set, PyObject *items, bool tags) {
 
 static PyObject *formed_filter(PyObject *self, PyObject *args, PyObject *named) {
   static char *names[] = {"versions", NULL};
+  struct set set = formed_set(self);
   PyObject *versions, *items, *kept;
 
   if (read_arguments(args, named, "O:filter", names, &versions, NULL) < 0 || refuse_one(versions) < 0) return NULL;
   items = PySequence_List(versions);
-  kept = items == NULL ? NULL : kept_in(self, items, false);
+  kept = items == NULL ? NULL : kept_in(&set, items, false);
   Py_XDECREF(items);
   return kept;
 }
@@ -427,16 +487,15 @@ static Py_ssize_t characters_of(const char *bytes, size_t size) {
 }
 
 /* The same as wrong_set, of the bytes of a text. */
-static PyObject *wrong_set_of(const char *bytes, size_t size) {
+static PyObject *wrong_set_of(uint32_t scheme, const char *bytes, size_t size) {
   PyThreadState *thread = let_go(size);
   size_t place = 0, length = 0;
   uint32_t number = 0;
   Py_ssize_t start;
   char why[100];
-  int status = versions_set_wrong(VERSIONS_MIXED, bytes, size, &place, &number);
+  int status = versions_set_wrong(scheme, bytes, size, &place, &number);
 
-  if (status == VERSIONS_OK)
-    status = versions_set_wrong_text(VERSIONS_MIXED, bytes, size, why, sizeof why, &length);
+  if (status == VERSIONS_OK) status = versions_set_wrong_text(scheme, bytes, size, why, sizeof why, &length);
   take_again(thread);
   if (status == VERSIONS_NO_WRONG_MEMBER) Py_RETURN_NONE;
   if (status != VERSIONS_OK) return raise_status(status);
@@ -444,16 +503,18 @@ static PyObject *wrong_set_of(const char *bytes, size_t size) {
   return start < 0 ? NULL : Py_BuildValue("(nN)", start, PyUnicode_FromStringAndSize(why, (Py_ssize_t)length));
 }
 
-/* wrong_set(text): where the first wrong piece begins and why it is wrong; None where the text is a set */
-PyObject *wrong_set(PyObject *Py_UNUSED(module), PyObject *object) {
-  PyObject *bytes, *answer;
+/* wrong_set(text, scheme): where the first wrong piece begins and why it is wrong; None where the text is a set */
+PyObject *wrong_set(PyObject *Py_UNUSED(module), PyObject *args) {
+  PyObject *object, *name, *bytes, *answer;
   struct text text;
+  uint32_t scheme;
 
-  if (read_text(object, &text) < 0) return NULL;
+  if (!PyArg_ParseTuple(args, "OO:wrong_set", &object, &name)) return NULL;
+  if (read_text(object, &text) < 0 || read_scheme(name, &scheme) < 0) return NULL;
   /* A lone surrogate becomes three bytes that are not UTF-8, so its piece is wrong. */
   bytes = PyUnicode_AsEncodedString(object, "utf-8", "surrogatepass");
   if (bytes == NULL) return NULL;
-  answer = wrong_set_of(PyBytes_AsString(bytes), (size_t)PyBytes_Size(bytes));
+  answer = wrong_set_of(scheme, PyBytes_AsString(bytes), (size_t)PyBytes_Size(bytes));
   Py_DECREF(bytes);
   return answer;
 }
@@ -462,10 +523,12 @@ PyObject *wrong_set(PyObject *Py_UNUSED(module), PyObject *object) {
  * The type
  */
 
-PyDoc_STRVAR(formed_doc, "Formed(text)\n--\n\nA text that is a set of versions, and the set's form.");
+PyDoc_STRVAR(formed_doc,
+             "Formed(text, *, scheme='mixed')\n--\n\n"
+             "A text that is a set of versions of a scheme, and the set's form.");
 
 PyDoc_STRVAR(of_doc,
-             "of($type, version)\n--\n\n"
+             "of($type, version, *, scheme='mixed')\n--\n\n"
              "The set of what ties with a version, a `Version` or a text. `InvalidVersion` for a text that is not a "
              "version.\n"
              "\n"
@@ -500,8 +563,12 @@ static PyMethodDef formed_methods[] = {
     {NULL, NULL, 0, NULL},
 };
 
+static PyObject *formed_scheme(PyObject *self, void *Py_UNUSED(closure)) {
+  return scheme_name(formed_set(self).scheme);
+}
+
 static PyMemberDef formed_members[] = {
-    {"_form", T_OBJECT_EX, offsetof(struct formed, form), READONLY, "The form."},
+    {"_form", T_OBJECT_EX, offsetof(struct formed, set.form), READONLY, "The form."},
     {"_text", T_OBJECT, offsetof(struct formed, text), READONLY, "The text as it was written, or None."},
     {"_version", T_OBJECT, offsetof(struct formed, version), READONLY, "What `of` was called with, or None."},
     {NULL, 0, 0, 0, NULL},
@@ -510,6 +577,7 @@ static PyMemberDef formed_members[] = {
 static PyGetSetDef formed_attributes[] = {
     {"intervals", formed_intervals, NULL,
      "A tuple of pairs of keys, which rise: a low end, which is in it, and the high end, which is not, or None.", NULL},
+    {"scheme", formed_scheme, NULL, "The name of its scheme, one of `SCHEMES`.", NULL},
     {NULL, NULL, NULL, NULL, NULL},
 };
 

@@ -21,13 +21,14 @@ void *fail(PyObject *type, const char *format, ...) {
   return NULL;
 }
 
-void *raise_invalid(const char *name, PyObject *text) {
+void *raise_invalid(const char *name, PyObject *text, uint32_t scheme) {
   PyObject *errors = PyImport_ImportModule("versions._errors");
   PyObject *type = errors == NULL ? NULL : PyObject_GetAttrString(errors, name);
-  PyObject *exact = type == NULL ? NULL : PyUnicode_FromObject(text);
+  PyObject *held = type == NULL ? NULL : PyUnicode_FromObject(text);
 
-  if (exact != NULL) PyErr_SetObject(type, exact);
-  Py_XDECREF(exact);
+  if (held != NULL && scheme != VERSIONS_MIXED) held = pair_of(held, scheme_name(scheme));
+  if (held != NULL) PyErr_SetObject(type, held);
+  Py_XDECREF(held);
   Py_XDECREF(type);
   Py_XDECREF(errors);
   return NULL;
@@ -77,6 +78,84 @@ void add_context(struct error context) {
 }
 
 /*
+ * Schemes
+ */
+
+/* Writes the name of a scheme. Returns a status. */
+static int ask_name(uint32_t scheme, PyObject **name) {
+  char room[16];
+  size_t size = 0;
+  int status = versions_scheme_name(scheme, room, sizeof room, &size);
+
+  if (status == VERSIONS_OK) *name = PyUnicode_FromStringAndSize(room, (Py_ssize_t)size);
+  return status;
+}
+
+PyObject *scheme_name(uint32_t scheme) {
+  PyObject *name = NULL;
+  int status = ask_name(scheme, &name);
+
+  return status == VERSIONS_OK ? name : raise_status(status);
+}
+
+PyObject *scheme_names(void) {
+  PyObject *names = PyList_New(0), *name = NULL, *all;
+  uint32_t scheme = VERSIONS_MIXED;
+  int status = VERSIONS_OK;
+
+  while (names != NULL && (status = ask_name(scheme++, &name)) == VERSIONS_OK) {
+    if (name == NULL || PyList_Append(names, name) < 0) Py_CLEAR(names);
+    Py_XDECREF(name);
+  }
+  if (names != NULL && status != VERSIONS_NO_SCHEME) {
+    Py_CLEAR(names);
+    raise_status(status);
+  }
+  all = names == NULL ? NULL : PyList_AsTuple(names);
+  Py_XDECREF(names);
+  return all;
+}
+
+/* ValueError for a text that is the name of no scheme. */
+static void raise_no_scheme(PyObject *object) {
+  PyObject *names = scheme_names(), *comma = names == NULL ? NULL : PyUnicode_FromString(", ");
+  PyObject *listed = comma == NULL ? NULL : PyUnicode_Join(comma, names);
+
+  if (listed != NULL) fail(PyExc_ValueError, "a scheme is one of %U, and this is %R", listed, object);
+  Py_XDECREF(listed);
+  Py_XDECREF(comma);
+  Py_XDECREF(names);
+}
+
+int read_scheme(PyObject *object, uint32_t *scheme) {
+  struct text text;
+  int status;
+
+  *scheme = VERSIONS_MIXED;
+  if (!PyUnicode_Check(object)) {
+    raise_other("a scheme is a str", object);
+    return -1;
+  }
+  if (read_text(object, &text) < 0) return -1;
+  status = versions_scheme(text.bytes, text.size, scheme);
+  if (status == VERSIONS_OK) return 0;
+  if (status == VERSIONS_NO_SCHEME)
+    raise_no_scheme(object);
+  else
+    raise_status(status);
+  return -1;
+}
+
+void *raise_schemes(uint32_t wanted, uint32_t given) {
+  PyObject *first = scheme_name(wanted), *second = first == NULL ? NULL : scheme_name(given);
+
+  if (second != NULL) fail(PyExc_TypeError, "versions of %U are wanted, and this is of %U", first, second);
+  Py_XDECREF(second);
+  Py_XDECREF(first);
+  return NULL;
+}
+
+/*
  * One text
  */
 
@@ -112,6 +191,17 @@ int read_arguments(PyObject *args, PyObject *named, const char *format, char **n
   *a = PyTuple_GetItem(args, 0);
   if (b != NULL) *b = PyTuple_GetItem(args, 1);
   return 0;
+}
+
+int read_with_scheme(PyObject *args, PyObject *named, const char *format, char **names, PyObject **a, PyObject **b,
+                     uint32_t *scheme) {
+  PyObject *name = NULL;
+
+  *scheme = VERSIONS_MIXED;
+  if (named == NULL) return read_arguments(args, named, format, names, a, b);
+  /* The scheme follows the one argument, or the two. */
+  if (!PyArg_ParseTupleAndKeywords(args, named, format, names, a, b == NULL ? &name : b, &name)) return -1;
+  return name == NULL ? 0 : read_scheme(name, scheme);
 }
 
 /*
@@ -180,19 +270,24 @@ static int is_missing(PyObject *item) {
   return answer == 1 ? is_nan(item) : answer;
 }
 
-PyObject *text_of(PyObject *object) {
-  return !PyUnicode_Check(object) && is_keyed(object) ? keyed_text(object) : object;
+PyObject *text_of(PyObject *object, uint32_t scheme) {
+  if (PyUnicode_Check(object) || !is_keyed(object)) return object;
+  return keyed_scheme(object) == scheme ? keyed_text(object) : raise_schemes(scheme, keyed_scheme(object));
 }
 
-int read_item(PyObject *item, struct text *text) { return read_text(text_of(item), text); }
+int read_item(PyObject *item, uint32_t scheme, struct text *text) {
+  PyObject *object = text_of(item, scheme);
 
-int read_item_or_none(PyObject *item, struct text *text) {
+  return object == NULL ? -1 : read_text(object, text);
+}
+
+int read_item_or_none(PyObject *item, uint32_t scheme, struct text *text) {
   if (!PyUnicode_Check(item) && !is_keyed(item)) {
     int missing = is_missing(item);
 
     if (missing != 0) return missing < 0 ? -1 : 0;
   }
-  return read_item(item, text) < 0 ? -1 : 1;
+  return read_item(item, scheme, text) < 0 ? -1 : 1;
 }
 
 /* Makes an array twice as long until it has `wanted` elements of `size` bytes. */

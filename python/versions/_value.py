@@ -5,6 +5,11 @@ from __future__ import annotations
 from typing import Any, SupportsIndex, Union
 
 
+def shown_scheme(scheme: str) -> str:
+    """How the `repr` of what is of a scheme shows it: mixed isn't shown."""
+    return "" if scheme == "mixed" else f", scheme={scheme!r}"
+
+
 class Value:
     """A value that is made of a text. It is shown by that text; copies and pickles have its attributes too."""
 

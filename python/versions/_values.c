@@ -44,77 +44,84 @@ static int order_of(const struct ordered *a, const struct ordered *b) {
 }
 
 /*
- * Keyed: a text, its key and its kind
+ * Keyed: a text, its key, its scheme and its kind
  */
 
 struct keyed {
   PyObject_HEAD PyObject *text;
   struct ordered key;
-  uint8_t kind;
+  uint32_t scheme;
+  uint8_t kind; /* VERSIONS_NONE in another scheme than mixed */
 };
 
 const char *const kind_names[] = {"none", "ideal", "general", "complex"};
 
+/* Writes the key of a text in a scheme, and in mixed its kind. Returns a status. */
+static int ask_key(uint32_t scheme, const struct text *text, uint8_t *kind, uint8_t *room, size_t *size) {
+  PyThreadState *thread = let_go(text->size);
+  int status = scheme == VERSIONS_MIXED ? versions_parse(text->bytes, text->size, kind, room, *size, size)
+                                        : versions_scheme_key(scheme, text->bytes, text->size, room, *size, size);
+
+  take_again(thread);
+  return status;
+}
+
 /* The key of a text that is longer than the room on the stack. */
-static PyObject *long_key_of(const struct text *text, uint8_t *kind, size_t size) {
+static PyObject *long_key_of(uint32_t scheme, const struct text *text, uint8_t *kind, size_t size) {
   PyObject *key = PyBytes_FromStringAndSize(NULL, (Py_ssize_t)size);
-  PyThreadState *thread;
-  uint8_t *room;
   int status;
 
   if (key == NULL) return NULL;
-  room = (uint8_t *)PyBytes_AsString(key);
-  thread = let_go(text->size);
-  status = versions_parse(text->bytes, text->size, kind, room, size, &size);
-  take_again(thread);
+  status = ask_key(scheme, text, kind, (uint8_t *)PyBytes_AsString(key), &size);
   if (status == VERSIONS_OK) return key;
   Py_DECREF(key);
   return raise_status(status);
 }
 
-/* The key that a Version keeps, and its kind. */
-static PyObject *kept_key(PyObject *object, uint8_t *kind) {
+/* The key that a Version keeps, which has to be of the scheme, and its kind. */
+static PyObject *kept_key(PyObject *object, uint32_t scheme, uint8_t *kind) {
   struct keyed *keyed = (struct keyed *)object;
 
+  if (keyed->scheme != scheme) return raise_schemes(scheme, keyed->scheme);
   *kind = keyed->kind;
   Py_INCREF(keyed->key.bytes);
   return keyed->key.bytes;
 }
 
-PyObject *key_of(PyObject *object, uint8_t *kind) {
+PyObject *key_of(PyObject *object, uint32_t scheme, uint8_t *kind) {
   uint8_t key[1024];
-  size_t size = 0;
-  PyThreadState *thread;
+  size_t size = sizeof key;
   struct text text;
   int status;
 
-  if (!PyUnicode_Check(object) && is_keyed(object)) return kept_key(object, kind);
+  *kind = VERSIONS_NONE;
+  if (!PyUnicode_Check(object) && is_keyed(object)) return kept_key(object, scheme, kind);
   if (read_text(object, &text) < 0) return NULL;
-  thread = let_go(text.size);
-  status = versions_parse(text.bytes, text.size, kind, key, sizeof key, &size);
-  take_again(thread);
+  status = ask_key(scheme, &text, kind, key, &size);
   switch (status) {
     case VERSIONS_OK: return PyBytes_FromStringAndSize((const char *)key, (Py_ssize_t)size);
-    case VERSIONS_NO_ROOM: return long_key_of(&text, kind, size);
-    case VERSIONS_NO_VERSION: return raise_invalid("InvalidVersion", object);
+    case VERSIONS_NO_ROOM: return long_key_of(scheme, &text, kind, size);
+    case VERSIONS_NO_VERSION: return raise_invalid("InvalidVersion", object, scheme);
     default: return raise_status(status);
   }
 }
 
 static PyObject *keyed_new(PyTypeObject *type, PyObject *args, PyObject *named) {
-  static char *names[] = {"text", NULL};
+  static char *names[] = {"text", "scheme", NULL};
   PyObject *object, *key;
   struct keyed *keyed;
-  uint8_t kind = VERSIONS_NONE;
+  uint32_t scheme;
+  uint8_t kind;
 
-  if (read_arguments(args, named, "O:Version", names, &object, NULL) < 0) return NULL;
-  key = key_of(object, &kind);
+  if (read_with_scheme(args, named, "O|$O:Version", names, &object, NULL, &scheme) < 0) return NULL;
+  key = key_of(object, scheme, &kind);
   keyed = key == NULL ? NULL : (struct keyed *)PyType_GenericAlloc(type, 0);
   if (keyed == NULL) {
     Py_XDECREF(key);
     return NULL;
   }
   keyed->key = ordered_of(key);
+  keyed->scheme = scheme;
   keyed->kind = kind;
   /* The text of a subclass of str is copied, as it is and not as the subclass shows it. */
   keyed->text = PyUnicode_FromObject(PyUnicode_Check(object) ? object : keyed_text(object));
@@ -158,12 +165,21 @@ bool is_keyed(PyObject *object) { return is_made_by(object, keyed_dealloc); }
 
 PyObject *keyed_text(PyObject *keyed) { return ((struct keyed *)keyed)->text; }
 
+uint32_t keyed_scheme(PyObject *keyed) { return ((struct keyed *)keyed)->scheme; }
+
+/* Whether an object is a Version of the scheme mixed. */
+static bool is_mixed(PyObject *object) { return is_keyed(object) && keyed_scheme(object) == VERSIONS_MIXED; }
+
 int order_of_keyed(PyObject *a, PyObject *b) { return order_of(&((struct keyed *)a)->key, &((struct keyed *)b)->key); }
 
 static PyObject *keyed_compare(PyObject *self, PyObject *other, int how) {
   int order;
 
   if (Py_TYPE(self) != Py_TYPE(other) && !is_keyed(other)) Py_RETURN_NOTIMPLEMENTED;
+  if (keyed_scheme(self) != keyed_scheme(other)) {
+    if (how == Py_EQ || how == Py_NE) return PyBool_FromLong(how == Py_NE);
+    return raise_schemes(keyed_scheme(self), keyed_scheme(other));
+  }
   order = order_of_keyed(self, other);
   Py_RETURN_RICHCOMPARE(order, 0, how);
 }
@@ -177,11 +193,31 @@ static PyObject *keyed_str(PyObject *self) {
   return text;
 }
 
+static PyObject *keyed_scheme_name(PyObject *self, void *Py_UNUSED(closure)) {
+  return scheme_name(keyed_scheme(self));
+}
+
+/* AttributeError for what versions of mixed alone have, as their kind. */
+static void *raise_no_parts(PyObject *self) {
+  PyObject *name = scheme_name(keyed_scheme(self));
+
+  if (name != NULL) fail(PyExc_AttributeError, "versions of %U have no kind, parts, fields or stability", name);
+  Py_XDECREF(name);
+  return NULL;
+}
+
 static PyObject *keyed_kind(PyObject *self, void *Py_UNUSED(closure)) {
+  if (keyed_scheme(self) != VERSIONS_MIXED) return raise_no_parts(self);
   return PyUnicode_InternFromString(kind_names[((struct keyed *)self)->kind]);
 }
 
-PyDoc_STRVAR(keyed_doc, "Keyed(text)\n--\n\nA text that is a version, its key, by which it compares, and its kind.");
+static PyObject *keyed_mixed(PyObject *self, void *Py_UNUSED(closure)) {
+  return keyed_scheme(self) == VERSIONS_MIXED ? keyed_str(self) : raise_no_parts(self);
+}
+
+PyDoc_STRVAR(keyed_doc,
+             "Keyed(text, *, scheme='mixed')\n--\n\n"
+             "A text that is a version of a scheme, its key, by which it compares, and its kind.");
 
 static PyMemberDef keyed_members[] = {
     {"_text", T_OBJECT_EX, offsetof(struct keyed, text), READONLY, "The text as it was written."},
@@ -192,6 +228,8 @@ static PyMemberDef keyed_members[] = {
 
 static PyGetSetDef keyed_attributes[] = {
     {"kind", keyed_kind, NULL, "`'ideal'`, `'general'` or `'complex'`: the first kind that fits.", NULL},
+    {"scheme", keyed_scheme_name, NULL, "The name of its scheme, one of `SCHEMES`.", NULL},
+    {"_mixed", keyed_mixed, NULL, "The text of a version of mixed. AttributeError for any other.", NULL},
     {NULL, NULL, NULL, NULL, NULL},
 };
 
@@ -269,7 +307,7 @@ static int ask_for_range(PyObject *object, struct range *range) {
   if (status == VERSIONS_OK) return keep_bounds(range, &bounds);
   if (status == VERSIONS_NO_ROOM) return ask_long_range(range, &bounds);
   if (status == VERSIONS_NO_REQUIREMENTS)
-    raise_invalid("InvalidRequirement", object);
+    raise_invalid("InvalidRequirement", object, VERSIONS_MIXED);
   else
     raise_status(status);
   return -1;
@@ -390,14 +428,13 @@ int match_one(const struct range *range, PyObject *version) {
   bool answer = false;
   int status;
 
-  if (is_keyed(version)) {
+  if (is_mixed(version)) {
     struct keyed *keyed = (struct keyed *)version;
 
     if (!has(range, keyed)) return 0;
     if (is_exact(range)) return 1;
-    version = keyed->text;
   }
-  if (read_text(version, &text) < 0) return -1;
+  if (read_item(version, VERSIONS_MIXED, &text) < 0) return -1;
   status = match_text(range, &text, &answer);
   if (status == VERSIONS_OK) return answer;
   if (status == VERSIONS_NO_VERSION) return 2;
@@ -412,7 +449,7 @@ static PyObject *ranged_matches(PyObject *self, PyObject *args, PyObject *named)
 
   if (read_arguments(args, named, "O:matches", names, &version, NULL) < 0) return NULL;
   answer = match_one(&((struct ranged *)self)->range, version);
-  if (answer == 2) return raise_invalid("InvalidVersion", version);
+  if (answer == 2) return raise_invalid("InvalidVersion", version, VERSIONS_MIXED);
   return answer < 0 ? NULL : PyBool_FromLong(answer);
 }
 
@@ -439,7 +476,7 @@ static PyObject *why_not(const struct range *range, PyObject *version) {
   switch (status) {
     case VERSIONS_OK: return mismatch(version, start, end, why);
     case VERSIONS_ALL_MATCH: Py_RETURN_NONE;
-    case VERSIONS_NO_VERSION: return raise_invalid("InvalidVersion", version);
+    case VERSIONS_NO_VERSION: return raise_invalid("InvalidVersion", version, VERSIONS_MIXED);
     default: return raise_status(status);
   }
 }
@@ -447,8 +484,9 @@ static PyObject *why_not(const struct range *range, PyObject *version) {
 static PyObject *ranged_why_not(PyObject *self, PyObject *version) {
   const struct range *range = &((struct ranged *)self)->range;
 
-  if (is_exact(range) && is_keyed(version) && has(range, (struct keyed *)version)) Py_RETURN_NONE;
-  return why_not(range, text_of(version));
+  if (is_exact(range) && is_mixed(version) && has(range, (struct keyed *)version)) Py_RETURN_NONE;
+  version = text_of(version, VERSIONS_MIXED);
+  return version == NULL ? NULL : why_not(range, version);
 }
 
 static int ranged_contains(PyObject *self, PyObject *version) {
@@ -475,11 +513,11 @@ static int judge_value(const struct range *range, PyObject *item, struct gathere
   struct text text;
   int found;
 
-  if (is_keyed(item)) {
+  if (is_mixed(item)) {
     if (!has(range, (struct keyed *)item)) return LEFT_OUT;
     if (is_exact(range)) return KEPT;
   }
-  found = read_item_or_none(item, &text);
+  found = read_item_or_none(item, VERSIONS_MIXED, &text);
   if (found <= 0) return found < 0 ? -1 : LEFT_OUT;
   return add_text(gathered, &text) < 0 ? -1 : ASKED;
 }

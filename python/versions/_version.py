@@ -3,10 +3,10 @@
 from __future__ import annotations
 
 import enum
-from typing import TYPE_CHECKING, Any, Literal, NamedTuple, Optional, Union
+from typing import TYPE_CHECKING, Any, Literal, NamedTuple, Optional, SupportsIndex, Union
 
 from . import _library
-from ._value import Value
+from ._value import Value, shown_scheme
 
 if TYPE_CHECKING:
     from typing_extensions import Self
@@ -109,7 +109,9 @@ _DIFFERENCES = {
 class Version(Value, _library.Keyed):
     """A version of any kind, which can't be changed. `InvalidVersion` where the text is not a version.
 
-    It is made of a text, or of a `Version`, whose text it has then.
+    It is made of a text, or of a `Version`, whose text it has then. It is of the `scheme` mixed, or of another of
+    `SCHEMES`, by whose order it compares then. Versions of two schemes are never equal, and to order them is a
+    `TypeError`. Kind, numbers, fields and stability are for versions of mixed, and an `AttributeError` of any other.
 
     Comparisons, `==` and hashes go by precedence, the one order of all versions, and so by `key`. The text stays as it
     was written, and `str` returns it. Equal versions may have different texts. The requirement `=` distinguishes them:
@@ -123,12 +125,28 @@ class Version(Value, _library.Keyed):
     ('ideal', 'general', 'complex')
     >>> max(map(Version, ["1.9", "1.10", "1.10rc1"]))
     Version('1.10')
+    >>> Version("1.0~rc1", scheme="deb") < Version("1.0", scheme="deb") == Version("1.0-0", scheme="deb")
+    True
     >>> Version("1..2")
     Traceback (most recent call last):
     versions.InvalidVersion: not a version: '1..2'
     """
 
     __slots__ = ("__weakref__",)
+
+    @classmethod
+    def _in_scheme(cls, text: str, scheme: str) -> Self:
+        # What a pickle of another scheme than mixed holds. A subclass may have a `__new__` that takes no scheme.
+        return _library.Keyed.__new__(cls, text, scheme=scheme)
+
+    def __repr__(self) -> str:
+        return f"{type(self).__name__}({self._text!r}{shown_scheme(self.scheme)})"
+
+    def __reduce_ex__(self, protocol: SupportsIndex) -> Union[str, tuple[Any, ...]]:
+        given = super().__reduce_ex__(protocol)
+        if self.scheme == "mixed" or isinstance(given, str) or type(self).__reduce__ is not object.__reduce__:
+            return given
+        return (type(self)._in_scheme, (self._text, self.scheme), *given[2:])
 
     @classmethod
     def from_tag(cls, tag: Union[str, Version], prefix: Optional[str] = None) -> Self:
@@ -172,7 +190,7 @@ class Version(Value, _library.Keyed):
         >>> Version("1.2.0-rc.1").is_prerelease, Version("1.2.0").is_prerelease, Version("1.2rc1").is_prerelease
         (True, False, False)
         """
-        return _library.is_prerelease(self._text)
+        return _library.is_prerelease(self._mixed)
 
     @property
     def stability(self) -> Stability:
@@ -185,7 +203,7 @@ class Version(Value, _library.Keyed):
         >>> Version("1.5.0-1ubuntu1").stability is Stability.STABLE, Version("1.0rc1").stability >= Stability.BETA
         (True, True)
         """
-        return Stability(_library.stability(self._text))
+        return Stability(_library.stability(self._mixed))
 
     def difference(self, other: Union[str, Version]) -> Difference:
         """Where it first differs from another version, a `Version` or a text. `InvalidVersion` where that is none.
@@ -195,7 +213,7 @@ class Version(Value, _library.Keyed):
         >>> [Version("1.2").difference(other).kind.name for other in ("1.2", "0:1.2", "1:1.2", "1.2-1")]
         ['NONE', 'TIE', 'EPOCH', 'TAIL']
         """
-        number, part = _library.difference(self, other)
+        number, part = _library.difference(self._mixed, other)
         kind = DifferenceKind(number)
         return Difference(kind, part if kind is DifferenceKind.PART else None)
 
@@ -213,7 +231,7 @@ class Version(Value, _library.Keyed):
         Traceback (most recent call last):
         ValueError: 1.2rc1 has no next version at place 0
         """
-        text = _library.next(self._text, place)
+        text = _library.next(self._mixed, place)
         if text is None:
             raise ValueError(f"{self._text} has no next version at place {place}")
         return type(self)(text)
@@ -225,7 +243,7 @@ class Version(Value, _library.Keyed):
         >>> Version("1.2.0-rc.1+x86").pre_release, Version("1.2-1").pre_release
         ('rc.1', None)
         """
-        return _library.field(self._text, _library.PRE_RELEASE)
+        return _library.field(self._mixed, _library.PRE_RELEASE)
 
     @property
     def release(self) -> Optional[str]:
@@ -234,7 +252,7 @@ class Version(Value, _library.Keyed):
         >>> Version("1.2-3.1").release, Version("1.2.0-rc.1").release
         ('3.1', None)
         """
-        return _library.field(self._text, _library.RELEASE)
+        return _library.field(self._mixed, _library.RELEASE)
 
     @property
     def metadata(self) -> Optional[str]:
@@ -243,7 +261,7 @@ class Version(Value, _library.Keyed):
         >>> Version("1.2.0-rc.1+x86").metadata, Version("20.0026.1_0-2+0.93").metadata
         ('x86', None)
         """
-        return _library.field(self._text, _library.METADATA)
+        return _library.field(self._mixed, _library.METADATA)
 
     @property
     def epoch(self) -> Optional[int]:
@@ -254,7 +272,7 @@ class Version(Value, _library.Keyed):
         >>> Version("1:2.0-3").epoch, Version("8:2007f~dfsg-7").epoch, Version("2.0-3").epoch
         (1, 8, None)
         """
-        return _library.epoch(self._text)
+        return _library.epoch(self._mixed)
 
     @property
     def major(self) -> Optional[int]:
@@ -293,4 +311,4 @@ class Version(Value, _library.Keyed):
         >>> Version("1.7d-15").nth(1), Version("2rc1").nth(0), Version("1:20.0026.1_0-2").nth(1)
         (7, 2, 26)
         """
-        return _library.nth(self._text, n)
+        return _library.nth(self._mixed, n)

@@ -7,7 +7,8 @@ from declarations import Header  # noqa: E402
 
 
 def stand_ins(header):
-    """A source with the calls that return an int: each returns stand_in of its first text or bytes and their length.
+    """A source with the calls that return an int: each returns stand_in of its first text or bytes and their length, or
+    of none where it has none.
 
     They are weak, so the file that has stand_in can have calls of its own in their place.
     """
@@ -15,7 +16,8 @@ def stand_ins(header):
     made += "int stand_in(const char *, size_t);\n"
     for call in Header(header).calls.values():
         if call.result == "int" and len(call.parameters) > 1:
-            first = next(place for place, (kind, _) in enumerate(call.parameters) if kind.endswith("*"))
-            (_, text), (_, length), *_ = call.parameters[first:]
+            pairs = zip(call.parameters, call.parameters[1:])
+            arrays = ((name, length) for (kind, name), (of, length) in pairs if "const" in kind and of == "size_t")
+            text, length = next(arrays, ("NULL", "0"))
             made += f"__attribute__((weak)) {call.prototype()} {{ return stand_in((const char *){text}, {length}); }}\n"
     return made
