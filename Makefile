@@ -41,7 +41,7 @@ C_LIBRARY := c/out$(of_target)
 header := c/versions.h
 built := $(C_LIBRARY)/versions.pc
 $(built): crates.txt c/build c/target c/pkg-config-file c/declarations.py c/versions.3.in c/versions.c c/versions.h \
-  $(call sources,version_rules version_texts version_sets version_tasks versions_c)
+  $(call sources,version_rules version_texts version_sets version_schemes version_tasks versions_c)
 	c/build --target $(TARGET) $(C_LIBRARY)
 else
 header := $$C_LIBRARY/versions.h
@@ -50,13 +50,13 @@ endif
 ifndef VERS
 VERS := c/out$(of_target)/vers
 built += $(VERS)
-$(VERS): crates.txt c/program c/target $(call sources,version_rules version_texts version_tasks version_lines \
+$(VERS): crates.txt c/program c/target $(call sources,version_rules version_texts version_sets version_tasks version_lines \
   version_commands vers_words vers)
 	c/program --target $(TARGET) vers $(VERS)
 endif
 
 # The program for people.
-of_versions = crates.txt c/program c/target $(call sources,version_rules version_texts version_tasks version_lines \
+of_versions = crates.txt c/program c/target $(call sources,version_rules version_texts version_sets version_tasks version_lines \
   version_commands version_words versions_program)
 ifndef VERSIONS
 VERSIONS := c/out$(of_target)/versions
