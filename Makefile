@@ -50,13 +50,13 @@ endif
 ifndef VERS
 VERS := c/out$(of_target)/vers
 built += $(VERS)
-$(VERS): crates.txt c/program c/target $(call sources,version_rules version_texts version_sets version_tasks version_lines \
+$(VERS): crates.txt c/program c/target $(call sources,version_rules version_texts version_sets version_schemes version_tasks version_lines \
   version_commands vers_words vers)
 	c/program --target $(TARGET) vers $(VERS)
 endif
 
 # The program for people.
-of_versions = crates.txt c/program c/target $(call sources,version_rules version_texts version_sets version_tasks version_lines \
+of_versions = crates.txt c/program c/target $(call sources,version_rules version_texts version_sets version_schemes version_tasks version_lines \
   version_commands version_words versions_program)
 ifndef VERSIONS
 VERSIONS := c/out$(of_target)/versions

@@ -141,6 +141,7 @@ extern "C" {
 #define VERSIONS_SET_LETTER_V 9     /* the version begins with v or V and a digit, as a tag does */
 #define VERSIONS_SET_PART_X 10      /* the version has a part x or X, as a pattern does */
 #define VERSIONS_SET_NO_DIGIT 11    /* the version has no digit, as latest */
+#define VERSIONS_SET_NOT_DOUBLED 12 /* << or >> stands in a set of another scheme than Debian's */
 
 /*
  * Returns the kind of a text: VERSIONS_NONE, VERSIONS_IDEAL, VERSIONS_GENERAL or VERSIONS_COMPLEX.
@@ -572,6 +573,7 @@ int versions_scheme_sort(uint32_t scheme, const char *texts, size_t texts_len, c
  *     =r, ==r            what compares equal to r
  *     !=r                all else
  *     <r, <=r, >r, >=r   what is before r, not after it, after it, not before it
+ *     <<r, >>r           in Debian's sets alone: what is before r, after it
  *     =r.*, ==r.*        what has the epoch of r and begins with its parts
  *     !=r.*              all else
  *     ~r, ~=r, ~>r       what is not before r, and begins with its parts but the last
@@ -602,8 +604,8 @@ int versions_set_bound(uint32_t scheme, const char *text, size_t text_len, size_
  * Finds where a text is not a set of versions, and why not.
  *
  * Sets *place to where the first wrong piece of the text begins, in bytes from 0, and *reason to why it is wrong:
- * VERSIONS_SET_NO_MEMBER to VERSIONS_SET_NO_DIGIT. The piece ends before a blank, a comma or a bar. Where something is
- * missing at the end of the text, *place is text_len.
+ * VERSIONS_SET_NO_MEMBER to VERSIONS_SET_NOT_DOUBLED. The piece ends before a blank, a comma or a bar. Where something
+ * is missing at the end of the text, *place is text_len.
  *
  * Returns VERSIONS_OK, VERSIONS_NO_SCHEME, or VERSIONS_NO_WRONG_MEMBER if the text is a set.
  */
@@ -611,7 +613,7 @@ int versions_set_wrong(uint32_t scheme, const char *text, size_t text_len, size_
 
 /*
  * Writes why a text is not a set of versions, and what to write, as a sentence in English without a full stop: for
- * 1.2, an operator is missing: write = or ^ before the version.
+ * 1.2, an operator is missing before the version: = for it alone, >= for it and all later.
  *
  * Writes the sentence into the first bytes of `why`, which has `room` bytes, without a byte 0 after it, and its length
  * to *why_len, also with VERSIONS_NO_ROOM. 100 bytes are always enough. To get the length alone, pass room 0 and a null
@@ -633,6 +635,13 @@ int versions_set_wrong_text(uint32_t scheme, const char *text, size_t text_len, 
  */
 int versions_set_of_version(uint32_t scheme, const char *text, size_t text_len, uint8_t *form, size_t room,
                             size_t *form_len);
+
+/*
+ * Gets the scheme of a set, by the set's form: sets *scheme to its number, such as VERSIONS_DEB.
+ *
+ * Returns VERSIONS_OK, VERSIONS_NO_FORM if the bytes end too early, or VERSIONS_NO_SCHEME.
+ */
+int versions_set_scheme(const uint8_t *form, size_t form_len, uint32_t *scheme);
 
 /*
  * Tests whether a version is in a set, by the set's form. Reads the version once, and as many ends of the set as the

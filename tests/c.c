@@ -1670,11 +1670,23 @@ static void worked_schemes(void) {
   uint32_t reason = 77;
   bool has = false;
   CHECK(versions_set(VERSIONS_DEB, ">=1.0", 5, form, sizeof form, &form_length) == VERSIONS_OK);
+  uint32_t found = 77;
+  CHECK(versions_set_scheme(form, form_length, &found) == VERSIONS_OK && found == VERSIONS_DEB);
+  found = 77;
+  CHECK(versions_set_scheme(form, 1, &found) == VERSIONS_NO_FORM && found == 77);
+  form[0] = 99;
+  CHECK(versions_set_scheme(form, form_length, &found) == VERSIONS_NO_SCHEME && found == 77);
+  form[0] = VERSIONS_DEB;
   CHECK(versions_set_has(form, form_length, "1.0-1", 5, &has) == VERSIONS_OK && has);
   CHECK(versions_set_has(form, form_length, "1.0~rc1", 7, &has) == VERSIONS_OK && !has);
   CHECK(versions_set_has(form, form_length, "a", 1, &has) == VERSIONS_NO_VERSION);
   CHECK(versions_set_wrong(VERSIONS_DEB, "^1", 2, &place, &reason) == VERSIONS_OK);
   CHECK(place == 1 && reason == VERSIONS_SET_NO_PARTS);
+  CHECK(versions_set(VERSIONS_DEB, "<<1.0", 5, form, sizeof form, &form_length) == VERSIONS_OK);
+  CHECK(versions_set_has(form, form_length, "1.0~rc1", 7, &has) == VERSIONS_OK && has);
+  CHECK(versions_set_has(form, form_length, "1.0", 3, &has) == VERSIONS_OK && !has);
+  CHECK(versions_set_wrong(VERSIONS_RPM, ">>1", 3, &place, &reason) == VERSIONS_OK);
+  CHECK(place == 2 && reason == VERSIONS_SET_NOT_DOUBLED);
 }
 
 // Makes every call on a long text: a piece many times, and one more byte.

@@ -142,6 +142,7 @@ static void of_set(const char *text, size_t text_len, const char *version, size_
   answer(versions_set_part_of(other_buffer, other_len, buffer, one_len, NUMBER(bool, 0)));
   answer(versions_set_meets(other_buffer, other_len, buffer, one_len, NUMBER(bool, 0)));
   answer(versions_set_count(buffer, one_len, NUMBER(size_t, 0)));
+  answer(versions_set_scheme(buffer, one_len, NUMBER(uint32_t, 0)));
   answer(versions_set_interval(buffer, one_len, 0, NUMBER(size_t, 0), NUMBER(size_t, 1), NUMBER(size_t, 2),
                                NUMBER(size_t, 3)));
   int statuses[] = {

@@ -100,6 +100,7 @@ static void digest_sets(struct text a, struct text list) {
   CLEAR, status = versions_set_wrong_text(VERSIONS_MIXED, list.at, list.length, (char *)made, room + tied_room, SIZE(0));
   digest_form("set_wrong_text", status, made);
   CLEAR, digest_slots("set_has", versions_set_has(form, length, a.at, a.length, (bool *)&slots[0]), 1, 1);
+  CLEAR, digest_slots("set_scheme", versions_set_scheme(form, length, U32(0)), 1, 8);
   CLEAR, digest_slots("set_count", versions_set_count(form, length, SIZE(0)), 1, 8);
   CLEAR, status = versions_set_interval(form, length, 0, SIZE(0), SIZE(1), SIZE(2), SIZE(3));
   digest_slots("set_interval", status, 4, 8);

@@ -110,6 +110,7 @@ export function digest(library, lines, lists) {
     ask("set_wrong", [MIXED, ...wanted, SLOTS[0], SLOTS[1]], 2);
     writes("set_wrong_text", [MIXED, ...wanted], made, madeRoom);
     ask("set_has", [...set, ...a, SLOTS[0]], 1, 1);
+    ask("set_scheme", [...set, SLOTS[0]], 1);
     ask("set_count", [...set, SLOTS[0]], 1);
     ask("set_interval", [...set, 0n, SLOTS[0], SLOTS[1], SLOTS[2], SLOTS[3]], 4);
     ask("set_part_of", [...its, ...set, SLOTS[0]], 1, 1);

@@ -15,7 +15,7 @@ uint32_t fake_flags = VERSIONS_RANGE_GENERAL | VERSIONS_RANGE_HIGH;
 size_t fake_room = 0, fake_form_len = 0; /* what room a set asks for, and what its form takes of it: bytes 7 */
 size_t fake_place = 0;                   /* of what is wrong with a set */
 size_t fake_key_bound = 0;               /* of each text */
-int fake_meets = VERSIONS_OK;            /* of two sets */
+int fake_form_status = VERSIONS_OK;      /* of a form's scheme */
 
 const char *versions_version(void) { return "9.9.9"; }
 
@@ -127,8 +127,8 @@ int versions_set(uint32_t scheme, const char *text, size_t text_len, uint8_t *fo
   return fake_status;
 }
 
-int versions_set_meets(const uint8_t *one, size_t one_len, const uint8_t *other, size_t other_len, bool *meet) {
-  return fake_status == VERSIONS_OK ? fake_meets : fake_status;
+int versions_set_scheme(const uint8_t *form, size_t form_len, uint32_t *scheme) {
+  return fake_status == VERSIONS_OK ? fake_form_status : fake_status;
 }
 
 int versions_set_wrong(uint32_t scheme, const char *text, size_t text_len, size_t *place, uint32_t *reason) {

@@ -41,7 +41,7 @@ class FakeLibrary(WithFolder):
         cls.shared = ctypes.CDLL(cls.path)
 
     def setUp(self):
-        self.set(status=0, number=0, meets=0)
+        self.set(status=0, number=0, form_status=0)
         self.set(type=ctypes.c_size_t, bound_len=4, room=0, form_len=0, place=0, key_bound=0)
 
     def set(self, type=ctypes.c_int, **values):
@@ -173,11 +173,8 @@ class FakeLibrary(WithFolder):
     def test_the_scheme_of_a_form(self):
         module = self.load()
         for status in (99, -10):
-            self.set(meets=status)
+            self.set(form_status=status)
             self.assertRaisesRegex(RuntimeError, f"returned status {status}$", module.Formed._of_form, b"", None, None)
-        # Of another scheme than each that there is
-        self.set(meets=21)
-        self.assertRaisesRegex(RuntimeError, "returned status 20$", module.Formed._of_form, b"", None, None)
 
     def test_the_names_of_schemes(self):
         module = self.load()

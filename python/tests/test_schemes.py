@@ -446,6 +446,7 @@ class Sets(unittest.TestCase):
         (">1.0 <=1.0+", "1.0-1 1.0a 1.0+", "1.0 1.0-0 1.9"),
         ("<1.0 || >=1.10", "1.0~rc1 1.10 9 1:0", "1.0 1.9"),
         (">1:0 <9", "", "1.0 9 1:0"),
+        ("<<1.0 || >> 1.10", "1.0~rc1 9 1:0", "1.0 1.0-0 1.10"),
     )
 
     # A text that is no set of deb, and the place of its first wrong piece.

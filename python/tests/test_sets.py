@@ -66,6 +66,7 @@ WRONG = (
     ("* || || *", 5, "a member is missing"),
     (">,*", 1, "a version is missing"),
     ("~1.2.*", 1, ".*"),
+    ("<<1", 2, "for Debian's versions alone"),
     ("=1.2-1.*", 1, ".*"),
     ("=1..2", 1, "not a version"),
     ("^1.2 \u00e9", 5, "an operator is missing"),
@@ -422,13 +423,14 @@ VERSIONS = """
 10.2+0.93+1-1 1.2_3:4 1.2:3 r1:2 1:2:3 a.1 1.2.git 20.0026.1_0-2+0.93 8:2007f~dfsg-7
 """.split()
 SLIPS = ["v1.2", "1.x", "latest", "1..2", "1.2-x", "X.1", "V2", "1_x", "é"]
-OPERATORS = [*sets.OPERATORS, "=", "=", "!=", "^", "~"]
+OPERATORS = [*sets.SINGLE, "=", "=", "!=", "^", "~"]
 
 
 def drawn_member(chosen):
     if chosen.random() < 0.04:
         return chosen.choice("***=&")
-    operator, version = chosen.choice(OPERATORS), chosen.choice(VERSIONS if chosen.random() < 0.98 else SLIPS)
+    operator = chosen.choice(OPERATORS if chosen.random() < 0.99 else sets.DOUBLED)
+    version = chosen.choice(VERSIONS if chosen.random() < 0.98 else SLIPS)
     star = ".*" if chosen.random() < (0.4 if "=" in operator[:2] else 0.01) else ""
     return operator + chosen.choice(["", "", " ", "\t "]) + version + star
 

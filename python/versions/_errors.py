@@ -96,8 +96,8 @@ class InvalidVersionSet(_InvalidInScheme):
     ... except InvalidVersionSet as error:
     ...     print(error)
     ...     print(error.start, error.reason)
-    not a set of versions: '>=1.2, 2'; at 7: an operator is missing: write = or ^ before the version
-    7 an operator is missing: write = or ^ before the version
+    not a set of versions: '>=1.2, 2'; at 7: an operator is missing before the version: = for it alone, >= for it and all later
+    7 an operator is missing before the version: = for it alone, >= for it and all later
     """
 
     _wanted = "set of versions"

@@ -168,22 +168,12 @@ static int ask_two(testing *call, struct form a, struct form b, bool *answer) {
   return status;
 }
 
-/* Finds the scheme of a form: it can be asked about with a set of that scheme alone. */
+/* Finds the scheme of a form. */
 static int find_scheme(struct form form, uint32_t *scheme) {
-  PyObject *text = PyUnicode_FromString("*"), *all;
-  int status = VERSIONS_OTHER_SCHEME;
-  bool meet;
+  int status = versions_set_scheme(form.bytes, form.size, scheme);
 
-  for (*scheme = VERSIONS_MIXED; text != NULL; ++*scheme) {
-    all = form_of_text(*scheme, text);
-    if (all == NULL) break;
-    status = ask_two(versions_set_meets, form, form_of_bytes(all), &meet);
-    Py_DECREF(all);
-    if (status != VERSIONS_OTHER_SCHEME) break;
-  }
-  Py_XDECREF(text);
   if (status == VERSIONS_OK) return 0;
-  if (status != VERSIONS_OTHER_SCHEME) raise_status(status);
+  raise_status(status);
   return -1;
 }
 

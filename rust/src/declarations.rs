@@ -81,6 +81,7 @@ pub const SET_NO_PARTS: u32 = 8;
 pub const SET_LETTER_V: u32 = 9;
 pub const SET_PART_X: u32 = 10;
 pub const SET_NO_DIGIT: u32 = 11;
+pub const SET_NOT_DOUBLED: u32 = 12;
 
 extern "C" {
     pub fn versions_kind(text: *const c_char, text_len: usize) -> c_int;
@@ -323,6 +324,7 @@ extern "C" {
         room: usize,
         form_len: *mut usize,
     ) -> c_int;
+    pub fn versions_set_scheme(form: *const u8, form_len: usize, scheme: *mut u32) -> c_int;
     pub fn versions_set_has(
         form: *const u8,
         form_len: usize,

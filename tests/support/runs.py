@@ -4,6 +4,8 @@ A run has FILES in its folder, and a file `full` that takes no byte. docs/VERS.m
 """
 from typing import NamedTuple
 
+from schemes import SYSTEMS
+
 
 class Run(NamedTuple):
     """What a program is given, and does."""
@@ -73,7 +75,8 @@ Options:
 Status: 0 for an answer, even an empty one; 1 for a text that is no version or set, and for a no of
 test, implies and meets; 2 for wrong words; 3 if there is no memory, or a file can't be read or written.
 """
-HELP_OF_KEY = """\
+SCHEMES = f"[possible values: {', '.join(['mixed', *SYSTEMS])}]"
+HELP_OF_KEY = f"""\
 Write sort keys in hexadecimal, whose order as bytes is that of the versions
 
 Usage: versions key [OPTIONS] [VERSION]...
@@ -82,6 +85,7 @@ Arguments:
   [VERSION]...  Versions; without any, or with - alone, the lines of standard input
 
 Options:
+      --scheme <NAME>    Whose order it goes by; mixed unless it is given {SCHEMES}
   -z, --zero-terminated  Lines end with NUL, and not with a line feed
       --crlf             A carriage return at a line's end belongs to the end
   -h, --help             Print help
@@ -104,11 +108,13 @@ JSON = (
     '"release":null,"metadata":null,"stability":"rc"}\n'
 )
 NO_MEMBER = "a member is missing: * has all versions"
-NO_OPERATOR = "an operator is missing: write = or ^ before the version"
+NO_OPERATOR = "an operator is missing before the version: = for it alone, >= for it and all later"
+NO_PARTS = "versions of this scheme have no parts, which ~, ^ and .* ask for"
 MORE = "\n\nFor more information, try '--help'.\n"
 OPERATORS = "[possible values: <, <=, =, >=, >, lt, le, eq, ge, gt]"
 STABILITIES = "[possible values: dev, alpha, beta, rc, stable]"
 PLACES = "[possible values: major, minor, patch, a number from 0]"
+WITH_SCHEME = "error: the argument '--explain' cannot be used with '--scheme <NAME>'"
 
 
 def tip(kind, meant):
@@ -129,21 +135,34 @@ VERSIONS = (
     Run("newest -n 2 -g 1 -k 2", "left 1.9\nup 2.0\nleft 1.10\nleft 1.8\n", "left 1.10\nleft 1.9\nup 2.0\n"),
     Run("newest -n 2 --match <2", "1.9\n1.11\n1.10\n2.0\n", "1.11\n1.10\n"),
     Run("newest --tags --min-stability stable", "v1.9.0\nv2.0.0-beta.1\nv1.10.0\n", "v1.10.0\n"),
+    Run("sort --scheme deb", "1.0+b1\n1.0-0\n1.0\n1.0~rc1", "1.0~rc1\n1.0-0\n1.0\n1.0+b1\n"),
+    Run("sort --scheme pypi -r -u -k 2", "a 1\nb 1.0.dev1\nc 1.0\nd 1.0.post1\n", "d 1.0.post1\na 1\nb 1.0.dev1\n"),
+    Run("newest --scheme rpm -n 2 -g 1 -k 2", "a 1.0\nb 1\na 1.0^1\na 1.0~1\n", "a 1.0^1\na 1.0\nb 1\n"),
+    Run("newest --scheme gem --prefix x-", "x-1.0.a\nx-1.0\nx-1\n", "x-1.0\n"),
     Run("filter '>=1.2, <2'", "1.1\n1.2\nx y\n2.0\n", "1.2\n"),
+    Run("filter --scheme deb '>= 1.0'", "1.0~rc1\n1.0-0\n1_0\n1:0\n", "1.0-0\n1:0\n"),
     Run("filter -v '>=1.2, <2'", "1.1\n1.2\nx y\n2.0\n", "1.1\n2.0\n"),
     Run("show 1:2.0-3", "", FIELDS),
     Run("show --json 1.2.0-rc.1", "", JSON),
     Run("key --crlf", "1.2.3\r\n", "000301310203013202030133020202\n"),
     Run("why '>=1.5, <2 || ^3' 1.4 1.6", "", "1.4 is left out by >=1.5 and by ^3\n1.6 matches\n"),
     Run("why '>2 <1' 1.4", "", "no version is in >2 <1\n1.4 is left out by >2\n"),
+    Run("key --scheme semver 1.2.3-rc.1", "", "013101320133010372630002013101\n"),
+    Run("why --scheme deb '>>1.0 || <<0.9' 1.0-0 1:0", "", "1.0-0 is left out by >>1.0 and by <<0.9\n1:0 matches\n"),
+    Run("why --scheme gem '>1' -", "1.0.a\n1.0.1\n", "1.0.a is left out by >1\n1.0.1 matches\n"),
+    Run("implies --scheme deb '>>1.0' '>=1.0-0'", "", "yes\n"),
+    Run("meets --scheme rpm '<=1.2' '>=1.2-3'", "", "no\n", status=1),
     Run("implies ^1.2 '>=1, <3'", "", "yes\n"),
     Run("implies * ^1", "", "no\n", status=1),
     Run("meets ^1.2 '<1.1 || >=2'", "", "no\n", status=1),
     Run("next minor 1.2.5", "", "1.3.0\n"),
     Run("test 1.10 gt 1.9"),
     Run("test 1.10 ^1.2"),
+    Run("test --scheme deb 9 lt 1:0"),
+    Run("test --scheme semver 1.0.0-rc.1 '>=1.0.0 || <0.1.0'", status=1),
     Run("test 1.9 > 1.10", status=1),
     Run("test 2 ^1.2", status=1),
+    Run("compare --scheme deb 1.0 1.0~rc1", "", ">\n"),
     Run("compare --explain 1.10 1.9", "", "> they differ first in part 1\n"),
     Run("diff 1.2.3 1.2.3-rc.1", "", "tail\n"),
     Run("sort", "1.1\nx y\n1.0\n", status=1, fault="versions: line 2 is not a version: x y\n"),
@@ -151,6 +170,10 @@ VERSIONS = (
     Run("show", "1.0\r\n", status=1, fault="versions: line 1 ends in a carriage return: --crlf\n"),
     Run("key 1..2", status=1, fault="versions: not a version: 1..2\n"),
     Run("compare 1 .", status=1, fault="versions: not a version: .\n"),
+    Run("sort --scheme semver", "1.0.0\n1.0\n", status=1, fault="versions: line 2 is not a version: 1.0\n"),
+    Run("compare --scheme deb 1 1_0", status=1, fault="versions: not a version: 1_0\n"),
+    Run("filter --scheme deb ^1.2", "1.2\n", status=1, fault=f"versions: not a set: ^1.2; at byte 2: {NO_PARTS}\n"),
+    Run("compare --explain --scheme deb 1 2", status=2, fault=f"{WITH_SCHEME}{MORE}"),
     Run("filter >=1.0,", "1.0\n", status=1, fault=f"versions: not a set: >=1.0,; at byte 7: {NO_MEMBER}\n"),
     Run("test 1 lt 'x y'", status=2, fault="versions: not a version: x y\n"),
     Run("meets * 1.2", status=2, fault=f"versions: not a set: 1.2; at byte 1: {NO_OPERATOR}\n"),
@@ -176,6 +199,7 @@ VERSIONS = (
 VERSIONS_WITH_FILES = (
     Run("sort -t, -k2 table -", "down,1.2", "down,1.2\nright,1.9\nup,1.10rc1\nleft,1.10\n"),
     Run("diff --lists old new", "", "raised left 1.2 1.3\nlowered right 2.0 1.9\nremoved up 1.0\nadded down 0.1\n"),
+    Run("diff --lists --scheme pypi old -", "left 1.2.0\nright 2.0rc1\nup 1\n", "lowered right 2.0 2.0rc1\n"),
     Run("sort --invalid-to others", "1.1\nx y\n1.0\n", "1.0\n1.1\n", written={"others": "x y\n"}),
     Run(
         "sort --invalid-to others",
@@ -206,6 +230,11 @@ MISSPELT = (
         "sort --min-stability tc",
         status=2,
         fault=f"error: invalid value 'tc' for '--min-stability <LEVEL>'\n  {STABILITIES}{tip('value', 'rc')}{MORE}",
+    ),
+    Run(
+        "sort --scheme dbe",
+        status=2,
+        fault=f"error: invalid value 'dbe' for '--scheme <NAME>'\n  {SCHEMES}{tip('value', 'deb')}{MORE}",
     ),
     Run(
         "next mino 1.2",

@@ -14,12 +14,30 @@ from checks import TOP
 
 PAGE = (TOP / "docs/SCHEMES.md").read_text()
 SPAN = re.compile("`([^`]+)`")
+# What is said of a member that asks for parts.
+(ASKS_FOR_PARTS,) = re.findall(r"^\| `~[^`]*` \| \d+ \| (.*) \|$", PAGE, re.M)
 # Shapes of `[epoch:]version[-release]`: N is a number, S a sign, W a word, and E an epoch.
 OF_THREE_PARTS = "N NSN N.NSN NWN N.NSW WSN N.NSWSN E:NSN N.N-N NSN-NWN N.NWN-SWN E:NSNWN-NSN NSNWNSN-WSN N-N-N".split()
 
 
 class Missing(Exception):
     """What isn't here, and Debian's package that has it."""
+
+
+def section_of(name):
+    """What the page says of a scheme."""
+    return "".join(re.findall(rf"^## {name}\n(.*?)(?=^## |\Z)", PAGE, re.M | re.S))
+
+
+def chains_of(name):
+    """The chains of the section, such as `1.0~rc1 < 1.0 = 1.0-0`."""
+    return [row.replace("`", "") for row in re.findall(r"^\| (`[^|]*` [<=] [^|]*`) \|", section_of(name), re.M)]
+
+
+def sets_of(name):
+    """The page's sets of a scheme, each with versions that it has, and that it has not."""
+    for text, *cells in re.findall(rf"^\| `{name}` \| `(.*)` \| (`.*`) \| (`.*`) \|$", PAGE, re.M):
+        yield text.replace("\\|", "|"), *map(SPAN.findall, cells)
 
 
 def sign(number):

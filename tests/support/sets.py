@@ -5,7 +5,8 @@ import re
 
 from checks import TOP
 
-OPERATORS = ("==", "=", "!=", "<=", "<", ">=", ">", "~=", "~>", "~", "^")
+SINGLE = ("==", "=", "!=", "<=", "<", ">=", ">", "~=", "~>", "~", "^")
+DOUBLED = ("<<", ">>")  # of Debian's sets alone
 PIECE = re.compile(r"\|\||[|,]|[^ \t|,]+")
 
 
@@ -33,7 +34,7 @@ class Model:
                 alternatives, wanted = alternatives + [[]] if piece == "||" else alternatives, True
                 continue
             if operator is None and piece != "*":
-                operator = next((each for each in OPERATORS if piece.startswith(each)), None)
+                operator = next((each for each in (*DOUBLED, *SINGLE) if piece.startswith(each)), None)
                 piece, place, wanted = piece[len(operator or "") :], place + len(operator or ""), True
             front = piece.removesuffix(".*")
             if piece and not (self.may_follow(operator, front, front != piece) if operator else piece == "*"):
@@ -49,7 +50,8 @@ class Model:
         """Whether a version may stand behind an operator: one that is meant as a tag, a pattern or a word may not."""
         is_meant = re.search("[0-9]", text) and not re.match("[vV][0-9]", text) and not {*"xX"} & {*parts_of(text)}
         is_bare = self.kind(text) != "complex" and not re.search("[-+]", text)
-        return self.kind(text) and is_meant and (not of_parts or (operator in ("=", "==", "!=") and is_bare))
+        is_known = self.kind(text) and is_meant and operator not in DOUBLED
+        return is_known and (not of_parts or (operator in ("=", "==", "!=") and is_bare))
 
     def has(self, alternatives, version):
         return any(all(self.holds(*member, version) for member in members) for members in alternatives)

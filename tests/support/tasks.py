@@ -16,34 +16,49 @@ NAMES = [
 ALPHA, STABLE = 2, 5
 
 
+def text_in_tag(tag):
+    """The rest of a tag from where its version begins, or None."""
+    start = re.search(rb"(?:\A|[^A-Za-z0-9.])[vV]?(?=[0-9])", tag)
+    if start is None or re.search(rb"[0-9][.][0-9]", tag[: start.end()]):
+        return None
+    return tag[start.end() :]
+
+
+def text_after_prefix(prefix, tag):
+    start = re.match(re.escape(prefix) + rb"[vV]?(?=[0-9])", tag)
+    return tag[start.end() :] if start else None
+
+
+def stability_of_words(text):
+    """The lowest stability that words or runs of a text name."""
+    for stability, (words, runs) in enumerate(NAMES, 1):
+        for test, every in (words, "[a-z]+"), (runs, "[a-z0-9]+"):
+            if any(re.fullmatch(test, run) for run in re.findall(every, text.lower())):
+                return stability
+    return STABLE
+
+
 class Model:
     def __init__(self, library):
         self.library = library
 
     def in_tag(self, tag):
-        start = re.search(rb"(?:\A|[^A-Za-z0-9.])[vV]?(?=[0-9])", tag)
-        if start is None or re.search(rb"[0-9][.][0-9]", tag[: start.end()]):
-            return None
-        return self._version(tag[start.end() :])
+        return self._version(text_in_tag(tag))
 
     def after_prefix(self, prefix, tag):
-        start = re.match(re.escape(prefix) + rb"[vV]?(?=[0-9])", tag)
-        return self._version(tag[start.end() :]) if start else None
+        return self._version(text_after_prefix(prefix, tag))
 
     def _version(self, text):
-        return text if self.library.kind(text) else None
+        return text if text is not None and self.library.kind(text) else None
 
     def stability(self, version):
         kind = self.library.kind(version)
         text = version.decode().lower()
         counted = text if kind == COMPLEX else text.split("+")[0]
-        for stability, (words, runs) in enumerate(NAMES, 1):
-            for test, every in (words, "[a-z]+"), (runs, "[a-z0-9]+"):
-                if any(re.fullmatch(test, run) for run in re.findall(every, counted)):
-                    return stability
+        named = stability_of_words(counted)
         chunk = counted.partition("-")[2].split(".")[0]
         early = kind == IDEAL and re.match("[a-z-]", chunk) and not re.fullmatch("r[0-9]+", chunk)
-        return ALPHA if early else STABLE
+        return ALPHA if named == STABLE and early else named
 
     def newest(self, texts, requirements, least, tags):
         """The place of the newest text, or None."""

@@ -1,13 +1,15 @@
 """The program `versions` a second time: what a run writes, how it ends, and whether it reads standard input.
 
-The Python package answers what is a version, which of two comes first, what matches and the like. Words, lines, columns,
-options, orders and faults are this file's.
+The Python package answers what is a version of a scheme, which of two comes first, what matches and the like, and for
+schemes beside mixed tasks.py what a tag has and what words say of stability. Words, lines, columns, options, orders and
+faults are this file's.
 """
 import json
 import re
 from functools import cmp_to_key
 
 import versions
+from tasks import stability_of_words, text_after_prefix, text_in_tag
 
 STABILITIES = ["dev", "alpha", "beta", "rc", "stable"]
 SIGNS = {"<": "lt", "<=": "le", "=": "eq", ">=": "ge", ">": "gt"}
@@ -20,21 +22,21 @@ SHOWN = 60
 SHORT = {"r": "reverse", "u": "unique", "k": "key", "t": "field-separator", "z": "zero-terminated", "n": "count"}
 SHORT.update(g="group", v="invert-match")
 ENDS = {"zero-terminated", "crlf"}
-PLACE = {"key", "field-separator", "tags", "prefix"} | ENDS
+PLACE = {"key", "field-separator", "tags", "prefix", "scheme"} | ENDS
 LINES = {"min-stability", "match", "invalid", "invalid-to", "progress"} | PLACE
-VALUED = {"key", "field-separator", "prefix", "min-stability", "match", "invalid", "invalid-to", "count", "group"}
+VALUED = (LINES | {"count", "group"}) - {"tags", "progress"} - ENDS
 # The options of each command, and how many words it takes.
 COMMANDS = {
     "sort": ({"reverse", "unique"} | LINES, 0, None),
     "newest": ({"count", "group"} | LINES, 0, None),
     "filter": ({"invert-match"} | LINES, 1, None),
     "show": ({"json"} | ENDS, 0, None),
-    "key": (ENDS, 0, None),
-    "test": (set(), 2, 3),
-    "compare": ({"explain"}, 2, 2),
-    "why": (ENDS, 1, None),
-    "implies": (set(), 2, 2),
-    "meets": (set(), 2, 2),
+    "key": ({"scheme"} | ENDS, 0, None),
+    "test": ({"scheme"}, 2, 3),
+    "compare": ({"explain", "scheme"}, 2, 2),
+    "why": ({"scheme"} | ENDS, 1, None),
+    "implies": ({"scheme"}, 2, 2),
+    "meets": ({"scheme"}, 2, 2),
     "diff": ({"lists", "group", "invalid"} | PLACE, 2, 2),
     "next": (ENDS, 1, None),
 }
@@ -55,7 +57,7 @@ class Run:
 
     def __init__(self, words, given, read):
         self.given, self.read, self.written, self.output = given, read, {}, b""
-        self.reads_given = False
+        self.reads_given, self.scheme = False, None
         self.status, self.error = 0, b""
         try:
             self.output = self.answer([*words])
@@ -69,6 +71,7 @@ class Run:
             raise WRONG
         command = words.pop(0)
         self.options, rest = parsed(command, words)
+        self.scheme = self.options.get("scheme", "mixed")
         return getattr(self, command)(*rest)
 
     # Lines.
@@ -104,13 +107,47 @@ class Run:
     def texts(self, lines, number):
         """The version of each line, or None."""
         columns = [self.column(line, number) for line in lines]
+        found = (self.of_mixed if self.scheme == "mixed" else self.of_scheme)(columns)
+        return [text if key else None for text, key in zip(found, versions.sort_keys(found, scheme=self.scheme))]
+
+    def of_mixed(self, columns):
+        """The texts in columns that are to be versions, or None: those in tags by the library, for mixed alone."""
         found = [readable(column) for column in columns]
         if "tags" in self.options:
             # The name before a version may be of any bytes.
-            found = versions.in_tags([(column or b"").decode(errors="replace") for column in columns])
+            return versions.in_tags([(column or b"").decode(errors="replace") for column in columns])
+        if "prefix" in self.options:
+            return [in_tag(text, readable(self.options["prefix"].encode())) for text in found]
+        return found
+
+    def of_scheme(self, columns):
+        """The same of another scheme: what a tag has may be no version of mixed."""
+        columns = [column or b"" for column in columns]
+        if "tags" in self.options:
+            columns = [text_in_tag(column) for column in columns]
         elif "prefix" in self.options:
-            found = [in_tag(text, readable(self.options["prefix"].encode())) for text in found]
-        return [text if kind else None for text, kind in zip(found, versions.kinds(found))]
+            columns = [text_after_prefix(self.options["prefix"].encode(), column) for column in columns]
+        return [readable(column) for column in columns]
+
+    def version(self, word, status=1):
+        try:
+            return versions.Version(word, scheme=self.scheme)
+        except versions.InvalidVersion:
+            raise Ended(status, b"not a version: " + shown(word.encode())) from None
+
+    def version_set(self, word, status=1):
+        try:
+            return versions.VersionSet(word, scheme=self.scheme)
+        except versions.InvalidVersionSet as error:
+            place, reason = len(word[: error.start].encode()) + 1, error.reason.encode()
+            raise Ended(status, b"not a set: %s; at byte %d: %s" % (shown(word.encode()), place, reason)) from None
+
+    def levels(self, texts):
+        """How stable versions are: by their words, of mixed and semver also by their pre-release."""
+        if self.scheme not in ("mixed", "semver"):
+            return [stability_of_words(text) - 1 for text in texts]
+        levels = zip(texts, versions.stabilities(texts))
+        return [STABILITIES.index(str(it)) if it else stability_of_words(text) - 1 for text, it in levels]
 
     def bad(self, lines, texts, asked):
         """The lines without a version, unless they are a fault."""
@@ -125,15 +162,15 @@ class Run:
 
     def lines(self, files, default, arrange):
         """What `sort`, `newest` and `filter` write of their input."""
-        wanted = version_set(self.options.get("match", "*"))
+        wanted = self.version_set(self.options.get("match", "*"))
         asked = self.options.get("invalid", "skip" if "invalid-to" in self.options else default)
         lines = self.input(files)
         texts = self.texts(lines, number(self.options.get("key")))
         bad = self.bad(lines, texts, asked)
         rows = [(line, text) for line, text in zip(lines, texts) if text is not None]
         least = STABILITIES.index(self.options.get("min-stability", "dev"))
-        levels = versions.stabilities([text for _, text in rows])
-        rows = [row for row, level in zip(rows, levels) if STABILITIES.index(str(level)) >= least]
+        levels = self.levels([text for _, text in rows])
+        rows = [row for row, level in zip(rows, levels) if level >= least]
         if "match" in self.options:
             rows = matching(rows, wanted, True)
         good = [line for line, _ in arrange(rows)]
@@ -143,17 +180,18 @@ class Run:
         return b"".join(line + self.end() for line in kept)
 
     def sort(self, *files):
-        reverse = "reverse" in self.options
+        reverse, is_mixed = "reverse" in self.options, self.scheme == "mixed"
 
         def arrange(rows):
-            keyed = [(versions.sort_key(text), line, text) for line, text in rows]
+            keyed = [(versions.sort_key(text, scheme=self.scheme), line, text) for line, text in rows]
             if "unique" in self.options:
                 first = {}
                 for row in keyed:
                     first.setdefault(row[0], row)
                 keyed = sorted(first.values(), key=lambda row: row[0], reverse=reverse)
             else:
-                keyed.sort(key=lambda row: (row[0], TOTAL(row[2])), reverse=reverse)
+                # Beside mixed, lines that tie keep their order.
+                keyed.sort(key=lambda row: (row[0], TOTAL(row[2]) if is_mixed else 0), reverse=reverse)
             return [row[1:] for row in keyed]
 
         return self.lines(files, "fail", arrange)
@@ -165,46 +203,47 @@ class Run:
                 name = self.column(line, number(self.options["group"])) or b"" if "group" in self.options else b""
                 groups.setdefault(name, []).append((line, text))
             for group in groups.values():
-                newest = sorted(group, key=lambda row: versions.sort_key(row[1]), reverse=True)
+                newest = sorted(group, key=lambda row: versions.sort_key(row[1], scheme=self.scheme), reverse=True)
                 yield from newest[: number(self.options.get("count", "1"))]
 
         return self.lines(files, "fail", arrange)
 
     def filter(self, wanted, *files):
-        wanted, keeps = version_set(wanted), "invert-match" not in self.options
+        wanted, keeps = self.version_set(wanted), "invert-match" not in self.options
         return self.lines(files, "skip", lambda rows: matching(rows, wanted, keeps))
 
     # One version or two.
 
     def each(self, words, answer):
-        """The answers of the versions that words or lines name."""
+        """The answers of the versions that words or lines name, each in lines."""
         if words and words != ("-",):
             for word in words:
-                version(word)
+                self.version(word)
         else:
             lines = self.input([])
             words = self.texts(lines, None)
             self.bad(lines, words, "fail")
-        return b"".join(answer(versions.Version(word)) for word in words).replace(b"\n", self.end())
+        return b"".join(line.encode() + self.end() for word in words for line in answer(self.version(word)))
 
     def show(self, *words):
         return self.each(words, as_json if "json" in self.options else as_lines)
 
     def key(self, *words):
-        return self.each(words, lambda one: one.key.hex().encode() + b"\n")
+        return self.each(words, lambda one: [one.key.hex()])
 
     def why(self, wanted, *words):
-        found = version_set(wanted)
+        found = self.version_set(wanted)
         head = b"" if found else b"no version is in " + wanted.encode() + self.end()
-        alternatives = [[(text, versions.VersionSet(text)) for text in MEMBER.findall(each)] for each in wanted.split("||")]
+        members = [MEMBER.findall(alternative) for alternative in wanted.split("||")]
+        alternatives = [[(text, self.version_set(text)) for text in texts] for texts in members]
 
-        def line(one):
+        def lines(one):
             if one in found:
-                return f"{one} matches\n".encode()
+                return [f"{one} matches"]
             first = [next(text for text, member in members if one not in member) for members in alternatives]
-            return f"{one} is left out by {' and by '.join(first)}\n".encode()
+            return [f"{one} is left out by {' and by '.join(first)}"]
 
-        return head + self.each(words, line)
+        return head + self.each(words, lines)
 
     def next(self, place, *words):
         if place not in PLACES and not (re.fullmatch("[0-9]+", place) and int(place) < 2**64):
@@ -213,7 +252,7 @@ class Run:
 
         def answer(one):
             try:
-                return f"{one.next(place)}\n".encode()
+                return [f"{one.next(place)}"]
             except (ValueError, OverflowError):
                 raise Ended(1, b"no version comes next at that place: " + shown(str(one).encode())) from None
 
@@ -223,16 +262,18 @@ class Run:
         if len(words) == 3 and SIGNS.get(words[1], words[1]) not in HOLDS:
             raise WRONG
         if len(words) == 2:
-            one = version(words[0], 2)
-            return self.ending(one in version_set(words[1], 2))
-        first, second = version(words[0], 2), version(words[2], 2)
-        return self.ending(versions.compare(first, second) in HOLDS[SIGNS.get(words[1], words[1])])
+            one = self.version(words[0], 2)
+            return self.ending(one in self.version_set(words[1], 2))
+        first, second = self.version(words[0], 2), self.version(words[2], 2)
+        order = versions.compare(first, second, scheme=self.scheme)
+        return self.ending(order in HOLDS[SIGNS.get(words[1], words[1])])
 
     def implies(self, one, other):
-        return self.ending(version_set(one, 2) <= version_set(other, 2), b"yes\n", b"no\n")
+        return self.ending(self.version_set(one, 2) <= self.version_set(other, 2), b"yes\n", b"no\n")
 
     def meets(self, one, other):
-        return self.ending(not version_set(one, 2).isdisjoint(version_set(other, 2)), b"yes\n", b"no\n")
+        one, other = self.version_set(one, 2), self.version_set(other, 2)
+        return self.ending(not one.isdisjoint(other), b"yes\n", b"no\n")
 
     def ending(self, answer, yes=b"", no=b""):
         """Ends with 0 for yes and 1 for no."""
@@ -240,18 +281,20 @@ class Run:
         return yes if answer else no
 
     def compare(self, first, second):
-        first, second = version(first), version(second)
-        sign = "<=>"[versions.compare(first, second) + 1]
+        first, second = self.version(first), self.version(second)
+        sign = "<=>"[versions.compare(first, second, scheme=self.scheme) + 1]
+        if "explain" not in self.options:
+            return f"{sign}\n".encode()
         found = first.difference(second)
         if found.kind.name == "NONE":
             same = str(first) == str(second)
             found = "they are the same version" if same else "they differ only after the plus, which doesn't count"
-        return (f"{sign} {found}\n" if "explain" in self.options else f"{sign}\n").encode()
+        return f"{sign} {found}\n".encode()
 
     def diff(self, first, second):
         if "lists" in self.options:
             return self.changes(first, second)
-        found = version(first).difference(version(second))
+        found = self.version(first).difference(self.version(second))
         name = {"NONE": "same", "PART": f"part {found.part}"}.get(found.kind.name, found.kind.name.lower())
         return f"{name}\n".encode()
 
@@ -268,7 +311,7 @@ class Run:
                     names.setdefault(self.column(line, number(self.options.get("group", "1"))) or b"", text)
         answer = b""
         for name, text in old.items():
-            order = versions.compare(text, new[name]) if name in new else 0
+            order = versions.compare(text, new[name], scheme=self.scheme) if name in new else 0
             if name not in new:
                 answer += b"removed %s %s" % (name, text.encode()) + end
             elif order != 0:
@@ -333,7 +376,9 @@ def are_right(command, options):
         and options.get("min-stability", "dev") in STABILITIES
         and options.get("invalid", "fail") in invalid
         and not ("invalid-to" in options and options.get("invalid", "skip") != "skip")
+        and options.get("scheme", "mixed") in versions.SCHEMES
         and not ("tags" in options and "prefix" in options)
+        and not ("explain" in options and "scheme" in options)
         and (command != "diff" or "lists" in options or not options)
     )
 
@@ -348,21 +393,6 @@ def in_tag(text, prefix):
         return None if text is None else str(versions.Version.from_tag(text, prefix))
     except versions.InvalidVersion:
         return None
-
-
-def version(word, status=1):
-    try:
-        return versions.Version(word)
-    except versions.InvalidVersion:
-        raise Ended(status, b"not a version: " + shown(word.encode())) from None
-
-
-def version_set(word, status=1):
-    try:
-        return versions.VersionSet(word)
-    except versions.InvalidVersionSet as error:
-        place, reason = len(word[: error.start].encode()) + 1, error.reason.encode()
-        raise Ended(status, b"not a set: %s; at byte %d: %s" % (shown(word.encode()), place, reason)) from None
 
 
 def matching(rows, wanted, keeps):
@@ -398,9 +428,9 @@ def fields(one):
 
 
 def as_json(one):
-    return json.dumps({"version": str(one), **fields(one)}, separators=(",", ":")).encode() + b"\n"
+    return [json.dumps({"version": str(one), **fields(one)}, separators=(",", ":"))]
 
 
 def as_lines(one):
-    lines = [f"  {name.replace('_', '-')}: {value}\n" for name, value in fields(one).items() if value is not None]
-    return f"{one}\n{''.join(lines)}".encode()
+    found = {name.replace("_", "-"): value for name, value in fields(one).items() if value is not None}
+    return [f"{one}", *(f"  {name}: {value}" for name, value in found.items())]

@@ -1,8 +1,9 @@
 //! Calls that read an input, that append to a list of bytes, or of lines with the keys of their versions.
 ghost use Rattle.std.specs.Prelude.{◌≡◌, IfOk, Some};
 ghost use Rattle.version_lines.specs.KeyedLines.{AreRead};
-ghost use Rattle.version_rules.specs.grammar.Versioning.{versioning_of};
-ghost use Rattle.version_texts.specs.versioning_ref.VersioningRef.{plain_versioning_ref};
+ghost use Rattle.version_schemes.specs.any.AnyVersion.{plain_any};
+ghost use Rattle.version_schemes.specs.any.Order.{any_of};
+ghost use Rattle.version_schemes.specs.declared.scheme.Scheme.TheVariants.{Mixed};
 
 use crate::answers::{Made, NOT_BEGUN, Written, lend, put};
 use crate::values;
@@ -11,6 +12,7 @@ use version_lines::{
     GroupBy, KeyedLines, SortBy, Trouble, WholeLines, make_buffer, read_all, read_onto,
 };
 use version_parts::key::{PartText, PieceBytes};
+use version_schemes::{AnyVersion, Scheme};
 use version_texts::VersioningRef;
 use versions::{End, Kept, Versioning};
 
@@ -24,7 +26,7 @@ pub fn answer(alloc: Global, call: &str, text: &str, output: &mut String) -> Wri
         "read_onto" | "PieceBytes::append_to" | "KeyBytes::append_to" => {
             append(alloc, call, text, output)
         }
-        "VersioningRef::append_key" | "VersioningRef::append_end" => {
+        "VersioningRef::append_key" | "VersioningRef::append_end" | "AnyVersion::append_key" => {
             append(alloc, call, text, output)
         }
         _ => values::answer(alloc, call, text, output),
@@ -57,6 +59,7 @@ fn append_to(alloc: Global, call: &str, line: &str, list: &mut Vec<u8>) -> Resul
         ("read_onto", _) => read_onto(alloc, &mut line.as_bytes(), list),
         ("PieceBytes::append_to", _) => Ok(PieceBytes::part(PartText::text(text)).append_to(list)?),
         ("KeyBytes::append_to", _) => append_owned_key(alloc, text, list),
+        ("AnyVersion::append_key", _) => append_key_of_deb(text, list),
         ("VersioningRef::append_key", Some(version)) => Ok(version.append_key(list)?),
         (_, Some(version)) => Ok(version.append_end(End::AboveBegun(Kept::ButLast), list)?),
         (_, None) => Err(Trouble::System),
@@ -70,6 +73,13 @@ fn append_owned_key(alloc: Global, text: &str, list: &mut Vec<u8>) -> Result<(),
     }
 }
 
+fn append_key_of_deb(text: &str, list: &mut Vec<u8>) -> Result<(), Trouble> {
+    match AnyVersion::read(Scheme::Deb, text.as_bytes()) {
+        Some(version) => Ok(version.append_key(list)?),
+        None => Err(Trouble::System),
+    }
+}
+
 fn count_none(alloc: Global, text: &str) -> Result<usize, AllocError> {
     let lines = KeyedLines::new(alloc, WholeLines, text.len())?;
     Ok(lines.count())
@@ -78,7 +88,7 @@ fn count_none(alloc: Global, text: &str) -> Result<usize, AllocError> {
 // Writes lines that are the same, and then as a call leaves them: it adds one, or keeps one.
 fn change_lines(alloc: Global, call: &str, text: &str, output: &mut String) -> Written {
     let line = text.as_bytes();
-    let Some(version) = VersioningRef::from_bytes(line) else {
+    let Some(version) = AnyVersion::read(Scheme::Mixed, line) else {
         return output.push_str("no version");
     };
     let Ok(mut lines) = one_line(alloc, &version, line) else {
@@ -99,11 +109,11 @@ fn change_lines(alloc: Global, call: &str, text: &str, output: &mut String) -> W
 
 fn one_line<'a>(
     alloc: Global,
-    version: &VersioningRef<'_>,
+    version: &AnyVersion<'_>,
     line: &'a [u8],
 ) -> Result<KeyedLines<'a, WholeLines>, AllocError>
-    requires { versioning_of line.now ≡ Some (plain_versioning_ref version.now) }
-    ensures { IfOk result (AreRead ⟦<WholeLines as SortBy>⟧.text_of) }
+    requires { any_of Mixed line.now ≡ Some (plain_any version.now) }
+    ensures { IfOk result (AreRead ⟦<WholeLines as SortBy>⟧.reads) }
 {
     let mut lines = KeyedLines::new(alloc, WholeLines, line.len())?;
     lines.add(version, line)?;

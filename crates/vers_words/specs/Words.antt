@@ -15,6 +15,7 @@ use Rattle.version_commands.specs.declared.options.Question.TheVariants.{Key}
 use Rattle.version_commands.specs.declared.options.Task as options
 use Rattle.version_commands.specs.declared.options.Task.TheVariants.{Compare, Each, Label, Lines, Match}
 use Rattle.version_lines.specs.Lines.{line_feed}
+use Rattle.version_schemes.specs.declared.scheme.Scheme.TheVariants.{Mixed}
 use Rattle.version_tasks.specs.declared.stability.Stability.TheVariants.{Dev}
 
 -- whether the words are a command: its name, and as many words as it takes; none are `ideal`
@@ -32,6 +33,7 @@ pub record ArePlain (options : LineOptions) : Type 0 where
   pub crlf_is : options.place.crlf ≡ false
   pub column_is : options.place.column ≡ None
   pub naming_is : options.place.naming ≡ Bare
+  pub scheme_is : options.place.scheme ≡ Mixed
   pub least_is : options.choice.least ≡ Dev
   pub wanted_is : options.choice.wanted ≡ None
   pub invalid_is : options.invalid ≡ Fail
@@ -56,10 +58,11 @@ Means (name ∷ []) (Label Strict) = IsName (codes "ideal") name
 Means (name ∷ []) (Label Every) = IsName (codes "show") name
 Means (name ∷ []) (Lines (Sort reverse unique) options) =
     IsName (codes "sort") name × (reverse ≡ false) × (unique ≡ false) × ArePlain options
-Means (name ∷ word ∷ []) (Each Key options) = IsName (codes "key") name × AsksOne word options
+Means (name ∷ word ∷ []) (Each (Key scheme) options) =
+    IsName (codes "key") name × (scheme ≡ Mixed) × AsksOne word options
 Means (name ∷ word ∷ []) (Match list) = IsName (codes "match") name × (list.now ≡ word)
-Means (name ∷ a ∷ b ∷ []) (Compare first second explain) =
-    IsName (codes "cmp") name × (first.now ≡ a) × (second.now ≡ b) × (explain ≡ false)
+Means (name ∷ a ∷ b ∷ []) (Compare scheme first second) =
+    IsName (codes "cmp") name × (scheme ≡ Mixed) × (first.now ≡ a) × (second.now ≡ b)
 Means words other = ⊥
 
 -- the words are no command; there may also be no memory for their task

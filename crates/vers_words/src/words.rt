@@ -7,6 +7,7 @@ use version_commands::{
     Arrangement, Choice, EachOptions, Invalid, Labels, LineOptions, Naming, Question, Task,
     VersionPlace,
 };
+use version_schemes::Scheme;
 use version_tasks::Stability;
 
 /// Returns the task that the words mean, or None if they mean none.
@@ -19,11 +20,11 @@ pub fn task_of<'w>(alloc: Global, words: &'w [String]) -> Result<Option<Task<'w>
         [name] => Ok(task_of_name(alloc, name.as_str())),
         [name, word] if name.as_str() == "key" => Ok(Some(key_task(alloc, word.as_str())?)),
         [name, word] if name.as_str() == "match" => Ok(Some(Task::Match(word.as_str()))),
-        [name, first, second] if name.as_str() == "cmp" => Ok(Some(Task::Compare {
-            first: first.as_str(),
-            second: second.as_str(),
-            explain: false,
-        })),
+        [name, first, second] if name.as_str() == "cmp" => Ok(Some(Task::Compare(
+            Scheme::Mixed,
+            first.as_str(),
+            second.as_str(),
+        ))),
         _ => Ok(None),
     }
 }
@@ -57,7 +58,7 @@ fn key_task<'w>(alloc: Global, version: &'w str) -> Result<Task<'w>, AllocError>
         end: b'\n',
         crlf: false,
     };
-    Ok(Task::Each(Question::Key, options))
+    Ok(Task::Each(Question::Key(Scheme::Mixed), options))
 }
 
 // Returns the options of a command over lines, each of which has to be a version.
@@ -70,6 +71,7 @@ fn options<'w>(alloc: Global) -> LineOptions<'w>
             crlf: false,
             column: None,
             naming: Naming::Bare,
+            scheme: Scheme::Mixed,
         },
         choice: Choice {
             least: Stability::Dev,

@@ -8,6 +8,5 @@ pub mod Lists
 pub mod Ordered
 pub mod Picked
 pub mod Pieces
-pub mod Place
 pub mod Rows
 pub mod Sets

@@ -7,18 +7,18 @@ use Rattle.version_commands.specs.declared.options.Invalid.{Invalid}
 use Rattle.version_commands.specs.declared.options.Invalid.TheVariants.{Fail, Skip, First, Last}
 use Rattle.version_commands.specs.declared.options.LineOptions.{LineOptions}
 use Rattle.version_lines.specs.Newest.{first_of_ties, newest}
-use Rattle.version_lines.specs.Sort.{lines_cmp}
+use Rattle.version_lines.specs.Sort.{Reads, lines_cmp}
 use Rattle.version_lines.specs.Sorting.{in_order, turned}
 
 -- what is written of the lines that are kept, in its order
-abbrev pub arranged : (List ℕ → List ℕ) → (Option Column → List ℕ → List ℕ) → Arrangement
+abbrev pub arranged : Reads → (Option Column → List ℕ → List ℕ) → Arrangement
     → List (List ℕ) → List (List ℕ)
-arranged text_of group_of (Sort reverse false) lines =
-    in_order (turned reverse (lines_cmp text_of)) lines
-arranged text_of group_of (Sort reverse true) lines = first_of_ties reverse text_of lines
-arranged text_of group_of (Newest count group) lines =
-    newest count (group_of group) text_of lines
-arranged text_of group_of (Filter list inverted) lines = lines
+arranged reads group_of (Sort reverse false) lines =
+    in_order (turned reverse (lines_cmp reads)) lines
+arranged reads group_of (Sort reverse true) lines = first_of_ties reverse reads lines
+arranged reads group_of (Newest count group) lines =
+    newest count (group_of group) reads lines
+arranged reads group_of (Filter list inverted) lines = lines
 
 -- whether lines are arranged from the last to the first
 abbrev pub is_reversed : Arrangement → Bool

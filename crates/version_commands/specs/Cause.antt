@@ -5,11 +5,11 @@ use Rattle.std.specs.Prelude.{◌≡◌, ◌⊎◌, ⊤, ℕ, List, [], ◌∷�
 use Rattle.std.specs.Io.KnownBytes.{Consumes, IsAtEnd}
 use Rattle.version_commands.specs.Arranged.{policy}
 use Rattle.version_commands.specs.Choice.{wrong_set}
-use Rattle.version_commands.specs.Each.{AreTexts, IsFirstWithoutNext}
+use Rattle.version_commands.specs.Each.{AreTexts, IsFirstWithoutNext, reads_by, scheme_of}
 use Rattle.version_commands.specs.Fault.{first_wrong, ComesOfLines, ComesOfMatching, ComesOfPut, ComesOfReading, ComesOfSets, ComesOfStandard, ComesOfTestOfSet, ComesOfTestOfSets, ComesOfTestOfTwo, ComesOfWords}
 use Rattle.version_commands.specs.Inputs.{joined, names_read, AreInputs, Reading}
 use Rattle.version_commands.specs.Lists.{bad_lines_of, lines_of_list, names_of}
-use Rattle.version_commands.specs.Place.{line_text, text_of}
+use Rattle.version_commands.specs.Place.{reads_of}
 use Rattle.version_commands.specs.Quote.{quoted}
 use Rattle.version_commands.specs.Sets.{IsWrongSet}
 use Rattle.version_commands.specs.declared.faults.Fault.{Fault}
@@ -25,30 +25,32 @@ use Rattle.version_commands.specs.declared.options.Task.TheVariants as task
 use Rattle.version_commands.specs.declared.options.Invalid.TheVariants.{Fail}
 use Rattle.version_commands.specs.declared.set.WrongSet.{WrongSet}
 use Rattle.version_lines.specs.Lines.{lines_of}
+use Rattle.version_lines.specs.Sort.{Reads}
+use Rattle.version_schemes.specs.declared.scheme.Scheme.TheVariants.{Mixed}
 
 -- the faults of a run over the lines of an input: of the lines that have no version, or of the file
 -- for these
-abbrev pub ComesOfArranged : LineOptions → (List ℕ → List ℕ) → List ℕ → Fault → Type 0
-ComesOfArranged options text_of input (fault.Write name) = ComesOfPut options (fault.Write name)
-ComesOfArranged options text_of input other =
-    ComesOfLines (policy options) options.place.crlf text_of (lines_of options.end input) other
+abbrev pub ComesOfArranged : LineOptions → Reads → List ℕ → Fault → Type 0
+ComesOfArranged options reads input (fault.Write name) = ComesOfPut options (fault.Write name)
+ComesOfArranged options reads input other =
+    ComesOfLines (policy options) options.place.crlf reads (lines_of options.end input) other
 
 -- the faults of `sort`, `newest` and `filter`: of a word that is no set, of an input, of the lines that
 -- have no version, or of the file for these
 abbrev pub ComesOfArranging : Arrangement → LineOptions → Reading → Option (List ℕ) → Fault → Type 0
-ComesOfArranging arrangement options reads old (fault.NotSet wrong) =
-    ComesOfSets (wrong_set options.choice arrangement) (fault.NotSet wrong)
-ComesOfArranging arrangement options reads old (fault.Read name) =
-    ComesOfReading reads (names_read (map (λ name. name.now) options.files.items)) (fault.Read name)
-ComesOfArranging arrangement options reads old fault.Memory = ⊤
-ComesOfArranging arrangement options reads old other =
+ComesOfArranging arrangement options files old (fault.NotSet wrong) =
+    ComesOfSets options.place.scheme (wrong_set options.place.scheme options.choice arrangement) (fault.NotSet wrong)
+ComesOfArranging arrangement options files old (fault.Read name) =
+    ComesOfReading files (names_read (map (λ name. name.now) options.files.items)) (fault.Read name)
+ComesOfArranging arrangement options files old fault.Memory = ⊤
+ComesOfArranging arrangement options files old other =
     (new : Option (List ℕ)) × (texts : List (List ℕ))
-    × AreInputs reads old new (names_read (map (λ name. name.now) options.files.items)) texts
-    × ComesOfArranged options (text_of options.place) (joined options.end texts) other
+    × AreInputs files old new (names_read (map (λ name. name.now) options.files.items)) texts
+    × ComesOfArranged options (reads_of options.place) (joined options.end texts) other
 
 -- this is what is wrong with the question's word for its set
 abbrev pub HasWrongSet : Question → WrongSet → Type 0
-HasWrongSet (Why set) wrong = IsWrongSet set.now wrong
+HasWrongSet (Why scheme set) wrong = IsWrongSet scheme set.now wrong
 HasWrongSet other wrong = ⊥
 
 -- the faults of a question's set
@@ -72,11 +74,11 @@ ComesOfAnswering question end texts other = (other ≡ fault.Memory)
 -- standard input or a line of it, of a version that none comes next to, or of the set of `why`
 abbrev pub ComesOfAsking : Question → EachOptions → Option (List ℕ) → Fault → Type 0
 ComesOfAsking question options old (fault.NotVersion text) =
-    first_wrong (map (λ word. word.now) options.versions.items) ≡ Some text.now
+    first_wrong (scheme_of question) (map (λ word. word.now) options.versions.items) ≡ Some text.now
 ComesOfAsking question options old (fault.BadLine number text ends more) =
     (options.versions.items ≡ []) × (new : Option (List ℕ)) × (input : List ℕ)
     × Consumes old new input × IsAtEnd new
-    × ComesOfLines Fail options.crlf (line_text options.crlf) (lines_of options.end input)
+    × ComesOfLines Fail options.crlf (reads_by (scheme_of question) options.crlf) (lines_of options.end input)
     (fault.BadLine number text ends more)
 ComesOfAsking question options old (fault.Read name) =
     (options.versions.items ≡ []) × (name.now ≡ codes "-")
@@ -88,7 +90,7 @@ ComesOfAsking question options old other = ComesOfQuestion question other
 -- the faults of the lines without a version of a list
 abbrev pub ComesOfOne : Lists → List ℕ → Fault → Type 0
 ComesOfOne lists input =
-    ComesOfLines lists.invalid lists.place.crlf (text_of lists.place) (lines_of_list lists input)
+    ComesOfLines lists.invalid lists.place.crlf (reads_of lists.place) (lines_of_list lists input)
 
 -- those of two lists: of the new one only where each line of the old one has a version
 abbrev pub ComesOfEither : Lists → List ℕ → List ℕ → Fault → Type 0
@@ -108,15 +110,16 @@ abbrev pub ComesOf : Task → Reading → Option (List ℕ) → Fault → Type 0
 ComesOf (task.Lines arrangement options) reads old fault =
     ComesOfArranging arrangement options reads old fault
 ComesOf (task.Each question options) reads old fault = ComesOfAsking question options old fault
-ComesOf (task.TestTwo a operator b) reads old fault =
-    ComesOfTestOfTwo (first_wrong (a.now ∷ b.now ∷ [])) fault
-ComesOf (task.TestSet version set) reads old fault = ComesOfTestOfSet version.now set.now fault
-ComesOf (task.Implies one other) reads old fault = ComesOfTestOfSets one.now other.now fault
-ComesOf (task.Meets one other) reads old fault = ComesOfTestOfSets one.now other.now fault
-ComesOf (task.Compare a b explain) reads old fault =
-    ComesOfWords (first_wrong (a.now ∷ b.now ∷ [])) fault
+ComesOf (task.TestTwo scheme a operator b) reads old fault =
+    ComesOfTestOfTwo (first_wrong scheme (a.now ∷ b.now ∷ [])) fault
+ComesOf (task.TestSet scheme version set) reads old fault = ComesOfTestOfSet scheme version.now set.now fault
+ComesOf (task.Implies scheme one other) reads old fault = ComesOfTestOfSets scheme one.now other.now fault
+ComesOf (task.Meets scheme one other) reads old fault = ComesOfTestOfSets scheme one.now other.now fault
+ComesOf (task.Compare scheme a b) reads old fault =
+    ComesOfWords (first_wrong scheme (a.now ∷ b.now ∷ [])) fault
+ComesOf (task.Explain a b) reads old fault = ComesOfWords (first_wrong Mixed (a.now ∷ b.now ∷ [])) fault
 ComesOf (task.Difference a b) reads old fault =
-    ComesOfWords (first_wrong (a.now ∷ b.now ∷ [])) fault
+    ComesOfWords (first_wrong Mixed (a.now ∷ b.now ∷ [])) fault
 ComesOf (task.Lists lists) reads old fault = ComesOfChanges lists reads old fault
 ComesOf (task.Match list) reads old fault = ComesOfMatching list.now fault
 ComesOf (task.Label labels) reads old fault = ComesOfStandard fault

@@ -1,11 +1,12 @@
 -- What `compare` writes for two versions.
-use Rattle.std.specs.Prelude.{ℕ, Bool, true, false, List, [], ◌∷◌, ◌++◌, codes, if◌then◌else◌}
+use Rattle.std.specs.Prelude.{ℕ, Bool, true, false, List, [], ◌∷◌, ◌++◌, codes}
 use Rattle.std.specs.Fmt.{decimal}
 use Rattle.std.specs.Str.{bytes_eq}
 use Rattle.std.specs.declared.cmp.Ordering.{Ordering}
 use Rattle.std.specs.declared.cmp.Ordering.TheVariants.{Less, Equal, Greater}
 use Rattle.version_rules.specs.key.Key.{key_of, precedence}
 use Rattle.version_rules.specs.grammar.Versioning.{PlainVersioning, versioning_text}
+use Rattle.version_schemes.specs.any.Order.{PlainAny, any_precedence}
 use Rattle.version_texts.specs.order.Difference.{difference_of}
 use Rattle.version_texts.specs.declared.order.difference.Difference.{Difference}
 use Rattle.version_texts.specs.declared.order.difference.Difference.TheVariants.{Same, Tie, Epoch, Part, Tail}
@@ -31,9 +32,11 @@ explanation Tie one_text = codes " they compare equal, and are not the same vers
 explanation Same true = codes " they are the same version"
 explanation Same false = codes " they differ only after the plus, which doesn't count"
 
--- the line for two versions: the sign between them, then if it is asked for the sentence, and the
--- byte that ends the line
-abbrev pub comparison_line : Bool → ℕ → PlainVersioning → PlainVersioning → List ℕ
-comparison_line explain end a b =
-    sign_text (precedence (key_of a) (key_of b))
-    ++ ((if explain then explanation (difference_of a b) (have_one_text a b) else []) ++ end ∷ [])
+-- the line for two versions: the sign between them, and the byte that ends the line
+abbrev pub comparison_line : ℕ → PlainAny → PlainAny → List ℕ
+comparison_line end a b = sign_text (any_precedence a b) ++ end ∷ []
+
+-- the same with the sentence behind the sign
+abbrev pub explained_line : ℕ → PlainVersioning → PlainVersioning → List ℕ
+explained_line end a b =
+    sign_text (precedence (key_of a) (key_of b)) ++ (explanation (difference_of a b) (have_one_text a b) ++ end ∷ [])

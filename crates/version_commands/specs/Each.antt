@@ -7,6 +7,7 @@ use Rattle.version_commands.specs.Key.{key_line}
 use Rattle.version_commands.specs.Next.{WritesNext}
 use Rattle.version_commands.specs.Pieces.{Adds}
 use Rattle.version_commands.specs.Place.{line_text}
+use Rattle.version_commands.specs.Sets.{keys_of}
 use Rattle.version_commands.specs.Show.{show_text}
 use Rattle.version_commands.specs.Why.{IsWhyHead, IsWhyLine}
 use Rattle.version_commands.specs.declared.each.Answers.{Answers}
@@ -14,45 +15,64 @@ use Rattle.version_commands.specs.declared.options.EachOptions.{EachOptions}
 use Rattle.version_commands.specs.declared.options.Question.{Question}
 use Rattle.version_commands.specs.declared.options.Question.TheVariants.{Show, Json, Key, Why, Next}
 use Rattle.version_lines.specs.Lines.{lines_of}
+use Rattle.version_lines.specs.Sort.{Reads}
+use Rattle.version_schemes.specs.any.Order.{PlainAny, any_of}
+use Rattle.version_schemes.specs.declared.scheme.Scheme.{Scheme}
+use Rattle.version_schemes.specs.declared.scheme.Scheme.TheVariants.{Mixed}
 use Rattle.version_sets.specs.Ends.{has}
-use Rattle.version_sets.specs.Mixed.{keys_of}
 use Rattle.version_tasks.specs.Next.{NoNext}
 use Rattle.version_rules.specs.grammar.Versioning.{PlainVersioning, versioning_of}
 
+-- by which scheme a question reads versions: only `key` and `why` may ask for another than mixed
+abbrev pub scheme_of : Question → Scheme
+scheme_of Show = Mixed
+scheme_of Json = Mixed
+scheme_of (Key scheme) = scheme
+scheme_of (Why scheme set) = scheme
+scheme_of (Next place) = Mixed
+
+-- how lines are read
+abbrev pub reads_by : Scheme → Bool → Reads
+reads_by scheme crlf = record { scheme = scheme; text_of = line_text crlf }
+
+-- something holds of the version of the scheme mixed that a version is
+abbrev pub OfMixed : PlainAny → (PlainVersioning → Type 0) → Type 0
+OfMixed v Holds = (w : PlainVersioning) × (versioning_of v.text ≡ Some w) × Holds w
+
 -- what is written for a version, and whether there is an answer: only `next` may have none
-abbrev pub IsAnswer : Question → ℕ → PlainVersioning → Bool → List ℕ → Type 0
-IsAnswer Show end v found answer = (found ≡ true) × (answer ≡ show_text end v)
-IsAnswer Json end v found answer = (found ≡ true) × (answer ≡ json_line end v)
-IsAnswer Key end v found answer = (found ≡ true) × (answer ≡ key_line end v)
-IsAnswer (Why set) end v found answer = (found ≡ true) × IsWhyLine end set.now v answer
-IsAnswer (Next place) end v found answer = WritesNext end v place found answer
+abbrev pub IsAnswer : Question → ℕ → PlainAny → Bool → List ℕ → Type 0
+IsAnswer Show end v found answer = OfMixed v (λ w. (found ≡ true) × (answer ≡ show_text end w))
+IsAnswer Json end v found answer = OfMixed v (λ w. (found ≡ true) × (answer ≡ json_line end w))
+IsAnswer (Key scheme) end v found answer = (found ≡ true) × (answer ≡ key_line end v)
+IsAnswer (Why scheme set) end v found answer = (found ≡ true) × IsWhyLine end set.now v answer
+IsAnswer (Next place) end v found answer = OfMixed v (λ w. WritesNext end w place found answer)
 
 -- the set of `why` is one, and this is it, by its ends
 abbrev pub HasSet : Question → Option (List (List ℕ)) → Type 0
-HasSet (Why word) set = IsSomeAnd set (λ set. keys_of word.now ≡ Some (has set))
+HasSet (Why scheme word) set = IsSomeAnd set (λ set. keys_of scheme word.now ≡ Some (has set))
 HasSet Show set = ⊤
 HasSet Json set = ⊤
-HasSet Key set = ⊤
+HasSet (Key scheme) set = ⊤
 HasSet (Next place) set = ⊤
 
 -- each text is a version, and the answers to them follow one another
 abbrev pub AreAnswered : Question → ℕ → List (List ℕ) → List ℕ → Type 0
 AreAnswered question end [] output = output ≡ []
 AreAnswered question end (text ∷ texts) output =
-    (v : PlainVersioning) × (answer : List ℕ) × (rest : List ℕ) × (versioning_of text ≡ Some v)
+    (v : PlainAny) × (answer : List ℕ) × (rest : List ℕ) × (any_of (scheme_of question) text ≡ Some v)
     × IsAnswer question end v true answer × AreAnswered question end texts rest
     × (output ≡ answer ++ rest)
 
 -- the question asks for the version next to one that has none
-abbrev pub HasNoNext : Question → Option PlainVersioning → Type 0
-HasNoNext (Next place) (Some v) = NoNext v place
+abbrev pub HasNoNext : Question → Option PlainAny → Type 0
+HasNoNext (Next place) (Some v) = OfMixed v (λ w. NoNext w place)
 HasNoNext other v = ⊥
 
 -- the first of some texts whose version has no next, so that there are answers to those before it
 abbrev pub IsFirstWithoutNext : Question → ℕ → List (List ℕ) → List ℕ → Type 0
 IsFirstWithoutNext question end texts text =
     (before after : List (List ℕ)) × (answers : List ℕ) × (texts ≡ before ++ text ∷ after)
-    × AreAnswered question end before answers × HasNoNext question (versioning_of text)
+    × AreAnswered question end before answers × HasNoNext question (any_of (scheme_of question) text)
 
 -- the texts are answered after a head, or this is the first of them whose version has no next
 abbrev pub AnsweredOr : Question → ℕ → List ℕ → List (List ℕ) → List ℕ → Option (Bor (List ℕ)) → Type 0
@@ -69,10 +89,10 @@ pub record HaveAnswered (first now : Answers) (texts : List (List ℕ)) : Type 0
 
 -- what stands before the answers: of `why`, that no version is in the set
 abbrev pub IsHead : Question → ℕ → List ℕ → Type 0
-IsHead (Why set) end head = IsWhyHead end set.now head
+IsHead (Why scheme set) end head = IsWhyHead scheme end set.now head
 IsHead Show end head = head ≡ []
 IsHead Json end head = head ≡ []
-IsHead Key end head = head ≡ []
+IsHead (Key scheme) end head = head ≡ []
 IsHead (Next place) end head = head ≡ []
 
 -- the texts that are asked: those of the lines of standard input

@@ -14,11 +14,12 @@ use Rattle.version_commands.specs.Bad.{Reports}
 use Rattle.version_commands.specs.Inputs.{IsRefused, Reading}
 use Rattle.version_commands.specs.Picked.{bad_lines, good_before}
 use Rattle.version_commands.specs.Quote.{quoted}
-use Rattle.version_commands.specs.Sets.{IsWrongSet}
+use Rattle.version_commands.specs.Sets.{IsWrongSet, keys_of}
 use Rattle.version_rules.specs.requirement.Requirements.{requirements_of}
-use Rattle.version_sets.specs.Mixed.{keys_of}
 use Rattle.version_sets.specs.Reason.{reason_text}
-use Rattle.version_rules.specs.grammar.Versioning.{versioning_of}
+use Rattle.version_lines.specs.Sort.{Reads}
+use Rattle.version_schemes.specs.any.Order.{any_of}
+use Rattle.version_schemes.specs.declared.scheme.Scheme.{Scheme}
 use Rattle.version_commands.specs.declared.faults.Fault.{Fault}
 use Rattle.version_commands.specs.declared.faults.Fault.TheVariants.{NotVersion, NotRequirement, NotSet, NotTested, NotTestedSet, BadLine, NoNext, Memory, Read, Write}
 
@@ -100,9 +101,9 @@ ComesOfBad policy crlf bad =
     ComesOfBadAfter policy crlf bad.before (map (λ line. line.now) bad.lines.items)
 
 -- those of some lines
-abbrev pub ComesOfLines : Invalid → Bool → (List ℕ → List ℕ) → List (List ℕ) → Fault → Type 0
-ComesOfLines policy crlf text_of lines =
-    ComesOfBadAfter policy crlf (good_before text_of lines) (bad_lines text_of lines)
+abbrev pub ComesOfLines : Invalid → Bool → Reads → List (List ℕ) → Fault → Type 0
+ComesOfLines policy crlf reads lines =
+    ComesOfBadAfter policy crlf (good_before reads lines) (bad_lines reads lines)
 
 -- the faults of `match` of `vers`, by the word of its list
 abbrev pub ComesOfMatching : List ℕ → Fault → Type 0
@@ -110,25 +111,25 @@ ComesOfMatching list (NotRequirement word) = (word.now ≡ list) × (requirement
 ComesOfMatching list other = ComesOfStandard other
 
 -- the faults of a word that should be a set
-abbrev pub ComesOfSet : List ℕ → Fault → Type 0
-ComesOfSet word Memory = ⊤
-ComesOfSet word (NotSet wrong) = IsWrongSet word wrong
-ComesOfSet word fault = ⊥
+abbrev pub ComesOfSet : Scheme → List ℕ → Fault → Type 0
+ComesOfSet scheme word Memory = ⊤
+ComesOfSet scheme word (NotSet wrong) = IsWrongSet scheme word wrong
+ComesOfSet scheme word fault = ⊥
 
 -- the faults that reading sets can end in, if this is the first word that is none
-abbrev pub ComesOfSets : Option (List ℕ) → Fault → Type 0
-ComesOfSets first Memory = ⊤
-ComesOfSets first (NotSet wrong) = IsSomeAnd first (λ word. IsWrongSet word wrong)
-ComesOfSets first fault = ⊥
+abbrev pub ComesOfSets : Scheme → Option (List ℕ) → Fault → Type 0
+ComesOfSets scheme first Memory = ⊤
+ComesOfSets scheme first (NotSet wrong) = IsSomeAnd first (λ word. IsWrongSet scheme word wrong)
+ComesOfSets scheme first fault = ⊥
 
 -- the word, if it is no version
-abbrev pub unless_version : List ℕ → Option (List ℕ)
-unless_version word = option_map_or (λ _. None) (versioning_of word) (Some word)
+abbrev pub unless_version : Scheme → List ℕ → Option (List ℕ)
+unless_version scheme word = option_map_or (λ _. None) (any_of scheme word) (Some word)
 
 -- the first of some words that is no version
-abbrev pub first_wrong : List (List ℕ) → Option (List ℕ)
-first_wrong [] = None
-first_wrong (word ∷ words) = option_or (unless_version word) (first_wrong words)
+abbrev pub first_wrong : Scheme → List (List ℕ) → Option (List ℕ)
+first_wrong scheme [] = None
+first_wrong scheme (word ∷ words) = option_or (unless_version scheme word) (first_wrong scheme words)
 
 -- the faults that words which should be versions can end in, if this is the first that is none
 abbrev pub ComesOfWords : Option (List ℕ) → Fault → Type 0
@@ -144,24 +145,24 @@ ComesOfTestOfTwo wrong (NotTested text) = wrong ≡ Some text.now
 ComesOfTestOfTwo wrong fault = ⊥
 
 -- those of a word that should be a set
-abbrev pub ComesOfTestedSet : List ℕ → Fault → Type 0
-ComesOfTestedSet word Memory = ⊤
-ComesOfTestedSet word (NotTestedSet wrong) = IsWrongSet word wrong
-ComesOfTestedSet word fault = ⊥
+abbrev pub ComesOfTestedSet : Scheme → List ℕ → Fault → Type 0
+ComesOfTestedSet scheme word Memory = ⊤
+ComesOfTestedSet scheme word (NotTestedSet wrong) = IsWrongSet scheme word wrong
+ComesOfTestedSet scheme word fault = ⊥
 
 -- those of a version and a set, of which the version comes first
-abbrev pub ComesOfTestOfSet : List ℕ → List ℕ → Fault → Type 0
-ComesOfTestOfSet version set Memory = ⊤
-ComesOfTestOfSet version set (NotTested text) = (text.now ≡ version) × (versioning_of version ≡ None)
-ComesOfTestOfSet version set (NotTestedSet wrong) = IsSome (versioning_of version) × IsWrongSet set wrong
-ComesOfTestOfSet version set fault = ⊥
+abbrev pub ComesOfTestOfSet : Scheme → List ℕ → List ℕ → Fault → Type 0
+ComesOfTestOfSet scheme version set Memory = ⊤
+ComesOfTestOfSet scheme version set (NotTested text) = (text.now ≡ version) × (any_of scheme version ≡ None)
+ComesOfTestOfSet scheme version set (NotTestedSet wrong) = IsSome (any_of scheme version) × IsWrongSet scheme set wrong
+ComesOfTestOfSet scheme version set fault = ⊥
 
 -- those of two sets
-abbrev pub ComesOfTestOfSets : List ℕ → List ℕ → Fault → Type 0
-ComesOfTestOfSets one other Memory = ⊤
-ComesOfTestOfSets one other (NotTestedSet wrong) =
-    IsWrongSet one wrong ⊎ (IsSome (keys_of one) × IsWrongSet other wrong)
-ComesOfTestOfSets one other fault = ⊥
+abbrev pub ComesOfTestOfSets : Scheme → List ℕ → List ℕ → Fault → Type 0
+ComesOfTestOfSets scheme one other Memory = ⊤
+ComesOfTestOfSets scheme one other (NotTestedSet wrong) =
+    IsWrongSet scheme one wrong ⊎ (IsSome (keys_of scheme one) × IsWrongSet scheme other wrong)
+ComesOfTestOfSets scheme one other fault = ⊥
 
 -- the faults that the file for lines without a version can end in: they name it
 abbrev pub ComesOfPut : LineOptions → Fault → Type 0

@@ -10,16 +10,16 @@ use Rattle.std.specs.declared.cmp.Ordering.{Ordering}
 use Rattle.std.specs.declared.cmp.Ordering.TheVariants.{Less, Equal, Greater}
 use Rattle.version_commands.specs.Inputs.{joined}
 use Rattle.version_commands.specs.Picked.{bad_lines}
-use Rattle.version_commands.specs.Place.{column_text, line_text, text_of, version_in}
+use Rattle.version_commands.specs.Place.{column_text, line_text, reads_of}
 use Rattle.version_commands.specs.declared.lists.Named.{Named}
 use Rattle.version_commands.specs.declared.lists.Names.{Names}
 use Rattle.version_commands.specs.declared.lists.Side.{Side}
 use Rattle.version_commands.specs.declared.lists.Side.TheVariants.{Old, New}
 use Rattle.version_commands.specs.declared.options.Lists.{Lists}
 use Rattle.version_lines.specs.Lines.{lines_of, whole_line}
-use Rattle.version_rules.specs.key.Key.{key_of, precedence}
-use Rattle.version_rules.specs.grammar.Versioning.{PlainVersioning, versioning_text}
-use Rattle.version_texts.specs.versioning_ref.VersioningRef.{plain_versioning_ref}
+use Rattle.version_lines.specs.Sort.{version_in}
+use Rattle.version_schemes.specs.any.AnyVersion.{plain_any}
+use Rattle.version_schemes.specs.any.Order.{PlainAny, any_precedence}
 
 -- the inputs of two lists
 abbrev pub names_of : Lists → List (List ℕ)
@@ -31,17 +31,17 @@ lines_of_list lists input = lines_of lists.end (joined lists.end (input ∷ []))
 
 -- those that have no version
 abbrev pub bad_lines_of : Lists → List ℕ → List (List ℕ)
-bad_lines_of lists input = bad_lines (text_of lists.place) (lines_of_list lists input)
+bad_lines_of lists input = bad_lines (reads_of lists.place) (lines_of_list lists input)
 
 -- a name, and the version beside it
 abbrev pub Row : Type 0
-Row = List ℕ × PlainVersioning
+Row = List ℕ × PlainAny
 
 -- what a line names, if it has a version
 abbrev pub row_of : Lists → List ℕ → Option Row
 row_of lists line =
     option_map (λ v. (column_text (Some lists.name) (line_text lists.place.crlf line), v))
-    (version_in lists.place line)
+    (version_in (reads_of lists.place) line)
 
 -- as a list of one row or none
 abbrev pub rows_of_line : Lists → List ℕ → List Row
@@ -52,7 +52,7 @@ abbrev pub rows_of : Lists → List ℕ → List Row
 rows_of lists input = flat_map (rows_of_line lists) (lines_of lists.end input)
 
 -- the version of a name: that of its first row
-abbrev pub version_of : List Row → List ℕ → Option PlainVersioning
+abbrev pub version_of : List Row → List ℕ → Option PlainAny
 version_of [] name = None
 version_of (row ∷ rows) name = if bytes_eq row.0 name then Some row.1 else version_of rows name
 
@@ -70,24 +70,24 @@ first_rows rows = first_after [] rows
 
 -- a word, a name and a version, with spaces between
 abbrev pub row_text : List ℕ → Row → List ℕ
-row_text word row = word ++ (row.0 ++ 32 ∷ versioning_text row.1)
+row_text word row = word ++ (row.0 ++ 32 ∷ row.1.text)
 
 -- the line for a name that has another version in the new list, by how the old one compares
-abbrev pub change_line : ℕ → Row → PlainVersioning → Ordering → List ℕ
-change_line end row v Less = whole_line end (row_text (codes "raised ") row ++ 32 ∷ versioning_text v)
+abbrev pub change_line : ℕ → Row → PlainAny → Ordering → List ℕ
+change_line end row v Less = whole_line end (row_text (codes "raised ") row ++ 32 ∷ v.text)
 change_line end row v Greater =
-    whole_line end (row_text (codes "lowered ") row ++ 32 ∷ versioning_text v)
+    whole_line end (row_text (codes "lowered ") row ++ 32 ∷ v.text)
 change_line end row v Equal = []
 
 -- the line for a name of one of the lists, by its version in the other
-abbrev pub name_line : Side → ℕ → Row → Option PlainVersioning → List ℕ
+abbrev pub name_line : Side → ℕ → Row → Option PlainAny → List ℕ
 name_line Old end row None = whole_line end (row_text (codes "removed ") row)
-name_line Old end row (Some v) = change_line end row v (precedence (key_of row.1) (key_of v))
+name_line Old end row (Some v) = change_line end row v (any_precedence row.1 v)
 name_line New end row None = whole_line end (row_text (codes "added ") row)
 name_line New end row (Some v) = []
 
 -- the lines for the names of a list, by the rows of the other list
-abbrev pub lines_against : (Row → Option PlainVersioning → List ℕ) → List Row → List Row → List ℕ
+abbrev pub lines_against : (Row → Option PlainAny → List ℕ) → List Row → List Row → List ℕ
 lines_against line others rows = flat_map (λ row. line row (version_of others row.0)) rows
 
 -- what `diff --lists` writes for two lists
@@ -100,12 +100,12 @@ difference_text end old new =
 
 -- the row that a value holds
 abbrev pub plain_row : Named → Row
-plain_row named = (named.name.now, plain_versioning_ref named.version)
+plain_row named = (named.name.now, plain_any named.version)
 
 -- the names of some rows: their first rows in order, and the version of each name
 pub record AreNames (rows : List Row) (names : Names) : Type 0 where
   pub order : map plain_row names.rows.items ≡ first_rows rows
   pub versions : (name : List ℕ)
-      → option_map plain_versioning_ref
+      → option_map plain_any
       (get_by (λ key. slice_cmp nat_cmp name key.now) names.versions)
       ≡ version_of rows name

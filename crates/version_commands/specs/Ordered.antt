@@ -5,27 +5,28 @@ use Rattle.version_commands.specs.Choice.{keeps_of}
 use Rattle.std.specs.Option.{option_map}
 use Rattle.version_commands.specs.Inputs.{joined, names_read, AreInputs, Reading}
 use Rattle.version_commands.specs.Picked.{bad_lines, has, kept_lines}
-use Rattle.version_commands.specs.Place.{group_text, text_of}
+use Rattle.version_commands.specs.Place.{group_text, reads_of}
 use Rattle.version_commands.specs.declared.options.Arrangement.{Arrangement}
 use Rattle.version_commands.specs.declared.options.Invalid.TheVariants.{Fail}
 use Rattle.version_commands.specs.declared.options.LineOptions.{LineOptions}
 use Rattle.version_lines.specs.Lines.{lines_of, lines_output, whole_line}
-use Rattle.version_rules.specs.grammar.Versioning.{PlainVersioning}
+use Rattle.version_lines.specs.Sort.{Reads}
+use Rattle.version_schemes.specs.any.Order.{PlainAny}
 
 -- the lines of an input that are kept
-abbrev pub kept_in : (List ℕ → List ℕ) → (PlainVersioning → Bool) → LineOptions → List ℕ
+abbrev pub kept_in : Reads → (PlainAny → Bool) → LineOptions → List ℕ
     → List (List ℕ)
-kept_in text_of keeps options input = kept_lines text_of keeps (lines_of options.end input)
+kept_in reads keeps options input = kept_lines reads keeps (lines_of options.end input)
 
 -- what is written for a line of an input, if only lines that are kept are written
-abbrev pub kept_line : (List ℕ → List ℕ) → (PlainVersioning → Bool) → ℕ → List ℕ → List ℕ
-kept_line text_of keeps end line = if has keeps (text_of line) then whole_line end line else []
+abbrev pub kept_line : Reads → (PlainAny → Bool) → ℕ → List ℕ → List ℕ
+kept_line reads keeps end line = if has keeps reads line then whole_line end line else []
 
 -- the lines that are kept, arranged
-abbrev pub arranged_in : (List ℕ → List ℕ) → (PlainVersioning → Bool) → Arrangement → LineOptions
+abbrev pub arranged_in : Reads → (PlainAny → Bool) → Arrangement → LineOptions
     → List ℕ → List (List ℕ)
-arranged_in text_of keeps arrangement options input =
-    arranged text_of (group_text options.place.crlf) arrangement (kept_in text_of keeps options input)
+arranged_in reads keeps arrangement options input =
+    arranged reads (group_text options.place.crlf) arrangement (kept_in reads keeps options input)
 
 -- the name of the file for lines without a version, if there is one
 abbrev pub bad_file : LineOptions → Option (List ℕ)
@@ -44,21 +45,21 @@ pub record IsPlaced (options : LineOptions) (bad lines : List (List ℕ))
   pub output_is : output ≡ lines_output (whole_line options.end) (placed (policy options) bad lines)
 
 -- the same with the lines of an input that have no version; there are none if the options want none
-pub record IsArranged (text_of : List ℕ → List ℕ) (options : LineOptions) (input : List ℕ)
+pub record IsArranged (reads : Reads) (options : LineOptions) (input : List ℕ)
     (lines : List (List ℕ)) (leaves : Option (List ℕ × List ℕ) → Type 0)
     (output : List ℕ) : Type 0 where
-  pub good : policy options ≡ Fail → bad_lines text_of (lines_of options.end input) ≡ []
-  pub is_placed : IsPlaced options (bad_lines text_of (lines_of options.end input)) lines leaves output
+  pub good : policy options ≡ Fail → bad_lines reads (lines_of options.end input) ≡ []
+  pub is_placed : IsPlaced options (bad_lines reads (lines_of options.end input)) lines leaves output
 
 -- the same of a run whose inputs were read in turn
-pub record IsOrdered (arrangement : Arrangement) (options : LineOptions) (reads : Reading)
+pub record IsOrdered (arrangement : Arrangement) (options : LineOptions) (files : Reading)
     (old new : Option (List ℕ)) (leaves : Option (List ℕ × List ℕ) → Type 0)
     (output : List ℕ) : Type 0 where
   pub texts : List (List ℕ)
-  pub keeps : PlainVersioning → Bool
-  pub texts_are : AreInputs reads old new (names_read (map (λ name. name.now) options.files.items))
+  pub keeps : PlainAny → Bool
+  pub texts_are : AreInputs files old new (names_read (map (λ name. name.now) options.files.items))
       texts
-  pub keeps_are : keeps_of options.choice arrangement ≡ Some keeps
-  pub is_arranged : IsArranged (text_of options.place) options (joined options.end texts)
-      (arranged_in (text_of options.place) keeps arrangement options
+  pub keeps_are : keeps_of options.place.scheme options.choice arrangement ≡ Some keeps
+  pub is_arranged : IsArranged (reads_of options.place) options (joined options.end texts)
+      (arranged_in (reads_of options.place) keeps arrangement options
       (joined options.end texts)) leaves output

@@ -1,6 +1,6 @@
 -- What a task writes.
 use Rattle.std.specs.Prelude.{◌≡◌, ◌==◌, ℕ, Bool, false, true, List, [], ◌∷◌, length, map, Option, None, Some, string_bytes}
-use Rattle.version_commands.specs.Compare.{comparison_line}
+use Rattle.version_commands.specs.Compare.{comparison_line, explained_line}
 use Rattle.version_commands.specs.Difference.{difference_line}
 use Rattle.version_commands.specs.Each.{IsAnswered}
 use Rattle.version_commands.specs.Inputs.{joined, names_read, reads_standard, AreInputs, Reading}
@@ -14,16 +14,18 @@ use Rattle.version_commands.specs.declared.options.Lists.{Lists}
 use Rattle.version_commands.specs.declared.options.Task.{Task}
 use Rattle.version_commands.specs.declared.options.Task.TheVariants as task
 use Rattle.version_lines.specs.Lines.{line_feed}
+use Rattle.version_schemes.specs.any.Order.{any_of}
+use Rattle.version_schemes.specs.declared.scheme.Scheme.{Scheme}
 use Rattle.version_sets.specs.Ends.{IsPart, Meet}
-use Rattle.version_rules.specs.grammar.Versioning.{PlainVersioning, versioning_of}
+use Rattle.version_rules.specs.grammar.Versioning.{versioning_of}
 
 -- the words are versions, and this is the line for the two
-pub record IsLineOfTwo (line : PlainVersioning → PlainVersioning → List ℕ) (a b : List ℕ)
+pub record IsLineOfTwo {V : Type 0} (read : List ℕ → Option V) (line : V → V → List ℕ) (a b : List ℕ)
     (output : List ℕ) : Type 0 where
-  pub first : PlainVersioning
-  pub second : PlainVersioning
-  pub first_is : versioning_of a ≡ Some first
-  pub second_is : versioning_of b ≡ Some second
+  pub first : V
+  pub second : V
+  pub first_is : read a ≡ Some first
+  pub second_is : read b ≡ Some second
   pub output_is : output ≡ line first second
 
 -- what changed between two lists, which were read in turn; each line of theirs has a version, if the
@@ -39,17 +41,17 @@ pub record AreChanges (lists : Lists) (reads : Reading) (old new : Option (List 
       (rows_of lists (joined lists.end (second ∷ [])))
 
 -- the line for the answer about two sets
-abbrev pub IsLineOfSets : (Bool → (List ℕ → Bool) → (List ℕ → Bool) → Type 0) → List ℕ → List ℕ
+abbrev pub IsLineOfSets : Scheme → (Bool → (List ℕ → Bool) → (List ℕ → Bool) → Type 0) → List ℕ → List ℕ
     → List ℕ → Type 0
-IsLineOfSets Holds one other output =
-    (yes : Bool) × AreSetsSo (Holds yes) one other × (output ≡ answer_line yes)
+IsLineOfSets scheme Holds one other output =
+    (yes : Bool) × AreSetsSo scheme (Holds yes) one other × (output ≡ answer_line yes)
 
 -- whether a task answers yes: one that answers by its output alone does
 abbrev pub Answers : Task → Bool → Type 0
-Answers (task.TestTwo a operator b) answer = answer_of_two operator a.now b.now ≡ Some answer
-Answers (task.TestSet version set) answer = answer_of_set version.now set.now ≡ Some answer
-Answers (task.Implies one other) answer = AreSetsSo (IsPart answer) one.now other.now
-Answers (task.Meets one other) answer = AreSetsSo (Meet answer) one.now other.now
+Answers (task.TestTwo scheme a operator b) answer = answer_of_two scheme operator a.now b.now ≡ Some answer
+Answers (task.TestSet scheme version set) answer = answer_of_set scheme version.now set.now ≡ Some answer
+Answers (task.Implies scheme one other) answer = AreSetsSo scheme (IsPart answer) one.now other.now
+Answers (task.Meets scheme one other) answer = AreSetsSo scheme (Meet answer) one.now other.now
 Answers other answer = answer ≡ true
 
 -- What a task that ends well writes, by what its files give and what standard input had before and
@@ -60,14 +62,18 @@ IsOutput (task.Lines arrangement options) reads old new leaves output =
     IsOrdered arrangement options reads old new leaves output
 IsOutput (task.Each question options) reads old new leaves output =
     IsAnswered question options old new output
-IsOutput (task.TestTwo a operator b) reads old new leaves output = output ≡ []
-IsOutput (task.TestSet version set) reads old new leaves output = output ≡ []
-IsOutput (task.Implies one other) reads old new leaves output = IsLineOfSets IsPart one.now other.now output
-IsOutput (task.Meets one other) reads old new leaves output = IsLineOfSets Meet one.now other.now output
-IsOutput (task.Compare a b explain) reads old new leaves output =
-    IsLineOfTwo (comparison_line explain line_feed) a.now b.now output
+IsOutput (task.TestTwo scheme a operator b) reads old new leaves output = output ≡ []
+IsOutput (task.TestSet scheme version set) reads old new leaves output = output ≡ []
+IsOutput (task.Implies scheme one other) reads old new leaves output =
+    IsLineOfSets scheme IsPart one.now other.now output
+IsOutput (task.Meets scheme one other) reads old new leaves output =
+    IsLineOfSets scheme Meet one.now other.now output
+IsOutput (task.Compare scheme a b) reads old new leaves output =
+    IsLineOfTwo (any_of scheme) (comparison_line line_feed) a.now b.now output
+IsOutput (task.Explain a b) reads old new leaves output =
+    IsLineOfTwo versioning_of (explained_line line_feed) a.now b.now output
 IsOutput (task.Difference a b) reads old new leaves output =
-    IsLineOfTwo (difference_line line_feed) a.now b.now output
+    IsLineOfTwo versioning_of (difference_line line_feed) a.now b.now output
 IsOutput (task.Lists lists) reads old new leaves output = AreChanges lists reads old new output
 IsOutput (task.Label labels) reads old new leaves output = AreLabelled labels old new output
 IsOutput (task.Match list) reads old new leaves output = AreMatched list.now old new output

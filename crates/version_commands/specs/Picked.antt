@@ -3,28 +3,27 @@ use Rattle.std.specs.Prelude.{◌≡◌, ℕ, Bool, false, List, map, not}
 use Rattle.std.specs.List.{filter, prefix_len}
 use Rattle.std.specs.Option.{option_map_or}
 use Rattle.version_commands.specs.declared.pick.BadLines.{BadLines}
-use Rattle.version_lines.specs.Sort.{is_bad}
-use Rattle.version_rules.specs.grammar.Versioning.{PlainVersioning, versioning_of}
+use Rattle.version_lines.specs.Sort.{Reads, is_bad, version_in}
+use Rattle.version_schemes.specs.any.Order.{PlainAny}
 
 -- the lines that have no version
-abbrev pub bad_lines : (List ℕ → List ℕ) → List (List ℕ) → List (List ℕ)
-bad_lines text_of = filter (λ line. is_bad (text_of line))
+abbrev pub bad_lines : Reads → List (List ℕ) → List (List ℕ)
+bad_lines reads = filter (is_bad reads)
 
 -- how many lines come before the first that has none
-abbrev pub good_before : (List ℕ → List ℕ) → List (List ℕ) → ℕ
-good_before text_of = prefix_len (λ line. not (is_bad (text_of line)))
+abbrev pub good_before : Reads → List (List ℕ) → ℕ
+good_before reads = prefix_len (λ line. not (is_bad reads line))
 
 -- whether a line has a version that passes a test
-abbrev pub has : (PlainVersioning → Bool) → List ℕ → Bool
-has test text = option_map_or test (versioning_of text) false
+abbrev pub has : (PlainAny → Bool) → Reads → List ℕ → Bool
+has test reads line = option_map_or test (version_in reads line) false
 
 -- the lines that have one
-abbrev pub kept_lines : (List ℕ → List ℕ) → (PlainVersioning → Bool) → List (List ℕ)
-    → List (List ℕ)
-kept_lines text_of keeps = filter (λ line. has keeps (text_of line))
+abbrev pub kept_lines : Reads → (PlainAny → Bool) → List (List ℕ) → List (List ℕ)
+kept_lines reads keeps = filter (has keeps reads)
 
 -- the bad lines of some lines, and how many come before the first
-abbrev pub AreBadOf : (List ℕ → List ℕ) → List (List ℕ) → BadLines → Type 0
-AreBadOf text_of lines bad =
-    (map (λ line. line.now) bad.lines.items ≡ bad_lines text_of lines)
-    × (bad.before ≡ good_before text_of lines)
+abbrev pub AreBadOf : Reads → List (List ℕ) → BadLines → Type 0
+AreBadOf reads lines bad =
+    (map (λ line. line.now) bad.lines.items ≡ bad_lines reads lines)
+    × (bad.before ≡ good_before reads lines)

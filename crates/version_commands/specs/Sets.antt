@@ -1,13 +1,31 @@
 -- Sets that words are.
-use Rattle.std.specs.Prelude.{◌≡◌, ℕ, Bool, true, false, List, Some}
-use Rattle.version_sets.specs.Mixed.{mixed_reading}
-use Rattle.version_sets.specs.Reading.{fault_of}
+use Rattle.std.specs.Prelude.{◌≡◌, ℕ, Bool, true, false, List, ◌∷◌, Option, None, Some}
+use Rattle.std.specs.Option.{option_map}
 use Rattle.version_commands.specs.declared.set.WrongSet.{WrongSet}
+use Rattle.version_schemes.specs.Scheme.{rules}
+use Rattle.version_schemes.specs.declared.scheme.Scheme.{Scheme}
+use Rattle.version_sets.specs.Reading.{Member, Reading, Right, Wrong, fault_of, read_set, set_has}
+
+-- what a word is read as, by a scheme
+abbrev pub reading_of : Scheme → List ℕ → Reading
+reading_of scheme = read_set (rules scheme).read_as (rules scheme).words
+
+-- the alternatives of the set that a word is, None where it is none
+abbrev pub set_of : Scheme → List ℕ → Option (List (List Member))
+set_of scheme word = by (reading_of scheme word)
+  where
+    by : Reading → Option (List (List Member))
+    by (Wrong place reason) = None
+    by (Right first others) = Some (first ∷ others)
+
+-- whether that set has a key, None where the word is none
+abbrev pub keys_of : Scheme → List ℕ → Option (List ℕ → Bool)
+keys_of scheme word = option_map set_has (set_of scheme word)
 
 -- a word is no set: there, and for this reason
-pub record IsWrongSet (word : List ℕ) (wrong : WrongSet) : Type 0 where
+pub record IsWrongSet (scheme : Scheme) (word : List ℕ) (wrong : WrongSet) : Type 0 where
   pub word_is : wrong.word.now ≡ word
-  pub fault_is : fault_of (mixed_reading word) ≡ Some (wrong.place, wrong.reason)
+  pub fault_is : fault_of (reading_of scheme word) ≡ Some (wrong.place, wrong.reason)
 
 -- whether a set has any key
 abbrev pub HasAny : Bool → (List ℕ → Bool) → Type 0

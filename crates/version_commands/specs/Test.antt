@@ -2,14 +2,13 @@
 use Rattle.std.specs.Prelude.{◌≡◌, ◌++◌, ◌∷◌, [], ℕ, Bool, List, Option, Some, codes, if◌then◌else◌}
 use Rattle.std.specs.Ordering.{is_lt, is_le, is_eq, is_ge, is_gt}
 use Rattle.std.specs.declared.cmp.Ordering.{Ordering}
+use Rattle.version_commands.specs.Sets.{keys_of}
 use Rattle.version_commands.specs.declared.options.Operator.{Operator}
 use Rattle.version_commands.specs.declared.options.Operator.TheVariants.{Less, LessOrEqual, Equal, GreaterOrEqual, Greater}
 use Rattle.version_lines.specs.Lines.{line_feed}
 use Rattle.version_rules.specs.grammar.Front.{◌>>=◌}
-use Rattle.version_rules.specs.grammar.Versioning.{versioning_of}
-use Rattle.version_rules.specs.key.Key.{key_of, precedence}
-use Rattle.version_sets.specs.Mixed.{keys_of}
-use Rattle.version_texts.specs.keyed.Mixed.{mixed}
+use Rattle.version_schemes.specs.any.Order.{any_of, any_precedence}
+use Rattle.version_schemes.specs.declared.scheme.Scheme.{Scheme}
 
 -- whether an operator holds between two versions that compare so
 abbrev pub holds : Operator → Ordering → Bool
@@ -20,23 +19,23 @@ holds GreaterOrEqual order = is_ge order
 holds Greater order = is_gt order
 
 -- whether it holds between two versions, by their precedence; None if a word is none
-abbrev pub answer_of_two : Operator → List ℕ → List ℕ → Option Bool
-answer_of_two operator first second = do
-  v ← versioning_of first
-  w ← versioning_of second
-  Some (holds operator (precedence (key_of v) (key_of w)))
+abbrev pub answer_of_two : Scheme → Operator → List ℕ → List ℕ → Option Bool
+answer_of_two scheme operator first second = do
+  v ← any_of scheme first
+  w ← any_of scheme second
+  Some (holds operator (any_precedence v w))
 
 -- whether a set has a version; None if a word is none
-abbrev pub answer_of_set : List ℕ → List ℕ → Option Bool
-answer_of_set version set = do
-  v ← versioning_of version
-  keys ← keys_of set
-  Some (keys (mixed v).key)
+abbrev pub answer_of_set : Scheme → List ℕ → List ℕ → Option Bool
+answer_of_set scheme version set = do
+  v ← any_of scheme version
+  keys ← keys_of scheme set
+  Some (keys v.key)
 
 -- two words are sets, of whose keys this holds
-abbrev pub AreSetsSo : ((List ℕ → Bool) → (List ℕ → Bool) → Type 0) → List ℕ → List ℕ → Type 0
-AreSetsSo Holds one other = (first second : List ℕ → Bool)
-    × (keys_of one ≡ Some first) × (keys_of other ≡ Some second) × Holds first second
+abbrev pub AreSetsSo : Scheme → ((List ℕ → Bool) → (List ℕ → Bool) → Type 0) → List ℕ → List ℕ → Type 0
+AreSetsSo scheme Holds one other = (first second : List ℕ → Bool)
+    × (keys_of scheme one ≡ Some first) × (keys_of scheme other ≡ Some second) × Holds first second
 
 -- the line for an answer
 abbrev pub answer_line : Bool → List ℕ

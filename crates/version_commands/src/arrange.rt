@@ -8,7 +8,7 @@ ghost use Rattle.version_commands.specs.Ends.{Ends};
 ghost use Rattle.version_commands.specs.Files.{AltersAtMost, Leaves};
 ghost use Rattle.version_commands.specs.Inputs.{names_read, reads_standard};
 ghost use Rattle.version_commands.specs.Ordered.{bad_file, arranged_in, kept_in, kept_line, IsArranged, IsOrdered};
-ghost use Rattle.version_commands.specs.Place.{group_text, text_of};
+ghost use Rattle.version_commands.specs.Place.{group_text, reads_of};
 ghost use Rattle.version_lines.specs.KeyedLines.{lines_in, AreRead};
 ghost use Rattle.version_lines.specs.Lines.{output_by, whole_line};
 ghost use Rattle.version_lines.specs.NewestLine.{newest_alone};
@@ -25,7 +25,7 @@ use crate::write::{whole_if, write_answers, write_lines};
 use std::alloc::{AllocError, Global};
 use std::io::{Read, Write};
 use version_lines::{Answer, KeyedLines, LineCommand, NewestLine, SortBy, WholeLines};
-use version_texts::VersioningRef;
+use version_schemes::AnyVersion;
 
 /// Reads the inputs, and writes those of their lines that the arrangement asks for.
 pub fn serve_lines<'w, F: Files, R: Read, W: Write>(
@@ -46,7 +46,7 @@ pub fn serve_lines<'w, F: Files, R: Read, W: Write>(
     ensures kept { UnlessLate (files.new ≡ files.old) result }
     ensures early { IfOfWord (reader.new ≡ reader.old) result }
 {
-    let chooser = Chooser::new(alloc, &options.choice, &arrangement)?;
+    let chooser = Chooser::new(alloc, options.place.scheme, &options.choice, &arrangement)?;
     let input = read_inputs(alloc, options.files.as_slice(), options.end, files, reader)?;
     tell(options, files, Stage::Read(input.len()));
     write_arranged(
@@ -71,10 +71,10 @@ fn write_arranged<'w, F: Files, W: Write>(
     files: &mut F,
     writer: &mut W,
 ) -> Result<(), Fault<'w>>
-    ensures ends { Ends (IsArranged (text_of options.now.place) options.now input.now
-        (arranged_in (text_of options.now.place) (is_kept chooser.now) arrangement.entry options.now
+    ensures ends { Ends (IsArranged (reads_of options.now.place) options.now input.now
+        (arranged_in (reads_of options.now.place) (is_kept chooser.now) arrangement.entry options.now
         input.now) (Leaves F.puts files.old files.new))
-        (ComesOfArranged options.now (text_of options.now.place) input.now)
+        (ComesOfArranged options.now (reads_of options.now.place) input.now)
         (W.contents writer.old) (W.contents writer.new) result }
     ensures files { AltersAtMost F.alters (bad_file options.now) files.old files.new }
     ensures kept { UnlessLate (files.new ≡ files.old) result }
@@ -128,10 +128,10 @@ fn write_keyed<'w, B: SortBy + Copy, C: Chooses, F: Files, W: Write>(
     writer: &mut W,
 ) -> Result<(), Fault<'w>>
     requires { is_reversed arrangement ≡ B.is_reversed by }
-    ensures ends { Ends (IsArranged (B.text_of by) options.now input.now
-        (arranged_in (B.text_of by) (C.keeps chooser.now) arrangement.entry options.now input.now)
+    ensures ends { Ends (IsArranged (B.reads by) options.now input.now
+        (arranged_in (B.reads by) (C.keeps chooser.now) arrangement.entry options.now input.now)
         (Leaves F.puts files.old files.new))
-        (ComesOfArranged options.now (B.text_of by) input.now)
+        (ComesOfArranged options.now (B.reads by) input.now)
         (W.contents writer.old) (W.contents writer.new) result }
     ensures files { AltersAtMost F.alters (bad_file options.now) files.old files.new }
     ensures kept { UnlessLate (files.new ≡ files.old) result }
@@ -172,10 +172,10 @@ fn write_newest<'w, B: SortBy, C: Chooses, F: Files, W: Write>(
     files: &mut F,
     writer: &mut W,
 ) -> Result<(), Fault<'w>>
-    ensures ends { Ends (IsArranged (B.text_of by) options.now input.now
-        (newest_alone (B.text_of by) (kept_in (B.text_of by) (C.keeps chooser.now) options.now input.now))
+    ensures ends { Ends (IsArranged (B.reads by) options.now input.now
+        (newest_alone (B.reads by) (kept_in (B.reads by) (C.keeps chooser.now) options.now input.now))
         (Leaves F.puts files.old files.new))
-        (ComesOfArranged options.now (B.text_of by) input.now)
+        (ComesOfArranged options.now (B.reads by) input.now)
         (W.contents writer.old) (W.contents writer.new) result }
     ensures files { AltersAtMost F.alters (bad_file options.now) files.old files.new }
     ensures kept { UnlessLate (files.new ≡ files.old) result }
@@ -193,9 +193,9 @@ fn arrange<B: SortBy>(
     crlf: bool,
     lines: &mut KeyedLines<'_, B>,
 ) -> Result<(), AllocError>
-    requires read { AreRead B.text_of lines.old }
+    requires read { AreRead B.reads lines.old }
     requires reversed { is_reversed arrangement ≡ B.is_reversed lines.old.by }
-    ensures { OnOk result (lines_in lines.new ≡ arranged (B.text_of lines.old.by) (group_text crlf)
+    ensures { OnOk result (lines_in lines.new ≡ arranged (B.reads lines.old.by) (group_text crlf)
         arrangement.entry (lines_in lines.old)) }
 {
     match arrangement {
@@ -234,10 +234,10 @@ fn write_kept<'w, F: Files, W: Write>(
     files: &mut F,
     writer: &mut W,
 ) -> Result<(), Fault<'w>>
-    ensures ends { Ends (IsArranged (text_of options.now.place) options.now input.now
-        (kept_in (text_of options.now.place) (is_kept chooser.now) options.now input.now)
+    ensures ends { Ends (IsArranged (reads_of options.now.place) options.now input.now
+        (kept_in (reads_of options.now.place) (is_kept chooser.now) options.now input.now)
         (Leaves F.puts files.old files.new))
-        (ComesOfArranged options.now (text_of options.now.place) input.now)
+        (ComesOfArranged options.now (reads_of options.now.place) input.now)
         (W.contents writer.old) (W.contents writer.new) result }
     ensures files { AltersAtMost F.alters (bad_file options.now) files.old files.new }
     ensures kept { UnlessLate (files.new ≡ files.old) result }
@@ -277,7 +277,7 @@ fn write_at_once<'w, W: Write>(
     writer: &mut W,
 ) -> Result<(), Fault<'w>>
     ensures { Ends (λ output. output ≡ output_by options.now.end
-        (kept_line (text_of options.now.place) (is_kept chooser.now) options.now.end) input.now)
+        (kept_line (reads_of options.now.place) (is_kept chooser.now) options.now.end) input.now)
         (λ fault. fault ≡ Fault.Memory) (W.contents writer.old) (W.contents writer.new) result }
 {
     let chosen = Chosen {
@@ -297,18 +297,18 @@ struct KeptLines<'w, 'a> {
 impl<'a> Takes<'a> for KeptLines<'_, 'a> {
     ghost use Rattle.std.specs.Prelude.{◌≡◌, ⊤, map};
 
-    ghost text_of = { λ kept. text_of kept.place };
+    ghost reads = { λ kept. reads_of kept.place };
 
     ghost IsReady = { λ _. ⊤ };
 
     ghost HasTaken = { λ _ kept lines. map (λ line. line.now) kept.lines.items ≡ lines };
 
     #[inline(always)]
-    fn version(&self, line: &'a [u8]) -> Option<VersioningRef<'a>> {
+    fn version(&self, line: &'a [u8]) -> Option<AnyVersion<'a>> {
         self.place.version(line)
     }
 
-    fn take(&mut self, _version: &VersioningRef<'a>, line: &'a [u8]) -> Result<(), AllocError> {
+    fn take(&mut self, _version: &AnyVersion<'a>, line: &'a [u8]) -> Result<(), AllocError> {
         self.lines.push(line)?;
         Ok(())
     }
@@ -324,7 +324,7 @@ struct Chosen<'c> {
 impl LineCommand for Chosen<'_> {
     ghost use Rattle.version_commands.specs.Ordered.{kept_line};
 
-    ghost line_output = { λ chosen. kept_line (text_of chosen.place) (is_kept chosen.chooser.now) };
+    ghost line_output = { λ chosen. kept_line (reads_of chosen.place) (is_kept chosen.chooser.now) };
 
     #[inline(always)]
     fn answer(&self, line: &[u8]) -> Answer {

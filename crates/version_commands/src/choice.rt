@@ -1,9 +1,9 @@
 //! Which lines that have a version are kept.
 ghost use Rattle.std.specs.Prelude.{◌≡◌, true, Some, IfErr, IfOk, IsTrue};
-ghost use Rattle.version_commands.specs.Choice.{is_kept, is_stable_enough, is_wanted, keeps_of, passes, wrong_set};
+ghost use Rattle.version_commands.specs.Choice.{is_kept, is_stable_enough, is_wanted, keeps_of, passes, stability_by, wrong_set};
 ghost use Rattle.version_commands.specs.Fault.{ComesOfSets};
-ghost use Rattle.version_rules.specs.grammar.Versioning.{PlainVersioning};
-ghost use Rattle.version_texts.specs.versioning_ref.VersioningRef.{plain_versioning_ref};
+ghost use Rattle.version_schemes.specs.any.Order.{PlainAny};
+ghost use Rattle.version_schemes.specs.any.AnyVersion.{plain_any};
 
 use crate::faults::Fault;
 use crate::options::{Arrangement, Choice};
@@ -11,7 +11,8 @@ use crate::pick::Chooses;
 use crate::set::Set;
 use crate::word::set_of_word;
 use std::alloc::Global;
-use version_tasks::{Stability, stability_of};
+use version_schemes::{AnyVersion, Scheme};
+use version_tasks::{Stability, stability_of, stability_of_text};
 use version_texts::VersioningRef;
 
 /// The set of `filter`.
@@ -37,22 +38,23 @@ impl Chooser {
     /// the one of `filter` comes first.
     pub fn new<'w>(
         alloc: Global,
+        scheme: Scheme,
         choice: &Choice<'w>,
         arrangement: &Arrangement<'w>,
     ) -> Result<Chooser, Fault<'w>>
         ensures ok { IfOk result (λ chooser.
-            keeps_of choice.now arrangement.now ≡ Some (is_kept chooser)) }
-        ensures faults { IfErr result (ComesOfSets (wrong_set choice.now arrangement.now)) }
+            keeps_of scheme choice.now arrangement.now ≡ Some (is_kept chooser)) }
+        ensures faults { IfErr result (ComesOfSets scheme (wrong_set scheme choice.now arrangement.now)) }
     {
         let filter = match arrangement {
             Arrangement::Filter { set, inverted } => Some(Filter {
-                set: set_of_word(alloc, set)?,
+                set: set_of_word(alloc, scheme, set)?,
                 inverted: *inverted,
             }),
             _ => None,
         };
         let wanted = match choice.wanted {
-            Some(word) => Some(set_of_word(alloc, word)?),
+            Some(word) => Some(set_of_word(alloc, scheme, word)?),
             None => None,
         };
         Ok(Chooser {
@@ -64,7 +66,7 @@ impl Chooser {
 
     /// Whether each version is kept, as where nothing is asked.
     pub fn keeps_all(&self) -> bool
-        ensures { IsTrue result → (v : PlainVersioning) → is_kept self.now v ≡ true }
+        ensures { IsTrue result → (v : PlainAny) → is_kept self.now v ≡ true }
     {
         matches!(
             self,
@@ -78,8 +80,8 @@ impl Chooser {
 
     /// Returns whether a version is kept. Does not allocate.
     #[inline(always)]
-    pub fn keeps(&self, version: &VersioningRef<'_>) -> bool
-        ensures { result ≡ is_kept self.now (plain_versioning_ref version.now) }
+    pub fn keeps(&self, version: &AnyVersion<'_>) -> bool
+        ensures { result ≡ is_kept self.now (plain_any version.now) }
     {
         is_stable_enough(self.least, version)
             && is_wanted(&self.wanted, version)
@@ -89,15 +91,28 @@ impl Chooser {
 
 // Whether a version is as stable as this, or more.
 #[inline(always)]
-fn is_stable_enough(least: Stability, version: &VersioningRef<'_>) -> bool
-    ensures { result ≡ is_stable_enough least (plain_versioning_ref version.now) }
+fn is_stable_enough(least: Stability, version: &AnyVersion<'_>) -> bool
+    ensures { result ≡ is_stable_enough least (plain_any version.now) }
 {
-    least == Stability::Dev || least <= stability_of(version)
+    least == Stability::Dev || least <= stability_by(version)
+}
+
+// Returns how stable a version is.
+fn stability_by(version: &AnyVersion<'_>) -> Stability
+    ensures { result ≡ stability_by (plain_any version.now).scheme (plain_any version.now).text }
+{
+    match version.scheme() {
+        Scheme::Mixed | Scheme::SemVer => match VersioningRef::from_bytes(version.bytes()) {
+            Some(version) => stability_of(&version),
+            None => stability_of_text(version.bytes()),
+        },
+        _ => stability_of_text(version.bytes()),
+    }
 }
 
 // Whether a version is in a set, if there is a set.
-fn is_wanted(wanted: &Option<Set>, version: &VersioningRef<'_>) -> bool
-    ensures { result ≡ is_wanted wanted.now (plain_versioning_ref version.now) }
+fn is_wanted(wanted: &Option<Set>, version: &AnyVersion<'_>) -> bool
+    ensures { result ≡ is_wanted wanted.now (plain_any version.now) }
 {
     match wanted {
         Some(wanted) => wanted.has(version),
@@ -106,8 +121,8 @@ fn is_wanted(wanted: &Option<Set>, version: &VersioningRef<'_>) -> bool
 }
 
 // Whether a filter keeps a version, if there is a filter.
-fn passes(filter: &Option<Filter>, version: &VersioningRef<'_>) -> bool
-    ensures { result ≡ passes filter.now (plain_versioning_ref version.now) }
+fn passes(filter: &Option<Filter>, version: &AnyVersion<'_>) -> bool
+    ensures { result ≡ passes filter.now (plain_any version.now) }
 {
     match filter {
         Some(filter) => filter.set.has(version) != filter.inverted,
@@ -121,7 +136,7 @@ impl Chooses for Chooser {
     ghost keeps = { λ chooser. is_kept chooser };
 
     #[inline(always)]
-    fn keeps(&self, version: &VersioningRef<'_>) -> bool {
+    fn keeps(&self, version: &AnyVersion<'_>) -> bool {
         Chooser::keeps(self, version)
     }
 }

@@ -1,7 +1,7 @@
 //! The command `compare`: how two versions compare, and where they differ first.
 
-ghost use Rattle.std.specs.Prelude.{◌≡◌, ◌∷◌, ◌++◌, [], true, OnOk};
-ghost use Rattle.version_commands.specs.Compare.{comparison_line, explanation, have_one_text, sign_text};
+ghost use Rattle.std.specs.Prelude.{◌≡◌, ◌∷◌, ◌++◌, [], OnOk};
+ghost use Rattle.version_commands.specs.Compare.{explained_line, explanation, have_one_text, sign_text};
 ghost use Rattle.version_lines.specs.Lines.{line_feed};
 ghost use Rattle.version_texts.specs.versioning_ref.VersioningRef.{plain_versioning_ref};
 
@@ -29,7 +29,7 @@ pub(crate) fn add_explained(
     end: u8,
     output: &mut Vec<u8>,
 ) -> Result<(), AllocError>
-    ensures { OnOk result (output.new.items ≡ output.old.items ++ comparison_line true end
+    ensures { OnOk result (output.new.items ≡ output.old.items ++ explained_line end
         (plain_versioning_ref first.now) (plain_versioning_ref second.now)) }
 {
     output.extend_from_slice(&sign_line(first.precedence(second))[..1])?;

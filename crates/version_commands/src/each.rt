@@ -4,12 +4,12 @@ ghost use Rattle.std.specs.Io.KnownBytes.{Consumes, IsAtEnd};
 ghost use Rattle.version_commands.specs.Cause.{ComesOfAnswering, ComesOfAsking, ComesOfQuestion};
 ghost use Rattle.version_commands.specs.declared.each.Answers.{Answers};
 ghost use Rattle.version_commands.specs.Early.{IfOfWord};
-ghost use Rattle.version_commands.specs.Each.{AreAnswered, HasSet, HaveAnswered, IsAnswer, IsAnswered, IsHead};
+ghost use Rattle.version_commands.specs.Each.{scheme_of, AreAnswered, HasSet, HaveAnswered, IsAnswer, IsAnswered, IsHead};
 ghost use Rattle.version_commands.specs.Pieces.{Adds};
 ghost use Rattle.version_commands.specs.Place.{line_text};
 ghost use Rattle.version_lines.specs.Lines.{lines_of};
-ghost use Rattle.version_rules.specs.grammar.Versioning.{versioning_of};
-ghost use Rattle.version_texts.specs.versioning_ref.VersioningRef.{plain_versioning_ref};
+ghost use Rattle.version_schemes.specs.any.AnyVersion.{plain_any};
+ghost use Rattle.version_schemes.specs.any.Order.{any_of};
 
 use crate::bad::refuse_first;
 use crate::faults::Fault;
@@ -27,7 +27,7 @@ use crate::why::{add_head, add_why};
 use crate::word::{set_of_word, version_of_word};
 use std::alloc::{AllocError, Global};
 use std::io::Read;
-use version_texts::VersioningRef;
+use version_schemes::{AnyVersion, Scheme};
 
 /// Answers the question for each version: of the words, or without any of the lines of the reader.
 pub fn answer_each<'w, R: Read>(
@@ -66,19 +66,19 @@ fn ask<'w>(alloc: Global, question: Question<'w>, end: u8) -> Result<Asked, Faul
     ensures faults { IfErr result (ComesOfQuestion question.entry) }
 {
     let mut head = Vec::new(alloc);
-    let Question::Why(word) = question else {
+    let Question::Why(scheme, word) = question else {
         return Ok(Asked {
             head,
             set: None,
             room: Vec::new(alloc),
         });
     };
-    let set = set_of_word(alloc, word)?;
+    let set = set_of_word(alloc, scheme, word)?;
     add_head(word.as_bytes(), set.has_any(), end, &mut head)?;
     Ok(Asked {
         head,
         set: Some(set),
-        room: room_of(alloc, word.as_bytes())?,
+        room: room_of(alloc, scheme, word.as_bytes())?,
     })
 }
 
@@ -108,7 +108,7 @@ fn answer_words<'w>(
         unanswered: None,
     };
     for word in words {
-        let version = version_of_word(word)?;
+        let version = version_of_word(question.scheme(), word)?;
         answers.add(word.as_bytes(), &version)?;
     }
     answers.finish()
@@ -161,9 +161,9 @@ struct Answers<'q, 'a> {
 
 impl<'a> Answers<'_, 'a> {
     // Adds the answer for a text, which is this version.
-    fn add(&mut self, text: &'a [u8], version: &VersioningRef<'_>) -> Result<(), AllocError>
+    fn add(&mut self, text: &'a [u8], version: &AnyVersion<'_>) -> Result<(), AllocError>
         requires set { HasSet self.old.question self.old.set }
-        requires version { versioning_of text.now ≡ Some (plain_versioning_ref version.now) }
+        requires version { any_of (scheme_of self.old.question) text.now ≡ Some (plain_any version.now) }
         ensures question { self.new.question ≡ self.old.question }
         ensures crlf { self.new.crlf ≡ self.old.crlf }
         ensures set { self.new.set ≡ self.old.set }
@@ -205,21 +205,21 @@ impl<'a> Answers<'_, 'a> {
 
 impl<'a> Takes<'a> for Answers<'_, 'a> {
     ghost use Rattle.std.specs.Prelude.{◌≡◌, ⊤, map};
-    ghost use Rattle.version_commands.specs.Each.{HasSet, HaveAnswered};
+    ghost use Rattle.version_commands.specs.Each.{reads_by, scheme_of, HasSet, HaveAnswered};
     ghost use Rattle.version_commands.specs.Place.{line_text};
 
-    ghost text_of = { λ answers. line_text answers.crlf };
+    ghost reads = { λ answers. reads_by (scheme_of answers.question) answers.crlf };
 
     ghost IsReady = { λ answers. HasSet answers.question answers.set };
 
     ghost HasTaken = { λ first now lines.
         HaveAnswered first now (map (line_text first.crlf) lines) };
 
-    fn version(&self, line: &'a [u8]) -> Option<VersioningRef<'a>> {
-        VersioningRef::from_bytes(line_text(self.crlf, line))
+    fn version(&self, line: &'a [u8]) -> Option<AnyVersion<'a>> {
+        AnyVersion::read(self.question.scheme(), line_text(self.crlf, line))
     }
 
-    fn take(&mut self, version: &VersioningRef<'a>, line: &'a [u8]) -> Result<(), AllocError> {
+    fn take(&mut self, version: &AnyVersion<'a>, line: &'a [u8]) -> Result<(), AllocError> {
         self.add(line_text(self.crlf, line), version)
     }
 }
@@ -229,25 +229,44 @@ fn add_answer(
     alloc: Global,
     question: Question<'_>,
     set: &Option<Set>,
-    version: &VersioningRef<'_>,
+    version: &AnyVersion<'_>,
     end: u8,
     room: &mut [u8],
     output: &mut Vec<u8>,
 ) -> Result<bool, AllocError>
-    requires { HasSet question set.now }
+    requires set { HasSet question set.now }
+    requires scheme { (plain_any version.now).scheme ≡ scheme_of question }
     ensures { IfOk result (λ found. Adds
-        (IsAnswer question.entry end (plain_versioning_ref version.now) found)
+        (IsAnswer question.entry end (plain_any version.now) found)
         output.old.items output.new.items) }
 {
     match question {
-        Question::Show => add_show(version, end, output)?,
-        Question::Json => add_json(alloc, version, end, output)?,
-        Question::Key => add_key_line(alloc, version, end, output)?,
-        Question::Why(word) => {
+        Question::Show => add_show(version.mixed().unwrap(), end, output)?,
+        Question::Json => add_json(alloc, version.mixed().unwrap(), end, output)?,
+        Question::Key(_) => add_key_line(alloc, version, end, output)?,
+        Question::Why(_, word) => {
             let set = set.as_ref().unwrap();
             add_why(word, set, version, end, room, output)?;
         }
-        Question::Next(place) => return add_next(alloc, version, place, end, output),
+        Question::Next(place) => return add_next(
+            alloc,
+            version.mixed().unwrap(),
+            place,
+            end,
+            output,
+        ),
     }
     Ok(true)
+}
+
+impl Question<'_> {
+    // Returns the scheme by which it reads versions.
+    fn scheme(self) -> Scheme
+        ensures { result ≡ scheme_of self.entry }
+    {
+        match self {
+            Question::Key(scheme) | Question::Why(scheme, _) => scheme,
+            Question::Show | Question::Json | Question::Next(_) => Scheme::Mixed,
+        }
+    }
 }

@@ -2,21 +2,21 @@
 
 ghost use Rattle.std.specs.Prelude.{◌≡◌, ◌++◌, OnOk};
 ghost use Rattle.version_commands.specs.Key.{key_line};
-ghost use Rattle.version_texts.specs.versioning_ref.VersioningRef.{plain_versioning_ref};
+ghost use Rattle.version_schemes.specs.any.AnyVersion.{plain_any};
 
 use crate::pieces::add_pieces;
 use std::alloc::{AllocError, Global};
-use version_texts::VersioningRef;
+use version_schemes::AnyVersion;
 
 /// Adds the line with the sort key of a version, in hexadecimal.
 pub(crate) fn add_key_line(
     alloc: Global,
-    version: &VersioningRef<'_>,
+    version: &AnyVersion<'_>,
     end: u8,
     output: &mut Vec<u8>,
 ) -> Result<(), AllocError>
     ensures { OnOk result (output.new.items
-        ≡ output.old.items ++ key_line end (plain_versioning_ref version.now)) }
+        ≡ output.old.items ++ key_line end (plain_any version.now)) }
 {
     let mut key = Vec::new(alloc);
     version.append_key(&mut key)?;

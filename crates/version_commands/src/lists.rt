@@ -3,10 +3,9 @@ ghost use Rattle.std.specs.Prelude.{◌≡◌, ℕ, ◌∷◌, ◌++◌, [], Lis
 ghost use Rattle.std.specs.Option.{option_map};
 ghost use Rattle.version_commands.specs.Lists.{difference_text, first_rows, lines_against, name_line, plain_row, row_text, rows_of, version_of, AreNames, Row};
 ghost use Rattle.version_commands.specs.Picked.{AreBadOf};
-ghost use Rattle.version_commands.specs.Place.{text_of};
+ghost use Rattle.version_commands.specs.Place.{reads_of};
 ghost use Rattle.version_lines.specs.Lines.{lines_of, whole_line};
-ghost use Rattle.version_rules.specs.grammar.Versioning.{versioning_text};
-ghost use Rattle.version_texts.specs.versioning_ref.VersioningRef.{plain_versioning_ref};
+ghost use Rattle.version_schemes.specs.any.AnyVersion.{plain_any};
 
 use crate::options::Lists;
 use crate::pick::{BadLines, EveryVersion, Takes, pick};
@@ -14,13 +13,13 @@ use crate::place::{column_text, line_text};
 use std::alloc::{AllocError, Global};
 use std::cmp::Ordering;
 use std::collections::BTreeMap;
-use version_texts::VersioningRef;
+use version_schemes::AnyVersion;
 
 /// A name, and the version beside it.
 #[derive(Clone, Copy)]
 pub struct Named<'a> {
     name: &'a [u8],
-    version: VersioningRef<'a>,
+    version: AnyVersion<'a>,
 }
 
 // Which of the two lists a name stands in.
@@ -35,7 +34,7 @@ enum Side {
 pub struct Names<'a> {
     // In the order of their first lines.
     rows: Vec<Named<'a>>,
-    versions: BTreeMap<&'a [u8], VersioningRef<'a>>,
+    versions: BTreeMap<&'a [u8], AnyVersion<'a>>,
 }
 
 impl<'a> Names<'a> {
@@ -50,9 +49,9 @@ impl<'a> Names<'a> {
     }
 
     // Adds a name with the version of its line, unless an earlier line has the name.
-    fn add(&mut self, name: &'a [u8], version: VersioningRef<'a>) -> Result<(), AllocError>
+    fn add(&mut self, name: &'a [u8], version: AnyVersion<'a>) -> Result<(), AllocError>
         ensures { OnOk result ((rows : List Row) → AreNames rows self.old
-            → AreNames (rows ++ (name.now, plain_versioning_ref version.entry) ∷ []) self.new) }
+            → AreNames (rows ++ (name.now, plain_any version.entry) ∷ []) self.new) }
     {
         if self.versions.contains_key(name) {
             return Ok(());
@@ -63,9 +62,9 @@ impl<'a> Names<'a> {
     }
 
     // Returns the version of a name.
-    fn version(&self, name: &[u8]) -> Option<&VersioningRef<'a>>
+    fn version(&self, name: &[u8]) -> Option<&AnyVersion<'a>>
         ensures { (rows : List Row) → AreNames rows self.now
-            → option_map (λ version. plain_versioning_ref version.now) result
+            → option_map (λ version. plain_any version.now) result
             ≡ version_of rows name.now }
     {
         self.versions.get(name)
@@ -80,7 +79,7 @@ pub fn read_names<'a>(
 ) -> Result<(Names<'a>, BadLines<'a>), AllocError>
     ensures names { IfOk result (λ read. AreNames (rows_of lists.now input.now) read.0) }
     ensures bad { IfOk result (λ read.
-        AreBadOf (text_of lists.now.place) (lines_of lists.now.end input.now) read.1) }
+        AreBadOf (reads_of lists.now.place) (lines_of lists.now.end input.now) read.1) }
 {
     let mut list = NamedList {
         lists,
@@ -101,20 +100,20 @@ impl<'a> Takes<'a> for NamedList<'_, '_, 'a> {
     ghost use Rattle.std.specs.Prelude.{◌≡◌, ⊤};
     ghost use Rattle.std.specs.List.{flat_map};
     ghost use Rattle.version_commands.specs.Lists.{rows_of_line, AreNames};
-    ghost use Rattle.version_commands.specs.Place.{text_of};
+    ghost use Rattle.version_commands.specs.Place.{reads_of};
 
-    ghost text_of = { λ list. text_of list.lists.now.place };
+    ghost reads = { λ list. reads_of list.lists.now.place };
 
     ghost IsReady = { λ _. ⊤ };
 
     ghost HasTaken = { λ first now lines. (now.lists.now ≡ first.lists.now)
         × AreNames (flat_map (rows_of_line first.lists.now) lines) now.names };
 
-    fn version(&self, line: &'a [u8]) -> Option<VersioningRef<'a>> {
+    fn version(&self, line: &'a [u8]) -> Option<AnyVersion<'a>> {
         self.lists.place.version(line)
     }
 
-    fn take(&mut self, version: &VersioningRef<'a>, line: &'a [u8]) -> Result<(), AllocError> {
+    fn take(&mut self, version: &AnyVersion<'a>, line: &'a [u8]) -> Result<(), AllocError> {
         let text = line_text(self.lists.place.crlf, line);
         self.names
             .add(column_text(Some(self.lists.name), text), *version)
@@ -157,12 +156,12 @@ fn add_names(
 fn add_name(
     side: Side,
     row: &Named<'_>,
-    other: Option<&VersioningRef<'_>>,
+    other: Option<&AnyVersion<'_>>,
     end: u8,
     output: &mut Vec<u8>,
 ) -> Result<(), AllocError>
     ensures { OnOk result (output.new.items ≡ output.old.items ++ name_line side end (plain_row row.now)
-        (option_map (λ version. plain_versioning_ref version.now) other.entry)) }
+        (option_map (λ version. plain_any version.now) other.entry)) }
 {
     match (side, other) {
         (Side::Old, None) => add_whole_row(b"removed ", row, end, output),
@@ -195,17 +194,17 @@ fn add_whole_row(
 fn add_change(
     word: &[u8],
     row: &Named<'_>,
-    new: &VersioningRef<'_>,
+    new: &AnyVersion<'_>,
     end: u8,
     output: &mut Vec<u8>,
 ) -> Result<(), AllocError>
     ensures { OnOk result (output.new.items ≡ output.old.items
         ++ whole_line end (row_text word.now (plain_row row.now)
-        ++ 32 ∷ versioning_text (plain_versioning_ref new.now))) }
+        ++ 32 ∷ (plain_any new.now).text)) }
 {
     add_row(word, row, output)?;
     output.push(b' ')?;
-    output.extend_from_slice(new.text().as_bytes())?;
+    output.extend_from_slice(new.bytes())?;
     output.push(end)?;
     Ok(())
 }
@@ -218,5 +217,5 @@ fn add_row(word: &[u8], row: &Named<'_>, output: &mut Vec<u8>) -> Result<(), All
     output.extend_from_slice(word)?;
     output.extend_from_slice(row.name)?;
     output.push(b' ')?;
-    output.extend_from_slice(row.version.text().as_bytes())
+    output.extend_from_slice(row.version.bytes())
 }

@@ -1,6 +1,7 @@
 //! What a command is asked to do: the words of a run, read.
 
 use version_lines::Column;
+use version_schemes::Scheme;
 use version_tasks::Stability;
 
 /// How a version stands in its column, or in the whole line.
@@ -22,6 +23,7 @@ pub struct VersionPlace<'w> {
     /// The column, or None for the whole line.
     pub column: Option<Column>,
     pub naming: Naming<'w>,
+    pub scheme: Scheme,
 }
 
 /// Which lines that have a version are left out before all else.
@@ -85,7 +87,7 @@ pub struct LineOptions<'w> {
     pub files: Vec<&'w str>,
 }
 
-/// What is asked of each of several versions.
+/// What is asked of each of several versions: by a scheme, where one is named, else by mixed.
 #[derive(Clone, Copy, Debug)]
 pub enum Question<'w> {
     /// Its kind, numbers and other fields, in lines.
@@ -93,9 +95,9 @@ pub enum Question<'w> {
     /// The same as a JSON object.
     Json,
     /// Its sort key, in hexadecimal.
-    Key,
+    Key(Scheme),
     /// Whether it is in a set, or which members leave it out.
-    Why(&'w str),
+    Why(Scheme, &'w str),
     /// Which version comes next at a place, counted from 0.
     Next(usize),
 }
@@ -152,19 +154,17 @@ pub enum Task<'w> {
     /// `show`, `key`, `why` and `next`.
     Each(Question<'w>, EachOptions<'w>),
     /// `test A OP B`.
-    TestTwo(&'w str, Operator, &'w str),
+    TestTwo(Scheme, &'w str, Operator, &'w str),
     /// `test VERSION SET`.
-    TestSet(&'w str, &'w str),
+    TestSet(Scheme, &'w str, &'w str),
     /// `implies SET SET`.
-    Implies(&'w str, &'w str),
+    Implies(Scheme, &'w str, &'w str),
     /// `meets SET SET`.
-    Meets(&'w str, &'w str),
-    /// `compare A B`, with `--explain` or without.
-    Compare {
-        first: &'w str,
-        second: &'w str,
-        explain: bool,
-    },
+    Meets(Scheme, &'w str, &'w str),
+    /// `compare A B`.
+    Compare(Scheme, &'w str, &'w str),
+    /// `compare --explain A B`.
+    Explain(&'w str, &'w str),
     /// `diff A B`.
     Difference(&'w str, &'w str),
     /// `diff --lists OLD NEW`.

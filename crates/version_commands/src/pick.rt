@@ -3,22 +3,22 @@ ghost use Rattle.std.specs.Prelude.{◌≡◌, ◌<◌, ◌≤◌, ◌+◌, ◌^
 ghost use Rattle.std.specs.Option.{option_map};
 ghost use Rattle.version_commands.specs.Picked.{kept_lines, AreBadOf};
 ghost use Rattle.version_lines.specs.Lines.{lines_of};
-ghost use Rattle.version_lines.specs.Sort.{is_bad};
-ghost use Rattle.version_rules.specs.grammar.Versioning.{versioning_of, PlainVersioning};
-ghost use Rattle.version_texts.specs.versioning_ref.VersioningRef.{plain_versioning_ref};
+ghost use Rattle.version_lines.specs.Sort.{is_bad, version_in, Reads};
+ghost use Rattle.version_schemes.specs.any.AnyVersion.{plain_any};
+ghost use Rattle.version_schemes.specs.any.Order.{PlainAny};
 
 use std::alloc::{AllocError, Global};
 use version_lines::{KeyedLines, NewestLine, SortBy, split_line};
-use version_texts::VersioningRef;
+use version_schemes::AnyVersion;
 
 /// Which versions are kept.
 pub trait Chooses {
     // Whether a version is kept.
-    ghost keeps: { Self → PlainVersioning → Bool };
+    ghost keeps: { Self → PlainAny → Bool };
 
     /// Returns whether a version is kept.
-    fn keeps(&self, version: &VersioningRef<'_>) -> bool
-        ensures { result ≡ keeps self.now (plain_versioning_ref version.now) };
+    fn keeps(&self, version: &AnyVersion<'_>) -> bool
+        ensures { result ≡ keeps self.now (plain_any version.now) };
 }
 
 /// Each version is kept.
@@ -31,7 +31,7 @@ impl Chooses for EveryVersion {
     ghost keeps = { λ _ _. true };
 
     #[inline(always)]
-    fn keeps(&self, _version: &VersioningRef<'_>) -> bool {
+    fn keeps(&self, _version: &AnyVersion<'_>) -> bool {
         true
     }
 }
@@ -48,7 +48,7 @@ pub struct BadLines<'a> {
 impl<'a> BadLines<'a> {
     /// None yet.
     pub fn new(alloc: Global) -> BadLines<'a>
-        ensures { (text_of : List ℕ → List ℕ) → AreBadOf text_of [] result }
+        ensures { (reads : Reads) → AreBadOf reads [] result }
     {
         BadLines {
             lines: Vec::new(alloc),
@@ -59,9 +59,9 @@ impl<'a> BadLines<'a> {
     /// Adds a line that has none.
     pub fn add(&mut self, line: &'a [u8]) -> Result<(), AllocError>
         ensures before { OnOk result (self.new.before ≡ self.old.before) }
-        ensures bad { OnOk result ((text_of : List ℕ → List ℕ) → (lines : List (List ℕ))
-            → is_bad (text_of line.now) ≡ true → AreBadOf text_of lines self.old
-            → AreBadOf text_of (lines ++ line.now ∷ []) self.new) }
+        ensures bad { OnOk result ((reads : Reads) → (lines : List (List ℕ))
+            → is_bad reads line.now ≡ true → AreBadOf reads lines self.old
+            → AreBadOf reads (lines ++ line.now ∷ []) self.new) }
     {
         self.lines.push(line)?;
         Ok(())
@@ -72,9 +72,9 @@ impl<'a> BadLines<'a> {
     pub fn pass(&mut self)
         requires { self.old.before + 1 < 2 ^ 64 }
         ensures before { self.new.before ≤ self.old.before + 1 }
-        ensures good { (text_of : List ℕ → List ℕ) → (lines : List (List ℕ)) → (line : List ℕ)
-            → is_bad (text_of line) ≡ false → AreBadOf text_of lines self.old
-            → AreBadOf text_of (lines ++ line ∷ []) self.new }
+        ensures good { (reads : Reads) → (lines : List (List ℕ)) → (line : List ℕ)
+            → is_bad reads line ≡ false → AreBadOf reads lines self.old
+            → AreBadOf reads (lines ++ line ∷ []) self.new }
     {
         if self.lines.is_empty() {
             self.before += 1;
@@ -84,8 +84,8 @@ impl<'a> BadLines<'a> {
 
 /// What takes lines that have a version, one after another.
 pub trait Takes<'a> {
-    // The text in a line that is to be its version.
-    ghost text_of: { Self → List ℕ → List ℕ };
+    // How lines are read.
+    ghost reads: { Self → Reads };
 
     // Whether it can take a line.
     ghost IsReady: { Self → Type 0 };
@@ -94,17 +94,15 @@ pub trait Takes<'a> {
     ghost HasTaken: { Self → Self → List (List ℕ) → Type 0 };
 
     /// Returns the version of a line.
-    fn version(&self, line: &'a [u8]) -> Option<VersioningRef<'a>>
-        ensures { option_map plain_versioning_ref result
-            ≡ versioning_of (text_of self.now line.now) };
+    fn version(&self, line: &'a [u8]) -> Option<AnyVersion<'a>>
+        ensures { option_map plain_any result ≡ version_in (reads self.now) line.now };
 
     /// Takes a line, whose version this is.
-    fn take(&mut self, version: &VersioningRef<'a>, line: &'a [u8]) -> Result<(), AllocError>
+    fn take(&mut self, version: &AnyVersion<'a>, line: &'a [u8]) -> Result<(), AllocError>
         requires ready { IsReady self.old }
-        requires version { versioning_of (text_of self.old line.now)
-            ≡ Some (plain_versioning_ref version.now) }
+        requires version { version_in (reads self.old) line.now ≡ Some (plain_any version.now) }
         ensures ready { IsReady self.new }
-        ensures text { text_of self.new ≡ text_of self.old }
+        ensures reads { reads self.new ≡ reads self.old }
         ensures taken { OnOk result ((first : Self) → (lines : List (List ℕ))
             → HasTaken first self.old lines → HasTaken first self.new (lines ++ line.now ∷ [])) };
 }
@@ -121,8 +119,8 @@ pub fn pick<'a, T: Takes<'a>, C: Chooses>(
     requires none { T.HasTaken taker.old taker.old [] }
     ensures ready { OnOk result (T.IsReady taker.new) }
     ensures taken { OnOk result (T.HasTaken taker.old taker.new
-        (kept_lines (T.text_of taker.old) (C.keeps chooser.now) (lines_of end input.now))) }
-    ensures bad { IfOk result (AreBadOf (T.text_of taker.old) (lines_of end input.now)) }
+        (kept_lines (T.reads taker.old) (C.keeps chooser.now) (lines_of end input.now))) }
+    ensures bad { IfOk result (AreBadOf (T.reads taker.old) (lines_of end input.now)) }
 {
     let mut bad = BadLines::new(alloc);
     let mut rest = input;
@@ -146,19 +144,19 @@ impl<'a, B: SortBy> Takes<'a> for KeyedLines<'a, B> {
     ghost use Rattle.std.specs.Prelude.{◌≡◌};
     ghost use Rattle.version_lines.specs.KeyedLines.{lines_in, AreRead};
 
-    ghost text_of = { λ lines. B.text_of lines.by };
+    ghost reads = { λ lines. B.reads lines.by };
 
-    ghost IsReady = { λ lines. AreRead B.text_of lines };
+    ghost IsReady = { λ lines. AreRead B.reads lines };
 
     ghost HasTaken = { λ first now lines. (lines_in now ≡ lines) × (now.by ≡ first.by) };
 
     #[inline(always)]
-    fn version(&self, line: &'a [u8]) -> Option<VersioningRef<'a>> {
+    fn version(&self, line: &'a [u8]) -> Option<AnyVersion<'a>> {
         KeyedLines::version(self, line)
     }
 
     #[inline(always)]
-    fn take(&mut self, version: &VersioningRef<'a>, line: &'a [u8]) -> Result<(), AllocError> {
+    fn take(&mut self, version: &AnyVersion<'a>, line: &'a [u8]) -> Result<(), AllocError> {
         self.add(version, line)
     }
 }
@@ -167,20 +165,20 @@ impl<'a, B: SortBy> Takes<'a> for NewestLine<'a, B> {
     ghost use Rattle.std.specs.Prelude.{◌≡◌, ⊤};
     ghost use Rattle.version_lines.specs.NewestLine.{IsNewestOf};
 
-    ghost text_of = { λ newest. B.text_of newest.by };
+    ghost reads = { λ newest. B.reads newest.by };
 
     ghost IsReady = { λ _. ⊤ };
 
-    ghost HasTaken = { λ first now lines. IsNewestOf (B.text_of now.by) lines now.newest
+    ghost HasTaken = { λ first now lines. IsNewestOf (B.reads now.by) lines now.newest
         × (now.by ≡ first.by) };
 
     #[inline(always)]
-    fn version(&self, line: &'a [u8]) -> Option<VersioningRef<'a>> {
+    fn version(&self, line: &'a [u8]) -> Option<AnyVersion<'a>> {
         NewestLine::version(self, line)
     }
 
     #[inline(always)]
-    fn take(&mut self, version: &VersioningRef<'a>, line: &'a [u8]) -> Result<(), AllocError> {
+    fn take(&mut self, version: &AnyVersion<'a>, line: &'a [u8]) -> Result<(), AllocError> {
         self.add(version, line);
         Ok(())
     }

@@ -1,18 +1,20 @@
 //! Where the version of a line stands.
-ghost use Rattle.std.specs.Prelude.{◌≡◌, ℕ, List, IsTrue};
+ghost use Rattle.std.specs.Prelude.{◌≡◌, IsTrue};
 ghost use Rattle.std.specs.Option.{option_map};
-ghost use Rattle.version_commands.specs.Place.{column_text, line_text, named_text, named_version, place_text, text_of, version_in};
-ghost use Rattle.version_texts.specs.versioning_ref.VersioningRef.{plain_versioning_ref};
+ghost use Rattle.version_commands.specs.Place.{column_text, line_text, named_text, place_text, reads_of, text_of};
+ghost use Rattle.version_lines.specs.Sort.{version_in};
+ghost use Rattle.version_schemes.specs.any.AnyVersion.{plain_any};
+ghost use Rattle.version_schemes.specs.declared.scheme.Scheme.TheVariants.{Mixed};
 
 use crate::options::{Naming, VersionPlace};
 use version_lines::{Column, GroupBy, SortBy};
-use version_tasks::{version_after_prefix, version_in_tag};
-use version_texts::VersioningRef;
+use version_schemes::{AnyVersion, Scheme};
+use version_tasks::{text_after_prefix, text_in_tag};
 
 impl VersionPlace<'_> {
-    /// Whether each line is its version.
+    /// Whether each line is its version, of the scheme mixed.
     pub fn is_whole(&self) -> bool
-        ensures { IsTrue result → (line : List ℕ) → text_of self.now line ≡ line }
+        ensures { IsTrue result → reads_of self.now ≡ record { scheme = Mixed; text_of = λ line. line } }
     {
         matches!(
             self,
@@ -20,12 +22,14 @@ impl VersionPlace<'_> {
                 crlf: false,
                 column: None,
                 naming: Naming::Bare,
+                scheme: Scheme::Mixed,
             }
         )
     }
 
     /// Returns the text in a line that is to be its version. It is empty where the line has no such column, and where
-    /// there is no version in the tag. Does not allocate.
+    /// no version begins in the tag. Does not allocate.
+    #[inline(always)]
     pub fn text<'a>(&self, line: &'a [u8]) -> &'a [u8]
         ensures { result.now ≡ text_of self.now line.now }
     {
@@ -34,12 +38,10 @@ impl VersionPlace<'_> {
 
     /// Returns the version of a line: the one that this text is. Does not allocate.
     #[inline(always)]
-    pub fn version<'a>(&self, line: &'a [u8]) -> Option<VersioningRef<'a>>
-        ensures named { option_map plain_versioning_ref result
-            ≡ named_version self.now.naming (place_text self.now line.now) }
-        ensures read { option_map plain_versioning_ref result ≡ version_in self.now line.now }
+    pub fn version<'a>(&self, line: &'a [u8]) -> Option<AnyVersion<'a>>
+        ensures { option_map plain_any result ≡ version_in (reads_of self.now) line.now }
     {
-        self.naming.version(self.place_text(line))
+        AnyVersion::read(self.scheme, self.text(line))
     }
 
     // Returns the text that names the version of a line.
@@ -53,27 +55,14 @@ impl VersionPlace<'_> {
 
 impl Naming<'_> {
     // Returns the text of the version in a text.
+    #[inline(always)]
     fn text<'a>(&self, text: &'a [u8]) -> &'a [u8]
         ensures { result.now ≡ named_text self.now text.now }
     {
         match self {
             Naming::Bare => text,
-            Naming::Tag | Naming::Prefix(_) => match self.version(text) {
-                Some(version) => version.bytes(),
-                None => &[],
-            },
-        }
-    }
-
-    // Returns the version in a text.
-    #[inline(always)]
-    fn version<'a>(&self, text: &'a [u8]) -> Option<VersioningRef<'a>>
-        ensures { option_map plain_versioning_ref result ≡ named_version self.now text.now }
-    {
-        match self {
-            Naming::Bare => VersioningRef::from_bytes(text),
-            Naming::Tag => version_in_tag(text),
-            Naming::Prefix(prefix) => version_after_prefix(prefix.as_bytes(), text),
+            Naming::Tag => text_in_tag(text).unwrap_or(&[]),
+            Naming::Prefix(prefix) => text_after_prefix(prefix.as_bytes(), text).unwrap_or(&[]),
         }
     }
 }
@@ -87,9 +76,9 @@ pub struct ByVersion<'w> {
 }
 
 impl SortBy for ByVersion<'_> {
-    ghost use Rattle.version_commands.specs.Place.{text_of};
+    ghost use Rattle.version_commands.specs.Place.{reads_of};
 
-    ghost text_of = { λ by. text_of by.place };
+    ghost reads = { λ by. reads_of by.place };
 
     ghost is_reversed = { λ by. by.reverse };
 
@@ -98,7 +87,7 @@ impl SortBy for ByVersion<'_> {
     }
 
     #[inline(always)]
-    fn version<'a>(&self, line: &'a [u8]) -> Option<VersioningRef<'a>> {
+    fn version<'a>(&self, line: &'a [u8]) -> Option<AnyVersion<'a>> {
         self.place.version(line)
     }
 

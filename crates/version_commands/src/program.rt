@@ -1,7 +1,7 @@
 //! What a task does over any files, reader and writer.
 ghost use Rattle.std.specs.Prelude.{◌≡◌, ◌∷◌, [], false, true, IfErr, IfOk};
 ghost use Rattle.version_commands.specs.Cause.{ComesOf, ComesOfChanges};
-ghost use Rattle.version_commands.specs.Compare.{comparison_line};
+ghost use Rattle.version_commands.specs.Compare.{comparison_line, explained_line};
 ghost use Rattle.version_commands.specs.Difference.{difference_line};
 ghost use Rattle.version_commands.specs.Early.{IfOfWord, UnlessLate};
 ghost use Rattle.version_commands.specs.Ends.{Ends};
@@ -12,6 +12,9 @@ ghost use Rattle.version_commands.specs.Lists.{names_of};
 ghost use Rattle.version_commands.specs.Output.{asks_reader, file_of, Answers, AreChanges, IsLineOfTwo, IsOutput};
 ghost use Rattle.version_commands.specs.Test.{answer_line};
 ghost use Rattle.version_lines.specs.Lines.{line_feed};
+ghost use Rattle.version_rules.specs.grammar.Versioning.{versioning_of};
+ghost use Rattle.version_schemes.specs.any.Order.{any_of};
+ghost use Rattle.version_schemes.specs.declared.scheme.Scheme.TheVariants.{Mixed};
 
 use crate::arrange::serve_lines;
 use crate::bad::refuse_if;
@@ -26,10 +29,11 @@ use crate::lists::{add_lists, read_names};
 use crate::matched::write_matched;
 use crate::options::{Lists, Task};
 use crate::test::{answer_line, implies, meets, test_set, test_two};
-use crate::word::version_of_word;
+use crate::word::{mixed_of_word, version_of_word};
 use crate::write::write_answer;
 use std::alloc::Global;
 use std::io::{Read, Write};
+use version_schemes::Scheme;
 
 /// Does a task, and returns whether it answers yes: one that answers by its output alone does. What it writes is
 /// `IsOutput` of the task and of what its files and the reader hold, and a fault `ComesOf` the same. At a fault the writer got nothing, or a proper beginning if it takes no more. A task that doesn't
@@ -61,20 +65,20 @@ pub fn serve<'w, F: Files, R: Read, W: Write>(
             let output = answer_each(alloc, *question, options, reader)?;
             write_text(writer, output.as_slice())
         }
-        Task::TestTwo(first, operator, second) => test_two(first, *operator, second),
-        Task::TestSet(version, set) => test_set(alloc, version, set),
-        Task::Implies(one, other) => write_yes_or_no(writer, implies(alloc, one, other)?),
-        Task::Meets(one, other) => write_yes_or_no(writer, meets(alloc, one, other)?),
-        Task::Compare {
-            first,
-            second,
-            explain: false,
-        } => write_text(writer, comparison(first, second)?),
-        Task::Compare {
-            first,
-            second,
-            explain: true,
-        } => {
+        Task::TestTwo(scheme, first, operator, second) => {
+            test_two(*scheme, first, *operator, second)
+        }
+        Task::TestSet(scheme, version, set) => test_set(alloc, *scheme, version, set),
+        Task::Implies(scheme, one, other) => {
+            write_yes_or_no(writer, implies(alloc, *scheme, one, other)?)
+        }
+        Task::Meets(scheme, one, other) => {
+            write_yes_or_no(writer, meets(alloc, *scheme, one, other)?)
+        }
+        Task::Compare(scheme, first, second) => {
+            write_text(writer, comparison(*scheme, first, second)?)
+        }
+        Task::Explain(first, second) => {
             let output = explanation(alloc, first, second)?;
             write_text(writer, output.as_slice())
         }
@@ -119,24 +123,28 @@ fn write_yes_or_no<'w, W: Write>(writer: &mut W, yes: bool) -> Result<bool, Faul
 }
 
 // Returns the line of `compare`. Does not allocate.
-fn comparison<'w>(first: &'w str, second: &'w str) -> Result<&'static [u8], Fault<'w>>
+fn comparison<'w>(
+    scheme: Scheme,
+    first: &'w str,
+    second: &'w str,
+) -> Result<&'static [u8], Fault<'w>>
     ensures output { IfOk result (λ line.
-        IsLineOfTwo (comparison_line false line_feed) first.now second.now line.now) }
-    ensures faults { IfErr result (ComesOfWords (first_wrong (first.now ∷ second.now ∷ []))) }
+        IsLineOfTwo (any_of scheme) (comparison_line line_feed) first.now second.now line.now) }
+    ensures faults { IfErr result (ComesOfWords (first_wrong scheme (first.now ∷ second.now ∷ []))) }
 {
-    let first = version_of_word(first)?;
-    let second = version_of_word(second)?;
+    let first = version_of_word(scheme, first)?;
+    let second = version_of_word(scheme, second)?;
     Ok(sign_line(first.precedence(&second)))
 }
 
 // Returns the line of `compare --explain`.
 fn explanation<'w>(alloc: Global, first: &'w str, second: &'w str) -> Result<Vec<u8>, Fault<'w>>
     ensures output { IfOk result (λ output.
-        IsLineOfTwo (comparison_line true line_feed) first.now second.now output.items) }
-    ensures faults { IfErr result (ComesOfWords (first_wrong (first.now ∷ second.now ∷ []))) }
+        IsLineOfTwo versioning_of (explained_line line_feed) first.now second.now output.items) }
+    ensures faults { IfErr result (ComesOfWords (first_wrong Mixed (first.now ∷ second.now ∷ []))) }
 {
-    let first = version_of_word(first)?;
-    let second = version_of_word(second)?;
+    let first = mixed_of_word(first)?;
+    let second = mixed_of_word(second)?;
     let mut output = Vec::new(alloc);
     add_explained(&first, &second, b'\n', &mut output)?;
     Ok(output)
@@ -145,11 +153,11 @@ fn explanation<'w>(alloc: Global, first: &'w str, second: &'w str) -> Result<Vec
 // Returns the line of `diff`.
 fn difference<'w>(alloc: Global, first: &'w str, second: &'w str) -> Result<Vec<u8>, Fault<'w>>
     ensures output { IfOk result (λ output.
-        IsLineOfTwo (difference_line line_feed) first.now second.now output.items) }
-    ensures faults { IfErr result (ComesOfWords (first_wrong (first.now ∷ second.now ∷ []))) }
+        IsLineOfTwo versioning_of (difference_line line_feed) first.now second.now output.items) }
+    ensures faults { IfErr result (ComesOfWords (first_wrong Mixed (first.now ∷ second.now ∷ []))) }
 {
-    let first = version_of_word(first)?;
-    let second = version_of_word(second)?;
+    let first = mixed_of_word(first)?;
+    let second = mixed_of_word(second)?;
     let mut output = Vec::new(alloc);
     add_difference(&first, &second, b'\n', &mut output)?;
     Ok(output)

@@ -1,23 +1,27 @@
 //! Sets of versions that words are.
 
-ghost use Rattle.std.specs.Prelude.{◌≡◌, List, Some, IfErr, IfOk, ℕ};
-ghost use Rattle.version_commands.specs.Sets.{HasAny, IsWrongSet};
+ghost use Rattle.std.specs.Prelude.{◌≡◌, ◌<◌, ◌∷◌, [], get_or, length, List, Some, IfErr, IfNone, IfOk, IfSome, ℕ};
+ghost use Rattle.version_commands.specs.Sets.{keys_of, reading_of, HasAny, IsWrongSet};
+ghost use Rattle.version_schemes.specs.Scheme.{rules, scheme_number};
+ghost use Rattle.version_schemes.specs.any.AnyVersion.{plain_any};
 ghost use Rattle.version_sets.specs.Ends.{has, IsPart, Meet, Rise};
+ghost use Rattle.version_sets.specs.Excluding.{leave_out, steps_left, AreLeft};
 ghost use Rattle.version_sets.specs.Form.{form_bytes, form_ends};
-ghost use Rattle.version_sets.specs.Mixed.{keys_of};
+ghost use Rattle.version_sets.specs.Reader.{IsUnread, IsWrittenSet};
+ghost use Rattle.version_sets.specs.Reading.{set_has, set_room, Member, Right};
 ghost use Rattle.version_sets.specs.Set.{ends_of};
-ghost use Rattle.version_sets.specs.declared.TheConstants.{MIXED};
-ghost use Rattle.version_texts.specs.keyed.Mixed.{mixed};
-ghost use Rattle.version_texts.specs.versioning_ref.VersioningRef.{plain_versioning_ref};
+ghost use Rattle.version_texts.specs.key.Sinks.{saturated};
 
 use crate::quote::Shown;
 use std::alloc::{AllocError, Global};
 use std::fmt;
 use std::marker::Model;
-use version_sets::{Form, MIXED, Reason, Unread, read_set, set_room};
-use version_texts::VersioningRef;
+use version_schemes::{
+    AnyVersion, ByKey, ByScheme, Deb, Gem, Pypi, Rpm, Scheme, SemVer, VersioningRef, by_scheme,
+};
+use version_sets::{Alternatives, Form, NoRoom, Reason, Span, Unread, read_set, set_room};
 
-/// A set of versions, by the bytes of its form.
+/// A set of versions of a scheme, by the bytes of its form.
 #[derive(Drop)]
 pub struct Set {
     bytes: Vec<u8>,
@@ -28,19 +32,23 @@ impl Model for Set {
 
     ghost view = { λ set. form_ends set.bytes.items };
 
-    ghost invariant = { λ set. (set.bytes.items ≡ form_bytes MIXED (form_ends set.bytes.items))
+    ghost invariant = { λ set. (set.bytes.items ≡ form_bytes (get_or set.bytes.items 0 0) (form_ends set.bytes.items))
         × Rise (form_ends set.bytes.items) };
 }
 
 impl Set {
-    /// Reads the set that a word is. It allocates as much as `set_room` says, and keeps that.
-    pub fn read<'w>(alloc: Global, word: &'w str) -> Result<Result<Set, WrongSet<'w>>, AllocError>
-        ensures set { IfOk result (λ read. IfOk read (λ set. keys_of word.now ≡ Some (has set))) }
-        ensures wrong { IfOk result (λ read. IfErr read (IsWrongSet word.now)) }
+    /// Reads the set of a scheme that a word is. It allocates as much as `set_room` says, and keeps that.
+    pub fn read<'w>(
+        alloc: Global,
+        scheme: Scheme,
+        word: &'w str,
+    ) -> Result<Result<Set, WrongSet<'w>>, AllocError>
+        ensures set { IfOk result (λ read. IfOk read (λ set. keys_of scheme word.now ≡ Some (has set))) }
+        ensures wrong { IfOk result (λ read. IfErr read (IsWrongSet scheme word.now)) }
     {
         let text = word.as_bytes();
-        let mut bytes = room_of(alloc, text)?;
-        match read_set::<VersioningRef<'_>>(MIXED, text, bytes.as_mut_slice()) {
+        let mut bytes = room_of(alloc, scheme, text)?;
+        match read_by(scheme, text, bytes.as_mut_slice()) {
             Ok(size) => {
                 bytes.truncate(size);
                 Ok(Ok(Set { bytes }))
@@ -54,11 +62,19 @@ impl Set {
         }
     }
 
-    /// Returns whether a version is in it. Does not allocate.
-    pub fn has(&self, version: &VersioningRef<'_>) -> bool
-        ensures { result ≡ has self.now (mixed (plain_versioning_ref version.now)).key }
+    /// Returns whether a version, which is to be of its scheme, is in it. Does not allocate.
+    pub fn has(&self, version: &AnyVersion<'_>) -> bool
+        ensures { result ≡ has self.now (plain_any version.now).key }
     {
-        self.form().has(version)
+        let form = self.form();
+        match version.by_scheme() {
+            ByScheme::Mixed(version) => form.has(version),
+            ByScheme::Deb(version) => form.has(&ByKey { version: *version }),
+            ByScheme::Rpm(version) => form.has(&ByKey { version: *version }),
+            ByScheme::Pypi(version) => form.has(&ByKey { version: *version }),
+            ByScheme::SemVer(version) => form.has(&ByKey { version: *version }),
+            ByScheme::Gem(version) => form.has(&ByKey { version: *version }),
+        }
     }
 
     /// Returns whether it has any key. Does not allocate.
@@ -92,9 +108,61 @@ impl Set {
     }
 }
 
-/// Returns room in which a set can be read, and its members asked.
-pub(crate) fn room_of(alloc: Global, text: &[u8]) -> Result<Vec<u8>, AllocError> {
-    vec![in alloc; 0; set_room::<VersioningRef<'_>>(text)]
+// Reads a set of a scheme into a room.
+fn read_by(scheme: Scheme, text: &[u8], room: &mut [u8]) -> Result<usize, Unread>
+    ensures ok { IfOk result (λ size. (first : List Member) × (others : List (List Member))
+        × (reading_of scheme text.now ≡ Right first others)
+        × IsWrittenSet room.new (scheme_number scheme) size (set_has (first ∷ others))) }
+    ensures wrong { IfErr result (λ unread. IsUnread unread (reading_of scheme text.now)
+        (length room.old < set_room (rules scheme).most text.now)) }
+{
+    let number = scheme.number();
+    match scheme {
+        Scheme::Mixed => read_set::<VersioningRef<'_>>(number, text, room),
+        Scheme::Deb => read_set::<ByKey<Deb<'_>>>(number, text, room),
+        Scheme::Rpm => read_set::<ByKey<Rpm<'_>>>(number, text, room),
+        Scheme::Pypi => read_set::<ByKey<Pypi<'_>>>(number, text, room),
+        Scheme::SemVer => read_set::<ByKey<SemVer<'_>>>(number, text, room),
+        Scheme::Gem => read_set::<ByKey<Gem<'_>>>(number, text, room),
+    }
+}
+
+/// Returns room in which a set of a scheme can be read, and its members asked.
+pub(crate) fn room_of(alloc: Global, scheme: Scheme, text: &[u8]) -> Result<Vec<u8>, AllocError>
+    ensures { IfOk result (λ room. length room.items ≡ saturated (set_room (rules scheme).most text.now)) }
+{
+    let size = by_scheme!(scheme, set_room(text));
+    vec![in alloc; 0; size]
+}
+
+/// Returns the first member that leaves a version out of the next alternative that does, as `Alternatives` finds it by
+/// the version's scheme. Does not allocate.
+pub(crate) fn next_excluding<'t>(
+    alternatives: &mut Alternatives<'t>,
+    version: &AnyVersion<'t>,
+    room: &mut [u8],
+) -> Result<Option<Span>, NoRoom>
+    ensures some { IfOk result (λ found. IfSome found (λ span. (all : List (List Member))
+        → AreLeft (rules (plain_any version.now).scheme).read_as (rules (plain_any version.now).scheme).words
+        alternatives.old.left all → (rest : List (List Member))
+        × AreLeft (rules (plain_any version.now).scheme).read_as (rules (plain_any version.now).scheme).words
+        alternatives.new.left rest
+        × (leave_out (plain_any version.now).key all ≡ span ∷ leave_out (plain_any version.now).key rest))) }
+    ensures none { IfOk result (λ found. IfNone found ((all : List (List Member))
+        → AreLeft (rules (plain_any version.now).scheme).read_as (rules (plain_any version.now).scheme).words
+        alternatives.old.left all → leave_out (plain_any version.now).key all ≡ [])) }
+    ensures nearer { IfOk result (λ found.
+        IfSome found (λ _. steps_left alternatives.new.left < steps_left alternatives.old.left)) }
+    ensures same { length room.new ≡ length room.old }
+{
+    match *version.by_scheme() {
+        ByScheme::Mixed(version) => alternatives.next_excluding(&version, room),
+        ByScheme::Deb(version) => alternatives.next_excluding(&ByKey { version }, room),
+        ByScheme::Rpm(version) => alternatives.next_excluding(&ByKey { version }, room),
+        ByScheme::Pypi(version) => alternatives.next_excluding(&ByKey { version }, room),
+        ByScheme::SemVer(version) => alternatives.next_excluding(&ByKey { version }, room),
+        ByScheme::Gem(version) => alternatives.next_excluding(&ByKey { version }, room),
+    }
 }
 
 /// A word that is no set: where its first wrong piece begins, in bytes from 0, and why it is wrong.

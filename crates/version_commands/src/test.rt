@@ -10,6 +10,7 @@ use crate::options::Operator;
 use crate::word::{tested_set, tested_version};
 use std::alloc::Global;
 use std::cmp::Ordering;
+use version_schemes::Scheme;
 
 /// Returns whether an operator holds between two versions that compare so.
 pub(crate) fn holds(operator: Operator, order: Ordering) -> bool
@@ -27,45 +28,61 @@ pub(crate) fn holds(operator: Operator, order: Ordering) -> bool
 /// Returns whether an operator holds between two versions by their precedence. Otherwise the fault has the first word
 /// that is none. Does not allocate.
 pub(crate) fn test_two<'w>(
+    scheme: Scheme,
     first: &'w str,
     operator: Operator,
     second: &'w str,
 ) -> Result<bool, Fault<'w>>
-    ensures answer { IfOk result (λ yes. answer_of_two operator first.now second.now ≡ Some yes) }
-    ensures faults { IfErr result (ComesOfTestOfTwo (first_wrong (first.now ∷ second.now ∷ []))) }
+    ensures answer { IfOk result (λ yes. answer_of_two scheme operator first.now second.now ≡ Some yes) }
+    ensures faults { IfErr result (ComesOfTestOfTwo (first_wrong scheme (first.now ∷ second.now ∷ []))) }
 {
-    let first = tested_version(first)?;
-    let second = tested_version(second)?;
+    let first = tested_version(scheme, first)?;
+    let second = tested_version(scheme, second)?;
     Ok(holds(operator, first.precedence(&second)))
 }
 
 /// Returns whether a set has a version. Otherwise the fault has the first word that is wrong.
-pub(crate) fn test_set<'w>(alloc: Global, version: &'w str, set: &'w str) -> Result<bool, Fault<'w>>
-    ensures answer { IfOk result (λ yes. answer_of_set version.now set.now ≡ Some yes) }
-    ensures faults { IfErr result (ComesOfTestOfSet version.now set.now) }
+pub(crate) fn test_set<'w>(
+    alloc: Global,
+    scheme: Scheme,
+    version: &'w str,
+    set: &'w str,
+) -> Result<bool, Fault<'w>>
+    ensures answer { IfOk result (λ yes. answer_of_set scheme version.now set.now ≡ Some yes) }
+    ensures faults { IfErr result (ComesOfTestOfSet scheme version.now set.now) }
 {
-    let version = tested_version(version)?;
-    let set = tested_set(alloc, set)?;
+    let version = tested_version(scheme, version)?;
+    let set = tested_set(alloc, scheme, set)?;
     Ok(set.has(&version))
 }
 
 /// Returns whether another set has all that a set has. Otherwise the fault has the first word that is none.
-pub(crate) fn implies<'w>(alloc: Global, one: &'w str, other: &'w str) -> Result<bool, Fault<'w>>
-    ensures answer { IfOk result (λ yes. AreSetsSo (IsPart yes) one.now other.now) }
-    ensures faults { IfErr result (ComesOfTestOfSets one.now other.now) }
+pub(crate) fn implies<'w>(
+    alloc: Global,
+    scheme: Scheme,
+    one: &'w str,
+    other: &'w str,
+) -> Result<bool, Fault<'w>>
+    ensures answer { IfOk result (λ yes. AreSetsSo scheme (IsPart yes) one.now other.now) }
+    ensures faults { IfErr result (ComesOfTestOfSets scheme one.now other.now) }
 {
-    let one = tested_set(alloc, one)?;
-    let other = tested_set(alloc, other)?;
+    let one = tested_set(alloc, scheme, one)?;
+    let other = tested_set(alloc, scheme, other)?;
     Ok(one.is_part_of(&other))
 }
 
 /// Returns whether two sets have a key in common. Otherwise the fault has the first word that is none.
-pub(crate) fn meets<'w>(alloc: Global, one: &'w str, other: &'w str) -> Result<bool, Fault<'w>>
-    ensures answer { IfOk result (λ yes. AreSetsSo (Meet yes) one.now other.now) }
-    ensures faults { IfErr result (ComesOfTestOfSets one.now other.now) }
+pub(crate) fn meets<'w>(
+    alloc: Global,
+    scheme: Scheme,
+    one: &'w str,
+    other: &'w str,
+) -> Result<bool, Fault<'w>>
+    ensures answer { IfOk result (λ yes. AreSetsSo scheme (Meet yes) one.now other.now) }
+    ensures faults { IfErr result (ComesOfTestOfSets scheme one.now other.now) }
 {
-    let one = tested_set(alloc, one)?;
-    let other = tested_set(alloc, other)?;
+    let one = tested_set(alloc, scheme, one)?;
+    let other = tested_set(alloc, scheme, other)?;
     Ok(one.meets(&other))
 }
 

@@ -6,32 +6,31 @@ ghost use Rattle.version_commands.specs.Why.{head_text, members_text, why_text, 
 ghost use Rattle.version_sets.specs.Excluding.{leave_out};
 ghost use Rattle.version_sets.specs.Form.{between};
 ghost use Rattle.version_sets.specs.Ends.{has};
-ghost use Rattle.version_sets.specs.Mixed.{keys_of, set_of};
+ghost use Rattle.version_commands.specs.Sets.{keys_of, set_of};
 ghost use Rattle.version_sets.specs.Reading.{Member};
-ghost use Rattle.version_texts.specs.keyed.Mixed.{mixed};
-ghost use Rattle.version_texts.specs.versioning_ref.VersioningRef.{plain_versioning_ref};
+ghost use Rattle.version_schemes.specs.any.AnyVersion.{plain_any};
 
 use crate::pieces::add_pieces;
-use crate::set::Set;
+use crate::set::{Set, next_excluding};
 use std::alloc::AllocError;
+use version_schemes::AnyVersion;
 use version_sets::{Alternatives, Span};
-use version_texts::VersioningRef;
 
 /// Adds the line for a version: that it is in the set that a word is, or which member of each alternative leaves it
 /// out. A room in which the set can be read is enough.
 pub(crate) fn add_why<'t>(
     word: &'t str,
     set: &Set,
-    version: &VersioningRef<'t>,
+    version: &AnyVersion<'t>,
     end: u8,
     room: &mut [u8],
     output: &mut Vec<u8>,
 ) -> Result<(), AllocError>
-    requires { keys_of word.now ≡ Some (has set.now) }
-    ensures { OnOk result (Adds (IsWhyLine end word.now (plain_versioning_ref version.now))
+    requires { keys_of (plain_any version.now).scheme word.now ≡ Some (has set.now) }
+    ensures { OnOk result (Adds (IsWhyLine end word.now (plain_any version.now))
         output.old.items output.new.items) }
 {
-    output.extend_from_slice(version.text().as_bytes())?;
+    output.extend_from_slice(version.bytes())?;
     add_verdict(word, set, version, room, output)?;
     output.push(end)?;
     Ok(())
@@ -41,14 +40,14 @@ pub(crate) fn add_why<'t>(
 fn add_verdict<'t>(
     word: &'t str,
     set: &Set,
-    version: &VersioningRef<'t>,
+    version: &AnyVersion<'t>,
     room: &mut [u8],
     output: &mut Vec<u8>,
 ) -> Result<(), AllocError>
-    requires { keys_of word.now ≡ Some (has set.now) }
-    ensures { OnOk result ((alternatives : List (List Member)) → set_of word.now ≡ Some alternatives
+    requires { keys_of (plain_any version.now).scheme word.now ≡ Some (has set.now) }
+    ensures { OnOk result ((alternatives : List (List Member)) → set_of (plain_any version.now).scheme word.now ≡ Some alternatives
         → output.new.items ≡ output.old.items
-        ++ why_text word.now alternatives (plain_versioning_ref version.now)) }
+        ++ why_text word.now alternatives (plain_any version.now)) }
 {
     if set.has(version) {
         output.extend_from_slice(b" matches")
@@ -60,18 +59,18 @@ fn add_verdict<'t>(
 // Adds the first member of each alternative that leaves a version out.
 fn add_members<'t>(
     set: &'t [u8],
-    version: &VersioningRef<'t>,
+    version: &AnyVersion<'t>,
     room: &mut [u8],
     output: &mut Vec<u8>,
 ) -> Result<(), AllocError>
-    ensures { OnOk result ((alternatives : List (List Member)) → set_of set.now ≡ Some alternatives
+    ensures { OnOk result ((alternatives : List (List Member)) → set_of (plain_any version.now).scheme set.now ≡ Some alternatives
         → output.new.items ≡ output.old.items ++ members_text (codes " is left out by ") set.now
-        (leave_out (mixed (plain_versioning_ref version.now)).key alternatives)) }
+        (leave_out (plain_any version.now).key alternatives)) }
 {
     let mut alternatives = Alternatives::of(set);
     let mut word: &[u8] = b" is left out by ";
     loop {
-        let Ok(found) = alternatives.next_excluding(version, room) else {
+        let Ok(found) = next_excluding(&mut alternatives, version, room) else {
             return Err(AllocError);
         };
         let Some(span) = found else {

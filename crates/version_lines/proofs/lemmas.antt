@@ -2,7 +2,6 @@ pub mod Column
 pub mod Entry
 pub mod FirstOfEach
 pub mod Kept
-pub mod KeyBytes
 pub mod KeyedLines
 pub mod Lines
 pub mod Newest

@@ -4,12 +4,10 @@ use Rattle.std.specs.Int.{from_be_bytes, w64}
 use Rattle.std.specs.List.{AllPairs}
 use Rattle.std.specs.Ordering.{nat_cmp, on, then_cmp}
 use Rattle.std.specs.declared.cmp.Ordering.{Ordering}
+use Rattle.version_lines.specs.Sort.{Reads, version_in}
 use Rattle.version_lines.specs.declared.sort.entry.Entry.{Entry}
-use Rattle.version_rules.specs.key.Key.{key_of}
-use Rattle.version_rules.specs.key.KeyBytes.{key_bytes}
+use Rattle.version_schemes.specs.any.Order.{PlainAny}
 use Rattle.version_rules.specs.order.Lists.{bytes_cmp}
-use Rattle.version_rules.specs.grammar.Kind.{versioning_kind}
-use Rattle.version_rules.specs.grammar.Versioning.{PlainVersioning, versioning_of}
 use Rattle.version_rules.specs.declared.kind.Kind.{Kind}
 use Rattle.version_texts.specs.key.KeyTies.{kind_on, marked_number, texts_tie}
 
@@ -30,18 +28,18 @@ entry_key keys entry = take (key_length entry) (drop entry.start keys)
 
 -- it has the kind of a version, the key of this lies at its place, and its two numbers are those of
 -- the key's first bytes
-pub record HoldsKey (keys : List ℕ) (v : PlainVersioning) (entry : Entry) : Type 0 where
-  pub kind : entry_kind entry ≡ versioning_kind v
+pub record HoldsKey (keys : List ℕ) (v : PlainAny) (entry : Entry) : Type 0 where
+  pub kind : entry_kind entry ≡ v.kind
   pub within : entry.start + key_length entry ≤ length keys
-  pub key : entry_key keys entry ≡ key_bytes (key_of v)
-  pub bytes : (place : ℕ) → slice_index (key_bytes (key_of v)) place < 256
-  pub first : entry.first ≡ from_be_bytes w64 (key_bytes (key_of v))
-  pub second : entry.second ≡ from_be_bytes w64 (drop 8 (key_bytes (key_of v)))
+  pub key : entry_key keys entry ≡ v.key
+  pub bytes : (place : ℕ) → slice_index v.key place < 256
+  pub first : entry.first ≡ from_be_bytes w64 v.key
+  pub second : entry.second ≡ from_be_bytes w64 (drop 8 v.key)
 
--- the text in its line is a version, whose kind and key it has
-abbrev pub IsRead : (List ℕ → List ℕ) → List ℕ → Entry → Type 0
-IsRead text_of keys entry =
-    (v : PlainVersioning) × (versioning_of (text_of (entry_line entry)) ≡ Some v)
+-- its line has a version, whose kind and key it has
+abbrev pub IsRead : Reads → List ℕ → Entry → Type 0
+IsRead reads keys entry =
+    (v : PlainAny) × (version_in reads (entry_line entry) ≡ Some v)
     × HoldsKey keys v entry
 
 -- by the two numbers
@@ -59,12 +57,12 @@ abbrev pub entry_cmp : List ℕ → Entry → Entry → Ordering
 entry_cmp keys = then_cmp heads_cmp (on (entry_key keys) after_heads_cmp)
 
 -- by what breaks ties of keys: the kind and the text in the line
-abbrev pub tie_cmp : (List ℕ → List ℕ) → Entry → Entry → Ordering
-tie_cmp text_of = on (λ entry. (entry_kind entry, text_of (entry_line entry))) texts_tie
+abbrev pub tie_cmp : Reads → Entry → Entry → Ordering
+tie_cmp reads = on (λ entry. (entry_kind entry, reads.text_of (entry_line entry))) texts_tie
 
 -- by the keys, and then by what breaks their ties
-abbrev pub version_cmp : (List ℕ → List ℕ) → List ℕ → Entry → Entry → Ordering
-version_cmp text_of keys = then_cmp (entry_cmp keys) (tie_cmp text_of)
+abbrev pub version_cmp : Reads → List ℕ → Entry → Entry → Ordering
+version_cmp reads keys = then_cmp (entry_cmp keys) (tie_cmp reads)
 
 -- by the places of their keys
 abbrev pub turn_cmp : Entry → Entry → Ordering

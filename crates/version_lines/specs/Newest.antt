@@ -4,7 +4,7 @@ use Rattle.std.specs.List.{filter, position_or_len}
 use Rattle.std.specs.Ordering.{eq_by_cmp, nat_cmp, on, then_cmp}
 use Rattle.std.specs.Str.{bytes_eq}
 use Rattle.std.specs.declared.cmp.Ordering.{Ordering}
-use Rattle.version_lines.specs.Sort.{lines_precedence}
+use Rattle.version_lines.specs.Sort.{Reads, lines_precedence}
 use Rattle.version_lines.specs.Sorting.{in_order, turned}
 
 -- of some elements after others, each that is the same as fewer than so many of those before it
@@ -21,10 +21,10 @@ first_of_each count same xs = first_after count same [] xs
 
 -- the lines in the order of the precedence of their versions, or in the reverse of it; of lines that
 -- tie, the first
-abbrev pub first_of_ties : Bool → (List ℕ → List ℕ) → List (List ℕ) → List (List ℕ)
-first_of_ties reversed text_of lines =
-    first_of_each 1 (eq_by_cmp (lines_precedence text_of))
-    (in_order (turned reversed (lines_precedence text_of)) lines)
+abbrev pub first_of_ties : Bool → Reads → List (List ℕ) → List (List ℕ)
+first_of_ties reversed reads lines =
+    first_of_each 1 (eq_by_cmp (lines_precedence reads))
+    (in_order (turned reversed (lines_precedence reads)) lines)
 
 -- whether two lines are of one group
 abbrev pub are_of_one_group : (List ℕ → List ℕ) → List ℕ → List ℕ → Bool
@@ -35,13 +35,13 @@ abbrev pub group_place : (List ℕ → List ℕ) → List (List ℕ) → List �
 group_place group_of lines line = position_or_len (are_of_one_group group_of line) lines
 
 -- by their groups, in the order in which these first appear, and the newest of a group first
-abbrev pub newest_cmp : (List ℕ → List ℕ) → (List ℕ → List ℕ) → List (List ℕ)
+abbrev pub newest_cmp : (List ℕ → List ℕ) → Reads → List (List ℕ)
     → List ℕ → List ℕ → Ordering
-newest_cmp group_of text_of lines =
-    then_cmp (on (group_place group_of lines) nat_cmp) (turned true (lines_precedence text_of))
+newest_cmp group_of reads lines =
+    then_cmp (on (group_place group_of lines) nat_cmp) (turned true (lines_precedence reads))
 
 -- so many lines of each group, the newest; of lines that tie, the earlier
-abbrev pub newest : ℕ → (List ℕ → List ℕ) → (List ℕ → List ℕ) → List (List ℕ) → List (List ℕ)
-newest count group_of text_of lines =
+abbrev pub newest : ℕ → (List ℕ → List ℕ) → Reads → List (List ℕ) → List (List ℕ)
+newest count group_of reads lines =
     first_of_each count (are_of_one_group group_of)
-    (in_order (newest_cmp group_of text_of lines) lines)
+    (in_order (newest_cmp group_of reads lines) lines)

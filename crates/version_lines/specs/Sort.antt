@@ -1,26 +1,29 @@
 -- How lines compare by their versions.
-use Rattle.std.specs.Prelude.{ℕ, Bool, List, is_some, not}
+use Rattle.std.specs.Prelude.{ℕ, Bool, List, Option, is_some, not}
 use Rattle.std.specs.Option.{option_cmp}
 use Rattle.std.specs.Ordering.{on}
 use Rattle.std.specs.declared.cmp.Ordering.{Ordering}
-use Rattle.version_rules.specs.key.Key.{key_of, precedence}
-use Rattle.version_rules.specs.order.Orders.{versioning_cmp}
-use Rattle.version_rules.specs.grammar.Versioning.{versioning_of}
+use Rattle.version_schemes.specs.any.Order.{PlainAny, any_cmp, any_of, any_precedence}
+use Rattle.version_schemes.specs.declared.scheme.Scheme.{Scheme}
 
--- whether a line is not a version
-abbrev pub is_bad : List ℕ → Bool
-is_bad line = not (is_some (versioning_of line))
+-- how lines are read: which text in a line is to be its version, and of which scheme. The text is empty where the
+-- line has none, since no version is empty.
+pub record Reads : Type 0 where
+  pub scheme : Scheme
+  pub text_of : List ℕ → List ℕ
 
--- two lines compare as the versions that they parse as
-abbrev pub line_cmp : List ℕ → List ℕ → Ordering
-line_cmp = on versioning_of (option_cmp versioning_cmp)
+-- the version of a line
+abbrev pub version_in : Reads → List ℕ → Option PlainAny
+version_in reads line = any_of reads.scheme (reads.text_of line)
 
--- by the versions that their texts parse as
-abbrev pub lines_cmp : (List ℕ → List ℕ) → List ℕ → List ℕ → Ordering
-lines_cmp text_of = on text_of line_cmp
+-- whether a line has no version
+abbrev pub is_bad : Reads → List ℕ → Bool
+is_bad reads line = not (is_some (version_in reads line))
+
+-- two lines compare as their versions
+abbrev pub lines_cmp : Reads → List ℕ → List ℕ → Ordering
+lines_cmp reads = on (version_in reads) (option_cmp any_cmp)
 
 -- and by the precedence of these alone
-abbrev pub lines_precedence : (List ℕ → List ℕ) → List ℕ → List ℕ → Ordering
-lines_precedence text_of =
-    on (λ line. versioning_of (text_of line))
-    (option_cmp (λ v w. precedence (key_of v) (key_of w)))
+abbrev pub lines_precedence : Reads → List ℕ → List ℕ → Ordering
+lines_precedence reads = on (version_in reads) (option_cmp any_precedence)

@@ -1,7 +1,8 @@
 -- The schemes: their numbers and names, and their rules.
-use Rattle.std.specs.Prelude.{◌==◌, ℕ, Bool, true, false, List, codes, if◌then◌else◌, Option, None, Some}
+use Rattle.std.specs.Prelude.{◌==◌, ℕ, List, codes, if◌then◌else◌, Option, None, Some}
 use Rattle.std.specs.Option.{option_map}
 use Rattle.std.specs.Ordering.{on}
+use Rattle.std.specs.Str.{bytes_eq}
 use Rattle.std.specs.declared.cmp.Ordering.{Ordering}
 use Rattle.version_rules.specs.grammar.Versioning.{versioning_of}
 use Rattle.version_rules.specs.key.Key.{key_of, precedence}
@@ -31,6 +32,8 @@ use Rattle.version_schemes.specs.gem.Texts as gem
 use Rattle.version_schemes.specs.declared.scheme.Scheme.{Scheme}
 use Rattle.version_schemes.specs.declared.scheme.Scheme.TheVariants.{Deb, Gem, Mixed, Pypi, Rpm, SemVer}
 use Rattle.version_texts.specs.key.KeyRoom.{room_for}
+use Rattle.version_texts.specs.declared.keyed.Words.{Words}
+use Rattle.version_texts.specs.declared.keyed.Words.TheVariants.{Doubled, Parts, Plain}
 use Rattle.version_texts.specs.keyed.Keyed.{PlainKeyed}
 use Rattle.version_texts.specs.keyed.Mixed.{mixed}
 
@@ -50,6 +53,16 @@ scheme_name Pypi = codes "pypi"
 scheme_name SemVer = codes "semver"
 scheme_name Gem = codes "gem"
 
+-- the scheme that has a name
+abbrev pub scheme_named : List ℕ → Option Scheme
+scheme_named name =
+    if bytes_eq name (scheme_name Mixed) then Some Mixed
+    else (if bytes_eq name (scheme_name Deb) then Some Deb
+    else (if bytes_eq name (scheme_name Rpm) then Some Rpm
+    else (if bytes_eq name (scheme_name Pypi) then Some Pypi
+    else (if bytes_eq name (scheme_name SemVer) then Some SemVer
+    else (if bytes_eq name (scheme_name Gem) then Some Gem else None)))))
+
 -- the scheme that has a number
 abbrev pub numbered : ℕ → Option Scheme
 numbered number =
@@ -62,23 +75,24 @@ numbered number =
 
 -- ---- rules
 
--- what a text is read as, whether versions have parts, and how long the key of a text of a length may be
+-- what a text is read as, which comparisons sets have, and how long the key of a text of a length may be
 pub record Rules : Type 0 where
   pub read_as : List ℕ → Option PlainKeyed
-  pub parts : Bool
+  pub words : Words
   pub most : ℕ → ℕ
 
 -- the rules of a scheme without parts
-abbrev pub rules_by_key : (List ℕ → Option (List ℕ)) → (ℕ → ℕ) → Rules
-rules_by_key key_of most = record { read_as = λ text. option_map by_key (key_of text); parts = false; most = most }
+abbrev pub rules_by_key : Words → (List ℕ → Option (List ℕ)) → (ℕ → ℕ) → Rules
+rules_by_key words key_of most =
+    record { read_as = λ text. option_map by_key (key_of text); words = words; most = most }
 
 abbrev pub rules : Scheme → Rules
-rules Mixed = record { read_as = λ text. option_map mixed (versioning_of text); parts = true; most = room_for }
-rules Deb = rules_by_key (λ text. option_map deb_bytes (deb_of text)) deb_room
-rules Rpm = rules_by_key (λ text. option_map rpm_bytes (rpm_of text)) rpm_room
-rules Pypi = rules_by_key (λ text. option_map pypi_bytes (pypi_of text)) pypi_room
-rules SemVer = rules_by_key (λ text. option_map semver_bytes (semver_of text)) semver_room
-rules Gem = rules_by_key (λ text. option_map gem_bytes (gem_of text)) gem_room
+rules Mixed = record { read_as = λ text. option_map mixed (versioning_of text); words = Parts; most = room_for }
+rules Deb = rules_by_key Doubled (λ text. option_map deb_bytes (deb_of text)) deb_room
+rules Rpm = rules_by_key Plain (λ text. option_map rpm_bytes (rpm_of text)) rpm_room
+rules Pypi = rules_by_key Plain (λ text. option_map pypi_bytes (pypi_of text)) pypi_room
+rules SemVer = rules_by_key Plain (λ text. option_map semver_bytes (semver_of text)) semver_room
+rules Gem = rules_by_key Plain (λ text. option_map gem_bytes (gem_of text)) gem_room
 
 -- ---- orders
 

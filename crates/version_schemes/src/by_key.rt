@@ -7,7 +7,7 @@ ghost use Rattle.version_texts.specs.key.Sinks.{saturated};
 use crate::version::SchemeVersion;
 use std::cmp::Ordering;
 use version_rules::End;
-use version_texts::{Beside, Keyed, Sink, Slip};
+use version_texts::{Beside, Keyed, Sink, Slip, Words};
 
 /// A version of a scheme as sets take it: by its key alone, since it has no parts.
 #[derive(Clone, Copy)]
@@ -16,10 +16,9 @@ pub struct ByKey<V> {
 }
 
 impl<'t, V: SchemeVersion<'t>> Keyed<'t> for ByKey<V> {
-    ghost use Rattle.std.specs.Prelude.{false};
     ghost use Rattle.std.specs.Ordering.{on};
     ghost use Rattle.version_rules.proofs.lemmas.Codes.{writes_on};
-    ghost use Rattle.version_schemes.specs.ByKey.{by_key, no_parts};
+    ghost use Rattle.version_schemes.specs.ByKey.{by_key, no_parts, words_by};
     ghost use Rattle.version_texts.specs.keyed.Keyed.{AreWithin};
 
     ghost read_as = { λ text. option_map by_key (V.key_of text) };
@@ -28,7 +27,7 @@ impl<'t, V: SchemeVersion<'t>> Keyed<'t> for ByKey<V> {
 
     ghost order = { on (λ by. by.version) V.order };
 
-    ghost parts = { false };
+    ghost words = { words_by V.doubled };
 
     ghost most = { V.most };
 
@@ -39,10 +38,14 @@ impl<'t, V: SchemeVersion<'t>> Keyed<'t> for ByKey<V> {
     }
 
     #[inline(always)]
-    fn has_parts() -> bool
-        ensures { result ≡ false }
+    fn words() -> Words
+        ensures { result ≡ words_by V.doubled }
     {
-        false
+        if V::has_doubled() {
+            Words::Doubled
+        } else {
+            Words::Plain
+        }
     }
 
     #[inline(always)]
@@ -92,5 +95,5 @@ impl<'t, V: SchemeVersion<'t>> Keyed<'t> for ByKey<V> {
 
     ghost some = { λ by. V.some by.version };
 
-    ghost begins = { λ is. no_parts is };
+    ghost begins = { λ is. no_parts V.doubled is };
 }

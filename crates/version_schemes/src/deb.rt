@@ -1,19 +1,24 @@
 //! Debian's versions, and their order: Debian Policy, 5.6.12.
 
-ghost use Rattle.std.specs.Prelude.{◌≡◌, ◌∷◌, codes, drop, false, None, Some, true, IfNone, IfSome};
+ghost use Rattle.std.specs.Prelude.{◌≡◌, ◌∷◌, ◌&&◌, codes, drop, false, None, Some, true, IfNone, IfSome};
 ghost use Rattle.std.specs.List.{list_all, prefix_len, take_while};
+ghost use Rattle.std.specs.Ordering.{nat_cmp};
 ghost use Rattle.std.specs.declared.cmp.Ordering.TheVariants.{Equal, Greater, Less};
+ghost use Rattle.version_rules.specs.grammar.DigitRun.{run_value, starts_with_digit};
 ghost use Rattle.version_rules.specs.grammar.Front.{begins};
 ghost use Rattle.version_rules.specs.key.Codes.{Writes, list_bytes};
 ghost use Rattle.version_rules.specs.order.Lists.{ended_cmp};
 ghost use Rattle.version_schemes.specs.deb.Order.{byte_cmp, byte_code, deb_bytes, deb_cmp, part_bytes, part_cmp, rank};
-ghost use Rattle.version_schemes.specs.deb.Texts.{deb_of, is_of_revision, is_of_upstream, is_revision, is_run, is_upstream, part_of, texts_cmp};
+ghost use Rattle.version_schemes.specs.Texts.{cut_first};
+ghost use Rattle.version_schemes.specs.deb.Texts.{behind_epoch, deb_of, is_of_revision, is_of_upstream, is_revision, is_run, is_upstream, part_of, texts_cmp};
 
-use crate::texts::{cut_last, split_epoch};
+use crate::texts::{
+    OF_REVISION, byte_kind, common_length, cut_last, run_start, split_epoch, split_kinds,
+};
 use crate::version::SchemeVersion;
 use std::cmp::Ordering;
 use version_rules::{Class, begins_with};
-use version_texts::{Compared, Sink, compare_numbers, put_number};
+use version_texts::{Compared, Sink, compare_if_numbers, compare_numbers, put_number};
 
 // The largest epoch.
 const LARGEST_EPOCH: &[u8] = b"2147483647";
@@ -33,23 +38,74 @@ impl<'t> Deb<'t> {
     ghost use Rattle.version_schemes.specs.deb.Deb.{plain_deb};
 
     /// Reads a whole text, or returns None if it is no version of Debian. Does not allocate.
+    #[inline(always)]
     pub fn from_bytes(text: &'t [u8]) -> Option<Deb<'t>>
         ensures { option_map plain_deb result ≡ deb_of text.now }
     {
-        let (epoch, rest) = split_epoch(text, LARGEST_EPOCH)?;
-        match cut_last(rest, b'-') {
-            None if is_upstream(rest) => Some(Deb {
+        match Deb::read_plain(&[], text) {
+            Some(version) => Some(version),
+            None => Deb::read_any(text),
+        }
+    }
+
+    // Reads what stands behind an epoch if it has at most one hyphen and no colon, as most has, in one pass. Where it
+    // returns None, `read_any` and `read_behind` decide.
+    #[inline(always)]
+    fn read_plain(epoch: &'t [u8], text: &'t [u8]) -> Option<Deb<'t>>
+        ensures behind { IfSome result
+            (λ version. behind_epoch (run_value epoch.now) text.now ≡ Some (plain_deb version)) }
+        ensures no_epoch { IfSome result (λ version. cut_first 58 text.now ≡ None) }
+        ensures none { IfNone result ((starts_with_digit text.now && list_all is_of_revision text.now) ≡ false) }
+    {
+        if !begins_with(text, Class::Digit) {
+            return None;
+        }
+        let (upstream, rest) = split_kinds(text, OF_REVISION);
+        match rest {
+            [] => Some(Deb {
                 epoch,
-                upstream: rest,
+                upstream,
                 revision: &[],
             }),
-            Some((upstream, revision)) if is_upstream(upstream) && is_revision(revision) => {
-                Some(Deb {
+            [sign, revision @ ..] if *sign == b'-' && is_revision(revision) => Some(Deb {
+                epoch,
+                upstream,
+                revision,
+            }),
+            _ => None,
+        }
+    }
+
+    // Reads any version.
+    #[inline(never)]
+    fn read_any(text: &'t [u8]) -> Option<Deb<'t>>
+        ensures { option_map plain_deb result ≡ deb_of text.now }
+    {
+        let (epoch, rest) = split_epoch(text, LARGEST_EPOCH)?;
+        match Deb::read_plain(epoch, rest) {
+            Some(version) => Some(version),
+            None => Deb::read_behind(epoch, rest),
+        }
+    }
+
+    // Reads what stands behind an epoch.
+    #[inline(never)]
+    fn read_behind(epoch: &'t [u8], text: &'t [u8]) -> Option<Deb<'t>>
+        ensures { option_map plain_deb result ≡ behind_epoch (run_value epoch.now) text.now }
+    {
+        match cut_last(text, b'-') {
+            None if is_upstream(text) => Some(Deb {
+                epoch,
+                upstream: text,
+                revision: &[],
+            }),
+            Some((upstream, revision)) if is_upstream(upstream) && is_revision(revision) => Some(
+                Deb {
                     epoch,
                     upstream,
                     revision,
-                })
-            }
+                },
+            ),
             _ => None,
         }
     }
@@ -58,8 +114,7 @@ impl<'t> Deb<'t> {
     pub fn compare(&self, other: &Deb<'_>) -> Ordering
         ensures { result ≡ deb_cmp (plain_deb self.now) (plain_deb other.now) }
     {
-        compare_numbers(self.epoch, other.epoch)
-            .order
+        compare_epochs(self.epoch, other.epoch)
             .then_with(|| compare_parts(self.upstream, other.upstream))
             .then_with(|| compare_parts(self.revision, other.revision))
     }
@@ -108,7 +163,7 @@ fn is_of_upstream(byte: u8) -> bool
 fn is_of_revision(byte: u8) -> bool
     ensures { result ≡ is_of_revision byte }
 {
-    byte.is_ascii_alphanumeric() || matches!(byte, b'+' | b'.' | b'~')
+    byte_kind(byte) < OF_REVISION
 }
 
 // The rank of the end of a run.
@@ -141,8 +196,47 @@ fn split_run_byte(text: &[u8]) -> Option<(u8, &[u8])>
     }
 }
 
-// Compares two upstream versions or revisions: a run of bytes that are no digits, then a number, and so on.
+// Compares two epochs. Mostly there is none.
+#[inline(always)]
+fn compare_epochs(x: &[u8], y: &[u8]) -> Ordering
+    ensures { result ≡ nat_cmp (run_value x.now) (run_value y.now) }
+{
+    if x.is_empty() && y.is_empty() {
+        return Ordering::Equal;
+    }
+    compare_numbers(x, y).order
+}
+
+// Compares two upstream versions or revisions.
 fn compare_parts(x: &[u8], y: &[u8]) -> Ordering
+    requires x { list_all is_of_upstream x.now ≡ true }
+    requires y { list_all is_of_upstream y.now ≡ true }
+    ensures { result ≡ part_cmp (part_of x.now) (part_of y.now) }
+{
+    let common = common_length(x, y);
+    if common == x.len() && common == y.len() {
+        return Ordering::Equal;
+    }
+    // What both begin with doesn't count, but for the digits just before they differ.
+    let start = run_start(x, common, Class::Digit);
+    compare_rests(&x[start..], &y[start..])
+}
+
+// Compares what is left of two upstream versions or revisions. Mostly they begin with numbers that differ.
+#[inline(always)]
+fn compare_rests(x: &[u8], y: &[u8]) -> Ordering
+    requires x { list_all is_of_upstream x.now ≡ true }
+    requires y { list_all is_of_upstream y.now ≡ true }
+    ensures { result ≡ part_cmp (part_of x.now) (part_of y.now) }
+{
+    match compare_if_numbers(x, y) {
+        Some(order) if order.is_ne() => order,
+        _ => compare_pairs(x, y),
+    }
+}
+
+// Compares the same pair by pair: a run of bytes that are no digits, then a number, and so on.
+fn compare_pairs(x: &[u8], y: &[u8]) -> Ordering
     requires x { list_all is_of_upstream x.now ≡ true }
     requires y { list_all is_of_upstream y.now ≡ true }
     ensures { result ≡ part_cmp (part_of x.now) (part_of y.now) }
@@ -245,11 +339,20 @@ impl<'t> SchemeVersion<'t> for Deb<'t> {
 
     ghost order = { on plain_deb deb_cmp };
 
+    ghost doubled = { true };
+
     ghost most = { deb_room };
 
     #[inline(always)]
     fn read(text: &'t [u8]) -> Option<Deb<'t>> {
         Deb::from_bytes(text)
+    }
+
+    #[inline(always)]
+    fn has_doubled() -> bool
+        ensures { result ≡ true }
+    {
+        true
     }
 
     #[inline(always)]

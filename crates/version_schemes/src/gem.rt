@@ -324,11 +324,20 @@ impl<'t> SchemeVersion<'t> for Gem<'t> {
 
     ghost order = { on plain_gem gem_cmp };
 
+    ghost doubled = { false };
+
     ghost most = { gem_room };
 
     #[inline(always)]
     fn read(text: &'t [u8]) -> Option<Gem<'t>> {
         Gem::from_bytes(text)
+    }
+
+    #[inline(always)]
+    fn has_doubled() -> bool
+        ensures { result ≡ false }
+    {
+        false
     }
 
     #[inline(always)]

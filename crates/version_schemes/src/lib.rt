@@ -1,7 +1,9 @@
 //! The orders of other systems: each scheme is a set of texts and one order on them, with keys of bytes that compare as
-//! it does. A version is borrowed from its text, and no call allocates.
+//! it does. A version is borrowed from its text, and `AnyVersion::append_key` alone
+//! allocates.
 #![tactic(auto)]
 
+mod any;
 mod by_key;
 mod deb;
 mod gem;
@@ -14,6 +16,7 @@ mod semver;
 mod texts;
 mod version;
 
+pub use any::{AnyVersion, ByScheme};
 pub use by_key::ByKey;
 pub use deb::Deb;
 pub use gem::Gem;
@@ -23,3 +26,4 @@ pub use rpm::Rpm;
 pub use scheme::Scheme;
 pub use semver::SemVer;
 pub use version::SchemeVersion;
+pub use version_texts::VersioningRef;

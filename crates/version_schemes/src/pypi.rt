@@ -1,6 +1,6 @@
 //! Python's versions, and their order: PEP 440.
 
-ghost use Rattle.std.specs.Prelude.{◌≡◌, codes, true, None, Some};
+ghost use Rattle.std.specs.Prelude.{◌≡◌, codes, false, true, None, Some};
 ghost use Rattle.std.specs.Option.{option_cmp, option_map};
 ghost use Rattle.std.specs.Ordering.{nat_cmp};
 ghost use Rattle.std.specs.declared.cmp.Ordering.TheVariants.{Equal, Greater, Less};
@@ -153,11 +153,20 @@ impl<'t> SchemeVersion<'t> for Pypi<'t> {
 
     ghost order = { on plain_pypi pypi_cmp };
 
+    ghost doubled = { false };
+
     ghost most = { pypi_room };
 
     #[inline(always)]
     fn read(text: &'t [u8]) -> Option<Pypi<'t>> {
         Pypi::from_bytes(text)
+    }
+
+    #[inline(always)]
+    fn has_doubled() -> bool
+        ensures { result ≡ false }
+    {
+        false
     }
 
     #[inline(always)]

@@ -1,18 +1,22 @@
 //! RPM's versions, and their order: rpm-version(7), and `rpmvercmp`.
 
-ghost use Rattle.std.specs.Prelude.{◌≡◌, ◌≢◌, ◌<◌, ◌≤◌, ◌-◌, codes, drop, false, length, slice_index, take, true, None, Some, ℕ};
-ghost use Rattle.std.specs.Char.{is_ascii_alphabetic, is_ascii_alphanumeric};
+ghost use Rattle.std.specs.Prelude.{◌≡◌, ◌≢◌, codes, drop, None, Some, false, true, IfNone, IfSome};
+ghost use Rattle.std.specs.Char.{is_ascii_alphabetic};
 ghost use Rattle.std.specs.List.{list_all, prefix_len, take_while};
 ghost use Rattle.std.specs.Option.{option_cmp, option_map};
 ghost use Rattle.std.specs.declared.cmp.Ordering.TheVariants.{Equal, Greater, Less};
+ghost use Rattle.version_rules.specs.grammar.DigitRun.{run_value};
 ghost use Rattle.version_rules.specs.key.Codes.{Writes, list_bytes};
 ghost use Rattle.version_rules.specs.key.TextBytes.{text_bytes};
 ghost use Rattle.version_rules.specs.order.Lists.{bytes_cmp};
 ghost use Rattle.version_schemes.specs.rpm.Front.{byte_rank, first_of, Begins};
 ghost use Rattle.version_schemes.specs.rpm.Order.{held_bytes, item_bytes, item_cmp, items_cmp, release_bytes, rpm_bytes, rpm_cmp};
-ghost use Rattle.version_schemes.specs.rpm.Texts.{is_of_rpm, is_version, items_in, rpm_of, texts_cmp};
+ghost use Rattle.version_schemes.specs.Texts.{cut_first};
+ghost use Rattle.version_schemes.specs.rpm.Texts.{behind_epoch, is_of_rpm, is_version, items_in, rpm_of, texts_cmp};
 
-use crate::texts::{cut_last, split_epoch};
+use crate::texts::{
+    OF_RPM, byte_kind, common_length, cut_last, run_start, split_epoch, split_kinds,
+};
 use crate::version::SchemeVersion;
 use std::cmp::Ordering;
 use version_rules::{Class, begins_with, split_byte};
@@ -34,12 +38,62 @@ impl<'t> Rpm<'t> {
     ghost use Rattle.version_schemes.specs.rpm.Rpm.{plain_rpm};
 
     /// Reads a whole text, or returns None if it is no version of RPM. Does not allocate.
+    #[inline(always)]
     pub fn from_bytes(text: &'t [u8]) -> Option<Rpm<'t>>
         ensures { option_map plain_rpm result ≡ rpm_of text.now }
     {
+        match Rpm::read_plain(&[], text) {
+            Some(version) => Some(version),
+            None => Rpm::read_any(text),
+        }
+    }
+
+    // Reads what stands behind an epoch in one pass. Where it returns None, `read_any` and `read_behind` decide.
+    #[inline(always)]
+    fn read_plain(epoch: &'t [u8], text: &'t [u8]) -> Option<Rpm<'t>>
+        ensures behind { IfSome result
+            (λ version. behind_epoch (run_value epoch.now) text.now ≡ Some (plain_rpm version)) }
+        ensures no_epoch { IfSome result (λ version. cut_first 58 text.now ≡ None) }
+        ensures none { IfNone result (is_version text.now ≡ false) }
+    {
+        let (version, rest) = split_kinds(text, OF_RPM);
+        if version.is_empty() {
+            return None;
+        }
+        match rest {
+            [] => Some(Rpm {
+                epoch,
+                version,
+                release: None,
+            }),
+            [sign, release @ ..] if *sign == b'-' && is_version(release) => Some(Rpm {
+                epoch,
+                version,
+                release: Some(release),
+            }),
+            _ => None,
+        }
+    }
+
+    // Reads any version.
+    #[inline(never)]
+    fn read_any(text: &'t [u8]) -> Option<Rpm<'t>>
+        ensures { option_map plain_rpm result ≡ rpm_of text.now }
+    {
         let (epoch, rest) = split_epoch(text, LARGEST_EPOCH)?;
-        let (version, release) = match cut_last(rest, b'-') {
-            None => (rest, None),
+        match Rpm::read_plain(epoch, rest) {
+            Some(version) => Some(version),
+            None => Rpm::read_behind(epoch, rest),
+        }
+    }
+
+    // Reads what stands behind an epoch.
+    #[inline(never)]
+    fn read_behind(epoch: &'t [u8], text: &'t [u8]) -> Option<Rpm<'t>>
+        ensures { option_map plain_rpm result ≡ behind_epoch (run_value epoch.now) text.now }
+    {
+        let (version, release) = match cut_last(text, b'-') {
+            None => (text, None),
             Some((version, release)) => (version, Some(release)),
         };
         if !is_version(version) || !release.is_none_or(is_version) {
@@ -88,7 +142,7 @@ fn are_of_rpm(text: &[u8]) -> bool
 fn is_of_rpm(byte: u8) -> bool
     ensures { result ≡ is_of_rpm byte }
 {
-    byte.is_ascii_alphanumeric() || matches!(byte, b'.' | b'_' | b'+' | b'~' | b'^')
+    byte_kind(byte) < OF_RPM
 }
 
 // The ranks of bytes that only separate, and of a tilde, the end, a caret, letters, and numbers.
@@ -144,7 +198,7 @@ fn compare_items(x: &[u8], y: &[u8]) -> Ordering
         return Ordering::Equal;
     }
     // Pieces that both begin with don't count.
-    let start = run_start(x, common_length(x, y));
+    let start = run_start(x, common_length(x, y), Class::Alphanumeric);
     let (mut a, mut b) = (&x[start..], &y[start..]);
     'items: loop {
         let ((rank, one), (other_rank, other)) = (first_item(a), first_item(b));
@@ -158,38 +212,6 @@ fn compare_items(x: &[u8], y: &[u8]) -> Ordering
         a = items.rest;
         b = items.other_rest;
     }
-}
-
-// Returns how many bytes two texts have in common at their starts.
-#[inline(always)]
-fn common_length(x: &[u8], y: &[u8]) -> usize
-    ensures within { result ≤ length x.now }
-    ensures other_within { result ≤ length y.now }
-    ensures same { take result x.now ≡ take result y.now }
-    ensures ends { result < length x.now → result < length y.now
-        → slice_index x.now result ≢ slice_index y.now result }
-{
-    let mut place = 0;
-    while place < x.len() && place < y.len() && x[place] == y[place] {
-        place += 1;
-    }
-    place
-}
-
-// Returns where the letters and digits begin that end at a place.
-#[inline(always)]
-fn run_start(text: &[u8], end: usize) -> usize
-    requires { end ≤ length text.now }
-    ensures within { result ≤ end }
-    ensures run { (place : ℕ) → result ≤ place → place < end
-        → is_ascii_alphanumeric (slice_index text.now place) ≡ true }
-    ensures begins { 0 < result → is_ascii_alphanumeric (slice_index text.now (result - 1)) ≡ false }
-{
-    let mut start = end;
-    while start > 0 && text[start - 1].is_ascii_alphanumeric() {
-        start -= 1;
-    }
-    start
 }
 
 // Compares the pieces of one rank that two texts begin with.
@@ -329,11 +351,20 @@ impl<'t> SchemeVersion<'t> for Rpm<'t> {
 
     ghost order = { on plain_rpm rpm_cmp };
 
+    ghost doubled = { false };
+
     ghost most = { rpm_room };
 
     #[inline(always)]
     fn read(text: &'t [u8]) -> Option<Rpm<'t>> {
         Rpm::from_bytes(text)
+    }
+
+    #[inline(always)]
+    fn has_doubled() -> bool
+        ensures { result ≡ false }
+    {
+        false
     }
 
     #[inline(always)]

@@ -81,3 +81,18 @@ impl Scheme {
         }
     }
 }
+
+/// Calls a function that is generic over the versions of an order with those of a scheme.
+#[macro_export]
+macro_rules! by_scheme {
+    ($scheme:expr, $call:ident($($argument:expr),*)) => {
+        match $scheme {
+            $crate::Scheme::Mixed => $call::<$crate::VersioningRef<'_>>($($argument),*),
+            $crate::Scheme::Deb => $call::<$crate::ByKey<$crate::Deb<'_>>>($($argument),*),
+            $crate::Scheme::Rpm => $call::<$crate::ByKey<$crate::Rpm<'_>>>($($argument),*),
+            $crate::Scheme::Pypi => $call::<$crate::ByKey<$crate::Pypi<'_>>>($($argument),*),
+            $crate::Scheme::SemVer => $call::<$crate::ByKey<$crate::SemVer<'_>>>($($argument),*),
+            $crate::Scheme::Gem => $call::<$crate::ByKey<$crate::Gem<'_>>>($($argument),*),
+        }
+    };
+}

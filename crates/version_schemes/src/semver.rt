@@ -1,6 +1,6 @@
 //! SemVer 2.0.0, with numbers of any length, and its order: item 11.
 
-ghost use Rattle.std.specs.Prelude.{◌≡◌, ◌==◌, ◌&&◌, ◌∷◌, [], codes, false, IfSome, length, List, MatchOption, None, not, Option, Some, true};
+ghost use Rattle.std.specs.Prelude.{◌≡◌, ◌==◌, ◌&&◌, ◌∷◌, [], codes, false, IfSome, length, MatchOption, None, not, Option, Some, true};
 ghost use Rattle.std.proofs.Props.{props};
 ghost use Rattle.std.specs.Char.{is_ascii_digit};
 ghost use Rattle.std.specs.List.{list_all};
@@ -11,11 +11,10 @@ ghost use Rattle.version_rules.specs.grammar.Bytes.{dot, is_identifier_byte, is_
 ghost use Rattle.version_rules.specs.grammar.DigitRun.{run_value};
 ghost use Rattle.version_rules.specs.grammar.Front.{begins};
 ghost use Rattle.version_rules.specs.key.Codes.{Writes};
-ghost use Rattle.version_rules.specs.order.Lists.{bytes_cmp, none_last_cmp};
-ghost use Rattle.version_rules.specs.order.ReleaseOrder.{chunk_bytes, chunk_cmp, release_bytes, release_cmp};
+ghost use Rattle.version_rules.specs.order.Lists.{none_last_cmp};
+ghost use Rattle.version_rules.specs.order.ReleaseOrder.{release_cmp};
 ghost use Rattle.version_rules.specs.order.SemVerOrder.{semver_cmp};
-ghost use Rattle.version_texts.specs.key.TextKey.{chunk_of, chunks_of};
-ghost use Rattle.version_texts.specs.order.Piece.{behind_piece, first_piece, is_dot};
+ghost use Rattle.version_texts.specs.order.Piece.{is_dot};
 ghost use Rattle.version_schemes.specs.semver.Order.{semver_bytes};
 ghost use Rattle.version_schemes.specs.semver.Reading.{before_metadata, behind_core, core_pieces, is_of_core, pre_release_of, tail_of};
 ghost use Rattle.version_schemes.specs.semver.Texts.{allows, has_leading_zero, identifiers_of, is_number, is_section, semver_of, texts_cmp};
@@ -23,8 +22,8 @@ ghost use Rattle.version_schemes.specs.semver.Texts.{allows, has_leading_zero, i
 use crate::texts::cut_first;
 use crate::version::SchemeVersion;
 use std::cmp::Ordering;
-use version_rules::{Class, split_byte, split_run};
-use version_texts::{Compared, Sink, compare_numbers, is_digits, put_all, put_number};
+use version_rules::{Class, split_run};
+use version_texts::{Sink, compare_releases, is_digits, put_number, put_release};
 
 /// A version of SemVer 2.0.0, borrowed from its text: `MAJOR.MINOR.PATCH[-PRE][+META]`. Its metadata does not count and
 /// is not kept.
@@ -265,133 +264,6 @@ fn compare_pre_releases(x: Option<&[u8]>, y: Option<&[u8]>) -> Ordering
     }
 }
 
-// Compares the identifiers of two pre-releases in turn. A prefix comes before the longer one.
-fn compare_releases(x: &[u8], y: &[u8]) -> Ordering
-    ensures { result ≡ release_cmp (chunks_of x.now) (chunks_of y.now) }
-{
-    let (mut a, mut b) = (x, y);
-    'identifiers: loop {
-        let firsts = compare_identifiers(a, b);
-        if firsts.order != Ordering::Equal {
-            return firsts.order;
-        }
-        match (firsts.rest.split_first(), firsts.other_rest.split_first()) {
-            (Some((_, more)), Some((_, others))) => {
-                a = more;
-                b = others;
-            }
-            (Some(_), None) => return Ordering::Greater,
-            (None, Some(_)) => return Ordering::Less,
-            (None, None) => return Ordering::Equal,
-        }
-    }
-}
-
-// Compares two pre-releases by their first identifiers: numbers by value, which come before texts, and texts by bytes.
-#[inline(always)]
-fn compare_identifiers<'t>(a: &'t [u8], b: &'t [u8]) -> Compared<'t>
-    ensures order { result.order ≡ chunk_cmp (chunk_of (first_piece a.now)) (chunk_of (first_piece b.now)) }
-    ensures rest { result.order ≡ Equal → result.rest.now ≡ behind_piece a.now }
-    ensures other_rest { result.order ≡ Equal → result.other_rest.now ≡ behind_piece b.now }
-{
-    match (begins_with_number(a), begins_with_number(b)) {
-        (true, true) => compare_numbers(a, b),
-        (true, false) => Compared::new(Ordering::Less, a, b),
-        (false, true) => Compared::new(Ordering::Greater, a, b),
-        (false, false) => compare_texts(a, b),
-    }
-}
-
-// Returns whether the first identifier has digits alone.
-#[inline(always)]
-fn begins_with_number(text: &[u8]) -> bool
-    ensures { result ≡ list_all is_ascii_digit (first_piece text.now) }
-{
-    let (_, rest) = split_run(text, Class::Digit);
-    is_at_end(rest)
-}
-
-// Returns whether an identifier ends here.
-#[inline(always)]
-fn is_at_end(text: &[u8]) -> bool
-    ensures { result ≡ (length (first_piece text.now) == 0) }
-{
-    matches!(text, [] | [b'.', ..])
-}
-
-// Compares two pre-releases by the bytes of their first identifiers.
-#[inline(always)]
-fn compare_texts<'t>(x: &'t [u8], y: &'t [u8]) -> Compared<'t>
-    ensures order { result.order ≡ bytes_cmp (first_piece x.now) (first_piece y.now) }
-    ensures rest { result.order ≡ Equal → result.rest.now ≡ behind_piece x.now }
-    ensures other_rest { result.order ≡ Equal → result.other_rest.now ≡ behind_piece y.now }
-{
-    let (mut a, mut b) = (x, y);
-    'bytes: loop {
-        match (split_byte(a, Class::NotDot), split_byte(b, Class::NotDot)) {
-            (Some((byte, rest)), Some((other, other_rest))) => {
-                if byte != other {
-                    return Compared::new(byte.cmp(&other), a, b);
-                }
-                a = rest;
-                b = other_rest;
-            }
-            (Some(_), None) => return Compared::new(Ordering::Greater, a, b),
-            (None, Some(_)) => return Compared::new(Ordering::Less, a, b),
-            (None, None) => return Compared::new(Ordering::Equal, a, b),
-        }
-    }
-}
-
-// Returns whether each byte of a text is a digit.
-#[inline(always)]
-fn has_digits_alone(text: &[u8]) -> bool
-    ensures { result ≡ list_all is_ascii_digit text.now }
-{
-    let (_, rest) = split_run(text, Class::Digit);
-    rest.is_empty()
-}
-
-// Writes an identifier.
-#[inline(always)]
-fn put_chunk<S: Sink>(sink: &mut S, text: &[u8])
-    requires text { list_all is_identifier_byte text.now ≡ true }
-    requires fits { S.fits sink.old (chunk_bytes (Some (chunk_of text.now))) }
-    ensures { S.takes sink.old (chunk_bytes (Some (chunk_of text.now))) sink.new }
-{
-    if has_digits_alone(text) {
-        sink.put(2);
-        put_number(sink, text);
-        return;
-    }
-    sink.put(3);
-    put_all(sink, text);
-    sink.put(0);
-}
-
-// Writes the identifiers of a pre-release and their end.
-fn put_release<S: Sink>(sink: &mut S, text: &[u8])
-    requires text { list_all is_metadata_byte text.now ≡ true }
-    requires fits { S.fits sink.old (release_bytes (chunks_of text.now)) }
-    ensures { S.takes sink.old (release_bytes (chunks_of text.now)) sink.new }
-{
-    let mut left = text;
-    'identifiers: loop {
-        let (identifier, rest) = split_run(left, Class::NotDot);
-        put_chunk(sink, identifier);
-        if sink.is_decided() {
-            return;
-        }
-        match rest.split_first() {
-            Some((_, behind)) => left = behind,
-            None => {
-                sink.put(1);
-                return;
-            }
-        }
-    }
-}
-
 impl<'t> SchemeVersion<'t> for SemVer<'t> {
     ghost use Rattle.std.specs.Ordering.{on};
     ghost use Rattle.std.specs.Option.{option_map};
@@ -408,11 +280,20 @@ impl<'t> SchemeVersion<'t> for SemVer<'t> {
 
     ghost order = { on plain_semver semver_cmp };
 
+    ghost doubled = { false };
+
     ghost most = { semver_room };
 
     #[inline(always)]
     fn read(text: &'t [u8]) -> Option<SemVer<'t>> {
         SemVer::from_bytes(text)
+    }
+
+    #[inline(always)]
+    fn has_doubled() -> bool
+        ensures { result ≡ false }
+    {
+        false
     }
 
     #[inline(always)]

@@ -1,6 +1,6 @@
 //! What a version of a scheme gives, from which all else follows that goes by keys: sets, sorts, indexes.
 
-ghost use Rattle.std.specs.Prelude.{◌≡◌, [], List, Option, ℕ};
+ghost use Rattle.std.specs.Prelude.{◌≡◌, [], Bool, List, Option, ℕ};
 ghost use Rattle.std.specs.Option.{option_map};
 ghost use Rattle.std.specs.declared.cmp.Ordering.{Ordering as Compared};
 ghost use Rattle.version_rules.specs.key.Codes.{Writes};
@@ -20,12 +20,19 @@ pub trait SchemeVersion<'t>: Copy {
     // The order, by the words of the system that has it.
     ghost order: { Self → Self → Compared };
 
+    // Whether its sets have `<<` and `>>`.
+    ghost doubled: { Bool };
+
     // How many bytes the key of a text of a length has at most.
     ghost most: { ℕ → ℕ };
 
     /// Reads a whole text, or returns None if it is no version of the scheme. Does not allocate.
     fn read(text: &'t [u8]) -> Option<Self>
         ensures { option_map key result ≡ key_of text.now };
+
+    /// Returns whether its sets have `<<` and `>>`. Does not allocate.
+    fn has_doubled() -> bool
+        ensures { result ≡ doubled };
 
     /// Compares it with another version. Does not allocate.
     fn compare(&self, other: &Self) -> Ordering

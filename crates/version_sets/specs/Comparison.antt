@@ -6,6 +6,8 @@ use Rattle.version_rules.specs.declared.ends.End.TheVariants.{AboveBegun, AfterK
 use Rattle.version_rules.specs.declared.ends.Kept.TheVariants.{All, ButLastOrOnly, ThroughOther}
 use Rattle.version_rules.specs.grammar.Front.{Front}
 use Rattle.version_rules.specs.requirement.Op.{after_word}
+use Rattle.version_texts.specs.declared.keyed.Words.{Words}
+use Rattle.version_texts.specs.declared.keyed.Words.TheVariants.{Doubled, Parts}
 use Rattle.version_texts.specs.keyed.Keyed.{PlainKeyed, end_of}
 use Rattle.version_sets.specs.declared.read.comparison.Comparison.{Comparison}
 use Rattle.version_sets.specs.declared.read.comparison.Comparison.TheVariants as comparison
@@ -14,9 +16,10 @@ use Rattle.version_sets.specs.declared.read.comparison.Comparison.TheVariants as
 abbrev pub words : List (List ℕ × Comparison)
 words =
     (codes "==", comparison.Equal) ∷ (codes "=", comparison.Equal) ∷ (codes "!=", comparison.Unequal)
-    ∷ (codes "<=", comparison.LessEq) ∷ (codes "<", comparison.Less) ∷ (codes ">=", comparison.GreaterEq)
-    ∷ (codes ">", comparison.Greater) ∷ (codes "~=", comparison.Tilde) ∷ (codes "~>", comparison.Tilde)
-    ∷ (codes "~", comparison.Tilde) ∷ (codes "^", comparison.Caret) ∷ []
+    ∷ (codes "<=", comparison.LessEq) ∷ (codes "<<", comparison.Earlier) ∷ (codes "<", comparison.Less)
+    ∷ (codes ">=", comparison.GreaterEq) ∷ (codes ">>", comparison.Later) ∷ (codes ">", comparison.Greater)
+    ∷ (codes "~=", comparison.Tilde) ∷ (codes "~>", comparison.Tilde) ∷ (codes "~", comparison.Tilde)
+    ∷ (codes "^", comparison.Caret) ∷ []
 
 -- the comparison of the first of some words with which a text begins, and the rest
 abbrev pub first_word : List (List ℕ × Comparison) → Front Comparison
@@ -41,6 +44,8 @@ comparison_ends comparison.Less = Lowest ∷ Key ∷ []
 comparison_ends comparison.LessEq = Lowest ∷ AfterKey ∷ []
 comparison_ends comparison.Greater = AfterKey ∷ []
 comparison_ends comparison.GreaterEq = Key ∷ []
+comparison_ends comparison.Earlier = Lowest ∷ Key ∷ []
+comparison_ends comparison.Later = AfterKey ∷ []
 comparison_ends comparison.Tilde = Key ∷ AboveBegun ButLastOrOnly ∷ []
 comparison_ends comparison.Caret = Key ∷ AboveBegun ThroughOther ∷ []
 comparison_ends comparison.Prefix = Begun All ∷ AboveBegun All ∷ []
@@ -53,7 +58,7 @@ bytes_of version ends = map (λ end. end_of end version) ends
 abbrev pub ends_with : Comparison → PlainKeyed → List (List ℕ)
 ends_with c version = bytes_of version (comparison_ends c)
 
--- whether a comparison is by parts, and whether it is of versions that have these alone
+-- whether a comparison is by parts
 abbrev pub asks_parts : Comparison → Bool
 asks_parts comparison.Tilde = true
 asks_parts comparison.Caret = true
@@ -61,10 +66,26 @@ asks_parts comparison.Prefix = true
 asks_parts comparison.NotPrefix = true
 asks_parts other = false
 
+-- whether a comparison is one of those with a doubled sign
+abbrev pub asks_doubled : Comparison → Bool
+asks_doubled comparison.Earlier = true
+asks_doubled comparison.Later = true
+asks_doubled other = false
+
+-- whether a comparison is of versions that have parts alone
 abbrev pub asks_bare : Comparison → Bool
 asks_bare comparison.Prefix = true
 asks_bare comparison.NotPrefix = true
 asks_bare other = false
+
+-- whether sets have the comparisons by parts, and those with a doubled sign
+abbrev pub has_parts : Words → Bool
+has_parts Parts = true
+has_parts other = false
+
+abbrev pub has_doubled : Words → Bool
+has_doubled Doubled = true
+has_doubled other = false
 
 -- whether a text is `.*`, and what stands before these at the end of a text
 abbrev pub is_star : List ℕ → Bool

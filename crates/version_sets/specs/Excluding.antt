@@ -1,5 +1,6 @@
 -- Which members of a set leave a key out.
-use Rattle.std.specs.Prelude.{◌≡◌, ◌+◌, ℕ, suc, Bool, List, [], ◌∷◌, if◌then◌else◌, length, Option, Some, None}
+use Rattle.std.specs.Prelude.{◌≡◌, ◌+◌, ℕ, suc, List, [], ◌∷◌, if◌then◌else◌, length, Option, Some, None}
+use Rattle.version_texts.specs.declared.keyed.Words.{Words}
 use Rattle.version_texts.specs.keyed.Keyed.{PlainKeyed}
 use Rattle.version_sets.specs.Ends.{has}
 use Rattle.version_sets.specs.Pieces.{pieces}
@@ -42,11 +43,11 @@ abbrev pub room_left : (ℕ → ℕ) → Option Pieces → ℕ
 room_left most None = 0
 room_left most (Some left) = pieces_room most (pieces left.place left.left.now)
 
-module _ (read_as : List ℕ → Option PlainKeyed) (parts : Bool) where
+module _ (read_as : List ℕ → Option PlainKeyed) (words : Words) where
   -- what is left of a text in a state is read as
   abbrev pub left_read : State → Pieces → Reading
   left_read state left =
-      read_pieces read_as parts (left.place + length left.left.now) state (pieces left.place left.left.now)
+      read_pieces read_as words (left.place + length left.left.now) state (pieces left.place left.left.now)
 
   -- the alternatives that are left of a text
   abbrev pub AreLeft : Option Pieces → List (List Member) → Type 0

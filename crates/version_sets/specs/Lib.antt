@@ -5,7 +5,6 @@ pub mod Form
 pub mod Intervals
 pub mod Members
 pub mod Merge
-pub mod Mixed
 pub mod Pieces
 pub mod Pile
 pub mod Reader

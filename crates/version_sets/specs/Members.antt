@@ -15,6 +15,8 @@ pub record AreByOrder (order : Ordering) (holds : Comparison → Bool) : Type 0 
   pub less_eq : holds comparison.LessEq ≡ is_le order
   pub greater : holds comparison.Greater ≡ is_gt order
   pub greater_eq : holds comparison.GreaterEq ≡ is_ge order
+  pub earlier : holds comparison.Earlier ≡ is_lt order
+  pub later : holds comparison.Later ≡ is_gt order
 
 -- a key has an epoch, and its parts begin with some
 pub record BeginsWith (epoch : ℕ) (parts : List PartKey) (k : Key) : Type 0 where

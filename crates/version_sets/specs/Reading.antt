@@ -4,14 +4,15 @@ use Rattle.std.specs.List.{list_all, list_any}
 use Rattle.std.specs.declared.result.Result.{Result}
 use Rattle.std.specs.declared.result.Result.TheVariants.{Err, Ok}
 use Rattle.version_texts.specs.declared.versioning_ref.slip.Slip.{Slip as Slips}
+use Rattle.version_texts.specs.declared.keyed.Words.{Words}
 use Rattle.version_texts.specs.keyed.Keyed.{PlainKeyed}
-use Rattle.version_sets.specs.Comparison.{asks_bare, asks_parts, before_star, ends_with, starred}
+use Rattle.version_sets.specs.Comparison.{asks_bare, asks_doubled, asks_parts, before_star, ends_with, has_doubled, has_parts, starred}
 use Rattle.version_sets.specs.Ends.{has}
 use Rattle.version_sets.specs.Pieces.{PlainPiece, Word, pieces}
 use Rattle.version_sets.specs.Steps.{PlainStep, All, Asks, Closes, Fault, Goes, step, unfinished}
 use Rattle.version_sets.specs.declared.read.comparison.Comparison.{Comparison}
 use Rattle.version_sets.specs.declared.read.fault.Reason.{Reason}
-use Rattle.version_sets.specs.declared.read.fault.Reason.TheVariants.{NoParts, NotBare, NotVersion, Slip, StarBehind}
+use Rattle.version_sets.specs.declared.read.fault.Reason.TheVariants.{NoParts, NotBare, NotDoubled, NotVersion, Slip, StarBehind}
 use Rattle.version_sets.specs.declared.read.steps.State.{State}
 use Rattle.version_sets.specs.declared.read.steps.State.TheVariants.{Come, Wanted}
 
@@ -59,11 +60,12 @@ abbrev pub plain_asked : {V : Type 0} → (V → PlainKeyed) → Result (Compari
 plain_asked plain (Ok pair) = With pair.0 (plain pair.1)
 plain_asked plain (Err reason) = Not reason
 
-module _ (read_as : List ℕ → Option PlainKeyed) (parts : Bool) where
+module _ (read_as : List ℕ → Option PlainKeyed) (words : Words) where
   -- whether a comparison may be with a version
   abbrev pub allowed : Comparison → PlainKeyed → Asked
   allowed c version =
-      if asks_parts c && not parts then Not NoParts
+      if asks_parts c && not (has_parts words) then Not NoParts
+      else if asks_doubled c && not (has_doubled words) then Not NotDoubled
       else if asks_bare c && not version.is_bare then Not NotBare
       else With c version
 

@@ -73,9 +73,9 @@ pub fn read_set<'t, V: Keyed<'t>>(
     room: &mut [u8],
 ) -> Result<usize, Unread>
     ensures ok { IfOk result (λ size. (first : List Member) × (others : List (List Member))
-        × (read_set V.read_as V.parts text.now ≡ Right first others)
+        × (read_set V.read_as V.words text.now ≡ Right first others)
         × IsWrittenSet room.new order size (set_has (first ∷ others))) }
-    ensures wrong { IfErr result (λ unread. IsUnread unread (read_set V.read_as V.parts text.now)
+    ensures wrong { IfErr result (λ unread. IsUnread unread (read_set V.read_as V.words text.now)
         (length room.old < set_room V.most text.now)) }
 {
     // Called for what it promises of every text.

@@ -12,5 +12,8 @@ mod tag;
 
 pub use newest::{Candidates, Texts, Wanted, newest_of};
 pub use next::{Next, next_of};
-pub use stability::{Stability, stability_of};
-pub use tag::{start_after_prefix, start_in_tag, version_after_prefix, version_in_tag};
+pub use stability::{Stability, stability_of, stability_of_text};
+pub use tag::{
+    start_after_prefix, start_in_tag, text_after_prefix, text_in_tag, version_after_prefix,
+    version_in_tag,
+};

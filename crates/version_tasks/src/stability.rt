@@ -45,7 +45,7 @@ pub enum Stability {
 pub fn stability_of(version: &VersioningRef<'_>) -> Stability
     ensures { result ≡ stability_of (plain_versioning_ref version.now) }
 {
-    let stability = of_text(counted_text(version));
+    let stability = stability_of_text(counted_text(version));
     if stability == Stability::Stable && is_early(pre_release_text(version)) {
         return Stability::Alpha;
     }
@@ -83,8 +83,9 @@ fn is_early(text: &[u8]) -> bool
     }
 }
 
-// The lowest stability of the words of a text, and of its runs of letters and digits.
-fn of_text(text: &[u8]) -> Stability
+/// Returns the lowest stability of the words of a text, and of its runs of letters and digits, as `stability_of` has
+/// them. Does not allocate.
+pub fn stability_of_text(text: &[u8]) -> Stability
     ensures { result ≡ of_text text.now }
 {
     lower(of_words(text), of_runs(text))

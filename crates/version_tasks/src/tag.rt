@@ -39,7 +39,15 @@ pub fn version_after_prefix<'a>(prefix: &[u8], tag: &'a [u8]) -> Option<Versioni
     ensures text { IfSome result (λ version. text_after_prefix prefix.now tag.now
         ≡ Some (versioning_text (plain_versioning_ref version))) }
 {
-    VersioningRef::from_bytes(text_at_beginning(tag.strip_prefix(prefix)?)?)
+    VersioningRef::from_bytes(text_after_prefix(prefix, tag)?)
+}
+
+/// Returns the text of the version after a prefix of a tag, as `version_after_prefix` finds it, whether it is a version
+/// or not. None if the tag does not begin with the prefix, or no digit follows. Does not allocate.
+pub fn text_after_prefix<'a>(prefix: &[u8], tag: &'a [u8]) -> Option<&'a [u8]>
+    ensures { option_map (λ text. text.now) result ≡ text_after_prefix prefix.now tag.now }
+{
+    text_at_beginning(tag.strip_prefix(prefix)?)
 }
 
 /// Returns where the version in a tag begins, as `version_in_tag` finds it: at a place from which on the rest of the tag
@@ -67,8 +75,9 @@ pub fn start_after_prefix(prefix: &[u8], tag: &[u8]) -> Option<usize>
     Some(tag.len() - version.bytes().len())
 }
 
-// The rest of a tag from the digit on where its version begins.
-fn text_in_tag(tag: &[u8]) -> Option<&[u8]>
+/// Returns the text of the version in a tag: its rest from the digit on where the version begins, as `version_in_tag`
+/// finds it, whether it is a version or not. None if there is no such digit. Does not allocate.
+pub fn text_in_tag(tag: &[u8]) -> Option<&[u8]>
     ensures { option_map (λ text. text.now) result ≡ text_in_tag tag.now }
 {
     let mut left = tag;

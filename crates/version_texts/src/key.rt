@@ -195,9 +195,9 @@ fn put_chunk<S: Sink>(sink: &mut S, text: &[u8])
     sink.put(0);
 }
 
-// Writes a release, by its text.
+/// Writes a release, by its text: its chunks, by the dots between, and their end. Does not allocate.
 #[inline(always)]
-fn put_release<S: Sink>(sink: &mut S, text: &[u8])
+pub fn put_release<S: Sink>(sink: &mut S, text: &[u8])
     requires text { list_all is_metadata_byte text.now ≡ true }
     requires fits { S.fits sink.old (release_bytes (chunks_of text.now)) }
     ensures { S.takes sink.old (release_bytes (chunks_of text.now)) sink.new }
@@ -206,6 +206,9 @@ fn put_release<S: Sink>(sink: &mut S, text: &[u8])
     'chunks: loop {
         let (chunk, rest) = split_run(left, Class::NotDot);
         put_chunk(sink, chunk);
+        if sink.is_decided() {
+            return;
+        }
         match rest.split_first() {
             Some((_, behind)) => left = behind,
             None => {

@@ -1,6 +1,6 @@
 //! Orders of versions: what a text is read as, its key, and the ends of ranges by it.
 
-ghost use Rattle.std.specs.Prelude.{◌≡◌, [], Bool, IsTrue, List, Option, ℕ};
+ghost use Rattle.std.specs.Prelude.{◌≡◌, [], List, Option, ℕ};
 ghost use Rattle.std.specs.Option.{option_map};
 ghost use Rattle.std.specs.declared.cmp.Ordering.{Ordering as Compared};
 ghost use Rattle.version_rules.specs.declared.ends.Kept.{Kept};
@@ -8,6 +8,8 @@ ghost use Rattle.version_rules.specs.key.Codes.{Writes};
 ghost use Rattle.version_rules.specs.order.Lists.{bytes_cmp};
 ghost use Rattle.version_texts.specs.key.KeyRoom.{room_for};
 ghost use Rattle.version_texts.specs.key.Sinks.{saturated};
+ghost use Rattle.version_texts.specs.declared.keyed.Words.{Words as PlainWords};
+ghost use Rattle.version_texts.specs.declared.keyed.Words.TheVariants.{Parts};
 ghost use Rattle.version_texts.specs.keyed.Keyed.{end_of, AreWithin, BeginsKey, PlainKeyed};
 
 use crate::key::length::room_for;
@@ -16,6 +18,17 @@ use crate::versioning_ref::VersioningRef;
 use crate::versioning_ref::slip::Slip;
 use std::cmp::Ordering;
 use version_rules::End;
+
+/// Which comparisons the sets of an order have beside `=`, `==`, `!=`, `<`, `<=`, `>` and `>=`.
+#[derive(Clone, Copy, Debug, PartialEq, Eq)]
+pub enum Words {
+    /// No others.
+    Plain,
+    /// `<<` and `>>`, which are `<` and `>`.
+    Doubled,
+    /// `~`, `~=`, `~>`, `^`, and `.*` behind a version: its versions have parts, and keys begin with these.
+    Parts,
+}
 
 /// A version of an order, read from a text: it has a key, and keys compare byte by byte as the order has it.
 pub trait Keyed<'t>: Copy {
@@ -27,8 +40,8 @@ pub trait Keyed<'t>: Copy {
     // The order.
     ghost order: { Self → Self → Compared };
 
-    // Whether its versions have parts, with which their keys begin.
-    ghost parts: { Bool };
+    // Which comparisons its sets have.
+    ghost words: { PlainWords };
 
     // How many bytes the key of a text of a length has at most.
     ghost most: { ℕ → ℕ };
@@ -37,9 +50,9 @@ pub trait Keyed<'t>: Copy {
     fn read(text: &'t [u8]) -> Option<Self>
         ensures { option_map plain result ≡ read_as text.now };
 
-    /// Returns whether the versions of the order have parts, so that ends of ranges may be made of these.
-    fn has_parts() -> bool
-        ensures { result ≡ parts };
+    /// Returns which comparisons its sets have. Does not allocate.
+    fn words() -> Words
+        ensures { result ≡ words };
 
     /// Returns how many bytes the key of a text of a length has at most; an end of a range has one more. Does not
     /// allocate.
@@ -74,14 +87,13 @@ pub trait Keyed<'t>: Copy {
     // No key is empty.
     ghost some: { (version : Self) → ¬ ((plain version).key ≡ []) };
 
-    // A key begins with the bytes of its epoch and any parts that are kept.
-    ghost begins: { IsTrue parts → (version : Self) (kept : Kept)
+    // Where there are comparisons by parts, a key begins with the bytes of its epoch and any parts that are kept.
+    ghost begins: { words ≡ Parts → (version : Self) (kept : Kept)
         → BeginsKey ((plain version).begun kept) (plain version).key };
 }
 
 /// The order of all versions (docs/ORDER.md).
 impl<'t> Keyed<'t> for VersioningRef<'t> {
-    ghost use Rattle.std.specs.Prelude.{true};
     ghost use Rattle.std.specs.Ordering.{on};
     ghost use Rattle.version_rules.specs.grammar.Versioning.{versioning_of};
     ghost use Rattle.version_rules.specs.key.Key.{key_of, precedence};
@@ -94,7 +106,7 @@ impl<'t> Keyed<'t> for VersioningRef<'t> {
 
     ghost order = { on (λ version. key_of (plain_versioning_ref version)) precedence };
 
-    ghost parts = { true };
+    ghost words = { Parts };
 
     ghost most = { room_for };
 
@@ -104,10 +116,10 @@ impl<'t> Keyed<'t> for VersioningRef<'t> {
     }
 
     #[inline(always)]
-    fn has_parts() -> bool
-        ensures { result ≡ true }
+    fn words() -> Words
+        ensures { result ≡ Parts }
     {
-        true
+        Words::Parts
     }
 
     #[inline(always)]
@@ -145,5 +157,5 @@ impl<'t> Keyed<'t> for VersioningRef<'t> {
 
     ghost some = { λ version. mixed_some (plain_versioning_ref version) };
 
-    ghost begins = { λ parts version. mixed_begins (plain_versioning_ref version) };
+    ghost begins = { λ is version. mixed_begins (plain_versioning_ref version) };
 }

@@ -13,14 +13,15 @@ mod scan;
 mod versioning_ref;
 
 pub use key::length::room_for;
-pub use key::put_number;
 pub use key::sink::{Sink, put_all};
 pub use key::sinks::{Beside, Count, Room};
 pub use key::ties::{compare_key_ties, mark_kind, marked_kind, marked_number};
-pub use keyed::Keyed;
+pub use key::{put_number, put_release};
+pub use keyed::{Keyed, Words};
 pub use order::difference::Difference;
-pub use order::digits::compare_numbers;
+pub use order::digits::{compare_if_numbers, compare_numbers};
 pub use order::piece::split_piece;
+pub use order::release::compare_releases;
 pub use order::run::Compared;
 pub use requirement::conflict::{Conflict, Span, conflict_in};
 pub use requirement::inexact::write_inexact;

@@ -14,7 +14,7 @@ pub(crate) mod digits;
 pub(crate) mod list;
 pub(crate) mod part;
 pub(crate) mod piece;
-mod release;
+pub(crate) mod release;
 pub(crate) mod run;
 pub(crate) mod ties;
 

@@ -78,6 +78,9 @@ tags_rule = flag_rule None (codes "tags")
 abbrev pub prefix_rule : Rule
 prefix_rule = text_rule None (codes "prefix")
 
+abbrev pub scheme_rule : Rule
+scheme_rule = text_rule None (codes "scheme")
+
 abbrev pub zero_rule : Rule
 zero_rule = flag_rule (Some 122) (codes "zero-terminated")
 
@@ -96,7 +99,7 @@ invalid_rule = text_rule None (codes "invalid")
 abbrev pub lines_rules : List Rule
 lines_rules = invalid_rule ∷ text_rule None (codes "invalid-to")
     ∷ number_rule (Some 107) (codes "key") ∷ separator_rule ∷ tags_rule ∷ prefix_rule
-    ∷ text_rule None (codes "min-stability") ∷ text_rule None (codes "match") ∷ zero_rule
+    ∷ scheme_rule ∷ text_rule None (codes "min-stability") ∷ text_rule None (codes "match") ∷ zero_rule
     ∷ crlf_rule ∷ flag_rule None (codes "progress") ∷ []
 
 -- a command without commands of its own
@@ -123,7 +126,7 @@ name_of verb.Next = codes "next"
 
 -- two sets
 abbrev pub sets_rules : List Rule
-sets_rules = word_rule (codes "SET") ∷ word_rule (codes "OTHER") ∷ []
+sets_rules = word_rule (codes "SET") ∷ word_rule (codes "OTHER") ∷ scheme_rule ∷ []
 
 -- what a command takes
 abbrev pub rules_of : Verb → List Rule
@@ -134,15 +137,16 @@ rules_of verb.Newest =
 rules_of verb.Filter =
     word_rule (codes "SET") ∷ words_rule ∷ flag_rule (Some 118) (codes "invert-match") ∷ lines_rules
 rules_of verb.Show = words_rule ∷ flag_rule None (codes "json") ∷ ending_rules
-rules_of verb.Key = words_rule ∷ ending_rules
-rules_of verb.Test = two_or_three_rule (codes "WORD") ∷ []
-rules_of verb.Compare = word_rule (codes "A") ∷ word_rule (codes "B") ∷ flag_rule None (codes "explain") ∷ []
-rules_of verb.Why = word_rule (codes "SET") ∷ words_rule ∷ ending_rules
+rules_of verb.Key = words_rule ∷ scheme_rule ∷ ending_rules
+rules_of verb.Test = two_or_three_rule (codes "WORD") ∷ scheme_rule ∷ []
+rules_of verb.Compare =
+    word_rule (codes "A") ∷ word_rule (codes "B") ∷ flag_rule None (codes "explain") ∷ scheme_rule ∷ []
+rules_of verb.Why = word_rule (codes "SET") ∷ words_rule ∷ scheme_rule ∷ ending_rules
 rules_of verb.Implies = sets_rules
 rules_of verb.Meets = sets_rules
 rules_of verb.Diff = word_rule (codes "A") ∷ word_rule (codes "B") ∷ flag_rule None (codes "lists")
     ∷ number_rule (Some 103) (codes "group") ∷ number_rule (Some 107) (codes "key") ∷ separator_rule
-    ∷ tags_rule ∷ prefix_rule ∷ invalid_rule ∷ ending_rules
+    ∷ tags_rule ∷ prefix_rule ∷ scheme_rule ∷ invalid_rule ∷ ending_rules
 rules_of verb.Next = word_rule (codes "PLACE") ∷ words_rule ∷ ending_rules
 
 -- a command, as `clap` has it

@@ -7,6 +7,9 @@ use Rattle.clap.specs.declared.parser.matches.ArgMatches.{ArgMatches}
 use Rattle.version_commands.specs.declared.options.Invalid.{Invalid}
 use Rattle.version_commands.specs.declared.options.Invalid.TheVariants.{Fail, Skip}
 use Rattle.version_lines.specs.declared.column.Column.{Column}
+use Rattle.version_schemes.specs.Scheme.{scheme_named}
+use Rattle.version_schemes.specs.declared.scheme.Scheme.{Scheme}
+use Rattle.version_schemes.specs.declared.scheme.Scheme.TheVariants.{Mixed}
 use Rattle.version_tasks.specs.declared.stability.Stability.{Stability}
 use Rattle.version_tasks.specs.declared.stability.Stability.TheVariants.{Dev}
 use Rattle.version_words.specs.Named.{count_named, invalid_asked, invalid_named, may_ask, separator_named, stability_named}
@@ -58,6 +61,10 @@ column_of name separator rows = option_map (column_at separator) (number_of name
 abbrev pub level_of : List Row → Option Stability
 level_of rows = option_map_or stability_named (first_of (codes "min-stability") rows) (Some Dev)
 
+-- the scheme that is asked for, or else mixed; None where the word names none
+abbrev pub scheme_of : List Row → Option Scheme
+scheme_of rows = option_map_or scheme_named (first_of (codes "scheme") rows) (Some Mixed)
+
 -- what is asked of lines without a version, if it is; None of all where the word names nothing that
 -- the command can do
 abbrev pub invalid_word : Verb → List Row → Option (Option Invalid)
@@ -80,5 +87,6 @@ invalid_of command rows = option_and_then
 abbrev pub has_option_of_lists : List Row → Bool
 has_option_of_lists rows = is_given (codes "group") rows || (is_given (codes "key") rows
     || (is_given (codes "field-separator") rows || (is_set (codes "tags") rows
-    || (is_given (codes "prefix") rows || (is_given (codes "invalid") rows
-    || (is_set (codes "zero-terminated") rows || is_set (codes "crlf") rows))))))
+    || (is_given (codes "prefix") rows || (is_given (codes "scheme") rows
+    || (is_given (codes "invalid") rows || (is_set (codes "zero-terminated") rows
+    || is_set (codes "crlf") rows)))))))

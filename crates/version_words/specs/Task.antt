@@ -16,8 +16,9 @@ use Rattle.version_commands.specs.declared.options.Task.{Task}
 use Rattle.version_commands.specs.declared.options.Task.TheVariants as task
 use Rattle.version_commands.specs.declared.options.VersionPlace.{VersionPlace}
 use Rattle.version_lines.specs.declared.column.Column.{Column}
+use Rattle.version_schemes.specs.declared.scheme.Scheme.{Scheme}
 use Rattle.version_words.specs.Named.{operator_named, place_named}
-use Rattle.version_words.specs.Rows.{column_at, column_of, end_of, has_option_of_lists, invalid_of, is_given, is_set, level_of, number_of, separator_of, word_of, words_of}
+use Rattle.version_words.specs.Rows.{column_at, column_of, end_of, has_option_of_lists, invalid_of, is_given, is_set, level_of, number_of, scheme_of, separator_of, word_of, words_of}
 use Rattle.version_words.specs.declared.named.Verb.{Verb}
 use Rattle.version_words.specs.declared.named.Verb.TheVariants.{Compare, Diff, Filter, Implies, Key, Meets, Newest, Next, Show, Sort, Test, Why}
 
@@ -33,6 +34,7 @@ pub record IsPlace (rows : List Row) (column : Option Column) (place : VersionPl
   pub crlf_is : place.crlf ≡ is_set (codes "crlf") rows
   pub column_is : place.column ≡ column
   pub naming_is : IsNaming rows place.naming
+  pub scheme_is : scheme_of rows ≡ Some place.scheme
 
 -- which versions are kept
 pub record IsChoice (rows : List Row) (choice : Choice) : Type 0 where
@@ -65,8 +67,9 @@ IsArrangement command separator rows other = ⊥
 abbrev pub IsQuestion : Verb → List Row → Question → Type 0
 IsQuestion Show rows question.Show = is_set (codes "json") rows ≡ false
 IsQuestion Show rows question.Json = is_set (codes "json") rows ≡ true
-IsQuestion Key rows question.Key = ⊤
-IsQuestion Why rows (question.Why set) = set.now ≡ word_of (codes "SET") rows
+IsQuestion Key rows (question.Key scheme) = scheme_of rows ≡ Some scheme
+IsQuestion Why rows (question.Why scheme set) =
+    (scheme_of rows ≡ Some scheme) × (set.now ≡ word_of (codes "SET") rows)
 IsQuestion Next rows (question.Next place) =
     place_named (word_of (codes "PLACE") rows) ≡ Some place
 IsQuestion command rows other = ⊥
@@ -92,9 +95,14 @@ pub record AreLists (separator : Option ℕ) (rows : List Row) (lists : Lists) :
       (Some (column_at separator (unwrap_or (number_of (codes "key") rows) 2))) lists.place
   pub invalid_is : invalid_of Diff rows ≡ Some lists.invalid
 
--- two sets
-abbrev pub AreTwoSets : List Row → List ℕ → List ℕ → Type 0
-AreTwoSets rows one other = (one ≡ word_of (codes "SET") rows) × (other ≡ word_of (codes "OTHER") rows)
+-- two versions
+abbrev pub AreTwo : List Row → List ℕ → List ℕ → Type 0
+AreTwo rows first second = (first ≡ word_of (codes "A") rows) × (second ≡ word_of (codes "B") rows)
+
+-- two sets of a scheme
+abbrev pub AreTwoSets : List Row → Scheme → List ℕ → List ℕ → Type 0
+AreTwoSets rows scheme one other = (scheme_of rows ≡ Some scheme) × (one ≡ word_of (codes "SET") rows)
+    × (other ≡ word_of (codes "OTHER") rows)
 
 -- the command and its rows mean this task
 abbrev pub IsTaskOf : Verb → List Row → Task → Type 0
@@ -103,34 +111,45 @@ IsTaskOf command rows (task.Lines arrangement options) = (separator : Option ℕ
     × AreLineOptions command separator rows options
 IsTaskOf command rows (task.Each question options) =
     IsQuestion command rows question × AreEachOptions rows options
-IsTaskOf Test rows (task.TestTwo first operator second) = (word : List ℕ)
+IsTaskOf Test rows (task.TestTwo scheme first operator second) = (word : List ℕ)
+    × (scheme_of rows ≡ Some scheme)
     × (all_of (codes "WORD") rows ≡ Some (first.now ∷ word ∷ second.now ∷ []))
     × (operator_named word ≡ Some operator)
-IsTaskOf Test rows (task.TestSet version set) =
-    all_of (codes "WORD") rows ≡ Some (version.now ∷ set.now ∷ [])
-IsTaskOf Implies rows (task.Implies one other) = AreTwoSets rows one.now other.now
-IsTaskOf Meets rows (task.Meets one other) = AreTwoSets rows one.now other.now
-IsTaskOf Compare rows (task.Compare first second explain) =
-    (first.now ≡ word_of (codes "A") rows) × (second.now ≡ word_of (codes "B") rows)
-    × (explain ≡ is_set (codes "explain") rows)
+IsTaskOf Test rows (task.TestSet scheme version set) = (scheme_of rows ≡ Some scheme)
+    × (all_of (codes "WORD") rows ≡ Some (version.now ∷ set.now ∷ []))
+IsTaskOf Implies rows (task.Implies scheme one other) = AreTwoSets rows scheme one.now other.now
+IsTaskOf Meets rows (task.Meets scheme one other) = AreTwoSets rows scheme one.now other.now
+IsTaskOf Compare rows (task.Compare scheme first second) = (is_set (codes "explain") rows ≡ false)
+    × (scheme_of rows ≡ Some scheme) × AreTwo rows first.now second.now
+IsTaskOf Compare rows (task.Explain first second) = (is_set (codes "explain") rows ≡ true)
+    × (is_given (codes "scheme") rows ≡ false) × AreTwo rows first.now second.now
 IsTaskOf Diff rows (task.Difference first second) = (is_set (codes "lists") rows ≡ false)
-    × (has_option_of_lists rows ≡ false) × (first.now ≡ word_of (codes "A") rows)
-    × (second.now ≡ word_of (codes "B") rows)
+    × (has_option_of_lists rows ≡ false) × AreTwo rows first.now second.now
 IsTaskOf Diff rows (task.Lists lists) = (separator : Option ℕ)
     × (separator_of rows ≡ Some separator) × AreLists separator rows lists
 IsTaskOf command rows other = ⊥
 
 -- ---- what is wrong
 
--- of the place of a version: it is after a prefix and in a tag, or the byte between columns is none
+-- of the scheme: the word names none
+abbrev pub HasWrongScheme : List Row → Type 0
+HasWrongScheme rows = scheme_of rows ≡ None
+
+-- of the place of a version: it is after a prefix and in a tag, the byte between columns is none, or the
+-- scheme is none
 abbrev pub HasWrongPlace : List Row → Type 0
 HasWrongPlace rows = (separator_of rows ≡ None)
-    ⊎ ((is_set (codes "tags") rows ≡ true) × (is_given (codes "prefix") rows ≡ true))
+    ⊎ (((is_set (codes "tags") rows ≡ true) × (is_given (codes "prefix") rows ≡ true)) ⊎ HasWrongScheme rows)
 
 -- of the options of a command over lines
 abbrev pub HasWrongLines : Verb → List Row → Type 0
 HasWrongLines command rows =
     HasWrongPlace rows ⊎ ((level_of rows ≡ None) ⊎ (invalid_of command rows ≡ None))
+
+-- of `compare`: the scheme is none, or one is named where the difference is asked for, which is one of mixed
+abbrev pub HasWrongCompare : List Row → Type 0
+HasWrongCompare rows =
+    ((is_set (codes "explain") rows ≡ true) × (is_given (codes "scheme") rows ≡ true)) ⊎ HasWrongScheme rows
 
 -- of the words of `test`: they are neither two nor three, or no operator is between two
 abbrev pub HasWrongTest : Option (List (List ℕ)) → Type 0
@@ -150,7 +169,12 @@ abbrev pub IsWrong : Verb → List Row → Type 0
 IsWrong Sort rows = HasWrongLines Sort rows
 IsWrong Newest rows = HasWrongLines Newest rows
 IsWrong Filter rows = HasWrongLines Filter rows
-IsWrong Test rows = HasWrongTest (all_of (codes "WORD") rows)
+IsWrong Test rows = HasWrongScheme rows ⊎ HasWrongTest (all_of (codes "WORD") rows)
+IsWrong Key rows = HasWrongScheme rows
+IsWrong Why rows = HasWrongScheme rows
+IsWrong Implies rows = HasWrongScheme rows
+IsWrong Meets rows = HasWrongScheme rows
+IsWrong Compare rows = HasWrongCompare rows
 IsWrong Diff rows = HasWrongDiff rows
 IsWrong Next rows = place_named (word_of (codes "PLACE") rows) ≡ None
 IsWrong other rows = ⊥

@@ -2,7 +2,7 @@
 
 ghost use Rattle.std.specs.Prelude.{◌≡◌, ◌⊎◌, None, Some, map, option_map, IfErr, IfOk, unwrap_or};
 ghost use Rattle.clap.specs.Words.{all_of, first_of, subcommand_rows_of};
-ghost use Rattle.version_words.specs.Rows.{column_at, column_of, end_of, has_option_of_lists, invalid_of, invalid_unasked, invalid_word, is_given, is_set, level_of, number_of, rows_in, separator_of, word_of, words_of};
+ghost use Rattle.version_words.specs.Rows.{column_at, column_of, end_of, has_option_of_lists, invalid_of, invalid_unasked, invalid_word, is_given, is_set, level_of, number_of, rows_in, scheme_of, separator_of, word_of, words_of};
 ghost use Rattle.version_words.specs.Words.{command_in, ComesOfWrong};
 
 use crate::faults::WordsFault;
@@ -10,11 +10,12 @@ use crate::named::{
     Verb, count_named, invalid_asked, invalid_named, may_ask, separator_named, stability_named,
     verb_named,
 };
-use crate::wrong::{wrong, wrong_invalid, wrong_separator, wrong_stability};
+use crate::wrong::{wrong, wrong_invalid, wrong_scheme, wrong_separator, wrong_stability};
 use clap::ArgMatches;
 use std::alloc::{AllocError, Global};
 use version_commands::Invalid;
 use version_lines::Column;
+use version_schemes::Scheme;
 use version_tasks::Stability;
 
 /// Returns the command that the words name, and what they say to it.
@@ -138,6 +139,20 @@ pub fn level_of(alloc: Global, options: &ArgMatches<'_>) -> Result<Stability, Wo
     }
 }
 
+/// Returns the scheme that is asked for, or else mixed.
+pub fn scheme_of(alloc: Global, options: &ArgMatches<'_>) -> Result<Scheme, WordsFault>
+    ensures ok { IfOk result (λ scheme. scheme_of (rows_in options.now) ≡ Some scheme) }
+    ensures faults { IfErr result (ComesOfWrong (scheme_of (rows_in options.now) ≡ None)) }
+{
+    let Some(word) = text_of(options, "scheme") else {
+        return Ok(Scheme::Mixed);
+    };
+    match Scheme::of_name(word.as_bytes()) {
+        Some(scheme) => Ok(scheme),
+        None => Err(wrong_scheme(alloc, word)),
+    }
+}
+
 /// Returns what becomes of lines without a version.
 pub fn invalid_of(
     alloc: Global,
@@ -198,6 +213,7 @@ pub fn has_option_of_lists(options: &ArgMatches<'_>) -> bool
         || is_given(options, "field-separator")
         || is_set(options, "tags")
         || is_given(options, "prefix")
+        || is_given(options, "scheme")
         || is_given(options, "invalid")
         || is_set(options, "zero-terminated")
         || is_set(options, "crlf")

@@ -253,6 +253,13 @@ const PREFIX: Argument = Argument {
     help: "The version is what follows the prefix P",
 };
 
+const SCHEME: Argument = Argument {
+    form: Form::Text("NAME"),
+    letter: None,
+    name: "scheme",
+    help: "Whose order it goes by; mixed unless it is given [possible values: mixed, deb, rpm, pypi, semver, gem]",
+};
+
 const ZERO_TERMINATED: Argument = Argument {
     form: Form::Flag,
     letter: Some('z'),
@@ -338,16 +345,19 @@ static SHOW: [Argument; 2] = [
     },
 ];
 
-static KEY: [Argument; 1] = [VERSIONS];
+static KEY: [Argument; 2] = [VERSIONS, SCHEME];
 
-static TEST: [Argument; 1] = [Argument {
-    form: Form::TwoOrThree,
-    letter: None,
-    name: "WORD",
-    help: "Two versions with <, <=, =, >=, > or lt, le, eq, ge, gt between them, or a version and a set",
-}];
+static TEST: [Argument; 2] = [
+    Argument {
+        form: Form::TwoOrThree,
+        letter: None,
+        name: "WORD",
+        help: "Two versions with <, <=, =, >=, > or lt, le, eq, ge, gt between them, or a version and a set",
+    },
+    SCHEME,
+];
 
-static COMPARE: [Argument; 3] = [
+static COMPARE: [Argument; 4] = [
     Argument {
         form: Form::Word,
         letter: None,
@@ -366,11 +376,12 @@ static COMPARE: [Argument; 3] = [
         name: "explain",
         help: "Write in which part they differ first",
     },
+    SCHEME,
 ];
 
-static WHY: [Argument; 2] = [SET, VERSIONS];
+static WHY: [Argument; 3] = [SET, VERSIONS, SCHEME];
 
-static SETS: [Argument; 2] = [
+static SETS: [Argument; 3] = [
     SET,
     Argument {
         form: Form::Word,
@@ -378,9 +389,10 @@ static SETS: [Argument; 2] = [
         name: "OTHER",
         help: "Another",
     },
+    SCHEME,
 ];
 
-static DIFF: [Argument; 9] = [
+static DIFF: [Argument; 10] = [
     Argument {
         form: Form::Word,
         letter: None,
@@ -414,6 +426,7 @@ static DIFF: [Argument; 9] = [
     FIELD_SEPARATOR,
     TAGS,
     PREFIX,
+    SCHEME,
     Argument {
         form: Form::Text("WHAT"),
         letter: None,
@@ -433,7 +446,7 @@ static NEXT: [Argument; 2] = [
 ];
 
 // What the commands take that answer with lines of their input, after their own arguments.
-static LINES: [Argument; 10] = [
+static LINES: [Argument; 11] = [
     Argument {
         form: Form::Text("FILE"),
         letter: None,
@@ -449,6 +462,7 @@ static LINES: [Argument; 10] = [
     FIELD_SEPARATOR,
     TAGS,
     PREFIX,
+    SCHEME,
     Argument {
         form: Form::Text("LEVEL"),
         letter: None,

@@ -4,14 +4,14 @@ ghost use Rattle.std.specs.Prelude.{◌≡◌, ◌⊎◌, None, Some, IfErr, IfO
 ghost use Rattle.clap.specs.Words.{all_of, subcommand_rows_of};
 ghost use Rattle.version_words.specs.Named.{place_named};
 ghost use Rattle.version_words.specs.Rows.{column_of, is_given, is_set, rows_in, word_of};
-ghost use Rattle.version_words.specs.Task.{AreEachOptions, AreLineOptions, HasWrongDiff, HasWrongLines, HasWrongPlace, HasWrongTest, IsNaming, IsPlace, IsQuestion, IsTaskOf};
+ghost use Rattle.version_words.specs.Task.{AreEachOptions, AreLineOptions, HasWrongCompare, HasWrongDiff, HasWrongLines, HasWrongPlace, HasWrongScheme, HasWrongTest, IsNaming, IsPlace, IsQuestion, IsTaskOf};
 ghost use Rattle.version_words.specs.Words.{command_in, ComesOfWrong, IsTaskIn, IsWrongIn};
 
 use crate::faults::WordsFault;
 use crate::named::{Verb, operator_named, place_named};
 use crate::rows::{
-    column_at, column_of, command_in, end_of, has_option_of_lists, invalid_of, is_set, level_of,
-    number_of, separator_of, text_of, texts_of, word_of, words_of,
+    column_at, column_of, command_in, end_of, has_option_of_lists, invalid_of, is_given, is_set,
+    level_of, number_of, scheme_of, separator_of, text_of, texts_of, word_of, words_of,
 };
 use crate::wrong::{wrong, wrong_operator, wrong_place};
 use clap::ArgMatches;
@@ -35,20 +35,21 @@ pub fn task_of<'w>(alloc: Global, matches: &ArgMatches<'w>) -> Result<Task<'w>, 
         Verb::Newest => newest_task(alloc, options),
         Verb::Filter => filter_task(alloc, options),
         Verb::Show => Ok(Task::Each(show_question(options), each_options(alloc, options)?)),
-        Verb::Key => Ok(Task::Each(Question::Key, each_options(alloc, options)?)),
-        Verb::Why => {
-            let question = Question::Why(word_of(options, "SET"));
-            Ok(Task::Each(question, each_options(alloc, options)?))
-        }
+        Verb::Key => key_task(alloc, options),
+        Verb::Why => why_task(alloc, options),
         Verb::Next => next_task(alloc, options),
         Verb::Test => test_task(alloc, options),
-        Verb::Compare => Ok(Task::Compare {
-            first: word_of(options, "A"),
-            second: word_of(options, "B"),
-            explain: is_set(options, "explain"),
-        }),
-        Verb::Implies => Ok(Task::Implies(word_of(options, "SET"), word_of(options, "OTHER"))),
-        Verb::Meets => Ok(Task::Meets(word_of(options, "SET"), word_of(options, "OTHER"))),
+        Verb::Compare => compare_task(alloc, options),
+        Verb::Implies => Ok(Task::Implies(
+            scheme_of(alloc, options)?,
+            word_of(options, "SET"),
+            word_of(options, "OTHER"),
+        )),
+        Verb::Meets => Ok(Task::Meets(
+            scheme_of(alloc, options)?,
+            word_of(options, "SET"),
+            word_of(options, "OTHER"),
+        )),
         Verb::Diff => diff_task(alloc, options),
     }
 }
@@ -132,6 +133,7 @@ fn place_of<'w>(
         crlf: is_set(options, "crlf"),
         column,
         naming: naming_of(alloc, options)?,
+        scheme: scheme_of(alloc, options)?,
     })
 }
 
@@ -178,6 +180,37 @@ fn show_question<'w>(options: &ArgMatches<'_>) -> Question<'w>
     }
 }
 
+fn key_task<'w>(alloc: Global, options: &ArgMatches<'w>) -> Result<Task<'w>, WordsFault>
+    ensures task { IfOk result (IsTaskOf Verb.Key (rows_in options.now)) }
+    ensures faults { IfErr result (ComesOfWrong (HasWrongScheme (rows_in options.now))) }
+{
+    let question = Question::Key(scheme_of(alloc, options)?);
+    Ok(Task::Each(question, each_options(alloc, options)?))
+}
+
+fn why_task<'w>(alloc: Global, options: &ArgMatches<'w>) -> Result<Task<'w>, WordsFault>
+    ensures task { IfOk result (IsTaskOf Verb.Why (rows_in options.now)) }
+    ensures faults { IfErr result (ComesOfWrong (HasWrongScheme (rows_in options.now))) }
+{
+    let question = Question::Why(scheme_of(alloc, options)?, word_of(options, "SET"));
+    Ok(Task::Each(question, each_options(alloc, options)?))
+}
+
+fn compare_task<'w>(alloc: Global, options: &ArgMatches<'w>) -> Result<Task<'w>, WordsFault>
+    ensures task { IfOk result (IsTaskOf Verb.Compare (rows_in options.now)) }
+    ensures faults { IfErr result (ComesOfWrong (HasWrongCompare (rows_in options.now))) }
+{
+    let (first, second) = (word_of(options, "A"), word_of(options, "B"));
+    match (is_set(options, "explain"), is_given(options, "scheme")) {
+        (true, true) => {
+            let what = "the argument '--explain' cannot be used with '--scheme <NAME>'";
+            Err(wrong(alloc, what))
+        }
+        (true, false) => Ok(Task::Explain(first, second)),
+        (false, _) => Ok(Task::Compare(scheme_of(alloc, options)?, first, second)),
+    }
+}
+
 fn next_task<'w>(alloc: Global, options: &ArgMatches<'w>) -> Result<Task<'w>, WordsFault>
     ensures task { IfOk result (IsTaskOf Verb.Next (rows_in options.now)) }
     ensures faults { IfErr result
@@ -196,12 +229,14 @@ fn next_task<'w>(alloc: Global, options: &ArgMatches<'w>) -> Result<Task<'w>, Wo
 fn test_task<'w>(alloc: Global, options: &ArgMatches<'w>) -> Result<Task<'w>, WordsFault>
     ensures task { IfOk result (IsTaskOf Verb.Test (rows_in options.now)) }
     ensures faults { IfErr result
-        (ComesOfWrong (HasWrongTest (all_of (codes "WORD") (rows_in options.now)))) }
+        (ComesOfWrong (HasWrongScheme (rows_in options.now)
+        ⊎ HasWrongTest (all_of (codes "WORD") (rows_in options.now)))) }
 {
+    let scheme = scheme_of(alloc, options)?;
     match texts_of(options, "WORD") {
-        Some([version, set]) => Ok(Task::TestSet(version, set)),
+        Some([version, set]) => Ok(Task::TestSet(scheme, version, set)),
         Some([first, word, second]) => match operator_named(word) {
-            Some(operator) => Ok(Task::TestTwo(first, operator, second)),
+            Some(operator) => Ok(Task::TestTwo(scheme, first, operator, second)),
             None => Err(wrong_operator(alloc, word)),
         },
         _ => Err(wrong(alloc, "two or three words are needed")),

@@ -60,6 +60,19 @@ pub fn wrong_stability(alloc: Global, word: &str) -> WordsFault
     )
 }
 
+/// Returns the fault of a word that is no scheme.
+pub fn wrong_scheme(alloc: Global, word: &str) -> WordsFault
+    ensures { ComesOfWrong ⊤ result }
+{
+    let argument = "'--scheme <NAME>'\n  [possible values: mixed, deb, rpm, pypi, semver, gem]";
+    wrong_name(
+        alloc,
+        word,
+        argument,
+        &["mixed", "deb", "rpm", "pypi", "semver", "gem"],
+    )
+}
+
 /// Returns the fault of a word that doesn't name what a command can do with lines without a version.
 pub fn wrong_invalid(alloc: Global, command: Verb, word: &str) -> WordsFault
     ensures { ComesOfWrong ⊤ result }

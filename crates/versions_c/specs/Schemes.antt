@@ -11,7 +11,7 @@ key_by read_as text = option_map (λ v. v.key) (read_as text)
 
 -- what a text is read as, where a set is asked for, and the size of a buffer that is enough for the set
 abbrev pub reading_by : Rules → List ℕ → Reading
-reading_by rules = read_set rules.read_as rules.parts
+reading_by rules = read_set rules.read_as rules.words
 
 abbrev pub room_by : Rules → List ℕ → ℕ
 room_by rules = set_room rules.most

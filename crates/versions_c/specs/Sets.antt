@@ -7,7 +7,7 @@ use Rattle.version_sets.specs.Form.{form_bytes}
 use Rattle.version_sets.specs.Reader.{IsWrittenSet}
 use Rattle.version_sets.specs.Reading.{Reading, Right, Wrong, set_has}
 use Rattle.version_sets.specs.declared.read.fault.Reason.{Reason}
-use Rattle.version_sets.specs.declared.read.fault.Reason.TheVariants.{NoMember, NoOperator, NoParts, NoVersion, NotBare, NotVersion, OneBar, Slip, StarBehind}
+use Rattle.version_sets.specs.declared.read.fault.Reason.TheVariants.{NoMember, NoOperator, NoParts, NoVersion, NotBare, NotDoubled, NotVersion, OneBar, Slip, StarBehind}
 use Rattle.version_texts.specs.declared.versioning_ref.slip.Slip.TheVariants.{LetterV, NoDigit, PartX}
 use Rattle.version_texts.specs.key.Sinks.{saturated}
 use Rattle.version_texts.specs.keyed.Keyed.{PlainKeyed}
@@ -47,6 +47,7 @@ reason_code NotVersion = reason.NOT_VERSION
 reason_code StarBehind = reason.STAR
 reason_code NotBare = reason.NOT_BARE
 reason_code NoParts = reason.NO_PARTS
+reason_code NotDoubled = reason.NOT_DOUBLED
 reason_code (Slip LetterV) = reason.LETTER_V
 reason_code (Slip PartX) = reason.PART_X
 reason_code (Slip NoDigit) = reason.NO_DIGIT

@@ -17,24 +17,8 @@ use crate::offsets::{LARGEST, are_offsets, text_at};
 use crate::order::{order_code, pair_status};
 use crate::sorting::{Pieces, sort_places};
 use crate::status::{BAD_OFFSETS, NO_ROOM, NO_SCHEME, NO_VERSION, OK};
-use version_schemes::{ByKey, Deb, Gem, Pypi, Rpm, Scheme, SemVer, write_key};
-use version_texts::{Keyed, VersioningRef};
-
-/// Calls a function for the type of a scheme's versions.
-macro_rules! by_scheme {
-    ($scheme:expr, $call:ident($($argument:expr),*)) => {
-        match $scheme {
-            Scheme::Mixed => $call::<VersioningRef<'_>>($($argument),*),
-            Scheme::Deb => $call::<ByKey<Deb<'_>>>($($argument),*),
-            Scheme::Rpm => $call::<ByKey<Rpm<'_>>>($($argument),*),
-            Scheme::Pypi => $call::<ByKey<Pypi<'_>>>($($argument),*),
-            Scheme::SemVer => $call::<ByKey<SemVer<'_>>>($($argument),*),
-            Scheme::Gem => $call::<ByKey<Gem<'_>>>($($argument),*),
-        }
-    };
-}
-
-pub(crate) use by_scheme;
+use version_schemes::{Scheme, by_scheme, write_key};
+use version_texts::Keyed;
 
 /// Writes the number of the scheme that has a name.
 #[unsafe(no_mangle)]

@@ -13,13 +13,30 @@ ghost use Rattle.versions_c.specs.Sets.{has_code, has_status, interval_status, s
 ghost use Rattle.versions_c.specs.Written.{IsWritten};
 
 use crate::offsets::{answer_each, are_offsets};
-use crate::schemes::by_scheme;
 use crate::status::{
     BAD_OFFSETS, NO_FORM, NO_INTERVAL, NO_ROOM, NO_SCHEME, NO_VERSION, OK, OTHER_SCHEME,
 };
-use version_schemes::{ByKey, Deb, Gem, Pypi, Rpm, Scheme, SemVer};
+use version_schemes::{Scheme, by_scheme};
 use version_sets::{Form, Merge, Rule, write_merge};
-use version_texts::{Keyed, VersioningRef};
+use version_texts::Keyed;
+
+/// Writes the number of the scheme of a set.
+#[unsafe(no_mangle)]
+pub extern "C" fn versions_set_scheme(form: &[u8], scheme: &mut u32) -> i32
+    ensures scheme { (number : ℕ) (ends : List (List ℕ)) → form.now ≡ form_bytes number ends
+        → (result ≡ scheme_status (numbered number)) × (result ≡ OK → scheme.new ≡ number) }
+    ensures kept { result ≢ OK → scheme.new ≡ scheme.old }
+{
+    let Some((number, _)) = Form::of(form) else {
+        return NO_FORM;
+    };
+    let number = u32::from(number);
+    if Scheme::of_number(number).is_none() {
+        return NO_SCHEME;
+    }
+    *scheme = number;
+    OK
+}
 
 /// Writes whether a version of its scheme is in a set.
 #[unsafe(no_mangle)]

@@ -13,11 +13,11 @@ ghost use Rattle.versions_c.specs.Schemes.{reading_by, room_by};
 ghost use Rattle.versions_c.specs.Sets.{reason_code, wrong_set_status, IsRead};
 ghost use Rattle.versions_c.specs.Written.{IsWritten};
 
-use crate::schemes::{by_scheme, write_text};
+use crate::schemes::write_text;
 use crate::status::{NO_ROOM, NO_SCHEME, NO_SET, NO_VERSION, NO_WRONG_MEMBER, OK};
-use version_schemes::{ByKey, Deb, Gem, Pypi, Rpm, Scheme, SemVer};
+use version_schemes::{ByKey, Deb, Gem, Pypi, Rpm, Scheme, SemVer, VersioningRef, by_scheme};
 use version_sets::{Fault, Reason, Unread, find_fault, read_set, set_room, write_tied};
-use version_texts::{Keyed, Slip, VersioningRef};
+use version_texts::{Keyed, Slip};
 
 /// A member has to come.
 pub const NO_MEMBER: u32 = 1;
@@ -41,6 +41,8 @@ pub const LETTER_V: u32 = 9;
 pub const PART_X: u32 = 10;
 /// The version has no digit.
 pub const NO_DIGIT: u32 = 11;
+/// `<<` or `>>` stands in a set of another scheme than Debian's.
+pub const NOT_DOUBLED: u32 = 12;
 
 /// Writes the form of a set of a scheme that a text is.
 #[unsafe(no_mangle)]
@@ -71,7 +73,14 @@ fn put_set(scheme: Scheme, text: &[u8], form: &mut [u8], form_len: &mut usize) -
     ensures no_length { result ≢ OK → result ≢ NO_ROOM → form_len.new ≡ form_len.old }
 {
     let number = scheme.number();
-    by_scheme!(scheme, put_set_of(number, text, form, form_len))
+    match scheme {
+        Scheme::Mixed => put_set_of::<VersioningRef<'_>>(number, text, form, form_len),
+        Scheme::Deb => put_set_of::<ByKey<Deb<'_>>>(number, text, form, form_len),
+        Scheme::Rpm => put_set_of::<ByKey<Rpm<'_>>>(number, text, form, form_len),
+        Scheme::Pypi => put_set_of::<ByKey<Pypi<'_>>>(number, text, form, form_len),
+        Scheme::SemVer => put_set_of::<ByKey<SemVer<'_>>>(number, text, form, form_len),
+        Scheme::Gem => put_set_of::<ByKey<Gem<'_>>>(number, text, form, form_len),
+    }
 }
 
 // Writes the form of a set that a text is, with a number for its order.
@@ -81,7 +90,7 @@ fn put_set_of<'t, V: Keyed<'t>>(
     form: &mut [u8],
     form_len: &mut usize,
 ) -> i32
-    ensures set { IsRead (record { read_as = V.read_as; parts = V.parts; most = V.most }) order
+    ensures set { IsRead (record { read_as = V.read_as; words = V.words; most = V.most }) order
         text.now form.old form.new form_len.new result }
     ensures status { result ≢ NO_SCHEME }
     ensures no_length { result ≢ OK → result ≢ NO_ROOM → form_len.new ≡ form_len.old }
@@ -208,6 +217,7 @@ fn reason_code(reason: Reason) -> u32
         Reason::StarBehind => STAR,
         Reason::NotBare => NOT_BARE,
         Reason::NoParts => NO_PARTS,
+        Reason::NotDoubled => NOT_DOUBLED,
         Reason::Slip(Slip::LetterV) => LETTER_V,
         Reason::Slip(Slip::PartX) => PART_X,
         Reason::Slip(Slip::NoDigit) => NO_DIGIT,

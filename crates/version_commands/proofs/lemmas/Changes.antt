@@ -7,7 +7,7 @@ use Rattle.version_commands.specs.Inputs.{joined, AreInputs, IsInput, Reading}
 use Rattle.version_commands.specs.Lists.{bad_lines_of, difference_text, names_of, rows_of}
 use Rattle.version_commands.specs.Output.{AreChanges}
 use Rattle.version_commands.specs.Picked.{bad_lines, AreBadOf}
-use Rattle.version_commands.specs.Place.{text_of}
+use Rattle.version_commands.specs.Place.{reads_of}
 use Rattle.version_commands.specs.declared.faults.Fault.{Fault}
 use Rattle.version_commands.specs.declared.faults.Fault.TheVariants.{BadLine}
 use Rattle.version_commands.specs.declared.options.Invalid.TheVariants.{Fail}
@@ -47,7 +47,7 @@ are-changes lists reads old between new first second before after output read is
 -- a list's lines without a version, by what the list holds
 pub input-bad : (lists : Lists) (text input : List ℕ) (bad : BadLines)
     → input ≡ joined lists.end (text ∷ [])
-    → AreBadOf (text_of lists.place) (lines_of lists.end input) bad
+    → AreBadOf (reads_of lists.place) (lines_of lists.end input) bad
     → (fault : Fault) → ComesOfBad lists.invalid lists.place.crlf bad fault
     → ComesOfOne lists text fault
 input-bad lists text input bad whole are fault is = grind (arith, lines-bad)
@@ -55,10 +55,10 @@ input-bad lists text input bad whole are fault is = grind (arith, lines-bad)
 -- where none is left, each line of the list has a version
 pub input-good : (lists : Lists) (text input : List ℕ) (bad : BadLines)
     → input ≡ joined lists.end (text ∷ [])
-    → AreBadOf (text_of lists.place) (lines_of lists.end input) bad → bad.lines.items ≡ []
+    → AreBadOf (reads_of lists.place) (lines_of lists.end input) bad → bad.lines.items ≡ []
     → bad_lines_of lists text ≡ []
 input-good lists text input bad whole (same, before) none =
-    ap (λ (i : List ℕ). bad_lines (text_of lists.place) (lines_of lists.end i)) (sym whole)
+    ap (λ (i : List ℕ). bad_lines (reads_of lists.place) (lines_of lists.end i)) (sym whole)
     ∙ sym same ∙ ap (map (λ (line : Bor (List ℕ)). line.now)) none
 
 -- so the faults of the lines without a version of a list are those of the two, if they are so for what

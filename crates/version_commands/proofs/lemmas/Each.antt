@@ -3,7 +3,7 @@ use Rattle.std.proofs.Common.{◌≡◌, ◌<◌, ℕ, true, Bor, List, [], ◌�
 use Rattle.std.proofs.lemmas.List.{drop_more}
 use Rattle.std.specs.Io.KnownBytes.{Consumes, IsAtEnd}
 use Rattle.version_commands.specs.Cause.{ComesOfAnswering, ComesOfAsking}
-use Rattle.version_commands.specs.Each.{AnsweredOr, AreAnswered, AreTexts, AreTextsOf, HaveAnswered, IsAnswer}
+use Rattle.version_commands.specs.Each.{AnsweredOr, AreAnswered, AreTexts, AreTextsOf, HaveAnswered, IsAnswer, scheme_of}
 use Rattle.version_commands.specs.Fault.{first_wrong}
 use Rattle.version_commands.specs.Pieces.{Adds}
 use Rattle.version_commands.specs.Place.{line_text}
@@ -12,12 +12,13 @@ use Rattle.version_commands.specs.declared.faults.Fault.{Fault}
 use Rattle.version_commands.specs.declared.options.EachOptions.{EachOptions}
 use Rattle.version_commands.specs.declared.options.Question.{Question}
 use Rattle.version_lines.specs.Lines.{lines_of}
-use Rattle.version_rules.specs.grammar.Versioning.{PlainVersioning, versioning_of}
+use Rattle.version_schemes.specs.any.Order.{PlainAny, any_of}
+use Rattle.version_schemes.specs.declared.scheme.Scheme.{Scheme}
 
 -- one more answer after the others
 answered-push : (question : Question) (end : ℕ) (texts : List (List ℕ)) (text : List ℕ)
-    (v : PlainVersioning) (answers answer : List ℕ) → AreAnswered question end texts answers
-    → versioning_of text ≡ Some v → IsAnswer question end v true answer
+    (v : PlainAny) (answers answer : List ℕ) → AreAnswered question end texts answers
+    → any_of (scheme_of question) text ≡ Some v → IsAnswer question end v true answer
     → AreAnswered question end (texts ++ text ∷ []) (answers ++ answer)
 answered-push question end [] text v answers answer none some is =
     (v, answer, [], some, is, refl, ap (λ (a : List ℕ). a ++ answer) none ∙ sym (append-nil answer))
@@ -34,8 +35,8 @@ answered-push question end (t ∷ texts) text v answers answer
 
 -- one more answer after the answers so far
 pub have-next : (first now after : Answers) (texts : List (List ℕ)) (text : List ℕ)
-    (v : PlainVersioning) → HaveAnswered first now texts → now.unanswered ≡ None
-    → versioning_of text ≡ Some v
+    (v : PlainAny) → HaveAnswered first now texts → now.unanswered ≡ None
+    → any_of (scheme_of now.question) text ≡ Some v
     → Adds (IsAnswer now.question now.end v true) now.output.items after.output.items
     → after.question ≡ now.question → after.end ≡ now.end → after.crlf ≡ now.crlf
     → after.unanswered ≡ None → HaveAnswered first after (texts ++ text ∷ [])
@@ -75,16 +76,16 @@ word-texts options old (word ∷ words) same some =
     same (refl, refl)
 
 -- the first of some words that is none, from a place on
-pub wrong-next : (words : List (Bor (List ℕ))) (i : ℕ) (d : Bor (List ℕ)) (v : PlainVersioning)
-    → i < length words → versioning_of (get_or words i d).now ≡ Some v
-    → first_wrong (map (λ word. word.now) (drop i words))
-    ≡ first_wrong (map (λ word. word.now) (drop (i + 1) words))
-wrong-next words i d v inside some = grind (arith, drop_more)
+pub wrong-next : (scheme : Scheme) (words : List (Bor (List ℕ))) (i : ℕ) (d : Bor (List ℕ)) (v : PlainAny)
+    → i < length words → any_of scheme (get_or words i d).now ≡ Some v
+    → first_wrong scheme (map (λ word. word.now) (drop i words))
+    ≡ first_wrong scheme (map (λ word. word.now) (drop (i + 1) words))
+wrong-next scheme words i d v inside some = grind (arith, drop_more)
 
-pub wrong-here : (words : List (Bor (List ℕ))) (i : ℕ) (d : Bor (List ℕ)) → i < length words
-    → versioning_of (get_or words i d).now ≡ None
-    → first_wrong (map (λ word. word.now) (drop i words)) ≡ Some (get_or words i d).now
-wrong-here words i d inside none = grind (arith, drop_more)
+pub wrong-here : (scheme : Scheme) (words : List (Bor (List ℕ))) (i : ℕ) (d : Bor (List ℕ)) → i < length words
+    → any_of scheme (get_or words i d).now ≡ None
+    → first_wrong scheme (map (λ word. word.now) (drop i words)) ≡ Some (get_or words i d).now
+wrong-here scheme words i d inside none = grind (arith, drop_more)
 
 -- and else those of the lines
 pub line-texts : (options : EachOptions) (old new : Option (List ℕ)) (input : List ℕ)

@@ -4,13 +4,14 @@ use Rattle.version_commands.specs.Fault.{ComesOfBad, ComesOfBadAfter, ComesOfLin
 use Rattle.version_commands.specs.Picked.{bad_lines, AreBadOf}
 use Rattle.std.specs.List.{Contains}
 use Rattle.version_commands.specs.Inputs.{Reading}
+use Rattle.version_lines.specs.Sort.{Reads}
 use Rattle.version_commands.specs.declared.options.Invalid.{Invalid}
 use Rattle.version_commands.specs.declared.pick.BadLines.{BadLines}
 use Rattle.version_commands.specs.declared.faults.Fault.{Fault}
 use Rattle.version_commands.specs.declared.faults.Fault.TheVariants.{NotVersion, NotRequirement, NotSet, NotTested, NotTestedSet, BadLine, NoNext, Memory, Read, Write}
 
 -- the faults of lines without a version, by the lines themselves
-pub lines-bad : (invalid : Invalid) (crlf : Bool) (at : List ℕ → List ℕ) (lines : List (List ℕ))
+pub lines-bad : (invalid : Invalid) (crlf : Bool) (at : Reads) (lines : List (List ℕ))
     (bad : BadLines) → AreBadOf at lines bad → (fault : Fault) → ComesOfBad invalid crlf bad fault
     → ComesOfLines invalid crlf at lines fault
 lines-bad invalid crlf at lines bad (same, before) fault is =

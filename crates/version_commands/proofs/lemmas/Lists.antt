@@ -1,5 +1,5 @@
 -- The first row of each name, one row after another.
-use Rattle.std.proofs.Common.{◌≡◌, ◌∙◌, ℕ, Bool, true, false, List, [], ◌∷◌, ◌++◌, ◌⊎◌, ◌≤◌, drop, length, Option, Some, None, append_assoc, append-nil, if◌then◌else◌, is_some, refl, ap, arith}
+use Rattle.std.proofs.Common.{◌≡◌, ◌∙◌, ℕ, Bool, true, false, List, [], ◌∷◌, ◌++◌, ◌⊎◌, ◌≤◌, drop, length, Option, Some, None, append_assoc, append-nil, if◌then◌else◌, is_some, map, refl, ap, arith, sym}
 use Rattle.std.proofs.lemmas.Bool.{cases_Bool}
 use Rattle.std.proofs.lemmas.List.{drop_all, map-append}
 use Rattle.std.proofs.lemmas.List.Folds.{flat_map-map}
@@ -13,19 +13,20 @@ use Rattle.std.specs.Ordering.{nat_cmp}
 use Rattle.std.specs.Str.{bytes_eq}
 use Rattle.version_commands.specs.Lists.{AreNames, Row, first_after, first_rows, lines_against, plain_row, rows_of_line, version_of}
 use Rattle.version_commands.specs.Picked.{has, kept_lines}
-use Rattle.version_commands.specs.Place.{text_of}
+use Rattle.version_commands.specs.Place.{reads_of}
 use Rattle.version_commands.specs.declared.options.Lists.{Lists}
 use Rattle.version_commands.specs.declared.lists.Named.{Named}
 use Rattle.version_commands.specs.declared.lists.Names.{Names}
-use Rattle.version_rules.specs.grammar.Versioning.{PlainVersioning, versioning_of}
-use Rattle.version_texts.specs.versioning_ref.VersioningRef.{plain_versioning_ref}
-use Rattle.version_texts.specs.declared.versioning_ref.VersioningRef.{VersioningRef}
+use Rattle.version_lines.specs.Sort.{version_in}
+use Rattle.version_schemes.specs.any.AnyVersion.{plain_any}
+use Rattle.version_schemes.specs.any.Order.{PlainAny}
+use Rattle.version_schemes.specs.declared.any.AnyVersion.{AnyVersion}
 
 -- the version of a name, if a row has it
-abbrev pub version_at : Row → List ℕ → Option PlainVersioning
+abbrev pub version_at : Row → List ℕ → Option PlainAny
 version_at row name = if bytes_eq row.0 name then Some row.1 else None
 
-chosen : (test : Bool) (v : PlainVersioning) (o other : Option PlainVersioning)
+chosen : (test : Bool) (v : PlainAny) (o other : Option PlainAny)
     → (if test then Some v else option_or o other)
     ≡ option_or (if test then Some v else o) other
 chosen true v o other = refl
@@ -36,7 +37,7 @@ pub version_of-more : (rows : List Row) (row : Row) (name : List ℕ)
     → version_of (rows ++ row ∷ []) name ≡ option_or (version_of rows name) (version_at row name)
 version_of-more [] row name = refl
 version_of-more (first ∷ rows) row name =
-    ap (λ (o : Option PlainVersioning). if bytes_eq first.0 name then Some first.1 else o)
+    ap (λ (o : Option PlainAny). if bytes_eq first.0 name then Some first.1 else o)
     (version_of-more rows row name)
     ∙ chosen (bytes_eq first.0 name) first.1 (version_of rows name) (version_at row name)
 
@@ -73,24 +74,24 @@ first_rows-more rows row = first_after-more [] rows row
 
 -- ---- as they are held
 
-or_kept : (o other : Option PlainVersioning) → is_some o ≡ true → option_or o other ≡ o
+or_kept : (o other : Option PlainAny) → is_some o ≡ true → option_or o other ≡ o
 or_kept None other some = cc some
 or_kept (Some v) other some = refl
 
-or_none : (o : Option PlainVersioning) → option_or o None ≡ o
+or_none : (o : Option PlainAny) → option_or o None ≡ o
 or_none None = refl
 or_none (Some v) = refl
 
 -- what a map has for a name
-abbrev pub held : Names → List ℕ → Option VersioningRef
+abbrev pub held : Names → List ℕ → Option AnyVersion
 held names name = get_by (λ key. slice_cmp nat_cmp name key.now) names.versions
 
-is_some-mapped : (o : Option VersioningRef)
-    → is_some (option_map plain_versioning_ref o) ≡ is_some o
+is_some-mapped : (o : Option AnyVersion)
+    → is_some (option_map plain_any o) ≡ is_some o
 is_some-mapped None = refl
 is_some-mapped (Some v) = refl
 
-none_held : (o : Option PlainVersioning) → is_some o ≡ false → o ≡ None
+none_held : (o : Option PlainAny) → is_some o ≡ false → o ≡ None
 none_held None none = refl
 none_held (Some v) none = cc none
 
@@ -123,26 +124,36 @@ pub names_added : (rows : List Row) (named : Named) (names more : Names) → Are
     ≡ update bytes_eq (held names) named.name.now (Some named.version) name)
     → AreNames (rows ++ plain_row named ∷ []) more
 names_added rows named names more are lacks items put =
-    grind (
-      arith,
-      is_some-mapped,
-      map-append,
-      first_rows-more,
-      cases_Bool,
-      bytes_eq-Decides,
-      none_held,
-      version_of-more,
-      or_none,
-    )
+    let row = plain_row named in
+    let none : version_of rows row.0 ≡ None =
+    none_held _ (ap is_some (sym (are.versions row.0)) ∙ is_some-mapped (held names row.0) ∙ lacks) in
+    record {
+      order = ap (map plain_row) items ∙ map-append plain_row names.rows.items (named ∷ [])
+          ∙ ap (λ (l : List Row). l ++ row ∷ []) are.order
+          ∙ sym (first_rows-more rows row ∙ rw none refl);
+      versions = λ name. ap (option_map plain_any) (put name)
+          ∙ by name none (bytes_eq row.0 name) refl ∙ sym (version_of-more rows row name);
+    }
+  where
+    by : (name : List ℕ) → version_of rows (plain_row named).0 ≡ None → (test : Bool)
+        → bytes_eq (plain_row named).0 name ≡ test
+        → option_map plain_any (update bytes_eq (held names) named.name.now (Some named.version) name)
+        ≡ option_or (version_of rows name) (version_at (plain_row named) name)
+    by name none true same =
+        let one : (plain_row named).0 ≡ name = (bytes_eq-Decides _ _).0 same in
+        let unread : version_of rows name ≡ None = ap (version_of rows) (sym one) ∙ none in
+        rw (same, unread) refl
+    by name none false other =
+        rw other (are.versions name ∙ sym (or_none (version_of rows name)))
 
 -- ---- line by line
 
 -- the line for a name as it is held
-abbrev pub named_line : (Row → Option PlainVersioning → List ℕ) → List Row → Named → List ℕ
+abbrev pub named_line : (Row → Option PlainAny → List ℕ) → List Row → Named → List ℕ
 named_line line others named = line (plain_row named) (version_of others named.name.now)
 
 -- once none is left, the lines for all names were added
-pub all_lines : (line : Row → Option PlainVersioning → List ℕ) (others rows : List Row)
+pub all_lines : (line : Row → Option PlainAny → List ℕ) (others rows : List Row)
     → (names : Names) (i : ℕ) (before now : List ℕ) → AreNames rows names
     → length names.rows.items ≤ i
     → now ++ flat_map (named_line line others) (drop i names.rows.items)
@@ -153,21 +164,21 @@ all_lines line others rows names i before now are end whole =
 
 -- ---- a list, read line by line
 
-row-kept : (lists : Lists) (line : List ℕ) (others : List (List ℕ)) (v : Option PlainVersioning)
-    → versioning_of (text_of lists.place line) ≡ v
-    → flat_map (rows_of_line lists) (kept_lines (text_of lists.place) (λ w. true) others)
+row-kept : (lists : Lists) (line : List ℕ) (others : List (List ℕ)) (v : Option PlainAny)
+    → version_in (reads_of lists.place) line ≡ v
+    → flat_map (rows_of_line lists) (kept_lines (reads_of lists.place) (λ w. true) others)
     ≡ flat_map (rows_of_line lists) others
-    → flat_map (rows_of_line lists) (kept_lines (text_of lists.place) (λ w. true) (line ∷ others))
+    → flat_map (rows_of_line lists) (kept_lines (reads_of lists.place) (λ w. true) (line ∷ others))
     ≡ flat_map (rows_of_line lists) (line ∷ others)
 row-kept lists line others None is rest = rw is rest
 row-kept lists line others (Some v) is rest =
-    let kept : has (λ w. true) (text_of lists.place line) ≡ true = rw is refl in
+    let kept : has (λ w. true) (reads_of lists.place) line ≡ true = rw is refl in
     rw kept (ap (λ (l : List Row). rows_of_line lists line ++ l) rest)
 
 -- lines without a version name nothing
 pub rows-kept : (lists : Lists) (lines : List (List ℕ))
-    → flat_map (rows_of_line lists) (kept_lines (text_of lists.place) (λ w. true) lines)
+    → flat_map (rows_of_line lists) (kept_lines (reads_of lists.place) (λ w. true) lines)
     ≡ flat_map (rows_of_line lists) lines
 rows-kept lists [] = refl
 rows-kept lists (line ∷ lines) =
-    row-kept lists line lines (versioning_of (text_of lists.place line)) refl (rows-kept lists lines)
+    row-kept lists line lines (version_in (reads_of lists.place) line) refl (rows-kept lists lines)

@@ -7,7 +7,7 @@ use Rattle.version_commands.specs.Fault.{ComesOfPut}
 use Rattle.version_commands.specs.Inputs.{joined, names_read, AreInputs, Reading}
 use Rattle.version_commands.specs.Ordered.{arranged_in, kept_in, kept_line, IsArranged, IsOrdered, IsPlaced}
 use Rattle.version_commands.specs.Picked.{bad_lines, has, kept_lines}
-use Rattle.version_commands.specs.Place.{text_of}
+use Rattle.version_commands.specs.Place.{reads_of}
 use Rattle.version_commands.specs.declared.choice.Chooser.{Chooser}
 use Rattle.version_commands.specs.declared.faults.Fault.{Fault}
 use Rattle.version_commands.specs.declared.faults.Fault.TheVariants.{NotVersion, NotRequirement, NotSet, NotTested, NotTestedSet, BadLine, NoNext, Memory, Read, Write}
@@ -16,84 +16,85 @@ use Rattle.version_commands.specs.declared.options.Invalid.TheVariants.{Fail, Sk
 use Rattle.version_commands.specs.declared.options.LineOptions.{LineOptions}
 use Rattle.version_lines.specs.Lines.{lines_of, lines_output, output_by, whole_line}
 use Rattle.version_lines.proofs.lemmas.Sorting.{by_test}
-use Rattle.version_rules.specs.grammar.Versioning.{PlainVersioning}
+use Rattle.version_lines.specs.Sort.{Reads}
+use Rattle.version_schemes.specs.any.Order.{PlainAny}
+use Rattle.version_schemes.specs.declared.scheme.Scheme.TheVariants.{Mixed}
 
 -- the lines without a version that were found, and those that stand in order, are those of the input
-pub is-arranged : (text_of : List ℕ → List ℕ) (options : LineOptions) (input : List ℕ)
+pub is-arranged : (reads : Reads) (options : LineOptions) (input : List ℕ)
     (bad rows lines : List (List ℕ)) (leaves : Option (List ℕ × List ℕ) → Type 0)
-    (output : List ℕ) → bad ≡ bad_lines text_of (lines_of options.end input) → rows ≡ lines
+    (output : List ℕ) → bad ≡ bad_lines reads (lines_of options.end input) → rows ≡ lines
     → (policy options ≡ Fail → bad ≡ []) → IsPlaced options bad rows leaves output
-    → IsArranged text_of options input lines leaves output
-is-arranged text_of options input bad rows lines leaves output none are good placed = grind arith
+    → IsArranged reads options input lines leaves output
+is-arranged reads options input bad rows lines leaves output none are good placed = grind arith
 
 -- lines that are written as they are read are those that are kept
-written-at-once : (text_of : List ℕ → List ℕ) (keeps : PlainVersioning → Bool) (end : ℕ)
+written-at-once : (reads : Reads) (keeps : PlainAny → Bool) (end : ℕ)
     (lines : List (List ℕ))
-    → flat_map (kept_line text_of keeps end) lines
-    ≡ lines_output (whole_line end) (kept_lines text_of keeps lines)
-written-at-once text_of keeps end [] = refl
-written-at-once text_of keeps end (line ∷ lines) =
-    let others = written-at-once text_of keeps end lines in
-    by_test (has keeps (text_of line))
+    → flat_map (kept_line reads keeps end) lines
+    ≡ lines_output (whole_line end) (kept_lines reads keeps lines)
+written-at-once reads keeps end [] = refl
+written-at-once reads keeps end (line ∷ lines) =
+    let others = written-at-once reads keeps end lines in
+    by_test (has keeps reads line)
     (λ passes. rw passes (ap (λ (l : List ℕ). whole_line end line ++ l) others))
     (λ fails. rw fails others)
 
-pub at-once : (text_of : List ℕ → List ℕ) (keeps : PlainVersioning → Bool) (options : LineOptions)
+pub at-once : (reads : Reads) (keeps : PlainAny → Bool) (options : LineOptions)
     (input : List ℕ) (leaves : Option (List ℕ × List ℕ) → Type 0) → options.invalid ≡ Skip
     → options.invalid_to ≡ None → leaves None → (output : List ℕ)
-    → output ≡ output_by options.end (kept_line text_of keeps options.end) input
-    → IsArranged text_of options input (kept_in text_of keeps options input) leaves output
-at-once text_of keeps options input leaves skips no_file left output is =
+    → output ≡ output_by options.end (kept_line reads keeps options.end) input
+    → IsArranged reads options input (kept_in reads keeps options input) leaves output
+at-once reads keeps options input leaves skips no_file left output is =
     grind (arith, written-at-once)
 
 -- the file for lines without a version is to blame
-pub put-faults : (options : LineOptions) (text_of : List ℕ → List ℕ) (input : List ℕ)
-    (fault : Fault) → ComesOfPut options fault → ComesOfArranged options text_of input fault
-put-faults options text_of input (NotVersion text) is = absurd is
-put-faults options text_of input (NotRequirement text) is = absurd is
-put-faults options text_of input (NotSet wrong) is = absurd is
-put-faults options text_of input (NotTested text) is = absurd is
-put-faults options text_of input (NotTestedSet wrong) is = absurd is
-put-faults options text_of input (BadLine number text ends more) is = absurd is
-put-faults options text_of input (NoNext text) is = absurd is
-put-faults options text_of input Memory is = is
-put-faults options text_of input (Read name) is = absurd is
-put-faults options text_of input (Write name) is = is
+pub put-faults : (options : LineOptions) (reads : Reads) (input : List ℕ)
+    (fault : Fault) → ComesOfPut options fault → ComesOfArranged options reads input fault
+put-faults options reads input (NotVersion text) is = absurd is
+put-faults options reads input (NotRequirement text) is = absurd is
+put-faults options reads input (NotSet wrong) is = absurd is
+put-faults options reads input (NotTested text) is = absurd is
+put-faults options reads input (NotTestedSet wrong) is = absurd is
+put-faults options reads input (BadLine number text ends more) is = absurd is
+put-faults options reads input (NoNext text) is = absurd is
+put-faults options reads input Memory is = is
+put-faults options reads input (Read name) is = absurd is
+put-faults options reads input (Write name) is = is
 
 -- where each line is its version and each version is kept, nothing has to be asked
 module _ (options : LineOptions) (chooser : Chooser) (arrangement : Arrangement) (input : List ℕ)
-    (whole : (line : List ℕ) → text_of options.place line ≡ line)
-    (all : (v : PlainVersioning) → is_kept chooser v ≡ true) where
-  pub lines-alike : arranged_in (λ line. line) (λ v. true) arrangement options input
-      ≡ arranged_in (text_of options.place) (is_kept chooser) arrangement options input
-  lines-alike = sym (λ i.
-      arranged_in (λ line. whole line i) (λ v. all v i) arrangement options input)
+    (whole : reads_of options.place ≡ record { scheme = Mixed; text_of = λ line. line })
+    (all : (v : PlainAny) → is_kept chooser v ≡ true) where
+  pub lines-alike : arranged_in (record { scheme = Mixed; text_of = λ line. line }) (λ v. true) arrangement options input
+      ≡ arranged_in (reads_of options.place) (is_kept chooser) arrangement options input
+  lines-alike = sym (λ i. arranged_in (whole i) (λ v. all v i) arrangement options input)
 
 -- the end of a run whose inputs were read in turn, by how it ends with these
-module _ (arrangement : Arrangement) (options : LineOptions) (reads : Reading)
-    (old new : Option (List ℕ)) (leaves : Option (List ℕ × List ℕ) → Type 0) (keeps : PlainVersioning → Bool)
+module _ (arrangement : Arrangement) (options : LineOptions) (files : Reading)
+    (old new : Option (List ℕ)) (leaves : Option (List ℕ × List ℕ) → Type 0) (keeps : PlainAny → Bool)
     (texts : List (List ℕ)) (names : List (Bor (List ℕ))) (input : List ℕ)
     (same : names ≡ options.files.items)
-    (are : AreInputs reads old new (names_read (map (λ name. name.now) names)) texts)
-    (is : keeps_of options.choice arrangement ≡ Some keeps)
+    (are : AreInputs files old new (names_read (map (λ name. name.now) names)) texts)
+    (is : keeps_of options.place.scheme options.choice arrangement ≡ Some keeps)
     (whole : input ≡ joined options.end texts) where
-  read : AreInputs reads old new (names_read (map (λ name. name.now) options.files.items)) texts
+  read : AreInputs files old new (names_read (map (λ name. name.now) options.files.items)) texts
   read = subst (λ (n : List (Bor (List ℕ))).
-      AreInputs reads old new (names_read (map (λ name. name.now) n)) texts) same are
+      AreInputs files old new (names_read (map (λ name. name.now) n)) texts) same are
 
-  pub is-ordered : (output : List ℕ) → IsArranged (text_of options.place) options input
-      (arranged_in (text_of options.place) keeps arrangement options input) leaves output
-      → IsOrdered arrangement options reads old new leaves output
+  pub is-ordered : (output : List ℕ) → IsArranged (reads_of options.place) options input
+      (arranged_in (reads_of options.place) keeps arrangement options input) leaves output
+      → IsOrdered arrangement options files old new leaves output
   is-ordered output arranged = grind (arith, read)
 
-  since-read : (fault : Fault) → ComesOfArranged options (text_of options.place) input fault
+  since-read : (fault : Fault) → ComesOfArranged options (reads_of options.place) input fault
       → (end : Option (List ℕ)) × (given : List (List ℕ))
-      × AreInputs reads old end (names_read (map (λ name. name.now) options.files.items)) given
-      × ComesOfArranged options (text_of options.place) (joined options.end given) fault
+      × AreInputs files old end (names_read (map (λ name. name.now) options.files.items)) given
+      × ComesOfArranged options (reads_of options.place) (joined options.end given) fault
   since-read fault comes = grind (arith, read)
 
-  pub ordered-faults : (fault : Fault) → ComesOfArranged options (text_of options.place) input fault
-      → ComesOfArranging arrangement options reads old fault
+  pub ordered-faults : (fault : Fault) → ComesOfArranged options (reads_of options.place) input fault
+      → ComesOfArranging arrangement options files old fault
   ordered-faults (NotVersion text) comes = since-read (NotVersion text) comes
   ordered-faults (NotRequirement text) comes = since-read (NotRequirement text) comes
   ordered-faults (NotSet wrong) comes = absurd comes

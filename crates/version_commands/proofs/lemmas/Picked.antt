@@ -6,8 +6,8 @@ use Rattle.version_commands.specs.Picked.{AreBadOf, bad_lines, kept_lines, has}
 use Rattle.version_commands.specs.declared.pick.BadLines.{BadLines}
 use Rattle.version_lines.specs.Lines.{lines_of}
 use Rattle.version_lines.proofs.lemmas.Sorting.{by_test}
-use Rattle.version_lines.specs.Sort.{is_bad}
-use Rattle.version_rules.specs.grammar.Versioning.{PlainVersioning, versioning_of}
+use Rattle.version_lines.specs.Sort.{Reads, is_bad, version_in}
+use Rattle.version_schemes.specs.any.Order.{PlainAny}
 
 -- an element that passes a test, and one that does not, after others
 pub filter-pass : {X : Type 0} (p : X → Bool) (xs : List X) (x : X) → p x ≡ true
@@ -51,29 +51,29 @@ before-stays bad (y ∷ ys) x some =
     rw other (ap (λ (n : ℕ). 1 + n) (before-stays bad ys x rest)))
 
 -- the lines before a place are picked, the lines after it are not yet
-pub record IsPicked (text_of : List ℕ → List ℕ) (keeps : PlainVersioning → Bool) (end : ℕ)
+pub record IsPicked (reads : Reads) (keeps : PlainAny → Bool) (end : ℕ)
     (input rest : List ℕ) (kept : List (List ℕ)) (bad : BadLines) : Type 0 where
   pub done : List (List ℕ)
   pub lines : lines_of end input ≡ done ++ lines_of end rest
-  pub kept_are : kept ≡ kept_lines text_of keeps done
-  pub bad_are : AreBadOf text_of done bad
+  pub kept_are : kept ≡ kept_lines reads keeps done
+  pub bad_are : AreBadOf reads done bad
   pub fits : bad.before + length rest ≤ length input
 
 -- none is picked
-pub picked-start : (text_of : List ℕ → List ℕ) (keeps : PlainVersioning → Bool) (end : ℕ)
+pub picked-start : (reads : Reads) (keeps : PlainAny → Bool) (end : ℕ)
     (input : List ℕ) (kept : List (List ℕ)) (bad : BadLines) → kept ≡ []
-    → AreBadOf text_of [] bad → IsPicked text_of keeps end input input kept bad
-picked-start text_of keeps end input kept bad none bad_are = grind arith
+    → AreBadOf reads [] bad → IsPicked reads keeps end input input kept bad
+picked-start reads keeps end input kept bad none bad_are = grind arith
 
 -- one line more
-picked-next : (text_of : List ℕ → List ℕ) (keeps : PlainVersioning → Bool) (end : ℕ)
+picked-next : (reads : Reads) (keeps : PlainAny → Bool) (end : ℕ)
     (input rest after line : List ℕ) (kept longer : List (List ℕ)) (bad now : BadLines)
-    (so_far : IsPicked text_of keeps end input rest kept bad)
+    (so_far : IsPicked reads keeps end input rest kept bad)
     → lines_of end rest ≡ line ∷ lines_of end after → length after < length rest
-    → longer ≡ kept_lines text_of keeps (so_far.done ++ line ∷ [])
-    → AreBadOf text_of (so_far.done ++ line ∷ []) now → now.before ≤ bad.before + 1
-    → IsPicked text_of keeps end input after longer now
-picked-next text_of keeps end input rest after line kept longer bad now so_far first shorter
+    → longer ≡ kept_lines reads keeps (so_far.done ++ line ∷ [])
+    → AreBadOf reads (so_far.done ++ line ∷ []) now → now.before ≤ bad.before + 1
+    → IsPicked reads keeps end input after longer now
+picked-next reads keeps end input rest after line kept longer bad now so_far first shorter
     kept_now bad_now step = record {
       done = so_far.done ++ line ∷ [];
       lines = so_far.lines ∙ ap (λ (l : List (List ℕ)). so_far.done ++ l) first
@@ -84,55 +84,55 @@ picked-next text_of keeps end input rest after line kept longer bad now so_far f
     }
 
 -- one that is left out
-pub picked-left : (text_of : List ℕ → List ℕ) (keeps : PlainVersioning → Bool) (end : ℕ)
+pub picked-left : (reads : Reads) (keeps : PlainAny → Bool) (end : ℕ)
     (input rest after line : List ℕ) (kept : List (List ℕ)) (bad now : BadLines)
-    (v : PlainVersioning) → IsPicked text_of keeps end input rest kept bad
+    (v : PlainAny) → IsPicked reads keeps end input rest kept bad
     → lines_of end rest ≡ line ∷ lines_of end after → length after < length rest
-    → versioning_of (text_of line) ≡ Some v → keeps v ≡ false
-    → ((of : List ℕ → List ℕ) → (lines : List (List ℕ)) → (l : List ℕ) → is_bad (of l) ≡ false
+    → version_in reads line ≡ Some v → keeps v ≡ false
+    → ((of : Reads) → (lines : List (List ℕ)) → (l : List ℕ) → is_bad of l ≡ false
     → AreBadOf of lines bad → AreBadOf of (lines ++ l ∷ []) now)
-    → now.before ≤ bad.before + 1 → IsPicked text_of keeps end input after kept now
-picked-left text_of keeps end input rest after line kept bad now v so_far first shorter some out
+    → now.before ≤ bad.before + 1 → IsPicked reads keeps end input after kept now
+picked-left reads keeps end input rest after line kept bad now v so_far first shorter some out
     passed step =
-    let good : is_bad (text_of line) ≡ false = rw some refl in
-    let left : has keeps (text_of line) ≡ false = rw some out in
-    picked-next text_of keeps end input rest after line kept kept bad now so_far first shorter
+    let good : is_bad reads line ≡ false = rw some refl in
+    let left : has keeps reads line ≡ false = rw some out in
+    picked-next reads keeps end input rest after line kept kept bad now so_far first shorter
     (so_far.kept_are
-    ∙ sym (filter-fail (λ l. has keeps (text_of l)) so_far.done line left))
-    (passed text_of so_far.done line good so_far.bad_are) step
+    ∙ sym (filter-fail (has keeps reads) so_far.done line left))
+    (passed reads so_far.done line good so_far.bad_are) step
 
 -- one that is kept
-pub picked-kept : (text_of : List ℕ → List ℕ) (keeps : PlainVersioning → Bool) (end : ℕ)
+pub picked-kept : (reads : Reads) (keeps : PlainAny → Bool) (end : ℕ)
     (input rest after line : List ℕ) (kept longer : List (List ℕ)) (bad now : BadLines)
-    (v : PlainVersioning) → IsPicked text_of keeps end input rest kept bad
+    (v : PlainAny) → IsPicked reads keeps end input rest kept bad
     → lines_of end rest ≡ line ∷ lines_of end after → length after < length rest
-    → versioning_of (text_of line) ≡ Some v → keeps v ≡ true → longer ≡ kept ++ line ∷ []
-    → ((of : List ℕ → List ℕ) → (lines : List (List ℕ)) → (l : List ℕ) → is_bad (of l) ≡ false
+    → version_in reads line ≡ Some v → keeps v ≡ true → longer ≡ kept ++ line ∷ []
+    → ((of : Reads) → (lines : List (List ℕ)) → (l : List ℕ) → is_bad of l ≡ false
     → AreBadOf of lines bad → AreBadOf of (lines ++ l ∷ []) now)
-    → now.before ≤ bad.before + 1 → IsPicked text_of keeps end input after longer now
-picked-kept text_of keeps end input rest after line kept longer bad now v so_far first shorter some
+    → now.before ≤ bad.before + 1 → IsPicked reads keeps end input after longer now
+picked-kept reads keeps end input rest after line kept longer bad now v so_far first shorter some
     stays added passed step =
-    let good : is_bad (text_of line) ≡ false = rw some refl in
-    let here : has keeps (text_of line) ≡ true = rw some stays in
-    picked-next text_of keeps end input rest after line kept longer bad now so_far first shorter
+    let good : is_bad reads line ≡ false = rw some refl in
+    let here : has keeps reads line ≡ true = rw some stays in
+    picked-next reads keeps end input rest after line kept longer bad now so_far first shorter
     (added ∙ ap (λ (l : List (List ℕ)). l ++ line ∷ []) so_far.kept_are
-    ∙ sym (filter-pass (λ l. has keeps (text_of l)) so_far.done line here))
-    (passed text_of so_far.done line good so_far.bad_are) step
+    ∙ sym (filter-pass (has keeps reads) so_far.done line here))
+    (passed reads so_far.done line good so_far.bad_are) step
 
 -- where no line is bad, each has a version
-kept-first : (text_of : List ℕ → List ℕ) (line : List ℕ) (lines : List (List ℕ))
-    (v : Option PlainVersioning) → versioning_of (text_of line) ≡ v
-    → bad_lines text_of (line ∷ lines) ≡ []
-    → (bad_lines text_of lines ≡ [] → kept_lines text_of (λ w. true) lines ≡ lines)
-    → kept_lines text_of (λ w. true) (line ∷ lines) ≡ line ∷ lines
-kept-first text_of line lines None is none rest =
-    let bad : line ∷ bad_lines text_of lines ≡ [] = rw is at none in cc
-kept-first text_of line lines (Some v) is none rest =
-    let others : bad_lines text_of lines ≡ [] = rw is at none in
+kept-first : (reads : Reads) (line : List ℕ) (lines : List (List ℕ))
+    (v : Option PlainAny) → version_in reads line ≡ v
+    → bad_lines reads (line ∷ lines) ≡ []
+    → (bad_lines reads lines ≡ [] → kept_lines reads (λ w. true) lines ≡ lines)
+    → kept_lines reads (λ w. true) (line ∷ lines) ≡ line ∷ lines
+kept-first reads line lines None is none rest =
+    let bad : line ∷ bad_lines reads lines ≡ [] = rw is at none in cc
+kept-first reads line lines (Some v) is none rest =
+    let others : bad_lines reads lines ≡ [] = rw is at none in
     rw is (ap (λ (l : List (List ℕ)). line ∷ l) (rest others))
 
-pub all-kept : (text_of : List ℕ → List ℕ) (lines : List (List ℕ)) → bad_lines text_of lines ≡ []
-    → kept_lines text_of (λ w. true) lines ≡ lines
-all-kept text_of [] none = refl
-all-kept text_of (line ∷ lines) none =
-    kept-first text_of line lines (versioning_of (text_of line)) refl none (all-kept text_of lines)
+pub all-kept : (reads : Reads) (lines : List (List ℕ)) → bad_lines reads lines ≡ []
+    → kept_lines reads (λ w. true) lines ≡ lines
+all-kept reads [] none = refl
+all-kept reads (line ∷ lines) none =
+    kept-first reads line lines (version_in reads line) refl none (all-kept reads lines)

@@ -15,13 +15,11 @@ use Rattle.std.proofs.lemmas.List.Elements.{filter_passes}
 use Rattle.std.proofs.lemmas.List.Sorted.{ranks_by}
 use Rattle.std.proofs.lemmas.Slice.Eq.{bytes_eq-Decides}
 use Rattle.version_lines.specs.Newest.{are_of_one_group, first_after, first_of_each, first_of_ties, group_place, newest, newest_cmp}
-use Rattle.version_lines.specs.Sort.{lines_precedence}
+use Rattle.version_lines.specs.Sort.{Reads, lines_precedence, version_in}
 use Rattle.version_lines.specs.Sorting.{in_order, put_in_order, turned}
 use Rattle.version_lines.proofs.lemmas.Sorting.{AtLeast, Rises, below, by_test, in_order-map, in_order-rises, in_order-stable}
 use Rattle.version_lines.proofs.lemmas.Sorting.Turned.{turn-tie, turned_total}
-use Rattle.version_rules.specs.laws.Key.{precedence_total}
-use Rattle.version_rules.specs.key.Key.{key_of}
-use Rattle.version_rules.specs.grammar.Versioning.{versioning_of}
+use Rattle.version_schemes.proofs.lemmas.Any.{any_precedence_total}
 
 -- of the elements that are the same as z, the first
 
@@ -124,22 +122,22 @@ in_order-tied {X} R S total x run tied =
 
 -- the lines that are kept
 
-pub precedences_total : (text_of : List ℕ → List ℕ) → IsTotalOrder (lines_precedence text_of)
-precedences_total text_of =
-    on_total (λ line. versioning_of (text_of line)) (options_total (on_total key_of precedence_total))
+pub precedences_total : (reads : Reads) → IsTotalOrder (lines_precedence reads)
+precedences_total reads =
+    on_total (version_in reads) (options_total any_precedence_total)
 
 -- of the lines that tie with a line, the first
-pub first_of_ties-first : (reversed : Bool) (text_of : List ℕ → List ℕ) (lines : List (List ℕ))
+pub first_of_ties-first : (reversed : Bool) (reads : Reads) (lines : List (List ℕ))
     (line : List ℕ)
-    → filter (eq_by_cmp (lines_precedence text_of) line) (first_of_ties reversed text_of lines)
-    ≡ take 1 (filter (eq_by_cmp (lines_precedence text_of) line) lines)
-first_of_ties-first reversed text_of lines line =
-    let cmp = lines_precedence text_of in
+    → filter (eq_by_cmp (lines_precedence reads) line) (first_of_ties reversed reads lines)
+    ≡ take 1 (filter (eq_by_cmp (lines_precedence reads) line) lines)
+first_of_ties-first reversed reads lines line =
+    let cmp = lines_precedence reads in
     let R = turned reversed cmp in
-    let total : IsTotalOrder R = turned_total reversed cmp (precedences_total text_of) in
+    let total : IsTotalOrder R = turned_total reversed cmp (precedences_total reads) in
     let alike = λ (other : List ℕ). sym (turn-tie reversed (cmp line other))
     ∙ sym (ties-test R total line other) in
-    first_of_each-first (eq_by_cmp cmp) (eq_by_cmp_equiv (precedences_total text_of)) 1 line
+    first_of_each-first (eq_by_cmp cmp) (eq_by_cmp_equiv (precedences_total reads)) 1 line
     (in_order R lines)
     ∙ ap (take 1)
     (ap (λ (p : List ℕ → Bool). filter p (in_order R lines)) (λ i other. alike other i)
@@ -158,19 +156,19 @@ one_place group_of lines line other same =
     ap (nat_cmp place) there ∙ tied_itself nat_cmp_total place
 
 -- of the lines of a group, the newest
-pub newest-first : (count : ℕ) (group_of text_of : List ℕ → List ℕ) (lines : List (List ℕ))
+pub newest-first : (count : ℕ) (group_of : List ℕ → List ℕ) (reads : Reads) (lines : List (List ℕ))
     (line : List ℕ)
-    → filter (are_of_one_group group_of line) (newest count group_of text_of lines)
-    ≡ take count (in_order (turned true (lines_precedence text_of))
+    → filter (are_of_one_group group_of line) (newest count group_of reads lines)
+    ≡ take count (in_order (turned true (lines_precedence reads))
     (filter (are_of_one_group group_of line) lines))
-newest-first count group_of text_of lines line =
+newest-first count group_of reads lines line =
     let same = are_of_one_group group_of line in
     let places = on (group_place group_of lines) nat_cmp in
-    let newer = turned true (lines_precedence text_of) in
-    let R = newest_cmp group_of text_of lines in
+    let newer = turned true (lines_precedence reads) in
+    let R = newest_cmp group_of reads lines in
     let places_total : IsTotalOrder places = on_total (group_place group_of lines) nat_cmp_total in
     let total : IsTotalOrder R =
-    then_total places_total (turned_total true _ (precedences_total text_of)) in
+    then_total places_total (turned_total true _ (precedences_total reads)) in
     let tied : All (λ other. places line other ≡ Equal) (filter same lines) =
     λ k d inside. one_place group_of lines line _ (filter_passes same lines k d inside) in
     first_of_each-first (are_of_one_group group_of) (on_equiv group_of nat_list_eq_equiv) count line

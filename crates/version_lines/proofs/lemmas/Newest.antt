@@ -23,7 +23,7 @@ use denote.Ref.{Bor}
 use Rattle.version_lines.specs.Entry.{entry_cmp, entry_line, AreInTurn, IsRead}
 use Rattle.version_lines.specs.Newest.{are_of_one_group, first_after, first_of_each, first_of_ties, group_place, newest, newest_cmp}
 use Rattle.version_lines.specs.Placed.{are_at_one_place, placed, placed_cmp, placed_entry, placed_start}
-use Rattle.version_lines.specs.Sort.{lines_precedence}
+use Rattle.version_lines.specs.Sort.{Reads, lines_precedence}
 use Rattle.version_lines.specs.Sorting.{in_order, turn, turned}
 use Rattle.version_lines.specs.declared.sort.entry.Entry.{Entry}
 use Rattle.version_lines.specs.declared.sort.newest.Placed.{Placed}
@@ -33,20 +33,20 @@ use Rattle.version_lines.proofs.lemmas.Sorting.{AreAlike, by_test, in_order-map,
 use Rattle.version_lines.proofs.lemmas.Sorting.Turned.{turned_total}
 
 -- of entries that tie, the first are the first of the lines that tie
-pub first_of_ties-entries : (reversed : Bool) (text_of : List ℕ → List ℕ) (keys : List ℕ)
-    (entries : List Entry) → All (IsRead text_of keys) entries
+pub first_of_ties-entries : (reversed : Bool) (reads : Reads) (keys : List ℕ)
+    (entries : List Entry) → All (IsRead reads keys) entries
     → map entry_line
     (first_of_each 1 (eq_by_cmp (entry_cmp keys)) (in_order (turned reversed (entry_cmp keys)) entries))
-    ≡ first_of_ties reversed text_of (map entry_line entries)
-first_of_ties-entries reversed text_of keys entries read =
-    let P = IsRead text_of keys in
+    ≡ first_of_ties reversed reads (map entry_line entries)
+first_of_ties-entries reversed reads keys entries read =
+    let P = IsRead reads keys in
     let R = turned reversed (entry_cmp keys) in
     first_of_each-map P entry_line _ _
-    (λ a b a_read b_read. ap is_eq (keys_alike text_of keys a b a_read b_read)) 1 (in_order R entries)
+    (λ a b a_read b_read. ap is_eq (keys_alike reads keys a b a_read b_read)) 1 (in_order R entries)
     (All-permutation P entries (in_order R entries) (in_order-permutes R entries) read)
-    ∙ ap (first_of_each 1 (eq_by_cmp (lines_precedence text_of)))
-    (in_order-map P entry_line R (turned reversed (lines_precedence text_of))
-    (λ a b a_read b_read. ap (turn reversed) (keys_alike text_of keys a b a_read b_read)) entries read)
+    ∙ ap (first_of_each 1 (eq_by_cmp (lines_precedence reads)))
+    (in_order-map P entry_line R (turned reversed (lines_precedence reads))
+    (λ a b a_read b_read. ap (turn reversed) (keys_alike reads keys a b a_read b_read)) entries read)
 
 -- the place at which a test first passes, among so many elements and one more
 
@@ -175,18 +175,18 @@ sorted_within group_of keys entries lines sorted lines_are in_turn =
     (rw lines_are (all_within group_of entries)))
 
 -- a line with its key and the place of its group among some lines, one of which is of this group
-record IsPlaced (group_of text_of : List ℕ → List ℕ) (keys : List ℕ) (lines : List (List ℕ))
+record IsPlaced (group_of : List ℕ → List ℕ) (reads : Reads) (keys : List ℕ) (lines : List (List ℕ))
     (line : Placed) : Type 0 where
-  pub read : IsRead text_of keys line.entry
+  pub read : IsRead reads keys line.entry
   pub place : line.place ≡ group_place group_of lines (entry_line line.entry)
   pub within : line.place < length lines
 
-all_placed : (group_of text_of : List ℕ → List ℕ) (keys : List ℕ) (entries : List Entry)
-    → All (IsRead text_of keys) entries
-    → All (IsPlaced group_of text_of keys (map entry_line entries))
+all_placed : (group_of : List ℕ → List ℕ) (reads : Reads) (keys : List ℕ) (entries : List Entry)
+    → All (IsRead reads keys) entries
+    → All (IsPlaced group_of reads keys (map entry_line entries))
     (map (placed group_of (map entry_line entries)) entries)
-all_placed group_of text_of keys entries read =
-    All-map (IsPlaced group_of text_of keys (map entry_line entries))
+all_placed group_of reads keys entries read =
+    All-map (IsPlaced group_of reads keys (map entry_line entries))
     (placed group_of (map entry_line entries)) entries
     (λ k d inside. record {
       read = read k d inside;
@@ -203,10 +203,10 @@ all_placed group_of text_of keys entries read =
 abbrev placed_line : Placed → List ℕ
 placed_line line = entry_line line.entry
 
-placed_alike : (group_of text_of : List ℕ → List ℕ) (keys : List ℕ) (lines : List (List ℕ))
-    → AreAlike (IsPlaced group_of text_of keys lines) placed_line
-    (placed_cmp keys) (newest_cmp group_of text_of lines)
-placed_alike group_of text_of keys lines a b a_placed b_placed = grind (arith, keys_alike)
+placed_alike : (group_of : List ℕ → List ℕ) (reads : Reads) (keys : List ℕ) (lines : List (List ℕ))
+    → AreAlike (IsPlaced group_of reads keys lines) placed_line
+    (placed_cmp keys) (newest_cmp group_of reads lines)
+placed_alike group_of reads keys lines a b a_placed b_placed = grind (arith, keys_alike)
 
 -- and have one place if they are of one group
 
@@ -216,10 +216,10 @@ group-there : (group_of : List ℕ → List ℕ) (lines : List (List ℕ)) (line
 group-there group_of lines line inside =
     (bytes_eq-Decides _ _).0 (passes_at_first (are_of_one_group group_of line) lines [] inside)
 
-placed_same : (group_of text_of : List ℕ → List ℕ) (keys : List ℕ) (lines : List (List ℕ))
-    → AreSame (IsPlaced group_of text_of keys lines) placed_line
+placed_same : (group_of : List ℕ → List ℕ) (reads : Reads) (keys : List ℕ) (lines : List (List ℕ))
+    → AreSame (IsPlaced group_of reads keys lines) placed_line
     are_at_one_place (are_of_one_group group_of)
-placed_same group_of text_of keys lines a b a_placed b_placed =
+placed_same group_of reads keys lines a b a_placed b_placed =
     both_ways (a.place == b.place) _
     (λ tie. let same : group_place group_of lines (entry_line a.entry)
     ≡ group_place group_of lines (entry_line b.entry) =
@@ -237,26 +237,26 @@ placed_same group_of text_of keys lines a b a_placed b_placed =
     ∙ sym b_placed.place))
 
 -- the newest of placed lines are the newest of the lines
-pub newest-entries : (count : ℕ) (group_of text_of : List ℕ → List ℕ) (keys : List ℕ)
-    (entries : List Entry) → All (IsRead text_of keys) entries
+pub newest-entries : (count : ℕ) (group_of : List ℕ → List ℕ) (reads : Reads) (keys : List ℕ)
+    (entries : List Entry) → All (IsRead reads keys) entries
     → map entry_line (map placed_entry
     (first_of_each count are_at_one_place
     (in_order (placed_cmp keys) (map (placed group_of (map entry_line entries)) entries))))
-    ≡ newest count group_of text_of (map entry_line entries)
-newest-entries count group_of text_of keys entries read =
+    ≡ newest count group_of reads (map entry_line entries)
+newest-entries count group_of reads keys entries read =
     let lines = map entry_line entries in
-    let P = IsPlaced group_of text_of keys lines in
+    let P = IsPlaced group_of reads keys lines in
     let R = placed_cmp keys in
     let all = map (placed group_of lines) entries in
-    let each = all_placed group_of text_of keys entries read in
+    let each = all_placed group_of reads keys entries read in
     map-map entry_line placed_entry _
     ∙ first_of_each-map P placed_line _ _
-    (placed_same group_of text_of keys lines) count (in_order R all)
+    (placed_same group_of reads keys lines) count (in_order R all)
     (All-permutation P all (in_order R all) (in_order-permutes R all) each)
     ∙ ap (first_of_each count (are_of_one_group group_of))
-    (in_order-map P placed_line R (newest_cmp group_of text_of lines)
-    (placed_alike group_of text_of keys lines) all each
-    ∙ ap (in_order (newest_cmp group_of text_of lines)) (map-map placed_line (placed group_of lines) entries))
+    (in_order-map P placed_line R (newest_cmp group_of reads lines)
+    (placed_alike group_of reads keys lines) all each
+    ∙ ap (in_order (newest_cmp group_of reads lines)) (map-map placed_line (placed group_of lines) entries))
 
 -- the order of placed lines is total, and their keys lie one after another
 

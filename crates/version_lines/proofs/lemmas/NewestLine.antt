@@ -8,15 +8,14 @@ use Rattle.std.specs.declared.cmp.Ordering.TheVariants.{Less, Equal, Greater}
 use Rattle.std.proofs.lemmas.Bool.{true≢false}
 use Rattle.std.proofs.lemmas.List.Sorted.{ranks_by}
 use Rattle.version_lines.specs.NewestLine.{newest_alone, IsNewestOf}
-use Rattle.version_lines.specs.Sort.{lines_precedence}
+use Rattle.version_lines.specs.Sort.{Reads, lines_precedence, version_in}
 use Rattle.version_lines.specs.Sorting.{in_order, put_in_order, turned}
 use Rattle.version_lines.proofs.lemmas.Kept.{newest-first, precedences_total}
 use Rattle.version_lines.proofs.lemmas.Sorting.{below, by_test, head-is}
 use Rattle.version_lines.proofs.lemmas.Sorting.Turned.{turned_total}
-use Rattle.version_rules.specs.key.Key.{key_of, precedence}
-use Rattle.version_rules.specs.grammar.Versioning.{versioning_of}
-use Rattle.version_texts.specs.versioning_ref.VersioningRef.{plain_versioning_ref}
-use Rattle.version_texts.specs.declared.versioning_ref.VersioningRef.{VersioningRef}
+use Rattle.version_schemes.specs.any.AnyVersion.{plain_any}
+use Rattle.version_schemes.specs.any.Order.{any_precedence}
+use Rattle.version_schemes.specs.declared.any.AnyVersion.{AnyVersion}
 
 -- the first of two in an order: the second only if it is below
 abbrev better : {X : Type 0} → (X → X → Ordering) → X → X → X
@@ -61,42 +60,40 @@ all_pass : {X : Type 0} (xs : List X) → filter (λ x. true) xs ≡ xs
 all_pass [] = refl
 all_pass (x ∷ xs) = ap (λ l. x ∷ l) (all_pass xs)
 
-alone-first : (text_of : List ℕ → List ℕ) (lines : List (List ℕ))
-    → newest_alone text_of lines
-    ≡ take 1 (in_order (turned true (lines_precedence text_of)) lines)
-alone-first text_of lines =
-    sym (all_pass (newest_alone text_of lines))
-    ∙ newest-first 1 (λ line. []) text_of lines []
-    ∙ ap (λ l. take 1 (in_order (turned true (lines_precedence text_of)) l)) (all_pass lines)
+alone-first : (reads : Reads) (lines : List (List ℕ))
+    → newest_alone reads lines
+    ≡ take 1 (in_order (turned true (lines_precedence reads)) lines)
+alone-first reads lines =
+    sym (all_pass (newest_alone reads lines))
+    ∙ newest-first 1 (λ line. []) reads lines []
+    ∙ ap (λ l. take 1 (in_order (turned true (lines_precedence reads)) l)) (all_pass lines)
 
 above_turned : (o : Ordering) → is_lt (ordering_reverse o) ≡ is_gt o
 above_turned Less = refl
 above_turned Equal = refl
 above_turned Greater = refl
 
-module _ (text_of : List ℕ → List ℕ) (lines : List (List ℕ)) (best line : Bor (List ℕ))
-    (newest version : VersioningRef) (so_far : IsNewestOf text_of lines (Some (best, newest)))
-    (some : versioning_of (text_of line.now) ≡ Some (plain_versioning_ref version)) where
+module _ (reads : Reads) (lines : List (List ℕ)) (best line : Bor (List ℕ))
+    (newest version : AnyVersion) (so_far : IsNewestOf reads lines (Some (best, newest)))
+    (some : version_in reads line.now ≡ Some (plain_any version)) where
   abbrev P : List ℕ → List ℕ → Ordering
-  P = lines_precedence text_of
+  P = lines_precedence reads
 
   later : is_lt (turned true P line.now best.now)
-      ≡ is_gt (precedence (key_of (plain_versioning_ref version)) (key_of (plain_versioning_ref newest)))
+      ≡ is_gt (any_precedence (plain_any version) (plain_any newest))
   later = above_turned (P line.now best.now) ∙ rw (some, so_far.1) refl
 
-  first : newest_alone text_of (lines ++ line.now ∷ []) ≡ better (turned true P) best.now line.now ∷ []
-  first = alone-first text_of (lines ++ line.now ∷ [])
+  first : newest_alone reads (lines ++ line.now ∷ []) ≡ better (turned true P) best.now line.now ∷ []
+  first = alone-first reads (lines ++ line.now ∷ [])
       ∙ first-more (turned true P)
-      (ranks_by (turned_total true P (precedences_total text_of)) (λ (l : List ℕ). l))
-      lines line.now best.now (sym (alone-first text_of lines) ∙ so_far.0)
+      (ranks_by (turned_total true P (precedences_total reads)) (λ (l : List ℕ). l))
+      lines line.now best.now (sym (alone-first reads lines) ∙ so_far.0)
 
   -- one more line is the newest if it is above the newest so far
-  pub newest-above : is_gt (precedence (key_of (plain_versioning_ref version))
-      (key_of (plain_versioning_ref newest))) ≡ true
-      → IsNewestOf text_of (lines ++ line.now ∷ []) (Some (line, version))
+  pub newest-above : is_gt (any_precedence (plain_any version) (plain_any newest)) ≡ true
+      → IsNewestOf reads (lines ++ line.now ∷ []) (Some (line, version))
   newest-above above = (first ∙ rw (later ∙ above) refl, some)
 
-  pub newest-stays : is_gt (precedence (key_of (plain_versioning_ref version))
-      (key_of (plain_versioning_ref newest))) ≡ false
-      → IsNewestOf text_of (lines ++ line.now ∷ []) (Some (best, newest))
+  pub newest-stays : is_gt (any_precedence (plain_any version) (plain_any newest)) ≡ false
+      → IsNewestOf reads (lines ++ line.now ∷ []) (Some (best, newest))
   newest-stays other = (first ∙ rw (later ∙ other) refl, so_far.1)

@@ -1,43 +1,43 @@
 //! What lines are sorted by.
 ghost use Rattle.std.specs.Prelude.{◌≡◌, ℕ, Bool, List};
 ghost use Rattle.std.specs.Option.{option_map};
+ghost use Rattle.version_lines.specs.Sort.{version_in, Reads};
 ghost use Rattle.version_lines.specs.Sorting.{turn};
-ghost use Rattle.version_rules.specs.grammar.Versioning.{versioning_of};
-ghost use Rattle.version_texts.specs.versioning_ref.VersioningRef.{plain_versioning_ref};
+ghost use Rattle.version_schemes.specs.any.AnyVersion.{plain_any};
 
 use std::cmp::Ordering;
-use version_texts::VersioningRef;
+use version_schemes::{AnyVersion, Scheme};
 
 /// What lines are sorted by: which text in a line is its version, and whether the order is reversed.
 pub trait SortBy: Drop {
-    // The text in a line that is to be its version: empty where it has none, since no version is empty.
-    ghost text_of: { Self → List ℕ → List ℕ };
+    // How lines are read.
+    ghost reads: { Self → Reads };
 
     // Whether the highest version comes first.
     ghost is_reversed: { Self → Bool };
 
     /// Returns the text in a line that is to be its version.
     fn text<'a>(&self, line: &'a [u8]) -> &'a [u8]
-        ensures { result.now ≡ text_of self.now line.now };
+        ensures { result.now ≡ (reads self.now).text_of line.now };
 
     /// Returns the version of a line, or None if it has none.
-    fn version<'a>(&self, line: &'a [u8]) -> Option<VersioningRef<'a>>
-        ensures { option_map plain_versioning_ref result
-            ≡ versioning_of (text_of self.now line.now) };
+    fn version<'a>(&self, line: &'a [u8]) -> Option<AnyVersion<'a>>
+        ensures { option_map plain_any result ≡ version_in (reads self.now) line.now };
 
     /// Returns whether the highest version comes first.
     fn is_reversed(&self) -> bool
         ensures { result ≡ is_reversed self.now };
 }
 
-/// A line is its version, and the lowest comes first.
+/// A line is its version, of the scheme mixed, and the lowest comes first.
 #[derive(Clone, Copy)]
 pub struct WholeLines;
 
 impl SortBy for WholeLines {
     ghost use Rattle.std.specs.Prelude.{false};
+    ghost use Rattle.version_schemes.specs.declared.scheme.Scheme.TheVariants.{Mixed};
 
-    ghost text_of = { λ _ line. line };
+    ghost reads = { λ _. record { scheme = Mixed; text_of = λ line. line } };
 
     ghost is_reversed = { λ _. false };
 
@@ -47,8 +47,8 @@ impl SortBy for WholeLines {
     }
 
     #[inline(always)]
-    fn version<'a>(&self, line: &'a [u8]) -> Option<VersioningRef<'a>> {
-        VersioningRef::from_bytes(line)
+    fn version<'a>(&self, line: &'a [u8]) -> Option<AnyVersion<'a>> {
+        AnyVersion::read(Scheme::Mixed, line)
     }
 
     #[inline(always)]

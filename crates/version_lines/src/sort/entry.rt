@@ -3,17 +3,15 @@ ghost use Rattle.std.specs.Prelude.{◌≡◌, ◌++◌, drop, length, IfOk, IsT
 ghost use Rattle.std.specs.Ordering.{on, then_cmp};
 ghost use Rattle.version_lines.specs.Entry.{after_heads_cmp};
 ghost use Rattle.version_lines.specs.Sorting.{turned};
-ghost use Rattle.version_rules.specs.key.Key.{key_of};
-ghost use Rattle.version_rules.specs.key.KeyBytes.{key_bytes};
-ghost use Rattle.version_texts.specs.versioning_ref.VersioningRef.{plain_versioning_ref};
+ghost use Rattle.version_schemes.specs.any.AnyVersion.{plain_any};
 
 use crate::sort::by::{SortBy, turn};
 use std::alloc::AllocError;
 use std::cmp::Ordering;
 use version_rules::Kind;
+use version_schemes::AnyVersion;
 use version_texts::{
-    VersioningRef, compare_bytes, compare_key_ties, first_eight, mark_kind, marked_kind,
-    marked_number,
+    compare_bytes, compare_key_ties, first_eight, mark_kind, marked_kind, marked_number,
 };
 
 /// A line that has a version, the place of the key of this in the one list of all keys, the key's length with the kind
@@ -37,13 +35,13 @@ impl<'a> Entry<'a> {
     /// cannot be allocated; the keys are then unchanged.
     pub fn read(
         keys: &mut Vec<u8>,
-        version: &VersioningRef<'_>,
+        version: &AnyVersion<'_>,
         line: &'a [u8],
     ) -> Result<Entry<'a>, AllocError>
         ensures keys { OnOk result (keys.new.items
-            ≡ keys.old.items ++ key_bytes (key_of (plain_versioning_ref version.now))) }
+            ≡ keys.old.items ++ (plain_any version.now).key) }
         ensures line { IfOk result (λ e. entry_line e ≡ line.now) }
-        ensures key { IfOk result (HoldsKey keys.new.items (plain_versioning_ref version.now)) }
+        ensures key { IfOk result (HoldsKey keys.new.items (plain_any version.now)) }
         ensures last { IfOk result (λ e. e.start ≡ length keys.old.items) }
         ensures err { OnErr result (keys.new.items ≡ keys.old.items) }
     {
@@ -69,7 +67,7 @@ impl<'a> Entry<'a> {
     #[inline(always)]
     pub fn compare_in_turn<B: SortBy>(&self, other: &Entry<'_>, by: &B, keys: &[u8]) -> Ordering
         ensures { result
-            ≡ then_cmp (turned (B.is_reversed by.now) (version_cmp (B.text_of by.now) keys.now))
+            ≡ then_cmp (turned (B.is_reversed by.now) (version_cmp (B.reads by.now) keys.now))
             turn_cmp self.now other.now }
     {
         match self.compare_heads(other) {
@@ -82,7 +80,7 @@ impl<'a> Entry<'a> {
     #[inline(never)]
     fn compare_tied_in_turn<B: SortBy>(&self, other: &Entry<'_>, by: &B, keys: &[u8]) -> Ordering
         ensures { result ≡ then_cmp (turned (B.is_reversed by.now)
-            (then_cmp (on (entry_key keys.now) after_heads_cmp) (tie_cmp (B.text_of by.now))))
+            (then_cmp (on (entry_key keys.now) after_heads_cmp) (tie_cmp (B.reads by.now))))
             turn_cmp self.now other.now }
     {
         let order = match compare_after_heads(self.key(keys), other.key(keys)) {
@@ -133,7 +131,7 @@ impl<'a> Entry<'a> {
 
     // Compares by what breaks the ties of keys: the kinds and the texts.
     fn compare_ties<B: SortBy>(&self, other: &Entry<'_>, by: &B) -> Ordering
-        ensures { result ≡ tie_cmp (B.text_of by.now) self.now other.now }
+        ensures { result ≡ tie_cmp (B.reads by.now) self.now other.now }
     {
         if self.is_strict() && other.is_strict() {
             return Ordering::Equal;

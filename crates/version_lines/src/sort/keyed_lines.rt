@@ -5,16 +5,15 @@ ghost use Rattle.std.specs.Ordering.{eq_by_cmp};
 ghost use Rattle.version_lines.specs.Entry.{entry_cmp, version_cmp, AreInTurn};
 ghost use Rattle.version_lines.specs.KeyedLines.{lines_in, AreRead};
 ghost use Rattle.version_lines.specs.Newest.{first_of_each, first_of_ties, newest};
-ghost use Rattle.version_lines.specs.Sort.{lines_cmp};
+ghost use Rattle.version_lines.specs.Sort.{lines_cmp, version_in};
 ghost use Rattle.version_lines.specs.Sorting.{in_order, turned};
-ghost use Rattle.version_rules.specs.grammar.Versioning.{versioning_of};
-ghost use Rattle.version_texts.specs.versioning_ref.VersioningRef.{plain_versioning_ref};
+ghost use Rattle.version_schemes.specs.any.AnyVersion.{plain_any};
 
 use crate::sort::by::SortBy;
 use crate::sort::entry::Entry;
 use crate::sort::newest::{GroupBy, keep_newest};
 use std::alloc::{AllocError, Global};
-use version_texts::VersioningRef;
+use version_schemes::AnyVersion;
 
 /// Lines that are versions or have one in them, with the sort keys of these, to be put in order.
 #[derive(Drop)]
@@ -27,7 +26,7 @@ pub struct KeyedLines<'a, B> {
 impl<'a, B: SortBy> KeyedLines<'a, B> {
     /// Returns no lines yet, with room for those of an input of so many bytes.
     pub fn new(alloc: Global, by: B, input_length: usize) -> Result<KeyedLines<'a, B>, AllocError>
-        ensures read { IfOk result (AreRead B.text_of) }
+        ensures read { IfOk result (AreRead B.reads) }
         ensures empty { IfOk result (λ lines. lines_in lines ≡ []) }
         ensures by { IfOk result (λ lines. lines.by ≡ by) }
     {
@@ -38,20 +37,18 @@ impl<'a, B: SortBy> KeyedLines<'a, B> {
 
     /// Returns the version of a line, or None if it has none.
     #[inline(always)]
-    pub fn version<'l>(&self, line: &'l [u8]) -> Option<VersioningRef<'l>>
-        ensures { option_map plain_versioning_ref result
-            ≡ versioning_of (B.text_of self.now.by line.now) }
+    pub fn version<'l>(&self, line: &'l [u8]) -> Option<AnyVersion<'l>>
+        ensures { option_map plain_any result ≡ version_in (B.reads self.now.by) line.now }
     {
         self.by.version(line)
     }
 
     /// Adds a line after the others, whose version was parsed from the text in it. If memory is refused, the lines stay
     /// as they are.
-    pub fn add(&mut self, version: &VersioningRef<'_>, line: &'a [u8]) -> Result<(), AllocError>
-        requires read { AreRead B.text_of self.old }
-        requires version { versioning_of (B.text_of self.old.by line.now)
-            ≡ Some (plain_versioning_ref version.now) }
-        ensures read { AreRead B.text_of self.new }
+    pub fn add(&mut self, version: &AnyVersion<'_>, line: &'a [u8]) -> Result<(), AllocError>
+        requires read { AreRead B.reads self.old }
+        requires version { version_in (B.reads self.old.by) line.now ≡ Some (plain_any version.now) }
+        ensures read { AreRead B.reads self.new }
         ensures lines { OnOk result (lines_in self.new ≡ lines_in self.old ++ line.now ∷ []) }
         ensures stays { OnErr result (lines_in self.new ≡ lines_in self.old) }
         ensures by { self.new.by ≡ self.old.by }
@@ -65,9 +62,9 @@ impl<'a, B: SortBy> KeyedLines<'a, B> {
     /// Puts the lines in the order of their versions, or in the reverse of it; lines that compare Equal keep their
     /// order. The lines have to stand as they were added. Does not allocate.
     pub fn put_in_order(&mut self)
-        requires { AreRead B.text_of self.old }
+        requires { AreRead B.reads self.old }
         ensures lines { lines_in self.new
-            ≡ in_order (turned (B.is_reversed self.old.by) (lines_cmp (B.text_of self.old.by)))
+            ≡ in_order (turned (B.is_reversed self.old.by) (lines_cmp (B.reads self.old.by)))
             (lines_in self.old) }
         ensures by { self.new.by ≡ self.old.by }
     {
@@ -77,9 +74,9 @@ impl<'a, B: SortBy> KeyedLines<'a, B> {
     /// Puts the lines in the order of the precedence of their versions, or in the reverse of it, and of lines that tie
     /// keeps the first alone. The lines have to stand as they were added. Does not allocate.
     pub fn put_first_of_ties(&mut self)
-        requires { AreRead B.text_of self.old }
+        requires { AreRead B.reads self.old }
         ensures lines { lines_in self.new
-            ≡ first_of_ties (B.is_reversed self.old.by) (B.text_of self.old.by) (lines_in self.old) }
+            ≡ first_of_ties (B.is_reversed self.old.by) (B.reads self.old.by) (lines_in self.old) }
         ensures by { self.new.by ≡ self.old.by }
     {
         put_first_of_ties(&self.by, self.keys.as_slice(), &mut self.entries);
@@ -93,9 +90,9 @@ impl<'a, B: SortBy> KeyedLines<'a, B> {
         count: usize,
         groups: &G,
     ) -> Result<(), AllocError>
-        requires { AreRead B.text_of self.old }
+        requires { AreRead B.reads self.old }
         ensures kept { OnOk result (lines_in self.new
-            ≡ newest count (G.group_of groups.now) (B.text_of self.old.by) (lines_in self.old)) }
+            ≡ newest count (G.group_of groups.now) (B.reads self.old.by) (lines_in self.old)) }
         ensures stays { OnErr result (lines_in self.new ≡ lines_in self.old) }
         ensures by { self.new.by ≡ self.old.by }
     {
@@ -139,7 +136,7 @@ fn room_for_lines(input_length: usize) -> usize {
 fn put_in_order<B: SortBy>(by: &B, keys: &[u8], entries: &mut Vec<Entry<'_>>)
     requires { AreInTurn entries.old.items }
     ensures { entries.new.items
-        ≡ in_order (turned (B.is_reversed by.now) (version_cmp (B.text_of by.now) keys.now))
+        ≡ in_order (turned (B.is_reversed by.now) (version_cmp (B.reads by.now) keys.now))
         entries.old.items }
 {
     entries.sort_unstable_by(|a, b| a.compare_in_turn(b, by, keys));

@@ -8,6 +8,7 @@ ghost use Rattle.std.specs.Ordering.{nat_cmp, on, then_cmp};
 ghost use Rattle.version_lines.specs.Entry.{entry_line, AreInTurn, IsRead};
 ghost use Rattle.version_lines.specs.Newest.{first_of_each, newest};
 ghost use Rattle.version_lines.specs.Placed.{are_at_one_place, placed, placed_cmp, placed_entry, placed_start};
+ghost use Rattle.version_lines.specs.Sort.{Reads};
 ghost use Rattle.version_lines.specs.Sorting.{in_order};
 ghost use Rattle.version_lines.specs.declared.sort.newest.Placed.{Placed};
 
@@ -55,10 +56,10 @@ pub fn keep_newest<G: GroupBy>(
     entries: &mut Vec<Entry<'_>>,
 ) -> Result<(), AllocError>
     requires { AreInTurn entries.old.items }
-    ensures kept { OnOk result ((text_of : List ℕ → List ℕ)
-        → All (IsRead text_of keys.now) entries.old.items
+    ensures kept { OnOk result ((reads : Reads)
+        → All (IsRead reads keys.now) entries.old.items
         → map entry_line entries.new.items
-        ≡ newest count (G.group_of groups.now) text_of (map entry_line entries.old.items)) }
+        ≡ newest count (G.group_of groups.now) reads (map entry_line entries.old.items)) }
     ensures stays { OnErr result (entries.new.items ≡ entries.old.items) }
 {
     let mut lines = place_lines(alloc, groups, entries.as_slice())?;

@@ -1,47 +1,45 @@
 //! The newest line of an input, in one pass and without keys.
 ghost use Rattle.std.specs.Prelude.{◌≡◌, ◌∷◌, ◌++◌, [], ℕ, List, Some};
 ghost use Rattle.std.specs.Option.{option_map};
+ghost use Rattle.version_lines.specs.Sort.{version_in};
 ghost use Rattle.version_lines.specs.NewestLine.{newest_alone, rows_in, IsNewestOf};
-ghost use Rattle.version_rules.specs.grammar.Versioning.{versioning_of};
-ghost use Rattle.version_texts.specs.versioning_ref.VersioningRef.{plain_versioning_ref};
+ghost use Rattle.version_schemes.specs.any.AnyVersion.{plain_any};
 
 use crate::sort::by::SortBy;
-use version_texts::VersioningRef;
+use version_schemes::AnyVersion;
 
 /// The newest of the lines so far: the first that no other comes after in precedence.
 #[derive(Drop)]
 pub struct NewestLine<'a, B> {
     by: B,
-    newest: Option<(&'a [u8], VersioningRef<'a>)>,
+    newest: Option<(&'a [u8], AnyVersion<'a>)>,
 }
 
 impl<'a, B: SortBy> NewestLine<'a, B> {
     /// Of no lines yet.
     pub fn new(by: B) -> NewestLine<'a, B>
         ensures by { result.by ≡ by }
-        ensures newest { IsNewestOf (B.text_of by) [] result.newest }
+        ensures newest { IsNewestOf (B.reads by) [] result.newest }
     {
         NewestLine { by, newest: None }
     }
 
     /// Returns the version of a line, or None if it has none.
     #[inline(always)]
-    pub fn version<'l>(&self, line: &'l [u8]) -> Option<VersioningRef<'l>>
-        ensures { option_map plain_versioning_ref result
-            ≡ versioning_of (B.text_of self.now.by line.now) }
+    pub fn version<'l>(&self, line: &'l [u8]) -> Option<AnyVersion<'l>>
+        ensures { option_map plain_any result ≡ version_in (B.reads self.now.by) line.now }
     {
         self.by.version(line)
     }
 
     /// Takes a line after the others, whose version was parsed from the text in it. Does not allocate.
     #[inline(always)]
-    pub fn add(&mut self, version: &VersioningRef<'a>, line: &'a [u8])
-        requires { versioning_of (B.text_of self.old.by line.now)
-            ≡ Some (plain_versioning_ref version.now) }
+    pub fn add(&mut self, version: &AnyVersion<'a>, line: &'a [u8])
+        requires { version_in (B.reads self.old.by) line.now ≡ Some (plain_any version.now) }
         ensures by { self.new.by ≡ self.old.by }
         ensures newest { (lines : List (List ℕ))
-            → IsNewestOf (B.text_of self.old.by) lines self.old.newest
-            → IsNewestOf (B.text_of self.new.by) (lines ++ line.now ∷ []) self.new.newest }
+            → IsNewestOf (B.reads self.old.by) lines self.old.newest
+            → IsNewestOf (B.reads self.new.by) (lines ++ line.now ∷ []) self.new.newest }
     {
         match &self.newest {
             Some((_, newest)) => {
@@ -55,8 +53,8 @@ impl<'a, B: SortBy> NewestLine<'a, B> {
 
     /// Returns the newest line, or None if there was no line.
     pub fn line(&self) -> Option<&'a [u8]>
-        ensures { (lines : List (List ℕ)) → IsNewestOf (B.text_of self.now.by) lines self.now.newest
-            → rows_in result ≡ newest_alone (B.text_of self.now.by) lines }
+        ensures { (lines : List (List ℕ)) → IsNewestOf (B.reads self.now.by) lines self.now.newest
+            → rows_in result ≡ newest_alone (B.reads self.now.by) lines }
     {
         match &self.newest {
             Some((line, _)) => Some(line),

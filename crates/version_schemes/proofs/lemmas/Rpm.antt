@@ -3,8 +3,6 @@ use Rattle.std.proofs.Common.{◌<◌, ◌≤◌, ◌-◌, get_or, length, take,
 use Rattle.std.proofs.lemmas.Bool.{cases_Bool}
 use Rattle.std.proofs.lemmas.Bool.Decides.{nat_tests}
 use Rattle.std.proofs.lemmas.Cmp.{nat_cmp_total, nat_list_cmp_total, tied_itself}
-use Rattle.std.proofs.Math.Seq.{drop-cons}
-use Rattle.std.proofs.lemmas.List.{get_or-take, take-append-drop, take-take}
 use Rattle.std.specs.Char.{is_ascii_alphabetic, is_ascii_alphanumeric, is_ascii_digit}
 use Rattle.std.specs.FinMap.{nat_cmp-IsAntisymmetric}
 use Rattle.std.specs.List.{prefix_len, take_while}
@@ -16,6 +14,7 @@ use Rattle.version_rules.specs.key.Codes.{list_bytes}
 use Rattle.version_rules.specs.key.TextBytes.{text_bytes}
 use Rattle.version_texts.specs.order.Piece.{behind_digits}
 use Rattle.version_texts.proofs.lemmas.scan.General.Runs.{run_cons, run_none}
+use Rattle.version_schemes.proofs.lemmas.Texts.{alike, run_common}
 use Rattle.version_schemes.specs.rpm.Front.{Begins, byte_rank, first_of, first_rank}
 use Rattle.version_schemes.specs.rpm.Order.{held_bytes, held_cmp, item_bytes, Caret, Item, Letters, Number, Tilde, item_cmp, items_cmp, rank}
 use Rattle.version_schemes.specs.rpm.Texts.{begins_run, items_after, items_in}
@@ -237,19 +236,6 @@ one_text x y same = rw same (items_tied (items_in y))
 
 -- ---- texts that begin alike
 
--- a run that ends within what two texts have in common is the same in both
-run_common : (kind : ℕ → Bool) (front : List ℕ) (byte : ℕ) (a b : List ℕ) → kind byte ≡ false
-    → take_while kind (front ++ byte ∷ a) ≡ take_while kind (front ++ byte ∷ b)
-run_common kind [] byte a b ends = (run_none kind byte a ends).0 ∙ sym (run_none kind byte b ends).0
-run_common kind (first ∷ front) byte a b ends = elim (cases_Bool (kind first)) [
-  | inl is ↦
-      (run_cons kind first (front ++ byte ∷ a) is).0
-      ∙ ap (λ (l : List ℕ). first ∷ l) (run_common kind front byte a b ends)
-      ∙ sym (run_cons kind first (front ++ byte ∷ b) is).0
-  | inr other ↦
-      (run_none kind first (front ++ byte ∷ a) other).0 ∙ sym (run_none kind first (front ++ byte ∷ b) other).0
-]
-
 -- pieces that end within what two texts have in common don't count
 front_common : (before : ℕ) (front : List ℕ) (byte : ℕ) (a b : List ℕ) → is_ascii_alphabetic byte ≡ false
     → is_ascii_digit byte ≡ false
@@ -304,22 +290,10 @@ pub common_front : (x y : List ℕ) (place common : ℕ) → place ≤ common �
 common_front x y zero common in_common in_x in_y same ends = refl
 common_front x y (suc place) common in_common in_x in_y same ends =
     let byte = get_or x place 0 in
-    let fronts : take place x ≡ take place y =
-    sym (take-take place common x (omega (arith, in_common))) ∙ ap (take place) same
-    ∙ take-take place common y (omega (arith, in_common)) in
-    let bytes : byte ≡ get_or y place 0 =
-    sym (get_or-take common x place 0 (omega (arith, in_common))) ∙ ap (λ (l : List ℕ). get_or l place 0) same
-    ∙ get_or-take common y place 0 (omega (arith, in_common)) in
-    let whole : x ≡ take place x ++ byte ∷ drop (suc place) x =
-    sym (take-append-drop place x)
-    ∙ ap (λ (l : List ℕ). take place x ++ l) (drop-cons x place 0 (omega (arith, in_common, in_x))) in
-    let other : y ≡ take place x ++ byte ∷ drop (suc place) y =
-    sym (take-append-drop place y)
-    ∙ ap (λ (l : List ℕ). take place y ++ l) (drop-cons y place 0 (omega (arith, in_common, in_y)))
-    ∙ sym (λ i. fronts i ++ bytes i ∷ drop (suc place) y) in
+    let both = alike x y place common in_common in_x in_y same in
     let last : place ≡ suc place - 1 = omega arith in
     let no_run = of_no_run byte (ap (λ n. is_ascii_alphanumeric (get_or x n 0)) last ∙ ends (omega arith)) in
-    sym ((λ i. items_cmp (items_in (whole i)) (items_in (other i)))
+    sym ((λ i. items_cmp (items_in (both.0 i)) (items_in (both.1 i)))
     ∙ front_common 46 (take place x) byte (drop (suc place) x) (drop (suc place) y) no_run.0 no_run.1)
 
 -- ---- bytes

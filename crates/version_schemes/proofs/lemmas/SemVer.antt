@@ -1,56 +1,22 @@
--- Identifiers of SemVer's versions, byte by byte.
+-- Sections of SemVer's versions: identifiers with dots between.
 pub mod Numbers
 pub mod Reading
 pub mod Room
 pub mod Values
-use Rattle.std.proofs.Common.{◌≡◌, ◌≢◌, ◌==◌, ◌&&◌, ◌∙◌, ℕ, Bool, true, false, List, [], ◌∷◌, ap, drop, if◌then◌else◌, length, not, refl, sym}
+use Rattle.std.proofs.Common.{◌≡◌, ◌==◌, ◌&&◌, ◌∙◌, ℕ, Bool, true, false, List, [], ◌∷◌, ap, drop, if◌then◌else◌, length, not, refl, sym}
 use Rattle.std.proofs.Math.Dec.{eqb-suc-zero}
 use Rattle.std.proofs.lemmas.Bool.{eqb-true}
-use Rattle.std.proofs.lemmas.Cmp.{nat_cmp_total, tied_itself}
-use Rattle.std.specs.FinMap.{nat_cmp-IsAntisymmetric}
 use Rattle.std.specs.Cmp.{first_so, second_so}
 use Rattle.std.specs.List.{list_all, onto_first, prefix_len, take_while}
-use Rattle.std.specs.Ordering.{nat_cmp}
-use Rattle.std.specs.declared.cmp.Ordering.TheVariants.{Equal}
-use Rattle.version_rules.proofs.lemmas.Orders.{then_decided}
 use Rattle.version_rules.specs.grammar.Bytes.{dot, is_identifier_byte, is_metadata_byte}
 use Rattle.version_rules.specs.grammar.Front.{begins}
-use Rattle.version_rules.specs.laws.Order.{then_equal}
-use Rattle.version_rules.specs.order.Lists.{bytes_cmp}
-use Rattle.version_texts.proofs.lemmas.order.Piece.{piece_grows}
 use Rattle.version_texts.proofs.lemmas.order.Piece.Spelled.{identifier_no_dot}
-use Rattle.version_texts.proofs.lemmas.scan.General.Runs.{and-false, not_true, split_end, split_mark, split_other, split_some}
+use Rattle.version_texts.proofs.lemmas.scan.General.Runs.{and-false, split_end, split_mark, split_other, split_some}
 use Rattle.version_texts.specs.key.TextKey.{pieces}
-use Rattle.version_texts.specs.order.Piece.{behind_piece, first_piece, is_dot}
+use Rattle.version_texts.specs.order.Piece.{is_dot}
 use Rattle.version_schemes.specs.declared.semver.Section.{Section}
 use Rattle.version_schemes.specs.declared.semver.Section.TheVariants.{Metadata, PreRelease}
 use Rattle.version_schemes.specs.semver.Texts.{allows, is_identifier, is_section}
-
--- a byte that is no dot, and what follows it
-abbrev pub Begins : List ℕ → ℕ → List ℕ → Type 0
-Begins text byte rest = (text ≡ byte ∷ rest) × (not (byte == dot) ≡ true)
-
-pub piece_begins : (text : List ℕ) (byte : ℕ) (rest : List ℕ) → Begins text byte rest
-    → (first_piece text ≡ byte ∷ first_piece rest) × (behind_piece text ≡ behind_piece rest)
-piece_begins text byte rest is = rw is.0 (piece_grows is_dot byte rest (not_true (byte == dot) is.1))
-
-module _ (a : List ℕ) (byte : ℕ) (rest b : List ℕ) (other : ℕ) (others : List ℕ) (one : Begins a byte rest)
-    (two : Begins b other others) where
-  -- a byte that both have does not count
-  pub same_byte : byte ≡ other
-      → bytes_cmp (first_piece rest) (first_piece others) ≡ bytes_cmp (first_piece a) (first_piece b)
-  same_byte same =
-      rw ((piece_begins a byte rest one).0, (piece_begins b other others two).0, same, tied_itself nat_cmp_total other)
-      refl
-
-  -- other bytes decide
-  pub other_byte : byte ≢ other → bytes_cmp (first_piece a) (first_piece b) ≡ nat_cmp byte other
-  other_byte differ =
-      rw ((piece_begins a byte rest one).0, (piece_begins b other others two).0)
-      (then_decided (nat_cmp byte other) _ Equal (λ e. differ (nat_cmp-IsAntisymmetric byte other e))
-      ∙ then_equal (nat_cmp byte other))
-
--- ---- sections
 
 -- an identifier has no other bytes
 allows_no_other : (section : Section) (text : List ℕ) → list_all is_identifier_byte text ≡ false

@@ -1,19 +1,21 @@
--- Texts that are cut at a byte, and how long an epoch is in a key.
-use Rattle.std.proofs.Common.{◌≡◌, ◌∙◌, ◌<◌, ◌≤◌, ◌==◌, ◌+◌, ◌-◌, ◌*◌, ◌++◌, ◌∷◌, [], ℕ, Bool, List, Option, None, Some, false, true, ap, arith, drop, get_or, if◌then◌else◌, length, refl, suc, sym, take}
+-- Texts that are cut at a byte, that begin alike, and how long an epoch is in a key.
+use Rattle.std.proofs.Common.{◌≡◌, ◌∙◌, ◌<◌, ◌≤◌, ◌==◌, ◌+◌, ◌-◌, ◌*◌, ◌++◌, ◌∷◌, [], ℕ, Bool, List, Option, None, Some, false, true, ap, arith, drop, get_or, if◌then◌else◌, inl, inr, length, refl, suc, sym, take}
 use Rattle.std.proofs.Math.Seq.{drop-cons}
-use Rattle.std.proofs.lemmas.List.{length-drop, take-append-drop, take_all}
+use Rattle.std.proofs.lemmas.Bool.{cases_Bool, eqb-true}
+use Rattle.std.proofs.lemmas.List.{get_or-take, length-drop, take-append-drop, take-take, take_all}
 use Rattle.std.specs.Char.{is_ascii_digit}
 use Rattle.std.specs.Cmp.{first_so, second_so}
-use Rattle.std.specs.List.{list_all}
+use Rattle.std.specs.List.{list_all, take_while}
 use Rattle.std.specs.Option.{option_map}
 use Rattle.std.specs.Str.Parse.{digits_value}
 use Rattle.version_rules.proofs.lemmas.Front.Runs.{take_while-all}
 use Rattle.version_rules.specs.grammar.DigitRun.{is_digits, run_value}
 use Rattle.version_rules.specs.key.NumberBytes.{number_bytes}
 use Rattle.version_texts.proofs.lemmas.key.KeyRoom.Parts.{number_length}
+use Rattle.version_texts.proofs.lemmas.scan.General.Runs.{run_cons, run_none}
 use Rattle.version_schemes.specs.Texts.{cut_first, cut_last, is_epoch, split_epoch}
 
-cut_between : (at : ℕ) (front rest : List ℕ) → cut_last at rest ≡ None → cut_last at (front ++ at ∷ rest) ≡ Some (front, rest)
+pub cut_between : (at : ℕ) (front rest : List ℕ) → cut_last at rest ≡ None → cut_last at (front ++ at ∷ rest) ≡ Some (front, rest)
 cut_between at [] rest none =
     let same : (at == at) ≡ true = grind arith in
     rw (none, same) refl
@@ -34,6 +36,18 @@ cut_at at text place within is none =
     take_all (length text - (place + 1)) rest (omega (arith, length-drop (place + 1) text)) in
     ap (λ (l : List ℕ). Some (take place text, l)) all
     ∙ sym (ap (cut_last at) whole ∙ cut_between at (take place text) rest none)
+
+-- a byte at which a test fails cuts no text whose bytes pass it
+pub not_cut : (test : ℕ → Bool) (at : ℕ) (text : List ℕ) → test at ≡ false → list_all test text ≡ true
+    → (cut_first at text ≡ None) × (cut_last at text ≡ None)
+not_cut test at [] fails all = (refl, refl)
+not_cut test at (byte ∷ text) fails all =
+    let rest = not_cut test at text fails (second_so (test byte) (list_all test text) all) in
+    let other : (byte == at) ≡ false = elim (cases_Bool (byte == at)) [
+      | inl is ↦ cc (sym (first_so (test byte) (list_all test text) all) ∙ ap test (eqb-true byte at is) ∙ fails)
+      | inr differ ↦ differ
+    ] in
+    (rw (other, rest.0) refl, rw (other, rest.1) refl)
 
 -- a text that is cut is as long as what stands before the byte, the byte, and what stands behind it
 pub cut_first-length : (at : ℕ) (text : List ℕ) (cut : List ℕ × List ℕ) → cut_first at text ≡ Some cut
@@ -70,6 +84,38 @@ cut_last-length at (byte ∷ text) cut e = by (cut_last at text) refl (byte == a
         let same : ([], text) ≡ cut = cc (rw (is, at_byte) at e) in
         rw (sym same) (omega arith)
     by None is false at_byte shorter = cc (rw (is, at_byte) at e)
+
+-- a byte within what two texts have in common is in both, behind the same bytes
+pub alike : (x y : List ℕ) (place common : ℕ) → suc place ≤ common → common ≤ length x → common ≤ length y
+    → take common x ≡ take common y
+    → (x ≡ take place x ++ get_or x place 0 ∷ drop (suc place) x)
+    × (y ≡ take place x ++ get_or x place 0 ∷ drop (suc place) y)
+alike x y place common in_common in_x in_y same =
+    let fronts : take place x ≡ take place y =
+    sym (take-take place common x (omega (arith, in_common))) ∙ ap (take place) same
+    ∙ take-take place common y (omega (arith, in_common)) in
+    let bytes : get_or x place 0 ≡ get_or y place 0 =
+    sym (get_or-take common x place 0 (omega (arith, in_common))) ∙ ap (λ (l : List ℕ). get_or l place 0) same
+    ∙ get_or-take common y place 0 (omega (arith, in_common)) in (
+      sym (take-append-drop place x)
+          ∙ ap (λ (l : List ℕ). take place x ++ l) (drop-cons x place 0 (omega (arith, in_common, in_x))),
+      sym (take-append-drop place y)
+          ∙ ap (λ (l : List ℕ). take place y ++ l) (drop-cons y place 0 (omega (arith, in_common, in_y)))
+          ∙ sym (λ i. fronts i ++ bytes i ∷ drop (suc place) y),
+    )
+
+-- a run that ends within what two texts have in common is the same in both
+pub run_common : (kind : ℕ → Bool) (front : List ℕ) (byte : ℕ) (a b : List ℕ) → kind byte ≡ false
+    → take_while kind (front ++ byte ∷ a) ≡ take_while kind (front ++ byte ∷ b)
+run_common kind [] byte a b ends = (run_none kind byte a ends).0 ∙ sym (run_none kind byte b ends).0
+run_common kind (first ∷ front) byte a b ends = elim (cases_Bool (kind first)) [
+  | inl is ↦
+      (run_cons kind first (front ++ byte ∷ a) is).0
+      ∙ ap (λ (l : List ℕ). first ∷ l) (run_common kind front byte a b ends)
+      ∙ sym (run_cons kind first (front ++ byte ∷ b) is).0
+  | inr other ↦
+      (run_none kind first (front ++ byte ∷ a) other).0 ∙ sym (run_none kind first (front ++ byte ∷ b) other).0
+]
 
 -- digits, one or more, are their own run
 run_of_digits : (digits : List ℕ) → is_digits digits ≡ true

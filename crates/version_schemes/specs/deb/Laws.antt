@@ -99,7 +99,7 @@ more_same (Some a) (Some b) e =
     let rest = pair_same a.rest b.rest (then_second _ _ e) in
     λ i. Some (record { first = first i; rest = rest i })
 
-part_writes : Writes part_cmp part_bytes
+pub part_writes : Writes part_cmp part_bytes
 part_writes =
     writes_then (writes_on (λ (part : Part). part.head) pair_writes)
     (writes_on (λ (part : Part). part.more) (writes_list more_same more_writes))

@@ -1,15 +1,14 @@
 -- Which texts are RubyGems' versions: those of `Gem::Version.correct?`, but not the blank ones.
-use Rattle.std.specs.Prelude.{◌==◌, ◌&&◌, ◌||◌, ℕ, Bool, false, List, [], ◌∷◌, drop, if◌then◌else◌, Option, None, Some, option_and_then}
+use Rattle.std.specs.Prelude.{◌==◌, ◌&&◌, ◌||◌, ℕ, Bool, false, List, [], ◌∷◌, drop, if◌then◌else◌, Option, None, Some}
 use Rattle.std.specs.Char.{is_ascii_alphanumeric}
 use Rattle.std.specs.Int.{is_in_range}
 use Rattle.std.specs.List.{before_first, list_all, prefix_len, slice_split}
-use Rattle.std.specs.Option.{option_map}
 use Rattle.std.specs.declared.cmp.Ordering.{Ordering}
 use Rattle.version_rules.specs.grammar.Bytes.{hyphen, is_identifier_byte}
 use Rattle.version_rules.specs.grammar.DigitRun.{is_digits}
 use Rattle.version_rules.specs.grammar.Front.{begins}
 use Rattle.version_texts.specs.order.Piece.{is_dot}
-use Rattle.version_schemes.specs.Texts.{cut_first}
+use Rattle.version_schemes.specs.Texts.{compared, cut_first}
 use Rattle.version_schemes.specs.gem.Order.{Entry, gem_cmp}
 use Rattle.version_schemes.specs.gem.Segments.{entries_in}
 
@@ -52,4 +51,4 @@ gem_of text = if is_version (trimmed text) then Some (entries_in false (trimmed 
 
 -- how two texts compare, if both are versions
 abbrev pub texts_cmp : List ℕ → List ℕ → Option Ordering
-texts_cmp one other = option_and_then (λ a. option_map (λ b. gem_cmp a b) (gem_of other)) (gem_of one)
+texts_cmp = compared gem_of gem_cmp

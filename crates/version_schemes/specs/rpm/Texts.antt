@@ -5,7 +5,7 @@ use Rattle.std.specs.List.{list_all, take_while}
 use Rattle.std.specs.Option.{option_map}
 use Rattle.std.specs.declared.cmp.Ordering.{Ordering}
 use Rattle.version_rules.specs.grammar.DigitRun.{run_value}
-use Rattle.version_schemes.specs.Texts.{cut_last, split_epoch}
+use Rattle.version_schemes.specs.Texts.{compared, cut_last, split_epoch}
 use Rattle.version_schemes.specs.rpm.Order.{Caret, Item, Letters, Number, PlainRpm, Tilde, rpm_cmp}
 
 -- a run of a kind begins with a byte: the byte before it is none of the kind
@@ -56,5 +56,4 @@ rpm_of text = option_and_then (λ (cut : ℕ × List ℕ). behind_epoch cut.0 cu
 
 -- how two texts compare, if both are versions
 abbrev pub texts_cmp : List ℕ → List ℕ → Option Ordering
-texts_cmp one other =
-    option_and_then (λ a. option_map (λ b. rpm_cmp a b) (rpm_of other)) (rpm_of one)
+texts_cmp = compared rpm_of rpm_cmp

@@ -1,5 +1,5 @@
 -- Which texts are versions of SemVer 2.0.0: items 2, 9 and 10.
-use Rattle.std.specs.Prelude.{◌==◌, ◌&&◌, ◌||◌, ℕ, Bool, false, List, [], ◌∷◌, if◌then◌else◌, map, not, Option, None, Some, option_and_then}
+use Rattle.std.specs.Prelude.{◌==◌, ◌&&◌, ◌||◌, ℕ, Bool, false, List, [], ◌∷◌, if◌then◌else◌, map, not, Option, None, Some}
 use Rattle.std.specs.Borrow.{Bor}
 use Rattle.std.specs.Char.{is_ascii_digit}
 use Rattle.std.specs.List.{list_all}
@@ -13,7 +13,7 @@ use Rattle.version_rules.specs.grammar.SemVer.{PlainSemVer}
 use Rattle.version_rules.specs.order.SemVerOrder.{semver_cmp}
 use Rattle.version_texts.specs.key.TextKey.{chunks_of, pieces}
 use Rattle.version_texts.specs.scan.TextKind.{is_run}
-use Rattle.version_schemes.specs.Texts.{cut_first}
+use Rattle.version_schemes.specs.Texts.{compared, cut_first}
 use Rattle.version_schemes.specs.declared.semver.Section.{Section}
 use Rattle.version_schemes.specs.declared.semver.Section.TheVariants.{PreRelease, Metadata}
 
@@ -76,5 +76,4 @@ semver_of text = by (cut_first plus text)
 
 -- how two texts compare, if both are versions
 abbrev pub texts_cmp : List ℕ → List ℕ → Option Ordering
-texts_cmp one other =
-    option_and_then (λ a. option_map (λ b. semver_cmp a b) (semver_of other)) (semver_of one)
+texts_cmp = compared semver_of semver_cmp

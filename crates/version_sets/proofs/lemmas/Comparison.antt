@@ -129,6 +129,8 @@ rises comparison.LessEq version some begins =
     two_rise [] (after version.key) (none_less (after version.key) (some_more version.key 0))
 rises comparison.Greater version some begins = one_rises (after version.key)
 rises comparison.GreaterEq version some begins = one_rises version.key
+rises comparison.Earlier version some begins = two_rise [] version.key (none_less version.key some)
+rises comparison.Later version some begins = one_rises (after version.key)
 rises comparison.Tilde version some begins =
     two_rise version.key (version.begun kept.ButLastOrOnly ++ 4 ∷ [])
     (key_above (version.begun kept.ButLastOrOnly) version.key (begins refl kept.ButLastOrOnly))

@@ -2,6 +2,7 @@
 use Rattle.std.proofs.Common.{◌≡◌, ◌∙◌, ◌≤◌, ◌<◌, ◌||◌, ◌&&◌, ℕ, suc, Bool, true, false, not, List, [], ◌∷◌, length, Option, Some, None, IfSome, ap, arith, refl, sym}
 use Rattle.std.specs.List.{list_all}
 use Rattle.std.specs.Option.{is_some}
+use Rattle.version_texts.specs.declared.keyed.Words.{Words}
 use Rattle.version_texts.specs.keyed.Keyed.{PlainKeyed}
 use Rattle.version_sets.specs.Comparison.{ends_with}
 use Rattle.version_sets.specs.Ends.{has}
@@ -33,12 +34,12 @@ pub record IsAsked (member : List (List ℕ) → Member) (given : Asked) (rest :
   pub is : given ≡ With comparison version
   pub has_more : IsMore (member (ends_with comparison version)) rest first others
 
-pub is_asked : (read_as : List ℕ → Option PlainKeyed) (parts : Bool) (start place end : ℕ) (given : Asked)
+pub is_asked : (read_as : List ℕ → Option PlainKeyed) (words : Words) (start place end : ℕ) (given : Asked)
     (rest : Reading) (first : List Member) (others : List (List Member))
-    → answered read_as parts start place end given rest ≡ Right first others
+    → answered read_as words start place end given rest ≡ Right first others
     → IsAsked (λ ends. record { start = start; end = end; ends = ends }) given rest first others
-is_asked read_as parts start place end (Not reason) rest first others e = cc e
-is_asked read_as parts start place end (With c version) rest first others e =
+is_asked read_as words start place end (Not reason) rest first others e = cc e
+is_asked read_as words start place end (With c version) rest first others e =
     record { comparison = c; version = version; is = refl; has_more = one_more _ rest first others e }
 
 -- a member that has a key, and one that has not
@@ -76,14 +77,14 @@ once_found (Some span) next other e = refl
 -- ---- alternatives
 
 -- what an alternative leaves out stands before what those behind it do
-pub behind_one : (read_as : List ℕ → Option PlainKeyed) (parts : Bool) (key : List ℕ) (found : Option Span)
+pub behind_one : (read_as : List ℕ → Option PlainKeyed) (words : Words) (key : List ℕ) (found : Option Span)
     (here : Pieces) (after : Option Pieces)
-    → ((first : List Member) (others : List (List Member)) → left_read read_as parts Wanted here ≡ Right first others
-    → (found ≡ first_out key first) × AreLeft read_as parts after others)
-    → (all : List (List Member)) → AreLeft read_as parts (Some here) all
-    → (rest : List (List Member)) × AreLeft read_as parts after rest
+    → ((first : List Member) (others : List (List Member)) → left_read read_as words Wanted here ≡ Right first others
+    → (found ≡ first_out key first) × AreLeft read_as words after others)
+    → (all : List (List Member)) → AreLeft read_as words (Some here) all
+    → (rest : List (List Member)) × AreLeft read_as words after rest
     × (leave_out key all ≡ with_found found (leave_out key rest))
-behind_one read_as parts key found here after reads all left =
+behind_one read_as words key found here after reads all left =
     let is = reads left.0 left.1 left.3 in (
       left.1,
       is.1,

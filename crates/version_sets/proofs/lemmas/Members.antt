@@ -89,6 +89,8 @@ by_order order plain writes v r =
       less_eq = below_is key (after other) (ordering_then (order v r) Less) over ∙ then_less_lt (order v r);
       greater = from_is key (after other) (ordering_then (order v r) Less) over ∙ then_less_ge (order v r);
       greater_eq = from_is key other (order v r) at;
+      earlier = below_is key other (order v r) at;
+      later = from_is key (after other) (ordering_then (order v r) Less) over ∙ then_less_ge (order v r);
     }
 
 -- ---- by the parts

@@ -8,8 +8,10 @@ use Rattle.version_rules.specs.declared.ends.End.{End}
 use Rattle.version_rules.specs.grammar.Front.{after_mark}
 use Rattle.version_rules.specs.requirement.Op.{after_word}
 use Rattle.version_texts.specs.declared.versioning_ref.slip.Slip.{Slip as Slips}
+use Rattle.version_texts.specs.declared.keyed.Words.{Words}
+use Rattle.version_texts.specs.declared.keyed.Words.TheVariants.{Doubled, Parts, Plain}
 use Rattle.version_texts.specs.keyed.Keyed.{AreWithin, PlainKeyed, end_of}
-use Rattle.version_sets.specs.Comparison.{asks_bare, asks_parts, before_star, bytes_of, comparison_ends, comparison_front, ends_with, first_word, starred, words}
+use Rattle.version_sets.specs.Comparison.{asks_bare, asks_doubled, asks_parts, before_star, bytes_of, comparison_ends, comparison_front, ends_with, first_word, has_doubled, has_parts, starred, words}
 use Rattle.version_sets.specs.Form.{form_bytes}
 use Rattle.version_sets.specs.Pieces.{PlainPiece, Bar, Bars, Comma, Word}
 use Rattle.version_sets.specs.Reading.{Asked, With, allowed, asked, piece_room, unless_slip, with_version}
@@ -146,32 +148,42 @@ all_room most Come place at Bar e = cc e
 -- ---- what was asked
 
 -- a version that a text not longer is read as, with parts where the comparison asks for these
-pub record IsRead (read_as : List ℕ → Option PlainKeyed) (parts : Bool) (text : List ℕ) (c : Comparison)
+pub record IsRead (read_as : List ℕ → Option PlainKeyed) (words : Words) (text : List ℕ) (c : Comparison)
     (version : PlainKeyed) : Type 0 where
   pub front : List ℕ
   pub read : read_as front ≡ Some version
   pub shorter : length front ≤ length text
-  pub allowed_is : asks_parts c ≡ true → parts ≡ true
+  pub allowed_is : asks_parts c ≡ true → words ≡ Parts
 
-module _ (read_as : List ℕ → Option PlainKeyed) (parts : Bool) where
-  allowed_read : (c other : Comparison) (version plain : PlainKeyed) → allowed read_as parts c version ≡ With other plain
-      → (c ≡ other) × (version ≡ plain) × (asks_parts c ≡ true → parts ≡ true)
-  allowed_read c other version plain e = by (asks_parts c) parts refl refl
+are_parts : (words : Words) → has_parts words ≡ true → words ≡ Parts
+are_parts Parts e = refl
+are_parts Plain e = cc e
+are_parts Doubled e = cc e
+
+module _ (read_as : List ℕ → Option PlainKeyed) (words : Words) where
+  allowed_read : (c other : Comparison) (version plain : PlainKeyed) → allowed read_as words c version ≡ With other plain
+      → (c ≡ other) × (version ≡ plain) × (asks_parts c ≡ true → words ≡ Parts)
+  allowed_read c other version plain e = by (asks_parts c) (has_parts words) refl refl
     where
-      bare : (asks : Bool) → (asks_bare c && not version.is_bare) ≡ asks → (asks_parts c && not parts) ≡ false
-          → (c ≡ other) × (version ≡ plain)
-      bare true bare_is unasked = cc (rw (unasked, bare_is) at e)
-      bare false bare_is unasked =
-          let same : With c version ≡ With other plain = rw (unasked, bare_is) at e in (cc same, cc same)
+      bare : (asks : Bool) → (asks_bare c && not version.is_bare) ≡ asks → (asks_parts c && not (has_parts words)) ≡ false
+          → (asks_doubled c && not (has_doubled words)) ≡ false → (c ≡ other) × (version ≡ plain)
+      bare true bare_is unasked single = cc (rw (unasked, single, bare_is) at e)
+      bare false bare_is unasked single =
+          let same : With c version ≡ With other plain = rw (unasked, single, bare_is) at e in (cc same, cc same)
 
-      by : (asks has : Bool) → asks_parts c ≡ asks → parts ≡ has
-          → (c ≡ other) × (version ≡ plain) × (asks_parts c ≡ true → parts ≡ true)
+      rest : (asks : Bool) → (asks_doubled c && not (has_doubled words)) ≡ asks
+          → (asks_parts c && not (has_parts words)) ≡ false → (c ≡ other) × (version ≡ plain)
+      rest true doubled unasked = cc (rw (unasked, doubled) at e)
+      rest false single unasked = bare (asks_bare c && not version.is_bare) refl unasked single
+
+      by : (asks has : Bool) → asks_parts c ≡ asks → has_parts words ≡ has
+          → (c ≡ other) × (version ≡ plain) × (asks_parts c ≡ true → words ≡ Parts)
       by true false asks_is has_is = cc (rw (asks_is, has_is) at e)
       by true true asks_is has_is =
-          let same = bare (asks_bare c && not version.is_bare) refl (rw (asks_is, has_is) refl) in
-          (same.0, same.1, λ asks. has_is)
+          let same = rest (asks_doubled c && not (has_doubled words)) refl (rw (asks_is, has_is) refl) in
+          (same.0, same.1, λ asks. are_parts words has_is)
       by false has asks_is has_is =
-          let same = bare (asks_bare c && not version.is_bare) refl (rw asks_is refl) in
+          let same = rest (asks_doubled c && not (has_doubled words)) refl (rw asks_is refl) in
           (same.0, same.1, λ asks. cc (asks_is, asks))
 
   unless_read : (slip : Option Slips) (found : Asked) (other : Comparison) (plain : PlainKeyed)
@@ -180,14 +192,14 @@ module _ (read_as : List ℕ → Option PlainKeyed) (parts : Bool) where
   unless_read (Some slip) found other plain e = cc e
 
   version_read : (c other : Comparison) (text : List ℕ) (plain : PlainKeyed)
-      → with_version read_as parts c text ≡ With other plain → IsRead read_as parts text other plain
+      → with_version read_as words c text ≡ With other plain → IsRead read_as words text other plain
   version_read c other text plain e = by (read_as text) refl
     where
-      by : (read : Option PlainKeyed) → read_as text ≡ read → IsRead read_as parts text other plain
+      by : (read : Option PlainKeyed) → read_as text ≡ read → IsRead read_as words text other plain
       by None is = cc (rw is at e)
       by (Some version) is =
           let found = allowed_read c other version plain
-          (unless_read version.slip (allowed read_as parts c version) other plain (rw is at e)) in
+          (unless_read version.slip (allowed read_as words c version) other plain (rw is at e)) in
           record {
             front = text;
             read = is ∙ ap Some found.1;
@@ -196,14 +208,14 @@ module _ (read_as : List ℕ → Option PlainKeyed) (parts : Bool) where
           }
 
   pub asked_read : (c other : Comparison) (text : List ℕ) (plain : PlainKeyed)
-      → asked read_as parts c text ≡ With other plain → IsRead read_as parts text other plain
+      → asked read_as words c text ≡ With other plain → IsRead read_as words text other plain
   asked_read c other text plain e = by (before_star text) refl
     where
-      by : (before : Option (List ℕ)) → before_star text ≡ before → IsRead read_as parts text other plain
+      by : (before : Option (List ℕ)) → before_star text ≡ before → IsRead read_as words text other plain
       by None is = version_read c other text plain (rw is at e)
       by (Some front) is = of_star (starred c) refl
         where
-          of_star : (star : Option Comparison) → starred c ≡ star → IsRead read_as parts text other plain
+          of_star : (star : Option Comparison) → starred c ≡ star → IsRead read_as words text other plain
           of_star None star = cc (rw (is, star) at e)
           of_star (Some prefix) star =
               let found = version_read prefix other front plain (rw (is, star) at e) in
@@ -255,18 +267,20 @@ few_ends comparison.Less = omega arith
 few_ends comparison.LessEq = omega arith
 few_ends comparison.Greater = omega arith
 few_ends comparison.GreaterEq = omega arith
+few_ends comparison.Earlier = omega arith
+few_ends comparison.Later = omega arith
 few_ends comparison.Tilde = omega arith
 few_ends comparison.Caret = omega arith
 few_ends comparison.Prefix = omega arith
 few_ends comparison.NotPrefix = omega arith
 
 -- a member has no more bytes than its word has room for
-pub member_small : (order : ℕ) (read_as : List ℕ → Option PlainKeyed) (most : ℕ → ℕ) (parts : Bool)
+pub member_small : (order : ℕ) (read_as : List ℕ → Option PlainKeyed) (most : ℕ → ℕ) (words : Words)
     (c other : Comparison) (text word : List ℕ) (plain : PlainKeyed)
-    → AreWithin read_as most → asked read_as parts c text ≡ With other plain → length text ≤ length word
+    → AreWithin read_as most → asked read_as words c text ≡ With other plain → length text ≤ length word
     → length (form_bytes order (ends_with other plain)) ≤ piece_room most (Word word)
-member_small order read_as most parts c other text word plain within e longer =
-    let is = asked_read read_as parts c other text plain e in
+member_small order read_as most words c other text word plain within e longer =
+    let is = asked_read read_as words c other text plain e in
     let small : (end : End) → length (end_of end plain) ≤ most (length word) + 1 =
     λ end. within is.front plain end (length word) is.read (omega (arith, is.shorter, longer)) in
     omega (
@@ -278,15 +292,15 @@ member_small order read_as most parts c other text word plain within e longer =
     )
 
 -- the member that a piece asks for fits into the room that is asked for the piece
-pub asked_small : (order : ℕ) (read_as : List ℕ → Option PlainKeyed) (most : ℕ → ℕ) (parts : Bool) (state : State)
+pub asked_small : (order : ℕ) (read_as : List ℕ → Option PlainKeyed) (most : ℕ → ℕ) (words : Words) (state : State)
     (place : ℕ) (piece : PlainPiece) (c other : Comparison) (from at : ℕ) (text : List ℕ) (plain : PlainKeyed)
     → AreWithin read_as most → step state place piece ≡ Asks c from at text
-    → asked read_as parts c text ≡ With other plain
+    → asked read_as words c text ≡ With other plain
     → length (form_bytes order (ends_with other plain)) ≤ piece_room most piece
-asked_small order read_as most parts state place piece c other from at text plain within stepped given =
+asked_small order read_as most words state place piece c other from at text plain within stepped given =
     let word = asks_word state place piece c from at text stepped in
     omega (
       arith,
-      member_small order read_as most parts c other text word.word plain within given word.longer,
+      member_small order read_as most words c other text word.word plain within given word.longer,
       ap (piece_room most) word.is,
     )

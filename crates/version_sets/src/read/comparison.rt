@@ -2,7 +2,7 @@
 
 ghost use Rattle.std.specs.Prelude.{◌≡◌, ◌≤◌, length, IfSome};
 ghost use Rattle.std.specs.Option.{option_map};
-ghost use Rattle.version_sets.specs.Comparison.{asks_bare, asks_parts, comparison_ends, comparison_front, starred};
+ghost use Rattle.version_sets.specs.Comparison.{asks_bare, asks_doubled, asks_parts, comparison_ends, comparison_front, starred};
 
 use version_rules::{End, Kept};
 
@@ -21,6 +21,10 @@ pub enum Comparison {
     Greater,
     /// `>=`: it doesn't come before.
     GreaterEq,
+    /// `<<`: it comes strictly before, as `<` has it. For Debian's versions alone.
+    Earlier,
+    /// `>>`: it comes strictly after, as `>` has it. For Debian's versions alone.
+    Later,
     /// `~`, `~=` or `~>`: it doesn't come before, and begins with the parts but the last, or with the only part.
     Tilde,
     /// `^`: it doesn't come before, and begins with the parts through the first that is no plain zero, or with all.
@@ -43,8 +47,10 @@ impl Comparison {
             [b'=', rest @ ..] => Some((Comparison::Equal, rest)),
             [b'!', b'=', rest @ ..] => Some((Comparison::Unequal, rest)),
             [b'<', b'=', rest @ ..] => Some((Comparison::LessEq, rest)),
+            [b'<', b'<', rest @ ..] => Some((Comparison::Earlier, rest)),
             [b'<', rest @ ..] => Some((Comparison::Less, rest)),
             [b'>', b'=', rest @ ..] => Some((Comparison::GreaterEq, rest)),
+            [b'>', b'>', rest @ ..] => Some((Comparison::Later, rest)),
             [b'>', rest @ ..] => Some((Comparison::Greater, rest)),
             [b'~', b'=', rest @ ..] => Some((Comparison::Tilde, rest)),
             [b'~', b'>', rest @ ..] => Some((Comparison::Tilde, rest)),
@@ -75,6 +81,13 @@ impl Comparison {
         )
     }
 
+    /// Returns whether it has a doubled sign. Does not allocate.
+    pub(crate) fn asks_doubled(self) -> bool
+        ensures { result ≡ asks_doubled self }
+    {
+        matches!(self, Comparison::Earlier | Comparison::Later)
+    }
+
     /// Returns whether it is of versions that have parts alone. Does not allocate.
     pub(crate) fn asks_bare(self) -> bool
         ensures { result ≡ asks_bare self }
@@ -89,9 +102,9 @@ impl Comparison {
         match self {
             Comparison::Equal => &[End::Key, End::AfterKey],
             Comparison::Unequal => &[End::Lowest, End::Key, End::AfterKey],
-            Comparison::Less => &[End::Lowest, End::Key],
+            Comparison::Less | Comparison::Earlier => &[End::Lowest, End::Key],
             Comparison::LessEq => &[End::Lowest, End::AfterKey],
-            Comparison::Greater => &[End::AfterKey],
+            Comparison::Greater | Comparison::Later => &[End::AfterKey],
             Comparison::GreaterEq => &[End::Key],
             Comparison::Tilde => &[End::Key, End::AboveBegun(Kept::ButLastOrOnly)],
             Comparison::Caret => &[End::Key, End::AboveBegun(Kept::ThroughOther)],

@@ -10,6 +10,8 @@ ghost use Rattle.version_sets.specs.Pieces.{pieces, Word};
 ghost use Rattle.version_sets.specs.Reading.{asked, piece_room, pieces_room, read_set, set_room, Member, Right, With};
 ghost use Rattle.version_sets.specs.declared.read.comparison.Comparison.{Comparison as Comparisons};
 ghost use Rattle.version_sets.specs.declared.read.steps.State.TheVariants.{Wanted};
+ghost use Rattle.version_texts.specs.declared.keyed.Words.{Words};
+ghost use Rattle.version_texts.specs.declared.keyed.Words.TheVariants.{Parts};
 ghost use Rattle.version_texts.specs.keyed.Keyed.{AreWithin, PlainKeyed};
 
 use crate::form::Form;
@@ -41,9 +43,9 @@ pub struct Alternatives<'t> {
 impl<'t> Alternatives<'t> {
     /// Returns all alternatives of a text. Does not allocate.
     pub fn of(text: &'t [u8]) -> Alternatives<'t>
-        ensures all { (read_as : List ℕ → Option PlainKeyed) (parts : Bool) (first : List Member)
-            (others : List (List Member)) → read_set read_as parts text.now ≡ Right first others
-            → AreLeft read_as parts result.left (first ∷ others) }
+        ensures all { (read_as : List ℕ → Option PlainKeyed) (words : Words) (first : List Member)
+            (others : List (List Member)) → read_set read_as words text.now ≡ Right first others
+            → AreLeft read_as words result.left (first ∷ others) }
         ensures room { (most : ℕ → ℕ) → set_room most text.now ≡ 2 * room_left most result.left }
     {
         Alternatives {
@@ -63,11 +65,11 @@ impl<'t> Alternatives<'t> {
         room: &mut [u8],
     ) -> Result<Option<Span>, NoRoom>
         ensures some { IfOk result (λ found. IfSome found (λ span. (all : List (List Member))
-            → AreLeft V.read_as V.parts self.old.left all → (rest : List (List Member))
-            × AreLeft V.read_as V.parts self.new.left rest
+            → AreLeft V.read_as V.words self.old.left all → (rest : List (List Member))
+            × AreLeft V.read_as V.words self.new.left rest
             × (leave_out (V.plain version.now).key all ≡ span ∷ leave_out (V.plain version.now).key rest))) }
         ensures none { IfOk result (λ found. IfNone found ((all : List (List Member))
-            → AreLeft V.read_as V.parts self.old.left all → leave_out (V.plain version.now).key all ≡ [])) }
+            → AreLeft V.read_as V.words self.old.left all → leave_out (V.plain version.now).key all ≡ [])) }
         ensures nearer { IfOk result (λ found.
             IfSome found (λ _. steps_left self.new.left < steps_left self.old.left)) }
         ensures room { IfErr result (λ _. length room.old < room_left V.most self.old.left) }
@@ -93,9 +95,9 @@ fn first_excluding<'t, V: Keyed<'t>>(
 ) -> Result<(Option<Span>, Option<Pieces<'t>>), NoRoom>
     requires place { left.place + length left.left.now < 2 ^ 64 }
     ensures read { IfOk result (λ found. (first : List Member) (others : List (List Member))
-        → left_read V.read_as V.parts Wanted left.entry ≡ Right first others
+        → left_read V.read_as V.words Wanted left.entry ≡ Right first others
         → (found.0 ≡ first_out (V.plain version.now).key first)
-        × AreLeft V.read_as V.parts found.1 others) }
+        × AreLeft V.read_as V.words found.1 others) }
     ensures end { IfOk result (λ found. IfSome found.1 (λ after. after.place + length after.left.now
         ≡ left.entry.place + length left.entry.left.now)) }
     ensures nearer { IfOk result (λ found.
@@ -145,7 +147,7 @@ fn excludes<'t, V: Keyed<'t>>(
     requires room { (word : List ℕ) × (length text.now ≤ length word)
         × (piece_room V.most (Word word) ≤ length room.old) }
     ensures excludes { (c : Comparisons) (other : PlainKeyed)
-        → asked V.read_as V.parts comparison text.now ≡ With c other
+        → asked V.read_as V.words comparison text.now ≡ With c other
         → result ≡ not (has (ends_with c other) (V.plain version.now).key) }
     ensures same { length room.new ≡ length room.old }
 {
@@ -158,7 +160,7 @@ fn excludes<'t, V: Keyed<'t>>(
 // Whether a member leaves a version out.
 fn leaves_out<'t, V: Keyed<'t>>(member: (Comparison, V), version: &V, room: &mut [u8]) -> bool
     requires room { length (form_bytes 0 (ends_with member.0 (V.plain member.1))) ≤ length room.old }
-    requires parts { asks_parts member.0 ≡ true → V.parts ≡ true }
+    requires parts { asks_parts member.0 ≡ true → V.words ≡ Parts }
     ensures out { result ≡ not (has (ends_with member.0 (V.plain member.1)) (V.plain version.now).key) }
     ensures same { length room.new ≡ length room.old }
 {

@@ -24,6 +24,8 @@ pub enum Reason {
     NotBare,
     /// The versions of the order have no parts, which the operator asks for.
     NoParts,
+    /// `<<` and `>>` are not of this order, but of Debian's.
+    NotDoubled,
     /// The version may have been meant as something else.
     Slip(Slip),
 }
@@ -36,13 +38,16 @@ impl Reason {
         match self {
             Reason::NoMember => "a member is missing: * has all versions",
             Reason::NoVersion => "a version is missing behind the operator",
-            Reason::NoOperator => "an operator is missing: write = or ^ before the version",
+            Reason::NoOperator => {
+                "an operator is missing before the version: = for it alone, >= for it and all later"
+            },
             Reason::OneBar => "one bar stands alone: write || between alternatives",
             Reason::NotVersion => "what follows the operator is not a version",
             Reason::StarBehind => ".* stands after =, == and != alone: cut it off",
             Reason::NotBare =>
                 ".* stands behind an epoch and parts alone: cut off what follows these",
             Reason::NoParts => "versions of this scheme have no parts, which ~, ^ and .* ask for",
+            Reason::NotDoubled => "<< and >> are for Debian's versions alone: write < or >",
             Reason::Slip(Slip::LetterV) => "the version begins with v: cut it off",
             Reason::Slip(Slip::PartX) =>
                 "the version has a part x: write =1.* for what begins with 1",

@@ -17,7 +17,7 @@ use version_texts::Keyed;
 /// time linear in the text, and no room. Does not allocate.
 pub fn find_fault<'t, V: Keyed<'t>>(text: &'t [u8]) -> Option<Fault>
     ensures { option_map (λ fault. (fault.place, fault.reason)) result
-        ≡ fault_of (read_set V.read_as V.parts text.now) }
+        ≡ fault_of (read_set V.read_as V.words text.now) }
 {
     let mut pieces = Pieces {
         left: text,
@@ -43,9 +43,9 @@ pub fn find_fault<'t, V: Keyed<'t>>(text: &'t [u8]) -> Option<Fault>
 fn after<'t, V: Keyed<'t>>(state: State, place: usize, piece: Piece<'t>) -> Result<State, Fault>
     requires { place + piece_length (plain_piece piece) < 2 ^ 64 }
     ensures ok { IfOk result (λ next. (rest : States → Reading)
-        → fault_of (after_step V.read_as V.parts rest (step state place (plain_piece piece.entry))) ≡ fault_of (rest next)) }
+        → fault_of (after_step V.read_as V.words rest (step state place (plain_piece piece.entry))) ≡ fault_of (rest next)) }
     ensures err { IfErr result (λ fault. (rest : States → Reading)
-        → after_step V.read_as V.parts rest (step state place (plain_piece piece.entry)) ≡ Wrong fault.place fault.reason) }
+        → after_step V.read_as V.words rest (step state place (plain_piece piece.entry)) ≡ Wrong fault.place fault.reason) }
 {
     match state.step(place, piece) {
         Step::Wrong(fault) => Err(fault),

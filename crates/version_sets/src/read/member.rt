@@ -14,14 +14,14 @@ use crate::read::comparison::Comparison;
 use crate::read::fault::Reason;
 use crate::write::{number, write_at, write_head};
 use version_rules::End;
-use version_texts::{Count, Keyed, Room};
+use version_texts::{Count, Keyed, Room, Words};
 
 // Returns a comparison with the text of its version, behind which `.*` may stand, or why there is none.
 pub(crate) fn asked<'t, V: Keyed<'t>>(
     comparison: Comparison,
     text: &'t [u8],
 ) -> Result<(Comparison, V), Reason>
-    ensures { plain_asked V.plain result ≡ asked V.read_as V.parts comparison text.now }
+    ensures { plain_asked V.plain result ≡ asked V.read_as V.words comparison text.now }
 {
     let (comparison, text) = match before_star(text) {
         Some(front) => (comparison.starred().ok_or(Reason::StarBehind)?, front),
@@ -43,14 +43,18 @@ fn with_version<'t, V: Keyed<'t>>(
     comparison: Comparison,
     text: &'t [u8],
 ) -> Result<(Comparison, V), Reason>
-    ensures { plain_asked V.plain result ≡ with_version V.read_as V.parts comparison text.now }
+    ensures { plain_asked V.plain result ≡ with_version V.read_as V.words comparison text.now }
 {
     let version = V::read(text).ok_or(Reason::NotVersion)?;
     if let Some(slip) = version.slip() {
         return Err(Reason::Slip(slip));
     }
-    if comparison.asks_parts() && !V::has_parts() {
+    let words = V::words();
+    if comparison.asks_parts() && !matches!(words, Words::Parts) {
         return Err(Reason::NoParts);
+    }
+    if comparison.asks_doubled() && !matches!(words, Words::Doubled) {
+        return Err(Reason::NotDoubled);
     }
     if comparison.asks_bare() && !version.is_bare() {
         return Err(Reason::NotBare);

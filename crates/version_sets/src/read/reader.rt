@@ -64,11 +64,11 @@ impl Reader {
         ensures fits { Fits self.new }
         ensures ok { IfOk result (λ next. (whole : Reading) (rest : States → Reading) (done own : List ℕ → Bool)
             → Holds room.old self.old done own
-            → Continues whole done own (after_step V.read_as V.parts rest (step state place (plain_piece piece.entry)))
+            → Continues whole done own (after_step V.read_as V.words rest (step state place (plain_piece piece.entry)))
             → (done_after own_after : List ℕ → Bool) × Holds room.new self.new done_after own_after
             × Continues whole done_after own_after (rest next)) }
         ensures err { IfErr result (λ fault. (whole : Reading) (rest : States → Reading) (done own : List ℕ → Bool)
-            → Continues whole done own (after_step V.read_as V.parts rest (step state place (plain_piece piece.entry)))
+            → Continues whole done own (after_step V.read_as V.words rest (step state place (plain_piece piece.entry)))
             → whole ≡ Wrong fault.place fault.reason) }
         ensures come { IfOk result (λ next. next ≡ Come → 1 ≤ self.new.members.depth) }
         ensures end { self.new.end ≤ self.old.end + piece_room V.most (plain_piece piece.entry) }

@@ -38,10 +38,10 @@ pub fn compare_numbers<'t>(x: &'t [u8], y: &'t [u8]) -> Compared<'t>
     }
 }
 
-// Compares the numbers that two texts begin with, or returns None if one begins with no digit. Mostly one of them is one
-// digit, which takes no loop.
+/// Compares the numbers that two texts begin with, or returns None if one begins with no digit. Mostly one of them is one
+/// digit, which takes no loop. Does not allocate.
 #[inline(always)]
-pub(crate) fn compare_if_numbers(x: &[u8], y: &[u8]) -> Option<Ordering>
+pub fn compare_if_numbers(x: &[u8], y: &[u8]) -> Option<Ordering>
     ensures digits { IfSome result
         (λ order. (starts_with_digit x.now ≡ true) × (starts_with_digit y.now ≡ true)) }
     ensures order { IfSome result (λ order. order ≡ nat_cmp (run_value x.now) (run_value y.now)) }

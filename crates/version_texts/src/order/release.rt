@@ -18,9 +18,10 @@ use crate::order::run::Compared;
 use std::cmp::Ordering;
 use version_rules::{Class, split_run};
 
-// Compares two releases chunk by chunk. A prefix comes before the longer release.
+/// Compares two releases chunk by chunk: numbers by value, which come before texts, and texts by bytes. A prefix comes
+/// before the longer release. Does not allocate.
 #[inline(never)]
-pub(crate) fn compare_releases(x: &[u8], y: &[u8]) -> Ordering
+pub fn compare_releases(x: &[u8], y: &[u8]) -> Ordering
     ensures { result ≡ release_cmp (chunks_of x.now) (chunks_of y.now) }
 {
     let (mut a, mut b) = (x, y);

@@ -6,7 +6,7 @@ use Rattle.clap.specs.declared.error.kind.ErrorKind.{ErrorKind}
 use Rattle.clap.specs.declared.parser.matches.ArgMatches.{ArgMatches}
 use Rattle.version_words.specs.declared.faults.WordsFault.{WordsFault}
 use Rattle.version_commands.specs.declared.options.Task.{Task}
-use Rattle.version_commands.specs.declared.options.Task.TheVariants.{Compare, Difference, Each, Implies, Label, Lines, Lists, Match, Meets, Say, TestSet, TestTwo}
+use Rattle.version_commands.specs.declared.options.Task.TheVariants.{Compare, Explain, Difference, Each, Implies, Label, Lines, Lists, Match, Meets, Say, TestSet, TestTwo}
 use Rattle.version_words.specs.Grammar.{program_app}
 use Rattle.version_words.specs.Task.{IsTaskOf}
 use Rattle.version_words.specs.Words.{command_in, command_of, faults, shows, AreWrong, ComesOfWrong, HasAnswer, IsMistake, IsTaskIn, IsWrongIn, Means, Shows}
@@ -43,11 +43,12 @@ module _ (words : List (List ℕ)) where
   meant : (task : Task) → faults words ≡ [] → IsTaskIn (command_of words) task → Means words task
   meant (Lines arrangement options) right is = (right, is)
   meant (Each question options) right is = (right, is)
-  meant (TestTwo first operator second) right is = (right, is)
-  meant (TestSet version set) right is = (right, is)
-  meant (Implies one other) right is = (right, is)
-  meant (Meets one other) right is = (right, is)
-  meant (Compare first second explain) right is = (right, is)
+  meant (TestTwo scheme first operator second) right is = (right, is)
+  meant (TestSet scheme version set) right is = (right, is)
+  meant (Implies scheme one other) right is = (right, is)
+  meant (Meets scheme one other) right is = (right, is)
+  meant (Compare scheme first second) right is = (right, is)
+  meant (Explain first second) right is = (right, is)
   meant (Difference first second) right is = (right, is)
   meant (Lists lists) right is = (right, is)
   meant (Label labels) right is = (right, is)
@@ -60,11 +61,12 @@ module _ (words : List (List ℕ)) where
   shown (Say text) kind answers is = answers is
   shown (Lines arrangement options) kind answers never = absurd never
   shown (Each question options) kind answers never = absurd never
-  shown (TestTwo first operator second) kind answers never = absurd never
-  shown (TestSet version set) kind answers never = absurd never
-  shown (Implies one other) kind answers never = absurd never
-  shown (Meets one other) kind answers never = absurd never
-  shown (Compare first second explain) kind answers never = absurd never
+  shown (TestTwo scheme first operator second) kind answers never = absurd never
+  shown (TestSet scheme version set) kind answers never = absurd never
+  shown (Implies scheme one other) kind answers never = absurd never
+  shown (Meets scheme one other) kind answers never = absurd never
+  shown (Compare scheme first second) kind answers never = absurd never
+  shown (Explain first second) kind answers never = absurd never
   shown (Difference first second) kind answers never = absurd never
   shown (Lists lists) kind answers never = absurd never
   shown (Label labels) kind answers never = absurd never

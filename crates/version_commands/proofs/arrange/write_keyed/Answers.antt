@@ -10,17 +10,17 @@ use Rattle.version_commands.proofs.arrange.write_keyed.Goals as goal
 pub returns-clause-ends : goal.returns-clause-ends
 returns-clause-ends g c =
     let options = c.args.options.now in
-    let text_of = g.B.SortBy.text_of c.args.by in
+    let reads = g.B.SortBy.reads c.args.by in
     let lines = lines_of options.end c.args.input.now in
     let (kept, stays) = c.in_ok-bad.ensures.taken in
     let by = c.in_ok-kept.ensures.by in
     let rows = c.in_ok-arrange.ensures
-    ∙ (λ i. arranged (g.B.SortBy.text_of (stays i)) (group_text options.place.crlf)
+    ∙ (λ i. arranged (g.B.SortBy.reads (stays i)) (group_text options.place.crlf)
     c.args.arrangement (kept i))
-    ∙ (λ i. arranged (g.B.SortBy.text_of (by i)) (group_text options.place.crlf) c.args.arrangement
-    (kept_lines (g.B.SortBy.text_of (by i)) (g.C.Chooses.keeps c.args.chooser.now) lines)) in
+    ∙ (λ i. arranged (g.B.SortBy.reads (by i)) (group_text options.place.crlf) c.args.arrangement
+    (kept_lines (g.B.SortBy.reads (by i)) (g.C.Chooses.keeps c.args.chooser.now) lines)) in
     ends-weaker _ _ _ _ _ _ c.write_lines.result
-    (λ output. is-arranged text_of options c.args.input.now _ _ _ _ output
-    (c.in_ok-bad.ensures.bad.0 ∙ (λ i. bad_lines (g.B.SortBy.text_of (by i)) lines)) rows
+    (λ output. is-arranged reads options c.args.input.now _ _ _ _ output
+    (c.in_ok-bad.ensures.bad.0 ∙ (λ i. bad_lines (g.B.SortBy.reads (by i)) lines)) rows
     (λ fail. ap (map (λ (line : Bor (List ℕ)). line.now)) (c.in_ok-refuse_bad.ensures.none fail)))
-    (put-faults options text_of c.args.input.now) c.write_lines.ensures.ends
+    (put-faults options reads c.args.input.now) c.write_lines.ensures.ends

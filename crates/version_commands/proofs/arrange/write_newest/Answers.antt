@@ -13,12 +13,12 @@ returns-clause-ends g c =
     let (newest, stays) = c.in_ok-bad.ensures.taken in
     let by = c.new-newest.ensures.by in
     let rows = c.line.ensures _ newest
-    ∙ (λ i. newest_alone (g.B.SortBy.text_of (stays i))
-    (kept_lines (g.B.SortBy.text_of c.new-newest.result.by) (g.C.Chooses.keeps c.args.chooser.now) lines))
-    ∙ (λ i. newest_alone (g.B.SortBy.text_of (by i))
-    (kept_lines (g.B.SortBy.text_of (by i)) (g.C.Chooses.keeps c.args.chooser.now) lines)) in
+    ∙ (λ i. newest_alone (g.B.SortBy.reads (stays i))
+    (kept_lines (g.B.SortBy.reads c.new-newest.result.by) (g.C.Chooses.keeps c.args.chooser.now) lines))
+    ∙ (λ i. newest_alone (g.B.SortBy.reads (by i))
+    (kept_lines (g.B.SortBy.reads (by i)) (g.C.Chooses.keeps c.args.chooser.now) lines)) in
     ends-weaker _ _ _ _ _ _ c.write_lines.result
-    (λ output. is-arranged (g.B.SortBy.text_of c.args.by) options c.args.input.now _ _ _ _ output
-    (c.in_ok-bad.ensures.bad.0 ∙ (λ i. bad_lines (g.B.SortBy.text_of (by i)) lines)) rows
+    (λ output. is-arranged (g.B.SortBy.reads c.args.by) options c.args.input.now _ _ _ _ output
+    (c.in_ok-bad.ensures.bad.0 ∙ (λ i. bad_lines (g.B.SortBy.reads (by i)) lines)) rows
     (λ fail. ap (map (λ (line : Bor (List ℕ)). line.now)) (c.in_ok-refuse_bad.ensures.none fail)))
-    (put-faults options (g.B.SortBy.text_of c.args.by) c.args.input.now) c.write_lines.ensures.ends
+    (put-faults options (g.B.SortBy.reads c.args.by) c.args.input.now) c.write_lines.ensures.ends

@@ -1,9 +1,9 @@
 use Rattle.std.proofs.Common.{◌≡◌, ◌<◌, ◌++◌, ◌∷◌, [], ℕ, List, Bor, Some, length, map, get_or, take, rules, sym, subst, ap, ◌∙◌, arith}
 use Rattle.std.proofs.lemmas.List.{take_all}
 use Rattle.std.proofs.lemmas.Result.{IfErr-weaker, IfOk-weaker}
-use Rattle.version_commands.specs.Each.{HasSet, HaveAnswered}
-use Rattle.version_rules.specs.grammar.Versioning.{versioning_of}
-use Rattle.version_texts.specs.versioning_ref.VersioningRef.{plain_versioning_ref}
+use Rattle.version_commands.specs.Each.{HasSet, HaveAnswered, scheme_of}
+use Rattle.version_schemes.specs.any.AnyVersion.{plain_any}
+use Rattle.version_schemes.specs.any.Order.{any_of}
 use Rattle.version_commands.proofs.lemmas.Each.{asking-answering, word-texts, wrong-here, wrong-next}
 use Rattle.version_commands.proofs.lemmas.Pieces.{texts-next}
 use Rattle.version_commands.proofs.each.answer_words.Goals as goal
@@ -15,8 +15,8 @@ loop-word-preserved c =
     let i = c.loop-word.word-index in
     let d : Bor (List ℕ) = record { ref_ptr = (0, 0); now = [] } in
     let inside : i < length words = search rules in
-    let here : versioning_of (get_or words i d).now
-    ≡ Some (plain_versioning_ref c.in_ok-version.version) = search rules in
+    let here : any_of (scheme_of c.args.question) (get_or words i d).now
+    ≡ Some (plain_any c.in_ok-version.version) = search rules in
     let text : c.as_bytes.result.now ≡ (get_or words i d).now = search rules in (
       subst (λ question. HasSet question c.add.new.self.set) (sym c.in_ok-add.ensures.question)
           (subst (HasSet c.loop-word.answers.question) (sym c.in_ok-add.ensures.set) list),
@@ -24,7 +24,7 @@ loop-word-preserved c =
           (ap (λ (t : List ℕ). map (λ (word : Bor (List ℕ)). word.now) (take i words) ++ t ∷ []) text
           ∙ sym (texts-next (λ (word : Bor (List ℕ)). word.now) words i d inside))
           (c.in_ok-add.ensures.answers _ _ have),
-      wrong ∙ wrong-next words i d _ inside here,
+      wrong ∙ wrong-next (scheme_of c.args.question) words i d _ inside here,
     )
 
 pub returns-clause-answers : goal.returns-clause-answers

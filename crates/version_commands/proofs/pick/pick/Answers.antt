@@ -8,7 +8,7 @@ loop-rest-init g c = (
   refl,
   [],
   c.requires.none,
-  picked-start _ _ _ _ _ _ refl (c.new-bad.ensures (g.T.Takes.text_of c.args.taker.now)),
+  picked-start _ _ _ _ _ _ refl (c.new-bad.ensures (g.T.Takes.reads c.args.taker.now)),
 )
 
 pub loop-rest-preserved-in_ok-take-in-Some : goal.loop-rest-preserved-in_ok-take-in-Some

@@ -1,7 +1,14 @@
-use Rattle.std.proofs.Common.{refl, true}
-use Rattle.version_commands.proofs.lemmas.Sets.{all_left, read_as}
+use Rattle.std.proofs.Common.{refl}
+use Rattle.version_commands.proofs.lemmas.Sets.{all_left}
+use Rattle.version_schemes.specs.Scheme.{rules}
+use Rattle.version_schemes.specs.any.AnyVersion.{plain_any}
 use Rattle.version_commands.proofs.why.add_members.Goals as goal
 
 pub loop-found-init : goal.loop-found-init
 loop-found-init c = λ all is.
-    (all, all_left c.args.set.now c.of-alternatives.result.left (c.of-alternatives.ensures.all read_as true) all is, refl)
+    let scheme = (plain_any c.args.version.now).scheme in (
+      all,
+      all_left scheme c.args.set.now c.of-alternatives.result.left
+          (c.of-alternatives.ensures.all (rules scheme).read_as (rules scheme).words) all is,
+      refl,
+    )

@@ -5,31 +5,30 @@ use Rattle.std.specs.Result.{OnOk}
 use Rattle.version_commands.specs.Why.{members_text}
 use Rattle.version_sets.specs.Excluding.{leave_out}
 use Rattle.version_sets.specs.Ends.{has}
-use Rattle.version_texts.specs.keyed.Mixed.{mixed}
-use Rattle.version_texts.specs.versioning_ref.VersioningRef.{plain_versioning_ref}
+use Rattle.version_schemes.specs.any.AnyVersion.{plain_any}
 use Rattle.version_commands.proofs.why.add_verdict.Goals as goal
 
 pub returns-then-has : goal.returns-then-has
 returns-then-has c =
     let word = c.args.word.now in
-    let v = plain_versioning_ref c.args.version.now in
+    let v = plain_any c.args.version.now in
     let keys = c.requires in
-    let within : has c.args.set.now (mixed v).key ≡ true = search rules in
+    let within : has c.args.set.now v.key ≡ true = search rules in
     let grown : OnOk c.extend_from_slice.result
     (c.extend_from_slice.new.self.items ≡ c.args.output.now.items ++ codes " matches") = search rules in
     on_ok_weaker c.extend_from_slice.result
     (λ (items : c.extend_from_slice.new.self.items ≡ c.args.output.now.items ++ codes " matches") all is. items ∙ ap (λ (said : List ℕ). c.args.output.now.items ++ said)
-    (sym (said_within word all v (same_keys word all _ is keys (mixed v).key ∙ within))))
+    (sym (said_within word all v (same_keys v.scheme word all _ is keys v.key ∙ within))))
     grown
 
 pub returns-else-has : goal.returns-else-has
 returns-else-has c =
     let word = c.args.word.now in
-    let v = plain_versioning_ref c.args.version.now in
+    let v = plain_any c.args.version.now in
     let keys = c.requires in
-    let outside : has c.args.set.now (mixed v).key ≡ false = search rules in
+    let outside : has c.args.set.now v.key ≡ false = search rules in
     on_ok_weaker c.add_members.result
     (λ adds all is. adds all (rw c.as_bytes.ensures.value is) ∙ ap (λ (set : List ℕ). c.args.output.now.items
-    ++ members_text (codes " is left out by ") set (leave_out (mixed v).key all)) c.as_bytes.ensures.value ∙ ap (λ (said : List ℕ). c.args.output.now.items ++ said)
-    (sym (said_outside word all v (same_keys word all _ is keys (mixed v).key ∙ outside))))
+    ++ members_text (codes " is left out by ") set (leave_out v.key all)) c.as_bytes.ensures.value ∙ ap (λ (said : List ℕ). c.args.output.now.items ++ said)
+    (sym (said_outside word all v (same_keys v.scheme word all _ is keys v.key ∙ outside))))
     c.add_members.ensures

@@ -1,14 +1,18 @@
-use Rattle.version_lines.specs.Sort.{line_cmp}
-use Rattle.version_lines.proofs.lemmas.Entry.{line_ranks, line_total}
+use Rattle.version_lines.specs.Sort.{lines_cmp}
+use Rattle.version_lines.specs.Sorting.{turned}
+use Rattle.version_lines.proofs.lemmas.Entry.{lines_ranks, lines_total}
 use Rattle.version_lines.proofs.lemmas.Sorting.{in_order-only, in_order-permutes, in_order-sorted, in_order-stable}
 use Rattle.version_lines.proofs.laws.sorting.Goals as goal
 
 pub returns : goal.returns
 returns c =
     record {
-      total = line_total;
-      same = in_order-permutes line_cmp;
-      sorted = in_order-sorted line_cmp line_ranks;
-      stable = in_order-stable line_cmp line_ranks;
-      only = in_order-only line_cmp line_ranks;
+      total = lines_total;
+      same = λ reversed reads. in_order-permutes (turned reversed (lines_cmp reads));
+      sorted = λ reversed reads. in_order-sorted (turned reversed (lines_cmp reads))
+          (lines_ranks reversed reads);
+      stable = λ reversed reads. in_order-stable (turned reversed (lines_cmp reads))
+          (lines_ranks reversed reads);
+      only = λ reversed reads. in_order-only (turned reversed (lines_cmp reads))
+          (lines_ranks reversed reads);
     }

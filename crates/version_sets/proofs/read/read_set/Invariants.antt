@@ -17,8 +17,8 @@ invariant-loop-place g l = record {
   size : length l.room ≡ length l.initial.room;
   order : l.reader.order ≡ l.fn.order;
   reads : (done own : List ℕ → Bool) × Holds l.room l.reader done own
-      × Continues (read_set g.V.Keyed.read_as g.V.Keyed.parts l.fn.text) done own
-      (read_pieces g.V.Keyed.read_as g.V.Keyed.parts (length l.fn.text) l.state
+      × Continues (read_set g.V.Keyed.read_as g.V.Keyed.words l.fn.text) done own
+      (read_pieces g.V.Keyed.read_as g.V.Keyed.words (length l.fn.text) l.state
       (pieces l.pieces.place l.pieces.left.now));
 }
 

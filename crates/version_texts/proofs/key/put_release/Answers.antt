@@ -48,3 +48,9 @@ returns-in-None g c =
     let last = last_chunk c.chunks.left.now _ c.split_run.result.1.now c.split_run.ensures.run
     c.split_run.ensures.rest (nil_from_length _ c.in-None.ensures.cases) in
     (owes_rest _ _ (owes_same last c.chunks.invariant.0) c.put_chunk.ensures).ends _ c.put.ensures
+
+pub returns-then-is_decided : goal.returns-then-is_decided
+returns-then-is_decided g c =
+    let first = first_chunk c.chunks.left.now _ c.split_run.ensures.run in
+    (owes_rest _ _ (owes_same first.1 c.chunks.invariant.0) c.put_chunk.ensures).ends _
+    (c.is_decided.ensures c.if-is_decided.true _)

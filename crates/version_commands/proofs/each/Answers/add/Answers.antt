@@ -1,8 +1,9 @@
 use Rattle.std.proofs.Common.{◌≡◌, ◌++◌, ◌∷◌, [], Bool, None, refl, rules, sym, subst}
-use Rattle.version_commands.specs.Each.{HaveAnswered, IsAnswer}
 use Rattle.version_commands.specs.Pieces.{Adds}
 use Rattle.version_commands.specs.declared.each.Answers.{Answers}
-use Rattle.version_texts.specs.versioning_ref.VersioningRef.{plain_versioning_ref}
+use Rattle.version_schemes.specs.any.AnyVersion.{plain_any}
+use Rattle.version_schemes.proofs.lemmas.Any.{is_of}
+use Rattle.version_commands.specs.Each.{HaveAnswered, IsAnswer, scheme_of}
 use Rattle.version_commands.proofs.lemmas.Each.{have-next, have-still}
 use Rattle.version_commands.proofs.each.Answers.add.Goals.{else-is_none-via-then-is_none+in_ok-add_answer+else-not-branch, else-is_none-via-else-is_none}
 use Rattle.version_commands.proofs.each.Answers.add.Goals as goal
@@ -15,10 +16,10 @@ returns-else-is_none-clause-answers c = λ first texts have.
           let none : now.unanswered ≡ None = search rules in
           subst (λ (a : Answers). HaveAnswered first a (texts ++ c.args.text.now ∷ []))
           (sym w.self-is)
-          (have-next first now _ texts c.args.text.now (plain_versioning_ref c.args.version.now)
+          (have-next first now _ texts c.args.text.now (plain_any c.args.version.now)
           have none c.requires.version
           (subst (λ (found : Bool). Adds
-          (IsAnswer now.question now.end (plain_versioning_ref c.args.version.now) found)
+          (IsAnswer now.question now.end (plain_any c.args.version.now) found)
           now.output.items w.add_answer.new.output.items)
           w.if-not-branch.false w.in_ok-add_answer.ensures) refl refl refl none)
       | else-is_none-via-else-is_none w ↦
@@ -26,3 +27,7 @@ returns-else-is_none-clause-answers c = λ first texts have.
           (sym w.self-is)
           (have-still first now texts c.args.text.now have w.if-is_none.ensures)
     ]
+
+pub add_answer-requires-clause-scheme : goal.add_answer-requires-clause-scheme
+add_answer-requires-clause-scheme c =
+    (is_of (scheme_of c.args.self.now.question) c.args.text.now _ c.requires.version).scheme_is

@@ -2,11 +2,11 @@ use Rattle.std.proofs.Common.{◌∙◌, sym}
 use Rattle.std.proofs.lemmas.Map.Text.{btree_map_updates_str}
 use Rattle.version_commands.proofs.lemmas.Lists.{names_added, names_kept}
 use Rattle.version_commands.proofs.lists.Names.add.Goals as goal
-use Rattle.version_texts.specs.versioning_ref.VersioningRef.{plain_versioning_ref}
+use Rattle.version_schemes.specs.any.AnyVersion.{plain_any}
 
 pub returns-then-contains_key : goal.returns-then-contains_key
 returns-then-contains_key c =
-    λ rows are. names_kept rows (c.args.name.now, plain_versioning_ref c.args.version)
+    λ rows are. names_kept rows (c.args.name.now, plain_any c.args.version)
     c.args.self.now are (sym c.contains_key.ensures ∙ c.if-contains_key.true)
 
 pub returns : goal.returns

@@ -5,8 +5,8 @@ use Rattle.version_commands.proofs.lemmas.Picked.{before-bad, filter-pass}
 use Rattle.version_commands.proofs.pick.BadLines.add.Goals as goal
 
 pub returns-clause-bad : goal.returns-clause-bad
-returns-clause-bad c = λ text_of lines is so_far.
-    let bad = λ (l : List ℕ). is_bad (text_of l) in
+returns-clause-bad c = λ reads lines is so_far.
+    let bad = is_bad reads in
     let pushed : c.push.new.self.items ≡ c.args.self.now.lines.items ++ c.args.line ∷ [] =
     search rules in (
       ap (map (λ (l : Bor (List ℕ)). l.now)) pushed

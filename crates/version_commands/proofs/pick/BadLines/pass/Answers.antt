@@ -6,8 +6,8 @@ use Rattle.version_commands.proofs.lemmas.Picked.{before-good, before-stays, fil
 use Rattle.version_commands.proofs.pick.BadLines.pass.Goals as goal
 
 pub returns-then-is_empty-clause-good : goal.returns-then-is_empty-clause-good
-returns-then-is_empty-clause-good c = λ text_of lines line good so_far.
-    let bad = λ (l : List ℕ). is_bad (text_of l) in
+returns-then-is_empty-clause-good c = λ reads lines line good so_far.
+    let bad = is_bad reads in
     let nothing : length c.args.self.now.lines.items ≡ 0 =
     search (rules, c.if-is_empty.ensures) in
     let empty : c.args.self.now.lines.items ≡ [] = nil_from_length _ nothing in
@@ -18,8 +18,8 @@ returns-then-is_empty-clause-good c = λ text_of lines line good so_far.
     )
 
 pub returns-else-is_empty-clause-good : goal.returns-else-is_empty-clause-good
-returns-else-is_empty-clause-good c = λ text_of lines line good so_far.
-    let bad = λ (l : List ℕ). is_bad (text_of l) in
+returns-else-is_empty-clause-good c = λ reads lines line good so_far.
+    let bad = is_bad reads in
     let items = c.args.self.now.lines.items in
     let some : 0 < length items = search (rules, c.if-is_empty.ensures) in
     let others : ¬ (filter bad lines ≡ []) = λ none.

@@ -10,7 +10,7 @@ use Rattle.version_lines.proofs.sort.keyed_lines.put_in_order.Goals as goal
 pub returns : goal.returns
 returns g c =
     let total = turned_total (g.B.SortBy.is_reversed c.args.by.now) _
-    (version_total (g.B.SortBy.text_of c.args.by.now) c.args.keys.now) in
+    (version_total (g.B.SortBy.reads c.args.by.now) c.args.keys.now) in
     let ranks = ranks_by (placed_total _ (λ (entry : Entry). entry.start) total)
     (λ (entry : Entry). entry) in
     in_order-by_place _ (λ (entry : Entry). entry.start) total _ _ c.requires

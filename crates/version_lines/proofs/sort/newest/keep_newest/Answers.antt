@@ -17,7 +17,7 @@ first_of_each-requires g c =
     (c.as_slice-2.ensures.value ∙ c.put_newest_first.ensures)
 
 pub returns-clause-kept : goal.returns-clause-kept
-returns-clause-kept g c = λ text_of read.
+returns-clause-kept g c = λ reads read.
     ap (map entry_line) c.in_ok-entries.ensures
     ∙ rw (
       c.as_slice-2.ensures.value,
@@ -25,5 +25,5 @@ returns-clause-kept g c = λ text_of read.
       c.in_ok-lines.ensures,
       c.as_slice.ensures.value,
     )
-    (newest-entries c.args.count (g.G.GroupBy.group_of c.args.groups.now) text_of c.args.keys.now
+    (newest-entries c.args.count (g.G.GroupBy.group_of c.args.groups.now) reads c.args.keys.now
     c.args.entries.now.items read)

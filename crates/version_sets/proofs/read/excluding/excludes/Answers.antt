@@ -14,12 +14,12 @@ pub leaves_out-requires : goal.leaves_out-requires
 leaves_out-requires g c κs =
     let V = g.V.Keyed in
     let version = V.plain c.in-Ok.member.1 in
-    let given : asked V.read_as V.parts c.args.comparison c.args.text.now ≡ With c.in-Ok.member.0 version =
+    let given : asked V.read_as V.words c.args.comparison c.args.text.now ≡ With c.in-Ok.member.0 version =
     sym c.asked.ensures ∙ rw c.in-Ok.is refl in
     let word = c.requires.room in
-    let small = member_small 0 V.read_as V.most V.parts c.args.comparison c.in-Ok.member.0 c.args.text.now word.0
+    let small = member_small 0 V.read_as V.most V.words c.args.comparison c.in-Ok.member.0 c.args.text.now word.0
     version c.requires.enough given word.1 in
-    let read = asked_read V.read_as V.parts c.args.comparison c.in-Ok.member.0 c.args.text.now version given in
+    let read = asked_read V.read_as V.words c.args.comparison c.in-Ok.member.0 c.args.text.now version given in
     ((refl, tt), (omega (arith, small, word.2), read.allowed_is))
 
 pub returns-in-Ok-clause-excludes : goal.returns-in-Ok-clause-excludes

@@ -25,12 +25,12 @@ loop-place-preserved-in-All g c =
       reads = λ first others e.
           let reads = c.loop-place.invariant.reads first others e in
           let stepped =
-          sym (ap (after_step V.read_as V.parts (λ next. read_pieces V.read_as V.parts end next behind)) is)
-          ∙ ap (read_pieces V.read_as V.parts end c.loop-place.state) (sym c.in-Some.ensures.some) ∙ reads.1 in
+          sym (ap (after_step V.read_as V.words (λ next. read_pieces V.read_as V.words end next behind)) is)
+          ∙ ap (read_pieces V.read_as V.words end c.loop-place.state) (sym c.in-Some.ensures.some) ∙ reads.1 in
           let all : Member = record { start = c.in-All.field-0; end = suc c.in-All.field-0; ends = [] ∷ [] } in
-          let found = one_more all (read_pieces V.read_as V.parts end Come behind) reads.0 others stepped in (
+          let found = one_more all (read_pieces V.read_as V.words end Come behind) reads.0 others stepped in (
             found.more,
-            ap (λ end. read_pieces V.read_as V.parts end Come behind) c.in-Some.ensures.end ∙ found.rest_is,
+            ap (λ end. read_pieces V.read_as V.words end Come behind) c.in-Some.ensures.end ∙ found.rest_is,
             reads.2 ∙ ap (found_or c.loop-place.found)
                 (ap (first_out key) found.first_is ∙ passes key all found.more (all_has key)),
           );
@@ -96,10 +96,10 @@ loop-place-preserved-then-excludes g c =
       reads = λ first others e.
           let reads = c.loop-place.invariant.reads first others e in
           let stepped =
-          sym (ap (after_step V.read_as V.parts (λ next. read_pieces V.read_as V.parts end next behind)) is)
-          ∙ ap (read_pieces V.read_as V.parts end c.loop-place.state) (sym c.in-Some.ensures.some) ∙ reads.1 in
-          let found = is_asked V.read_as V.parts _ _ _ _ _ _ _ stepped in
-          let rest = ap (λ end. read_pieces V.read_as V.parts end Come behind) c.in-Some.ensures.end ∙ found.has_more.rest_is in
+          sym (ap (after_step V.read_as V.words (λ next. read_pieces V.read_as V.words end next behind)) is)
+          ∙ ap (read_pieces V.read_as V.words end c.loop-place.state) (sym c.in-Some.ensures.some) ∙ reads.1 in
+          let found = is_asked V.read_as V.words _ _ _ _ _ _ _ stepped in
+          let rest = ap (λ end. read_pieces V.read_as V.words end Come behind) c.in-Some.ensures.end ∙ found.has_more.rest_is in
           let lacks = not_true _ (sym (c.excludes.ensures.excludes found.comparison found.version found.is) ∙ c.if-excludes.true) in (
             found.has_more.more,
             rest,
@@ -131,9 +131,9 @@ loop-place-preserved g c =
       reads = λ first others e.
           let reads = c.loop-place.invariant.reads first others e in
           let stepped =
-          sym (ap (after_step V.read_as V.parts (λ next. read_pieces V.read_as V.parts end next behind)) is)
-          ∙ ap (read_pieces V.read_as V.parts end c.loop-place.state) (sym c.in-Some.ensures.some) ∙ reads.1 in
-          let found = is_asked V.read_as V.parts _ _ _ _ _ _ _ stepped in
+          sym (ap (after_step V.read_as V.words (λ next. read_pieces V.read_as V.words end next behind)) is)
+          ∙ ap (read_pieces V.read_as V.words end c.loop-place.state) (sym c.in-Some.ensures.some) ∙ reads.1 in
+          let found = is_asked V.read_as V.words _ _ _ _ _ _ _ stepped in
           let more = found.has_more.more in
           let same : found_or c.loop-place.found (first_out key reads.0)
           ≡ found_or c.loop-place.found (first_out key more) =
@@ -146,7 +146,7 @@ loop-place-preserved g c =
                 once_found c.loop-place.found _ _ (rw w.if-is_none.false at c.is_none.ensures)
           ] in (
             more,
-            ap (λ end. read_pieces V.read_as V.parts end Come behind) c.in-Some.ensures.end ∙ found.has_more.rest_is,
+            ap (λ end. read_pieces V.read_as V.words end Come behind) c.in-Some.ensures.end ∙ found.has_more.rest_is,
             reads.2 ∙ same,
           );
     }

@@ -14,9 +14,9 @@ invariant-loop-place g l = record {
       ≤ pieces_room g.V.Keyed.most (pieces l.fn.left.place l.fn.left.left.now);
   size : length l.room ≡ length l.initial.room;
   reads : (first : List Member) (others : List (List Member))
-      → left_read g.V.Keyed.read_as g.V.Keyed.parts Wanted l.fn.left ≡ Right first others
+      → left_read g.V.Keyed.read_as g.V.Keyed.words Wanted l.fn.left ≡ Right first others
       → (more : List Member)
-      × (left_read g.V.Keyed.read_as g.V.Keyed.parts l.state l.pieces ≡ Right more others)
+      × (left_read g.V.Keyed.read_as g.V.Keyed.words l.state l.pieces ≡ Right more others)
       × (first_out (g.V.Keyed.plain l.fn.version).key first
       ≡ found_or l.found (first_out (g.V.Keyed.plain l.fn.version).key more));
 }

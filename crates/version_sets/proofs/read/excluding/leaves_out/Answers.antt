@@ -1,5 +1,6 @@
-use Rattle.std.proofs.Common.{◌≡◌, ◌∙◌, [], ap, not, rules, subst, sym, true}
+use Rattle.std.proofs.Common.{◌≡◌, ◌∙◌, [], ap, not, rules, subst, sym}
 use Rattle.version_rules.specs.declared.ends.Kept.{Kept}
+use Rattle.version_texts.specs.declared.keyed.Words.TheVariants.{Parts}
 use Rattle.version_texts.specs.keyed.Keyed.{BeginsKey}
 use Rattle.version_sets.specs.Comparison.{ends_with}
 use Rattle.version_sets.specs.Ends.{Rise, has}
@@ -15,7 +16,7 @@ returns-in-Some-clause-out g c =
     let bytes = begins_room c.args.room.now c.write_member-size.new.room _ c.write_member-size.result c.requires.room
     c.write_member-size.ensures.end c.write_member-size.ensures.bytes in
     let some : ¬ (version.key ≡ []) = search rules in
-    let begins : V.parts ≡ true → (kept : Kept) → BeginsKey (version.begun kept) version.key = search rules in
+    let begins : V.words ≡ Parts → (kept : Kept) → BeginsKey (version.begun kept) version.key = search rules in
     let rise : Rise (ends_with member.0 version) = rises member.0 version some (λ asks. begins (c.requires.parts asks)) in
     let form = c.in-Some.ensures.form 0 (ends_with member.0 version) bytes in
     ap not (c.has.ensures (subst Rise (sym form.1) rise) ∙ ap (λ ends. has ends (V.plain c.args.version.now).key) form.1)

@@ -12,8 +12,8 @@ loop-place-preserved g c =
     record {
       end = omega (arith, c.in-Some.ensures.end, c.loop-place.invariant.end);
       same =
-          sym (c.in-Ok.ensures.ok (λ next. read_pieces V.read_as V.parts end next behind))
-          ∙ ap (λ left. fault_of (read_pieces V.read_as V.parts end c.loop-place.state left))
+          sym (c.in-Ok.ensures.ok (λ next. read_pieces V.read_as V.words end next behind))
+          ∙ ap (λ left. fault_of (read_pieces V.read_as V.words end c.loop-place.state left))
           (sym c.in-Some.ensures.some)
           ∙ c.loop-place.invariant.same;
     }
@@ -23,8 +23,8 @@ returns-in-Err g c =
     let V = g.V.Keyed in
     let end = length c.args.text.now in
     let behind = pieces c.next.new.self.place c.next.new.self.left.now in
-    sym (ap fault_of (c.in-Err.ensures.err (λ next. read_pieces V.read_as V.parts end next behind)))
-    ∙ ap (λ left. fault_of (read_pieces V.read_as V.parts end c.loop-place.state left))
+    sym (ap fault_of (c.in-Err.ensures.err (λ next. read_pieces V.read_as V.words end next behind)))
+    ∙ ap (λ left. fault_of (read_pieces V.read_as V.words end c.loop-place.state left))
     (sym c.in-Some.ensures.some)
     ∙ c.loop-place.invariant.same
 
@@ -35,7 +35,7 @@ returns-in-Some-unfinished g c =
     let why : unfinished c.loop-place.state ≡ Some c.in-Some-unfinished.reason =
     sym c.unfinished.ensures ∙ c.in-Some-unfinished.is in
     sym (ap (λ why. fault_of (at_end end why)) why)
-    ∙ ap (λ left. fault_of (read_pieces V.read_as V.parts end c.loop-place.state left)) (sym c.in_default.ensures.none)
+    ∙ ap (λ left. fault_of (read_pieces V.read_as V.words end c.loop-place.state left)) (sym c.in_default.ensures.none)
     ∙ c.loop-place.invariant.same
 
 pub returns-in-None : goal.returns-in-None
@@ -44,5 +44,5 @@ returns-in-None g c =
     let end = length c.args.text.now in
     let why : unfinished c.loop-place.state ≡ None = sym c.unfinished.ensures ∙ c.in-None.is in
     sym (ap (λ why. fault_of (at_end end why)) why)
-    ∙ ap (λ left. fault_of (read_pieces V.read_as V.parts end c.loop-place.state left)) (sym c.in_default.ensures.none)
+    ∙ ap (λ left. fault_of (read_pieces V.read_as V.words end c.loop-place.state left)) (sym c.in_default.ensures.none)
     ∙ c.loop-place.invariant.same

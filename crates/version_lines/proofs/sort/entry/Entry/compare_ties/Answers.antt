@@ -8,7 +8,7 @@ pub returns-then-eq : goal.returns-then-eq
 returns-then-eq g c =
     let a = c.args.self.now in
     let b = c.args.other.now in
-    let text_of = g.B.SortBy.text_of c.args.by.now in
+    let text_of = (g.B.SortBy.reads c.args.by.now).text_of in
     let alike : a.length ≡ b.length = search rules in
     let same : a.line.now ≡ b.line.now = search rules in
     sym ((λ i. texts_tie (kind_on (alike i), text_of (same i)) (kind_on b.length, text_of b.line.now))

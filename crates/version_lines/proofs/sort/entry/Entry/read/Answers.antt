@@ -2,15 +2,13 @@ use Rattle.std.proofs.Common.{◌≡◌, ◌∙◌, ◌-◌, ap, drop, length, r
 use Rattle.std.specs.Int.{from_be_bytes, w64}
 use Rattle.version_texts.proofs.lemmas.scan.Bytes.{AreBytes}
 use Rattle.version_lines.proofs.lemmas.Entry.{holds-last, key-part}
-use Rattle.version_rules.specs.key.Key.{key_of}
-use Rattle.version_rules.specs.key.KeyBytes.{key_bytes}
-use Rattle.version_texts.specs.versioning_ref.VersioningRef.{plain_versioning_ref}
+use Rattle.version_schemes.specs.any.AnyVersion.{plain_any}
 use Rattle.version_lines.proofs.sort.entry.Entry.read.Goals as goal
 
 pub returns-clause-key : goal.returns-clause-key
 returns-clause-key c =
-    let v = plain_versioning_ref c.args.version.now in
-    let key = key_bytes (key_of v) in
+    let v = plain_any c.args.version.now in
+    let key = v.key in
     let keys = c.args.keys.now.items in
     let kept = c.append_key.new.list.items in
     let added = c.in_ok-append_key.ensures.ok in

@@ -6,8 +6,8 @@ use Rattle.version_lines.proofs.sort.keyed_lines.KeyedLines.keep_newest.Goals as
 
 pub returns-clause-kept : goal.returns-clause-kept
 returns-clause-kept g c =
-    let text_of = g.B.SortBy.text_of c.args.self.now.by in
+    let reads = g.B.SortBy.reads c.args.self.now.by in
     let read = subst
-    (λ (ks : List ℕ). All (IsRead text_of ks) c.args.self.now.entries.items)
+    (λ (ks : List ℕ). All (IsRead reads ks) c.args.self.now.entries.items)
     (sym c.as_slice.ensures.value) c.requires.read in
-    on_ok_weaker c.keep_newest.result (λ kept. kept text_of read) c.keep_newest.ensures.kept
+    on_ok_weaker c.keep_newest.result (λ kept. kept reads read) c.keep_newest.ensures.kept

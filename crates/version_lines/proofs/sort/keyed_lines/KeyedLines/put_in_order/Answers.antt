@@ -7,9 +7,9 @@ use Rattle.version_lines.proofs.sort.keyed_lines.KeyedLines.put_in_order.Goals a
 pub returns-clause-lines : goal.returns-clause-lines
 returns-clause-lines g c =
     let lines = c.args.self.now in
-    let text_of = g.B.SortBy.text_of lines.by in
+    let reads = g.B.SortBy.reads lines.by in
     ap (map entry_line) c.put_in_order.ensures
-    ∙ lines-ordered (g.B.SortBy.is_reversed lines.by) text_of c.as_slice.result.now
+    ∙ lines-ordered (g.B.SortBy.is_reversed lines.by) reads c.as_slice.result.now
     lines.entries.items
-    (subst (λ (ks : List ℕ). All (IsRead text_of ks) lines.entries.items)
+    (subst (λ (ks : List ℕ). All (IsRead reads ks) lines.entries.items)
     (sym c.as_slice.ensures.value) c.requires.read)

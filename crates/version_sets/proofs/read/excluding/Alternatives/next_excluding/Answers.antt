@@ -10,17 +10,17 @@ pub returns-then-is_some-clause-some : goal.returns-then-is_some-clause-some
 returns-then-is_some-clause-some g c =
     by c.in_ok-found.found (λ all left.
     let before = c.loop-self.invariant.reads all left in
-    let here = subst (λ l. AreLeft g.V.Keyed.read_as g.V.Keyed.parts l before.0) c.in-Some.is before.1 in
-    let after = behind_one g.V.Keyed.read_as g.V.Keyed.parts (g.V.Keyed.plain c.args.version.now).key c.in_ok-found.found c.in-Some.pieces
+    let here = subst (λ l. AreLeft g.V.Keyed.read_as g.V.Keyed.words l before.0) c.in-Some.is before.1 in
+    let after = behind_one g.V.Keyed.read_as g.V.Keyed.words (g.V.Keyed.plain c.args.version.now).key c.in_ok-found.found c.in-Some.pieces
     c.in_ok-found.left c.in_ok-found.ensures.read before.0 here in
     (after.0, after.1, before.2 ∙ after.2))
   where
     by : (found : Option Span)
-        → ((all : List (List Member)) → AreLeft g.V.Keyed.read_as g.V.Keyed.parts c.args.self.now.left all
-        → (rest : List (List Member)) × AreLeft g.V.Keyed.read_as g.V.Keyed.parts c.in_ok-found.left rest
+        → ((all : List (List Member)) → AreLeft g.V.Keyed.read_as g.V.Keyed.words c.args.self.now.left all
+        → (rest : List (List Member)) × AreLeft g.V.Keyed.read_as g.V.Keyed.words c.in_ok-found.left rest
         × (leave_out (g.V.Keyed.plain c.args.version.now).key all ≡ with_found found (leave_out (g.V.Keyed.plain c.args.version.now).key rest)))
-        → IfSome found (λ span. (all : List (List Member)) → AreLeft g.V.Keyed.read_as g.V.Keyed.parts c.args.self.now.left all
-        → (rest : List (List Member)) × AreLeft g.V.Keyed.read_as g.V.Keyed.parts c.in_ok-found.left rest
+        → IfSome found (λ span. (all : List (List Member)) → AreLeft g.V.Keyed.read_as g.V.Keyed.words c.args.self.now.left all
+        → (rest : List (List Member)) × AreLeft g.V.Keyed.read_as g.V.Keyed.words c.in_ok-found.left rest
         × (leave_out (g.V.Keyed.plain c.args.version.now).key all ≡ span ∷ leave_out (g.V.Keyed.plain c.args.version.now).key rest))
     by None all = tt
     by (Some span) all = all
@@ -48,8 +48,8 @@ loop-self-preserved g c =
       size = c.first_excluding.ensures.same ∙ c.loop-self.invariant.size;
       reads = λ all left.
           let before = c.loop-self.invariant.reads all left in
-          let here = subst (λ l. AreLeft V.read_as V.parts l before.0) c.in-Some.is before.1 in
-          let after = behind_one V.read_as V.parts key c.in_ok-found.found c.in-Some.pieces
+          let here = subst (λ l. AreLeft V.read_as V.words l before.0) c.in-Some.is before.1 in
+          let after = behind_one V.read_as V.words key c.in_ok-found.found c.in-Some.pieces
           c.in_ok-found.left c.in_ok-found.ensures.read before.0 here in (
             after.0,
             after.1,

@@ -9,8 +9,8 @@ invariant-loop-self g l = record {
   room : room_left g.V.Keyed.most l.self.left ≤ room_left g.V.Keyed.most l.initial.self.left;
   nearer : steps_left l.self.left ≤ steps_left l.initial.self.left;
   size : length l.room ≡ length l.initial.room;
-  reads : (all : List (List Member)) → AreLeft g.V.Keyed.read_as g.V.Keyed.parts l.initial.self.left all
-      → (rest : List (List Member)) × AreLeft g.V.Keyed.read_as g.V.Keyed.parts l.self.left rest
+  reads : (all : List (List Member)) → AreLeft g.V.Keyed.read_as g.V.Keyed.words l.initial.self.left all
+      → (rest : List (List Member)) × AreLeft g.V.Keyed.read_as g.V.Keyed.words l.self.left rest
       × (leave_out (g.V.Keyed.plain l.fn.version).key all ≡ leave_out (g.V.Keyed.plain l.fn.version).key rest);
 }
 

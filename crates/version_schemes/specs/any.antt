@@ -1,0 +1,2 @@
+pub mod AnyVersion
+pub mod Order
