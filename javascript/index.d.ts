@@ -3,13 +3,18 @@
  *
  * A text is a string; a `Version` stands for its text in every call, and a `Requirement` for its own. Anything else is
  * a TypeError, as is an option of another name or type. A text with a lone surrogate is not a version, and a member with
- * one is not a requirement.
+ * one is not a requirement and not in a set.
+ *
+ * A call is of one scheme, mixed unless its options name another: its texts are read in that, and a `Version` or a
+ * `VersionSet` of another scheme is a TypeError.
  */
 
 /** strict, as SemVer 2.0 describes it, general, or messy */
 export type Kind = "ideal" | "general" | "complex";
 /** How stable a version is, by the words in it: by habit, not by SemVer 2.0. */
 export type Stability = "dev" | "alpha" | "beta" | "rc" | "stable";
+/** An order of versions, with the texts that it reads: that of this project, or of another system. */
+export type Scheme = "mixed" | "deb" | "rpm" | "pypi" | "semver" | "gem";
 export type Text = string | Version;
 /** What stands for no text: the calls for many texts answer null for it, as for a text that is not a version. */
 export type Missing = null | undefined;
@@ -19,11 +24,19 @@ export type Texts = Iterable<Text | Missing>;
 export const version: string;
 /** The stabilities, from the least stable on. */
 export const STABILITIES: readonly Stability[];
+/** The names of all schemes. */
+export const SCHEMES: readonly Scheme[];
 
-/** A text is not a version, or a tag has none. */
+export interface SchemeOptions {
+  /** The scheme of the call, mixed where it isn't given. RangeError for a name of none. */
+  scheme?: Scheme;
+}
+
+/** A text is not a version of the scheme, or a tag has none. */
 export class InvalidVersion extends RangeError {
-  constructor(text: string, message?: string);
+  constructor(text: string, scheme?: Scheme, message?: string);
   readonly text: string;
+  readonly scheme: Scheme;
 }
 
 /** A text is neither a requirement nor a list of them. Its members are the pieces between the commas. */
@@ -36,15 +49,30 @@ export class InvalidRequirement extends RangeError {
   readonly start: number;
 }
 
+/** A text is not a set of versions of the scheme. */
+export class InvalidVersionSet extends RangeError {
+  constructor(text: string, scheme?: Scheme);
+  readonly text: string;
+  readonly scheme: Scheme;
+  /** The place in the text where its first wrong piece begins, as strings count places; its end where one is missing. */
+  readonly start: number;
+  /** Why that piece is wrong, and what to write: a sentence without a full stop. */
+  readonly reason: string;
+}
+
 /**
  * A version of any kind, which can't be changed. It keeps its key and its kind.
  *
  * `a < b` and `a > b` go by precedence, the one order of all versions; beside a text they mean nothing, so take `compare`.
  * `==` compares objects, so take `equals`.
+ *
+ * A version of another scheme than mixed has a text, a key and its scheme, and compares with versions of its own. Its
+ * kind, numbers, fields, stability, difference and next are a TypeError, and so are `<` and `>`, which can't see the
+ * scheme of the other side.
  */
 export class Version {
-  /** InvalidVersion for a text that is not a version. Of a `Version` it takes the text. */
-  constructor(text: Text);
+  /** InvalidVersion for a text that is not a version of the scheme. Of a `Version` of it, it takes the text. */
+  constructor(text: Text, options?: SchemeOptions);
 
   /**
    * The version in a tag of git, or in another name of a release: 1.2.3 in v1.2.3. With a prefix, the tag has to begin
@@ -52,8 +80,9 @@ export class Version {
    */
   static fromTag(tag: Text, prefix?: string | null): Version;
   /** As the function `compare`. */
-  static compare(a: Text, b: Text): -1 | 0 | 1;
+  static compare(a: Text, b: Text, options?: SchemeOptions): -1 | 0 | 1;
 
+  readonly scheme: Scheme;
   readonly kind: Kind;
   /** The sort key, a copy. Keys compare as bytes as their versions do by precedence. */
   readonly key: Uint8Array;
@@ -84,14 +113,14 @@ export class Version {
   next(place: number): Version;
   /** Where it first differs from another version. */
   difference(other: Text): Difference;
-  /** -1, 0 or 1, by precedence. */
+  /** -1, 0 or 1, by the order of its scheme. InvalidVersion for a text that is not a version of it. */
   compare(other: Text): -1 | 0 | 1;
-  /** Whether the two compare equal, by precedence: 1.0 equals 0:1.0. */
+  /** Whether the two compare equal: 1.0 equals 0:1.0. InvalidVersion for a text that is not a version of its scheme. */
   equals(other: Text): boolean;
   /** The text as it was written. */
   toString(): string;
   toJSON(): string;
-  /** The key as a string where two versions are compared by `<`, and otherwise the text. */
+  /** The key as a string where two versions of mixed are compared by `<`, and otherwise the text. */
   [Symbol.toPrimitive](hint: string): string;
 }
 
@@ -151,34 +180,81 @@ export class Requirement {
   toJSON(): string;
 }
 
+/** An interval of keys: those from the first on and below the second, or all from the first on where that is null. */
+export type Interval = [low: Uint8Array, high: Uint8Array | null];
+
+/**
+ * A set of versions, as `>=1.2, <2 || ^3`, which can't be changed. It is read once, and goes by the order of its scheme
+ * alone: of versions that compare equal all are in it, or none. A set is of keys, so one that has a key may have no
+ * version, as `>1.2, <1.2-0`. What another set is computed with is of the same scheme, or a TypeError.
+ */
+export class VersionSet {
+  /** InvalidVersionSet for a text that is not a set of the scheme. Of a `VersionSet` of it, it makes the same set. */
+  constructor(text: string | VersionSet, options?: SchemeOptions);
+
+  /** The set of what ties with a version, which may be any. InvalidVersion for a text that is not a version. */
+  static of(version: Text, options?: SchemeOptions): VersionSet;
+
+  readonly scheme: Scheme;
+  /** Whether it has no key, and so no version. */
+  readonly isEmpty: boolean;
+  /** What it has, as intervals of keys, which rise. The keys are copies. */
+  readonly intervals: Interval[];
+
+  /** Whether it has a version. InvalidVersion for a text that is not a version of its scheme. */
+  matches(version: Text): boolean;
+  /** The same, but false for a text that is not a version. */
+  has(version: Text): boolean;
+  /** Whether it has the version of each text, or null for a text that is not a version. */
+  hasAll(texts: Texts): (boolean | null)[];
+  /** The items that it has, in their order. */
+  filter<Item extends Text>(versions: Iterable<Item | Missing>): Item[];
+  /** What both have. */
+  and(other: VersionSet): VersionSet;
+  /** What one of them has, or both. */
+  or(other: VersionSet): VersionSet;
+  /** All else. */
+  not(): VersionSet;
+  /** Whether another set has each of its keys, and so each of its versions. */
+  isPartOf(other: VersionSet): boolean;
+  /** Whether a key is in both. If not, no version is. */
+  meets(other: VersionSet): boolean;
+  /** Whether two have the same keys, however they were made. */
+  equals(other: VersionSet): boolean;
+  /** The text as it was written. A set made by a call has none, and shows its intervals, which are no text of a set. */
+  toString(): string;
+  toJSON(): string;
+}
+
 /** The kind of a text, or null where it is not a version. */
 export function kind(text: Text): Kind | null;
-/** The sort key of a version: to store, to index and to sort by, as bytes. */
-export function sortKey(text: Text): Uint8Array;
-/** -1, 0 or 1, by precedence. */
-export function compare(a: Text, b: Text): -1 | 0 | 1;
-/** The same, but it breaks ties: 0 only for the same version, up to the metadata of strict ones. */
+/** The sort key of a version: to store, to index and to sort by, as bytes. Keys of two schemes don't compare. */
+export function sortKey(text: Text, options?: SchemeOptions): Uint8Array;
+/** -1, 0 or 1, by precedence, or by the order of another scheme. */
+export function compare(a: Text, b: Text, options?: SchemeOptions): -1 | 0 | 1;
+/** By precedence, but it breaks ties: 0 only for the same version, up to the metadata of strict ones. */
 export function compareTotal(a: Text, b: Text): -1 | 0 | 1;
 
 export function kinds(texts: Texts): (Kind | null)[];
-export function sortKeys(texts: Texts): (Uint8Array | null)[];
+export function sortKeys(texts: Texts, options?: SchemeOptions): (Uint8Array | null)[];
 export function stabilities(texts: Texts): (Stability | null)[];
 /** The version in each tag, as `Version.fromTag` finds it. */
 export function inTags(texts: Texts): (string | null)[];
-export function matchAll(requirement: string | Requirement, texts: Texts): (boolean | null)[];
+/** Whether each matches. Of a `VersionSet` it is `hasAll`. */
+export function matchAll(requirement: string | Requirement | VersionSet, texts: Texts): (boolean | null)[];
 
-export interface NewestOptions {
-  /** What the version has to match. */
-  requirement?: string | Requirement | null;
-  /** How stable the version has to be at least. */
+export interface NewestOptions extends SchemeOptions {
+  /** What the version has to match: of another scheme than mixed a `VersionSet`, or the text of one. */
+  requirement?: string | Requirement | VersionSet | null;
+  /** How stable the version has to be at least; in mixed alone, else a RangeError. */
   stability?: Stability | null;
-  /** Whether the version of a text is the one in it as in a tag. */
+  /** Whether the version of a text is the one in it as in a tag; in mixed alone, else a RangeError. */
   tags?: boolean;
 }
 /** The newest item that is asked for, the first of those that tie, or null. */
 export function newest<Item extends Text>(texts: Iterable<Item | Missing>, options?: NewestOptions): Item | null;
 
-export interface SortOptions<Item, Key> {
+export interface SortOptions<Item, Key> extends SchemeOptions {
   /** The text or `Version` by which an item is sorted. */
   key?: ((item: Item) => Key) | null;
   /** Those that tie keep their order in reverse too. */
@@ -186,7 +262,10 @@ export interface SortOptions<Item, Key> {
   /** "last" puts texts that are not versions and missing values last, in their order. Otherwise they throw. */
   invalid?: "throw" | "last";
 }
-/** A new array in the order of `compareTotal`. InvalidVersion with the first text that is not a version. */
+/**
+ * A new array in the order of `compareTotal`, or by another scheme, where what ties keeps its order. InvalidVersion with
+ * the first text that is not a version.
+ */
 export function sort<Item extends Text>(texts: Iterable<Item>, options?: SortOptions<Item, Text>): Item[];
 export function sort<Item extends Text | Missing>(
   texts: Iterable<Item>,
@@ -214,15 +293,15 @@ export function patch(text: Text): number | null;
 export function valid(text: Text | Missing): string | null;
 /** The text, or null where it is not a requirement. */
 export function validRange(text: string | Requirement | Missing): string | null;
-/** Whether the requirement matches. False where one of the two is none, or is missing. */
-export function satisfies(text: Text | Missing, requirement: string | Requirement | Missing): boolean;
+/** Whether the requirement matches, or the set has it. False where one of the two is none, or is missing. */
+export function satisfies(text: Text | Missing, requirement: string | Requirement | VersionSet | Missing): boolean;
 /** The newest item that matches, or null, also where the requirement is none, or is missing. */
 export function maxSatisfying<Item extends Text>(
   texts: Iterable<Item | Missing>,
-  requirement: string | Requirement | Missing,
+  requirement: string | Requirement | VersionSet | Missing,
 ): Item | null;
 /** The oldest item that matches, or null, also where the requirement is none, or is missing. */
 export function minSatisfying<Item extends Text>(
   texts: Iterable<Item | Missing>,
-  requirement: string | Requirement | Missing,
+  requirement: string | Requirement | VersionSet | Missing,
 ): Item | null;

@@ -2,7 +2,7 @@
  * Version numbers, parsed, ordered and matched by a library that is proved. index.d.ts describes each call.
  *
  * Every answer is one of the module's calls, which c/versions.h describes, or a comparison of keys as bytes. Nothing
- * here knows a rule of versions or of requirements.
+ * here knows a rule of versions, of requirements or of sets.
  */
 import {
   FIRST,
@@ -36,16 +36,41 @@ const NO_REQUIREMENTS = 5;
 const NO_NUMBER = 6;
 const NO_ROOM = 7;
 const ALL_MATCH = 15;
+const MIXED = 1;
 const [PRE_RELEASE, RELEASE, METADATA] = [2, 3, 4];
 const [HAS_HIGH, IS_EXACT] = [8, 16];
 const FROM = BigInt(FIRST);
 // A version has no lone surrogate, but what stands before it in a tag could.
 const LONE_SURROGATE = /\p{Surrogate}/u;
 
+// The names of the schemes, whose numbers go from MIXED on without a gap.
+export const SCHEMES = Object.freeze(schemeNames());
+
+function schemeNames() {
+  const most = 16;
+  reserve(FIRST + most);
+  const names = [];
+  while (call.versions_scheme_name(MIXED + names.length, FROM, big(most), SLOTS[0]) === OK) {
+    names.push(binary(FIRST, FIRST + slot(0)));
+  }
+  return names;
+}
+
+const nameOfScheme = (scheme) => SCHEMES[scheme - MIXED];
+
+// The number of the scheme that has a name.
+function numberOfScheme(name = "mixed") {
+  const place = SCHEMES.indexOf(name);
+  if (place < 0) throw new RangeError(`a scheme is one of ${SCHEMES.join(", ")}, and this is ${JSON.stringify(name)}`);
+  return MIXED + place;
+}
+
+const ofScheme = (name) => (name === "mixed" ? "" : ` of ${name}`);
+
 export class InvalidVersion extends RangeError {
-  constructor(text, message = `not a version: ${JSON.stringify(text)}`) {
+  constructor(text, scheme = "mixed", message = `not a version${ofScheme(scheme)}: ${JSON.stringify(text)}`) {
     super(message);
-    this.text = text;
+    Object.assign(this, { text, scheme });
   }
 }
 
@@ -58,8 +83,18 @@ export class InvalidRequirement extends RangeError {
     Object.assign(this, { text, member, start });
   }
 }
+
+export class InvalidVersionSet extends RangeError {
+  constructor(text, scheme = "mixed") {
+    const [start, reason] = wrongPiece(text, numberOfScheme(scheme));
+    const wrong = reason === "" ? "" : `; at ${start}: ${reason}`;
+    super(`not a set of versions${ofScheme(scheme)}: ${JSON.stringify(text)}${wrong}`);
+    Object.assign(this, { text, scheme, start, reason });
+  }
+}
 InvalidVersion.prototype.name = "InvalidVersion";
 InvalidRequirement.prototype.name = "InvalidRequirement";
+InvalidVersionSet.prototype.name = "InvalidVersionSet";
 
 const nameOf = (value) => (value === null ? "null" : typeof value);
 
@@ -68,14 +103,21 @@ function asText(value, what = "this") {
   return value;
 }
 
-// What only the classes below can look at: the text of a Version or a Requirement, if it is one, and the key of a
-// version.
-let versionText, requirementText, keyOf;
+// What only the classes below can look at: the text of a Version or a Requirement, the form of a VersionSet, if it is
+// one, and the key of a version. Where a scheme is passed, a value of another is a TypeError.
+let versionText, requirementText, formOf, keyOf;
 const isObject = (value) => typeof value === "object" && value !== null;
 
-// The text of a string or a Version, and of a string or a Requirement.
-const textOf = (value) => (typeof value === "string" ? value : (versionText(value) ?? asText(value)));
+// The text of a string or a Version of a scheme, and of a string or a Requirement.
+const textOf = (value, scheme = MIXED) =>
+  typeof value === "string" ? value : (versionText(value, scheme) ?? asText(value));
 const listOf = (value) => (typeof value === "string" ? value : (requirementText(value) ?? asText(value)));
+
+// Refuses a value of another scheme than the one that is wanted.
+function checkScheme(wanted, its) {
+  if (wanted === its) return;
+  throw new TypeError(`versions of ${nameOfScheme(wanted)} are wanted, and this is of ${nameOfScheme(its)}`);
+}
 
 /*
  * Calls about one text or two.
@@ -97,8 +139,8 @@ function writeTwo(a, b) {
   two = put(b, FIRST + one) - FIRST - one;
 }
 
-function refuseTwo(status, a, b) {
-  throw new InvalidVersion(status === NO_VERSION_B ? b : a);
+function refuseTwo(status, a, b, scheme = MIXED) {
+  throw new InvalidVersion(status === NO_VERSION_B ? b : a, nameOfScheme(scheme));
 }
 
 // The places in a text, counted in its units, of what two slots hold as places of its bytes.
@@ -111,7 +153,36 @@ function wrongMember(text) {
   return status === OK ? placesOf(text) : [0, text.length];
 }
 
-// The kind and the key of a version, the key as a text of its bytes.
+// Where a text is no set, counted in its units, and why.
+function wrongPiece(text, scheme) {
+  const most = 100;
+  const length = write(text, most);
+  const passed = [scheme, FROM, big(length)];
+  if (call.versions_set_wrong(...passed, SLOTS[0], SLOTS[1]) !== OK) return [0, ""];
+  const start = placeOf(text, slot(0));
+  call.versions_set_wrong_text(...passed, after(length), big(most), SLOTS[0]);
+  return [start, binary(FIRST + length, FIRST + length + slot(0))];
+}
+
+// How many bytes are enough for the key of any text of a length in a scheme.
+function roomForKey(length, scheme) {
+  call.versions_scheme_key_bound(scheme, big(length), SLOTS[0]);
+  return slot(0);
+}
+
+// The key of a version of a scheme, as a text of its bytes.
+function keyIn(text, scheme) {
+  if (scheme === MIXED) return parse(text)[1];
+  const length = write(text);
+  const room = roomForKey(length, scheme);
+  const key = FIRST + length;
+  reserve(key + room);
+  const status = call.versions_scheme_key(scheme, FROM, big(length), after(length), big(room), SLOTS[0]);
+  if (status !== OK) throw new InvalidVersion(text, nameOfScheme(scheme));
+  return binary(key, key + slot(0));
+}
+
+// The kind and the key of a version of mixed, the key as a text of its bytes.
 function parse(text) {
   const length = write(text, 9 * text.length + 8);
   const key = FIRST + length;
@@ -148,14 +219,24 @@ function epochOf(text) {
 
 export const kind = (text) => KINDS[call.versions_kind(FROM, big(write(textOf(text))))];
 
-export const sortKey = (text) => bytesOf(parse(textOf(text))[1]);
+export function sortKey(text, options) {
+  const scheme = schemeOf(options);
+  return bytesOf(keyIn(textOf(text, scheme), scheme));
+}
 
-export function compare(a, b) {
-  const its = textOf(a);
-  const other = textOf(b);
+export function compare(a, b, options) {
+  return compareIn(schemeOf(options), a, b);
+}
+
+function compareIn(scheme, a, b) {
+  const its = textOf(a, scheme);
+  const other = textOf(b, scheme);
   writeTwo(its, other);
-  const status = call.versions_compare(FROM, big(one), after(one), big(two), SLOTS[0]);
-  if (status !== OK) refuseTwo(status, its, other);
+  const status =
+    scheme === MIXED
+      ? call.versions_compare(FROM, big(one), after(one), big(two), SLOTS[0])
+      : call.versions_scheme_compare(scheme, FROM, big(one), after(one), big(two), SLOTS[0]);
+  if (status !== OK) refuseTwo(status, its, other, scheme);
   return words[START / 4] | 0;
 }
 
@@ -183,11 +264,12 @@ function itemsOf(texts) {
 }
 
 // The text of the item at a place of a list, or of its key.
-const textAt = (place, item, what = "item") =>
-  typeof item === "string" ? item : (versionText(item) ?? asText(item, `${what} ${place}`));
+const textAt = (place, item, scheme, what = "item") =>
+  typeof item === "string" ? item : (versionText(item, scheme) ?? asText(item, `${what} ${place}`));
 
-// The texts of items. A missing value has the empty text, which is not a version either.
-const textsOf = (items, what) => items.map((item, place) => (isMissing(item) ? "" : textAt(place, item, what)));
+// The texts of items. A missing value has the empty text, which is not a version of any scheme either.
+const textsOf = (items, scheme = MIXED, what = "item") =>
+  items.map((item, place) => (isMissing(item) ? "" : textAt(place, item, scheme, what)));
 
 // The same of tags, but the empty text for a tag with a lone surrogate: such a text has no version.
 const tagsOf = (items) => textsOf(items).map((tag) => (LONE_SURROGATE.test(tag) ? "" : tag));
@@ -214,6 +296,9 @@ function writeAll(texts, each, more = 0) {
   return { count, results, end, size: end - from, passed: [BigInt(from), BigInt(end - from), FROM, BigInt(count + 1)] };
 }
 
+// How many bytes the text at a place has, of those that are written.
+const lengthAt = (place) => wordPair(FIRST + 8 * (place + 1)) - wordPair(FIRST + 8 * place);
+
 // A list of what a function answers for each place.
 function forEach(count, answer) {
   const answers = new Array(count);
@@ -232,14 +317,26 @@ export const kinds = (texts) => answers("versions_kinds", texts, KINDS);
 
 export const stabilities = (texts) => answers("versions_stabilities", texts, [null, ...STABILITIES]);
 
+const OF_MATCHES = [false, true, null];
+
 export function matchAll(requirement, texts) {
+  const form = formOf(requirement);
+  if (form !== undefined) return hasAll(form, texts);
   const list = listOf(requirement);
   const { count, results, end, passed } = writeAll(textsOf(itemsOf(texts)), 1, 3 * list.length);
   const length = put(list, end) - end;
   const status = call.versions_match_all(BigInt(end), big(length), ...passed, BigInt(results), BigInt(count));
   if (status !== OK) throw new InvalidRequirement(list);
-  const meanings = [false, true, null];
-  return forEach(count, (place) => meanings[bytes[results + place]]);
+  return forEach(count, (place) => OF_MATCHES[bytes[results + place]]);
+}
+
+// Whether each text is in the set that has a form.
+function hasAll({ scheme, bytes: form }, texts) {
+  const all = writeAll(textsOf(itemsOf(texts), scheme), 1, form.length);
+  const { count, results, end, passed } = all;
+  bytes.set(form, end);
+  call.versions_set_has_all(BigInt(end), big(form.length), ...passed, BigInt(results), BigInt(count));
+  return forEach(count, (place) => OF_MATCHES[bytes[results + place]]);
 }
 
 export function inTags(texts) {
@@ -253,18 +350,22 @@ export function inTags(texts) {
   });
 }
 
-// Makes room for the keys of texts that are written, and returns how much is always enough.
-function roomForKeys({ count, size, end }) {
-  const room = 3 * size + 5 * count;
+// Makes room for the keys in a scheme of texts that are written, and returns how much is always enough.
+function roomForKeys({ count, size, end }, scheme) {
+  let room = 0;
+  if (scheme === MIXED) room = 3 * size + 5 * count;
+  else for (let place = 0; place < count; place++) room += roomForKey(lengthAt(place), scheme);
   reserve(end + room);
   return BigInt(room);
 }
 
-export function sortKeys(texts) {
-  const all = writeAll(textsOf(itemsOf(texts)), 8);
+export function sortKeys(texts, options) {
+  const scheme = schemeOf(options);
+  const all = writeAll(textsOf(itemsOf(texts), scheme), 8);
   const { count, results, end, passed } = all;
-  const room = roomForKeys(all);
-  call.versions_sort_keys(...passed, BigInt(end), room, BigInt(results), BigInt(count + 1));
+  const written = [...passed, BigInt(end), roomForKeys(all, scheme), BigInt(results), BigInt(count + 1)];
+  if (scheme === MIXED) call.versions_sort_keys(...written);
+  else call.versions_scheme_keys(scheme, ...written);
   return forEach(count, (place) => {
     const from = wordPair(results + 8 * place);
     const to = wordPair(results + 8 * (place + 1));
@@ -273,14 +374,14 @@ export function sortKeys(texts) {
 }
 
 // The places of texts in sorted order, and how many of them are versions: the others come last.
-function placesInOrder(texts) {
+function placesInOrder(texts, scheme) {
   const all = writeAll(texts, 16);
   const { count, results, end, passed } = all;
-  const room = roomForKeys(all);
   const sorted = results + 8 * (count + 1);
-  call.versions_sort(
-    ...passed, BigInt(end), room, BigInt(results), BigInt(count + 1), BigInt(sorted), BigInt(count),
-  );
+  const written = [...passed, BigInt(end), roomForKeys(all, scheme), BigInt(results), BigInt(count + 1)];
+  written.push(BigInt(sorted), BigInt(count));
+  if (scheme === MIXED) call.versions_sort(...written);
+  else call.versions_scheme_sort(scheme, ...written);
   const places = forEach(count, (at) => words[sorted / 4 + 2 * at]);
   const hasKey = (place) => wordPair(results + 8 * place) !== wordPair(results + 8 * (place + 1));
   let good = count;
@@ -309,30 +410,41 @@ function optionsOf(given, known) {
   return options;
 }
 
-const OF_SORT = { key: ["function", "null"], reverse: ["boolean"], invalid: ["string"] };
-const OF_NEWEST = { requirement: ["string", "object", "null"], stability: ["string", "null"], tags: ["boolean"] };
+const OF_SCHEME = { scheme: ["string"] };
+const OF_SORT = { key: ["function", "null"], reverse: ["boolean"], invalid: ["string"], ...OF_SCHEME };
+const OF_NEWEST = {
+  requirement: ["string", "object", "null"], stability: ["string", "null"], tags: ["boolean"], ...OF_SCHEME,
+};
+
+// The number of the scheme that the options of a call name.
+const schemeOf = (options) =>
+  options === undefined ? MIXED : numberOfScheme(optionsOf(options, OF_SCHEME).scheme);
 
 export function sort(texts, options = {}) {
-  const { key = null, reverse = false, invalid = "throw" } = optionsOf(options, OF_SORT);
+  const { key = null, reverse = false, invalid = "throw", scheme: name } = optionsOf(options, OF_SORT);
+  const scheme = numberOfScheme(name);
   if (invalid !== "throw" && invalid !== "last") {
     throw new RangeError(`invalid is 'throw' or 'last', and this is ${JSON.stringify(invalid)}`);
   }
   const items = itemsOf(texts);
   const what = key === null ? "item" : "the key of item";
   const keys = key === null ? items : items.map((item) => key(item));
-  const its = invalid === "last" ? textsOf(keys, what) : keys.map((item, place) => textAt(place, item, what));
+  const its =
+    invalid === "last" ? textsOf(keys, scheme, what) : keys.map((item, place) => textAt(place, item, scheme, what));
   // In reverse, the items are sorted from the last to the first, and then taken from the last to the first: so those
   // that tie keep their order.
   if (reverse) {
     items.reverse();
     its.reverse();
   }
-  const [places, good] = placesInOrder(its);
+  const [places, good] = placesInOrder(its, scheme);
   if (good < places.length && invalid === "throw") {
     const last = places.length - 1;
     const place = places[reverse ? last : good];
     const text = its[place];
-    throw new InvalidVersion(text, `${what} ${reverse ? last - place : place} is not a version: ${JSON.stringify(text)}`);
+    const where = `${what} ${reverse ? last - place : place}`;
+    const of = nameOfScheme(scheme);
+    throw new InvalidVersion(text, of, `${where} is not a version${ofScheme(of)}: ${JSON.stringify(text)}`);
   }
   const versions = places.slice(0, good);
   const others = places.slice(good);
@@ -344,11 +456,35 @@ export function sort(texts, options = {}) {
 }
 
 export function newest(texts, options = {}) {
-  const { requirement = null, stability = null, tags = false } = optionsOf(options, OF_NEWEST);
-  const list = listOf(requirement ?? "*");
+  const { requirement = null, stability = null, tags = false, scheme: name } = optionsOf(options, OF_NEWEST);
+  const scheme = numberOfScheme(name);
   const least = STABILITIES.indexOf(stability) + 1;
   if (least === 0 && stability !== null) throw new RangeError(`no stability: ${JSON.stringify(stability)}`);
+  if (scheme !== MIXED) {
+    if (least > 0 || tags) throw new RangeError(`stability and tags are for the scheme mixed alone, and this is ${name}`);
+    return newestIn(scheme, texts, requirement ?? "*");
+  }
+  const form = formOf(requirement, MIXED);
+  if (form === undefined) return newestInMixed(itemsOf(texts), listOf(requirement ?? "*"), least, tags);
   const items = itemsOf(texts);
+  const has = hasAll(form, tags ? inTags(items) : items);
+  return newestInMixed(items.filter((_, place) => has[place]), "*", least, tags);
+}
+
+// The newest item in a set of another scheme, or in the set that a text is.
+function newestIn(scheme, texts, set) {
+  const wanted = typeof set === "string" ? new VersionSet(set, { scheme: nameOfScheme(scheme) }) : set;
+  if (formOf(wanted, scheme) === undefined) {
+    throw new TypeError(`a set of versions is a string or a VersionSet, and this is of type ${nameOf(set)}`);
+  }
+  return foremost(wanted.filter(texts), (one, other) => compareIn(scheme, other, one));
+}
+
+// The first of the items that no other comes before, or null.
+const foremost = (items, order) =>
+  items.reduce((least, item) => (least !== null && order(least, item) <= 0 ? least : item), null);
+
+function newestInMixed(items, list, least, tags) {
   const its = tags ? tagsOf(items) : textsOf(items);
   const { end, passed } = writeAll(its, 0, 3 * list.length);
   const length = put(list, end) - end;
@@ -421,22 +557,38 @@ class Answers {
 
 // How node shows a value.
 const SHOWN = Symbol.for("nodejs.util.inspect.custom");
+const shownScheme = (name) => (name === "mixed" ? "" : `, { scheme: ${JSON.stringify(name)} }`);
 
 export class Version {
   #text;
+  #scheme;
   #kind;
   #key;
   #answers;
 
-  constructor(text) {
-    this.#text = textOf(text);
-    if (typeof text === "string") [this.#kind, this.#key] = parse(text);
-    else [this.#kind, this.#key] = [text.#kind, text.#key];
+  constructor(text, options) {
+    this.#scheme = schemeOf(options);
+    this.#text = textOf(text, this.#scheme);
+    if (typeof text !== "string") [this.#kind, this.#key] = [text.#kind, text.#key];
+    else if (this.#scheme === MIXED) [this.#kind, this.#key] = parse(text);
+    else this.#key = keyIn(text, this.#scheme);
   }
 
   static {
-    versionText = (value) => (isObject(value) && #text in value ? value.#text : undefined);
-    keyOf = (value) => (isObject(value) && #key in value ? value.#key : parse(asText(value))[1]);
+    versionText = (value, scheme) => (isObject(value) && #text in value ? value.#in(scheme).#text : undefined);
+    keyOf = (value, scheme) =>
+      isObject(value) && #text in value ? value.#in(scheme).#key : keyIn(asText(value), scheme);
+  }
+
+  #in(scheme) {
+    checkScheme(scheme, this.#scheme);
+    return this;
+  }
+
+  // What is known of versions of mixed alone.
+  #ofMixed(value) {
+    if (this.#scheme === MIXED) return value;
+    throw new TypeError(`versions of ${this.scheme} have no kind, parts, fields or stability`);
   }
 
   static fromTag(tag, prefix = null) {
@@ -448,16 +600,20 @@ export class Version {
       prefix === null
         ? call.versions_in_tag(FROM, big(two), SLOTS[0])
         : call.versions_after_prefix(FROM, big(one), after(one), big(two), SLOTS[0]);
-    if (isLone || status !== OK) throw new InvalidVersion(its, noVersionIn(its, prefix));
+    if (isLone || status !== OK) throw new InvalidVersion(its, "mixed", noVersionIn(its, prefix));
     return new this(its.slice(placeOf(its, slot(0))));
   }
 
-  static compare(a, b) {
-    return compare(a, b);
+  static compare(a, b, options) {
+    return compare(a, b, options);
+  }
+
+  get scheme() {
+    return nameOfScheme(this.#scheme);
   }
 
   get kind() {
-    return this.#kind;
+    return this.#ofMixed(this.#kind);
   }
 
   get key() {
@@ -465,25 +621,25 @@ export class Version {
   }
 
   get isIdeal() {
-    return this.#kind === "ideal";
+    return this.#ofMixed(this.#kind) === "ideal";
   }
 
   get isGeneral() {
-    return this.#kind === "general";
+    return this.#ofMixed(this.#kind) === "general";
   }
 
   get isComplex() {
-    return this.#kind === "complex";
+    return this.#ofMixed(this.#kind) === "complex";
   }
 
   get isPrerelease() {
     const answers = (this.#answers ??= new Answers());
-    return (answers.isPrerelease ??= isPrerelease(this.#text));
+    return (answers.isPrerelease ??= isPrerelease(this.#ofMixed(this.#text)));
   }
 
   get stability() {
     const answers = (this.#answers ??= new Answers());
-    return (answers.stability ??= stabilityOf(this.#text));
+    return (answers.stability ??= stabilityOf(this.#ofMixed(this.#text)));
   }
 
   get major() {
@@ -503,28 +659,32 @@ export class Version {
 
   get epoch() {
     const answers = (this.#answers ??= new Answers());
-    return answers.epoch === undefined ? (answers.epoch = epochOf(this.#text)) : answers.epoch;
+    return answers.epoch === undefined ? (answers.epoch = epochOf(this.#ofMixed(this.#text))) : answers.epoch;
   }
 
   get preRelease() {
     const answers = (this.#answers ??= new Answers());
     return answers.preRelease === undefined
-      ? (answers.preRelease = field(this.#text, PRE_RELEASE))
+      ? (answers.preRelease = field(this.#ofMixed(this.#text), PRE_RELEASE))
       : answers.preRelease;
   }
 
   get release() {
     const answers = (this.#answers ??= new Answers());
-    return answers.release === undefined ? (answers.release = field(this.#text, RELEASE)) : answers.release;
+    return answers.release === undefined
+      ? (answers.release = field(this.#ofMixed(this.#text), RELEASE))
+      : answers.release;
   }
 
   get metadata() {
     const answers = (this.#answers ??= new Answers());
-    return answers.metadata === undefined ? (answers.metadata = field(this.#text, METADATA)) : answers.metadata;
+    return answers.metadata === undefined
+      ? (answers.metadata = field(this.#ofMixed(this.#text), METADATA))
+      : answers.metadata;
   }
 
   nth(n) {
-    const status = call.versions_nth(FROM, big(write(this.#text)), asPlace(n), SLOTS[0]);
+    const status = call.versions_nth(FROM, big(write(this.#ofMixed(this.#text))), asPlace(n), SLOTS[0]);
     return status === OK ? words[START / 4] : null;
   }
 
@@ -532,7 +692,7 @@ export class Version {
     const at = asPlace(place);
     // What comes next has at most one digit more.
     const room = 3 * this.#text.length + 8;
-    const length = write(this.#text, room);
+    const length = write(this.#ofMixed(this.#text), room);
     const status = call.versions_next(FROM, big(length), at, after(length), big(room), SLOTS[0]);
     if (status !== OK) throw new RangeError(`${this.#text} has no next version at place ${place}`);
     return new this.constructor(binary(FIRST + length, FIRST + length + slot(0)));
@@ -540,7 +700,7 @@ export class Version {
 
   difference(other) {
     const its = textOf(other);
-    writeTwo(this.#text, its);
+    writeTwo(this.#ofMixed(this.#text), its);
     const status = call.versions_difference(FROM, big(one), after(one), big(two), SLOTS[0], SLOTS[1]);
     if (status !== OK) refuseTwo(status, this.#text, its);
     const kind = DIFFERENCES[words[START / 4]];
@@ -548,12 +708,12 @@ export class Version {
   }
 
   compare(other) {
-    const key = keyOf(other);
+    const key = keyOf(other, this.#scheme);
     return this.#key < key ? -1 : this.#key > key ? 1 : 0;
   }
 
   equals(other) {
-    return this.#key === keyOf(other);
+    return this.#key === keyOf(other, this.#scheme);
   }
 
   toString() {
@@ -564,13 +724,16 @@ export class Version {
     return this.#text;
   }
 
-  // So that < and > go by the keys, and all else by the text. What is on their other side can't be seen from here.
+  // So that < and > go by the keys, and all else by the text. What is on their other side can't be seen from here, so
+  // they are for mixed alone: keys of two schemes say nothing of each other.
   [Symbol.toPrimitive](hint) {
-    return hint === "number" ? this.#key : this.#text;
+    if (hint !== "number") return this.#text;
+    if (this.#scheme === MIXED) return this.#key;
+    throw new TypeError(`versions of ${this.scheme} are compared by compare: < and > don't see the other's scheme`);
   }
 
   [SHOWN]() {
-    return `Version(${JSON.stringify(this.#text)})`;
+    return `Version(${JSON.stringify(this.#text)}${shownScheme(this.scheme)})`;
   }
 }
 
@@ -667,6 +830,200 @@ export class Requirement {
 }
 
 /*
+ * Sets of versions. Each is read once, and then asked by its form.
+ */
+
+// What a set is: its form, and the text that was read as it, or the version that it is of.
+class Form {
+  constructor(bytes, scheme, { text = null, version = null } = {}) {
+    Object.assign(this, { bytes, scheme, text, version });
+  }
+}
+
+function formOfText(text, scheme) {
+  const length = write(text);
+  const passed = [scheme, FROM, big(length)];
+  call.versions_set_bound(...passed, SLOTS[0]);
+  const room = slot(0);
+  const form = FIRST + length;
+  reserve(form + room);
+  const status = call.versions_set(...passed, after(length), big(room), SLOTS[0]);
+  if (status !== OK) throw new InvalidVersionSet(text, nameOfScheme(scheme));
+  return new Form(bytes.slice(form, form + slot(0)), scheme, { text });
+}
+
+// The form of the set of what ties with a version.
+function formOfVersion(version, scheme) {
+  const length = write(version);
+  const passed = [scheme, FROM, big(length), after(length)];
+  // Without room the library says how long the form is.
+  if (call.versions_set_of_version(...passed, 0n, SLOTS[0]) !== NO_ROOM) {
+    throw new InvalidVersion(version, nameOfScheme(scheme));
+  }
+  const room = slot(0);
+  const form = FIRST + length;
+  reserve(form + room);
+  call.versions_set_of_version(...passed, big(room), SLOTS[0]);
+  return new Form(bytes.slice(form, form + room), scheme, { version });
+}
+
+// Writes a form, with room for more after it, and returns its length.
+function writeForm({ bytes: form }, more = 0) {
+  reserve(FIRST + form.length + more);
+  bytes.set(form, FIRST);
+  return form.length;
+}
+
+// Writes two forms, one after the other, with as much room after them, and returns what a call takes for them.
+function writeForms(one, other) {
+  const size = other.bytes.length;
+  const length = writeForm(one, 2 * size + one.bytes.length);
+  bytes.set(other.bytes, FIRST + length);
+  return [FROM, big(length), after(length), big(size)];
+}
+
+// What a call makes of two sets.
+function merged(name, one, other) {
+  const room = one.bytes.length + other.bytes.length;
+  call[name](...writeForms(one, other), after(room), big(room), SLOTS[0]);
+  return new VersionSet(new Form(bytes.slice(FIRST + room, FIRST + room + slot(0)), one.scheme));
+}
+
+// What a call answers about two sets.
+function asked(name, one, other) {
+  call[name](...writeForms(one, other), SLOTS[0]);
+  return bytes[START] === 1;
+}
+
+const hexOf = (key) => Array.from(key, (byte) => byte.toString(16).padStart(2, "0")).join("");
+
+export class VersionSet {
+  #form;
+
+  // A form is passed by the calls of this file alone.
+  constructor(text, options) {
+    if (text instanceof Form) {
+      this.#form = text;
+    } else {
+      const scheme = schemeOf(options);
+      this.#form = formOf(text, scheme) ?? formOfText(asText(text), scheme);
+    }
+  }
+
+  static {
+    formOf = (value, scheme) => {
+      if (!isObject(value) || !(#form in value)) return undefined;
+      if (scheme !== undefined) checkScheme(scheme, value.#form.scheme);
+      return value.#form;
+    };
+  }
+
+  static of(version, options) {
+    const scheme = schemeOf(options);
+    return new this(formOfVersion(textOf(version, scheme), scheme));
+  }
+
+  // The form of another set of its scheme.
+  #formOf(other) {
+    const form = formOf(other, this.#form.scheme);
+    if (form === undefined) throw new TypeError(`a set of versions is a VersionSet, and this is of type ${nameOf(other)}`);
+    return form;
+  }
+
+  get scheme() {
+    return nameOfScheme(this.#form.scheme);
+  }
+
+  // Asks whether a version is in the set: the status of the call, which has written its answer.
+  #ask(version) {
+    const { length } = this.#form.bytes;
+    writeForm(this.#form, 3 * version.length);
+    const end = put(version, FIRST + length);
+    return call.versions_set_has(FROM, big(length), after(length), big(end - FIRST - length), SLOTS[0]);
+  }
+
+  matches(version) {
+    const its = textOf(version, this.#form.scheme);
+    if (this.#ask(its) !== OK) throw new InvalidVersion(its, this.scheme);
+    return bytes[START] === 1;
+  }
+
+  has(version) {
+    return this.#ask(textOf(version, this.#form.scheme)) === OK && bytes[START] === 1;
+  }
+
+  hasAll(texts) {
+    return hasAll(this.#form, texts);
+  }
+
+  filter(versions) {
+    const items = itemsOf(versions);
+    const has = hasAll(this.#form, items);
+    return items.filter((_, place) => has[place] === true);
+  }
+
+  and(other) {
+    return merged("versions_set_and", this.#form, this.#formOf(other));
+  }
+
+  or(other) {
+    return merged("versions_set_or", this.#form, this.#formOf(other));
+  }
+
+  not() {
+    const more = 17;
+    const length = writeForm(this.#form, this.#form.bytes.length + more);
+    call.versions_set_not(FROM, big(length), after(length), big(length + more), SLOTS[0]);
+    return new VersionSet(new Form(bytes.slice(FIRST + length, FIRST + length + slot(0)), this.#form.scheme));
+  }
+
+  isPartOf(other) {
+    return asked("versions_set_part_of", this.#form, this.#formOf(other));
+  }
+
+  meets(other) {
+    return asked("versions_set_meets", this.#form, this.#formOf(other));
+  }
+
+  equals(other) {
+    const form = this.#formOf(other).bytes;
+    return form.length === this.#form.bytes.length && form.every((byte, place) => byte === this.#form.bytes[place]);
+  }
+
+  get isEmpty() {
+    return call.versions_set_interval(FROM, big(writeForm(this.#form)), 0n, ...SLOTS.slice(0, 4)) !== OK;
+  }
+
+  get intervals() {
+    const form = this.#form.bytes;
+    const length = big(writeForm(this.#form));
+    const intervals = [];
+    while (call.versions_set_interval(FROM, length, big(intervals.length), ...SLOTS.slice(0, 4)) === OK) {
+      const high = form.slice(slot(2), slot(3));
+      intervals.push([form.slice(slot(0), slot(1)), high.length === 0 ? null : high]);
+    }
+    return intervals;
+  }
+
+  toString() {
+    if (this.#form.text !== null) return this.#form.text;
+    const shown = this.intervals.map(([low, high]) => `[${hexOf(low)}, ${high === null ? "" : hexOf(high)})`);
+    return shown.join(" || ") || "nothing";
+  }
+
+  toJSON() {
+    return String(this);
+  }
+
+  [SHOWN]() {
+    const { text, version } = this.#form;
+    const of = shownScheme(this.scheme);
+    if (text !== null) return `VersionSet(${JSON.stringify(text)}${of})`;
+    return version === null ? `<VersionSet: ${this}${of}>` : `VersionSet.of(${JSON.stringify(version)}${of})`;
+  }
+}
+
+/*
  * The names of npm's package semver, where they mean the same.
  */
 
@@ -682,9 +1039,10 @@ export const major = (text) => new Version(text).major;
 export const minor = (text) => new Version(text).minor;
 export const patch = (text) => new Version(text).patch;
 
-// A requirement, or null for a missing value and for a text that is none.
+// A requirement, or null for a missing value and for a text that is none. A set stays itself, and answers as one.
 function asRequirement(text) {
   if (isMissing(text)) return null;
+  if (formOf(text) !== undefined) return text;
   try {
     return new Requirement(text);
   } catch (error) {
@@ -699,11 +1057,11 @@ export const satisfies = (text, requirement) => !isMissing(text) && (asRequireme
 
 export function maxSatisfying(texts, requirement) {
   const wanted = asRequirement(requirement);
-  return wanted === null ? null : newest(texts, { requirement: wanted });
+  return wanted === null ? null : newest(texts, { requirement: wanted, scheme: wanted.scheme });
 }
 
 export function minSatisfying(texts, requirement) {
-  const items = asRequirement(requirement)?.filter(texts) ?? [];
-  // The first of those that no other comes before.
-  return items.reduce((least, item) => (least !== null && compare(least, item) <= 0 ? least : item), null);
+  const wanted = asRequirement(requirement);
+  const scheme = numberOfScheme(wanted?.scheme);
+  return foremost(wanted?.filter(texts) ?? [], (one, other) => compareIn(scheme, one, other));
 }

@@ -1,8 +1,9 @@
 // What the types of the package let through, and what they refuse. It is compiled and never run.
 import {
-  type Difference, type Kind, type Mismatch, type Range, type Stability, InvalidRequirement, InvalidVersion, Requirement,
-  STABILITIES, Version, compare, inTags, kind, kinds, major, matchAll, maxSatisfying, minSatisfying, newest, satisfies,
-  sort, sortKey, sortKeys, stabilities, valid,
+  type Difference, type Interval, type Kind, type Mismatch, type Range, type Scheme, type Stability, InvalidRequirement,
+  InvalidVersion, InvalidVersionSet, Requirement, SCHEMES, STABILITIES, Version, VersionSet, compare, compareTotal,
+  inTags, kind, kinds, major, matchAll, maxSatisfying, minSatisfying, newest, satisfies, sort, sortKey, sortKeys,
+  stabilities, valid,
 } from "./index.js";
 
 const version: Version = new Version("1.2.3");
@@ -33,6 +34,22 @@ const best: string | null = newest(["1"], { requirement: wanted, stability: null
 const most: string | null = maxSatisfying(["1"], null) ?? minSatisfying(["1"], wanted) ?? valid(null);
 const error: RangeError = new InvalidRequirement("x");
 const text: string = new InvalidVersion("x").text;
+const scheme: Scheme = SCHEMES[0] ?? version.scheme;
+const deb: Version = new Version("1.0~rc1", { scheme });
+const set: VersionSet = new VersionSet(">=1.2, <2 || ^3");
+const other: VersionSet = VersionSet.of("1.0", { scheme: "deb" }).and(new VersionSet(set)).or(set).not();
+const hasIt: boolean = set.has("1.2") && set.matches(deb) && set.isPartOf(other) && set.meets(other) && set.equals(other);
+const intervals: Interval[] = other.isEmpty ? [] : other.intervals;
+const low: Uint8Array | undefined = intervals[0]?.[0];
+const high: Uint8Array | null | undefined = intervals[0]?.[1];
+const had: (boolean | null)[] = set.hasAll(["1", null]).concat(matchAll(set, [deb]));
+const kept: Version[] = set.filter([version, null]);
+const inSet: boolean = satisfies("1", set);
+const wrong: { start: number; reason: string; scheme: Scheme } = new InvalidVersionSet("x", "deb");
+const bySchemes: [number, Uint8Array, string[], string | null] = [
+  compare("1", "2", { scheme: "deb" }), sortKey("1", { scheme }), sort(["1"], { scheme: "rpm", invalid: "last" }),
+  newest(["1"], { scheme: "gem", requirement: "<2" }) ?? newest(["1"], { requirement: set, tags: true }),
+];
 
 // @ts-expect-error: a number is no text.
 kind(1.2);
@@ -61,5 +78,18 @@ version.kind = "ideal";
 // @ts-expect-error: it may be null.
 major("1").toFixed();
 
+// @ts-expect-error: there is no such scheme.
+compare("1", "2", { scheme: "npm" });
+// @ts-expect-error: a scheme is an option.
+sortKeys(["1"], "deb");
+// @ts-expect-error: a set is computed with a set, and not with its text.
+set.and("*");
+// @ts-expect-error: a requirement is no set.
+new VersionSet(wanted);
+// @ts-expect-error: it can't be changed.
+set.scheme = "deb";
+// @ts-expect-error: compareTotal is of mixed alone.
+compareTotal("1", "2", { scheme: "mixed" });
+
 export { all, answers, best, error, field, filtered, found, is, key, keys, last, most, number, of, range, rated, rows };
-export { sign, sorted, stable, tag, text, texts, values, why };
+export { bySchemes, had, hasIt, high, inSet, kept, low, sign, sorted, stable, tag, text, texts, values, why, wrong };
