@@ -277,13 +277,13 @@ export function sort<Item>(
 ): Item[];
 
 // The names of npm's package semver.
-export function gt(a: Text, b: Text): boolean;
-export function gte(a: Text, b: Text): boolean;
-export function lt(a: Text, b: Text): boolean;
-export function lte(a: Text, b: Text): boolean;
-export function eq(a: Text, b: Text): boolean;
-export function neq(a: Text, b: Text): boolean;
-export function rcompare(a: Text, b: Text): -1 | 0 | 1;
+export function gt(a: Text, b: Text, options?: SchemeOptions): boolean;
+export function gte(a: Text, b: Text, options?: SchemeOptions): boolean;
+export function lt(a: Text, b: Text, options?: SchemeOptions): boolean;
+export function lte(a: Text, b: Text, options?: SchemeOptions): boolean;
+export function eq(a: Text, b: Text, options?: SchemeOptions): boolean;
+export function neq(a: Text, b: Text, options?: SchemeOptions): boolean;
+export function rcompare(a: Text, b: Text, options?: SchemeOptions): -1 | 0 | 1;
 /** `sort` in reverse. */
 export function rsort<Item extends Text>(texts: Iterable<Item>, options?: SortOptions<Item, Text>): Item[];
 export function major(text: Text): number | null;

@@ -1027,13 +1027,13 @@ export class VersionSet {
  * The names of npm's package semver, where they mean the same.
  */
 
-export const gt = (a, b) => compare(a, b) > 0;
-export const gte = (a, b) => compare(a, b) >= 0;
-export const lt = (a, b) => compare(a, b) < 0;
-export const lte = (a, b) => compare(a, b) <= 0;
-export const eq = (a, b) => compare(a, b) === 0;
-export const neq = (a, b) => compare(a, b) !== 0;
-export const rcompare = (a, b) => compare(b, a);
+export const gt = (a, b, options) => compare(a, b, options) > 0;
+export const gte = (a, b, options) => compare(a, b, options) >= 0;
+export const lt = (a, b, options) => compare(a, b, options) < 0;
+export const lte = (a, b, options) => compare(a, b, options) <= 0;
+export const eq = (a, b, options) => compare(a, b, options) === 0;
+export const neq = (a, b, options) => compare(a, b, options) !== 0;
+export const rcompare = (a, b, options) => compare(b, a, options);
 export const rsort = (texts, options = {}) => sort(texts, { ...optionsOf(options, OF_SORT), reverse: true });
 export const major = (text) => new Version(text).major;
 export const minor = (text) => new Version(text).minor;

@@ -1,6 +1,6 @@
 /*
- * The page: what is typed goes to the module, and what that answers is drawn. No rule of versions or of requirements is
- * here. Of the list only the rows in sight are in the document.
+ * The page: what is typed goes to the module, and what that answers is drawn. No rule of versions, of requirements or of
+ * sets is here. Of the list only the rows in sight are in the document.
  */
 const EXAMPLE = `1.2.3
 1.10.0
@@ -19,6 +19,7 @@ v1.5.0
 3.0~beta1-2
 1.4.0+build.7`;
 const ASKED = ">=1.2,<2";
+const SET = "<1.9 || >=2";
 
 // How many bytes and characters are drawn of what may be long.
 const [KEY_IN_ROW, KEY_IN_TABLE, BOUND, TEXT] = [64, 400, 40, 300];
@@ -27,11 +28,15 @@ const AROUND = 6; // rows that are drawn above and below those in sight
 const MANY = 1000; // lines, from which on the page says how long it took
 const SLOW = 50; // milliseconds, from which on a reading waits until nothing more is typed
 const KINDS = { ideal: "strict, as in SemVer 2.0", general: "as most packages have it", complex: "messy" };
+const SYSTEMS = {
+  mixed: "all shapes in one order", deb: "Debian", rpm: "RPM", pypi: "Python, by PEP 440", semver: "SemVer 2.0",
+  gem: "RubyGems",
+};
 const TAILS = { 1: "a pre-release", 2: "nothing", 3: "a release", 4: "further sections" };
 
 const at = (id) => document.getElementById(id);
-const [page, list, tags, wanted, rows, first, second] =
-  ["page", "list", "tags", "wanted", "rows", "first", "second"].map(at);
+const [page, list, scheme, tags, wanted, set, rows, first, second] =
+  ["page", "list", "scheme", "tags", "wanted", "set", "rows", "first", "second"].map(at);
 
 let versions; // the module
 let items = []; // one for each line that isn't empty, in order; those that are no versions come last
@@ -39,6 +44,7 @@ let count = 0; // how many items are versions
 let wantedNow = null; // the Requirement, or null
 let range = null; // the places of the first item of its range, and of the first after it
 let hits = 0; // how many items it matches
+let setNow = null; // the VersionSet, or null
 let chosen = -1;
 
 /* Makes an element with a class, and with children, which are elements or texts. */
@@ -48,6 +54,10 @@ function element(name, className, ...children) {
   made.append(...children);
   return made;
 }
+
+/* The options of a call: the scheme that is chosen. Requirements, kinds and tags are of mixed alone. */
+const chosenScheme = () => ({ scheme: scheme.value });
+const isMixed = () => scheme.value === "mixed";
 
 const told = (number) => number.toLocaleString("en");
 const plural = (number, one, many = `${one}s`) => `${told(number)} ${number === 1 ? one : many}`;
@@ -104,8 +114,9 @@ function* piecesOf(key) {
   yield piece("tail", tail);
 }
 
-/* A key as a row shows it: its pieces, up to so many bytes. */
+/* A key as a row shows it: its pieces, up to so many bytes. Those of another scheme are shown as they are. */
 function drawKey(key) {
+  if (!isMixed()) return element("span", "key", element("span", "piece whole", hex(key, KEY_IN_ROW)));
   const drawn = element("span", "key");
   let left = KEY_IN_ROW;
   for (const { name, says, bytes } of piecesOf(key)) {
@@ -124,14 +135,12 @@ function isBefore(a, b) {
   return differ === -1 ? a.length < b.length : a[differ] < b[differ];
 }
 
-const keyOf = (item) => (item.key ??= versions.sortKey(item.version));
-
 /* The place of the first item with a key that isn't below a bound. */
 function placeOf(bound) {
   let [low, high] = [0, count];
   while (low < high) {
     const middle = (low + high) >> 1;
-    if (isBefore(keyOf(items[middle]), bound)) low = middle + 1;
+    if (isBefore(items[middle].key, bound)) low = middle + 1;
     else high = middle;
   }
   return low;
@@ -139,32 +148,42 @@ function placeOf(bound) {
 
 /* Reads the list: which of its lines are versions, of which kind, how stable, and in which order. */
 function readList() {
+  at("of-mixed").hidden = at("legend-of-mixed").hidden = !isMixed();
+  document.documentElement.classList.toggle("other", !isMixed());
   items = list.value.split("\n").map((text, place) => ({ text, line: place + 1 })).filter(({ text }) => text !== "");
   const texts = items.map(({ text }) => text);
-  const found = tags.checked ? versions.inTags(texts) : texts;
-  const kinds = versions.kinds(found);
-  const stabilities = versions.stabilities(found);
+  const found = tags.checked && isMixed() ? versions.inTags(texts) : texts;
+  const keys = versions.sortKeys(found, chosenScheme());
+  const [kinds, stabilities] = isMixed() ? [versions.kinds(found), versions.stabilities(found)] : [[], []];
   items.forEach((item, place) => {
-    item.version = kinds[place] === null ? null : found[place];
-    item.kind = kinds[place];
-    item.stability = stabilities[place];
+    item.key = keys[place];
+    item.version = item.key === null ? null : found[place];
+    item.kind = kinds[place] ?? "";
+    item.stability = stabilities[place] ?? "";
   });
-  items = versions.sort(items, { key: ({ version }) => version, invalid: "last" });
-  count = items.filter(({ kind }) => kind !== null).length;
+  items = versions.sort(items, { key: ({ version }) => version, invalid: "last", ...chosenScheme() });
+  count = items.filter(({ version }) => version !== null).length;
   chosen = -1;
   ask();
 }
 
-/* Asks which items the requirements match, and where their range lies. */
-function ask() {
-  wantedNow = range = null;
-  let wrong = null;
+/* What a text is read as, or the error that says why it is none: both null where nothing is typed. */
+function read(text, make, Invalid) {
+  if (text === "") return [null, null];
   try {
-    if (wanted.value !== "") wantedNow = new versions.Requirement(wanted.value);
+    return [make(text), null];
   } catch (error) {
-    if (!(error instanceof versions.InvalidRequirement)) throw error;
-    wrong = error;
+    if (!(error instanceof Invalid)) throw error;
+    return [null, error];
   }
+}
+
+/* Asks which items the requirements match, where their range lies, and which items are in the set. */
+function ask() {
+  const text = isMixed() ? wanted.value : "";
+  const [requirement, wrong] = read(text, (its) => new versions.Requirement(its), versions.InvalidRequirement);
+  wantedNow = requirement;
+  range = null;
   if (wantedNow === null) {
     items.forEach((item) => (item.matches = null));
   } else {
@@ -175,19 +194,49 @@ function ask() {
   }
   hits = items.filter(({ matches }) => matches).length;
   drawRange(wrong);
+  askSet();
   drawSummary();
   drawStrip();
   drawRows();
   drawPair();
 }
 
+/* A text with the piece from a place on marked, or where one is missing. */
+function marked(text, start, piece) {
+  const before = text.slice(Math.max(0, start - TEXT), start);
+  return element("code", "", before, element("mark", "", short(piece) || "∅"), short(text.slice(start + piece.length)));
+}
+
 /* What is wrong with a list of requirements, with its first wrong member marked. */
 function sayWrong({ text, member, start }) {
-  const before = text.slice(Math.max(0, start - TEXT), start);
-  const marked = element("mark", "", short(member) || "∅");
-  const whole = element("code", "", before, marked, short(text.slice(start + member.length)));
   const like = [". Such a list looks like ", code(ASKED), "."];
-  return element("p", "wrong", "✗ This is not a list of requirements: ", whole, ...like);
+  return element("p", "wrong", "✗ This is not a list of requirements: ", marked(text, start, member), ...like);
+}
+
+/* What is wrong with a set, with its first wrong piece marked, which ends before a blank, a comma or a bar. */
+function sayNoSet({ text, start, reason }) {
+  const [piece] = /^(\|+|[^ \t,|]*)/.exec(text.slice(start));
+  return element("p", "wrong", "✗ This is not a set: ", marked(text, start, piece), `: ${reason}.`);
+}
+
+/* Asks which items are in the set, and says how many and which is the newest. */
+function askSet() {
+  const make = (text) => new versions.VersionSet(text, chosenScheme());
+  const [its, wrong] = read(set.value, make, versions.InvalidVersionSet);
+  setNow = its;
+  set.ariaInvalid = String(wrong !== null);
+  const texts = items.map(({ version }) => version);
+  const has = setNow?.hasAll(texts) ?? [];
+  items.forEach((item, place) => (item.isIn = has[place] ?? null));
+  const said = [];
+  if (wrong !== null) said.push(sayNoSet(wrong));
+  if (setNow !== null) {
+    const found = has.filter((is) => is).length;
+    said.push(element("p", "", `It has ${told(found)} of the ${plural(count, "version")}.`));
+    const newest = versions.newest(texts, { requirement: setNow, ...chosenScheme() });
+    if (newest !== null) said.push(element("p", "", "The newest in it: ", code(newest)));
+  }
+  at("in-set").replaceChildren(...said);
 }
 
 /* Where the range of the requirements lies in the list. */
@@ -244,7 +293,10 @@ const shape = (name, y, height, x = 0, width = 10) => {
   return made;
 };
 
-/* Draws the whole list as a strip: the range, the runs that match, in two hundred steps, and what is in sight. */
+/*
+ * Draws the whole list as a strip: the range, the runs that match, or are in the set where there are no requirements, in
+ * two hundred steps, and what is in sight.
+ */
 function drawStrip() {
   const strip = at("strip");
   const steps = Math.min(200, items.length);
@@ -252,7 +304,7 @@ function drawStrip() {
   let from = -1;
   for (let step = 0; step <= steps; step++) {
     const [start, end] = [step, step + 1].map((one) => Math.floor((one * items.length) / steps));
-    const hit = step < steps && items.slice(start, end).some(({ matches }) => matches);
+    const hit = step < steps && items.slice(start, end).some(({ matches, isIn }) => matches ?? isIn);
     if (hit && from < 0) from = step;
     if (!hit && from >= 0) {
       drawn.push(shape("hit", (100 * from) / steps, (100 * (step - from)) / steps, 4, 6));
@@ -265,7 +317,7 @@ function drawStrip() {
   }
   drawn.push(shape("view", 0, 0));
   strip.replaceChildren(...drawn);
-  strip.ariaLabel = range === null ? "There are no requirements." : sayPlaces(range);
+  strip.ariaLabel = range === null ? at("in-set").textContent || "Nothing is asked for." : sayPlaces(range);
 }
 
 function drawMatch(item) {
@@ -274,6 +326,12 @@ function drawMatch(item) {
   const { member, reason } = wantedNow.whyNot(item.version);
   const why = { kind: "not of a kind of", below: "below", above: "above", parts: "other parts than" }[reason];
   return element("span", "match no", `✗ ${why} ${short(member)}`);
+}
+
+function drawIsIn({ isIn }) {
+  const drawn = element("span", isIn ? "set yes" : "set", isIn === null ? "" : isIn ? "∈" : "∉");
+  if (isIn !== null) drawn.title = isIn ? "It is in the set." : "It isn't in the set.";
+  return drawn;
 }
 
 function drawRow(item, place) {
@@ -291,15 +349,16 @@ function drawRow(item, place) {
     row.append(element("span", "place", "✗"), quoted, element("span", "match no", `line ${line} is no version`));
     return row;
   }
-  const ties = place > 0 && versions.compare(items[place - 1].version, version) === 0;
+  const ties = place > 0 && versions.compare(items[place - 1].version, version, chosenScheme()) === 0;
   const number = element("span", "place", `${ties ? "= " : ""}${place + 1}`);
   if (ties) number.title = "It has the key of the line above.";
   const around = text.slice(0, text.length - version.length);
   const shown = element("span", "text", element("span", "around", short(around)), short(version));
   shown.title = short(text);
   const kindShown = element("span", "kind", kind);
-  kindShown.title = KINDS[kind];
-  row.append(number, shown, kindShown, element("span", "stability", stability), drawMatch(item), drawKey(keyOf(item)));
+  kindShown.title = KINDS[kind] ?? "";
+  const stabilityShown = element("span", "stability", stability);
+  row.append(number, shown, kindShown, stabilityShown, drawMatch(item), drawIsIn(item), drawKey(item.key));
   if (range !== null && range[0] <= place && place < range[1]) {
     row.classList.add("within");
     row.classList.toggle("matches", item.matches);
@@ -352,36 +411,45 @@ function whyNotSentence(text) {
   return why === null ? "" : ` ${short(String(why))}.`;
 }
 
-/* Draws two versions side by side, and which piece decides. */
+/* Draws two versions side by side, and which piece decides. In another scheme a key is one piece. */
 function drawPair() {
   const texts = [first.value, second.value];
-  const kinds = versions.kinds(texts);
-  [first, second].forEach((input, place) => input.setAttribute("aria-invalid", kinds[place] === null));
+  const keys = versions.sortKeys(texts, chosenScheme());
+  [first, second].forEach((input, place) => input.setAttribute("aria-invalid", keys[place] === null));
   const body = at("pieces").tBodies[0];
-  const none = texts.filter((_, place) => kinds[place] === null);
+  const none = texts.filter((_, place) => keys[place] === null);
   if (none.length > 0) {
     const said = none.flatMap((text) => ["✗ ", code(JSON.stringify(text)), " is no version. "]);
     at("verdict").replaceChildren(element("span", "wrong", ...said));
     body.replaceChildren();
     return;
   }
+  const order = { "-1": "comes before", 0: "ties with", 1: "comes after" }[versions.compare(...texts, chosenScheme())];
+  const said = element("strong", "", code(texts[0]), ` ${order} `, code(texts[1]));
+  if (!isMixed()) {
+    at("verdict").replaceChildren(said, ".");
+    const cells = keys.map((key) => element("td", "", element("span", "piece whole", hex(key, KEY_IN_TABLE))));
+    body.replaceChildren(element("tr", "", rowHead("key"), ...cells));
+    return;
+  }
   const [one, other] = texts.map((text) => new versions.Version(text));
   const difference = one.difference(other);
-  const order = { "-1": "comes before", 0: "ties with", 1: "comes after" }[one.compare(other)];
-  at("verdict").replaceChildren(
-    element("strong", "", code(texts[0]), ` ${order} `, code(texts[1])),
-    `: ${difference}.`, ...texts.map(whyNotSentence),
-  );
+  at("verdict").replaceChildren(said, `: ${difference}.`, ...texts.map(whyNotSentence));
   const pieces = [one, other].map((version) => [...piecesOf(version.key)]);
   const lines = namesOf(pieces, difference.part).map((name) => {
     const decides = name === difference.kind || name === difference.part;
     const title = typeof name === "number" ? `part ${name}` : name;
-    const head = element("th", "", decides ? `${title} ◂ decides` : title);
-    head.scope = "row";
+    const head = rowHead(decides ? `${title} ◂ decides` : title);
     const cells = pieces.map((its, place) => drawPiece(pieceOf(its, name), [one, other][place]));
     return element("tr", decides ? "decides" : "", head, ...cells);
   });
   body.replaceChildren(...lines);
+}
+
+function rowHead(title) {
+  const head = element("th", "", title);
+  head.scope = "row";
+  return head;
 }
 
 /*
@@ -462,8 +530,10 @@ const MOVES = {
 function begin() {
   at("state").textContent = "";
   onInput(list, readList);
+  onInput(scheme, readList);
   onInput(tags, readList);
   onInput(wanted, ask);
+  onInput(set, ask);
   onInput(first, drawPair);
   onInput(second, drawPair);
   rows.addEventListener("keydown", (event) => {
@@ -484,9 +554,11 @@ function begin() {
     rows.scrollTop = ((event.clientY - top) / height) * rows.scrollHeight - rows.clientHeight / 2;
   });
   addEventListener("resize", drawRows);
+  for (const name of versions.SCHEMES) scheme.add(new Option(`${name}: ${SYSTEMS[name]}`, name));
   // A browser that goes back keeps what was typed.
   list.value ||= EXAMPLE;
   wanted.value ||= ASKED;
+  set.value ||= SET;
   first.value ||= "1.10rc1";
   second.value ||= "1.10";
   readList();

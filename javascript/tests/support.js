@@ -4,14 +4,17 @@ import { pathToFileURL } from "node:url";
 
 export const folder = process.env.JAVASCRIPT;
 export const versions = await import(pathToFileURL(`${folder}/index.js`));
-const { InvalidRequirement, InvalidVersion } = versions;
+const { InvalidRequirement, InvalidVersion, InvalidVersionSet } = versions;
 
-/** Whether a call throws InvalidVersion with a text, and a message. */
-export function refusesVersion(call, text, message = `not a version: ${JSON.stringify(text)}`) {
+const ofScheme = (scheme) => (scheme === "mixed" ? "" : ` of ${scheme}`);
+
+/** Whether a call throws InvalidVersion with a text of a scheme, and a message. */
+export function refusesVersion(call, text, message, scheme = "mixed") {
   assert.throws(call, (error) => {
     assert.ok(error instanceof InvalidVersion && error instanceof RangeError, String(error));
-    assert.equal(error.text, text);
-    assert.equal(String(error), `InvalidVersion: ${message}`);
+    assert.deepEqual([error.text, error.scheme], [text, scheme]);
+    const said = message ?? `not a version${ofScheme(scheme)}: ${JSON.stringify(text)}`;
+    assert.equal(String(error), `InvalidVersion: ${said}`);
     return true;
   });
 }
@@ -31,6 +34,23 @@ export function refusesRequirement(call, text, start, member) {
     assert.equal(error.message, said);
     return true;
   });
+}
+
+/** Whether a call throws InvalidVersionSet with a text of a scheme, the place of its first wrong piece, and why. */
+export function refusesSet(call, text, start, reason, scheme = "mixed") {
+  assert.throws(call, (error) => {
+    assert.ok(error instanceof InvalidVersionSet && error instanceof RangeError, String(error));
+    assert.deepEqual([error.text, error.start, error.reason, error.scheme], [text, start, reason, scheme]);
+    const said = `not a set of versions${ofScheme(scheme)}: ${JSON.stringify(text)}; at ${start}: ${reason}`;
+    assert.equal(String(error), `InvalidVersionSet: ${said}`);
+    return true;
+  });
+}
+
+/** Whether a call throws the TypeError of a value of another scheme than the one that is wanted. */
+export function refusesScheme(call, wanted, its) {
+  const message = `versions of ${wanted} are wanted, and this is of ${its}`;
+  assert.throws(call, { name: "TypeError", message });
 }
 
 /** Whether a call throws a TypeError that names a type, and what is of it. */

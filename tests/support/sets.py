@@ -1,6 +1,7 @@
 """A model of sets of versions, written from docs/SETS.md alone: which texts are sets, where others are wrong, and which
 versions a set has. Of what kind a version is, and how two compare, is asked of the library. And the page's tables.
 """
+import itertools
 import re
 
 from checks import TOP
@@ -74,6 +75,30 @@ class Model:
         epochs = [int((re.match("([0-9]+):", each) or ["", "0"])[1]) for each in (version, text)]
         pairs = list(zip(parts_of(version), parts_of(text)))[:count]
         return epochs[0] == epochs[1] and len(pairs) == count and all(self.compare(a, b) == 0 for a, b in pairs)
+
+
+def made_versions(kind):
+    """Versions with parts that tie, zeros, words, epochs, a v, and what may follow parts."""
+    parts = ("0", "1", "2", "10", "02", "1a", "a", "x")
+    bodies = [".".join(each) for count in (1, 2, 3) for each in itertools.product(parts, repeat=count)]
+    made = ["".join(each) for each in itertools.product(("", "0:", "1:", "v"), bodies, ("", "-rc.1", "-1", "+x", "_3"))]
+    return [text for text in made if kind(text)]
+
+
+def drawn_set(draw, versions, operators=SINGLE, stars=8):
+    """A set's text, and sometimes one that is none. One of so many members has `.*`, as `stars` says."""
+    pieces = []
+    for alternative in range(draw.choice((1, 1, 2, 3))):
+        pieces += ["||"] if alternative else []
+        for member in range(draw.choice((1, 1, 2, 3))):
+            pieces += [draw.choice((",", " , ", " ", "\t"))] if member else []
+            operator, star = draw.choice(operators if draw.randrange(20) else DOUBLED), draw.randrange(stars) == 0
+            pieces += [operator, draw.choice(("", "", " ")), draw.choice(versions), ".*" if star else ""]
+            if draw.randrange(12) == 0:
+                pieces[-4:] = ["*"]
+    if draw.randrange(6) == 0:
+        pieces.insert(draw.randrange(len(pieces) + 1), draw.choice((",", "||", "|", " ", "=", "*", "x", ">= ")))
+    return draw.choice(("", " ")).join(pieces) if draw.randrange(4) == 0 else "".join(pieces)
 
 
 def rows_of_page(heading):
