@@ -85,19 +85,19 @@ static size_t digest_form(const char *name, int status, const uint8_t *form) {
   return digest_slots(name, status, 1, 8) ? digest(name, form, slots[0]), slots[0] : 0;
 }
 
-// The list as a set, the set of a version, and what is made of both.
-static void digest_sets(struct text a, struct text list) {
-  CLEAR, digest_slots("set_bound", versions_set_bound(VERSIONS_MIXED, list.at, list.length, SIZE(0)), 1, 8);
+// The list as a set of a scheme, the set of a version, and what is made of both.
+static void digest_sets(uint32_t scheme, struct text a, struct text list) {
+  CLEAR, digest_slots("set_bound", versions_set_bound(scheme, list.at, list.length, SIZE(0)), 1, 8);
   size_t room = slots[0], tied_room = 6 * a.length + 64;
   uint8_t *form = (uint8_t *)allocated(room), *tied = (uint8_t *)allocated(tied_room);
   uint8_t *made = (uint8_t *)allocated(room + tied_room);
   CLEAR;
-  size_t length = digest_form("set", versions_set(VERSIONS_MIXED, list.at, list.length, form, room, SIZE(0)), form);
+  size_t length = digest_form("set", versions_set(scheme, list.at, list.length, form, room, SIZE(0)), form);
   CLEAR;
-  int status = versions_set_of_version(VERSIONS_MIXED, a.at, a.length, tied, tied_room, SIZE(0));
+  int status = versions_set_of_version(scheme, a.at, a.length, tied, tied_room, SIZE(0));
   size_t tied_length = digest_form("set_of_version", status, tied);
-  CLEAR, digest_slots("set_wrong", versions_set_wrong(VERSIONS_MIXED, list.at, list.length, SIZE(0), U32(1)), 2, 8);
-  CLEAR, status = versions_set_wrong_text(VERSIONS_MIXED, list.at, list.length, (char *)made, room + tied_room, SIZE(0));
+  CLEAR, digest_slots("set_wrong", versions_set_wrong(scheme, list.at, list.length, SIZE(0), U32(1)), 2, 8);
+  CLEAR, status = versions_set_wrong_text(scheme, list.at, list.length, (char *)made, room + tied_room, SIZE(0));
   digest_form("set_wrong_text", status, made);
   CLEAR, digest_slots("set_has", versions_set_has(form, length, a.at, a.length, (bool *)&slots[0]), 1, 1);
   CLEAR, digest_slots("set_scheme", versions_set_scheme(form, length, U32(0)), 1, 8);
@@ -116,7 +116,7 @@ static void digest_sets(struct text a, struct text list) {
   free(form), free(tied), free(made);
 }
 
-static void digest_one(struct text a, struct text b, struct text list) {
+static void digest_one(size_t place, struct text a, struct text b, struct text list) {
   size_t room = 3 * (a.length > list.length ? a.length : list.length) + 5;
   uint8_t *out = (uint8_t *)allocated(room), *high = (uint8_t *)allocated(room);
   CLEAR, digest_slots("kind", versions_kind(a.at, a.length), 0, 8);
@@ -156,7 +156,7 @@ static void digest_one(struct text a, struct text b, struct text list) {
   CLEAR;
   if (digest_slots("inexact", versions_inexact(list.at, list.length, (char *)out, room, SIZE(0)), 1, 8))
     digest("inexact", out, slots[0]);
-  digest_sets(a, list);
+  digest_sets(VERSIONS_MIXED + (uint32_t)(place % VERSIONS_GEM), a, list);
   CLEAR, digest_slots("scheme", versions_scheme(a.at, a.length, U32(0)), 1, 8);
   for (uint32_t scheme = 0; scheme <= VERSIONS_GEM; scheme++) {
     CLEAR, digest_slots("scheme_has", versions_scheme_has(scheme, a.at, a.length, (bool *)&slots[0]), 1, 1);
@@ -248,7 +248,7 @@ int main(int count, char **words) {
   struct texts lines = read_texts(words[1]), lists = read_texts(words[2]);
   if (lines.count == 0 || lists.count == 0) return 2;
   for (size_t place = 0; place < lines.count; place++) {
-    digest_one(lines.texts[place], lines.texts[(place + 1) % lines.count], lists.texts[place % lists.count]);
+    digest_one(place, lines.texts[place], lines.texts[(place + 1) % lines.count], lists.texts[place % lists.count]);
   }
   digest_all(lines, lists);
   char *said[CALLS];

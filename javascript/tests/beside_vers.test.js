@@ -141,6 +141,33 @@ test("strict versions beside npm's semver", () => {
   assert.ok(matched > 1000);
 });
 
+test("sets of strict versions beside the ranges of npm's semver", () => {
+  const semver = createRequire(import.meta.url)("semver");
+  const below = chooser(6);
+  const number = () => below(4);
+  const version = () => `${1 + number()}.${number()}.${number()}`;
+  const counts = { has: 0, meets: 0, isPartOf: 0 };
+  // Intervals that are not empty, and versions without pre-releases: what else there is differs, as the page says. Of
+  // another major number than 0, since there >=0.0.0 is all versions.
+  const interval = () => {
+    const [a, b] = [version(), version()].sort(semver.compare);
+    return [`>=${a}`, `>=${a} <=${b}`, `<=${b}`, `>${a}`, `=${a}`, `^${a}`, `~${a}`][below(7)];
+  };
+  for (let run = 0; run < 3000; run++) {
+    const [a, b, text] = [interval(), interval(), version()];
+    // There ~1.2.3 has the parts but the last, as here.
+    const [one, other] = [a, b].map((text) => new versions.VersionSet(text));
+    assert.equal(one.has(text), new semver.Range(a).test(text), `${a} ${text}`);
+    assert.equal(one.or(other).has(text), new semver.Range(`${a} || ${b}`).test(text), `${a} ${b} ${text}`);
+    assert.equal(one.meets(other), semver.intersects(a, b), `${a} meets ${b}`);
+    if (!/[~^]/.test(b)) assert.equal(one.isPartOf(other), semver.subset(a, b), `${a} is part of ${b}`);
+    counts.has += one.has(text);
+    counts.meets += one.meets(other);
+    counts.isPartOf += one.isPartOf(other);
+  }
+  for (const [name, count] of Object.entries(counts)) assert.ok(count > 100 && count < 2900, `${name} ${count}`);
+});
+
 test("what is missing, beside npm's semver", () => {
   const semver = createRequire(import.meta.url)("semver");
   for (const missing of [null, undefined, NaN]) {

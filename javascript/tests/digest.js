@@ -90,8 +90,9 @@ export function digest(library, lines, lists) {
       ask("match_in_range", [...a, ...range, ...wanted, SLOTS[0]], 1, 1);
     }
     written("inexact", ask("inexact", [...wanted, ...key, SLOTS[0]], 1), slot(0));
-    // The list as a set, the set of a version, and what is made of both.
-    ask("set_bound", [MIXED, ...wanted, SLOTS[0]], 1);
+    // The list as a set of a scheme, the set of a version, and what is made of both.
+    const by = MIXED + (place % GEM);
+    ask("set_bound", [by, ...wanted, SLOTS[0]], 1);
     const form = out + 2 * room;
     const formRoom = slot(0);
     const tied = form + formRoom;
@@ -105,10 +106,10 @@ export function digest(library, lines, lists) {
       of(name).bytes(library.bytes, at, at + length);
       return [BigInt(at), BigInt(length)];
     };
-    const set = writes("set", [MIXED, ...wanted], form, formRoom);
-    const its = writes("set_of_version", [MIXED, ...a], tied, tiedRoom);
-    ask("set_wrong", [MIXED, ...wanted, SLOTS[0], SLOTS[1]], 2);
-    writes("set_wrong_text", [MIXED, ...wanted], made, madeRoom);
+    const set = writes("set", [by, ...wanted], form, formRoom);
+    const its = writes("set_of_version", [by, ...a], tied, tiedRoom);
+    ask("set_wrong", [by, ...wanted, SLOTS[0], SLOTS[1]], 2);
+    writes("set_wrong_text", [by, ...wanted], made, madeRoom);
     ask("set_has", [...set, ...a, SLOTS[0]], 1, 1);
     ask("set_scheme", [...set, SLOTS[0]], 1);
     ask("set_count", [...set, SLOTS[0]], 1);

@@ -61,3 +61,23 @@ test("what differs from semver", () => {
   const named = read("docs/JAVASCRIPT.md").match(/^`compare`.*?answer/m)[0].match(/(?<=`)\w+(?=`)/g);
   for (const name of named) assert.ok(typeof semver[name] === "function" && typeof versions[name] === "function", name);
 });
+
+test("what stands for calls of semver that have other names here", () => {
+  const semver = createRequire(import.meta.url)("semver");
+  const { Version, VersionSet } = versions;
+  const sentences = read("docs/JAVASCRIPT.md").match(/^For `coerce`.*$/m)[0];
+  const pairs = [...sentences.matchAll(/`(\w+)` (?:take )?`(?:Version\.)?(\w+)`/g)];
+  assert.equal(pairs.length, 7);
+  for (const [, there, here] of pairs) {
+    assert.ok(there in semver && !(there in versions), there);
+    assert.ok([versions, Version, Version.prototype, VersionSet.prototype].some((of) => here in of), here);
+  }
+  const [, one, other] = sentences.match(/there `subset\("(.*?)", "(.*?)"\)` is false/);
+  const sets = [one, other].map((text) => new VersionSet(text));
+  assert.deepEqual([semver.subset(one, other), sets[0].isPartOf(sets[1])], [false, true]);
+  const [, range] = sentences.match(/`minVersion`: `(.*?)` has no least version/);
+  // Each version that is in it has one before it there.
+  const within = ["1.2.4", "1.2.3.1", "1.2.3.0.1", "1.2.3.0.0"].map((text) => new Version(text));
+  assert.ok(within.every((version, place) => new VersionSet(range).has(version) && (place === 0 || version < within[place - 1])));
+  assert.ok("minVersion" in semver && !("minVersion" in versions));
+});

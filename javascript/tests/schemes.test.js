@@ -5,7 +5,7 @@ import { inspect } from "node:util";
 import { readFileSync } from "node:fs";
 import { test } from "node:test";
 import {
-  chooser, compareBytes, refusesScheme, refusesSet, refusesType, refusesVersion, versions,
+  chooser, compareBytes, folder, refusesScheme, refusesSet, refusesType, refusesVersion, versions,
 } from "./support.js";
 
 const {
@@ -59,6 +59,8 @@ test("the names of all schemes", () => {
   const page = readFileSync(new URL("../../docs/SCHEMES.md", import.meta.url), "utf8");
   const [, table] = page.split("| scheme | its versions |");
   assert.deepEqual(SCHEMES, [...table.split("\n\n")[0].matchAll(/^\| `(\w+)` \|/gm)].map((found) => found[1]));
+  const [, union] = readFileSync(`${folder}/index.d.ts`, "utf8").match(/^export type Scheme = (.*);$/m);
+  assert.deepEqual(union.split(" | "), SCHEMES.map((name) => JSON.stringify(name)));
   for (const [name, call] of Object.entries(CALLS)) {
     for (const scheme of SCHEMES) {
       const answer = call({ scheme });
