@@ -54,7 +54,7 @@ export class InvalidVersionSet extends RangeError {
   constructor(text: string, scheme?: Scheme);
   readonly text: string;
   readonly scheme: Scheme;
-  /** The place in the text where its first wrong piece begins, as strings count places; its end where one is missing. */
+  /** The place where its first wrong piece begins, as strings count places; the end where something is missing there. */
   readonly start: number;
   /** Why that piece is wrong, and what to write: a sentence without a full stop. */
   readonly reason: string;
@@ -263,8 +263,8 @@ export interface SortOptions<Item, Key> extends SchemeOptions {
   invalid?: "throw" | "last";
 }
 /**
- * A new array in the order of `compareTotal`, or by another scheme, where what ties keeps its order. InvalidVersion with
- * the first text that is not a version.
+ * A new array in the order of `compareTotal`, or of another scheme, where what ties keeps its order. InvalidVersion
+ * with the first text that is not a version.
  */
 export function sort<Item extends Text>(texts: Iterable<Item>, options?: SortOptions<Item, Text>): Item[];
 export function sort<Item extends Text | Missing>(

@@ -461,7 +461,9 @@ export function newest(texts, options = {}) {
   const least = STABILITIES.indexOf(stability) + 1;
   if (least === 0 && stability !== null) throw new RangeError(`no stability: ${JSON.stringify(stability)}`);
   if (scheme !== MIXED) {
-    if (least > 0 || tags) throw new RangeError(`stability and tags are for the scheme mixed alone, and this is ${name}`);
+    if (least > 0 || tags) {
+      throw new RangeError(`stability and tags are for the scheme mixed alone, and this is ${name}`);
+    }
     return newestIn(scheme, texts, requirement ?? "*");
   }
   const form = formOf(requirement, MIXED);
@@ -557,7 +559,7 @@ class Answers {
 
 // How node shows a value.
 const SHOWN = Symbol.for("nodejs.util.inspect.custom");
-const shownScheme = (name) => (name === "mixed" ? "" : `, { scheme: ${JSON.stringify(name)} }`);
+const shownScheme = (scheme) => (scheme === MIXED ? "" : `, { scheme: ${JSON.stringify(nameOfScheme(scheme))} }`);
 
 export class Version {
   #text;
@@ -588,7 +590,7 @@ export class Version {
   // What is known of versions of mixed alone.
   #ofMixed(value) {
     if (this.#scheme === MIXED) return value;
-    throw new TypeError(`versions of ${this.scheme} have no kind, parts, fields or stability`);
+    throw new TypeError(`versions of ${nameOfScheme(this.#scheme)} have no kind, parts, fields or stability`);
   }
 
   static fromTag(tag, prefix = null) {
@@ -729,11 +731,12 @@ export class Version {
   [Symbol.toPrimitive](hint) {
     if (hint !== "number") return this.#text;
     if (this.#scheme === MIXED) return this.#key;
-    throw new TypeError(`versions of ${this.scheme} are compared by compare: < and > don't see the other's scheme`);
+    const of = nameOfScheme(this.#scheme);
+    throw new TypeError(`versions of ${of} are compared by compare: < and > don't see the other's scheme`);
   }
 
   [SHOWN]() {
-    return `Version(${JSON.stringify(this.#text)}${shownScheme(this.scheme)})`;
+    return `Version(${JSON.stringify(this.#text)}${shownScheme(this.#scheme)})`;
   }
 }
 
@@ -926,8 +929,8 @@ export class VersionSet {
   // The form of another set of its scheme.
   #formOf(other) {
     const form = formOf(other, this.#form.scheme);
-    if (form === undefined) throw new TypeError(`a set of versions is a VersionSet, and this is of type ${nameOf(other)}`);
-    return form;
+    if (form !== undefined) return form;
+    throw new TypeError(`a set of versions is a VersionSet, and this is of type ${nameOf(other)}`);
   }
 
   get scheme() {
@@ -944,7 +947,7 @@ export class VersionSet {
 
   matches(version) {
     const its = textOf(version, this.#form.scheme);
-    if (this.#ask(its) !== OK) throw new InvalidVersion(its, this.scheme);
+    if (this.#ask(its) !== OK) throw new InvalidVersion(its, nameOfScheme(this.#form.scheme));
     return bytes[START] === 1;
   }
 
@@ -1016,8 +1019,8 @@ export class VersionSet {
   }
 
   [SHOWN]() {
-    const { text, version } = this.#form;
-    const of = shownScheme(this.scheme);
+    const { text, version, scheme } = this.#form;
+    const of = shownScheme(scheme);
     if (text !== null) return `VersionSet(${JSON.stringify(text)}${of})`;
     return version === null ? `<VersionSet: ${this}${of}>` : `VersionSet.of(${JSON.stringify(version)}${of})`;
   }
@@ -1051,17 +1054,21 @@ function asRequirement(text) {
   }
 }
 
+// The number of the scheme of such a requirement or set.
+const schemeOfWanted = (wanted) => formOf(wanted)?.scheme ?? MIXED;
+
 export const valid = (text) => (isMissing(text) || kind(text) === null ? null : textOf(text));
 export const validRange = (text) => asRequirement(text)?.toString() ?? null;
 export const satisfies = (text, requirement) => !isMissing(text) && (asRequirement(requirement)?.has(text) ?? false);
 
 export function maxSatisfying(texts, requirement) {
   const wanted = asRequirement(requirement);
-  return wanted === null ? null : newest(texts, { requirement: wanted, scheme: wanted.scheme });
+  const scheme = nameOfScheme(schemeOfWanted(wanted));
+  return wanted === null ? null : newest(texts, { requirement: wanted, scheme });
 }
 
 export function minSatisfying(texts, requirement) {
   const wanted = asRequirement(requirement);
-  const scheme = numberOfScheme(wanted?.scheme);
+  const scheme = schemeOfWanted(wanted);
   return foremost(wanted?.filter(texts) ?? [], (one, other) => compareIn(scheme, one, other));
 }

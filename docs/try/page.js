@@ -1,6 +1,6 @@
 /*
- * The page: what is typed goes to the module, and what that answers is drawn. No rule of versions, of requirements or of
- * sets is here. Of the list only the rows in sight are in the document.
+ * The page: what is typed goes to the module, and what that answers is drawn. No rule of versions, requirements or sets
+ * is here. Of the list only the rows in sight are in the document.
  */
 const EXAMPLE = `1.2.3
 1.10.0
@@ -204,7 +204,8 @@ function ask() {
 /* A text with the piece from a place on marked, or where one is missing. */
 function marked(text, start, piece) {
   const before = text.slice(Math.max(0, start - TEXT), start);
-  return element("code", "", before, element("mark", "", short(piece) || "∅"), short(text.slice(start + piece.length)));
+  const after = short(text.slice(start + piece.length));
+  return element("code", "", before, element("mark", "", short(piece) || "∅"), after);
 }
 
 /* What is wrong with a list of requirements, with its first wrong member marked. */
@@ -294,8 +295,8 @@ const shape = (name, y, height, x = 0, width = 10) => {
 };
 
 /*
- * Draws the whole list as a strip: the range, the runs that match, or are in the set where there are no requirements, in
- * two hundred steps, and what is in sight.
+ * Draws the whole list as a strip: the range, the runs that match, in two hundred steps, and what is in sight. Without
+ * requirements the runs are those in the set.
  */
 function drawStrip() {
   const strip = at("strip");

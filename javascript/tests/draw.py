@@ -19,11 +19,13 @@ from pathlib import Path
 sys.dont_write_bytecode = True
 sys.path.insert(0, str(Path(__file__).resolve().parents[2] / "tests/support"))
 from schemes import SYSTEMS, system_of  # noqa: E402
-from sets import DOUBLED, Model, Wrong, drawn_set, made_versions  # noqa: E402
+from sets import Model, Wrong, drawn_set, made_versions  # noqa: E402
 
 COUNT, EACH, POOL = int(sys.argv[1]), 3, 120
-OK, NO_SET, NO_INTERVAL = 0, 18, 22
-OF_ORDER = ("=", "==", "!=", "<", "<=", ">", ">=")  # the operators of each scheme
+OK = 0
+# Which orders of a version and the member's version each operator has, and what Debian's sets have too.
+ORDERS = {"=": (0,), "==": (0,), "!=": (-1, 1), "<": (-1,), "<=": (-1, 0), ">": (1,), ">=": (0, 1)}
+DEBIANS = {"<<": (-1,), ">>": (1,)}
 # What a text is spoiled with: beyond ASCII, beyond 16 bits, halves of that, and byte 0.
 SPOILS = ("\u00e9", "\U0001f600", "\ud83d", "\ude00", "\0", "\u00a0", "\U0001f600\ud83d")
 
@@ -83,14 +85,14 @@ class C:
 
 
 class SchemeModel(Model):
-    """The model of another scheme's sets, by docs/SCHEMES.md: members go by the order alone. Its orders are asked at once
-    for all pairs of a pool of versions, and otherwise one by one.
+    """The model of another scheme's sets, by docs/SCHEMES.md: members go by the order alone. Orders are asked of its
+    system at once for all pairs of a pool of versions, and otherwise one by one.
     """
 
     def __init__(self, system):
         super().__init__(self.is_version, self.order)
         self.system, self.known, self.orders = system, {}, {}
-        self.operators = (*OF_ORDER, *(DOUBLED if system.name == "deb" else ()))
+        self.operators = ORDERS | (DEBIANS if system.name == "deb" else {})
 
     def pool(self, draw):
         """Versions, and texts that are none."""
@@ -117,7 +119,7 @@ class SchemeModel(Model):
         return operator in self.operators and not of_parts and self.is_version(text)
 
     def holds(self, operator, of_parts, text, version):
-        return super().holds({"<<": "<", ">>": ">"}.get(operator, operator), of_parts, text, version)
+        return operator is None or self.order(version, text) in self.operators[operator]
 
 
 class MixedModel(Model):
@@ -141,7 +143,7 @@ class Drawing:
         if self.name == "mixed":
             text = drawn_set(self.draw, self.versions)
         else:
-            operators = (*OF_ORDER * 9, "~", "^", "~=")
+            operators = (*[*ORDERS] * 9, "~", "^", "~=")
             text = drawn_set(self.draw, self.versions, operators, stars=90)
         if self.draw.randrange(30) == 0:
             place = self.draw.randrange(len(text) + 1)
@@ -188,7 +190,7 @@ class Drawing:
         """A list in order by its keys, in which what ties keeps its order, and the newest of it that is in a set."""
         texts = self.draw.choices(self.versions, k=30) + self.draw.choices(self.others, k=5)
         self.draw.shuffle(texts)
-        keys = [self.c.key(self.number, text) for text in texts]
+        keys = [self.c.key(self.number, text) if self.model.kind(text) else None for text in texts]
         good = [place for place, key in enumerate(keys) if key is not None]
         last = [place for place, key in enumerate(keys) if key is None]
         low = self.draw.choice([text for text in self.versions if self.is_member(text)])

@@ -108,7 +108,7 @@ test("options", () => {
     for (const value of values.filter((value) => typeof value !== "object" || value === null)) {
       refusesType(() => call([], value), typeOf(value));
     }
-    const known = call === newest ? "requirement, stability, tags" : "key, reverse, invalid";
+    const known = call === newest ? "requirement, stability, tags, scheme" : "key, reverse, invalid, scheme";
     for (const name of ["Reverse", "loose", "toString", "__proto__", "0", ""]) {
       const message = `there is no option ${JSON.stringify(name)}, but ${known}`;
       for (const value of [true, undefined]) assert.throws(() => call([], { [name]: value }), { name: "TypeError", message });
