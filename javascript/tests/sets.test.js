@@ -4,7 +4,11 @@ import assert from "node:assert/strict";
 import { inspect } from "node:util";
 import { readFileSync } from "node:fs";
 import { test } from "node:test";
-import { refusesSet, refusesType, refusesVersion, versions } from "./support.js";
+import { pathToFileURL } from "node:url";
+import { folder, refusesSet, refusesType, refusesVersion, versions } from "./support.js";
+
+// The very module that the package has loaded.
+const library = await import(pathToFileURL(`${folder}/library.js`));
 
 const { InvalidVersionSet, Requirement, Version, VersionSet, matchAll, maxSatisfying, minSatisfying } = versions;
 const { newest, sortKey } = versions;
@@ -82,6 +86,22 @@ test("what is no set", () => {
   const error = new InvalidVersionSet("*");
   assert.deepEqual([error.start, error.reason, error.message], [0, "", 'not a set of versions: "*"']);
   assert.throws(() => new InvalidVersionSet("*", "dpkg"), RangeError);
+});
+
+test("a place counts units, wherever the library says it is", () => {
+  const { call } = library;
+  const kept = call.versions_set_wrong;
+  call.versions_set_wrong = (...passed) => {
+    const status = kept(...passed);
+    library.words[library.START / 4] = 9; // the bytes before the comma
+    return status;
+  };
+  try {
+    const error = new InvalidVersionSet("\u00e9\u{1f600}\ud800, 2");
+    assert.deepEqual([error.start, error.reason], [4, OPERATOR]);
+  } finally {
+    call.versions_set_wrong = kept;
+  }
 });
 
 test("what is no text, and what is no version", () => {

@@ -19,7 +19,8 @@ SHIFT = 8
 
 # The size of a picture, its 256 most frequent colours, and for each point the place of the nearest of these.
 PALETTE = """async (data) => {
-  const image = await createImageBitmap(await (await fetch(`data:image/png;base64,${data}`)).blob());
+  const image = Object.assign(new Image(), { src: `data:image/png;base64,${data}` });
+  await image.decode();
   const { width, height } = image;
   const context = new OffscreenCanvas(width, height).getContext("2d");
   context.drawImage(image, 0, 0);
