@@ -1,16 +1,19 @@
 /*
- * versions.c: versions and requirements in PostgreSQL, as functions on texts and as types. The Makefile builds it.
- * versions--0.1.0.sql declares the functions to PostgreSQL and describes their results.
+ * versions.c: versions, requirements and sets in PostgreSQL, as functions on texts and as types. The Makefile builds
+ * it. versions--0.1.0.sql declares the functions to PostgreSQL and describes their results.
  *
- * A value of the type `version` is the text of a version, unchanged: its representation is that of `text`. Versions are
- * ASCII, and in every server encoding an ASCII byte is that character. So texts are passed to the library unconverted:
- * a text with a byte that is not ASCII is not a version in any encoding.
+ * A value of the type `version`, or of the type of another scheme such as `deb_version`, is the text of a version,
+ * unchanged: its representation is that of `text`. Versions are ASCII, and in every server encoding an ASCII byte is
+ * that character. So texts are passed to the library unconverted: a text with a byte that is not ASCII is not a version
+ * in any encoding.
  *
  * All memory is PostgreSQL's, so it is freed even if an error ends the statement. The library does not allocate.
  *
- * The library alone decides what versions and requirements are. This file only passes texts to it.
+ * The library alone decides what versions, requirements and sets are. This file only passes texts to it.
  */
 #include "postgres.h"
+
+#include <ctype.h>
 
 #if PG_VERSION_NUM < 130000
 #error "PostgreSQL 13 or later is needed"
@@ -19,6 +22,7 @@
 #include "access/detoast.h"
 #include "access/stratnum.h"
 #include "catalog/pg_am.h"
+#include "catalog/pg_collation.h"
 #include "catalog/pg_proc.h"
 #include "catalog/pg_statistic.h"
 #include "catalog/pg_type.h"
@@ -33,6 +37,7 @@
 #include "optimizer/optimizer.h"
 #include "utils/builtins.h"
 #include "utils/lsyscache.h"
+#include "utils/memutils.h"
 #include "utils/selfuncs.h"
 #include "utils/sortsupport.h"
 #include "utils/syscache.h"
@@ -68,7 +73,40 @@ static Span span_of(const text *value) {
   return span;
 }
 
-static bool parses(Span span) { return versions_kind(span.bytes, span.len) != VERSIONS_NONE; }
+/*
+ * Schemes. A type of versions has one: its functions are written for every scheme, and a macro defines them for each
+ * type. The calls for mixed alone take less time than those that are given a scheme.
+ */
+
+/* The type of the versions of each scheme, at the scheme's number. */
+static const char *const type_names[] = {
+    NULL, "version", "deb_version", "rpm_version", "pypi_version", "semver_version", "gem_version",
+};
+
+static bool parses(uint32 scheme, Span span) {
+  bool parses = false;
+  if (scheme == VERSIONS_MIXED) return versions_kind(span.bytes, span.len) != VERSIONS_NONE;
+  versions_scheme_has(scheme, span.bytes, span.len, &parses);
+  return parses;
+}
+
+static int compare(uint32 scheme, Span a, Span b, int32_t *order) {
+  return scheme == VERSIONS_MIXED ? versions_compare(a.bytes, a.len, b.bytes, b.len, order)
+                                  : versions_scheme_compare(scheme, a.bytes, a.len, b.bytes, b.len, order);
+}
+
+static int write_key(uint32 scheme, Span span, uint8_t *key, size_t room, size_t *len) {
+  return scheme == VERSIONS_MIXED ? versions_sort_key(span.bytes, span.len, key, room, len)
+                                  : versions_scheme_key(scheme, span.bytes, span.len, key, room, len);
+}
+
+/* The name of a scheme; NULL where no scheme has the number. */
+static const char *name_of(uint32 scheme) {
+  char name[16];
+  size_t len;
+  if (versions_scheme_name(scheme, name, sizeof name, &len) != VERSIONS_OK) return NULL;
+  return pnstrdup(name, len);
+}
 
 /*
  * Returns the first 60 bytes of a text in quotes, and the number of further bytes. Quotes, backslashes and bytes that
@@ -93,18 +131,51 @@ static const char *quoted(Span span) {
   return said.data;
 }
 
+/* What is said of the name of no scheme, behind an article: a list of all names. */
+static const char *not_a_scheme(Span name) {
+  StringInfoData said;
+  uint32 scheme;
+  initStringInfo(&said);
+  appendStringInfoString(&said, "scheme is one of ");
+  for (scheme = VERSIONS_MIXED; name_of(scheme); scheme++) appendStringInfo(&said, "%s, ", name_of(scheme));
+  appendStringInfo(&said, "and this is %s", quoted(name));
+  return said.data;
+}
+
+/* The scheme of a name. Fails for the name of none. */
+static uint32 scheme_of(Span name) {
+  uint32_t scheme = 0;
+  if (versions_scheme(name.bytes, name.len, &scheme) != VERSIONS_OK) {
+    ereport(ERROR, (errcode(ERRCODE_INVALID_PARAMETER_VALUE), errmsg("a %s", not_a_scheme(name))));
+  }
+  return scheme;
+}
+
+/* Fails where versions of one scheme are wanted, and what is given is of another. */
+static void check_scheme(uint32 wanted, uint32 given) {
+  if (wanted != given) {
+    ereport(ERROR,
+            (errcode(ERRCODE_INVALID_PARAMETER_VALUE),
+             errmsg("versions of %s are wanted, and this is of %s", name_of(wanted), name_of(given))));
+  }
+}
+
 /*
  * Damage: values of the types that no input makes. Only a damaged file has one, or a cast that a superuser declares.
  * Each call that reads a value fails for it. The outputs write a damaged text as it is.
  */
 
-static void report_damage(Span span) {
-  ereport(ERROR,
-          (errcode(ERRCODE_DATA_CORRUPTED), errmsg("a value of type version is not a version: %s", quoted(span))));
+static void report_damage(uint32 scheme, Span span) {
+  ereport(ERROR, (errcode(ERRCODE_DATA_CORRUPTED),
+                  errmsg("a value of type %s is not a version: %s", type_names[scheme], quoted(span))));
 }
 
 static void report_damaged_requirement(void) {
   ereport(ERROR, (errcode(ERRCODE_DATA_CORRUPTED), errmsg("a value of type requirement is not a requirement")));
+}
+
+static void report_damaged_set(void) {
+  ereport(ERROR, (errcode(ERRCODE_DATA_CORRUPTED), errmsg("a value of type version_set is not a set of versions")));
 }
 
 static void report_damaged_bound(void) {
@@ -113,7 +184,7 @@ static void report_damaged_bound(void) {
 
 /*
  * The longest text that a key is made of, or a value of the types, in bytes. A statement can't be cancelled while the
- * library reads a text: this one takes it a few seconds. A key has at most three bytes for each of the text.
+ * library reads a text: this one takes it a few seconds. A key has at most five bytes for each of the text.
  */
 enum { LONGEST = 16 * 1024 * 1024 };
 
@@ -137,16 +208,15 @@ typedef union {
 } KeyRoom;
 
 /* The key of a text: in the room if it fits, otherwise in memory of its length. NULL if the text is not a version. */
-static bytea *key_of(Span span, KeyRoom *room) {
+static bytea *key_of(uint32 scheme, Span span, KeyRoom *room) {
   bytea *key = &room->key;
   size_t len;
   int status;
   fits(NULL, span, "sort key");
-  status =
-      versions_sort_key(span.bytes, span.len, (uint8_t *)VARDATA(key), sizeof room->bytes - VARHDRSZ, &len);
+  status = write_key(scheme, span, (uint8_t *)VARDATA(key), sizeof room->bytes - VARHDRSZ, &len);
   if (status == VERSIONS_NO_ROOM) {
     key = palloc(VARHDRSZ + len);
-    status = versions_sort_key(span.bytes, span.len, (uint8_t *)VARDATA(key), len, &len);
+    status = write_key(scheme, span, (uint8_t *)VARDATA(key), len, &len);
   }
   if (status != VERSIONS_OK) return NULL;
   SET_VARSIZE(key, VARHDRSZ + len);
@@ -155,6 +225,14 @@ static bytea *key_of(Span span, KeyRoom *room) {
 
 static void free_key(bytea *key, KeyRoom *room) {
   if (key != &room->key) pfree(key);
+}
+
+/* The key of a text, as a result; NULL if the text is not a version. */
+static bytea *key_to_keep(uint32 scheme, Span span) {
+  KeyRoom room;
+  bytea *key = key_of(scheme, span, &room);
+  if (key == &room.key) key = memcpy(palloc(VARSIZE(key)), key, VARSIZE(key));
+  return key;
 }
 
 /*
@@ -169,25 +247,29 @@ static void free_key(bytea *key, KeyRoom *room) {
 
 /* The result NULL, by the status of a call for a text or a version. */
 static Datum no_result(FunctionCallInfo fcinfo, bool typed, int status, Span span) {
-  if (typed && status == VERSIONS_NO_VERSION) report_damage(span);
+  if (typed && status == VERSIONS_NO_VERSION) report_damage(VERSIONS_MIXED, span);
   PG_RETURN_NULL();
 }
 
-SQL_FUNCTION(is_version) { PG_RETURN_BOOL(parses(span_of(PG_GETARG_TEXT_PP(0)))); }
+SQL_FUNCTION(is_version) { PG_RETURN_BOOL(parses(VERSIONS_MIXED, span_of(PG_GETARG_TEXT_PP(0)))); }
 
 SQL_FUNCTION(to_version) {
   text *value = PG_GETARG_TEXT_PP(0);
   fits(NULL, span_of(value), "version");
-  if (!parses(span_of(value))) PG_RETURN_NULL();
+  if (!parses(VERSIONS_MIXED, span_of(value))) PG_RETURN_NULL();
   PG_RETURN_TEXT_P(value);
 }
 
-FUNCTIONS(version_key) {
-  KeyRoom room;
-  Span span = span_of(PG_GETARG_TEXT_PP(0));
-  bytea *key = key_of(span, &room);
-  if (!key) return no_result(fcinfo, typed, VERSIONS_NO_VERSION, span);
-  if (key == &room.key) key = memcpy(palloc(VARSIZE(key)), key, VARSIZE(key));
+SQL_FUNCTION(version_key) {
+  bytea *key = key_to_keep(VERSIONS_MIXED, span_of(PG_GETARG_TEXT_PP(0)));
+  if (!key) PG_RETURN_NULL();
+  PG_RETURN_BYTEA_P(key);
+}
+
+SQL_FUNCTION(version_key_in_scheme) {
+  uint32 scheme = scheme_of(span_of(PG_GETARG_TEXT_PP(1)));
+  bytea *key = key_to_keep(scheme, span_of(PG_GETARG_TEXT_PP(0)));
+  if (!key) PG_RETURN_NULL();
   PG_RETURN_BYTEA_P(key);
 }
 
@@ -218,6 +300,15 @@ static Datum compare_arguments(FunctionCallInfo fcinfo, bool typed, Comparison *
 
 FUNCTIONS(version_compare) { return compare_arguments(fcinfo, typed, versions_compare); }
 FUNCTIONS(version_compare_total) { return compare_arguments(fcinfo, typed, versions_compare_total); }
+
+SQL_FUNCTION(version_compare_in_scheme) {
+  uint32 scheme = scheme_of(span_of(PG_GETARG_TEXT_PP(2)));
+  int32_t order;
+  if (compare(scheme, span_of(PG_GETARG_TEXT_PP(0)), span_of(PG_GETARG_TEXT_PP(1)), &order) != VERSIONS_OK) {
+    PG_RETURN_NULL();
+  }
+  PG_RETURN_INT32(order);
+}
 
 /* Why a text is not a list of requirements, and what one looks like, for the errors about such texts. */
 static int explain(Span list) {
@@ -369,56 +460,60 @@ SQL_FUNCTION(version_why_not_text) {
 
 SQL_FUNCTION(version_of_library) { PG_RETURN_TEXT_P(cstring_to_text(versions_version())); }
 
-/* The type `version`: its input from a C string, from a client in binary, and from a text. */
+/*
+ * The types of versions, by their scheme: the input from a C string, from a client in binary, and from a text. That
+ * from a text returns the text itself.
+ */
 
-SQL_FUNCTION(version_in) {
+/* Whether a text is a version that is not too long. An input that is asked to goes on after the error. */
+static bool is_value(fmNodePtr context, uint32 scheme, Span span) {
+  if (!fits(context, span, type_names[scheme])) return false;
+  if (!parses(scheme, span)) {
+    ereturn(context, false,
+            (errcode(ERRCODE_INVALID_TEXT_REPRESENTATION),
+             errmsg("invalid input syntax for type %s: %s", type_names[scheme], quoted(span))));
+  }
+  return true;
+}
+
+static Datum version_of_input(FunctionCallInfo fcinfo, uint32 scheme) {
   char *bytes = PG_GETARG_CSTRING(0);
   Span span = {bytes, strlen(bytes)};
-  if (!fits(fcinfo->context, span, "version")) return (Datum)0;
-  if (!parses(span)) {
-    ereturn(fcinfo->context, (Datum)0,
-            (errcode(ERRCODE_INVALID_TEXT_REPRESENTATION),
-             errmsg("invalid input syntax for type version: %s", quoted(span))));
-  }
+  if (!is_value(fcinfo->context, scheme, span)) return (Datum)0;
   PG_RETURN_TEXT_P(cstring_to_text_with_len(span.bytes, (int)span.len));
 }
 
-SQL_FUNCTION(version_recv) {
+static Datum version_of_message(FunctionCallInfo fcinfo, uint32 scheme) {
   StringInfo message = (StringInfo)PG_GETARG_POINTER(0);
   int len;
   const char *bytes = pq_getmsgtext(message, message->len - message->cursor, &len);
   Span span = {bytes, (size_t)len};
-  fits(NULL, span, "version");
-  if (!parses(span)) {
+  fits(NULL, span, type_names[scheme]);
+  if (!parses(scheme, span)) {
     ereport(ERROR, (errcode(ERRCODE_INVALID_BINARY_REPRESENTATION),
-                    errmsg("invalid binary representation of type version: %s", quoted(span))));
+                    errmsg("invalid binary representation of type %s: %s", type_names[scheme], quoted(span))));
   }
   PG_RETURN_TEXT_P(cstring_to_text_with_len(span.bytes, len));
 }
 
-SQL_FUNCTION(version_of_text) {
+static Datum version_of_argument(FunctionCallInfo fcinfo, uint32 scheme) {
   text *value = PG_GETARG_TEXT_PP(0);
-  if (!fits(fcinfo->context, span_of(value), "version")) return (Datum)0;
-  if (!parses(span_of(value))) {
-    ereturn(fcinfo->context, (Datum)0,
-            (errcode(ERRCODE_INVALID_TEXT_REPRESENTATION),
-             errmsg("invalid input syntax for type version: %s", quoted(span_of(value)))));
-  }
+  if (!is_value(fcinfo->context, scheme, span_of(value))) return (Datum)0;
   PG_RETURN_TEXT_P(value);
 }
 
-/* The order of versions, by precedence. */
+/* The order of versions of a scheme. */
 
 static bool are_same(Span a, Span b) { return a.len == b.len && memcmp(a.bytes, b.bytes, a.len) == 0; }
 
 /* Compares two values of the type. Equal bytes are not parsed. */
-static int32_t order_of(Span a, Span b) {
+static int32_t order_of(uint32 scheme, Span a, Span b) {
   int32_t order = 0;
   if (are_same(a, b)) return 0;
-  switch (versions_compare(a.bytes, a.len, b.bytes, b.len, &order)) {
+  switch (compare(scheme, a, b, &order)) {
     case VERSIONS_OK: break;
-    case VERSIONS_NO_VERSION_B: report_damage(b); break;
-    default: report_damage(a);
+    case VERSIONS_NO_VERSION_B: report_damage(scheme, b); break;
+    default: report_damage(scheme, a);
   }
   return order;
 }
@@ -428,9 +523,9 @@ static void free_copy(struct varlena *bytes, Datum value) {
   if ((Pointer)bytes != DatumGetPointer(value)) pfree(bytes);
 }
 
-static int order_of_values(Datum a, Datum b) {
+static int order_of_values(uint32 scheme, Datum a, Datum b) {
   text *first = DatumGetTextPP(a), *second = DatumGetTextPP(b);
-  int32_t order = order_of(span_of(first), span_of(second));
+  int32_t order = order_of(scheme, span_of(first), span_of(second));
   free_copy(first, a);
   free_copy(second, b);
   return order;
@@ -445,37 +540,30 @@ static int order_of_values(Datum a, Datum b) {
   SQL_FUNCTION(name##_ge) { PG_RETURN_BOOL(!(is_less)); }   \
   SQL_FUNCTION(name##_gt) { PG_RETURN_BOOL((order) > 0); }
 
-#define ORDER_OF_ARGUMENTS order_of_values(PG_GETARG_DATUM(0), PG_GETARG_DATUM(1))
-
-ORDER_FUNCTIONS(version, ORDER_OF_ARGUMENTS, ORDER_OF_ARGUMENTS < 0)
-SQL_FUNCTION(version_ne) { PG_RETURN_BOOL(ORDER_OF_ARGUMENTS != 0); }
-
-/* The first if both compare equal. */
-SQL_FUNCTION(version_larger) { PG_RETURN_DATUM(PG_GETARG_DATUM(ORDER_OF_ARGUMENTS >= 0 ? 0 : 1)); }
-SQL_FUNCTION(version_smaller) { PG_RETURN_DATUM(PG_GETARG_DATUM(ORDER_OF_ARGUMENTS <= 0 ? 0 : 1)); }
+#define ORDER_OF_ARGUMENTS(scheme) order_of_values(scheme, PG_GETARG_DATUM(0), PG_GETARG_DATUM(1))
 
 /* Hashes are of keys, so that versions that tie have the same hash. */
 
 /* The key of a value of the type. */
-static bytea *key_of_value(Datum value, KeyRoom *room) {
+static bytea *key_of_value(uint32 scheme, Datum value, KeyRoom *room) {
   text *version = DatumGetTextPP(value);
-  bytea *key = key_of(span_of(version), room);
-  if (!key) report_damage(span_of(version));
+  bytea *key = key_of(scheme, span_of(version), room);
+  if (!key) report_damage(scheme, span_of(version));
   free_copy(version, value);
   return key;
 }
 
-SQL_FUNCTION(version_hash) {
+static Datum hash_of_argument(FunctionCallInfo fcinfo, uint32 scheme) {
   KeyRoom room;
-  bytea *key = key_of_value(PG_GETARG_DATUM(0), &room);
+  bytea *key = key_of_value(scheme, PG_GETARG_DATUM(0), &room);
   Datum hash = hash_any((const unsigned char *)VARDATA(key), VARSIZE(key) - VARHDRSZ);
   free_key(key, &room);
   return hash;
 }
 
-SQL_FUNCTION(version_hash_extended) {
+static Datum extended_hash_of_arguments(FunctionCallInfo fcinfo, uint32 scheme) {
   KeyRoom room;
-  bytea *key = key_of_value(PG_GETARG_DATUM(0), &room);
+  bytea *key = key_of_value(scheme, PG_GETARG_DATUM(0), &room);
   Datum hash = hash_any_extended((const unsigned char *)VARDATA(key), VARSIZE(key) - VARHDRSZ, PG_GETARG_INT64(1));
   free_key(key, &room);
   return hash;
@@ -517,15 +605,6 @@ static uint64 beginning_of_code(Span key) {
   return beginning;
 }
 
-static uint64 beginning_of_value(Datum value) {
-  KeyRoom room;
-  bytea *key = key_of_value(value, &room);
-  uint64 beginning = beginning_of_code(span_of(key));
-  free_key(key, &room);
-  return beginning;
-}
-
-static Datum abbreviate(Datum value, SortSupport sort) { return UInt64GetDatum(beginning_of_value(value)); }
 
 #if PG_VERSION_NUM < 150000
 static int compare_abbreviated(Datum a, Datum b, SortSupport sort) {
@@ -549,28 +628,36 @@ typedef struct {
 
 enum { PLACES = 256 };
 
-static KeptKey *place_of(KeptKey *kept, Span version) {
-  return &kept[DatumGetUInt32(hash_any((const unsigned char *)version.bytes, (int)version.len)) % PLACES];
+/* What a sort keeps: the scheme, and recent keys. */
+typedef struct {
+  uint32 scheme;
+  KeptKey places[PLACES];
+} Kept;
+
+static KeptKey *place_of(Kept *kept, Span version) {
+  return &kept->places[DatumGetUInt32(hash_any((const unsigned char *)version.bytes, (int)version.len)) % PLACES];
 }
 
 /* Puts the key of a version at the place if it fits. Returns whether the key is there. */
-static bool keeps_key(KeptKey *place, Span version) {
+static bool keeps_key(uint32 scheme, KeptKey *place, Span version) {
   size_t len;
   if (version.len > sizeof place->version) return false;
   if (place->len == version.len && memcmp(place->version, version.bytes, version.len) == 0) return true;
-  if (versions_sort_key(version.bytes, version.len, place->key, sizeof place->key, &len) != VERSIONS_OK) return false;
+  if (write_key(scheme, version, place->key, sizeof place->key, &len) != VERSIONS_OK) return false;
   memcpy(place->version, version.bytes, version.len);
   place->len = (uint8)version.len;
   place->key_len = (uint8)len;
   return true;
 }
 
-static int order_by_kept_keys(KeptKey *kept, Span a, Span b) {
+static int order_by_kept_keys(Kept *kept, Span a, Span b) {
   KeptKey *first, *second;
   if (are_same(a, b)) return 0;
   first = place_of(kept, a);
   second = place_of(kept, b);
-  if (first == second || !keeps_key(first, a) || !keeps_key(second, b)) return order_of(a, b);
+  if (first == second || !keeps_key(kept->scheme, first, a) || !keeps_key(kept->scheme, second, b)) {
+    return order_of(kept->scheme, a, b);
+  }
   /* no key is a prefix of another */
   return memcmp(first->key, second->key, Min(first->key_len, second->key_len));
 }
@@ -583,12 +670,22 @@ static int compare_in_sort(Datum a, Datum b, SortSupport sort) {
   return order;
 }
 
+static Datum abbreviate(Datum value, SortSupport sort) {
+  KeyRoom room;
+  bytea *key = key_of_value(((Kept *)sort->ssup_extra)->scheme, value, &room);
+  uint64 beginning = beginning_of_code(span_of(key));
+  free_key(key, &room);
+  return UInt64GetDatum(beginning);
+}
+
 /* Making a key costs less than comparing two texts once, so a sort never gives up its keys. */
 static bool never_abort(int count, SortSupport sort) { return false; }
 
-SQL_FUNCTION(version_sortsupport) {
+static Datum support_sort(FunctionCallInfo fcinfo, uint32 scheme) {
   SortSupport sort = (SortSupport)PG_GETARG_POINTER(0);
-  sort->ssup_extra = MemoryContextAllocZero(sort->ssup_cxt, PLACES * sizeof(KeptKey));
+  Kept *kept = MemoryContextAllocZero(sort->ssup_cxt, sizeof *kept);
+  kept->scheme = scheme;
+  sort->ssup_extra = kept;
   sort->comparator = compare_in_sort;
   if (sort->abbreviate) {
     sort->abbrev_converter = abbreviate;
@@ -613,9 +710,15 @@ typedef struct {
   uint32 flags, low_len, high_len, members_len;
 } RequirementHead;
 
+/* A range of keys of a scheme, and its flags, as versions_range has them. */
 typedef struct {
-  uint32 flags;
-  Span low, high, members, list;
+  uint32 scheme, flags;
+  Span low, high;
+} Range;
+
+typedef struct {
+  Range range;
+  Span members, list;
 } Requirement;
 
 enum {
@@ -645,12 +748,13 @@ static Requirement requirement_of(const struct varlena *value) {
       (head.flags & VERSIONS_RANGE_EXACT ? head.members_len || len == before_list : !head.members_len)) {
     report_damaged_requirement();
   }
-  requirement.flags = head.flags;
-  requirement.low.bytes = VARDATA_ANY(value) + sizeof head;
-  requirement.low.len = head.low_len;
-  requirement.high.bytes = requirement.low.bytes + head.low_len;
-  requirement.high.len = head.high_len;
-  requirement.members.bytes = requirement.high.bytes + head.high_len;
+  requirement.range.scheme = VERSIONS_MIXED;
+  requirement.range.flags = head.flags;
+  requirement.range.low.bytes = VARDATA_ANY(value) + sizeof head;
+  requirement.range.low.len = head.low_len;
+  requirement.range.high.bytes = requirement.range.low.bytes + head.low_len;
+  requirement.range.high.len = head.high_len;
+  requirement.members.bytes = requirement.range.high.bytes + head.high_len;
   requirement.members.len = head.members_len;
   requirement.list.bytes = requirement.members.bytes + head.members_len;
   requirement.list.len = len - before_list;
@@ -796,13 +900,13 @@ static Datum matches(Datum version, Datum list) {
   bytea *requirements = beginning_of(list);
   Span span = span_of(value);
   Requirement requirement = requirement_of(requirements);
+  Range range = requirement.range;
   bool matches = false;
-  int status = versions_match_in_range(span.bytes, span.len, (const uint8_t *)requirement.low.bytes,
-                                       requirement.low.len, (const uint8_t *)requirement.high.bytes,
-                                       requirement.high.len, requirement.flags, requirement.members.bytes,
-                                       requirement.members.len, &matches);
+  int status = versions_match_in_range(span.bytes, span.len, (const uint8_t *)range.low.bytes, range.low.len,
+                                       (const uint8_t *)range.high.bytes, range.high.len, range.flags,
+                                       requirement.members.bytes, requirement.members.len, &matches);
   if (status == VERSIONS_NO_REQUIREMENTS) report_damaged_requirement();
-  if (status != VERSIONS_OK) report_damage(span);
+  if (status != VERSIONS_OK) report_damage(VERSIONS_MIXED, span);
   free_copy(value, version);
   free_copy(requirements, list);
   PG_RETURN_BOOL(matches);
@@ -819,7 +923,7 @@ SQL_FUNCTION(version_matches_cast) {
     ereport(ERROR, (errcode(ERRCODE_INVALID_TEXT_REPRESENTATION),
                     errmsg("invalid input syntax for type requirement: %s", quoted(list)), explain(list)));
   }
-  if (status != VERSIONS_OK) report_damage(span);
+  if (status != VERSIONS_OK) report_damage(VERSIONS_MIXED, span);
   PG_RETURN_BOOL(matches);
 }
 
@@ -831,15 +935,16 @@ SQL_FUNCTION(version_why_not) {
   int status;
   Datum why = why_not(list, span, &status);
   if (status == VERSIONS_NO_REQUIREMENTS) report_damaged_requirement();
-  if (status == VERSIONS_NO_VERSION) report_damage(span);
+  if (status == VERSIONS_NO_VERSION) report_damage(VERSIONS_MIXED, span);
   if (status != VERSIONS_OK) PG_RETURN_NULL();
   return why;
 }
 
 /*
- * The type `version_bound`: a bound of a range. Its bytes compare with the key of a version. So versions and bounds are
- * in one order, that of bytes, and are of one operator family: versions that tie have the same key, and are on the same
- * side of each bound. A value is one byte, which is 1 for the bound above every key, and otherwise 0; then the bytes.
+ * The type `version_bound`: a bound of a range. Its bytes compare with the key of a version. So versions of a scheme
+ * and bounds are in one order, that of bytes, and are of one operator family: versions that tie have the same key, and
+ * are on the same side of each bound. A value is one byte, which is 1 for the bound above every key, and otherwise 0;
+ * then the bytes.
  */
 
 typedef struct {
@@ -865,14 +970,16 @@ static Datum bound_from(bool is_above_all, Span bytes) {
   PG_RETURN_BYTEA_P(bound);
 }
 
-static Datum low_bound(Requirement requirement) { return bound_from(false, requirement.low); }
-
-static Datum high_bound(Requirement requirement) {
-  return bound_from(!(requirement.flags & VERSIONS_RANGE_HIGH), requirement.high);
+static Datum bound_of_range(Range range, bool is_high) {
+  return is_high ? bound_from(!(range.flags & VERSIONS_RANGE_HIGH), range.high) : bound_from(false, range.low);
 }
 
-SQL_FUNCTION(requirement_low) { return low_bound(requirement_of(beginning_of(PG_GETARG_DATUM(0)))); }
-SQL_FUNCTION(requirement_high) { return high_bound(requirement_of(beginning_of(PG_GETARG_DATUM(0)))); }
+static Range range_of_argument(FunctionCallInfo fcinfo) {
+  return requirement_of(beginning_of(PG_GETARG_DATUM(0))).range;
+}
+
+SQL_FUNCTION(requirement_low) { return bound_of_range(range_of_argument(fcinfo), false); }
+SQL_FUNCTION(requirement_high) { return bound_of_range(range_of_argument(fcinfo), true); }
 
 /*
  * The bounds as bytes, for an index of the keys of texts. The one above every key is the byte 255, which is above the
@@ -883,25 +990,25 @@ static Datum bytes_of(Span bytes) {
   return PointerGetDatum(cstring_to_text_with_len(bytes.bytes, (int)bytes.len));
 }
 
-static Datum low_bytes(Requirement requirement) { return bytes_of(requirement.low); }
+static Datum low_bytes(Range range) { return bytes_of(range.low); }
 
-static Datum high_bytes(Requirement requirement) {
+static Datum high_bytes(Range range) {
   static const Span above_all = {"\xff", 1};
-  return bytes_of(requirement.flags & VERSIONS_RANGE_HIGH ? requirement.high : above_all);
+  return bytes_of(range.flags & VERSIONS_RANGE_HIGH ? range.high : above_all);
 }
 
-static Requirement requirement_of_text(const text *value) {
+static Range range_of_text(const text *value) {
   bytea *made;
   fits(NULL, span_of(value), "requirement");
   made = requirement_from(span_of(value));
   if (!made) report_no_requirement(span_of(value));
-  return requirement_of(made);
+  return requirement_of(made).range;
 }
 
-SQL_FUNCTION(version_low) { return low_bytes(requirement_of(beginning_of(PG_GETARG_DATUM(0)))); }
-SQL_FUNCTION(version_high) { return high_bytes(requirement_of(beginning_of(PG_GETARG_DATUM(0)))); }
-SQL_FUNCTION(version_low_text) { return low_bytes(requirement_of_text(PG_GETARG_TEXT_PP(0))); }
-SQL_FUNCTION(version_high_text) { return high_bytes(requirement_of_text(PG_GETARG_TEXT_PP(0))); }
+SQL_FUNCTION(version_low) { return low_bytes(range_of_argument(fcinfo)); }
+SQL_FUNCTION(version_high) { return high_bytes(range_of_argument(fcinfo)); }
+SQL_FUNCTION(version_low_text) { return low_bytes(range_of_text(PG_GETARG_TEXT_PP(0))); }
+SQL_FUNCTION(version_high_text) { return high_bytes(range_of_text(PG_GETARG_TEXT_PP(0))); }
 
 /* What the output writes. */
 SQL_FUNCTION(version_bound_in) {
@@ -933,13 +1040,13 @@ SQL_FUNCTION(version_bound_out) {
 }
 
 /* Compares the key of a version with a bound. */
-static int order_with_bound(Datum version, Datum value) {
+static int order_with_bound(uint32 scheme, Datum version, Datum value) {
   bytea *bytes = DatumGetByteaPP(value), *key;
   Bound bound = bound_in(bytes);
   KeyRoom room;
   int order = -1;
   if (!bound.is_above_all) {
-    key = key_of_value(version, &room);
+    key = key_of_value(scheme, version, &room);
     order = order_of_bytes(span_of(key), bound.bytes);
     free_key(key, &room);
   }
@@ -947,17 +1054,24 @@ static int order_with_bound(Datum version, Datum value) {
   return order;
 }
 
-/* Whether the key of a version is below a bound. No key is made: the scan of an index calls this for each row. */
-static bool is_below(Datum version, Datum value) {
-  text *text_of_version = DatumGetTextPP(version);
-  bytea *bytes = DatumGetByteaPP(value);
-  Span span = span_of(text_of_version);
-  Bound bound = bound_in(bytes);
+/*
+ * Whether the key of a version is below a bound. In mixed no key is made: the scan of an index calls this for each row.
+ */
+static bool is_below(uint32 scheme, Datum version, Datum value) {
+  text *text_of_version;
+  bytea *bytes;
+  Span span;
+  Bound bound;
   bool is_below = true;
+  if (scheme != VERSIONS_MIXED) return order_with_bound(scheme, version, value) < 0;
+  text_of_version = DatumGetTextPP(version);
+  bytes = DatumGetByteaPP(value);
+  span = span_of(text_of_version);
+  bound = bound_in(bytes);
   if (!bound.is_above_all &&
       versions_in_range(span.bytes, span.len, NULL, 0, (const uint8_t *)bound.bytes.bytes, bound.bytes.len,
                         ALL_KINDS | VERSIONS_RANGE_HIGH, &is_below) != VERSIONS_OK) {
-    report_damage(span);
+    report_damage(scheme, span);
   }
   free_copy(text_of_version, version);
   free_copy(bytes, value);
@@ -976,15 +1090,448 @@ static int order_of_bounds(Datum a, Datum b) {
 }
 
 #define ORDER_OF_BOUNDS order_of_bounds(PG_GETARG_DATUM(0), PG_GETARG_DATUM(1))
-#define ORDER_WITH_BOUND(version, bound) order_with_bound(PG_GETARG_DATUM(version), PG_GETARG_DATUM(bound))
+#define ORDER_WITH_BOUND(scheme, version, bound) \
+  order_with_bound(scheme, PG_GETARG_DATUM(version), PG_GETARG_DATUM(bound))
 
-ORDER_FUNCTIONS(version_bound, ORDER_WITH_BOUND(0, 1), is_below(PG_GETARG_DATUM(0), PG_GETARG_DATUM(1)))
-ORDER_FUNCTIONS(bound_version, -ORDER_WITH_BOUND(1, 0), ORDER_WITH_BOUND(1, 0) > 0)
 ORDER_FUNCTIONS(bounds, ORDER_OF_BOUNDS, ORDER_OF_BOUNDS < 0)
 
 /*
- * The planner: a version that matches is not below the low bound of the requirement, and is below the high one. These
- * two conditions bound the scan of an index, and the bounds' places in a histogram estimate how many rows match.
+ * The type `version_set`: a set of versions of a scheme. A value is the length of its form, the form, and the text that
+ * was read as the set: as it was written, but with the scheme in front where that was given beside it. A computed set
+ * has no text, and is printed as its form. Sets are equal if their forms are.
+ */
+
+typedef struct {
+  uint32 scheme;
+  Span form, text;
+} Set;
+
+static const uint8_t *octets(Span span) { return (const uint8_t *)span.bytes; }
+
+static Set set_of(const struct varlena *value) {
+  Span all = span_of(value);
+  uint32 form_len;
+  Set set;
+  if (all.len < sizeof form_len) report_damaged_set();
+  memcpy(&form_len, all.bytes, sizeof form_len);
+  if (form_len > all.len - sizeof form_len) report_damaged_set();
+  set.form.bytes = all.bytes + sizeof form_len;
+  set.form.len = form_len;
+  set.text.bytes = set.form.bytes + form_len;
+  set.text.len = all.len - sizeof form_len - form_len;
+  if (versions_set_scheme(octets(set.form), set.form.len, &set.scheme) != VERSIONS_OK) report_damaged_set();
+  return set;
+}
+
+/* A value with room for a form. */
+static bytea *value_for(size_t room) {
+  if (room > MaxAllocSize - VARHDRSZ - sizeof(uint32)) {
+    ereport(ERROR, (errcode(ERRCODE_PROGRAM_LIMIT_EXCEEDED), errmsg("the set of versions is too long")));
+  }
+  return palloc(VARHDRSZ + sizeof(uint32) + room);
+}
+
+static uint8_t *form_in(bytea *value) { return (uint8_t *)VARDATA(value) + sizeof(uint32); }
+
+/* Says how long the form in a value is, and what follows it. */
+static bytea *with_form(bytea *value, size_t form_len, size_t text_len) {
+  uint32 len = (uint32)form_len;
+  memcpy(VARDATA(value), &len, sizeof len);
+  SET_VARSIZE(value, VARHDRSZ + sizeof len + form_len + text_len);
+  return value;
+}
+
+/* Why a text, or the rest of it, is not a set. */
+static int explain_set(uint32 scheme, Span text, size_t from) {
+  size_t place = 0, len = 0;
+  uint32_t reason;
+  char why[100];
+  versions_set_wrong(scheme, text.bytes + from, text.len - from, &place, &reason);
+  versions_set_wrong_text(scheme, text.bytes + from, text.len - from, why, sizeof why, &len);
+  return errdetail("At byte %zu: %.*s.", from + place, (int)len, why);
+}
+
+/* How an error names what is no set: that of the type's input, or that of a function. */
+typedef struct {
+  int code;
+  const char *what;
+} Refusal;
+
+static const Refusal of_input = {ERRCODE_INVALID_TEXT_REPRESENTATION, "invalid input syntax for type version_set"};
+static const Refusal of_message = {ERRCODE_INVALID_BINARY_REPRESENTATION,
+                                   "invalid binary representation of type version_set"};
+static const Refusal of_function = {ERRCODE_INVALID_PARAMETER_VALUE, "not a set of versions"};
+
+/* How long the scheme in front of a text is, as in deb:>=1, with its colon; 0 where none is. No set begins so. */
+static size_t len_of_scheme(Span text) {
+  size_t len = 0;
+  while (len < text.len && text.bytes[len] >= 'a' && text.bytes[len] <= 'z') len++;
+  return len > 0 && len < text.len && text.bytes[len] == ':' ? len + 1 : 0;
+}
+
+static bool are_hexadecimal(Span digits) {
+  size_t at;
+  for (at = 0; at < digits.len; at++) {
+    if (!isxdigit((unsigned char)digits.bytes[at])) return false;
+  }
+  return digits.len % 2 == 0;
+}
+
+/* The value of a form in hexadecimal digits; NULL where they are none, or no form. */
+static bytea *set_of_digits(Span digits) {
+  size_t len = digits.len / 2, count;
+  bytea *value;
+  if (!are_hexadecimal(digits)) return NULL;
+  value = value_for(len);
+  hex_decode(digits.bytes, digits.len, (char *)form_in(value));
+  return versions_set_count(form_in(value), len, &count) == VERSIONS_OK ? with_form(value, len, 0) : NULL;
+}
+
+/* The value of a text that is a set from a place on, before which its scheme stands; NULL where it is none. */
+static bytea *set_of_words(uint32 scheme, Span text, size_t from) {
+  const char *front = from == 0 && scheme != VERSIONS_MIXED ? psprintf("%s:", name_of(scheme)) : "";
+  size_t bound = 0, form_len, front_len = strlen(front);
+  uint8_t *form;
+  bytea *value = NULL;
+  versions_set_bound(scheme, text.bytes + from, text.len - from, &bound);
+  form = MemoryContextAllocHuge(CurrentMemoryContext, bound);
+  if (versions_set(scheme, text.bytes + from, text.len - from, form, bound, &form_len) == VERSIONS_OK) {
+    char *end;
+    value = value_for(form_len + front_len + text.len);
+    end = (char *)memcpy(form_in(value), form, form_len) + form_len;
+    end = (char *)memcpy(end, front, front_len) + front_len;
+    memcpy(end, text.bytes, text.len);
+    with_form(value, form_len, front_len + text.len);
+  }
+  pfree(form);
+  return value;
+}
+
+/*
+ * The value of a text: of a set of a scheme, or of the scheme in front of it, or the form of a computed set, as the
+ * output writes it. NULL after an error, if the context asks to go on.
+ */
+static bytea *set_from(fmNodePtr context, Refusal refusal, uint32 scheme, Span text) {
+  size_t from = len_of_scheme(text);
+  Span name = {text.bytes, from > 0 ? from - 1 : 0};
+  bytea *value;
+  if (text.len >= 2 && text.bytes[0] == '\\' && text.bytes[1] == 'x') {
+    Span digits = {text.bytes + 2, text.len - 2};
+    value = set_of_digits(digits);
+    if (!value) {
+      ereturn(context, NULL, (errcode(refusal.code), errmsg("%s: %s", refusal.what, quoted(text)),
+                              errdetail("What follows \\x is not the form of a set.")));
+    }
+    return value;
+  }
+  if (!fits(context, text, "version_set")) return NULL;
+  if (from > 0 && versions_scheme(name.bytes, name.len, &scheme) != VERSIONS_OK) {
+    ereturn(context, NULL, (errcode(refusal.code), errmsg("%s: %s", refusal.what, quoted(text)),
+                            errdetail("A %s.", not_a_scheme(name))));
+  }
+  value = set_of_words(scheme, text, from);
+  if (!value) {
+    ereturn(context, NULL, (errcode(refusal.code), errmsg("%s: %s", refusal.what, quoted(text)),
+                            explain_set(scheme, text, from)));
+  }
+  return value;
+}
+
+SQL_FUNCTION(version_set_in) {
+  char *bytes = PG_GETARG_CSTRING(0);
+  Span text = {bytes, strlen(bytes)};
+  bytea *value = set_from(fcinfo->context, of_input, VERSIONS_MIXED, text);
+  if (!value) return (Datum)0;
+  PG_RETURN_BYTEA_P(value);
+}
+
+SQL_FUNCTION(version_set_recv) {
+  StringInfo message = (StringInfo)PG_GETARG_POINTER(0);
+  int len;
+  const char *bytes = pq_getmsgtext(message, message->len - message->cursor, &len);
+  Span text = {bytes, (size_t)len};
+  PG_RETURN_BYTEA_P(set_from(NULL, of_message, VERSIONS_MIXED, text));
+}
+
+/* The text of a set, or its form after \x, in memory of its own and with a byte 0 behind it. */
+static Span said_of_set(Set set) {
+  Span said = {NULL, set.text.len > 0 ? set.text.len : 2 + 2 * set.form.len};
+  char *bytes = palloc(said.len + 1);
+  if (set.text.len > 0) {
+    memcpy(bytes, set.text.bytes, said.len);
+  } else {
+    memcpy(bytes, "\\x", 2);
+    hex_encode(set.form.bytes, set.form.len, bytes + 2);
+  }
+  bytes[said.len] = 0;
+  said.bytes = bytes;
+  return said;
+}
+
+SQL_FUNCTION(version_set_out) { PG_RETURN_CSTRING(said_of_set(set_of(PG_GETARG_BYTEA_PP(0))).bytes); }
+SQL_FUNCTION(version_set_send) { return bytes_of(said_of_set(set_of(PG_GETARG_BYTEA_PP(0)))); }
+
+SQL_FUNCTION(version_set_of_text) {
+  uint32 scheme = scheme_of(span_of(PG_GETARG_TEXT_PP(1)));
+  bytea *value = set_from(NULL, of_function, scheme, span_of(PG_GETARG_TEXT_PP(0)));
+  check_scheme(scheme, set_of(value).scheme);
+  PG_RETURN_BYTEA_P(value);
+}
+
+SQL_FUNCTION(version_set_scheme) {
+  PG_RETURN_TEXT_P(cstring_to_text(name_of(set_of(PG_GETARG_BYTEA_PP(0)).scheme)));
+}
+
+/* The order of sets is that of the bytes of their forms, for indexes and what sorts: it says nothing of versions. */
+static int order_of_sets(Datum a, Datum b) {
+  bytea *first = DatumGetByteaPP(a), *second = DatumGetByteaPP(b);
+  int order = order_of_bytes(set_of(first).form, set_of(second).form);
+  free_copy(first, a);
+  free_copy(second, b);
+  return order;
+}
+
+#define ORDER_OF_SETS order_of_sets(PG_GETARG_DATUM(0), PG_GETARG_DATUM(1))
+
+ORDER_FUNCTIONS(version_set, ORDER_OF_SETS, ORDER_OF_SETS < 0)
+SQL_FUNCTION(version_set_ne) { PG_RETURN_BOOL(ORDER_OF_SETS != 0); }
+
+SQL_FUNCTION(version_set_hash) {
+  bytea *value = PG_GETARG_BYTEA_PP(0);
+  Span form = set_of(value).form;
+  Datum hash = hash_any(octets(form), (int)form.len);
+  PG_FREE_IF_COPY(value, 0);
+  return hash;
+}
+
+SQL_FUNCTION(version_set_hash_extended) {
+  bytea *value = PG_GETARG_BYTEA_PP(0);
+  Span form = set_of(value).form;
+  Datum hash = hash_any_extended(octets(form), (int)form.len, PG_GETARG_INT64(1));
+  PG_FREE_IF_COPY(value, 0);
+  return hash;
+}
+
+/* versions_set_part_of or versions_set_meets */
+typedef int Testing(const uint8_t *, size_t, const uint8_t *, size_t, bool *);
+
+static Datum test_sets(Testing *test, Datum first, Datum second) {
+  Set one = set_of(DatumGetByteaPP(first)), other = set_of(DatumGetByteaPP(second));
+  bool answer = false;
+  check_scheme(one.scheme, other.scheme);
+  if (test(octets(one.form), one.form.len, octets(other.form), other.form.len, &answer) != VERSIONS_OK) {
+    report_damaged_set();
+  }
+  PG_RETURN_BOOL(answer);
+}
+
+SQL_FUNCTION(version_set_contains) {
+  return test_sets(versions_set_part_of, PG_GETARG_DATUM(1), PG_GETARG_DATUM(0));
+}
+SQL_FUNCTION(version_set_contained_by) {
+  return test_sets(versions_set_part_of, PG_GETARG_DATUM(0), PG_GETARG_DATUM(1));
+}
+SQL_FUNCTION(version_set_overlaps) {
+  return test_sets(versions_set_meets, PG_GETARG_DATUM(0), PG_GETARG_DATUM(1));
+}
+
+/* versions_set_and or versions_set_or */
+typedef int Merging(const uint8_t *, size_t, const uint8_t *, size_t, uint8_t *, size_t, size_t *);
+
+static bytea *merged(Merging *merge, Set one, Set other) {
+  size_t most = one.form.len + other.form.len, len;
+  bytea *value;
+  check_scheme(one.scheme, other.scheme);
+  value = value_for(most);
+  if (merge(octets(one.form), one.form.len, octets(other.form), other.form.len, form_in(value), most, &len) !=
+      VERSIONS_OK) {
+    report_damaged_set();
+  }
+  return with_form(value, len, 0);
+}
+
+static bytea *complement_of(Set set) {
+  size_t most = set.form.len + 17, len;
+  bytea *value = value_for(most);
+  if (versions_set_not(octets(set.form), set.form.len, form_in(value), most, &len) != VERSIONS_OK) {
+    report_damaged_set();
+  }
+  return with_form(value, len, 0);
+}
+
+SQL_FUNCTION(version_set_intersect) {
+  PG_RETURN_BYTEA_P(merged(versions_set_and, set_of(PG_GETARG_BYTEA_PP(0)), set_of(PG_GETARG_BYTEA_PP(1))));
+}
+SQL_FUNCTION(version_set_union) {
+  PG_RETURN_BYTEA_P(merged(versions_set_or, set_of(PG_GETARG_BYTEA_PP(0)), set_of(PG_GETARG_BYTEA_PP(1))));
+}
+SQL_FUNCTION(version_set_minus) {
+  Set rest = set_of(complement_of(set_of(PG_GETARG_BYTEA_PP(1))));
+  PG_RETURN_BYTEA_P(merged(versions_set_and, set_of(PG_GETARG_BYTEA_PP(0)), rest));
+}
+SQL_FUNCTION(version_set_complement) { PG_RETURN_BYTEA_P(complement_of(set_of(PG_GETARG_BYTEA_PP(0)))); }
+
+/* The set that a function has read in an earlier row of a statement, with the text and the scheme it was given. */
+typedef struct {
+  uint32 scheme;
+  Span text;
+  bytea *value;
+} ReadSet;
+
+/* A set that a function is given as a text, which is read once while it stays the same. */
+static Set set_read(FunctionCallInfo fcinfo, uint32 scheme, Span text) {
+  ReadSet *read = fcinfo->flinfo->fn_extra;
+  if (!read || read->scheme != scheme || !are_same(read->text, text)) {
+    bytea *value = set_from(NULL, of_function, scheme, text);
+    char *end;
+    fcinfo->flinfo->fn_extra = NULL;
+    if (read) pfree(read);
+    read = MemoryContextAllocHuge(fcinfo->flinfo->fn_mcxt, sizeof *read + VARSIZE(value) + text.len);
+    read->scheme = scheme;
+    read->value = memcpy(read + 1, value, VARSIZE(value));
+    end = (char *)read->value + VARSIZE(value);
+    read->text.bytes = memcpy(end, text.bytes, text.len);
+    read->text.len = text.len;
+    fcinfo->flinfo->fn_extra = read;
+    pfree(value);
+  }
+  return set_of(read->value);
+}
+
+/* Whether a text is a version in a set, by the scheme of the set. NULL if it is not a version. */
+static Datum has_text(FunctionCallInfo fcinfo, Set set, Span version) {
+  bool has = false;
+  switch (versions_set_has(octets(set.form), set.form.len, version.bytes, version.len, &has)) {
+    case VERSIONS_OK: PG_RETURN_BOOL(has);
+    case VERSIONS_NO_VERSION: PG_RETURN_NULL();
+  }
+  report_damaged_set();
+  PG_RETURN_NULL();
+}
+
+SQL_FUNCTION(text_in_set_text) {
+  Set set = set_read(fcinfo, VERSIONS_MIXED, span_of(PG_GETARG_TEXT_PP(0)));
+  return has_text(fcinfo, set, span_of(PG_GETARG_TEXT_PP(1)));
+}
+
+SQL_FUNCTION(text_in_set_text_in_scheme) {
+  uint32 scheme = scheme_of(span_of(PG_GETARG_TEXT_PP(2)));
+  Set set = set_read(fcinfo, scheme, span_of(PG_GETARG_TEXT_PP(0)));
+  check_scheme(scheme, set.scheme);
+  return has_text(fcinfo, set, span_of(PG_GETARG_TEXT_PP(1)));
+}
+
+SQL_FUNCTION(text_in_set) {
+  return has_text(fcinfo, set_of(PG_GETARG_BYTEA_PP(0)), span_of(PG_GETARG_TEXT_PP(1)));
+}
+
+/* Whether a version of a type is in a set. */
+static Datum has_value(uint32 scheme, Set set, Datum version) {
+  text *value = DatumGetTextPP(version);
+  Span span = span_of(value);
+  bool has = false;
+  check_scheme(set.scheme, scheme);
+  switch (versions_set_has(octets(set.form), set.form.len, span.bytes, span.len, &has)) {
+    case VERSIONS_OK: break;
+    case VERSIONS_NO_VERSION: report_damage(scheme, span); break;
+    default: report_damaged_set();
+  }
+  free_copy(value, version);
+  PG_RETURN_BOOL(has);
+}
+
+static Datum value_has(uint32 scheme, Datum set, Datum version) {
+  bytea *value = DatumGetByteaPP(set);
+  Datum has = has_value(scheme, set_of(value), version);
+  free_copy(value, set);
+  return has;
+}
+
+static size_t count_of(Set set) {
+  size_t count;
+  if (versions_set_count(octets(set.form), set.form.len, &count) != VERSIONS_OK) report_damaged_set();
+  return count;
+}
+
+/* The range of the keys from an interval of a set through another. */
+static Range range_of_intervals(Set set, size_t first, size_t last) {
+  Range range = {set.scheme, ALL_KINDS, set.form, set.form};
+  size_t low, low_end, high, high_end, other;
+  if (versions_set_interval(octets(set.form), set.form.len, first, &low, &low_end, &other, &other) != VERSIONS_OK ||
+      versions_set_interval(octets(set.form), set.form.len, last, &other, &other, &high, &high_end) != VERSIONS_OK) {
+    report_damaged_set();
+  }
+  range.low.bytes += low;
+  range.low.len = low_end - low;
+  range.high.bytes += high;
+  range.high.len = high_end - high;
+  if (range.high.len > 0) range.flags |= VERSIONS_RANGE_HIGH;
+  return range;
+}
+
+/* The range between the outermost ends of a set: that of no key where the set has none. */
+static Range range_of_set(Set set) {
+  const Range none = {set.scheme, ALL_KINDS | VERSIONS_RANGE_HIGH, {"", 0}, {"", 0}};
+  size_t count = count_of(set);
+  return count > 0 ? range_of_intervals(set, 0, count - 1) : none;
+}
+
+SQL_FUNCTION(version_low_of_set) { return low_bytes(range_of_set(set_of(PG_GETARG_BYTEA_PP(0)))); }
+SQL_FUNCTION(version_high_of_set) { return high_bytes(range_of_set(set_of(PG_GETARG_BYTEA_PP(0)))); }
+
+/* A bound of a set, for versions of a scheme. */
+static Datum bound_of_set(FunctionCallInfo fcinfo, bool is_high) {
+  Set set = set_of(PG_GETARG_BYTEA_PP(0));
+  check_scheme(set.scheme, scheme_of(span_of(PG_GETARG_TEXT_PP(1))));
+  return bound_of_range(range_of_set(set), is_high);
+}
+
+SQL_FUNCTION(version_set_low) { return bound_of_set(fcinfo, false); }
+SQL_FUNCTION(version_set_high) { return bound_of_set(fcinfo, true); }
+
+static Datum key_of_argument(FunctionCallInfo fcinfo, uint32 scheme) {
+  Span span = span_of(PG_GETARG_TEXT_PP(0));
+  bytea *key = key_to_keep(scheme, span);
+  if (!key) report_damage(scheme, span);
+  PG_RETURN_BYTEA_P(key);
+}
+
+/* The functions of a type of versions, which versions--0.1.0.sql declares. Of two that are equal the first counts. */
+#define TYPE_FUNCTIONS(type, scheme)                                                                             \
+  SQL_FUNCTION(type##_in) { return version_of_input(fcinfo, scheme); }                                           \
+  SQL_FUNCTION(type##_recv) { return version_of_message(fcinfo, scheme); }                                       \
+  SQL_FUNCTION(type##_of_text) { return version_of_argument(fcinfo, scheme); }                                   \
+  ORDER_FUNCTIONS(type, ORDER_OF_ARGUMENTS(scheme), ORDER_OF_ARGUMENTS(scheme) < 0)                              \
+  SQL_FUNCTION(type##_ne) { PG_RETURN_BOOL(ORDER_OF_ARGUMENTS(scheme) != 0); }                                   \
+  SQL_FUNCTION(type##_larger) { PG_RETURN_DATUM(PG_GETARG_DATUM(ORDER_OF_ARGUMENTS(scheme) >= 0 ? 0 : 1)); }     \
+  SQL_FUNCTION(type##_smaller) { PG_RETURN_DATUM(PG_GETARG_DATUM(ORDER_OF_ARGUMENTS(scheme) <= 0 ? 0 : 1)); }    \
+  SQL_FUNCTION(key_of_##type) { return key_of_argument(fcinfo, scheme); }                                        \
+  SQL_FUNCTION(type##_hash) { return hash_of_argument(fcinfo, scheme); }                                         \
+  SQL_FUNCTION(type##_hash_extended) { return extended_hash_of_arguments(fcinfo, scheme); }                      \
+  SQL_FUNCTION(type##_sortsupport) { return support_sort(fcinfo, scheme); }                                      \
+  ORDER_FUNCTIONS(type##_bound, ORDER_WITH_BOUND(scheme, 0, 1),                                                  \
+                  is_below(scheme, PG_GETARG_DATUM(0), PG_GETARG_DATUM(1)))                                      \
+  ORDER_FUNCTIONS(bound_##type, -ORDER_WITH_BOUND(scheme, 1, 0), ORDER_WITH_BOUND(scheme, 1, 0) > 0)             \
+  SQL_FUNCTION(type##_in_set) { return value_has(scheme, PG_GETARG_DATUM(0), PG_GETARG_DATUM(1)); }              \
+  SQL_FUNCTION(type##_contained_by) { return value_has(scheme, PG_GETARG_DATUM(1), PG_GETARG_DATUM(0)); }        \
+  SQL_FUNCTION(type##_in_set_text) {                                                                             \
+    return has_value(scheme, set_read(fcinfo, scheme, span_of(PG_GETARG_TEXT_PP(0))), PG_GETARG_DATUM(1));       \
+  }                                                                                                              \
+  SQL_FUNCTION(type##_contained_by_text) {                                                                       \
+    return has_value(scheme, set_read(fcinfo, scheme, span_of(PG_GETARG_TEXT_PP(1))), PG_GETARG_DATUM(0));       \
+  }
+
+TYPE_FUNCTIONS(version, VERSIONS_MIXED)
+TYPE_FUNCTIONS(deb_version, VERSIONS_DEB)
+TYPE_FUNCTIONS(rpm_version, VERSIONS_RPM)
+TYPE_FUNCTIONS(pypi_version, VERSIONS_PYPI)
+TYPE_FUNCTIONS(semver_version, VERSIONS_SEMVER)
+TYPE_FUNCTIONS(gem_version, VERSIONS_GEM)
+
+/*
+ * The planner: a version that matches a requirement, or is in a set, is not below the low bound of that, and is below
+ * the high one. These two conditions bound the scan of an index, and the bounds' places in a histogram estimate how
+ * many rows match.
  */
 
 static List *arguments_of(Node *call) {
@@ -999,27 +1546,85 @@ static Oid type_of(Oid caller, const char *name) {
                          ObjectIdGetDatum(get_func_namespace(caller)));
 }
 
-static bool is_requirement(Node *expression, Oid caller) {
-  return exprType(expression) == type_of(caller, "requirement");
+static bool is_of(Node *expression, Oid caller, const char *type) {
+  return exprType(expression) == type_of(caller, type);
+}
+
+/* The scheme of the versions of a type; 0 where it is another type. */
+static uint32 scheme_of_type(Oid type, Oid caller) {
+  uint32 scheme;
+  for (scheme = VERSIONS_MIXED; scheme < lengthof(type_names); scheme++) {
+    if (type == type_of(caller, type_names[scheme])) return scheme;
+  }
+  return 0;
+}
+
+/* A function of the extension, by its name and the types of its arguments. */
+static Oid function_of(Oid caller, const char *name, Oid *types, int count) {
+  return GetSysCacheOid3(PROCNAMEARGSNSP, Anum_pg_proc_oid, CStringGetDatum(name),
+                         PointerGetDatum(buildoidvector(types, count)), ObjectIdGetDatum(get_func_namespace(caller)));
+}
+
+/* A call of such a function; NULL where there is none. */
+static Node *call_of(Oid caller, const char *name, List *arguments) {
+  Oid types[2], function;
+  int count = 0;
+  ListCell *argument;
+  foreach (argument, arguments) types[count++] = exprType(lfirst(argument));
+  function = function_of(caller, name, types, count);
+  if (!OidIsValid(function)) return NULL;
+  return (Node *)makeFuncExpr(function, get_func_rettype(function), arguments, InvalidOid, InvalidOid,
+                              COERCE_EXPLICIT_CALL);
+}
+
+/* The name of a scheme, as an argument of type text. */
+static Node *name_argument(uint32 scheme) {
+  return (Node *)makeConst(TEXTOID, -1, DEFAULT_COLLATION_OID, -1, CStringGetTextDatum(name_of(scheme)), false, false);
 }
 
 /*
- * A bound of a requirement. That of a constant is a constant, and needs no right to call a function; that of another
- * expression is a call of requirement_low or requirement_high.
+ * What versions of a column are held against: an expression that is a requirement or a set. The scheme is that of the
+ * column, and a set that is constant is of it too.
  */
-static Node *bound_of(Oid caller, bool is_high, Node *requirement) {
-  Oid type = exprType(requirement), function;
-  if (IsA(requirement, Const)) {
-    Requirement value = requirement_of(DatumGetByteaPP(((Const *)requirement)->constvalue));
-    return (Node *)makeConst(type_of(caller, "version_bound"), -1, InvalidOid, -1,
-                             is_high ? high_bound(value) : low_bound(value), false, false);
+typedef struct {
+  Oid caller;
+  uint32 scheme;
+  Node *expression;
+  bool is_set;
+} Asked;
+
+/* Whether an expression is one. A set of another scheme is none: a function that is called with it then fails. */
+static bool is_asked(Asked *asked, Oid caller, uint32 scheme, Node *expression) {
+  asked->caller = caller;
+  asked->scheme = scheme;
+  asked->expression = expression;
+  asked->is_set = is_of(expression, caller, "version_set");
+  if (scheme == 0 || (IsA(expression, Const) && ((Const *)expression)->constisnull)) return false;
+  if (!asked->is_set) return is_of(expression, caller, "requirement");
+  return !IsA(expression, Const) ||
+         set_of(DatumGetByteaPP(((Const *)expression)->constvalue)).scheme == scheme;
+}
+
+static bool is_constant(Asked asked) { return IsA(asked.expression, Const); }
+
+static bytea *constant_of(Asked asked) { return DatumGetByteaPP(((Const *)asked.expression)->constvalue); }
+
+/*
+ * A bound of what is asked. That of a constant is a constant, and needs no right to call a function; that of another
+ * expression is a call of requirement_low or requirement_high, or of version_set_low or version_set_high.
+ */
+static Node *bound_of(Asked asked, bool is_high) {
+  List *arguments;
+  if (is_constant(asked)) {
+    bytea *value = constant_of(asked);
+    Range range = asked.is_set ? range_of_set(set_of(value)) : requirement_of(value).range;
+    return (Node *)makeConst(type_of(asked.caller, "version_bound"), -1, InvalidOid, -1,
+                             bound_of_range(range, is_high), false, false);
   }
-  function = GetSysCacheOid3(PROCNAMEARGSNSP, Anum_pg_proc_oid,
-                             CStringGetDatum(is_high ? "requirement_high" : "requirement_low"),
-                             PointerGetDatum(buildoidvector(&type, 1)), ObjectIdGetDatum(get_func_namespace(caller)));
-  if (!OidIsValid(function)) return NULL;
-  return (Node *)makeFuncExpr(function, get_func_rettype(function), list_make1(copyObject(requirement)), InvalidOid,
-                              InvalidOid, COERCE_EXPLICIT_CALL);
+  arguments = list_make1(copyObject(asked.expression));
+  if (!asked.is_set) return call_of(asked.caller, is_high ? "requirement_high" : "requirement_low", arguments);
+  arguments = lappend(arguments, name_argument(asked.scheme));
+  return call_of(asked.caller, is_high ? "version_set_high" : "version_set_low", arguments);
 }
 
 /* Appends the condition that a version compares so with a bound, if the operator family has that comparison. */
@@ -1039,11 +1644,12 @@ static bool is_open(Node *node, bool is_high) {
   return bound.bytes.len == 0 && bound.is_above_all == is_high;
 }
 
-/* Whether the versions in the range are all those that match, whatever their kinds. */
-static bool is_whole(Node *requirement) {
+/* Whether the versions between the bounds are all those that match, whatever their kinds. */
+static bool is_whole(Asked asked) {
   const uint32 whole = VERSIONS_RANGE_EXACT | ALL_KINDS;
-  return IsA(requirement, Const) &&
-         (requirement_of(DatumGetByteaPP(((Const *)requirement)->constvalue)).flags & whole) == whole;
+  if (!is_constant(asked)) return false;
+  if (asked.is_set) return count_of(set_of(constant_of(asked))) <= 1;
+  return (requirement_of(constant_of(asked)).range.flags & whole) == whole;
 }
 
 #if PG_VERSION_NUM < 140000
@@ -1051,28 +1657,30 @@ static bool is_whole(Node *requirement) {
 #endif
 
 /*
- * The conditions of the scan of an index on versions; there are none for one on requirements. The requirement may be
- * anything that is known when the scan begins: a constant, a parameter, or a column of another table. Rows are tested
- * again unless the range is known to be all that matters.
+ * The conditions of the scan of an index on versions; there are none for one on requirements or sets. What is asked may
+ * be anything that is known when the scan begins: a constant, a parameter, or a column of another table. Rows are
+ * tested again unless the range is known to be all that matters.
  */
 static List *index_conditions(SupportRequestIndexCondition *request, Oid caller) {
   List *arguments = arguments_of(request->node), *conditions = NIL;
-  Node *version, *requirement, *low, *high;
+  Node *version, *low, *high;
+  Asked asked;
   if (request->index->relam != BTREE_AM_OID || list_length(arguments) != 2) return NIL;
   version = list_nth(arguments, request->indexarg);
-  requirement = list_nth(arguments, 1 - request->indexarg);
-  if (!is_requirement(requirement, caller)) return NIL;
-  if (!is_pseudo_constant_for_index(request->root, requirement, request->index)) return NIL;
-  if (IsA(requirement, Const) && ((Const *)requirement)->constisnull) return NIL;
-  low = bound_of(caller, false, requirement);
-  high = bound_of(caller, true, requirement);
+  if (!is_asked(&asked, caller, scheme_of_type(exprType(version), caller),
+                list_nth(arguments, 1 - request->indexarg))) {
+    return NIL;
+  }
+  if (!is_pseudo_constant_for_index(request->root, asked.expression, request->index)) return NIL;
+  low = bound_of(asked, false);
+  high = bound_of(asked, true);
   if (!is_open(low, false)) {
     conditions = append_condition(conditions, version, request->opfamily, BTGreaterEqualStrategyNumber, low);
   }
   if (!is_open(high, true)) {
     conditions = append_condition(conditions, version, request->opfamily, BTLessStrategyNumber, high);
   }
-  request->lossy = !is_whole(requirement);
+  request->lossy = !is_whole(asked);
   return conditions;
 }
 
@@ -1108,13 +1716,13 @@ static Step step_at(Span key, size_t at) {
   return step;
 }
 
-static Steps *steps_of(const AttStatsSlot *histogram) {
+static Steps *steps_of(uint32 scheme, const AttStatsSlot *histogram) {
   Steps *steps = palloc0(sizeof *steps);
   Step all[KEYS * OF_KEY];
   int keys = Min(histogram->nvalues, KEYS), count = 0, at;
   for (at = 0; at < keys; at++) {
     KeyRoom room;
-    bytea *key = key_of_value(histogram->values[(int64)at * (histogram->nvalues - 1) / (keys - 1)], &room);
+    bytea *key = key_of_value(scheme, histogram->values[(int64)at * (histogram->nvalues - 1) / (keys - 1)], &room);
     size_t place;
     for (place = 0; place < Min(span_of(key).len, OF_KEY); place++) all[count++] = step_at(span_of(key), place);
     free_key(key, &room);
@@ -1178,11 +1786,11 @@ static double share_after(const Steps *steps, Span key, size_t first) {
 }
 
 /* How many of a histogram's values are below a bound. */
-static int values_below(const AttStatsSlot *histogram, Datum bound) {
+static int values_below(uint32 scheme, const AttStatsSlot *histogram, Datum bound) {
   int below = 0, end = histogram->nvalues;
   while (below < end) {
     int middle = below + (end - below) / 2;
-    if (order_with_bound(histogram->values[middle], bound) < 0) {
+    if (order_with_bound(scheme, histogram->values[middle], bound) < 0) {
       below = middle + 1;
     } else {
       end = middle;
@@ -1197,9 +1805,10 @@ typedef struct {
   double low, high;
 } Gap;
 
-static Gap gap_before(const AttStatsSlot *histogram, const Steps *steps, int at) {
+static Gap gap_before(uint32 scheme, const AttStatsSlot *histogram, const Steps *steps, int at) {
   KeyRoom rooms[2];
-  bytea *keys[] = {key_of_value(histogram->values[at - 1], &rooms[0]), key_of_value(histogram->values[at], &rooms[1])};
+  bytea *keys[] = {key_of_value(scheme, histogram->values[at - 1], &rooms[0]),
+                   key_of_value(scheme, histogram->values[at], &rooms[1])};
   Span low = span_of(keys[0]), high = span_of(keys[1]);
   Gap gap = {0, 0, 0};
   while (gap.first < Min(low.len, high.len) && low.bytes[gap.first] == high.bytes[gap.first]) gap.first++;
@@ -1220,14 +1829,14 @@ static double part_of_gap(const Steps *steps, Gap gap, Span bound) {
  * How many gaps of a histogram are between two bounds, by the numbers of the values that are below each. Of the gaps in
  * which a bound is it is a part, which is estimated if few values are between the bounds, and else is a half.
  */
-static double gaps_between(const AttStatsSlot *histogram, Requirement range, int from, int to) {
+static double gaps_between(const AttStatsSlot *histogram, Range range, int from, int to) {
   bool low_in = from > 0 && from < histogram->nvalues, high_in = to > 0 && to < histogram->nvalues;
   double low_part = 0.5, high_part = 0.5;
   if (to - from < 10 && (low_in || high_in)) {
-    Steps *steps = steps_of(histogram);
-    Gap gap = gap_before(histogram, steps, low_in ? from : to);
+    Steps *steps = steps_of(range.scheme, histogram);
+    Gap gap = gap_before(range.scheme, histogram, steps, low_in ? from : to);
     if (low_in) low_part = part_of_gap(steps, gap, range.low);
-    if (high_in && low_in && from != to) gap = gap_before(histogram, steps, to);
+    if (high_in && low_in && from != to) gap = gap_before(range.scheme, histogram, steps, to);
     if (high_in) high_part = part_of_gap(steps, gap, range.high);
     pfree(steps);
   }
@@ -1239,9 +1848,10 @@ static bool is_of_one_key(Span low, Span high) {
   return high.len == low.len + 1 && high.bytes[low.len] == 0 && memcmp(low.bytes, high.bytes, low.len) == 0;
 }
 
-/* How many of some values of a histogram are of the kinds of a range. */
+/* How many of some values of a histogram are of the kinds of a range. Those of a set are all. */
 static int of_kinds(const AttStatsSlot *histogram, uint32 flags, int from, int to) {
   int at, found = 0;
+  if ((flags & ALL_KINDS) == ALL_KINDS) return to - from;
   for (at = from; at < to; at++) {
     text *version = DatumGetTextPP(histogram->values[at]);
     bool is_in = false;
@@ -1256,12 +1866,12 @@ static int of_kinds(const AttStatsSlot *histogram, uint32 flags, int from, int t
  * The share of a histogram's rows that are between the bounds of a range and of its kinds, and 0 for one key. The kinds
  * are those of the values between the bounds and of two more on each side, with two of all of them.
  */
-static double share_in(const AttStatsSlot *histogram, Requirement range) {
+static double share_in(const AttStatsSlot *histogram, Range range) {
   int from, to, all = histogram->nvalues;
   double between, kinds;
   if (is_of_one_key(range.low, range.high)) return 0;
-  from = values_below(histogram, low_bound(range));
-  to = values_below(histogram, high_bound(range));
+  from = values_below(range.scheme, histogram, bound_of_range(range, false));
+  to = values_below(range.scheme, histogram, bound_of_range(range, true));
   between = gaps_between(histogram, range, from, to) / (all - 1);
   kinds = 2.0 * of_kinds(histogram, range.flags, 0, all) / all;
   from = Max(from - 2, 0);
@@ -1270,7 +1880,7 @@ static double share_in(const AttStatsSlot *histogram, Requirement range) {
 }
 
 /* Whether no key is between the bounds of a range. */
-static bool is_empty(Requirement range) {
+static bool is_empty(Range range) {
   return range.flags & VERSIONS_RANGE_HIGH && order_of_bytes(range.low, range.high) >= 0;
 }
 
@@ -1286,25 +1896,44 @@ static double other_values(VariableStatData *column) {
   return Max(values, 1);
 }
 
+/* The share of a histogram's rows in a range, but not less than that of one value. */
+static double share_of_range(const AttStatsSlot *histogram, Range range, double least) {
+  return is_empty(range) ? 0 : Max(share_in(histogram, range), least);
+}
+
+/* The same of a constant: of a requirement's range, or of the intervals of a set; of many, between the outermost. */
+static double share_of_constant(const AttStatsSlot *histogram, Asked asked, double least) {
+  const size_t most = 32;
+  bytea *value = constant_of(asked);
+  double share = 0;
+  size_t count, place;
+  Set set;
+  if (!asked.is_set) return share_of_range(histogram, requirement_of(value).range, least);
+  set = set_of(value);
+  count = count_of(set);
+  if (count > most) return share_of_range(histogram, range_of_set(set), least);
+  for (place = 0; place < count; place++) {
+    share += share_of_range(histogram, range_of_intervals(set, place, place), least);
+  }
+  return share;
+}
+
 /*
- * The share of the rows of a column that match a constant requirement, by the statistics of ANALYZE: the common values
- * that match, and of the others those between the bounds and of the kinds, but not less than one value. A negative
- * number if there are no statistics.
+ * The share of the rows of a column that match a constant, by the statistics of ANALYZE: the common values that match,
+ * and of the others those between the bounds and of the kinds, but not less than one value. A negative number if there
+ * are no statistics.
  */
-static double share_by_statistics(VariableStatData *column, Oid function, Const *requirement, bool is_first) {
+static double share_by_statistics(VariableStatData *column, Oid function, Asked asked, bool is_first) {
   double common, share, others;
   AttStatsSlot histogram;
   FmgrInfo matches;
   if (!HeapTupleIsValid(column->statsTuple)) return -1;
   fmgr_info(function, &matches);
-  share = mcv_selectivity(column, &matches, InvalidOid, requirement->constvalue, is_first, &common);
+  share = mcv_selectivity(column, &matches, InvalidOid, ((Const *)asked.expression)->constvalue, is_first, &common);
   others = 1 - common - ((Form_pg_statistic)GETSTRUCT(column->statsTuple))->stanullfrac;
   if (others > 0 && statistic_proc_security_check(column, function) &&
       get_attstatsslot(&histogram, column->statsTuple, STATISTIC_KIND_HISTOGRAM, InvalidOid, ATTSTATSSLOT_VALUES)) {
-    Requirement range = requirement_of(DatumGetByteaPP(requirement->constvalue));
-    if (histogram.nvalues > 1 && !is_empty(range)) {
-      share += others * Max(share_in(&histogram, range), 1 / other_values(column));
-    }
+    if (histogram.nvalues > 1) share += others * share_of_constant(&histogram, asked, 1 / other_values(column));
     free_attstatsslot(&histogram);
   }
   return share;
@@ -1315,10 +1944,11 @@ static Selectivity share_of(PlannerInfo *root, Oid caller, Oid function, List *a
   Selectivity share = -1;
   VariableStatData column;
   Node *other;
+  Asked asked;
   bool is_first;
   if (!get_restriction_variable(root, arguments, table, &column, &other, &is_first)) return DEFAULT_MATCHING_SEL;
-  if (IsA(other, Const) && !((Const *)other)->constisnull && is_requirement(other, caller)) {
-    share = share_by_statistics(&column, function, (Const *)other, is_first);
+  if (IsA(other, Const) && is_asked(&asked, caller, scheme_of_type(column.vartype, caller), other)) {
+    share = share_by_statistics(&column, function, asked, is_first);
   }
   ReleaseVariableStats(column);
   if (share < 0) return DEFAULT_MATCHING_SEL;
@@ -1326,27 +1956,35 @@ static Selectivity share_of(PlannerInfo *root, Oid caller, Oid function, List *a
   return share;
 }
 
-/*
- * A call with a text and a version is one with the requirement that the text is cast to, so that the planner sees its
- * bounds. NULL for another call.
- */
-static Node *with_requirement(SupportRequestSimplify *request, Oid caller) {
-  Oid types[] = {type_of(caller, "requirement"), type_of(caller, "version")}, function;
-  Node *list = linitial(request->fcall->args), *version = lsecond(request->fcall->args);
+/* A text as a requirement, or as a set of a scheme. */
+static Node *value_of(Oid caller, Node *said, uint32 scheme, bool is_set) {
   CoerceViaIO *cast;
-  if (exprType(list) != TEXTOID || exprType(version) != types[1]) return NULL;
-  function = GetSysCacheOid3(PROCNAMEARGSNSP, Anum_pg_proc_oid, CStringGetDatum("version_matches"),
-                             PointerGetDatum(buildoidvector(types, lengthof(types))),
-                             ObjectIdGetDatum(get_func_namespace(caller)));
-  if (!OidIsValid(function)) return NULL;
+  if (is_set) return call_of(caller, "version_set", list_make2(said, name_argument(scheme)));
   cast = makeNode(CoerceViaIO);
-  cast->arg = (Expr *)list;
-  cast->resulttype = types[0];
+  cast->arg = (Expr *)said;
+  cast->resulttype = type_of(caller, "requirement");
   cast->coerceformat = COERCE_EXPLICIT_CAST;
   cast->location = -1;
-  return (Node *)makeFuncExpr(function, BOOLOID,
-                              list_make2(eval_const_expressions(request->root, (Node *)cast), version), InvalidOid,
-                              InvalidOid, COERCE_EXPLICIT_CALL);
+  return (Node *)cast;
+}
+
+/*
+ * A call with a text and a version is one with the requirement or the set that the text is read as, so that the planner
+ * sees its bounds. NULL for another call.
+ */
+static Node *with_value(SupportRequestSimplify *request, Oid caller) {
+  const char *name = get_func_name(request->fcall->funcid);
+  List *arguments = request->fcall->args;
+  bool is_set = strcmp(name, "version_matches") != 0;
+  int at = exprType(linitial(arguments)) == TEXTOID ? 0 : 1;
+  uint32 scheme = scheme_of_type(exprType(list_nth(arguments, 1 - at)), caller);
+  Node *value;
+  if (exprType(list_nth(arguments, at)) != TEXTOID || scheme == 0) return NULL;
+  value = value_of(caller, list_nth(arguments, at), scheme, is_set);
+  if (!value) return NULL;
+  arguments = list_copy(arguments);
+  lfirst(list_nth_cell(arguments, at)) = eval_const_expressions(request->root, value);
+  return call_of(caller, name, arguments);
 }
 
 SQL_FUNCTION(version_matches_sel) {
@@ -1366,7 +2004,7 @@ SQL_FUNCTION(version_matches_support) {
                                                        request->args, request->varRelid);
     answer = request;
   } else if (IsA(node, SupportRequestSimplify)) {
-    answer = with_requirement((SupportRequestSimplify *)node, fcinfo->flinfo->fn_oid);
+    answer = with_value((SupportRequestSimplify *)node, fcinfo->flinfo->fn_oid);
   }
   PG_RETURN_POINTER(answer);
 }
