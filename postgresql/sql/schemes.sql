@@ -29,7 +29,8 @@ SELECT v FROM unnest('{1.0.1,1.0,1.0.b1,1.0.a}'::gem_version[]) v ORDER BY v;
 SELECT max(v), min(v), count(DISTINCT v) FROM unnest('{1.9,NULL,1.10-0,1.10,1.010,1.9~}'::deb_version[]) v;
 SELECT a < b AS lt, a <= b AS le, a = b AS eq, a <> b AS ne, a >= b AS ge, a > b AS gt
   FROM (VALUES (deb_version '1.0~', deb_version '1.0'), ('1.0', '1.0-0'), ('1.0+b1', '1.0-1'), ('1', NULL)) t (a, b);
--- Indexes.
+-- Indexes. Plans need pages that VACUUM marks as visible to all, which it does once the commit is on the disk.
+SET synchronous_commit = on;
 CREATE TABLE debs (v deb_version PRIMARY KEY);
 INSERT INTO debs SELECT format('1.%s~rc%s-%s', a, b, c)::deb_version
   FROM generate_series(0, 30) a, generate_series(0, 9) b, generate_series(1, 9) c;

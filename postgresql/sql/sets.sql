@@ -60,7 +60,8 @@ SELECT s * '<2' = '>=1.2, <2' AS both, s + '<2' = '*' AS either, s - '<2' = '>=2
 SELECT version_set 'deb:*' - '*';
 -- A computed set prints as its form, which its input takes.
 SELECT (~s)::text ~ '^\\x[0-9a-f]+$' AS is_form, (~s)::text::version_set = ~s AS same,
-  ~(~s)::text::version_set = s AS back, version_set_scheme((~s)::text::version_set) FROM unnest('{>=1.2,deb:<2,* <1 >1}'::version_set[]) s;
+  ~(~s)::text::version_set = s AS back, version_set_scheme((~s)::text::version_set)
+  FROM unnest('{>=1.2,deb:<2,* <1 >1}'::version_set[]) s;
 SELECT version_set '\x00';
 SELECT version '1' <@ version_set 'deb:>=1';
 SELECT deb_version '1' <@ 'rpm:>=1';
@@ -86,7 +87,7 @@ SELECT count(*) FROM packages WHERE v <@ version_set '=1 =2';
 CREATE TABLE wishes (s version_set);
 INSERT INTO wishes VALUES ('^1.2'), ('>=1.2, <1.3 || >=1.5, <1.6'), ('=1 =2'), ('<0.1 || >=4.19'), (NULL);
 EXPLAIN (COSTS OFF) SELECT * FROM wishes JOIN packages ON v <@ s;
-SELECT s, count(*) FROM wishes JOIN packages ON v <@ s GROUP BY s ORDER BY 2;
+SELECT s, count(*) FROM wishes JOIN packages ON v <@ s GROUP BY s ORDER BY s::text;
 DROP TABLE packages, wishes;
 -- The outermost ends, for an index of the keys of texts.
 SELECT version_low(s) = version_key('1.2', 'mixed') AS low, version_high(s) = version_key('2', 'mixed') AS high
