@@ -275,6 +275,7 @@ CREATE OPERATOR + (
   LEFTARG = version_set, RIGHTARG = version_set, FUNCTION = version_set_union, COMMUTATOR = +
 );
 CREATE OPERATOR - (LEFTARG = version_set, RIGHTARG = version_set, FUNCTION = version_set_minus);
+-- A prefix !! would take a bare literal from tsquery: !! 'cat' would no longer be unique.
 CREATE OPERATOR ~ (RIGHTARG = version_set, FUNCTION = version_set_complement);
 
 -- Whether a text is a version in a set, by the set's scheme; NULL if it is not a version.
@@ -302,7 +303,7 @@ CREATE FUNCTION version_matches_sel(internal, oid, internal, integer) RETURNS do
   AS 'MODULE_PATHNAME' LANGUAGE C STABLE STRICT PARALLEL SAFE;
 
 -- The types of versions: version of the scheme mixed, and one for each other scheme. A value is the text of a version,
--- unchanged.
+-- unchanged. Their names leave those of other extensions free, such as semver. What follows is the same for each.
 
 DO $types$
 DECLARE

@@ -1,7 +1,7 @@
 """Compares the PostgreSQL extension's schemes and sets, on what is drawn, with the systems that the schemes are of
 (schemes.py), with the model of sets (sets.py), and with the calls for C:
   python3 postgresql_schemes.py COUNT PSQL ..
-COUNT is how many pairs of texts are drawn, with a set each, and PSQL the command of a client whose database has the
+COUNT is how many texts are drawn, in pairs, with as many sets, and PSQL the command of a client whose database has the
 extension. SEED is what they are drawn by. C_LIBRARY is a folder of c/build. tests/postgresql runs it. The last line is
 'N passed, M failed'.
 """
@@ -25,6 +25,7 @@ COUNT, PSQL = int(sys.argv[1]), sys.argv[2:]
 NUMBERS = {name: number for number, name in enumerate(("mixed", "deb", "rpm", "pypi", "semver", "gem"), 1)}
 TYPES = {name: "version" if name == "mixed" else f"{name}_version" for name in NUMBERS}
 OPERATORS = {"=": (0,), "==": (0,), "!=": (-1, 1), "<": (-1,), "<=": (-1, 0), ">": (1,), ">=": (0, 1)}
+SETS = 20  # of which each is asked of a whole column
 NOT_IN_SETS = re.compile(r"[ \t|,]|\.\*$")
 KINDS = (None, "ideal", "general", "complex")
 
@@ -34,6 +35,7 @@ class C:
 
     def __init__(self, scheme):
         self.library, self.scheme = ctypes.CDLL(f"{os.environ['C_LIBRARY']}/libversions.so"), scheme
+        self.room, self.length, self.answer = ctypes.create_string_buffer(1 << 14), ctypes.c_size_t(), ctypes.c_bool()
 
     def call(self, name, *words):
         passed = []
@@ -43,13 +45,11 @@ class C:
 
     def made(self, name, *words):
         """The bytes that a call writes, or None."""
-        room, length = ctypes.create_string_buffer(1 << 14), ctypes.c_size_t()
-        status = self.call(name, *words, room, ctypes.c_size_t(1 << 14), ctypes.byref(length))
-        return room.raw[: length.value] if status == 0 else None
+        status = self.call(name, *words, self.room, ctypes.c_size_t(1 << 14), ctypes.byref(self.length))
+        return ctypes.string_at(self.room, self.length.value) if status == 0 else None
 
     def asked(self, name, *words):
-        answer = ctypes.c_bool()
-        return answer.value if self.call(name, *words, ctypes.byref(answer)) == 0 else None
+        return self.answer.value if self.call(name, *words, ctypes.byref(self.answer)) == 0 else None
 
     def key(self, text):
         return self.made("scheme_key", self.scheme, text.encode())
@@ -138,7 +138,7 @@ class Trial:
             for each, version in zip(alternatives, versions) for members in each for _, text in members
         ]
         orders = iter(self.system.compare(pairs))
-        holds = ([[next(orders) in OPERATORS[sign] for sign, _ in members] for members in each] for each in alternatives)
+        holds = ([[next(orders) in OPERATORS[sign] for sign, _ in some] for some in each] for each in alternatives)
         return [any(map(all, each)) for each in holds]
 
     def rows(self, count):
@@ -166,6 +166,8 @@ class Trial:
             for i in (0, 1)
         )
         check(f"{self.name}: all rows are answered", len(answers) == count, len(answers), *answers[:2])
+        if len(answers) != count:
+            return reads
         for place, (answer, (a, b), ((one, _), (other, _))) in enumerate(zip(answers, pairs, sets)):
             key, order, in_set, typed, *of_sets, values = answer[1:]
             wanted = self.c.key(a)
@@ -219,8 +221,9 @@ class Trial:
 
     def column(self, reads):
         """A column of the type: its order, its ends, its different values, and what sets find by an index."""
-        texts = [text for text in reads if reads[text]]
-        sets = [self.drawn_set([text for text in texts if self.c.form("=" + text)]) for _ in range(60)]
+        texts = [text for text in reads if reads[text]][:2000]
+        members = [text for text in texts if not NOT_IN_SETS.search(text) and self.c.form("=" + text)]
+        sets = [self.drawn_set(members) for _ in range(SETS)]
         with tempfile.NamedTemporaryFile("w", suffix=".rows", encoding="utf-8", newline="") as file:
             file.write(copied((n, text) for n, text in enumerate(texts)))
             file.flush()
@@ -244,6 +247,9 @@ class Trial:
                   for k, (text, _) in enumerate(sets)),
                 f"EXPLAIN (COSTS OFF) SELECT * FROM {self.name}_asked JOIN {self.name} ON v <@ s",
             )
+        if len(found) < 4 + 3 * SETS:
+            check(f"{self.name}: a column", False, *found)
+            return
         by_sort, by_index, counts, ends, *rest = found
         for what, (line,) in (("a sort", by_sort), ("an index", by_index)):
             order = [texts[int(place)] for place in line.strip("{}").split(",")]
@@ -256,15 +262,15 @@ class Trial:
         wanted = []
         for text, alternatives in sets:
             wanted.append(sum(self.has([alternatives] * len(texts), texts)))
-        by_test, by_join, by_constant = rest[:60], rest[60:120], rest[120:180]
+        by_test, by_join, by_constant = rest[:SETS], rest[SETS : 2 * SETS], rest[2 * SETS : 3 * SETS]
         check(f"{self.name}: what sets find", [int(row[1]) for row in by_test] == wanted, by_test[:9], wanted[:9])
         check(f"{self.name}: what they find by an index", by_test == by_join == by_constant, by_join[:9])
-        plan = "\n".join(map("|".join, rest[180:]))
+        plan = "\n".join(map("|".join, rest[3 * SETS :]))
         check(f"{self.name}: the plan", "Index Cond: ((v >= version_set_low(" in plan, plan)
 
     def conclude(self, *floors):
         check(f"{self.name}: {sum(self.tried.values())} tried", not self.differ, *self.differ[:5])
-        few = {what: self.tried[what] for what in floors if self.tried[what] < COUNT // 100}
+        few = {what: self.tried[what] for what in floors if self.tried[what] < COUNT // 200}
         check(f"{self.name}: enough of each", not few, few)
 
 
@@ -292,7 +298,7 @@ def pages():
                 found = sql(f"SELECT version_compare({literal(a)}, {literal(b)}, '{name}'), {TYPES[name]} {literal(a)} "
                             f"< {literal(b)}, {TYPES[name]} {literal(a)} = {literal(b)}")
                 check(f"{name}: {a} {sign} {b}", found == [["-1", "t", "f"] if sign == "<" else ["0", "f", "t"]], found)
-    wrong = [("mixed", *row) for row in wrong_rows()] + [(name, "~1.2", 1, ASKS_FOR_PARTS) for name in SYSTEMS]
+    wrong = [("mixed", *row) for row in wrong_rows()] + [(name, "~1.2.0", 1, ASKS_FOR_PARTS) for name in SYSTEMS]
     for name, text, place, sentence in wrong:
         found = sql(f"SELECT version_in_set({literal(text)}, '1', '{name}')")
         wanted = [f"ERROR:  22023: not a set of versions: \"{text}\"", f"DETAIL:  At byte {place}: {sentence}."]
@@ -300,6 +306,7 @@ def pages():
 
 
 draw = random.Random(os.environ.get("SEED", "1"))
+check("each scheme has a type", NUMBERS.keys() == {"mixed", *SYSTEMS}, *SYSTEMS)
 pages()
 for name in NUMBERS:
     try:
@@ -307,6 +314,6 @@ for name in NUMBERS:
     except Missing as missing:
         check(f"{name}: what its system needs", False, missing)
         continue
-    trial.column(trial.drawn(COUNT // len(NUMBERS)))
+    trial.column(trial.drawn(COUNT // 2 // len(NUMBERS)))
     trial.conclude("key", "in set t", "in set f", "order", "operators", "computed", "forms")
 conclude()
