@@ -29,6 +29,8 @@ SELECT v FROM unnest('{1.0.1,1.0,1.0.b1,1.0.a}'::gem_version[]) v ORDER BY v;
 SELECT max(v), min(v), count(DISTINCT v) FROM unnest('{1.9,NULL,1.10-0,1.10,1.010,1.9~}'::deb_version[]) v;
 SELECT a < b AS lt, a <= b AS le, a = b AS eq, a <> b AS ne, a >= b AS ge, a > b AS gt
   FROM (VALUES (deb_version '1.0~', deb_version '1.0'), ('1.0', '1.0-0'), ('1.0+b1', '1.0-1'), ('1', NULL)) t (a, b);
+SELECT deb_version_hash('1.0') = deb_version_hash('1.0-0') AS hash, deb_version_hash('1.0') = deb_version_hash('1.1')
+  AS other, gem_version_hash_extended('1', 7) = gem_version_hash_extended('1.00', 7) AS extended;
 -- Indexes. Plans need pages that VACUUM marks as visible to all, which it does once the commit is on the disk.
 SET synchronous_commit = on;
 CREATE TABLE debs (v deb_version PRIMARY KEY);

@@ -48,6 +48,9 @@ SELECT version_set('deb:>=1', 'rpm');
 -- Sets are equal if they have the same keys of one scheme.
 SELECT a = b AS eq, a <> b AS ne FROM (VALUES (version_set '>=1.2, <2', version_set '<2 >=0:1.2'), ('=1', '=1.0'),
   ('deb:=1.0', 'deb:=1.0-0'), ('*', 'deb:*'), ('>=1 || <1', '*'), ('*', NULL)) t (a, b);
+SELECT version_set_hash(a) = version_set_hash(b) AS hash, version_set_hash_extended(a, 7) =
+  version_set_hash_extended(b, 7) AS extended, version_set_hash_extended(a, 7) = version_set_hash_extended(a, 8) AS seed
+  FROM (VALUES (version_set '>=1.2, <2', version_set '<2 >=0:1.2'), ('=1', '=1.0')) t (a, b);
 SELECT count(DISTINCT s), count(*) FROM unnest('{^1.2,"~1.2","~1.2 || ^1.2.5","deb:>=1"}'::version_set[]) s;
 CREATE TEMP TABLE kept (s version_set PRIMARY KEY);
 INSERT INTO kept VALUES ('>=1.2, <2'), ('>=1.2');
