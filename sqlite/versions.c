@@ -1,12 +1,16 @@
 /*
  * versions.c: functions on versions and a collation, as a loadable extension of SQLite. sqlite/build builds it.
  *
- *   version_key(text)                    the sort key, a BLOB that sorts by precedence
+ *   version_key(text), version_key(text, scheme)
+ *                                        the sort key, a BLOB that sorts by precedence, or as a scheme orders
  *   is_version(text)                     1 or 0: whether a value is a version; NULL for NULL
  *   version_kind(text)                   'ideal', 'general' or 'complex'
- *   version_compare(a, b)                -1, 0 or 1 if a is before, equal to or after b by precedence
+ *   version_compare(a, b), version_compare(a, b, scheme)
+ *                                        -1, 0 or 1 if a is before, equal to or after b by precedence, or in a scheme
  *   version_compare_total(a, b)          the same with ties broken
  *   version_matches(requirement, text)   1 or 0: whether a version matches a requirement or a list of requirements
+ *   version_in_set(set, text), version_in_set(set, text, scheme)
+ *                                        1 or 0: whether a set of versions, such as '>=1.2, <2 || ^3', has a version
  *   version_low(requirement)             a BLOB: the key of no version that matches is below it
  *   version_high(requirement)            a BLOB: the key of each version that matches is below it, if its epoch has
  *                                        fewer than 4,080 digits or the requirement has a high bound
@@ -32,11 +36,16 @@
  * BLOBs and texts that are not UTF-8 are not versions. A number is not converted to text, since 1.10 is already 1.1.
  * The aggregates skip values that are not versions. A function of a requirement returns NULL for NULL, and fails if the
  * requirement does not parse. version_nth and version_next return NULL for NULL, and fail if the place is not an
- * integer. version_in returns NULL if the prefix is not a text. All functions are deterministic and have no side
- * effects, so indexes and generated columns can use them.
+ * integer. version_in returns NULL if the prefix is not a text.
  *
- * All memory is SQLite's: keys, bounds, fields, the range of a constant requirement, the texts that an aggregate keeps,
- * messages, and a number for a connection. Nothing else is allocated.
+ * A scheme is a name, such as 'deb', and may differ from row to row; without one it is 'mixed'. The functions return
+ * NULL for a scheme that is NULL, and else fail if it is not the name of one, whatever the other arguments are.
+ * version_in_set returns NULL for a set that is NULL, and fails if the text is not a set of that scheme.
+ *
+ * All functions are deterministic and have no side effects, so indexes and generated columns can use them.
+ *
+ * All memory is SQLite's: keys, bounds, fields, the range of a constant requirement, a set, the texts that an aggregate
+ * keeps, messages, and a number for a connection. Nothing else is allocated.
  *
  * The library alone decides what versions are and how they compare. This file only passes texts to it.
  */
@@ -72,10 +81,119 @@ static inline struct text text_of(sqlite3_value *value) {
   return text;
 }
 
+/*
+ * Appends the first 60 bytes of a text in quotes, and the number of further bytes. Quotes, backslashes and bytes that
+ * are not printable ASCII become \xHH.
+ */
+static void append_quoted(sqlite3_str *message, struct text text) {
+  const size_t most = 60, shown = text.len < most ? text.len : most;
+  size_t at;
+  sqlite3_str_appendchar(message, 1, '\'');
+  for (at = 0; at < shown; at++) {
+    unsigned char byte = (unsigned char)text.bytes[at];
+    if (byte < ' ' || byte > '~' || byte == '\'' || byte == '\\') {
+      sqlite3_str_appendf(message, "\\x%02x", byte);
+    } else {
+      sqlite3_str_appendchar(message, 1, (char)byte);
+    }
+  }
+  sqlite3_str_appendchar(message, 1, '\'');
+  if (text.len > shown) {
+    sqlite3_str_appendf(message, " and %lld bytes more", (sqlite3_int64)(text.len - shown));
+  }
+}
+
+/* The name of a type that is not NULL, as typeof returns it. */
+static const char *name_of(int type) {
+  switch (type) {
+    case SQLITE_INTEGER: return "integer";
+    case SQLITE_FLOAT: return "real";
+    case SQLITE_BLOB: return "blob";
+    default: return "text";
+  }
+}
+
+/* Appends what a value is that is not NULL: the text in quotes, or the type of a value that is not a text. */
+static void append_value(sqlite3_str *message, struct text text, int type) {
+  if (type == SQLITE_TEXT) {
+    append_quoted(message, text);
+  } else {
+    sqlite3_str_appendf(message, "a value of type %s", name_of(type));
+  }
+}
+
+/* Gives a text of SQLite's memory, which SQLite frees. A null text is an allocation failure. */
+static void give_text(sqlite3_context *context, char *said) {
+  if (said) {
+    sqlite3_result_text(context, said, -1, sqlite3_free);
+  } else {
+    sqlite3_result_error_nomem(context);
+  }
+}
+
+/* Fails with a message of SQLite's memory, and frees it. A null message is an allocation failure. */
+static void give_error(sqlite3_context *context, char *said) {
+  if (said) {
+    sqlite3_result_error(context, said, -1);
+  } else {
+    sqlite3_result_error_nomem(context);
+  }
+  sqlite3_free(said);
+}
+
+/* Appends the name of a scheme after what stands before it. Returns false, and appends nothing, if there is none. */
+static bool append_scheme(sqlite3_str *message, const char *before, uint32_t scheme) {
+  char name[16];
+  size_t len;
+  if (versions_scheme_name(scheme, name, sizeof name, &len) != VERSIONS_OK) return false;
+  sqlite3_str_appendall(message, before);
+  sqlite3_str_append(message, name, (int)len);
+  return true;
+}
+
+/* Fails with a value that is not the name of a scheme, and with the names of all schemes. */
+static void give_no_scheme(sqlite3_context *context, struct text text, int type) {
+  sqlite3_str *message = sqlite3_str_new(NULL);
+  uint32_t scheme = VERSIONS_MIXED;
+  sqlite3_str_appendall(message, "not a scheme: ");
+  append_value(message, text, type);
+  append_scheme(message, "; a scheme is one of ", scheme);
+  while (append_scheme(message, ", ", ++scheme)) continue;
+  give_error(context, sqlite3_str_finish(message));
+}
+
+/*
+ * The scheme that the last argument names, of a function that is called with `without` arguments if it has none.
+ * Returns false for NULL and after a failure, and then the result is set.
+ */
+static inline bool read_scheme(sqlite3_context *context, int count, sqlite3_value **values, int without,
+                               uint32_t *scheme) {
+  struct text name;
+  *scheme = VERSIONS_MIXED;
+  if (count == without) return true;
+  name = text_of(values[without]);
+  if (!name.bytes) {
+    sqlite3_result_error_nomem(context);
+  } else if (sqlite3_value_type(values[without]) == SQLITE_NULL) {
+    sqlite3_result_null(context);
+  } else if (versions_scheme(name.bytes, name.len, scheme) == VERSIONS_OK) {
+    return true;
+  } else {
+    give_no_scheme(context, name, sqlite3_value_type(values[without]));
+  }
+  return false;
+}
+
+/* Writes a key. The first call writes the same for mixed, in fewer instructions. */
+static inline int write_key(uint32_t scheme, struct text text, uint8_t *key, size_t room, size_t *len) {
+  if (scheme == VERSIONS_MIXED) return versions_sort_key(text.bytes, text.len, key, room, len);
+  return versions_scheme_key(scheme, text.bytes, text.len, key, room, len);
+}
+
 /* Returns a key that is too long for the stack, in memory of its length. */
-static void give_long_key(sqlite3_context *context, struct text text, size_t len) {
+static void give_long_key(sqlite3_context *context, uint32_t scheme, struct text text, size_t len) {
   uint8_t *key = sqlite3_malloc64(len);
-  if (key && versions_sort_key(text.bytes, text.len, key, len, &len) == VERSIONS_OK) {
+  if (key && write_key(scheme, text, key, len, &len) == VERSIONS_OK) {
     sqlite3_result_blob64(context, key, len, sqlite3_free);
   } else {
     sqlite3_free(key);
@@ -86,15 +204,16 @@ static void give_long_key(sqlite3_context *context, struct text text, size_t len
 static void version_key(sqlite3_context *context, int count, sqlite3_value **values) {
   struct text text = text_of(values[0]);
   uint8_t key[256];
+  uint32_t scheme;
   size_t len;
-  (void)count;
+  if (!read_scheme(context, count, values, 1, &scheme)) return;
   if (!text.bytes) {
     sqlite3_result_error_nomem(context);
     return;
   }
-  switch (versions_sort_key(text.bytes, text.len, key, sizeof key, &len)) {
+  switch (write_key(scheme, text, key, sizeof key, &len)) {
     case VERSIONS_OK: sqlite3_result_blob64(context, key, len, SQLITE_TRANSIENT); break;
-    case VERSIONS_NO_ROOM: give_long_key(context, text, len); break;
+    case VERSIONS_NO_ROOM: give_long_key(context, scheme, text, len); break;
     default: sqlite3_result_null(context);
   }
 }
@@ -123,50 +242,35 @@ static void version_kind(sqlite3_context *context, int count, sqlite3_value **va
   }
 }
 
-/* versions_compare or versions_compare_total */
-typedef int comparison(const char *, size_t, const char *, size_t, int32_t *);
-
-static void give_order(sqlite3_context *context, sqlite3_value **values, comparison *compare) {
-  struct text a = text_of(values[0]), b = text_of(values[1]);
-  int32_t order;
-  if (!a.bytes || !b.bytes) {
-    sqlite3_result_error_nomem(context);
-  } else if (compare(a.bytes, a.len, b.bytes, b.len, &order) == VERSIONS_OK) {
-    sqlite3_result_int(context, order);
+/* Gives the order that a call has written, or NULL with the status of a text that is not a version. */
+static void give_order(sqlite3_context *context, int status, const int32_t *order) {
+  if (status == VERSIONS_OK) {
+    sqlite3_result_int(context, *order);
   } else {
     sqlite3_result_null(context);
   }
 }
 
 static void version_compare(sqlite3_context *context, int count, sqlite3_value **values) {
-  (void)count;
-  give_order(context, values, versions_compare);
+  struct text a = text_of(values[0]), b = text_of(values[1]);
+  uint32_t scheme;
+  int32_t order;
+  if (!read_scheme(context, count, values, 2, &scheme)) return;
+  if (!a.bytes || !b.bytes) {
+    sqlite3_result_error_nomem(context);
+  } else {
+    give_order(context, versions_scheme_compare(scheme, a.bytes, a.len, b.bytes, b.len, &order), &order);
+  }
 }
 
 static void version_compare_total(sqlite3_context *context, int count, sqlite3_value **values) {
+  struct text a = text_of(values[0]), b = text_of(values[1]);
+  int32_t order;
   (void)count;
-  give_order(context, values, versions_compare_total);
-}
-
-/*
- * Appends the first 60 bytes of a text in quotes, and the number of further bytes. Quotes, backslashes and bytes that
- * are not printable ASCII become \xHH.
- */
-static void append_quoted(sqlite3_str *message, struct text text) {
-  const size_t most = 60, shown = text.len < most ? text.len : most;
-  size_t at;
-  sqlite3_str_appendchar(message, 1, '\'');
-  for (at = 0; at < shown; at++) {
-    unsigned char byte = (unsigned char)text.bytes[at];
-    if (byte < ' ' || byte > '~' || byte == '\'' || byte == '\\') {
-      sqlite3_str_appendf(message, "\\x%02x", byte);
-    } else {
-      sqlite3_str_appendchar(message, 1, (char)byte);
-    }
-  }
-  sqlite3_str_appendchar(message, 1, '\'');
-  if (text.len > shown) {
-    sqlite3_str_appendf(message, " and %lld bytes more", (sqlite3_int64)(text.len - shown));
+  if (!a.bytes || !b.bytes) {
+    sqlite3_result_error_nomem(context);
+  } else {
+    give_order(context, versions_compare_total(a.bytes, a.len, b.bytes, b.len, &order), &order);
   }
 }
 
@@ -183,45 +287,12 @@ static void append_reason(sqlite3_str *message, struct text list) {
   sqlite3_str_appendall(message, "; a list looks like '>=1.2,<2'");
 }
 
-/* The name of a type that is not NULL, as typeof returns it. */
-static const char *name_of(int type) {
-  switch (type) {
-    case SQLITE_INTEGER: return "integer";
-    case SQLITE_FLOAT: return "real";
-    case SQLITE_BLOB: return "blob";
-    default: return "text";
-  }
-}
-
-/* Gives a text of SQLite's memory, which SQLite frees. A null text is an allocation failure. */
-static void give_text(sqlite3_context *context, char *said) {
-  if (said) {
-    sqlite3_result_text(context, said, -1, sqlite3_free);
-  } else {
-    sqlite3_result_error_nomem(context);
-  }
-}
-
-/* Fails with a message of SQLite's memory, and frees it. A null message is an allocation failure. */
-static void give_error(sqlite3_context *context, char *said) {
-  if (said) {
-    sqlite3_result_error(context, said, -1);
-  } else {
-    sqlite3_result_error_nomem(context);
-  }
-  sqlite3_free(said);
-}
-
 /* Fails with the text that does not parse as a requirement, or with the type of a value that is not a text. */
 static void give_no_requirement(sqlite3_context *context, struct text text, int type) {
   sqlite3_str *message = sqlite3_str_new(NULL);
   sqlite3_str_appendall(message, "not a requirement: ");
-  if (type == SQLITE_TEXT) {
-    append_quoted(message, text);
-    append_reason(message, text);
-  } else {
-    sqlite3_str_appendf(message, "a value of type %s", name_of(type));
-  }
+  append_value(message, text, type);
+  if (type == SQLITE_TEXT) append_reason(message, text);
   give_error(context, sqlite3_str_finish(message));
 }
 
@@ -345,6 +416,85 @@ static void version_matches(sqlite3_context *context, int count, sqlite3_value *
   } else if (give_match(context, values[0], text)) {
     unsigned *calls = sqlite3_user_data(context);
     if ((*calls)++ % 16 == 0) sqlite3_set_auxdata(context, 0, &mark, NULL);
+  }
+}
+
+/* A set of versions of a scheme: its form, by which the library is asked. */
+struct set {
+  uint32_t scheme;
+  size_t len;
+  uint8_t form[];
+};
+
+/* Fails with the text that is not a set of a scheme, where and why, or with the type of a value that is not a text. */
+static void give_no_set(sqlite3_context *context, uint32_t scheme, struct text text, int type) {
+  sqlite3_str *message = sqlite3_str_new(NULL);
+  size_t place, len;
+  uint32_t reason;
+  char why[100];
+  sqlite3_str_appendall(message, "not a set of versions");
+  if (scheme != VERSIONS_MIXED) append_scheme(message, " of ", scheme);
+  sqlite3_str_appendall(message, ": ");
+  append_value(message, text, type);
+  if (type == SQLITE_TEXT && versions_set_wrong(scheme, text.bytes, text.len, &place, &reason) == VERSIONS_OK &&
+      versions_set_wrong_text(scheme, text.bytes, text.len, why, sizeof why, &len) == VERSIONS_OK) {
+    sqlite3_str_appendf(message, "; at byte %lld: %.*s", (sqlite3_int64)place, (int)len, why);
+  }
+  give_error(context, sqlite3_str_finish(message));
+}
+
+/* The set of a value, for sqlite3_free. Null for NULL and after a failure, and then the result is set. */
+static struct set *set_of(sqlite3_context *context, uint32_t scheme, sqlite3_value *value) {
+  struct text text = text_of(value);
+  struct set *set = NULL;
+  size_t room;
+  if (sqlite3_value_type(value) == SQLITE_NULL) {
+    sqlite3_result_null(context);
+    return NULL;
+  }
+  if (text.bytes && versions_set_bound(scheme, text.bytes, text.len, &room) == VERSIONS_OK) {
+    set = sqlite3_malloc64(sizeof *set + room);
+  }
+  if (!set) {
+    sqlite3_result_error_nomem(context);
+    return NULL;
+  }
+  set->scheme = scheme;
+  if (versions_set(scheme, text.bytes, text.len, set->form, room, &set->len) != VERSIONS_OK) {
+    give_no_set(context, scheme, text, sqlite3_value_type(value));
+    sqlite3_free(set);
+    return NULL;
+  }
+  return set;
+}
+
+static inline void give_has(sqlite3_context *context, const struct set *set, struct text text) {
+  bool has;
+  if (versions_set_has(set->form, set->len, text.bytes, text.len, &has) == VERSIONS_OK) {
+    sqlite3_result_int(context, has);
+  } else {
+    sqlite3_result_null(context);
+  }
+}
+
+/*
+ * SQLite keeps the set if its text is constant in a statement, and else frees it. The scheme may be another in each row,
+ * and then the text is read again: it is another set.
+ */
+static void version_in_set(sqlite3_context *context, int count, sqlite3_value **values) {
+  struct set *set = sqlite3_get_auxdata(context, 0);
+  struct text text = text_of(values[1]);
+  uint32_t scheme;
+  if (!read_scheme(context, count, values, 2, &scheme)) return;
+  if (!text.bytes) {
+    sqlite3_result_error_nomem(context);
+  } else if (set && set->scheme == scheme) {
+    give_has(context, set, text);
+  } else {
+    set = set_of(context, scheme, values[0]);
+    if (!set) return;
+    give_has(context, set, text);
+    sqlite3_set_auxdata(context, 0, set, sqlite3_free);
   }
 }
 
@@ -704,10 +854,14 @@ static int define_functions(sqlite3 *db) {
     void (*call)(sqlite3_context *, int, sqlite3_value **);
   } functions[] = {
       {"version_key", 1, version_key},
+      {"version_key", 2, version_key},
       {"is_version", 1, is_version},
       {"version_kind", 1, version_kind},
       {"version_compare", 2, version_compare},
+      {"version_compare", 3, version_compare},
       {"version_compare_total", 2, version_compare_total},
+      {"version_in_set", 2, version_in_set},
+      {"version_in_set", 3, version_in_set},
       {"version_low", 1, version_low},
       {"version_high", 1, version_high},
       {"version_nth", 2, version_nth},

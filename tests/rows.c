@@ -11,7 +11,7 @@
 
 #define LONGEST 16384
 
-// ?1 is a line, ?2 the one before it, and ?3 a list of requirements.
+// ?1 is a line, ?2 the one before it, and ?3 a requirement, which may be a set too.
 static const char *const of_each_line[] = {
   "INSERT INTO lines VALUES (?1)",
   "SELECT is_version(?1), version_key(?1), version_kind(?1), version_nth(?1, 0), version_nth(?1, 3), version_epoch(?1),"
@@ -19,12 +19,18 @@ static const char *const of_each_line[] = {
   " version_in(?1, 'v'), version_stability(?1), version_stability_rank(?1), version_next(?1, 0), version_next(?1, 1)",
   "SELECT version_compare(?2, ?1), version_compare_total(?2, ?1), version_difference(?2, ?1)",
   "SELECT version_matches(?3, ?1), version_why_not(?3, ?1), version_low(?3), version_high(?3)",
+  "SELECT version_in_set(?3, ?1)",
+  "SELECT version_in_set(?3, ?1, 'deb')",
+  "SELECT version_key(?1, 'rpm'), version_key(?1, 'pypi'), version_key(?1, 'semver'), version_key(?1, 'gem'),"
+  " version_compare(?2, ?1, 'deb'), version_compare(?2, ?1, 'gem')",
 };
 static const char *const of_all_lines[] = {
   "SELECT version_max(line), version_min(line), versions_version() FROM lines",
   "SELECT rowid FROM lines ORDER BY version_key(line), rowid",
   "SELECT rowid FROM lines ORDER BY line COLLATE VERSION, rowid",
   "SELECT rowid FROM lines WHERE version_matches('>=1.2,<2', line)",
+  "SELECT rowid FROM lines WHERE version_in_set('>=1.2, <2 || ^3', line)",
+  "SELECT rowid FROM lines WHERE version_in_set('>=1.2, <<2', line, 'deb')",
 };
 #define COUNT(list) (sizeof(list) / sizeof *(list))
 

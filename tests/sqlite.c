@@ -1,6 +1,7 @@
 // A program of tests/sqlite, for tests that the program sqlite3 cannot make:
 //   refused EXTENSION      loads it and runs statements, while one allocation of SQLite after another fails
 //   interrupted EXTENSION  interrupts windows after different numbers of steps
+//   kept EXTENSION         counts the allocations of a set that is the same in each row, and of one that is not
 //   loading EXTENSION      loads it such that a load fails midway, again while a statement runs, and into an old SQLite
 // Each checks that SQLite has freed all memory. The status is 1 if a check fails, and the check is printed.
 // This is not an extension: it calls SQLite directly.
@@ -113,6 +114,17 @@ static const char *const statements[] = {
     ROWS("9") "SELECT version_matches('^1.2.0', v) FROM versions",
     ROWS("9") "SELECT version_matches('=1.19,>' || " LONG ", iif(i % 3, v, '1.19')) FROM versions",
     ROWS("9") "SELECT version_matches(iif(i % 2, '>=1.2', '<1.40.0'), v) FROM versions",
+    "SELECT hex(version_key('1.0~rc1', 'deb') || version_key(" LONG ", 'deb'))",
+    "SELECT version_compare('1.0', " LONG ", 'rpm') || version_compare('1.0', '1..2', 'deb')",
+    "SELECT version_key('1', 'dpkg')",
+    "SELECT version_compare('1', '2', 7)",
+    "SELECT version_in_set('>=1.0, <2 || =' || " LONG ", " LONG ")",
+    "SELECT version_in_set('>=1.0,', '1')",
+    "SELECT version_in_set('~' || " LONG ", '1', 'deb')",
+    "SELECT version_in_set(7, '1')",
+    ROWS("9") "SELECT version_in_set('^1.2.0 || =1.19.0', v) FROM versions",
+    ROWS("9") "SELECT version_in_set('>=1.2.0 || =1.40.0', v, iif(i % 2, 'semver', 'deb')) FROM versions",
+    ROWS("9") "SELECT version_in_set(iif(i % 2, '>=1.2', '<1.40.0'), v) FROM versions",
     "SELECT version_nth('1.2.3', 2)",
     "SELECT version_nth('1.2.3', 1.0)",
     "SELECT is_version(" LONG ") || is_version('1..2')",
@@ -214,6 +226,43 @@ static void try_interrupted(void) {
   CHECK(interrupted > 30);
 }
 
+// How many allocations a statement makes that is run over a table of many rows. Its parameter is a set.
+static long allocations(sqlite3 *db, const char *text) {
+  sqlite3_stmt *statement;
+  long rows = 0;
+  CHECK(sqlite3_prepare_v2(db, text, -1, &statement, NULL) == SQLITE_OK);
+  sqlite3_bind_text(statement, 1, ">=1.2, <2 || >=3", -1, SQLITE_STATIC);
+  refuse(0);
+  while (sqlite3_step(statement) == SQLITE_ROW) rows++;
+  CHECK(rows == 1000);
+  CHECK(sqlite3_finalize(statement) == SQLITE_OK);
+  return requests;
+}
+
+// A set is read once if it is the same in each row, also if it is a parameter or its scheme comes from a column.
+static void try_kept(void) {
+  static const char *const once[] = {
+      "SELECT version_in_set('>=1.2, <2 || ^3', v) FROM t",
+      "SELECT version_in_set(?1, v) FROM t",
+      "SELECT version_in_set('>=1.2, <2 || >=3', v, 'deb') FROM t",
+      "SELECT version_in_set(?1, v, s) FROM t",
+  };
+  static const char *const at_each_row[] = {
+      "SELECT version_in_set(w, v) FROM t",
+      "SELECT version_in_set('>=1.2, <2', v, iif(rowid % 2, 'deb', 'rpm')) FROM t",
+  };
+  sqlite3 *db = loaded(encodings[0]);
+  size_t at;
+  long least;
+  run(db, "CREATE TABLE t AS " ROWS("1000") "SELECT v, 'deb' AS s, '>=1.2' AS w FROM versions");
+  least = allocations(db, "SELECT is_version(v) FROM t");
+  for (at = 0; at < sizeof once / sizeof *once; at++) CHECK(allocations(db, once[at]) < least + 50);
+  for (at = 0; at < sizeof at_each_row / sizeof *at_each_row; at++) {
+    CHECK(allocations(db, at_each_row[at]) > least + 990);
+  }
+  close_all(db);
+}
+
 static int all_level(void *none, int a_len, const void *a, int b_len, const void *b) {
   (void)none, (void)a_len, (void)a, (void)b_len, (void)b;
   return 0;
@@ -289,6 +338,8 @@ int main(int count, char **words) {
     try_all_refused();
   } else if (strcmp(words[1], "interrupted") == 0) {
     try_interrupted();
+  } else if (strcmp(words[1], "kept") == 0) {
+    try_kept();
   } else if (strcmp(words[1], "loading") == 0) {
     try_loading();
     try_old();

@@ -16,6 +16,10 @@ PAGE = (TOP / "docs/SCHEMES.md").read_text()
 SPAN = re.compile("`([^`]+)`")
 # What is said of a member that asks for parts.
 (ASKS_FOR_PARTS,) = re.findall(r"^\| `~[^`]*` \| \d+ \| (.*) \|$", PAGE, re.M)
+# Which orders of a version and the member's version each operator has.
+OPERATORS = {"=": (0,), "==": (0,), "!=": (-1, 1), "<": (-1,), "<=": (-1, 0), ">": (1,), ">=": (0, 1)}
+# What a text has that can't be a version in a set.
+NOT_IN_SETS = re.compile(r"[ \t|,]|\.\*$")
 # Shapes of `[epoch:]version[-release]`: N is a number, S a sign, W a word, and E an epoch.
 OF_THREE_PARTS = "N NSN N.NSN NWN N.NSW WSN N.NSWSN E:NSN N.N-N NSN-NWN N.NWN-SWN E:NSNWN-NSN NSNWNSN-WSN N-N-N".split()
 
