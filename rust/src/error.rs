@@ -2,18 +2,25 @@ use std::error::Error;
 use std::fmt;
 use std::ops::Range;
 
-use crate::library;
+use crate::library::{self, sets};
+use crate::Scheme;
 
-/// The error for a text that is not a version. It holds the whole text.
+/// The error for a text that is not a version of a scheme, which is [`Scheme::Mixed`] where none is
+/// named. It holds the whole text.
 ///
 /// ```
-/// let error = proved_versions::Versioning::new("1..2").unwrap_err();
+/// use proved_versions::{Scheme, Versioning};
+///
+/// let error = Versioning::new("1..2").unwrap_err();
 /// assert_eq!(error.to_string(), r#"not a version: "1..2""#);
-/// assert_eq!(error.text(), "1..2");
+/// assert_eq!((error.text(), error.scheme()), ("1..2", Scheme::Mixed));
+/// let error = Scheme::Deb.sort_key("1-").unwrap_err();
+/// assert_eq!(error.to_string(), r#"not a version of deb: "1-""#);
 /// ```
 #[derive(Clone, Debug, PartialEq, Eq, Hash)]
 pub struct InvalidVersion {
     text: String,
+    scheme: Scheme,
 }
 
 /// The error for a text that is not a requirement, nor a list of them. It holds the whole text, and
@@ -34,8 +41,43 @@ pub struct InvalidRequirement {
     member: Range<usize>,
 }
 
-/// The error for a text that is not the name of a [`Kind`](crate::Kind) or a
-/// [`Stability`](crate::Stability), whichever is parsed. It holds the whole text.
+/// The error for a text that is not a set of versions of a scheme. It holds the whole text, the place
+/// where its first wrong piece begins, and why that is wrong.
+///
+/// ```
+/// let error = proved_versions::VersionSet::new(">=1.2,").unwrap_err();
+/// assert_eq!((error.place(), error.reason()), (6, "a member is missing: * has all versions"));
+/// assert_eq!(
+///     error.to_string(),
+///     r#"not a set of versions: ">=1.2,"; at byte 6: a member is missing: * has all versions"#
+/// );
+/// ```
+#[derive(Clone, Debug, PartialEq, Eq, Hash)]
+pub struct InvalidVersionSet {
+    text: String,
+    scheme: Scheme,
+    place: usize,
+    reason: String,
+}
+
+/// The error for a version or a set that is of another [`Scheme`] than is wanted.
+///
+/// ```
+/// use proved_versions::{Scheme, VersionSet};
+///
+/// let [a, b] = [Scheme::Deb, Scheme::Rpm].map(|scheme| VersionSet::new_in("*", scheme).unwrap());
+/// let error = a.try_union(&b).unwrap_err();
+/// assert_eq!((error.wanted(), error.found()), (Scheme::Deb, Scheme::Rpm));
+/// assert_eq!(error.to_string(), "versions of deb are wanted, and this is of rpm");
+/// ```
+#[derive(Clone, Copy, Debug, PartialEq, Eq, Hash)]
+pub struct OtherScheme {
+    wanted: Scheme,
+    found: Scheme,
+}
+
+/// The error for a text that is not the name of a [`Kind`](crate::Kind), a
+/// [`Stability`](crate::Stability) or a [`Scheme`], whichever is parsed. It holds the whole text.
 ///
 /// ```
 /// let error = "Ideal".parse::<proved_versions::Kind>().unwrap_err();
@@ -49,13 +91,25 @@ pub struct InvalidName {
 }
 
 impl InvalidVersion {
-    pub(crate) fn new(text: impl Into<String>) -> Self {
-        InvalidVersion { text: text.into() }
+    pub(crate) fn new(text: impl Into<String>, scheme: Scheme) -> Self {
+        InvalidVersion {
+            text: text.into(),
+            scheme,
+        }
+    }
+
+    pub(crate) fn mixed(text: impl Into<String>) -> Self {
+        InvalidVersion::new(text, Scheme::Mixed)
     }
 
     /// Returns the text that is not a version.
     pub fn text(&self) -> &str {
         &self.text
+    }
+
+    /// Returns the scheme that it was read in.
+    pub fn scheme(&self) -> Scheme {
+        self.scheme
     }
 
     /// Returns the same, as the `String` that the error held.
@@ -92,6 +146,66 @@ impl InvalidRequirement {
     }
 }
 
+impl InvalidVersionSet {
+    pub(crate) fn new(text: impl Into<String>, scheme: Scheme) -> Self {
+        let text = text.into();
+        let (place, reason) = sets::wrong(scheme, &text);
+        InvalidVersionSet {
+            text,
+            scheme,
+            place,
+            reason,
+        }
+    }
+
+    /// Returns the text that is not a set.
+    pub fn text(&self) -> &str {
+        &self.text
+    }
+
+    /// Returns the scheme that it was read in.
+    pub fn scheme(&self) -> Scheme {
+        self.scheme
+    }
+
+    /// Returns where the first wrong piece begins, in bytes: at the end of the text where something is
+    /// missing there.
+    pub fn place(&self) -> usize {
+        self.place
+    }
+
+    /// Returns why that piece is wrong, and what to write: a sentence in English without a full stop.
+    pub fn reason(&self) -> &str {
+        &self.reason
+    }
+
+    /// Returns the text, as the `String` that the error held.
+    pub fn into_text(self) -> String {
+        self.text
+    }
+}
+
+impl OtherScheme {
+    /// The error, where two schemes differ.
+    pub(crate) fn check(wanted: Scheme, found: Scheme) -> Result<(), Self> {
+        if wanted == found {
+            Ok(())
+        } else {
+            Err(OtherScheme { wanted, found })
+        }
+    }
+
+    /// Returns the scheme that is wanted.
+    pub fn wanted(&self) -> Scheme {
+        self.wanted
+    }
+
+    /// Returns the scheme that was found.
+    pub fn found(&self) -> Scheme {
+        self.found
+    }
+}
+
 impl InvalidName {
     /// The place of a name among others.
     pub(crate) fn place(names: &'static [&'static str], text: &str) -> Result<usize, Self> {
@@ -115,7 +229,7 @@ impl InvalidName {
 
 impl fmt::Display for InvalidVersion {
     fn fmt(&self, f: &mut fmt::Formatter<'_>) -> fmt::Result {
-        write!(f, "not a version: {:?}", self.text)
+        write!(f, "not a version{}: {:?}", Of(self.scheme), self.text)
     }
 }
 
@@ -130,6 +244,36 @@ impl fmt::Display for InvalidRequirement {
     }
 }
 
+impl fmt::Display for InvalidVersionSet {
+    fn fmt(&self, f: &mut fmt::Formatter<'_>) -> fmt::Result {
+        let (of, text) = (Of(self.scheme), &self.text);
+        let (place, reason) = (self.place, &self.reason);
+        write!(
+            f,
+            "not a set of versions{of}: {text:?}; at byte {place}: {reason}"
+        )
+    }
+}
+
+/// ` of deb`; nothing of `mixed`.
+struct Of(Scheme);
+
+impl fmt::Display for Of {
+    fn fmt(&self, f: &mut fmt::Formatter<'_>) -> fmt::Result {
+        match self.0 {
+            Scheme::Mixed => Ok(()),
+            scheme => write!(f, " of {scheme}"),
+        }
+    }
+}
+
+impl fmt::Display for OtherScheme {
+    fn fmt(&self, f: &mut fmt::Formatter<'_>) -> fmt::Result {
+        let OtherScheme { wanted, found } = self;
+        write!(f, "versions of {wanted} are wanted, and this is of {found}")
+    }
+}
+
 impl fmt::Display for InvalidName {
     fn fmt(&self, f: &mut fmt::Formatter<'_>) -> fmt::Result {
         write!(f, "not one of {}: {:?}", self.names.join(", "), self.text)
@@ -139,5 +283,9 @@ impl fmt::Display for InvalidName {
 impl Error for InvalidVersion {}
 
 impl Error for InvalidRequirement {}
+
+impl Error for InvalidVersionSet {}
+
+impl Error for OtherScheme {}
 
 impl Error for InvalidName {}

@@ -1,15 +1,20 @@
 use std::borrow::Borrow;
+use std::cmp::Ordering;
 use std::fmt;
+use std::hash::{Hash, Hasher};
 use std::ops::Deref;
 
 use crate::bytes::Bytes;
-use crate::Versioning;
+use crate::scheme::{AnyScheme, FixedScheme, Mixed};
+use crate::{Scheme, Versioning};
 
-/// The sort key of a version: bytes that compare as versions do by precedence.
+/// The sort key of a version: bytes that compare as versions do by precedence, or as those of another
+/// [scheme](crate::scheme), which a `Key<Deb>` names.
 ///
 /// `Ord`, `==` and `Hash` are those of its bytes, so a map with keys of this type can be asked with
 /// a `[u8]`. Equal keys are keys of versions that precedence ties. No key is empty, and none begins
-/// another.
+/// another. Keys of two schemes say nothing of each other: they don't compare, and a `Key<Scheme>`,
+/// whose scheme is known when the program runs, has no `Ord` and is no `Borrow<[u8]>`.
 ///
 /// A key of at most 38 bytes lies within the value, and a longer one in an allocation.
 ///
@@ -26,23 +31,26 @@ use crate::Versioning;
 /// assert!(found.eq(["1.10.0", "2.0.0-rc.1"]));
 /// # Ok::<(), Box<dyn std::error::Error>>(())
 /// ```
-#[derive(Clone, PartialEq, Eq, PartialOrd, Ord, Hash)]
-pub struct Key(Bytes);
+#[derive(Clone)]
+pub struct Key<S = Mixed> {
+    bytes: Bytes,
+    scheme: S,
+}
 
-impl Key {
-    pub(crate) fn new(bytes: Bytes) -> Self {
-        Key(bytes)
+impl<S> Key<S> {
+    pub(crate) fn new(bytes: Bytes, scheme: S) -> Self {
+        Key { bytes, scheme }
     }
 
     #[inline]
     pub(crate) fn bytes(&self) -> &Bytes {
-        &self.0
+        &self.bytes
     }
 
     /// Returns the bytes.
     #[inline]
     pub fn as_bytes(&self) -> &[u8] {
-        self.0.as_slice()
+        self.bytes.as_slice()
     }
 
     /// Returns the bytes that come just after the key: they are above it, and below every greater
@@ -59,8 +67,48 @@ impl Key {
     }
 }
 
+impl<S: AnyScheme> Key<S> {
+    /// Returns which scheme the key is of.
+    pub fn scheme(&self) -> Scheme {
+        self.scheme.scheme()
+    }
+
+    pub(crate) fn of(&self) -> S {
+        self.scheme
+    }
+}
+
+impl<S: FixedScheme> Ord for Key<S> {
+    #[inline]
+    fn cmp(&self, other: &Self) -> Ordering {
+        self.bytes.cmp(&other.bytes)
+    }
+}
+
+impl<S: FixedScheme> PartialOrd for Key<S> {
+    #[inline]
+    fn partial_cmp(&self, other: &Self) -> Option<Ordering> {
+        Some(self.cmp(other))
+    }
+}
+
+impl<S: AnyScheme> Eq for Key<S> {}
+
+impl<S: AnyScheme> PartialEq for Key<S> {
+    #[inline]
+    fn eq(&self, other: &Self) -> bool {
+        self.scheme == other.scheme && self.bytes == other.bytes
+    }
+}
+
+impl<S> Hash for Key<S> {
+    fn hash<H: Hasher>(&self, state: &mut H) {
+        self.bytes.hash(state);
+    }
+}
+
 /// The bytes.
-impl Deref for Key {
+impl<S> Deref for Key<S> {
     type Target = [u8];
 
     fn deref(&self) -> &[u8] {
@@ -68,13 +116,13 @@ impl Deref for Key {
     }
 }
 
-impl AsRef<[u8]> for Key {
+impl<S> AsRef<[u8]> for Key<S> {
     fn as_ref(&self) -> &[u8] {
         self.as_bytes()
     }
 }
 
-impl Borrow<[u8]> for Key {
+impl<S: FixedScheme> Borrow<[u8]> for Key<S> {
     fn borrow(&self) -> &[u8] {
         self.as_bytes()
     }
@@ -90,14 +138,14 @@ impl From<&Versioning<'_>> for Key {
 /// Takes the key out of the version.
 impl From<Versioning<'_>> for Key {
     fn from(version: Versioning<'_>) -> Key {
-        version.into_key()
+        version.into_parts().1
     }
 }
 
 /// Copies the bytes, where they lie within the value.
-impl From<Key> for Vec<u8> {
-    fn from(key: Key) -> Vec<u8> {
-        match key.0 {
+impl<S> From<Key<S>> for Vec<u8> {
+    fn from(key: Key<S>) -> Vec<u8> {
+        match key.bytes {
             Bytes::Allocated(bytes) => bytes.into_vec(),
             within => within.as_slice().to_vec(),
         }
@@ -105,8 +153,8 @@ impl From<Key> for Vec<u8> {
 }
 
 /// In hexadecimal, as `Key(00030131020202)`.
-impl fmt::Debug for Key {
+impl<S> fmt::Debug for Key<S> {
     fn fmt(&self, f: &mut fmt::Formatter<'_>) -> fmt::Result {
-        write!(f, "Key({:?})", self.0)
+        write!(f, "Key({:?})", self.bytes)
     }
 }

@@ -69,14 +69,17 @@ mod many;
 mod mismatch;
 mod range;
 mod requirement;
+pub mod scheme;
 #[cfg(feature = "serde")]
 mod serde;
 mod stability;
 mod text;
+mod version_of;
+mod version_set;
 mod versioning;
 
 pub use difference::Difference;
-pub use error::{InvalidName, InvalidRequirement, InvalidVersion};
+pub use error::{InvalidName, InvalidRequirement, InvalidVersion, InvalidVersionSet, OtherScheme};
 pub use key::Key;
 pub use kind::Kind;
 pub use many::{
@@ -85,8 +88,12 @@ pub use many::{
 pub use mismatch::{Mismatch, Reason};
 pub use range::KeyRange;
 pub use requirement::{Filter, Requirement};
+#[doc(inline)]
+pub use scheme::Scheme;
 pub use stability::Stability;
 pub use text::Text;
+pub use version_of::VersionOf;
+pub use version_set::{Interval, VersionSet};
 pub use versioning::Versioning;
 
 /// Returns the kind of a text, or `None` if it is not a version. Allocates nothing.
@@ -117,7 +124,7 @@ pub fn kind(text: &str) -> Option<Kind> {
 /// assert_eq!(compare("1.0", "1..2").unwrap_err().text(), "1..2");
 /// ```
 pub fn compare(a: &str, b: &str) -> Result<Ordering, InvalidVersion> {
-    library::compare(a, b).map_err(InvalidVersion::new)
+    library::compare(a, b).map_err(InvalidVersion::mixed)
 }
 
 /// Compares two texts in the total order, as `Ord` of [`Versioning`] does: by precedence, with ties
@@ -137,7 +144,7 @@ pub fn compare(a: &str, b: &str) -> Result<Ordering, InvalidVersion> {
 /// assert_eq!(compare_total("1.0.0+a", "1.0.0+b"), Ok(Ordering::Equal));
 /// ```
 pub fn compare_total(a: &str, b: &str) -> Result<Ordering, InvalidVersion> {
-    library::compare_total(a, b).map_err(InvalidVersion::new)
+    library::compare_total(a, b).map_err(InvalidVersion::mixed)
 }
 
 /// Returns the sort key of a text, as [`Versioning::key`] does. Allocates what [`Versioning::new`]
@@ -154,7 +161,7 @@ pub fn compare_total(a: &str, b: &str) -> Result<Ordering, InvalidVersion> {
 /// ```
 pub fn sort_key(text: &str) -> Result<Key, InvalidVersion> {
     match library::parse(text) {
-        Some((_, key)) => Ok(Key::new(key)),
-        None => Err(InvalidVersion::new(text)),
+        Some((_, key)) => Ok(Key::new(key, scheme::Mixed)),
+        None => Err(InvalidVersion::mixed(text)),
     }
 }

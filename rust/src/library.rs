@@ -13,6 +13,9 @@ use crate::declarations::*;
 use crate::range::{KeyRange, Kinds};
 use crate::{Difference, Kind, Reason, Stability};
 
+pub mod schemes;
+pub mod sets;
+
 /// How many bytes of room for a key are made on the stack, which is enough for those of most texts.
 const ON_STACK: usize = 128;
 const _: () = assert!(2 * WITHIN <= ON_STACK);

@@ -29,8 +29,7 @@ pub fn kinds<T: AsRef<str>>(texts: &[T]) -> Vec<Option<Kind>> {
 /// assert_eq!(keys.get(1), None);
 /// ```
 pub fn sort_keys<T: AsRef<str>>(texts: &[T]) -> SortKeys {
-    let (keys, offsets) = library::sort_keys(&Texts::new(texts));
-    SortKeys { keys, offsets }
+    SortKeys::new(library::sort_keys(&Texts::new(texts)))
 }
 
 /// Returns whether a requirement matches each text, in one call of the library; `None` for a text
@@ -160,7 +159,12 @@ pub fn order<T: AsRef<str>>(texts: &[T]) -> Vec<usize> {
 /// assert_eq!(texts, ["1.9", "1.10rc1", "1.10", "1..2"]);
 /// ```
 pub fn sort<T: AsRef<str>>(texts: &mut [T]) {
-    let mut order = order(texts);
+    let order = order(texts);
+    permute(texts, order);
+}
+
+/// Puts texts into an order, which has every place once.
+pub(crate) fn permute<T>(texts: &mut [T], mut order: Vec<usize>) {
     // Each cycle of the permutation is followed from `start`; a place that is done names itself.
     for start in 0..texts.len() {
         let mut place = start;
@@ -183,6 +187,10 @@ pub struct SortKeys {
 }
 
 impl SortKeys {
+    pub(crate) fn new((keys, offsets): (Vec<u8>, Vec<i64>)) -> Self {
+        SortKeys { keys, offsets }
+    }
+
     /// Returns the key of the text at a place, or `None` if that text is not a version or there is
     /// no such place. No key is empty.
     pub fn get(&self, place: usize) -> Option<&[u8]> {

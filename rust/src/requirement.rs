@@ -102,7 +102,7 @@ impl<'a> Requirement<'a> {
     /// ```
     pub fn matches_text(&self, text: &str) -> Result<bool, InvalidVersion> {
         library::match_in_range(&self.range, &self.text, text)
-            .ok_or_else(|| InvalidVersion::new(text))
+            .ok_or_else(|| InvalidVersion::mixed(text))
     }
 
     /// Returns why the requirement doesn't match a version, or `None` if it does. Allocates nothing.

@@ -1,14 +1,15 @@
-//! Versions and requirements as their texts, kinds and stabilities as their names, and keys as bytes,
-//! by serde.
+//! Versions, requirements and sets as their texts, kinds, stabilities and schemes as their names, and
+//! keys as bytes, by serde.
 
 use std::borrow::Cow;
 use std::fmt;
 
 use serde::de::{Deserialize, Deserializer, Error, Unexpected, Visitor};
-use serde::ser::{Serialize, Serializer};
+use serde::ser::{Error as _, Serialize, Serializer};
 
 use crate::bytes::Bytes;
-use crate::{Key, Kind, Requirement, Stability, Versioning};
+use crate::scheme::FixedScheme;
+use crate::{Key, Kind, Requirement, Scheme, Stability, VersionOf, VersionSet, Versioning};
 
 /// Takes a text, borrowed where the format lends it; the word says what it should be.
 struct Text(&'static str);
@@ -93,6 +94,41 @@ impl Serialize for Requirement<'_> {
     }
 }
 
+/// The text has a copy of its own, whatever the format lends.
+impl<'de, S: FixedScheme> Deserialize<'de> for VersionOf<'_, S> {
+    fn deserialize<D: Deserializer<'de>>(deserializer: D) -> Result<Self, D::Error> {
+        let text = deserializer.deserialize_str(Text("a version"))?;
+        text.parse().map_err(D::Error::custom)
+    }
+}
+
+/// As the text. What is of a `Scheme` isn't serialized, since its text doesn't say of which.
+impl<S: FixedScheme> Serialize for VersionOf<'_, S> {
+    fn serialize<T: Serializer>(&self, serializer: T) -> Result<T::Ok, T::Error> {
+        serializer.serialize_str(self.as_str())
+    }
+}
+
+/// From the text.
+impl<'de, S: FixedScheme> Deserialize<'de> for VersionSet<S> {
+    fn deserialize<D: Deserializer<'de>>(deserializer: D) -> Result<Self, D::Error> {
+        let text = deserializer.deserialize_str(Text("a set of versions"))?;
+        VersionSet::new_in(text, S::default()).map_err(D::Error::custom)
+    }
+}
+
+/// As the text that was read. A set that was made otherwise has none, and is an error.
+impl<S: FixedScheme> Serialize for VersionSet<S> {
+    fn serialize<T: Serializer>(&self, serializer: T) -> Result<T::Ok, T::Error> {
+        match self.text() {
+            Some(text) => serializer.serialize_str(text),
+            None => Err(T::Error::custom(
+                "a set of versions that was not read from a text has none",
+            )),
+        }
+    }
+}
+
 /// As the name, as `ideal`.
 impl Serialize for Kind {
     fn serialize<S: Serializer>(&self, serializer: S) -> Result<S::Ok, S::Error> {
@@ -123,10 +159,25 @@ impl<'de> Deserialize<'de> for Stability {
     }
 }
 
+/// As the name, as `deb`.
+impl Serialize for Scheme {
+    fn serialize<S: Serializer>(&self, serializer: S) -> Result<S::Ok, S::Error> {
+        serializer.serialize_str(self.name())
+    }
+}
+
+/// From the name, as `deb`.
+impl<'de> Deserialize<'de> for Scheme {
+    fn deserialize<D: Deserializer<'de>>(deserializer: D) -> Result<Self, D::Error> {
+        let name = deserializer.deserialize_str(Text("a scheme"))?;
+        name.parse().map_err(D::Error::custom)
+    }
+}
+
 /// As bytes. In a format that people read, as JSON, as a text of two hexadecimal digits for each
 /// byte, in lower case. So a key can be the key of a map there too, and such texts sort as keys do.
-impl Serialize for Key {
-    fn serialize<S: Serializer>(&self, serializer: S) -> Result<S::Ok, S::Error> {
+impl<S: FixedScheme> Serialize for Key<S> {
+    fn serialize<T: Serializer>(&self, serializer: T) -> Result<T::Ok, T::Error> {
         if serializer.is_human_readable() {
             serializer.collect_str(&format_args!("{:?}", self.bytes()))
         } else {
@@ -137,32 +188,33 @@ impl Serialize for Key {
 
 /// From bytes, or a text of their hexadecimal digits. Takes any bytes, also those that are the key of
 /// no version.
-impl<'de> Deserialize<'de> for Key {
+impl<'de, S: FixedScheme> Deserialize<'de> for Key<S> {
     fn deserialize<D: Deserializer<'de>>(deserializer: D) -> Result<Self, D::Error> {
-        if deserializer.is_human_readable() {
+        let bytes = if deserializer.is_human_readable() {
             deserializer.deserialize_str(Digits)
         } else {
             deserializer.deserialize_bytes(Digits)
-        }
+        };
+        Ok(Key::new(bytes?, S::default()))
     }
 }
 
-/// Takes a key. Bytes may come where a text was asked for, since what serde holds back, as for an
+/// Takes the bytes of a key. Bytes may come where a text was asked for, since what serde holds back, as for an
 /// untagged enum, counts as read by people.
 struct Digits;
 
 impl Visitor<'_> for Digits {
-    type Value = Key;
+    type Value = Bytes;
 
     fn expecting(&self, f: &mut fmt::Formatter<'_>) -> fmt::Result {
         f.write_str("a key as bytes or hexadecimal digits")
     }
 
-    fn visit_bytes<E: Error>(self, bytes: &[u8]) -> Result<Key, E> {
-        Ok(Key::new(Bytes::from(bytes)))
+    fn visit_bytes<E: Error>(self, bytes: &[u8]) -> Result<Bytes, E> {
+        Ok(Bytes::from(bytes))
     }
 
-    fn visit_str<E: Error>(self, text: &str) -> Result<Key, E> {
+    fn visit_str<E: Error>(self, text: &str) -> Result<Bytes, E> {
         match bytes_of(text) {
             Some(bytes) => self.visit_bytes(&bytes),
             None => Err(E::invalid_value(Unexpected::Str(text), &self)),

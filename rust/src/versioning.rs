@@ -5,6 +5,7 @@ use std::hash::{Hash, Hasher};
 use std::str::FromStr;
 
 use crate::library::{self, Field};
+use crate::scheme::Mixed;
 use crate::text::into_cow;
 use crate::{Difference, InvalidVersion, Key, Kind, Stability, Text};
 
@@ -87,10 +88,10 @@ impl<'a> Versioning<'a> {
         match library::parse(&text) {
             Some((kind, key)) => Ok(Versioning {
                 text,
-                key: Key::new(key),
+                key: Key::new(key, Mixed),
                 kind,
             }),
-            None => Err(InvalidVersion::new(text)),
+            None => Err(InvalidVersion::mixed(text)),
         }
     }
 
@@ -119,7 +120,7 @@ impl<'a> Versioning<'a> {
         let tag = into_cow(tag);
         match library::in_tag(&tag) {
             Some(start) => Versioning::parsed(cut(tag, start)),
-            None => Err(InvalidVersion::new(tag)),
+            None => Err(InvalidVersion::mixed(tag)),
         }
     }
 
@@ -142,7 +143,7 @@ impl<'a> Versioning<'a> {
         let tag = into_cow(tag);
         match library::after_prefix(prefix, &tag) {
             Some(start) => Versioning::parsed(cut(tag, start)),
-            None => Err(InvalidVersion::new(tag)),
+            None => Err(InvalidVersion::mixed(tag)),
         }
     }
 
@@ -377,8 +378,8 @@ impl<'a> Versioning<'a> {
         &self.key
     }
 
-    pub(crate) fn into_key(self) -> Key {
-        self.key
+    pub(crate) fn into_parts(self) -> (Cow<'a, str>, Key) {
+        (self.text, self.key)
     }
 
     /// Returns the same version, with a text that borrows from this one. Copies the key, and

@@ -215,7 +215,7 @@ fn keys_are_hexadecimal_digits_where_people_read() {
         let said = format!("invalid value: string {wrong:?}, {expected}");
         assert_eq!(error.to_string(), said);
     }
-    assert!(Key::deserialize(U32Deserializer::<Error>::new(1)).is_err());
+    assert!(<Key>::deserialize(U32Deserializer::<Error>::new(1)).is_err());
 }
 
 #[test]
@@ -228,9 +228,9 @@ fn keys_are_bytes_where_people_do_not_read() {
         assert_eq!(read_key(digits), Ok(key));
     }
     // What serde holds back of such a format counts as read by people, and has bytes.
-    let key = Key::deserialize(BytesDeserializer::<Error>::new(b"1"));
+    let key = <Key>::deserialize(BytesDeserializer::<Error>::new(b"1"));
     assert_eq!(key.as_deref(), Ok(&b"1"[..]));
-    let key = Key::deserialize(BorrowedBytesDeserializer::<Error>::new(b"1"));
+    let key = <Key>::deserialize(BorrowedBytesDeserializer::<Error>::new(b"1"));
     assert_eq!(key.as_deref(), Ok(&b"1"[..]));
 }
 
