@@ -7,9 +7,11 @@
 
 use std::panic::{catch_unwind, AssertUnwindSafe};
 
+use proved_versions::scheme::{Deb, Mixed};
 use proved_versions::{
     compare, compare_total, in_tags, kind, kinds, match_all, newest, newest_tag, order, sort,
-    sort_key, sort_keys, stabilities, Requirement, Stability, Versioning,
+    sort_key, sort_keys, stabilities, Requirement, Scheme, Stability, VersionOf, VersionSet,
+    Versioning,
 };
 
 const FORGOTTEN: &str = "the library no longer takes the text of a Versioning for a version";
@@ -399,5 +401,241 @@ fn places_in_tags() {
             panic(|| Versioning::after_prefix("v0", text).is_ok()),
             unexpected("versions_after_prefix", &place)
         );
+    }
+}
+
+fn set(text: &str) -> VersionSet {
+    VersionSet::new(text).unwrap()
+}
+
+fn single(text: &str) -> VersionSet<Deb> {
+    VersionSet::singleton(VersionOf::new(text, Deb).unwrap())
+}
+
+#[test]
+#[ignore = "run by tests/rust of the repository, with a wrong library"]
+fn statuses_of_schemes_and_sets() {
+    let long = format!("v{:098}", 0);
+    let (deb, good) = (Scheme::Deb, set("s0"));
+    let any = |text| VersionSet::new_in(text, Scheme::Rpm).unwrap();
+    let said = [
+        ("versions_scheme_has", panic(|| deb.is_version("v99"))),
+        (
+            "versions_scheme_compare",
+            panic(|| deb.compare("v99", "v99")),
+        ),
+        ("versions_scheme_key_bound", panic(|| deb.sort_key(&long))),
+        (
+            "versions_scheme_key_bound",
+            panic(|| deb.sort_keys(&[&long])),
+        ),
+        ("versions_scheme_key_bound", panic(|| deb.order(&[&long]))),
+        ("versions_scheme_key", panic(|| deb.sort_key("x99"))),
+        (
+            "versions_scheme_key",
+            panic(|| VersionOf::new("x99", Deb).is_ok()),
+        ),
+        ("versions_scheme_keys", panic(|| deb.sort_keys(&["v99"]))),
+        ("versions_scheme_sort", panic(|| deb.sort(&mut ["v99"]))),
+        ("versions_sort", panic(|| Scheme::Mixed.order(&["v99"]))),
+        (
+            "versions_set_bound",
+            panic(|| VersionSet::new("b99").is_ok()),
+        ),
+        ("versions_set", panic(|| VersionSet::new("x99").is_ok())),
+        (
+            "versions_set_wrong_text",
+            panic(|| VersionSet::new("w18s").is_ok()),
+        ),
+        ("versions_set_of_version", panic(|| single("v99"))),
+        ("versions_set_has", panic(|| set("s99").contains_text("v0"))),
+        (
+            "versions_set_has",
+            panic(|| set("s99").contains(&version("v0"))),
+        ),
+        (
+            "versions_set_has_all",
+            panic(|| set("s99").contains_texts(&["v0"])),
+        ),
+        ("versions_set_and", panic(|| set("s99") & &good)),
+        ("versions_set_or", panic(|| set("s99") | &good)),
+        ("versions_set_not", panic(|| !set("s99"))),
+        (
+            "versions_set_part_of",
+            panic(|| set("s99").subset_of(&good)),
+        ),
+        (
+            "versions_set_meets",
+            panic(|| set("s99").is_disjoint(&good)),
+        ),
+        ("versions_set_interval", panic(|| set("s99").is_empty())),
+        (
+            "versions_set_and",
+            panic(|| any("s99").try_intersection(&any("s0")).is_ok()),
+        ),
+        (
+            "versions_set_or",
+            panic(|| any("s99").try_union(&any("s0")).is_ok()),
+        ),
+        (
+            "versions_set_part_of",
+            panic(|| any("s99").try_subset_of(&any("s0"))),
+        ),
+        (
+            "versions_set_meets",
+            panic(|| any("s99").try_is_disjoint(&any("s0"))),
+        ),
+    ];
+    for (call, text) in said {
+        assert_eq!(text, unexpected(call, "status 99"));
+    }
+    // What another call has, or this one where it was asked something else.
+    for number in [1, 7, 10, 12, 18, 19, 20, 21, 22] {
+        let status = format!("status {number}");
+        let text = format!("s{number}");
+        let made = || set(&text);
+        let forms = [
+            ("versions_set_and", panic(|| made() & made())),
+            ("versions_set_or", panic(|| made() | made())),
+            ("versions_set_not", panic(|| !made())),
+            ("versions_set_part_of", panic(|| made().subset_of(&made()))),
+            ("versions_set_meets", panic(|| made().is_disjoint(&made()))),
+            (
+                "versions_set_of_version",
+                panic(|| single(&format!("v{number}"))),
+            ),
+            (
+                "versions_set_bound",
+                panic(|| VersionSet::new(format!("b{number}")).is_ok()),
+            ),
+            (
+                "versions_scheme_has",
+                panic(|| Scheme::Gem.is_version(&text)),
+            ),
+            (
+                "versions_scheme_compare",
+                panic(|| Scheme::Gem.compare(&text, "v0")),
+            ),
+            (
+                "versions_scheme_keys",
+                panic(|| Scheme::Gem.sort_keys(&[&text])),
+            ),
+            (
+                "versions_scheme_sort",
+                panic(|| Scheme::Gem.order(&[&text])),
+            ),
+        ];
+        for (call, said) in forms {
+            assert_eq!(said, unexpected(call, &status));
+        }
+        if number != 1 {
+            let said = panic(|| made().contains_text("v0"));
+            assert_eq!(said, unexpected("versions_set_has", &status));
+            let said = panic(|| Scheme::Gem.sort_key(&format!("x{number}")));
+            assert_eq!(said, unexpected("versions_scheme_key", &status));
+        }
+        if number != 18 {
+            let said = panic(|| VersionSet::new(format!("x{number}")).is_ok());
+            assert_eq!(said, unexpected("versions_set", &status));
+        }
+        if number != 22 {
+            let said = panic(|| made().intervals().count());
+            assert_eq!(said, unexpected("versions_set_interval", &status));
+        }
+    }
+    let said = panic(|| VersionSet::new("18").is_ok());
+    assert_eq!(said, unexpected("versions_set_wrong", "status 18"));
+    let forgotten = "the library no longer takes the text of a version for one";
+    assert!(panic(|| set("s1").contains(&version("v0"))).contains(forgotten));
+}
+
+#[test]
+#[ignore = "run by tests/rust of the repository, with a wrong library"]
+fn answers_of_schemes_and_sets() {
+    let (deb, made) = (Scheme::Deb, set("s0"));
+    let said = [
+        ("versions_scheme_has", panic(|| deb.is_version("v0"))),
+        ("versions_set_has", panic(|| made.contains_text("v0"))),
+        (
+            "versions_set_has",
+            panic(|| made.contains(&VersionOf::new("v0", Mixed).unwrap())),
+        ),
+        (
+            "versions_set_has_all",
+            panic(|| made.contains_texts(&["v0"])),
+        ),
+        ("versions_set_part_of", panic(|| made.subset_of(&made))),
+        ("versions_set_meets", panic(|| made.is_disjoint(&made))),
+    ];
+    for (call, text) in said {
+        assert_eq!(text, unexpected(call, "match 9"));
+    }
+    assert_eq!(
+        panic(|| deb.compare("v0", "v0")),
+        unexpected("versions_scheme_compare", "order 7")
+    );
+    let long = |letter: &str| letter.to_string() + &"0".repeat(1000);
+    for (text, room) in [("l0".to_string(), 128), (long("l"), 1002)] {
+        let what = format!("length {}", room + 1);
+        let said = panic(|| deb.sort_key(&text));
+        assert_eq!(said, unexpected("versions_scheme_key", &what));
+        let said = panic(|| VersionOf::new(&text, Deb).is_ok());
+        assert_eq!(said, unexpected("versions_scheme_key", &what));
+    }
+    let said = [
+        ("versions_set", panic(|| VersionSet::new("l0").is_ok()), 3),
+        ("versions_set_of_version", panic(|| single("i0")), 2),
+        ("versions_set_and", panic(|| &made & &made), 5),
+        ("versions_set_or", panic(|| &made | &made), 5),
+        ("versions_set_not", panic(|| !&made), 20),
+        (
+            "versions_set_wrong_text",
+            panic(|| VersionSet::new("w18l").is_ok()),
+            101,
+        ),
+    ];
+    for (call, text, length) in said {
+        assert_eq!(text, unexpected(call, &format!("length {length}")));
+    }
+    let said = panic(|| VersionSet::new("w18u").is_ok());
+    assert!(said.starts_with("versions_set_wrong_text gave the text invalid utf-8"));
+    // Offsets and places of no text.
+    panic(|| deb.sort_keys(&["v0"]).get(0).is_some());
+    panic(|| deb.sort(&mut ["v0", "v0"]));
+}
+
+#[test]
+#[ignore = "run by tests/rust of the repository, with a wrong library"]
+fn places_in_sets() {
+    for (text, place) in [
+        ("w18a", "5"),
+        ("w18dé", "5"),
+        ("w18e", "18446744073709551615"),
+    ] {
+        let said = panic(|| VersionSet::new(text).is_ok());
+        assert_eq!(
+            said,
+            unexpected("versions_set_wrong", &format!("place {place}"))
+        );
+    }
+    let ends = [
+        ("a", "0..4"),
+        ("b", "2..1"),
+        ("e", "0..18446744073709551615"),
+    ];
+    for (letter, ends) in ends {
+        for first in ["s", "t"] {
+            let made = set(&format!("{first}0{letter}"));
+            let said = panic(|| made.intervals().count());
+            assert_eq!(
+                said,
+                unexpected("versions_set_interval", &format!("place {ends}"))
+            );
+            let said = panic(|| made.is_empty());
+            assert_eq!(
+                said,
+                unexpected("versions_set_interval", &format!("place {ends}"))
+            );
+        }
     }
 }

@@ -4,7 +4,8 @@
  * made by tests/support/calls.py, and write nothing. tests/rust links all, to see that the crate for Rust panics.
  *
  * A text that begins with `i` or `v` is taken for a version at first, a strict or a general one, and all of these have
- * one key. A text that begins with `e` or `v` is taken for a list at first, with an exact range or with another one.
+ * one key. A text that begins with `e` or `v` is taken for a list at first, with an exact range or with another one. A
+ * text that begins with `s` or `t` is taken for a set, and is its form.
  */
 #pragma GCC diagnostic ignored "-Wunused-parameter"
 #include <string.h>
@@ -198,4 +199,148 @@ int versions_in_range_all(const char *texts, size_t texts_len, const int64_t *of
                           uint8_t *answers, size_t answers_len) {
   memset(answers, 9, answers_len);
   return number_of_all(texts, texts_len, offsets, offsets_len);
+}
+
+/*
+ * Schemes
+ */
+
+int versions_scheme_has(uint32_t scheme, const char *text, size_t text_len, bool *has) {
+  *(unsigned char *)has = 9;
+  return number(text, text_len);
+}
+
+int versions_scheme_compare(uint32_t scheme, const char *a, size_t a_len, const char *b, size_t b_len, int32_t *order) {
+  return versions_compare(a, a_len, b, b_len, order);
+}
+
+/* A text of 99 bytes has the status 99. */
+int versions_scheme_key_bound(uint32_t scheme, size_t text_len, size_t *bound) {
+  *bound = text_len + 1;
+  return text_len == 99 ? 99 : VERSIONS_OK;
+}
+
+/* `l0` has a key longer than the room. */
+int versions_scheme_key(uint32_t scheme, const char *text, size_t text_len, uint8_t *key, size_t room,
+                        size_t *key_len) {
+  char first = letter(text, text_len);
+  if (room < text_len + 1) return 76;
+  *key_len = first == 'l' ? room + 1 : 1;
+  key[0] = 'v';
+  return first == 'v' || first == 'i' ? VERSIONS_OK : number(text, text_len);
+}
+
+/* The number in the texts; 76 where there isn't the room of versions_scheme_key_bound for each. */
+static int number_by_scheme_keys(const char *texts, size_t texts_len, const int64_t *offsets, size_t offsets_len,
+                                 size_t room) {
+  return room == texts_len + offsets_len - 1 ? number_of_all(texts, texts_len, offsets, offsets_len) : 76;
+}
+
+int versions_scheme_keys(uint32_t scheme, const char *texts, size_t texts_len, const int64_t *offsets,
+                         size_t offsets_len, uint8_t *keys, size_t room, int64_t *key_offsets, size_t key_offsets_len) {
+  for (size_t i = 0; i < key_offsets_len; i++) key_offsets[i] = -1 - (int64_t)i;
+  return number_by_scheme_keys(texts, texts_len, offsets, offsets_len, room);
+}
+
+int versions_scheme_sort(uint32_t scheme, const char *texts, size_t texts_len, const int64_t *offsets,
+                         size_t offsets_len, uint8_t *keys, size_t room, int64_t *key_offsets, size_t key_offsets_len,
+                         uint64_t *order, size_t order_len) {
+  for (size_t i = 0; i < order_len; i++) order[i] = order_len + i;
+  return number_by_scheme_keys(texts, texts_len, offsets, offsets_len, room);
+}
+
+/*
+ * Sets
+ */
+
+/* Writes bytes as a form, where there is room. Of a text that begins with `l` the form is longer than any room. */
+static void form_of(const char *text, size_t text_len, uint8_t *form, size_t room, size_t *form_len) {
+  *form_len = letter(text, text_len) == 'l' ? room + 1 : text_len;
+  if (*form_len <= room) memcpy(form, text, text_len);
+}
+
+int versions_set_bound(uint32_t scheme, const char *text, size_t text_len, size_t *bound) {
+  *bound = text_len;
+  return letter(text, text_len) == 'b' ? number(text, text_len) : VERSIONS_OK;
+}
+
+int versions_set(uint32_t scheme, const char *text, size_t text_len, uint8_t *form, size_t room, size_t *form_len) {
+  char first = letter(text, text_len);
+  form_of(text, text_len, form, room, form_len);
+  return first == 's' || first == 't' ? VERSIONS_OK : number(text, text_len);
+}
+
+/* The fourth byte of a text, or 0. */
+static char fourth(const char *text, size_t text_len) { return text_len > 3 ? text[3] : 0; }
+
+/* The place of `w18a` is past the text, that of `w18d` the fifth byte, and that of `w18e` far past it. */
+int versions_set_wrong(uint32_t scheme, const char *text, size_t text_len, size_t *place, uint32_t *reason) {
+  char which = fourth(text, text_len);
+  *place = which == 'a' ? text_len + 1 : which == 'd' ? 5 : which == 'e' ? SIZE_MAX : 0;
+  *reason = VERSIONS_SET_NO_MEMBER;
+  return letter(text, text_len) == 'w' ? VERSIONS_OK : number(text, text_len);
+}
+
+/* `w18l` is said more of than there is room for, `w18u` what isn't UTF-8, and `w18s` has the status 99. */
+int versions_set_wrong_text(uint32_t scheme, const char *text, size_t text_len, char *why, size_t room,
+                            size_t *why_len) {
+  char which = fourth(text, text_len);
+  *why_len = which == 'l' ? room + 1 : 1;
+  why[0] = '\xff';
+  return which == 's' ? 99 : VERSIONS_OK;
+}
+
+/* `i0` has a form longer than any room. */
+int versions_set_of_version(uint32_t scheme, const char *text, size_t text_len, uint8_t *form, size_t room,
+                            size_t *form_len) {
+  form_of(text, text_len, form, room, form_len);
+  if (letter(text, text_len) == 'i') *form_len = room + 1;
+  return number(text, text_len);
+}
+
+int versions_set_has(const uint8_t *form, size_t form_len, const char *text, size_t text_len, bool *has) {
+  *(unsigned char *)has = 9;
+  return number((const char *)form, form_len);
+}
+
+int versions_set_has_all(const uint8_t *form, size_t form_len, const char *texts, size_t texts_len,
+                         const int64_t *offsets, size_t offsets_len, uint8_t *answers, size_t answers_len) {
+  memset(answers, 9, answers_len);
+  return number_of_all(texts, texts_len, offsets, offsets_len) == 77 ? 77 : number((const char *)form, form_len);
+}
+
+/* What is made of sets is longer than the room. */
+int versions_set_and(const uint8_t *one, size_t one_len, const uint8_t *other, size_t other_len, uint8_t *form,
+                     size_t room, size_t *form_len) {
+  *form_len = room + 1;
+  return room < one_len + other_len ? 76 : number((const char *)one, one_len);
+}
+
+int versions_set_or(const uint8_t *one, size_t one_len, const uint8_t *other, size_t other_len, uint8_t *form,
+                    size_t room, size_t *form_len) {
+  return versions_set_and(one, one_len, other, other_len, form, room, form_len);
+}
+
+int versions_set_not(const uint8_t *set, size_t set_len, uint8_t *form, size_t room, size_t *form_len) {
+  *form_len = room + 1;
+  return room < set_len + 17 ? 76 : number((const char *)set, set_len);
+}
+
+int versions_set_part_of(const uint8_t *one, size_t one_len, const uint8_t *other, size_t other_len, bool *is_part) {
+  *(unsigned char *)is_part = 9;
+  return number((const char *)one, one_len);
+}
+
+int versions_set_meets(const uint8_t *one, size_t one_len, const uint8_t *other, size_t other_len, bool *meet) {
+  return versions_set_part_of(one, one_len, other, other_len, meet);
+}
+
+/* The low end of a set that begins with `s`, and the high one of another, lie where a field would. */
+int versions_set_interval(const uint8_t *form, size_t form_len, size_t at, size_t *low, size_t *low_end, size_t *high,
+                          size_t *high_end) {
+  bool is_low = form[0] == 's';
+  *low = *high = 0;
+  *low_end = *high_end = 1;
+  place((const char *)form, form_len, is_low ? low : high, is_low ? low_end : high_end);
+  return number((const char *)form, form_len);
 }
