@@ -1,5 +1,5 @@
 //! Versioning numbers of any shape: which texts are versions, how versions compare, and which versions
-//! a requirement matches.
+//! a requirement matches or a set has.
 //!
 //! ```
 //! use proved_versions::{sort, Requirement, Versioning};
@@ -13,6 +13,11 @@
 //! assert!(Requirement::new(">=1.1,<1.2.0")?.matches(&version));
 //! # Ok::<(), Box<dyn std::error::Error>>(())
 //! ```
+//!
+//! Sets of versions are [`VersionSet`]s. Other systems' orders, as Debian's, are [`Scheme`]s: of texts
+//! by its calls, and of values by the types of the module [`scheme`], as [`VersionOf<Deb>`].
+//!
+//! [`VersionOf<Deb>`]: VersionOf
 //!
 //! Every answer is one of the library for C, `libversions.a`, in which each function is proved to
 //! meet its contract. This crate passes texts to it and hands its answers on, and has no rule of
@@ -45,9 +50,11 @@
 //!
 //! # Features
 //!
-//! `serde`: [`Versioning`] and [`Requirement`] are serialized as their texts, [`Kind`] and
-//! [`Stability`] as their names, and all four are deserialized from texts. A [`Key`] is bytes, and in
-//! a format that people read a text of their hexadecimal digits, which can be the key of a map.
+//! `serde`: [`Versioning`], [`VersionOf`], [`Requirement`] and [`VersionSet`] are serialized as their
+//! texts, [`Kind`], [`Stability`] and [`Scheme`] as their names, and all are deserialized from texts. A
+//! set that was made of others has no text, and is an error. A [`Key`] is bytes, and in a format that
+//! people read a text of their hexadecimal digits, which can be the key of a map. Values whose scheme
+//! is known at run time have no serde, since a text doesn't say of which scheme it is.
 #![deny(missing_docs, unsafe_code, unsafe_op_in_unsafe_fn)]
 
 use std::cmp::Ordering;

@@ -11,9 +11,10 @@ use std::collections::hash_map::DefaultHasher;
 use std::hash::{Hash, Hasher};
 use std::mem::size_of;
 
+use proved_versions::scheme::{Deb, Gem, Mixed};
 use proved_versions::{
     compare, compare_total, in_tags, kind, kinds, match_all, newest, order, sort, sort_key,
-    sort_keys, stabilities, Key, Requirement, Stability, Versioning,
+    sort_keys, stabilities, Key, Requirement, Scheme, Stability, VersionOf, VersionSet, Versioning,
 };
 
 thread_local! {
@@ -125,6 +126,10 @@ fn sizes() {
     // A `Cow` has 24 bytes since Rust 1.64, and 32 before.
     assert_eq!(size_of::<Versioning>(), size_of::<Cow<str>>() + 40 + 8);
     assert_eq!(size_of::<Option<Versioning>>(), size_of::<Versioning>());
+    // A scheme that the program names takes nothing.
+    assert_eq!(size_of::<Key<Deb>>(), size_of::<Key>());
+    assert_eq!(size_of::<VersionOf<Deb>>(), size_of::<Cow<str>>() + 40);
+    assert_eq!(size_of::<VersionSet<Deb>>(), 32);
 }
 
 #[test]
@@ -228,4 +233,94 @@ fn many_texts() {
         "{count} {size}"
     );
     assert_eq!(of(|| sort(&mut texts)), (count, size));
+}
+
+#[test]
+fn versions_of_schemes() {
+    for scheme in Scheme::ALL.iter().copied() {
+        let (a, b) = ("1.2.3", "1.10.0");
+        assert_eq!(of(|| scheme.is_version(a)), (0, 0));
+        assert_eq!(of(|| scheme.compare(a, b)), (0, 0));
+        assert_eq!(of(|| scheme.sort_key(a)), (0, 0));
+        assert_eq!(of(|| VersionOf::new(a, scheme)), (0, 0));
+        let (x, y) = (
+            VersionOf::new(a, scheme).unwrap(),
+            VersionOf::new(b, scheme).unwrap(),
+        );
+        assert_eq!(of(|| (x.try_cmp(&y), x == y, x.scheme())), (0, 0));
+        assert_eq!(of(|| scheme.sort_key("!")), (1, 1));
+        assert_eq!(of(|| scheme.compare(a, "!")), (1, 1));
+        let long = format!("1.{}", "2".repeat(100_000));
+        assert_eq!(
+            of(|| scheme.compare(&long, a)).0,
+            usize::from(scheme == Scheme::Semver)
+        );
+    }
+    // The most bytes of a key are 2n + 7 in deb, 5n in gem, and 128 are on the stack.
+    let text = "1".repeat(25);
+    assert_eq!(of(|| VersionOf::new(&text, Gem)), (0, 0));
+    let text = "1".repeat(26);
+    assert_eq!(of(|| VersionOf::new(&text, Gem)), (1, 130));
+    let short = of(|| {
+        VersionOf::new(
+            "1.0+aaaaaaaaaaaaaaaaaaaaaaaaaaaaaaaaaaaaaaaaaaaaaaaaaaaaaaaa",
+            Deb,
+        )
+    });
+    assert_eq!(short.0, 1);
+    let version = VersionOf::new("1.0", Deb).unwrap();
+    assert_eq!(of(|| (version.clone(), Key::from(version.clone()))), (0, 0));
+    let mixed = Versioning::new("1.0").unwrap();
+    assert_eq!(of(|| VersionOf::from(mixed)), (0, 0));
+    assert_eq!(of(|| "1.0".parse::<VersionOf<Deb>>()), (1, 3));
+    let mut texts = vec!["1.2.3"; 1000];
+    let (bytes, places) = (5 * 1000, 8 * 1001);
+    // In deb each key has room for 17 bytes.
+    let (count, size) = of(|| Scheme::Deb.order(&texts));
+    let wanted = bytes + 2 * places + 17 * 1000 + 2 * 8 * 1000;
+    assert!(count <= 6 && size <= wanted, "{count} {size}");
+    assert_eq!(of(|| Scheme::Deb.sort(&mut texts)), (count, size));
+    let (count, size) = of(|| Scheme::Deb.sort_keys(&texts));
+    assert!(count <= 5 && size <= bytes + 2 * places + 2 * 17 * 1000);
+}
+
+#[test]
+fn sets() {
+    let (set, other) = (
+        VersionSet::new("^1.2").unwrap(),
+        VersionSet::new("<2").unwrap(),
+    );
+    let version = Versioning::new("1.5").unwrap();
+    assert_eq!(
+        of(|| (set.contains(&version), set.contains_text("1.5"))),
+        (0, 0)
+    );
+    assert_eq!(
+        of(|| (set.is_disjoint(&other), set.subset_of(&other))),
+        (0, 0)
+    );
+    assert_eq!(
+        of(|| (set == other, set.is_empty(), set.text().is_some())),
+        (0, 0)
+    );
+    assert_eq!(of(|| set.intervals().count()), (0, 0));
+    // The room, and its part that the form is; a text that is borrowed is copied.
+    let made = of(|| VersionSet::new("^1.2"));
+    assert!((2..=3).contains(&made.0), "{made:?}");
+    let text = String::from("^1.2");
+    assert_eq!(of(|| VersionSet::new(text)).0, made.0 - 1);
+    for made in [of(|| &set & &other), of(|| &set | &other), of(|| !&set)] {
+        assert!((1..=2).contains(&made.0), "{made:?}");
+    }
+    assert_eq!(
+        of(|| VersionSet::singleton(VersionOf::new("1.5", Mixed).unwrap())).0,
+        1
+    );
+    assert_eq!(of(|| set.contains_text("1..2")), (1, 4));
+    let texts = vec!["1.2.3"; 1000];
+    let copied = 5 * 1000 + 8 * 1001;
+    let size = of(|| set.contains_texts(&texts)).1;
+    assert!((copied + 1000..=copied + 2000).contains(&size), "{size}");
+    // The text, the sentence, and what was tried.
+    assert!(of(|| VersionSet::new("1.2")).0 <= 4);
 }

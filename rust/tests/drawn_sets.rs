@@ -46,6 +46,9 @@ fn of_sets<S: FixedScheme>(scheme: S, text: &str, rest: &[String]) -> Vec<String
             return vec!["wrong".into(), error.place().to_string(), reason];
         }
     };
+    if rest.is_empty() {
+        return vec!["a set".into()];
+    }
     let (other, none, versions) = (&rest[0], &rest[1], &rest[2..]);
     let other = other.parse::<VersionSet<S>>().unwrap();
     let (both, either) = (&set & &other, &set | &other);

@@ -6,7 +6,8 @@ use std::hash::Hash;
 
 use proved_versions::{
     compare, compare_total, in_tags, kind, kinds, match_all, newest, newest_tag, order, sort,
-    sort_key, sort_keys, stabilities, Requirement, Stability, Versioning,
+    sort_key, sort_keys, stabilities, Requirement, Scheme, Stability, VersionOf, VersionSet,
+    Versioning,
 };
 
 const TEXTS: [&str; 15] = [
@@ -27,6 +28,24 @@ const TEXTS: [&str; 15] = [
     "1.0.0-x-y-z.-",
 ];
 const REQUIREMENTS: [&str; 7] = ["*", ">=1.2,<1:0", "^1.2.3", "~1", "=1.2.3+x", "", "=1.0.0,"];
+
+// Of every scheme, of some alone, and of none.
+const SETS: [&str; 14] = [
+    "*",
+    ">=1.2.3",
+    "<1.2.3-rc.1 || =1.2.3",
+    "!=1.2.3,>1.0.0",
+    "=1.2.3 =1.2.4",
+    "<<1~rc1",
+    "^1.2",
+    "!=1.2.*",
+    ">=1.2^git1",
+    ">=1!2.0rc1",
+    "",
+    ">=",
+    ">=é",
+    ">=1\0",
+];
 
 fn exact(text: &str) -> Box<str> {
     text.into()
@@ -145,6 +164,68 @@ fn many_texts() {
             let mut sorted = texts.to_vec();
             sort(&mut sorted);
             assert!(sorted.iter().eq(places.iter().map(|place| &texts[*place])));
+        }
+    }
+}
+
+#[test]
+fn versions_of_schemes() {
+    for scheme in Scheme::ALL.iter().copied() {
+        let texts = texts();
+        let keys = scheme.sort_keys(&texts);
+        for (place, a) in texts.iter().enumerate() {
+            let version = VersionOf::new(&**a, scheme);
+            assert_eq!(scheme.is_version(a), version.is_ok());
+            let key = version.as_ref().ok().map(VersionOf::sort_key);
+            assert_eq!(keys.get(place), key);
+            let single = scheme.sort_key(a).ok();
+            assert_eq!(single.as_ref().map(|key| key.as_bytes()), key);
+            for b in &texts {
+                let both = scheme.compare(a, b).ok();
+                let other = VersionOf::new(&**b, scheme).ok();
+                let wanted = other.and_then(|other| version.as_ref().ok()?.try_cmp(&other).ok());
+                assert_eq!(both, wanted);
+            }
+        }
+        let places = scheme.order(&texts);
+        let mut sorted = texts.clone();
+        scheme.sort(&mut sorted);
+        assert!(sorted.iter().eq(places.iter().map(|place| &texts[*place])));
+    }
+}
+
+#[test]
+fn sets() {
+    for scheme in Scheme::ALL.iter().copied() {
+        let read = |text: &str| VersionSet::new_in(&*exact(text), scheme);
+        let refused: Vec<_> = SETS.iter().flat_map(|text| read(text).err()).collect();
+        assert!(refused
+            .iter()
+            .all(|error| error.place() <= error.text().len()));
+        let sets: Vec<_> = SETS.iter().flat_map(|text| read(text).ok()).collect();
+        assert!(sets.len() >= 4 && refused.len() >= 4);
+        for a in &sets {
+            assert_eq!(!!a, *a);
+            assert_eq!(a.is_empty(), a.intervals().count() == 0);
+            let single: Vec<_> = texts()
+                .iter()
+                .map(|text| a.contains_text(text).ok())
+                .collect();
+            assert_eq!(a.contains_texts(&texts()), single);
+            for b in &sets {
+                let (both, either) = (a.try_intersection(b).unwrap(), a.try_union(b).unwrap());
+                assert_eq!((!a).try_union(&!b), Ok(!&both));
+                assert_eq!(a.try_subset_of(b), Ok(both == *a));
+                assert_eq!(a.try_is_disjoint(b), Ok(both.is_empty()));
+                assert_eq!(either.is_empty(), a.is_empty() && b.is_empty());
+            }
+        }
+        for text in &texts() {
+            if let Ok(version) = VersionOf::new(&**text, scheme) {
+                let set = VersionSet::singleton(version.clone());
+                assert_eq!(set.try_contains(&version), Ok(true));
+                assert_eq!(set.intervals().count(), 1);
+            }
         }
     }
 }

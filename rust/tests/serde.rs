@@ -5,7 +5,10 @@
 use std::borrow::Cow;
 use std::fmt;
 
-use proved_versions::{sort_key, Key, Kind, Requirement, Stability, Versioning};
+use proved_versions::scheme::{Deb, Mixed};
+use proved_versions::{
+    sort_key, Key, Kind, Requirement, Scheme, Stability, VersionOf, VersionSet, Versioning,
+};
 use serde::de::value::{
     BorrowedBytesDeserializer, BorrowedStrDeserializer, BytesDeserializer, CowStrDeserializer,
     Error, StrDeserializer, StringDeserializer, U32Deserializer, UnitDeserializer,
@@ -78,6 +81,73 @@ fn are_read_from_every_kind_of_text() {
     for requirement in requirements {
         assert_eq!(requirement.unwrap().as_str(), text);
     }
+}
+
+#[test]
+fn versions_of_schemes_and_sets_are_their_texts() {
+    let text = "1.0~rc1";
+    assert_eq!(
+        Written(VersionOf::new(text, Deb).unwrap()).to_string(),
+        text
+    );
+    let versions = [
+        VersionOf::<Deb>::deserialize(lent(text)),
+        VersionOf::<Deb>::deserialize(borrowed(text)),
+        VersionOf::<Deb>::deserialize(handed_over(text)),
+    ];
+    for version in versions {
+        assert_eq!(version.unwrap().as_str(), text);
+    }
+    let text = " <<2~ ||=1:0";
+    let set: VersionSet<Deb> = text.parse().unwrap();
+    assert_eq!(Written(&set).to_string(), text);
+    let sets = [
+        VersionSet::<Deb>::deserialize(lent(text)),
+        VersionSet::<Deb>::deserialize(borrowed(text)),
+        VersionSet::<Deb>::deserialize(handed_over(text)),
+        VersionSet::<Deb>::deserialize(of_cow(text)),
+    ];
+    for made in sets {
+        assert_eq!(
+            (made.as_ref().unwrap(), made.as_ref().unwrap().text()),
+            (&set, Some(text))
+        );
+    }
+    let error = VersionOf::<Deb>::deserialize(lent("1_0")).unwrap_err();
+    assert_eq!(error.to_string(), r#"not a version of deb: "1_0""#);
+    let error = VersionSet::<Mixed>::deserialize(lent("<<2")).unwrap_err();
+    assert_eq!(
+        error.to_string(),
+        VersionSet::new("<<2").unwrap_err().to_string()
+    );
+    let number = || U32Deserializer::<Error>::new(1);
+    let error = VersionSet::<Deb>::deserialize(number()).unwrap_err();
+    let said = "invalid type: integer `1`, expected a set of versions";
+    assert_eq!(error.to_string(), said);
+    assert!(VersionOf::<Deb>::deserialize(number()).is_err());
+}
+
+#[test]
+fn a_set_without_a_text_is_not_written() {
+    use std::fmt::Write;
+    let (set, mut written) = (!VersionSet::<Deb>::full(), String::new());
+    assert!(write!(written, "{}", Written(set)).is_err());
+    assert_eq!(written, "");
+    let full = VersionSet::<Deb>::full();
+    assert_eq!(Written(full).to_string(), "*");
+}
+
+#[test]
+fn schemes_are_their_names() {
+    for scheme in Scheme::ALL.iter().copied() {
+        let name = scheme.to_string();
+        assert_eq!(Written(scheme).to_string(), name);
+        assert_eq!(Scheme::deserialize(lent(&name)), Ok(scheme));
+    }
+    let error = Scheme::deserialize(lent("npm")).unwrap_err();
+    let said = r#"not one of mixed, deb, rpm, pypi, semver, gem: "npm""#;
+    assert_eq!(error.to_string(), said);
+    assert!(Scheme::deserialize(U32Deserializer::<Error>::new(2)).is_err());
 }
 
 #[test]

@@ -361,17 +361,12 @@ fn laws<S: FixedScheme>(scheme: S, texts: &[&str], versions: &[&'static str]) {
         for b in versions.iter().copied() {
             assert_eq!(single.contains(&version(b)), version(a) == version(b));
         }
-        let ends: Vec<_> = single.intervals().collect();
-        let after = version(a).key().after();
-        let wanted = (
-            Bound::Included(version(a).sort_key().to_vec()),
-            Bound::Excluded(after),
+        let (version, after) = (version(a), version(a).key().after());
+        let keys = (
+            Bound::Included(version.sort_key()),
+            Bound::Excluded(&*after),
         );
-        assert_eq!(ends.len(), 1);
-        assert_eq!(
-            (ends[0].0.map(<[u8]>::to_vec), ends[0].1.map(<[u8]>::to_vec)),
-            wanted
-        );
+        assert!(single.intervals().eq([keys]));
     }
 }
 
