@@ -69,6 +69,14 @@ impl<S> Key<S> {
 
 impl<S: AnyScheme> Key<S> {
     /// Returns which scheme the key is of.
+    ///
+    /// ```
+    /// use proved_versions::{sort_key, Scheme};
+    ///
+    /// assert_eq!(sort_key("1.0")?.scheme(), Scheme::Mixed);
+    /// assert_eq!(Scheme::Deb.sort_key("1.0")?.scheme(), Scheme::Deb);
+    /// # Ok::<(), proved_versions::InvalidVersion>(())
+    /// ```
     pub fn scheme(&self) -> Scheme {
         self.scheme.scheme()
     }

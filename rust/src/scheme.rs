@@ -62,6 +62,13 @@ pub enum Scheme {
 
 impl Scheme {
     /// All schemes.
+    ///
+    /// ```
+    /// use proved_versions::Scheme;
+    ///
+    /// let found = Scheme::ALL.iter().filter(|scheme| scheme.is_version("1.0~rc1"));
+    /// assert!(found.eq(&[Scheme::Mixed, Scheme::Deb, Scheme::Rpm]));
+    /// ```
     pub const ALL: &'static [Scheme] = &[
         Scheme::Mixed,
         Scheme::Deb,

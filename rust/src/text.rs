@@ -1,7 +1,8 @@
 use std::borrow::Cow;
 
-/// What [`Versioning::new`](crate::Versioning::new) and
-/// [`Requirement::new`](crate::Requirement::new) take: a text that is lent, as a `&str`, `&String`,
+/// What [`Versioning::new`](crate::Versioning::new),
+/// [`Requirement::new`](crate::Requirement::new), [`VersionOf::new`](crate::VersionOf::new) and
+/// [`VersionSet::new`](crate::VersionSet::new) take: a text that is lent, as a `&str`, `&String`,
 /// `&Box<str>`, `&Rc<str>`, `&Arc<str>` or `&Cow<str>`, or as any reference to one of these; or a text
 /// that is handed over, as a `String`, a `Box<str>` or a `Cow<str>`.
 ///

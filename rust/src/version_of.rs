@@ -79,16 +79,32 @@ impl<'a, S: AnyScheme> VersionOf<'a, S> {
     }
 
     /// Returns the text, as it was given.
+    ///
+    /// ```
+    /// # use proved_versions::{scheme::Pypi, VersionOf};
+    /// assert_eq!(VersionOf::new("v1.0-RC1", Pypi).unwrap().as_str(), "v1.0-RC1");
+    /// ```
     pub fn as_str(&self) -> &str {
         &self.text
     }
 
     /// Returns which scheme the version is of.
+    ///
+    /// ```
+    /// # use proved_versions::{scheme::Pypi, Scheme, VersionOf};
+    /// assert_eq!(VersionOf::new("1.0", Pypi).unwrap().scheme(), Scheme::Pypi);
+    /// ```
     pub fn scheme(&self) -> Scheme {
         self.key.scheme()
     }
 
     /// Returns the sort key: bytes that compare as versions of the scheme do.
+    ///
+    /// ```
+    /// # use proved_versions::{scheme::Pypi, VersionOf};
+    /// let [a, b, c] = ["1.0rc1", "1", "v1.0"].map(|text| VersionOf::new(text, Pypi).unwrap());
+    /// assert!(a.sort_key() < b.sort_key() && b.sort_key() == c.sort_key());
+    /// ```
     pub fn sort_key(&self) -> &[u8] {
         self.key.as_bytes()
     }
@@ -112,6 +128,15 @@ impl<'a, S: AnyScheme> VersionOf<'a, S> {
     }
 
     /// Returns the same version, with a text of its own. Copies a borrowed text.
+    ///
+    /// ```
+    /// # use proved_versions::{scheme::Pypi, InvalidVersion, VersionOf};
+    /// fn read(line: String) -> Result<VersionOf<'static, Pypi>, InvalidVersion> {
+    ///     Ok(VersionOf::new(line.trim_end(), Pypi)?.into_owned())
+    /// }
+    /// assert_eq!(read("1.0.post1\n".into())?.as_str(), "1.0.post1");
+    /// # Ok::<(), InvalidVersion>(())
+    /// ```
     pub fn into_owned(self) -> VersionOf<'static, S> {
         VersionOf {
             text: Cow::Owned(self.text.into_owned()),
