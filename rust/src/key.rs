@@ -13,8 +13,17 @@ use crate::{Scheme, Versioning};
 ///
 /// `Ord`, `==` and `Hash` are those of its bytes, so a map with keys of this type can be asked with
 /// a `[u8]`. Equal keys are keys of versions that precedence ties. No key is empty, and none begins
-/// another. Keys of two schemes say nothing of each other: they don't compare, and a `Key<Scheme>`,
-/// whose scheme is known when the program runs, has no `Ord` and is no `Borrow<[u8]>`.
+/// another.
+///
+/// Keys of two schemes say nothing of each other, and are of two types. A `Key<Scheme>`, whose scheme is
+/// known at run time, has [`as_bytes`](Key::as_bytes), but neither `Ord` nor `Deref`:
+///
+/// ```compile_fail,E0599
+/// use proved_versions::Scheme;
+///
+/// let [a, b] = [Scheme::Deb, Scheme::Rpm].map(|scheme| scheme.sort_key("1.0").unwrap());
+/// let order = a.cmp(&b);
+/// ```
 ///
 /// A key of at most 38 bytes lies within the value, and a longer one in an allocation.
 ///
@@ -116,7 +125,7 @@ impl<S> Hash for Key<S> {
 }
 
 /// The bytes.
-impl<S> Deref for Key<S> {
+impl<S: FixedScheme> Deref for Key<S> {
     type Target = [u8];
 
     fn deref(&self) -> &[u8] {

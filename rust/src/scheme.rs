@@ -3,7 +3,7 @@
 //! [`Mixed`], [`Deb`], [`Rpm`], [`Pypi`], [`Semver`] and [`Gem`] are each a scheme that a program
 //! names: a [`VersionOf<Deb>`](crate::VersionOf) compares with no other version, and a
 //! [`VersionSet<Deb>`](crate::VersionSet) with no other set. What is of [`Scheme`] itself has a
-//! scheme that is known when the program runs, and a call on two returns a `Result`.
+//! scheme that is known at run time, and a call on two returns a `Result`.
 //!
 //! ```
 //! use proved_versions::scheme::{Deb, Rpm};

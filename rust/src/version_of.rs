@@ -13,7 +13,7 @@ use crate::{InvalidVersion, Key, OtherScheme, Scheme, Text, Versioning};
 ///
 /// With a type of the module [`scheme`](crate::scheme), as `VersionOf<Deb>`, it has `Ord`, and
 /// compares with versions of the same scheme alone: another is an error of the compiler. A
-/// `VersionOf<Scheme>` has a scheme that is known when the program runs. It has [`try_cmp`], and no
+/// `VersionOf<Scheme>` has a scheme that is known at run time. It has [`try_cmp`], and no
 /// `<`, which would be false for a version of another scheme, as `>=` would.
 ///
 /// `Ord` and `==` are the order of the scheme, so different texts may be equal, as `1.0` and `1.0-0` of
@@ -146,7 +146,7 @@ impl<'a, S: AnyScheme> VersionOf<'a, S> {
 }
 
 impl VersionOf<'_, Scheme> {
-    /// Compares two versions whose schemes are known when the program runs. Allocates nothing.
+    /// Compares two versions whose schemes are known at run time. Allocates nothing.
     ///
     /// # Errors
     ///

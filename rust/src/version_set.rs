@@ -52,7 +52,7 @@ pub type Interval<'s> = (Bound<&'s [u8]>, Bound<&'s [u8]>);
 /// A set is of keys, and a set can have keys but no version, as `>1.2, <1.2-0`.
 ///
 /// Sets of two schemes are of two types, and don't compile together. A `VersionSet<Scheme>` has a
-/// scheme that is known when the program runs; calls on two of these begin with `try_`.
+/// scheme that is known at run time; calls on two of these begin with `try_`.
 ///
 /// ```compile_fail,E0308
 /// use proved_versions::scheme::{Deb, Rpm};
@@ -412,7 +412,7 @@ impl<S: FixedScheme> VersionSet<S> {
     }
 }
 
-/// Calls on what has a scheme that is known when the program runs. Each returns [`OtherScheme`] where
+/// Calls on what has a scheme that is known at run time. Each returns [`OtherScheme`] where
 /// the two are of two schemes.
 ///
 /// ```
