@@ -19,10 +19,12 @@ from pathlib import Path
 sys.dont_write_bytecode = True
 sys.path.insert(0, str(Path(__file__).resolve().parent))
 from schemes import SYSTEMS, Missing, system_of  # noqa: E402
-from sets import DOUBLED, Model, Wrong, drawn_set, made_versions  # noqa: E402
+from sets import Model, Wrong, drawn_set, made_versions  # noqa: E402
 
 EACH, POOL, OK = 3, 120, 0
-OF_ORDER = ("=", "==", "!=", "<", "<=", ">", ">=")  # the operators of each scheme
+# Which orders of a version and the member's version each operator has; the last two are of deb alone.
+OF_ORDER = {"=": (0,), "==": (0,), "!=": (-1, 1), "<": (-1,), "<=": (-1, 0), ">": (1,), ">=": (0, 1)}
+OF_DEB = {"<<": (-1,), ">>": (1,)}
 SPOILS = ("\u00e9", "\U0001f600", "\0", "\u00a0", "\n")  # what a text is spoiled with
 
 
@@ -105,7 +107,7 @@ class SchemeModel(Model):
     def __init__(self, system):
         super().__init__(self.is_version, self.order)
         self.system, self.known, self.orders = system, {}, {}
-        self.operators = (*OF_ORDER, *(DOUBLED if system.name == "deb" else ()))
+        self.operators = OF_ORDER | OF_DEB if system.name == "deb" else OF_ORDER
 
     def pool(self, draw):
         """Versions, and texts that are none."""
@@ -119,7 +121,7 @@ class SchemeModel(Model):
         return versions, [text for text in texts if not self.is_version(text)]
 
     def drawn(self, draw, versions):
-        return drawn_set(draw, versions, (*self.operators * 9, "~", "^", "~="), stars=90)
+        return drawn_set(draw, versions, (*[*self.operators] * 9, "~", "^", "~="), stars=90)
 
     def is_version(self, text):
         if text not in self.known:
@@ -135,7 +137,7 @@ class SchemeModel(Model):
         return operator in self.operators and not of_parts and self.is_version(text)
 
     def holds(self, operator, of_parts, text, version):
-        return super().holds({"<<": "<", ">>": ">"}.get(operator, operator), of_parts, text, version)
+        return operator is None or self.order(version, text) in self.operators[operator]
 
 
 class Drawing:
