@@ -93,10 +93,12 @@ class MixedModel(Model):
         self.versions = made_versions(c.kind)
 
     def pool(self, draw):
-        return draw.sample(self.versions, 3 * POOL), ["", "1..2", "x y", "1.2.3-\u00e9", "1.", "1\0"]
+        drawn = draw.sample(self.versions, 9 * POOL)
+        members = [text for text in drawn if self.may_follow("=", text, False)]
+        return members + drawn[: POOL // 10], ["", "1..2", "x y", "1.2.3-\u00e9", "1.", "1\0"]
 
     def drawn(self, draw, versions):
-        return drawn_set(draw, versions)
+        return drawn_set(draw, versions, stars=25)
 
 
 class SchemeModel(Model):
@@ -201,10 +203,16 @@ class Drawing:
         return not {*text} & {*" \t|,"} and not text.endswith(".*") and self.model.may_follow("<", text, False)
 
     def lines(self, count):
-        for place in range(count):
+        """Cases until so many versions are asked of sets, and some lists of texts."""
+        asked = 0
+        for place in itertools.count():
+            if asked >= count:
+                return
             if place % 1000 == 0:
                 self.versions, self.others = self.model.pool(self.draw)
-            yield self.case()
+            case = self.case()
+            asked += len(case.get("has", ()))
+            yield case
             if place % 50 == 0:
                 yield self.many()
 
@@ -217,7 +225,7 @@ def main(count):
         except Missing as missing:
             sys.exit(f"{name}: {missing}")
         drawing = Drawing(c, name, 1 + names.index(name), model)
-        for line in drawing.lines(-(-count // EACH // len(names))):
+        for line in drawing.lines(-(-count // len(names))):
             print(json.dumps(line))
 
 
