@@ -98,6 +98,9 @@ fn versions_of_schemes_and_sets_are_their_texts() {
     for version in versions {
         assert_eq!(version.unwrap().as_str(), text);
     }
+    let key = VersionOf::new(text, Deb).unwrap().key().clone();
+    let digits = Written(&key).to_string();
+    assert_eq!(Key::<Deb>::deserialize(lent(&digits)), Ok(key));
     let text = " <<2~ ||=1:0";
     let set: VersionSet<Deb> = text.parse().unwrap();
     assert_eq!(Written(&set).to_string(), text);
