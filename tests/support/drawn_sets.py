@@ -102,8 +102,8 @@ class MixedModel(Model):
 
 
 class SchemeModel(Model):
-    """The model of another scheme's sets, by docs/SCHEMES.md: members go by the order alone. The system is asked for the
-    orders of all pairs of a pool of versions at once, and of others one by one.
+    """The model of another scheme's sets, by docs/SCHEMES.md: members go by the order alone. The system is asked for
+    the orders of all pairs of a pool of versions at once, and of others one by one.
     """
 
     def __init__(self, system):
