@@ -1,9 +1,11 @@
 //! Sets of versions that words are.
 
-ghost use Rattle.std.specs.Prelude.{◌≡◌, ◌<◌, ◌∷◌, [], get_or, length, List, Some, IfErr, IfNone, IfOk, IfSome, ℕ};
+ghost use Rattle.std.specs.Prelude.{◌≡◌, ◌<◌, ◌∷◌, [], get_or, is_some, length, true, List, Some, IfErr, IfNone, IfOk, IfSome, ℕ};
+ghost use Rattle.std.specs.Option.{option_map_or};
 ghost use Rattle.version_commands.specs.Sets.{keys_of, reading_of, HasAny, IsWrongSet};
 ghost use Rattle.version_schemes.specs.Scheme.{rules, scheme_number};
 ghost use Rattle.version_schemes.specs.any.AnyVersion.{plain_any};
+ghost use Rattle.version_schemes.specs.any.Order.{key_in};
 ghost use Rattle.version_sets.specs.Ends.{has, IsPart, Meet, Rise};
 ghost use Rattle.version_sets.specs.Excluding.{leave_out, steps_left, AreLeft};
 ghost use Rattle.version_sets.specs.Form.{form_bytes, form_ends};
@@ -17,9 +19,10 @@ use std::alloc::{AllocError, Global};
 use std::fmt;
 use std::marker::Model;
 use version_schemes::{
-    AnyVersion, ByKey, ByScheme, Deb, Gem, Pypi, Rpm, Scheme, SemVer, VersioningRef, by_scheme,
+    AnyVersion, ByKey, Deb, Gem, Pypi, Rpm, Scheme, SemVer, VersioningRef, by_scheme,
 };
 use version_sets::{Alternatives, Form, NoRoom, Reason, Span, Unread, read_set, set_room};
+use version_texts::Keyed;
 
 /// A set of versions of a scheme, by the bytes of its form.
 #[derive(Drop)]
@@ -67,13 +70,9 @@ impl Set {
         ensures { result ≡ has self.now (plain_any version.now).key }
     {
         let form = self.form();
-        match version.by_scheme() {
-            ByScheme::Mixed(version) => form.has(version),
-            ByScheme::Deb(version) => form.has(&ByKey { version: *version }),
-            ByScheme::Rpm(version) => form.has(&ByKey { version: *version }),
-            ByScheme::Pypi(version) => form.has(&ByKey { version: *version }),
-            ByScheme::SemVer(version) => form.has(&ByKey { version: *version }),
-            ByScheme::Gem(version) => form.has(&ByKey { version: *version }),
+        match version {
+            AnyVersion::Mixed(version) => form.has(version),
+            AnyVersion::Other(other) => by_scheme!(other.scheme(), has_text(&form, other.bytes())),
         }
     }
 
@@ -106,6 +105,15 @@ impl Set {
         let (_, form) = Form::of(self.bytes.as_slice()).unwrap();
         form
     }
+}
+
+// Returns whether the version that a text is is in a form.
+fn has_text<'t, V: Keyed<'t>>(form: &Form<'_>, text: &'t [u8]) -> bool
+    requires rise { Rise (ends_of form.now) }
+    requires read { is_some (V.read_as text.now) ≡ true }
+    ensures { result ≡ has (ends_of form.now) (option_map_or (λ v. v.key) (V.read_as text.now) []) }
+{
+    form.has(&V::read(text).unwrap())
 }
 
 // Reads a set of a scheme into a room.
@@ -155,14 +163,64 @@ pub(crate) fn next_excluding<'t>(
         IfSome found (λ _. steps_left alternatives.new.left < steps_left alternatives.old.left)) }
     ensures same { length room.new ≡ length room.old }
 {
-    match *version.by_scheme() {
-        ByScheme::Mixed(version) => alternatives.next_excluding(&version, room),
-        ByScheme::Deb(version) => alternatives.next_excluding(&ByKey { version }, room),
-        ByScheme::Rpm(version) => alternatives.next_excluding(&ByKey { version }, room),
-        ByScheme::Pypi(version) => alternatives.next_excluding(&ByKey { version }, room),
-        ByScheme::SemVer(version) => alternatives.next_excluding(&ByKey { version }, room),
-        ByScheme::Gem(version) => alternatives.next_excluding(&ByKey { version }, room),
+    match version {
+        AnyVersion::Mixed(version) => alternatives.next_excluding(version, room),
+        AnyVersion::Other(other) => {
+            next_excluding_in(alternatives, other.scheme(), other.bytes(), room)
+        }
     }
+}
+
+// Returns the same by the version of a scheme that a text is.
+fn next_excluding_in<'t>(
+    alternatives: &mut Alternatives<'t>,
+    scheme: Scheme,
+    text: &'t [u8],
+    room: &mut [u8],
+) -> Result<Option<Span>, NoRoom>
+    requires { is_some ((rules scheme).read_as text.now) ≡ true }
+    ensures some { IfOk result (λ found. IfSome found (λ span. (all : List (List Member))
+        → AreLeft (rules scheme).read_as (rules scheme).words alternatives.old.left all
+        → (rest : List (List Member))
+        × AreLeft (rules scheme).read_as (rules scheme).words alternatives.new.left rest
+        × (leave_out (key_in scheme text.now) all ≡ span ∷ leave_out (key_in scheme text.now) rest))) }
+    ensures none { IfOk result (λ found. IfNone found ((all : List (List Member))
+        → AreLeft (rules scheme).read_as (rules scheme).words alternatives.old.left all
+        → leave_out (key_in scheme text.now) all ≡ [])) }
+    ensures nearer { IfOk result (λ found.
+        IfSome found (λ _. steps_left alternatives.new.left < steps_left alternatives.old.left)) }
+    ensures same { length room.new ≡ length room.old }
+{
+    match scheme {
+        Scheme::Mixed => next_excluding_text::<VersioningRef<'_>>(alternatives, text, room),
+        Scheme::Deb => next_excluding_text::<ByKey<Deb<'_>>>(alternatives, text, room),
+        Scheme::Rpm => next_excluding_text::<ByKey<Rpm<'_>>>(alternatives, text, room),
+        Scheme::Pypi => next_excluding_text::<ByKey<Pypi<'_>>>(alternatives, text, room),
+        Scheme::SemVer => next_excluding_text::<ByKey<SemVer<'_>>>(alternatives, text, room),
+        Scheme::Gem => next_excluding_text::<ByKey<Gem<'_>>>(alternatives, text, room),
+    }
+}
+
+// Returns the same by the version that a text is.
+fn next_excluding_text<'t, V: Keyed<'t>>(
+    alternatives: &mut Alternatives<'t>,
+    text: &'t [u8],
+    room: &mut [u8],
+) -> Result<Option<Span>, NoRoom>
+    requires { is_some (V.read_as text.now) ≡ true }
+    ensures some { IfOk result (λ found. IfSome found (λ span. (all : List (List Member))
+        → AreLeft V.read_as V.words alternatives.old.left all → (rest : List (List Member))
+        × AreLeft V.read_as V.words alternatives.new.left rest
+        × (leave_out (option_map_or (λ v. v.key) (V.read_as text.now) []) all
+        ≡ span ∷ leave_out (option_map_or (λ v. v.key) (V.read_as text.now) []) rest))) }
+    ensures none { IfOk result (λ found. IfNone found ((all : List (List Member))
+        → AreLeft V.read_as V.words alternatives.old.left all
+        → leave_out (option_map_or (λ v. v.key) (V.read_as text.now) []) all ≡ [])) }
+    ensures nearer { IfOk result (λ found.
+        IfSome found (λ _. steps_left alternatives.new.left < steps_left alternatives.old.left)) }
+    ensures same { length room.new ≡ length room.old }
+{
+    alternatives.next_excluding(&V::read(text).unwrap(), room)
 }
 
 /// A word that is no set: where its first wrong piece begins, in bytes from 0, and why it is wrong.

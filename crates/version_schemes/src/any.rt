@@ -1,46 +1,40 @@
 //! Versions of any scheme, for callers that learn the scheme when they run.
 
-ghost use Rattle.std.specs.Prelude.{◌≡◌, ◌≢◌, ◌++◌, Some, IfSome, MatchOption, OnErr, OnOk};
-ghost use Rattle.std.specs.Option.{option_map};
+ghost use Rattle.std.specs.Prelude.{◌≡◌, ◌≢◌, ◌++◌, [], is_some, true, Some, MatchOption, OnErr, OnOk};
+ghost use Rattle.std.specs.Option.{option_map, option_map_or};
 ghost use Rattle.std.proofs.Props.{props};
 ghost use Rattle.version_rules.specs.grammar.Versioning.{versioning_of};
-ghost use Rattle.version_schemes.specs.any.Order.{any_of, any_precedence, read_key, read_kind, read_mixed, read_scheme};
+ghost use Rattle.version_rules.specs.order.Lists.{bytes_cmp};
+ghost use Rattle.version_schemes.specs.Scheme.{rules};
+ghost use Rattle.version_schemes.specs.any.Order.{any_of, any_precedence};
 ghost use Rattle.version_schemes.specs.declared.scheme.Scheme.TheVariants.{Mixed};
 ghost use Rattle.version_texts.specs.versioning_ref.VersioningRef.{plain_versioning_ref};
 
-use crate::by_key::ByKey;
-use crate::deb::Deb;
-use crate::gem::Gem;
+use crate::by_scheme;
 use crate::key::append_key;
-use crate::pypi::Pypi;
-use crate::rpm::Rpm;
 use crate::scheme::Scheme;
-use crate::semver::SemVer;
-use crate::version::SchemeVersion;
 use std::alloc::AllocError;
 use std::cmp::Ordering;
 use version_rules::Kind;
-use version_texts::VersioningRef;
+use version_texts::{Keyed, VersioningRef};
 
 /// A version of any scheme, borrowed from its text. Only `append_key` allocates. Each call takes time at most linear in
 /// the text.
 #[derive(Clone, Copy)]
-pub struct AnyVersion<'t> {
-    text: &'t [u8],
-    read: ByScheme<'t>,
-    ghost is_of_text: { IfSome (read_mixed read) (λ version. versioning_of text.now
-        ≡ Some (plain_versioning_ref version)) } by { Prim.hlevel props },
+pub enum AnyVersion<'t> {
+    /// Of the scheme mixed.
+    Mixed(VersioningRef<'t>),
+    /// Of another scheme.
+    Other(OtherVersion<'t>),
 }
 
-/// A version as its scheme reads it.
+/// A version of another scheme than mixed, by its text, which is read anew where it is asked.
 #[derive(Clone, Copy)]
-pub enum ByScheme<'t> {
-    Mixed(VersioningRef<'t>),
-    Deb(Deb<'t>),
-    Rpm(Rpm<'t>),
-    Pypi(Pypi<'t>),
-    SemVer(SemVer<'t>),
-    Gem(Gem<'t>),
+pub struct OtherVersion<'t> {
+    scheme: Scheme,
+    text: &'t [u8],
+    ghost is_other: { scheme ≢ Mixed } by { Prim.hlevel props },
+    ghost is_version: { is_some ((rules scheme).read_as text.now) ≡ true } by { Prim.hlevel props },
 }
 
 impl<'t> AnyVersion<'t> {
@@ -52,28 +46,9 @@ impl<'t> AnyVersion<'t> {
         ensures { option_map plain_any result ≡ any_of scheme text.now }
     {
         match scheme {
-            Scheme::Mixed => {
-                let read = ByScheme::Mixed(VersioningRef::from_bytes(text)?);
-                Some(AnyVersion { text, read })
-            }
-            _ => AnyVersion::read_any(scheme, text),
+            Scheme::Mixed => Some(AnyVersion::Mixed(VersioningRef::from_bytes(text)?)),
+            _ => Some(AnyVersion::Other(OtherVersion::read(scheme, text)?)),
         }
-    }
-
-    // The same. Never inlined, so that the usual scheme is.
-    #[inline(never)]
-    fn read_any(scheme: Scheme, text: &'t [u8]) -> Option<AnyVersion<'t>>
-        ensures { option_map plain_any result ≡ any_of scheme text.now }
-    {
-        let read = match scheme {
-            Scheme::Mixed => ByScheme::Mixed(VersioningRef::from_bytes(text)?),
-            Scheme::Deb => ByScheme::Deb(Deb::from_bytes(text)?),
-            Scheme::Rpm => ByScheme::Rpm(Rpm::from_bytes(text)?),
-            Scheme::Pypi => ByScheme::Pypi(Pypi::from_bytes(text)?),
-            Scheme::SemVer => ByScheme::SemVer(SemVer::from_bytes(text)?),
-            Scheme::Gem => ByScheme::Gem(Gem::from_bytes(text)?),
-        };
-        Some(AnyVersion { text, read })
     }
 
     /// Returns the bytes of its text. Does not allocate.
@@ -81,28 +56,19 @@ impl<'t> AnyVersion<'t> {
     pub fn bytes(&self) -> &'t [u8]
         ensures { result.now ≡ (plain_any self.now).text }
     {
-        self.text
-    }
-
-    /// Returns what its scheme read. Does not allocate.
-    #[inline(always)]
-    pub fn by_scheme(&self) -> &ByScheme<'t>
-        ensures { result.now ≡ self.now.read }
-    {
-        &self.read
+        match self {
+            AnyVersion::Mixed(version) => version.bytes(),
+            AnyVersion::Other(version) => version.bytes(),
+        }
     }
 
     /// Returns its scheme. Does not allocate.
     pub fn scheme(&self) -> Scheme
         ensures { result ≡ (plain_any self.now).scheme }
     {
-        match self.read {
-            ByScheme::Mixed(_) => Scheme::Mixed,
-            ByScheme::Deb(_) => Scheme::Deb,
-            ByScheme::Rpm(_) => Scheme::Rpm,
-            ByScheme::Pypi(_) => Scheme::Pypi,
-            ByScheme::SemVer(_) => Scheme::SemVer,
-            ByScheme::Gem(_) => Scheme::Gem,
+        match self {
+            AnyVersion::Mixed(_) => Scheme::Mixed,
+            AnyVersion::Other(version) => version.scheme(),
         }
     }
 
@@ -111,9 +77,9 @@ impl<'t> AnyVersion<'t> {
     pub fn kind(&self) -> Kind
         ensures { result ≡ (plain_any self.now).kind }
     {
-        match &self.read {
-            ByScheme::Mixed(version) => version.kind(),
-            _ => Kind::Ideal,
+        match self {
+            AnyVersion::Mixed(version) => version.kind(),
+            AnyVersion::Other(_) => Kind::Ideal,
         }
     }
 
@@ -122,9 +88,9 @@ impl<'t> AnyVersion<'t> {
         ensures { MatchOption result ((plain_any self.now).scheme ≢ Mixed)
             (λ version. versioning_of (plain_any self.now).text ≡ Some (plain_versioning_ref version.now)) }
     {
-        match &self.read {
-            ByScheme::Mixed(version) => Some(version),
-            _ => None,
+        match self {
+            AnyVersion::Mixed(version) => Some(version),
+            AnyVersion::Other(_) => None,
         }
     }
 
@@ -132,37 +98,101 @@ impl<'t> AnyVersion<'t> {
     pub fn precedence(&self, other: &AnyVersion<'_>) -> Ordering
         ensures { result ≡ any_precedence (plain_any self.now) (plain_any other.now) }
     {
-        match (&self.read, &other.read) {
-            (ByScheme::Mixed(version), ByScheme::Mixed(other)) => version.precedence(other),
-            (ByScheme::Deb(version), ByScheme::Deb(other)) => version.compare(other),
-            (ByScheme::Rpm(version), ByScheme::Rpm(other)) => version.compare(other),
-            (ByScheme::Pypi(version), ByScheme::Pypi(other)) => version.compare(other),
-            (ByScheme::SemVer(version), ByScheme::SemVer(other)) => version.compare(other),
-            (ByScheme::Gem(version), ByScheme::Gem(other)) => version.compare(other),
+        match (self, other) {
+            (AnyVersion::Mixed(version), AnyVersion::Mixed(other)) => version.precedence(other),
+            (AnyVersion::Other(version), AnyVersion::Other(other)) => version.precedence(other),
             _ => self.scheme().number().cmp(&other.scheme().number()),
         }
     }
 
     /// Appends the bytes of its key to a list. `Err` means allocation failure; the list is then unchanged.
+    #[inline(always)]
     pub fn append_key(&self, list: &mut Vec<u8>) -> Result<(), AllocError>
         ensures ok { OnOk result (list.new.items ≡ list.old.items ++ (plain_any self.now).key) }
         ensures err { OnErr result (list.new.items ≡ list.old.items) }
     {
-        match &self.read {
-            ByScheme::Mixed(version) => version.append_key(list),
-            ByScheme::Deb(version) => append_key(keyed(version), list),
-            ByScheme::Rpm(version) => append_key(keyed(version), list),
-            ByScheme::Pypi(version) => append_key(keyed(version), list),
-            ByScheme::SemVer(version) => append_key(keyed(version), list),
-            ByScheme::Gem(version) => append_key(keyed(version), list),
+        match self {
+            AnyVersion::Mixed(version) => version.append_key(list),
+            AnyVersion::Other(version) => version.append_key(list),
         }
     }
 }
 
-// Returns a version as its order takes it.
-#[inline(always)]
-fn keyed<'t, V: SchemeVersion<'t>>(version: &V) -> ByKey<V>
-    ensures { result.version ≡ version.now }
+impl<'t> OtherVersion<'t> {
+    ghost use Rattle.version_schemes.specs.any.AnyVersion.{plain_other};
+
+    // Reads a whole text as a version of another scheme than mixed, or returns None if it is none.
+    fn read(scheme: Scheme, text: &'t [u8]) -> Option<OtherVersion<'t>>
+        requires { scheme ≢ Mixed }
+        ensures { option_map plain_other result ≡ any_of scheme text.now }
+    {
+        if by_scheme!(scheme, is_version(text)) {
+            Some(OtherVersion { scheme, text })
+        } else {
+            None
+        }
+    }
+
+    /// Returns the bytes of its text. Does not allocate.
+    #[inline(always)]
+    pub fn bytes(&self) -> &'t [u8]
+        ensures text { result.now ≡ (plain_other self.now).text }
+        ensures read { is_some ((rules (plain_other self.now).scheme).read_as result.now) ≡ true }
+    {
+        self.text
+    }
+
+    /// Returns its scheme. Does not allocate.
+    #[inline(always)]
+    pub fn scheme(&self) -> Scheme
+        ensures scheme { result ≡ (plain_other self.now).scheme }
+        ensures other { result ≢ Mixed }
+    {
+        self.scheme
+    }
+
+    // Compares it with another: in one scheme as that has it, else by the numbers of the schemes.
+    fn precedence(&self, other: &OtherVersion<'_>) -> Ordering
+        ensures { result ≡ any_precedence (plain_other self.now) (plain_other other.now) }
+    {
+        match self.scheme.number().cmp(&other.scheme.number()) {
+            Ordering::Equal => by_scheme!(self.scheme, compare(self.text, other.text)),
+            order => order,
+        }
+    }
+
+    // Appends the bytes of its key to a list.
+    fn append_key(&self, list: &mut Vec<u8>) -> Result<(), AllocError>
+        ensures ok { OnOk result (list.new.items ≡ list.old.items ++ (plain_other self.now).key) }
+        ensures err { OnErr result (list.new.items ≡ list.old.items) }
+    {
+        by_scheme!(self.scheme, append_key_of(self.text, list))
+    }
+}
+
+// Returns whether a text is a version.
+fn is_version<'t, V: Keyed<'t>>(text: &'t [u8]) -> bool
+    ensures { result ≡ is_some (V.read_as text.now) }
 {
-    ByKey { version: *version }
+    V::read(text).is_some()
+}
+
+// Compares the versions that two texts are.
+fn compare<'t, V: Keyed<'t>>(one: &'t [u8], other: &'t [u8]) -> Ordering
+    requires one { is_some (V.read_as one.now) ≡ true }
+    requires other { is_some (V.read_as other.now) ≡ true }
+    ensures { result ≡ bytes_cmp (option_map_or (λ v. v.key) (V.read_as one.now) [])
+        (option_map_or (λ v. v.key) (V.read_as other.now) []) }
+{
+    V::read(one).unwrap().compare(&V::read(other).unwrap())
+}
+
+// Appends the key of the version that a text is to a list.
+fn append_key_of<'t, V: Keyed<'t>>(text: &'t [u8], list: &mut Vec<u8>) -> Result<(), AllocError>
+    requires { is_some (V.read_as text.now) ≡ true }
+    ensures ok { OnOk result (list.new.items
+        ≡ list.old.items ++ option_map_or (λ v. v.key) (V.read_as text.now) []) }
+    ensures err { OnErr result (list.new.items ≡ list.old.items) }
+{
+    append_key(V::read(text).unwrap(), list)
 }

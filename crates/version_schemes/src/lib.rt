@@ -16,7 +16,7 @@ mod semver;
 mod texts;
 mod version;
 
-pub use any::{AnyVersion, ByScheme};
+pub use any::{AnyVersion, OtherVersion};
 pub use by_key::ByKey;
 pub use deb::Deb;
 pub use gem::Gem;

@@ -1,9 +1,9 @@
 -- Answers that follow one another, and the texts that are asked.
-use Rattle.std.proofs.Common.{◌≡◌, ◌<◌, ℕ, true, Bor, List, [], ◌∷◌, ◌++◌, ◌+◌, drop, get_or, length, map, Option, None, Some, is_some, inl, inr, refl, sym, subst, ap, ◌∙◌, arith, append-nil, append_assoc}
+use Rattle.std.proofs.Common.{◌≡◌, ◌<◌, ℕ, true, false, Bor, List, [], ◌∷◌, ◌++◌, ◌+◌, drop, get_or, length, map, Option, None, Some, is_some, inl, inr, refl, sym, subst, ap, ◌∙◌, arith, append-nil, append_assoc}
 use Rattle.std.proofs.lemmas.List.{drop_more}
 use Rattle.std.specs.Io.KnownBytes.{Consumes, IsAtEnd}
 use Rattle.version_commands.specs.Cause.{ComesOfAnswering, ComesOfAsking}
-use Rattle.version_commands.specs.Each.{AnsweredOr, AreAnswered, AreTexts, AreTextsOf, HaveAnswered, IsAnswer, scheme_of}
+use Rattle.version_commands.specs.Each.{AnsweredOr, AreAnswered, AreTexts, AreTextsOf, HasNoNext, HaveAnswered, IsAnswer, scheme_of}
 use Rattle.version_commands.specs.Fault.{first_wrong}
 use Rattle.version_commands.specs.Pieces.{Adds}
 use Rattle.version_commands.specs.Place.{line_text}
@@ -11,6 +11,7 @@ use Rattle.version_commands.specs.declared.each.Answers.{Answers}
 use Rattle.version_commands.specs.declared.faults.Fault.{Fault}
 use Rattle.version_commands.specs.declared.options.EachOptions.{EachOptions}
 use Rattle.version_commands.specs.declared.options.Question.{Question}
+use Rattle.version_commands.specs.declared.options.Question.TheVariants.{Json, Key, Next, Show, Why}
 use Rattle.version_lines.specs.Lines.{lines_of}
 use Rattle.version_schemes.specs.any.Order.{PlainAny, any_of}
 use Rattle.version_schemes.specs.declared.scheme.Scheme.{Scheme}
@@ -42,6 +43,32 @@ pub have-next : (first now after : Answers) (texts : List (List ℕ)) (text : Li
     → after.unanswered ≡ None → HaveAnswered first after (texts ++ text ∷ [])
 have-next first now after texts text v have none some added question end crlf still =
     grind (arith, answered-push, append_assoc)
+
+-- or it has none
+no-next : (question : Question) (end : ℕ) (text : List ℕ) (v : PlainAny) (answer : List ℕ)
+    → any_of (scheme_of question) text ≡ Some v → IsAnswer question end v false answer
+    → HasNoNext question (any_of (scheme_of question) text)
+no-next Show end text v answer some (w, is, has) = let found = has.0 in cc found
+no-next Json end text v answer some (w, is, has) = let found = has.0 in cc found
+no-next (Key scheme) end text v answer some (found, answer_is) = cc found
+no-next (Why scheme set) end text v answer some (found, answer_is) = cc found
+no-next (Next place) end text v answer some (w, is, has) = rw some (w, is, has.0)
+
+pub have-none : (first now after : Answers) (texts : List (List ℕ)) (text : Bor (List ℕ))
+    (v : PlainAny) → HaveAnswered first now texts → now.unanswered ≡ None
+    → any_of (scheme_of now.question) text.now ≡ Some v
+    → Adds (IsAnswer now.question now.end v false) now.output.items after.output.items
+    → after.question ≡ now.question → after.end ≡ now.end → after.crlf ≡ now.crlf
+    → after.unanswered ≡ Some text → HaveAnswered first after (texts ++ text.now ∷ [])
+have-none first now after texts text v have none some (answer, is, added) question end crlf unanswered =
+    let (answers, are, so_far) = rw none at have.answers_are in
+    let missing = no-next now.question now.end text.now v answer some is in
+    record {
+      question_is = question ∙ have.question_is;
+      end_is = end ∙ have.end_is;
+      crlf_is = crlf ∙ have.crlf_is;
+      answers_are = rw unanswered (texts, [], answers, refl, are, rw have.question_is at missing);
+    }
 
 -- or one before it has none
 still-unanswered : (question : Question) (end : ℕ) (head output : List ℕ) (texts : List (List ℕ))

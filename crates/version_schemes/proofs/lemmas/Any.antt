@@ -2,13 +2,15 @@
 use Rattle.std.proofs.Common.{◌≡◌, ◌∙◌, ℕ, List, [], Option, None, Some, ap, refl, sym}
 use Rattle.std.proofs.lemmas.Cmp.{nat_cmp_total, nat_list_cmp_total, on_total, then_total, tied_itself}
 use Rattle.std.specs.Cmp.{IsTotalOrder}
-use Rattle.std.specs.Option.{option_cmp, option_map}
+use Rattle.std.specs.Option.{option_cmp, option_map, option_map_or}
 use Rattle.std.specs.Ordering.{nat_cmp, ordering_then}
 use Rattle.std.specs.Prelude.{option_and_then}
 use Rattle.std.specs.declared.cmp.Ordering.{Ordering}
 use Rattle.version_rules.proofs.lemmas.OrdersLaws.{key_bytes_alone}
+use Rattle.version_rules.proofs.lemmas.Versioning.{versioning_of-spells, versioning_printed}
+use Rattle.version_rules.specs.declared.kind.Kind.TheVariants.{Ideal}
 use Rattle.version_rules.specs.grammar.Kind.{versioning_kind}
-use Rattle.version_rules.specs.grammar.Versioning.{PlainVersioning, versioning_of}
+use Rattle.version_rules.specs.grammar.Versioning.{PlainVersioning, versioning_of, versioning_text}
 use Rattle.version_rules.specs.key.Key.{key_of, precedence}
 use Rattle.version_rules.specs.key.Codes.{Writes}
 use Rattle.version_rules.specs.order.Lists.{bytes_cmp}
@@ -46,6 +48,20 @@ is_of scheme text version is = by_read ((rules scheme).read_as text) refl
           text_is = ap (λ (w : PlainAny). w.text) (sym same);
           some = λ empty. (rw some at (keys_some scheme text)) (ap (λ (w : PlainAny). w.key) same ∙ empty);
         }
+
+-- the version of the scheme mixed that a text is, by itself
+pub mixed_is : (text : List ℕ) (v : PlainVersioning) → versioning_of text ≡ Some v → any_of Mixed text
+    ≡ Some (record { scheme = Mixed; text = versioning_text v; key = (mixed v).key; kind = versioning_kind v })
+mixed_is text v is =
+    ap (λ (read : Option PlainVersioning). option_map (λ (k : PlainKeyed). record {
+      scheme = Mixed;
+      text = text;
+      key = k.key;
+      kind = option_map_or versioning_kind read Ideal;
+    })
+    (option_map mixed read)) is
+    ∙ ap (λ t. Some (record { scheme = Mixed; text = t; key = (mixed v).key; kind = versioning_kind v }))
+    (sym (versioning_printed text v (versioning_of-spells text v is)))
 
 -- orders
 

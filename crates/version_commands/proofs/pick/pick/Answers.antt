@@ -1,5 +1,8 @@
-use Rattle.std.proofs.Common.{[], refl, arith}
+use Rattle.std.proofs.Common.{◌≡◌, ◌∙◌, ◌∷◌, ◌++◌, [], Some, ap, refl, sym}
+use Rattle.std.specs.Option.{option_map}
 use Rattle.version_commands.proofs.lemmas.Picked.{picked-kept, picked-left, picked-start}
+use Rattle.version_lines.specs.Sort.{Reads, version_in}
+use Rattle.version_schemes.specs.any.AnyVersion.{plain_any}
 use Rattle.version_commands.proofs.pick.pick.Goals as goal
 
 pub loop-rest-init : goal.loop-rest-init
@@ -12,7 +15,35 @@ loop-rest-init g c = (
 )
 
 pub loop-rest-preserved-in_ok-take-in-Some : goal.loop-rest-preserved-in_ok-take-in-Some
-loop-rest-preserved-in_ok-take-in-Some g c = grind (arith, picked-kept)
+loop-rest-preserved-in_ok-take-in-Some g c =
+    let (ready, same, kept, taken, so_far) = c.loop-rest.invariant in
+    let line = c.split_line.result.0.now in
+    let version = plain_any c.in-Some.version in
+    let some : version_in (g.T.Takes.reads c.args.taker.now) line ≡ Some version =
+    ap (λ (reads : Reads). version_in reads line) (sym same) ∙ sym c.version.ensures
+    ∙ ap (option_map plain_any) c.in-Some.is in (
+      c.take.ensures.ready,
+      c.take.ensures.reads ∙ same,
+      kept ++ line ∷ [],
+      c.in_ok-take-in-Some.ensures.taken c.args.taker.now kept taken,
+      picked-kept _ _ _ _ _ _ line kept _ _ _ version so_far c.split_line.ensures.lines
+          c.split_line.ensures.shorter some (sym c.keeps.ensures ∙ c.if-keeps.true) refl
+          c.pass.ensures.good c.pass.ensures.before,
+    )
 
 pub loop-rest-preserved : goal.loop-rest-preserved
-loop-rest-preserved g c = grind (arith, picked-left)
+loop-rest-preserved g c =
+    let (ready, same, kept, taken, so_far) = c.loop-rest.invariant in
+    let line = c.split_line.result.0.now in
+    let version = plain_any c.in-Some.version in
+    let some : version_in (g.T.Takes.reads c.args.taker.now) line ≡ Some version =
+    ap (λ (reads : Reads). version_in reads line) (sym same) ∙ sym c.version.ensures
+    ∙ ap (option_map plain_any) c.in-Some.is in (
+      ready,
+      same,
+      kept,
+      taken,
+      picked-left _ _ _ _ _ _ line kept _ _ version so_far c.split_line.ensures.lines
+          c.split_line.ensures.shorter some (sym c.keeps.ensures ∙ c.if-keeps.false)
+          c.pass.ensures.good c.pass.ensures.before,
+    )

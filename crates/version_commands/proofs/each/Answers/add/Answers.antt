@@ -4,7 +4,7 @@ use Rattle.version_commands.specs.declared.each.Answers.{Answers}
 use Rattle.version_schemes.specs.any.AnyVersion.{plain_any}
 use Rattle.version_schemes.proofs.lemmas.Any.{is_of}
 use Rattle.version_commands.specs.Each.{HaveAnswered, IsAnswer, scheme_of}
-use Rattle.version_commands.proofs.lemmas.Each.{have-next, have-still}
+use Rattle.version_commands.proofs.lemmas.Each.{have-next, have-none, have-still}
 use Rattle.version_commands.proofs.each.Answers.add.Goals.{else-is_none-via-then-is_none+in_ok-add_answer+else-not-branch, else-is_none-via-else-is_none}
 use Rattle.version_commands.proofs.each.Answers.add.Goals as goal
 
@@ -27,6 +27,16 @@ returns-else-is_none-clause-answers c = λ first texts have.
           (sym w.self-is)
           (have-still first now texts c.args.text.now have w.if-is_none.ensures)
     ]
+
+pub returns-then-not-branch-clause-answers : goal.returns-then-not-branch-clause-answers
+returns-then-not-branch-clause-answers c = λ first texts have.
+    let now = c.args.self.now in
+    let none : now.unanswered ≡ None = search rules in
+    have-none first now _ texts c.args.text (plain_any c.args.version.now) have none c.requires.version
+    (subst (λ (found : Bool). Adds
+    (IsAnswer now.question now.end (plain_any c.args.version.now) found)
+    now.output.items c.add_answer.new.output.items)
+    c.if-not-branch.true c.in_ok-add_answer.ensures) refl refl refl refl
 
 pub add_answer-requires-clause-scheme : goal.add_answer-requires-clause-scheme
 add_answer-requires-clause-scheme c =
