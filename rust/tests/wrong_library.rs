@@ -597,6 +597,10 @@ fn answers_of_schemes_and_sets() {
     for (call, text, length) in said {
         assert_eq!(text, unexpected(call, &format!("length {length}")));
     }
+    // Here all versions have one key, and those of two schemes are unequal even so.
+    let two = [Scheme::Deb, Scheme::Rpm].map(|scheme| VersionOf::new("v0", scheme).unwrap());
+    assert_eq!(two[0].sort_key(), two[1].sort_key());
+    assert!(two[0] != two[1] && two[0].key() != two[1].key());
     let said = panic(|| VersionSet::new("w18u").is_ok());
     assert!(said.starts_with("versions_set_wrong_text gave the text invalid utf-8"));
     // Offsets and places of no text.
