@@ -1,7 +1,8 @@
 #!/usr/bin/python3
 """Draws sets and versions of each scheme, with what is to be said of them, as lines of JSON:
-  tests/support/drawn_sets.py COUNT
-COUNT is how many versions are asked of sets. A line is about a set, or about many texts.
+  tests/support/drawn_sets.py COUNT [surrogates]
+COUNT is how many versions are asked of sets. A line is about a set, or about many texts. With the word, some texts have
+lone surrogates, as a text of JavaScript may.
 
 Which texts are sets, where others are wrong, what a set has and how two versions compare is by the models: sets.py for
 mixed, and the systems of schemes.py for the others. Keys, intervals, sentences, orders and what is made of two sets are
@@ -18,62 +19,29 @@ from pathlib import Path
 
 sys.dont_write_bytecode = True
 sys.path.insert(0, str(Path(__file__).resolve().parent))
+from library import OK, Library, coded  # noqa: E402
 from schemes import SYSTEMS, Missing, system_of  # noqa: E402
 from sets import Model, Wrong, drawn_set, made_versions  # noqa: E402
 
-EACH, POOL, OK = 3, 120, 0
+EACH, POOL = 3, 120
 # Which orders of a version and the member's version each operator has; the last two are of deb alone.
 OF_ORDER = {"=": (0,), "==": (0,), "!=": (-1, 1), "<": (-1,), "<=": (-1, 0), ">": (1,), ">=": (0, 1)}
 OF_DEB = {"<<": (-1,), ">>": (1,)}
-SPOILS = ("\u00e9", "\U0001f600", "\0", "\u00a0", "\n")  # what a text is spoiled with
+# What a text is spoiled with.
+SPOILS = ("\u00e9", "\U0001f600", "\0", "\u00a0", "\n")
+SURROGATES = ("\ud83d", "\ude00", "\U0001f600\ud83d")
 
 
-class C:
-    """The calls of the library for C. A form is bytes, and so is a text; both are passed with their length."""
+class C(Library):
+    """What lines are made of."""
 
-    def __init__(self):
-        self.library = ctypes.CDLL(f"{Path(os.environ['C_LIBRARY']).resolve()}/libversions.so")
-        self.buffer, self.length = ctypes.create_string_buffer(1 << 20), ctypes.c_size_t()
-        self.ends = [ctypes.c_size_t() for _ in range(4)]
-
-    def call(self, name, *words):
-        passed = []
-        for word in words:
-            passed += (word, ctypes.c_size_t(len(word))) if isinstance(word, bytes) else (word,)
-        return getattr(self.library, f"versions_{name}")(*passed)
-
-    def made(self, name, *words):
-        """The bytes that a call writes, or None."""
-        room = ctypes.c_size_t(len(self.buffer))
-        status = self.call(name, *words, self.buffer, room, ctypes.byref(self.length))
-        return ctypes.string_at(self.buffer, self.length.value) if status == OK else None
-
-    def flag(self, name, *words):
-        flag = ctypes.c_bool()
-        status = self.call(name, *words, ctypes.byref(flag))
-        assert status == OK, (name, status, words)
-        return flag.value
-
-    def kind(self, text):
-        return (None, "ideal", "general", "complex")[self.call("kind", text.encode())]
-
-    def compare(self, a, b):
-        order = ctypes.c_int32()
-        status = self.call("compare", a.encode(), b.encode(), ctypes.byref(order))
-        assert status == OK, (status, a, b)
-        return order.value
-
-    def intervals(self, form):
+    def ends(self, form):
         """The ends of each interval in hexadecimal, or None where it has no high end."""
-        found = []
-        while self.call("set_interval", form, ctypes.c_size_t(len(found)), *map(ctypes.byref, self.ends)) == OK:
-            low, low_end, high, high_end = (end.value for end in self.ends)
-            found.append([form[low:low_end].hex(), form[high:high_end].hex() or None])
-        return found
+        return [[low.hex(), high and high.hex()] for low, high in self.intervals(form)]
 
     def keys_and_order(self, scheme, texts):
         """The sort keys of texts, and their places in order; in mixed in that which breaks ties."""
-        encoded = [text.encode() for text in texts]
+        encoded = [*map(coded, texts)]
         joined, count, room = b"".join(encoded), len(texts), len(self.buffer)
         offsets = (ctypes.c_int64 * (count + 1))(0, *itertools.accumulate(map(len, encoded)))
         ends, order, sizes = (ctypes.c_int64 * (count + 1))(), (ctypes.c_uint64 * count)(), (count + 1, count)
@@ -145,8 +113,8 @@ class SchemeModel(Model):
 class Drawing:
     """What is drawn of a scheme."""
 
-    def __init__(self, c, name, number, model):
-        self.c, self.name, self.number, self.model = c, name, number, model
+    def __init__(self, c, name, number, model, spoils):
+        self.c, self.name, self.number, self.model, self.spoils = c, name, number, model, spoils
         self.draw = random.Random(f"{os.environ.get('SEED', 'one')} {name}")
         self.before = "*", c.made("set", number, b"*"), [[(None, False, "*")]]
 
@@ -154,18 +122,18 @@ class Drawing:
         text = self.model.drawn(self.draw, self.versions)
         if self.draw.randrange(30) == 0:
             place = self.draw.randrange(len(text) + 1)
-            text = text[:place] + self.draw.choice(SPOILS) + text[place:]
+            text = text[:place] + self.draw.choice(self.spoils) + text[place:]
         return text
 
     def case(self):
         """A set and what it has, or where it is wrong; what is made of it and the set before it."""
         c, text = self.c, self.text()
-        form = c.made("set", self.number, text.encode())
+        form = c.made("set", self.number, coded(text))
         case = {"scheme": self.name, "text": text}
         try:
             alternatives = self.model.read(text)
         except Wrong as fault:
-            reason = c.made("set_wrong_text", self.number, text.encode())
+            reason = c.made("set_wrong_text", self.number, coded(text))
             return {**case, "wrong": [fault.args[0], reason and reason.decode()]}
         other_text, other, others = self.before
         self.before = text, form, alternatives
@@ -176,7 +144,7 @@ class Drawing:
         return {
             **case,
             "other": other_text,
-            "made": [*map(c.intervals, (form, *made))],
+            "made": [*map(c.ends, (form, *made))],
             "isPartOf": c.flag("set_part_of", form, other),
             "meets": c.flag("set_meets", form, other),
             "equals": form == other,
@@ -184,7 +152,7 @@ class Drawing:
                     for version in versions],
             "none": self.draw.choice(self.others),
             "order": self.model.compare(a, b),
-            "keys": [c.made("scheme_key", self.number, version.encode()).hex() for version in (a, b)],
+            "keys": [c.made("scheme_key", self.number, coded(version)).hex() for version in (a, b)],
         }
 
     def many(self):
@@ -217,17 +185,18 @@ class Drawing:
                 yield self.many()
 
 
-def main(count):
-    c, names = C(), ("mixed", *SYSTEMS)
+def main(count, *words):
+    c, names = C(os.environ["C_LIBRARY"]), ("mixed", *SYSTEMS)
+    spoils = SPOILS + SURROGATES if "surrogates" in words else SPOILS
     for name in names:
         try:
             model = MixedModel(c) if name == "mixed" else SchemeModel(system_of(name))
         except Missing as missing:
             sys.exit(f"{name}: {missing}")
-        drawing = Drawing(c, name, 1 + names.index(name), model)
+        drawing = Drawing(c, name, 1 + names.index(name), model, spoils)
         for line in drawing.lines(-(-count // len(names))):
             print(json.dumps(line))
 
 
 if __name__ == "__main__":
-    main(int(sys.argv[1]))
+    main(int(sys.argv[1]), *sys.argv[2:])

@@ -5,7 +5,6 @@ COUNT is how many texts are drawn, in pairs, with as many sets, and PSQL the com
 extension. SEED is what they are drawn by. C_LIBRARY is a folder of c/build. tests/postgresql runs it. The last line is
 'N passed, M failed'.
 """
-import ctypes
 import os
 import random
 import re
@@ -18,6 +17,7 @@ from pathlib import Path
 sys.dont_write_bytecode = True
 sys.path.insert(0, str(Path(__file__).resolve().parent))
 from checks import check, conclude  # noqa: E402
+from library import Library  # noqa: E402
 from schemes import ASKS_FOR_PARTS, SYSTEMS, Missing, chains_of, sets_of, system_of  # noqa: E402
 from sets import Model, worked_rows, wrong_rows  # noqa: E402
 
@@ -27,29 +27,14 @@ TYPES = {name: "version" if name == "mixed" else f"{name}_version" for name in N
 OPERATORS = {"=": (0,), "==": (0,), "!=": (-1, 1), "<": (-1,), "<=": (-1, 0), ">": (1,), ">=": (0, 1)}
 SETS = 20  # of which each is asked of a whole column
 NOT_IN_SETS = re.compile(r"[ \t|,]|\.\*$")
-KINDS = (None, "ideal", "general", "complex")
 
 
-class C:
-    """The calls for C of a scheme."""
+class C(Library):
+    """The calls of a scheme."""
 
     def __init__(self, scheme):
-        self.library, self.scheme = ctypes.CDLL(f"{os.environ['C_LIBRARY']}/libversions.so"), scheme
-        self.room, self.length, self.answer = ctypes.create_string_buffer(1 << 14), ctypes.c_size_t(), ctypes.c_bool()
-
-    def call(self, name, *words):
-        passed = []
-        for word in words:
-            passed += (word, ctypes.c_size_t(len(word))) if isinstance(word, bytes) else (word,)
-        return getattr(self.library, f"versions_{name}")(*passed)
-
-    def made(self, name, *words):
-        """The bytes that a call writes, or None."""
-        status = self.call(name, *words, self.room, ctypes.c_size_t(1 << 14), ctypes.byref(self.length))
-        return ctypes.string_at(self.room, self.length.value) if status == 0 else None
-
-    def asked(self, name, *words):
-        return self.answer.value if self.call(name, *words, ctypes.byref(self.answer)) == 0 else None
+        super().__init__(os.environ["C_LIBRARY"])
+        self.scheme = scheme
 
     def key(self, text):
         return self.made("scheme_key", self.scheme, text.encode())
@@ -69,23 +54,15 @@ class Mixed:
 
     def __init__(self):
         self.c = C(NUMBERS["mixed"])
-        self.model = Model(self.kind, lambda a, b: self.order(a, b))
+        self.model = Model(self.c.kind, self.c.compare)
 
     draw, neighbour = SYSTEMS["deb"].draw, SYSTEMS["deb"].neighbour
 
-    def kind(self, text):
-        return KINDS[self.c.call("kind", text.encode())]
-
-    def order(self, a, b):
-        order = ctypes.c_int32()
-        assert self.c.call("compare", a.encode(), b.encode(), ctypes.byref(order)) == 0, (a, b)
-        return order.value
-
     def reads(self, texts):
-        return [self.kind(text) is not None for text in texts]
+        return [self.c.kind(text) is not None for text in texts]
 
     def compare(self, pairs):
-        return [self.order(*pair) for pair in pairs]
+        return [self.c.compare(*pair) for pair in pairs]
 
 
 def quoted(text):
@@ -216,7 +193,7 @@ class Trial:
         wanted = [c.made("set_and", *forms), c.made("set_or", *forms), c.made("set_and", forms[0], rest)]
         wanted.append(c.made("set_not", forms[0]))
         self.same("forms", found[:4], [form.hex() for form in wanted], one, other)
-        asked = c.asked("set_part_of", *forms), c.asked("set_part_of", *forms[::-1]), c.asked("set_meets", *forms)
+        asked = c.flag("set_part_of", *forms), c.flag("set_part_of", *forms[::-1]), c.flag("set_meets", *forms)
         self.same("of two sets", found[4], "".join("ft"[each] for each in (*asked, forms[0] == forms[1])), one, other)
 
     def column(self, reads):
