@@ -1,19 +1,21 @@
 -- Lines as they are sorted: their keys stay in place, and sorted entries are the sorted lines.
-use Rattle.std.proofs.Common.{◌≡◌, ℕ, ◌-◌, ◌<◌, Bool, List, ◌∷◌, ◌++◌, [], length, take, drop, map, refl, sym, subst, ap, ◌∙◌, arith, length-append, length-drop}
+use Rattle.std.proofs.Common.{◌≡◌, ℕ, ◌+◌, ◌-◌, ◌<◌, ◌≤◌, Bool, List, ◌∷◌, ◌++◌, [], length, take, drop, map, refl, sym, subst, ap, ◌∙◌, arith, length-append, length-drop}
 use Rattle.std.specs.Cmp.{IsStrictWeakOrder, IsTotalOrder}
 use Rattle.std.specs.Cmp.Lexicographic.{options_total, slice_cmp}
 use Rattle.std.specs.Int.{from_be_bytes, w64}
 use Rattle.std.specs.List.{All}
-use Rattle.std.specs.Ordering.{is_lt, nat_cmp, ordering_then}
+use Rattle.std.specs.Ordering.{is_lt, nat_cmp, on, ordering_then, then_cmp}
+use Rattle.std.specs.declared.cmp.Ordering.TheVariants.{Equal}
 use Rattle.std.proofs.Math.Seq.{drop-append_seam}
-use Rattle.std.proofs.lemmas.Cmp.{nat_cmp_total, nat_list_cmp_total, on_total, then_total}
-use Rattle.std.proofs.lemmas.List.{drop-append-le, length-take, take-append-le, take_all}
+use Rattle.std.proofs.lemmas.Cmp.{nat_cmp_total, nat_list_cmp_total, on_total, then_total, tied_itself}
+use Rattle.std.proofs.lemmas.List.{drop-append-le, drop_all, length-take, take-append-le, take_all}
 use Rattle.std.proofs.lemmas.List.Quantifiers.{all_pairs_push}
 use Rattle.std.proofs.lemmas.List.Sorted.{ranks_by}
-use Rattle.version_lines.specs.Entry.{entry_cmp, entry_key, entry_kind, entry_line, key_length, version_cmp, AreInTurn, HoldsKey, IsRead}
+use Rattle.version_lines.specs.Entry.{after_heads_cmp, entry_cmp, entry_key, entry_kind, entry_line, key_length, tie_cmp, version_cmp, AreInTurn, HoldsKey, IsRead}
 use Rattle.version_lines.specs.Sort.{Reads, lines_cmp, lines_precedence, version_in}
 use Rattle.version_lines.specs.Sorting.{in_order, turn, turned}
-use Rattle.version_texts.specs.key.KeyTies.{texts_tie}
+use Rattle.version_rules.specs.declared.kind.Kind.TheVariants.{Ideal}
+use Rattle.version_texts.specs.key.KeyTies.{kind_on, marked_number, texts_tie}
 use Rattle.version_texts.proofs.lemmas.key.KeyTies.{texts_tie_total}
 use Rattle.version_lines.specs.declared.sort.entry.Entry.{Entry}
 use Rattle.version_schemes.proofs.lemmas.Any.{any_total, in_one_scheme, is_of}
@@ -134,3 +136,22 @@ pub lines-ordered : (reversed : Bool) (reads : Reads) (keys : List ℕ)
 lines-ordered reversed reads keys =
     in_order-map (IsRead reads keys) entry_line _ _
     (λ a b a_read b_read. ap (turn reversed) (versions_alike reads keys a b a_read b_read))
+
+-- two strict lines whose keys have as many bytes, at most sixteen, and begin alike, tie
+pub short-tie : (keys : List ℕ) (a b : Entry) (reads : Reads) → a.length ≡ b.length → entry_kind a ≡ Ideal
+    → key_length a ≤ 16 → a.start + 16 ≤ length keys → b.start + 16 ≤ length keys
+    → then_cmp (on (entry_key keys) after_heads_cmp) (tie_cmp reads) a b ≡ Equal
+short-tie keys a b reads alike strict short here there =
+    let same : key_length a ≡ key_length b = ap marked_number alike in
+    let one : length (entry_key keys a) ≡ key_length a =
+    omega (arith, here, short, length-take (key_length a) (drop a.start keys), length-drop a.start keys) in
+    let other : length (entry_key keys b) ≡ key_length b =
+    omega (arith, there, short, same, length-take (key_length b) (drop b.start keys), length-drop b.start keys) in
+    let none : drop 16 (entry_key keys a) ≡ [] = drop_all 16 (entry_key keys a) (omega (arith, one, short)) in
+    let none' : drop 16 (entry_key keys b) ≡ [] = drop_all 16 (entry_key keys b) (omega (arith, other, short, same)) in
+    let lengths : nat_cmp (length (entry_key keys a)) (length (entry_key keys b)) ≡ Equal =
+    rw (one, other, same) (tied_itself nat_cmp_total (key_length b)) in
+    let keys_tie : on (entry_key keys) after_heads_cmp a b ≡ Equal = rw (none, none') lengths in
+    let strict' : entry_kind b ≡ Ideal = ap kind_on (sym alike) ∙ strict in
+    let texts : tie_cmp reads a b ≡ Equal = rw (strict, strict') refl in
+    λ i. ordering_then (keys_tie i) (texts i)

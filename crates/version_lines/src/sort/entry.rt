@@ -1,7 +1,9 @@
 //! A line as it is sorted.
-ghost use Rattle.std.specs.Prelude.{◌≡◌, ◌++◌, drop, length, IfOk, IsTrue, OnErr, OnOk};
+ghost use Rattle.std.specs.Prelude.{◌≡◌, ◌+◌, ◌++◌, ◌≤◌, drop, length, IfOk, IsTrue, OnErr, OnOk};
 ghost use Rattle.std.specs.Ordering.{on, then_cmp};
+ghost use Rattle.std.specs.declared.cmp.Ordering.TheVariants.{Equal};
 ghost use Rattle.version_lines.specs.Entry.{after_heads_cmp};
+ghost use Rattle.version_lines.specs.Sort.{Reads};
 ghost use Rattle.version_lines.specs.Sorting.{turned};
 ghost use Rattle.version_schemes.specs.any.AnyVersion.{plain_any};
 
@@ -71,9 +73,40 @@ impl<'a> Entry<'a> {
             turn_cmp self.now other.now }
     {
         match self.compare_heads(other) {
+            Ordering::Equal if self.is_short_tie(other, keys) => self.start.cmp(&other.start),
             Ordering::Equal => self.compare_tied_in_turn(other, by, keys),
             order => turn(by.is_reversed(), order),
         }
+    }
+
+    // Whether two keys that begin alike are seen to be the same at once, as most are: they have no more bytes, and nothing
+    // breaks their tie.
+    #[inline(always)]
+    fn is_short_tie(&self, other: &Entry<'_>, keys: &[u8]) -> bool
+        ensures { IsTrue result → (reads : Reads)
+            → then_cmp (on (entry_key keys.now) after_heads_cmp) (tie_cmp reads) self.now other.now ≡ Equal }
+    {
+        if self.length != other.length {
+            return false;
+        }
+        if marked_number(self.length) > 16 {
+            return false;
+        }
+        if !self.is_strict() {
+            return false;
+        }
+        if !self.has_sixteen(keys) {
+            return false;
+        }
+        other.has_sixteen(keys)
+    }
+
+    // Whether sixteen bytes of the list of all keys lie behind the place of its key.
+    #[inline(always)]
+    fn has_sixteen(&self, keys: &[u8]) -> bool
+        ensures { IsTrue result → self.now.start + 16 ≤ length keys.now }
+    {
+        keys.len() >= 16 && self.start <= keys.len() - 16
     }
 
     // Compares two lines whose keys begin alike. Never inlined, so that a sort inlines the usual case.
