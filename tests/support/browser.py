@@ -122,9 +122,9 @@ class Browser:
             raise RuntimeError(answer["exceptionDetails"].get("exception", {}).get("description", str(answer)))
         return answer["result"].get("value")
 
-    def wait(self, script):
+    def wait(self, script, seconds=SECONDS):
         """Waits until an expression is true. Returns whether it became so."""
-        end = time.monotonic() + SECONDS
+        end = time.monotonic() + seconds
         while time.monotonic() < end:
             if self.ask(f"Boolean({script})"):
                 return True
