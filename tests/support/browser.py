@@ -17,7 +17,7 @@ KEYS = {"Tab": 9, "Enter": 13, " ": 32, "PageUp": 33, "PageDown": 34, "End": 35,
 KEYS |= {"ArrowUp": 38, "ArrowDown": 40}
 SHIFT = 8
 
-# The size of a picture, its 256 most frequent colours, and for each point the place of the nearest of these.
+# The size of a picture, its 64 most frequent colours, and for each point the place of the nearest of these.
 PALETTE = """async (data) => {
   const image = Object.assign(new Image(), { src: `data:image/png;base64,${data}` });
   await image.decode();
@@ -27,7 +27,7 @@ PALETTE = """async (data) => {
   const points = new Uint32Array(context.getImageData(0, 0, width, height).data.buffer);
   const counts = new Map();
   for (const colour of points) counts.set(colour, (counts.get(colour) ?? 0) + 1);
-  const palette = [...counts].sort((a, b) => b[1] - a[1]).slice(0, 256).map(([colour]) => colour);
+  const palette = [...counts].sort((a, b) => b[1] - a[1]).slice(0, 64).map(([colour]) => colour);
   const part = (colour, bits) => (colour >> bits) & 255;
   const far = (a, b) => [0, 8, 16].reduce((sum, bits) => sum + (part(a, bits) - part(b, bits)) ** 2, 0);
   const places = new Map();
@@ -157,7 +157,7 @@ class Browser:
         self.call("Emulation.setEmulatedMedia", features=[{"name": "prefers-color-scheme", "value": scheme}])
 
     def picture(self, file):
-        """Writes what is in sight as a small PNG: of its colours the 256 most frequent are kept."""
+        """Writes what is in sight as a small PNG: of its colours the 64 most frequent are kept."""
         data = self.call("Page.captureScreenshot", format="png")["data"]
         width, height, palette, places = self.ask(f"({PALETTE})('{data}')")
         places = base64.b64decode(places)
