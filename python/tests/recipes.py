@@ -1,5 +1,5 @@
-"""The recipes of docs/COOKBOOK.md for pandas and of docs/PYTHON.md for pyarrow, run as they stand; columns of pandas;
-what the cookbook has of other systems, beside these (tests/support/schemes.py); and examples/resolver.
+"""The recipes of docs/COOKBOOK.md for pandas and for locks, and of docs/PYTHON.md for pyarrow, run as they stand; columns
+of pandas; what the cookbook has of other systems, beside these (tests/support/schemes.py); and examples/resolver.
 
     recipes.py
 
@@ -21,7 +21,9 @@ import sys
 import tempfile
 import time
 import unittest
+import warnings
 from collections import Counter
+from functools import partial
 
 import numpy
 import pandas
@@ -77,15 +79,17 @@ class Recipes(unittest.TestCase):
         names = {}
         exec(recipe("COOKBOOK.md", "sort_keys"), names)
         self.assertEqual(list(names["table"]["version"]), TEXTS)
-        # What has no key comes last, in no order that pandas promises.
-        self.assertEqual(list(names["in_order"]["version"])[:3], ["1.2.3", "1.9", "1.10"])
-        self.assertEqual(set(names["in_order"]["version"][3:]), {None, "x y"})
+        for name in ("in_order", "by_deb"):
+            # What has no key comes last, in no order that pandas promises.
+            self.assertEqual(list(names[name]["version"])[:3], ["1.2.3", "1.9", "1.10"])
+            self.assertEqual(set(names[name]["version"][3:]), {None, "x y"})
         self.assertEqual(dict(names["matched"]["version"]), {0: "1.10", 2: "1.9"})
-
-    def test_groups_of_pandas(self):
-        names = {}
-        exec(recipe("COOKBOOK.md", "groupby"), names)
-        self.assertEqual(names["newest"].to_dict(), {"left": "1.10", "up": "2.0"})
+        self.assertEqual(dict(names["no_version"]["version"]), {1: None, 3: "x y"})
+        self.assertEqual(names["newest"].to_dict(), {"a": "1.10", "b": "1.9"})
+        del names["in_order"], names["matched"]
+        exec(recipe("../python/README.md", "sort_values"), names)
+        self.assertEqual(list(names["in_order"]["version"])[:3], ["1.2.3", "1.9", "1.10"])
+        self.assertEqual(dict(names["matched"]["version"]), {0: "1.10", 2: "1.9", 4: "1.2.3"})
 
     def test_pyarrow(self):
         table = pyarrow.table({"version": TEXTS}) if pyarrow else Table({"version": TEXTS})
@@ -94,6 +98,126 @@ class Recipes(unittest.TestCase):
         keys = [versions.sort_key(text) if text and text != "x y" else None for text in TEXTS]
         self.assertEqual(names["with_keys"].to_pydict(), {"version": TEXTS, "key": keys})
         self.assertEqual(names["matched"].to_pydict(), {"version": ["1.10", "1.9"]})
+
+
+class Locks(unittest.TestCase):
+    """What changed between two outputs of pip freeze, and between two package-lock.json."""
+
+    PIP = (
+        """
+        certifi==2023.7.22
+        -e git+https://example.org/mine.git@0123abc#egg=mine==1.0
+        # Editable install with no version control (other==1.0)
+        Flask==2.3.3
+        idna==3.4
+        local @ file:///tmp/local-1.0.tar.gz
+        numpy==1.26.0rc1
+        old===2004d
+        pytz==2023.3.post1
+        ruamel.yaml==0.17.32
+        torch==2.0.1+cu118
+        typing_extensions==4.8.0
+        zipp==3.9
+        """,
+        """
+        flask==3.0.0
+        idna==3.10
+        local @ file:///tmp/local-2.0.tar.gz
+        numpy==1.26.0
+        pytz==2023.3
+        ruamel-yaml==0.17.32
+        torch==2.0.1
+        typing-extensions==1!0.1
+        urllib3==2.0.7
+        zipp==3.9.0
+        """,
+    )
+    # By PEP 440; `3.9` and `3.9.0` are one version there.
+    PIP_CHANGES = """
+        certifi went 2023.7.22 None
+        flask rose 2.3.3 3.0.0
+        idna rose 3.4 3.10
+        numpy rose 1.26.0rc1 1.26.0
+        old went 2004d None
+        pytz fell 2023.3.post1 2023.3
+        torch fell 2.0.1+cu118 2.0.1
+        typing-extensions rose 4.8.0 1!0.1
+        urllib3 came None 2.0.7
+    """
+    NPM = (
+        {
+            "": {"name": "root", "version": "1.0.0", "dependencies": {"a": "^1.9.0"}},
+            "node_modules/@scope/d": {"version": "1.0.0-alpha.9"},
+            "node_modules/a": {"version": "1.9.0", "resolved": "https://registry.example.org/a-1.9.0.tgz"},
+            "node_modules/b": {"version": "2.0.0"},
+            "node_modules/c": {"version": "0.0.1", "dev": True},
+            "node_modules/e": {"version": "1.0.0+a"},
+            "node_modules/mine": {"resolved": "packages/mine", "link": True},
+            "packages/mine": {"version": "0.1.0"},
+            "packages/other": {"license": "MIT"},
+        },
+        {
+            "": {"name": "root", "version": "2.0.0"},
+            "node_modules/@scope/d": {"version": "1.0.0-alpha.10"},
+            "node_modules/a": {"version": "1.10.0"},
+            "node_modules/b": {"version": "2.0.0-rc.1"},
+            "node_modules/b/node_modules/a": {"version": "1.9.0"},
+            "node_modules/e": {"version": "1.0.0+b"},
+            "node_modules/mine": {"resolved": "packages/mine", "link": True},
+            "packages/mine": {"version": "0.1.0"},
+        },
+    )
+    # By SemVer 2.0: the metadata of a build doesn't count.
+    NPM_CHANGES = """
+        node_modules/@scope/d rose 1.0.0-alpha.9 1.0.0-alpha.10
+        node_modules/a rose 1.9.0 1.10.0
+        node_modules/b fell 2.0.0 2.0.0-rc.1
+        node_modules/b/node_modules/a came None 1.9.0
+        node_modules/c went 0.0.1 None
+    """
+
+    @classmethod
+    def setUpClass(cls):
+        cls.names = {}
+        exec(recipe("COOKBOOK.md", "frozen"), cls.names)
+
+    def changes(self, read, old, new, scheme):
+        found = self.names["changes"](self.names[read](old), self.names[read](new), scheme)
+        return [" ".join(map(str, change)) for change in found]
+
+    def test_pip(self):
+        wanted = [line.strip() for line in self.PIP_CHANGES.strip().splitlines()]
+        for end in ("\n", "\r\n"):
+            old, new = (end.join(line.strip() for line in text.splitlines()) for text in self.PIP)
+            self.assertEqual(self.changes("frozen", old, new, "pypi"), wanted)
+        self.assertEqual(self.changes("frozen", old, old, "pypi"), [])
+        self.assertEqual(self.changes("frozen", "", "a==1", "pypi"), ["a came None 1"])
+        self.assertEqual(self.changes("frozen", "", "\n", "pypi"), [])
+
+    def test_what_pip_freezes_here(self):
+        """The real output, of an environment with the package, is read whole."""
+        said = subprocess.run([sys.executable, "-m", "pip", "freeze", "--all"], stdout=subprocess.PIPE, text=True).stdout
+        frozen = self.names["frozen"](said)
+        self.assertEqual(len(frozen), sum("==" in line for line in said.splitlines()))
+        self.assertEqual(len(said.splitlines()), len(frozen) + said.count(" @ "))
+
+    def test_npm(self):
+        wanted = [line.strip() for line in self.NPM_CHANGES.strip().splitlines()]
+        old, new = (json.dumps({"lockfileVersion": 3, "packages": packages}) for packages in self.NPM)
+        self.assertEqual(self.changes("locked", old, new, "semver"), wanted)
+        self.assertEqual(self.changes("locked", new, new, "semver"), [])
+
+    def test_what_is_wrong(self):
+        changes = self.names["changes"]
+        self.assertRaises(versions.InvalidVersion, lambda: [*changes({"a": "2004d"}, {"a": "1"}, "pypi")])
+        self.assertRaises(KeyError, self.names["locked"], '{"lockfileVersion": 1, "dependencies": {}}')
+        self.assertRaises(ValueError, self.names["locked"], "")
+
+    def test_a_hundred_thousand_packages(self):
+        old = "\n".join(f"p{n}==1.{n}" for n in range(100_000))
+        new = "\n".join(f"P_{n}==1.{n + n % 2}" for n in range(100_000)).replace("P_", "p")
+        found = self.changes("frozen", old, new, "pypi")
+        self.assertEqual((len(found), found[0]), (50_000, "p1 rose 1.1 1.2"))
 
 
 class Systems(LongLists):
@@ -379,33 +503,49 @@ class Columns(unittest.TestCase):
             pandas.Index(TEXTS),
         ):
             with self.subTest(column=column):
-                self.assertEqual(versions.kinds(column), kinds)
+                is_series = isinstance(column, pandas.Series)
+                none = False if is_series else None
+                self.assert_alike(versions.kinds(column), column, kinds)
                 self.assertEqual([key is None for key in versions.sort_keys(column)], [k is None for k in kinds])
-                self.assertEqual(versions.match_all("<1.9", column), [False, None, False, None, True])
+                self.assert_alike(versions.match_all("<1.9", column), column, [False, none, False, none, True])
                 self.assertEqual(versions.Requirement(">=1.9").filter(column), ["1.10", "1.9"])
-                self.assertEqual(versions.VersionSet("<1.9").has_all(column), [False, None, False, None, True])
+                found = versions.VersionSet("<1.9").has_all(column)
+                self.assert_alike(found, column, [False, none, False, none, True])
                 self.assertEqual(versions.VersionSet(">=1.9").filter(column), ["1.10", "1.9"])
                 self.assertEqual(versions.newest(column, versions.VersionSet("<1.10")), "1.9")
-                self.assertEqual(versions.in_tags(column), ["1.10", None, "1.9", None, "1.2.3"])
+                self.assert_alike(versions.in_tags(column), column, ["1.10", None, "1.9", None, "1.2.3"])
                 stable = versions.Stability.STABLE
-                self.assertEqual(versions.stabilities(column), [stable, None, stable, None, stable])
+                self.assert_alike(versions.stabilities(column), column, [stable, None, stable, None, stable])
                 self.assertEqual(versions.newest(column, "<1.10"), "1.9")
+
+    def assert_alike(self, found, column, answers):
+        """A Series of a Series, with its index and its name; and a list of anything else."""
+        if isinstance(column, pandas.Series):
+            self.assertIs(type(found), pandas.Series)
+            self.assertTrue(found.index.equals(column.index))
+            self.assertEqual(found.name, column.name)
+            self.assertEqual(found.dtype, bool if answers and type(answers[0]) is bool else object)
+            found = list(found)
+        self.assertEqual(found, answers)
+        self.assertEqual([type(each) for each in found], [type(each) for each in answers])
 
     def test_floats_of_numpy_and_times_that_are_missing(self):
         floats = numpy.float16, numpy.float32, numpy.float64, numpy.longdouble
         for missing in (*(each("nan") for each in floats), pandas.NaT):
             for texts in (["1.2", missing], pandas.Series(["1.2", missing], dtype=object)):
                 with self.subTest(missing=missing):
-                    self.assertEqual(versions.kinds(texts), ["general", None])
-                    self.assertEqual(versions.match_all("*", texts), [True, None])
+                    none = None if isinstance(texts, list) else False
+                    self.assert_alike(versions.kinds(texts), texts, ["general", None])
+                    self.assert_alike(versions.match_all("*", texts), texts, [True, none])
                     self.assertEqual(versions.Requirement("*").filter(texts), ["1.2"])
-                    self.assertEqual(versions.VersionSet("*").has_all(texts), [True, None])
+                    self.assert_alike(versions.VersionSet("*").has_all(texts), texts, [True, none])
                     self.assertEqual(versions.VersionSet("*").filter(texts), ["1.2"])
                     self.assertEqual(versions.sorted(texts, invalid="last", reverse=True)[0], "1.2")
         for other in (numpy.float32(1.2), numpy.int64(1), numpy.bool_(False), pandas.Timestamp("2026-01-01")):
             self.assertRaises(TypeError, versions.kinds, ["1.2", other])
-        self.assertEqual(versions.kinds(pandas.Series([None, None], dtype="float32")), [None, None])
-        self.assertEqual(versions.kinds(pandas.Series([None], dtype="datetime64[ns]")), [None])
+        for missing in (pandas.Series([None, None], dtype="float32"), pandas.Series([None] * 2, dtype="datetime64[ns]")):
+            self.assert_alike(versions.kinds(missing), missing, [None, None])
+            self.assert_alike(versions.VersionSet("*").has_all(missing), missing, [False, False])
 
     def test_a_column_whose_export_fails(self):
         class Series(pandas.Series):
@@ -414,23 +554,213 @@ class Columns(unittest.TestCase):
             def __arrow_c_stream__(self, requested_schema=None):
                 raise ImportError("Missing optional dependency 'pyarrow'.")
 
-        self.assertEqual(versions.kinds(Series(TEXTS)), ["general", None, "general", None, "ideal"])
-        self.assertEqual(versions.match_all("<1.9", Series(TEXTS)), [False, None, False, None, True])
+        column = Series(TEXTS)
+        self.assert_alike(versions.kinds(column), column, ["general", None, "general", None, "ideal"])
+        self.assert_alike(versions.match_all("<1.9", column), column, [False, False, False, False, True])
+
+    def test_a_subclass_makes_its_answers(self):
+        class Mine(pandas.Series):
+            """With words of its own, for which pandas has this property."""
+
+            def __init__(self, *words, mine=None, **named):
+                super().__init__(*words, **named)
+
+            @property
+            def _constructor(self):
+                return Mine
+
+        self.assertIs(type(versions.VersionSet("*").has_all(Mine(["1"], mine=1))), Mine)
 
     def test_columns_of_versions(self):
         column = pandas.Series([versions.Version("1.10"), versions.Version("1.9"), None])
         self.assertEqual(list(map(str, versions.Requirement("<1.10").filter(column))), ["1.9"])
         self.assertEqual([str(version) for version in column.dropna().sort_values()], ["1.9", "1.10"])
-        self.assertEqual(versions.kinds(column), ["general", "general", None])
+        self.assert_alike(versions.kinds(column), column, ["general", "general", None])
+        table = pandas.DataFrame({"version": column})
+        self.assertEqual(list(table.sort_values("version", key=versions.sort_keys).index), [1, 0, 2])
+        self.assertRaises(TypeError, table.sort_values, "version", key=partial(versions.sort_keys, scheme="deb"))
 
     def test_no_rows(self):
         for column in (pandas.Series([], dtype="string"), pandas.Series([], dtype=object)):
-            self.assertEqual(versions.sort_keys(column), [])
+            self.assert_alike(versions.sort_keys(column), column, [])
+            self.assertEqual(versions.VersionSet("*").has_all(column).dtype, bool)
             self.assertEqual(versions.Requirement("*").filter(column), [])
+
+    def test_what_is_no_series(self):
+        table = pandas.DataFrame({"1.2": ["x"], "1.2.3": ["y"]})
+        for texts in (table, table.columns, table.columns.to_numpy()):
+            self.assertEqual(versions.kinds(texts), ["general", "ideal"])
 
     def test_numbers_are_no_texts(self):
         self.assertRaises(TypeError, versions.kinds, pandas.Series([1.2, None]))
         self.assertRaises(TypeError, versions.Requirement("*").filter, pandas.Series([1.2, None]))
+
+
+# What a table has where a version is missing, by the type of its column.
+MISSING = {"object": (None, float("nan"), pandas.NA, pandas.NaT), "string": (None, pandas.NA), "category": (None,)}
+
+
+def columns(texts):
+    """The texts as a column of each type, with each missing value in the place of None."""
+    for dtype, values in MISSING.items():
+        for missing in values:
+            yield pandas.Series([missing if text is None else text for text in texts], dtype=dtype)
+
+
+class Sorts(unittest.TestCase):
+    """`versions.sort_keys` as a key of pandas."""
+
+    def setUp(self):
+        # An older pandas warns of what it will refuse.
+        caught = warnings.catch_warnings()
+        caught.__enter__()
+        self.addCleanup(caught.__exit__)
+        warnings.simplefilter("error")
+
+    def keys(self):
+        """What each scheme's key may be written as, and five versions in increasing order."""
+        self.assertEqual(set(CHAINS), set(versions.SCHEMES))
+        for scheme, chain in CHAINS.items():
+            yield partial(versions.sort_keys, scheme=scheme), chain.split()
+            yield lambda column, scheme=scheme: versions.sort_keys(column, scheme=scheme), chain.split()
+        yield versions.sort_keys, CHAINS["mixed"].split()
+
+    def test_tables_of_each_scheme(self):
+        order = [3, 0, None, 4, 1, None, 2]
+        for key, chain in self.keys():
+            for column in columns([None if n is None else chain[n] for n in order]):
+                table = pandas.DataFrame({"version": column, "place": range(7)})
+                table.index = list("gfedcba")
+                for ascending, rows in ((True, [1, 4, 6, 0, 3]), (False, [3, 0, 6, 4, 1])):
+                    for na_position, wanted in (("last", rows + [2, 5]), ("first", [2, 5] + rows)):
+                        how = {"ascending": ascending, "na_position": na_position, "kind": "stable", "key": key}
+                        with self.subTest(chain=chain, dtype=column.dtype, **how):
+                            found = table.sort_values("version", **how)
+                            self.assertEqual(list(found["place"]), wanted)
+                            self.assertEqual(list(found.index), ["gfedcba"[place] for place in wanted])
+                            found = table["version"].sort_values(**how)
+                            self.assertEqual(list(found.index), ["gfedcba"[place] for place in wanted])
+                            again = table.sort_values("version", ignore_index=True, **how)
+                            self.assertEqual(list(again["place"]), wanted)
+                            by_index = table.set_index("version").sort_index(**how)
+                            self.assertEqual(list(by_index["place"]), wanted)
+
+    def test_several_columns(self):
+        rows = [("b", "1.9", 0), ("a", "1.10", 1), ("a", None, 2), ("b", "1.10", 3), ("a", "1.9", 4), ("a", "x y", 5)]
+        table = pandas.DataFrame(rows, columns=["name", "version", "place"])
+
+        def key(column):
+            return versions.sort_keys(column) if column.name == "version" else column
+
+        for ascending, wanted in ((True, [4, 1, 2, 5, 0, 3]), ([True, False], [1, 4, 2, 5, 3, 0])):
+            found = table.sort_values(["name", "version"], key=key, ascending=ascending)
+            self.assertEqual(list(found["place"]), wanted)
+
+    def test_ties_keep_their_order(self):
+        # By docs/ORDER.md these are of one key, and by docs/SCHEMES.md.
+        for key, tied in ((versions.sort_keys, ["1.2", "01.2", "0:1.2", "1.2+x"]),
+                          (partial(versions.sort_keys, scheme="deb"), ["1.0-0", "1.0", "0:1.0", "01.0"])):
+            for texts in itertools.permutations(tied):
+                table = pandas.DataFrame({"version": [*texts, "0.9"]})
+                found = table.sort_values("version", key=key, kind="stable")
+                self.assertEqual(list(found["version"]), ["0.9", *texts])
+
+    def test_what_is_no_version_has_no_key(self):
+        for text in ("x y", "", "1..2", "\ud800", "é"):
+            table = pandas.DataFrame({"version": ["1.10", text, "1.9"]})
+            for na_position, wanted in (("last", [2, 0, 1]), ("first", [1, 2, 0])):
+                found = table.sort_values("version", key=versions.sort_keys, na_position=na_position)
+                self.assertEqual(list(found.index), wanted)
+
+    def test_what_is_wrong(self):
+        for column in ([1.2, 1.1], [1, 2], [b"1", "2"], pandas.to_datetime(["2026-01-01"] * 2)):
+            table = pandas.DataFrame({"version": column})
+            self.assertRaisesRegex(TypeError, "a text is a str, and this is of type ",
+                                   table.sort_values, "version", key=versions.sort_keys)
+        table = pandas.DataFrame({"version": ["1", "2"]})
+        self.assertRaisesRegex(ValueError, "a scheme is one of",
+                               table.sort_values, "version", key=partial(versions.sort_keys, scheme="dpkg"))
+
+    def test_tables_without_rows_or_versions(self):
+        for column in columns([]):
+            table = pandas.DataFrame({"version": column, "name": column})
+            for by in ("version", ["version", "name"]):
+                self.assertEqual(len(table.sort_values(by, key=versions.sort_keys)), 0)
+            self.assertEqual(len(table.set_index("version").sort_index(key=versions.sort_keys)), 0)
+        for column in columns([None, None]):
+            table = pandas.DataFrame({"version": column})
+            self.assertEqual(list(table.sort_values("version", key=versions.sort_keys, kind="stable").index), [0, 1])
+
+    def test_a_million_rows(self):
+        table = pandas.DataFrame({"version": [f"1.{n * 7919 % 1_000_003}" for n in range(1_000_000)]})
+        found = table.sort_values("version", key=versions.sort_keys)["version"]
+        self.assertEqual(list(found), [f"1.{n}" for n in sorted(n * 7919 % 1_000_003 for n in range(1_000_000))])
+
+
+class Masks(unittest.TestCase):
+    """Answers that choose rows of a table."""
+
+    # The place of each row whose version is in the set, and not in it; the last two are missing, and no version.
+    SETS = {
+        "mixed": (">=1.9, <2 || =1.2", ["1.2", "1.10", "0:1.2", "1.3", "2.0"], [0, 1, 2], [3, 4]),
+        "deb": ("<<1.0", ["1.0~rc1", "1.0", "1.0a", "0.9", "1:0"], [0, 3], [1, 2, 4]),
+        "semver": (">=1.0.0", ["1.0.0-rc.1", "1.0.0", "1.0.0+a", "0.9.0", "1.10.0"], [1, 2, 4], [0, 3]),
+    }
+    INDEXES = {
+        "numbers": range(7), "texts": list("abcdefg"), "one label": ["a"] * 7, "duplicates": [3, 1, 1, 0, 3, 2, 0],
+        "missing labels": [None, "a", None, float("nan"), "b", "c", "d"],
+        "two levels": pandas.MultiIndex.from_arrays([[1, 1, 2, 2, 3, 3, 3], list("abababa")]),
+    }
+
+    def tables(self):
+        for scheme, (text, texts, places, others) in self.SETS.items():
+            for name, index in self.INDEXES.items():
+                for column in columns([*texts, None, "x y"]):
+                    table = pandas.DataFrame({"version": column, "place": range(7)})
+                    table.index = index
+                    with self.subTest(scheme, index=name, dtype=column.dtype, missing=column[5]):
+                        yield versions.VersionSet(text, scheme=scheme), table, places, others
+
+    def test_rows_of_a_set(self):
+        for wanted, table, places, others in self.tables():
+            mask, beside = wanted.has_all(table["version"]), (~wanted).has_all(table["version"])
+            for found, rows in ((mask, places), (beside, others)):
+                self.assertEqual(list(table[found]["place"]), rows)
+                self.assertEqual(list(table.loc[found, "place"]), rows)
+                self.assertEqual(list(table["place"][found]), rows)
+                self.assertEqual(list(table["place"].to_numpy()[found]), rows)
+                self.assertEqual(found.sum(), len(rows))
+            # What is missing or no version is in neither.
+            self.assertEqual(list(table[~(mask | beside)]["place"]), [5, 6])
+            self.assertEqual(list(table[mask & (table["place"] > 0)]["place"]), [place for place in places if place])
+            self.assertEqual(list(table[~mask]["place"]), others + [5, 6])
+
+    def test_rows_of_a_filtered_table(self):
+        for wanted, table, places, others in self.tables():
+            for some in (table[table["place"] != places[0]], table.iloc[::-1], table.iloc[[4, 0, 6, 1, 5, 2]]):
+                found = some[wanted.has_all(some["version"])]
+                self.assertEqual(list(found["place"]), [place for place in some["place"] if place in places])
+            self.assertEqual(len(table[:0][wanted.has_all(table[:0]["version"])]), 0)
+
+    def test_rows_that_a_requirement_matches(self):
+        table = pandas.DataFrame({"version": ["1.2", None, "1.10", "x y", "0:1.2"]}, index=list("aabbc"))
+        for requirement in ("<1.10", versions.Requirement("<1.10"), versions.VersionSet("<1.10")):
+            found = table[versions.match_all(requirement, table["version"])]
+            self.assertEqual(list(found["version"]), ["1.2", "0:1.2"])
+
+    def test_versions_in_tags(self):
+        table = pandas.DataFrame({"tag": ["v1.2", "latest", None, "v1.10"]}, index=list("aaaa"))
+        found = versions.in_tags(table["tag"])
+        self.assertEqual(list(table[versions.VersionSet("<1.10").has_all(found)]["tag"]), ["v1.2"])
+        table["version"] = found
+        self.assertEqual(list(table["version"]), ["1.2", None, None, "1.10"])
+
+    def test_newest_row_of_each_group(self):
+        rows = [("a", "1.9"), ("b", None), ("a", "1.10"), ("b", "x y"), ("a", "0:1.10"), ("b", "1.0")]
+        table = pandas.DataFrame(rows, columns=["name", "version"], index=list("xxyyzz"))
+        found = {name: versions.newest(group.itertuples(), key=lambda row: row.version).Index
+                 for name, group in table.groupby("name")}
+        self.assertEqual(found, {"a": "y", "b": "z"})
 
 
 counted.end({"recipes": unittest.defaultTestLoader.loadTestsFromModule(sys.modules["__main__"])})

@@ -13,6 +13,7 @@ import types
 import unittest
 from unittest import mock
 
+import arrow
 import versions
 from lists import LongLists
 
@@ -347,6 +348,103 @@ class Items(LongLists):
     def test_dictionaries_and_sets(self):
         self.assertEqual(versions.kinds({"1.2": 1, "1.2.3": 2}), ["general", "ideal"])
         self.assertEqual(versions.sorted({"1.3", "1.2"}), ["1.2", "1.3"])
+
+
+class Series:
+    """What a call has to find in a Series of pandas, which few of the Pythons have."""
+
+    ndim, name = 1, "version"
+
+    def __init__(self, texts, index, **made):
+        self.texts, self.index, self.made = list(texts), index, made
+
+    def __iter__(self):
+        return iter(self.texts)
+
+    @property
+    def _constructor(self):
+        return Series
+
+
+class OfSeries(unittest.TestCase):
+    TEXTS = ["1.2", None, "x y", "1.2.3", float("nan")]
+    CALLS = {
+        "kinds": (versions.kinds, ["general", None, None, "ideal", None]),
+        "sort_keys": (versions.sort_keys, [versions.sort_key("1.2"), None, None, versions.sort_key("1.2.3"), None]),
+        "stabilities": (versions.stabilities, [versions.Stability.STABLE, None, None, versions.Stability.STABLE, None]),
+        "in_tags": (versions.in_tags, ["1.2", None, None, "1.2.3", None]),
+    }
+    MASKS = {
+        "match_all": lambda texts: versions.match_all("<1.2.3", texts),
+        "match_all of a set": lambda texts: versions.match_all(versions.VersionSet("<1.2.3"), texts),
+        "has_all": versions.VersionSet("<1.2.3").has_all,
+        "has_all in deb": versions.VersionSet("<1.2.3", scheme="deb").has_all,
+    }
+
+    def assert_is_series(self, found, texts, answers, dtype):
+        self.assertIs(type(found), Series)
+        self.assertEqual(list(map(repr, found)), list(map(repr, answers)))
+        self.assertIs(found.index, texts.index)
+        self.assertEqual(found.made, {"name": "version", "dtype": dtype})
+
+    def test_the_answers_are_one_with_its_index(self):
+        for index in ("edcba", "aaaaa", range(5), object()):
+            texts = Series(self.TEXTS, index)
+            for name, (call, answers) in self.CALLS.items():
+                with self.subTest(name):
+                    self.assert_is_series(call(texts), texts, answers, object)
+            for name, call in self.MASKS.items():
+                with self.subTest(name):
+                    # Of a list there is None where there is no version, and no mask has that.
+                    self.assertEqual(call(self.TEXTS), [True, None, None, False, None])
+                    self.assert_is_series(call(texts), texts, [True, False, False, False, False], bool)
+        empty = Series([], object())
+        self.assert_is_series(versions.sort_keys(empty, scheme="deb"), empty, [], object)
+        self.assert_is_series(versions.VersionSet("*").has_all(empty), empty, [], bool)
+
+    def test_texts_of_arrow(self):
+        class Column(Series):
+            def __arrow_c_array__(self, requested_schema=None):
+                return arrow.Array([b"1.2", None, b"x y", b"1.2.3", None], b"u").__arrow_c_array__()
+
+            __iter__ = None
+
+        texts = Column([], "abcde")
+        self.assert_is_series(versions.kinds(texts), texts, self.CALLS["kinds"][1], object)
+        self.assert_is_series(versions.match_all("<1.2.3", texts), texts, [True] + [False] * 4, bool)
+
+    def test_what_is_none(self):
+        """An Index has no index, a DataFrame two dimensions, and an array of numpy no constructor."""
+        for lacking in ("_constructor", "ndim", "index"):
+            class Other(Series):
+                def __getattribute__(self, name):
+                    if name == lacking:
+                        raise AttributeError(name)
+                    return super().__getattribute__(name)
+
+            self.assertEqual(versions.kinds(Other(["1.2"], "a")), ["general"])
+        for changed in ({"ndim": 2}, {"_constructor": None}, {"ndim": None}):
+            other = type("Other", (Series,), changed)(["1.2", None], "ab")
+            self.assertEqual(versions.VersionSet("*").has_all(other), [True, None])
+        words = type("Words", (list,), {"_constructor": Series, "ndim": 1, "index": "a", "name": None})(["1.2"])
+        for texts in (words, mock.MagicMock()):
+            self.assertIs(type(versions.kinds(texts)), list)
+
+    def test_one_that_fails(self):
+        for name in ("_constructor", "ndim", "index", "name"):
+            named = {"index": "a", "texts": ["1.2"], "__init__": lambda self: None, name: property(lambda self: [][1])}
+            texts = type("Failing", (Series,), named)()
+            for call in (versions.kinds, versions.VersionSet("*").has_all):
+                self.assertRaises(IndexError, call, texts)
+        # What is wrong with the texts comes first.
+        self.assertRaises(TypeError, versions.kinds, Series([5], "a"))
+        short = type("Short", (Series,), {"_constructor": lambda self, *words, **named: [][1]})
+        self.assertRaises(IndexError, versions.kinds, short(["1.2"], "a"))
+
+    def test_it_is_not_imported(self):
+        program = "import sys, versions; versions.kinds(iter(['1'])); print('pandas' in sys.modules)"
+        said = subprocess.run([sys.executable, "-c", program], stdout=subprocess.PIPE, check=True).stdout
+        self.assertEqual(said, b"False\n")
 
 
 class Sorted(unittest.TestCase):

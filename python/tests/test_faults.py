@@ -19,7 +19,7 @@ from functools import partial
 import arrow
 import versions
 from compiled import WithFolder, compiled
-from test_calls import LIBRARY
+from test_calls import LIBRARY, Series
 
 HERE = os.path.dirname(os.path.abspath(__file__))
 sys.path.insert(0, os.path.join(HERE, "..", "..", "tests", "support"))
@@ -355,6 +355,10 @@ CALLS = {
     "newest of no requirement": partial(versions.newest, ["1.2"], "1"),
     "newest of no text": partial(versions.newest, ["1.2", Odd()]),
     "newest of one": partial(versions.newest, "1.2"),
+    "newest by a key": partial(versions.newest, [["1.3"], [LONG], [None], ["1..2"]], key=operator.itemgetter(0)),
+    "newest by a key of none": partial(versions.newest, [["1..3"]], key=operator.itemgetter(0)),
+    "newest by a key of no text": partial(versions.newest, [["1.3"], [Odd()]], key=operator.itemgetter(0)),
+    "newest by a key that fails": partial(versions.newest, [["1.3"], []], key=operator.itemgetter(0)),
     "newest of a set": partial(versions.newest, ["1.3", PLAIN, None, LONG, "1..2"], SET),
     "newest of a set in tags": partial(versions.newest, ["v1.3", PLAIN, None, "x", LONG], SET, tags=True),
     "newest of an empty set": partial(versions.newest, ["1.3"], SET & ~SET),
@@ -430,6 +434,7 @@ CALLS = {
     "newest in deb in a set": partial(versions.newest, ["1.0", DEB, None, "1-"], DEB_SET, scheme="deb"),
     "newest in deb in a text": partial(versions.newest, ["1.0", DEB, None, "1-"], ">1", scheme="deb"),
     "newest in deb in no set": partial(versions.newest, ["1.0"], ">1-", scheme="deb"),
+    "newest in deb by a key": partial(versions.newest, [["1.0"], [DEB], ["1-"]], key=operator.itemgetter(0), scheme="deb"),
     "newest in deb of none": partial(versions.newest, ["1-"], scheme="deb"),
     "newest in deb of tags": partial(versions.newest, ["1.0"], tags=True, scheme="deb"),
     "newest in a set of another scheme": partial(versions.newest, ["1.0"], DEB_SET),
@@ -483,6 +488,9 @@ PYTHON_CALLS = {
     "pickles of sets": lambda: [pickle.loads(pickle.dumps(each)) for each in (SET, ~SET, MINE_SET.of(PLAIN))],
     "copies of sets": lambda: [copy.deepcopy(each) for each in (SET, ~SET, MINE_SET("*"))],
     "has_all": lambda: SET.has_all(["1.2", None, "1..2", PLAIN]),
+    "has_all of a Series": lambda: SET.has_all(Series(["1.2", None, "1..2", PLAIN], "abcd")).texts,
+    "sort_keys of a Series": lambda: versions.sort_keys(Series(["1.2", None], "ab")).texts,
+    "kinds of a Series that fails": lambda: versions.kinds(type("Bad", (Series,), {"_constructor": 5})(["1.2"], "a")),
     "no set": lambda: str(versions.InvalidVersionSet(">=1.2 | 3")),
     "in deb": lambda: (repr(DEB), repr(DEB_SET), repr(~DEB_SET), str(versions.InvalidVersionSet(">=1-", "deb"))),
     "pickles in deb": lambda: [pickle.loads(pickle.dumps(each)) for each in (DEB, MINE(DEB, scheme="deb"), ~DEB_SET)],
@@ -617,6 +625,9 @@ class Allocations(WithFolder):
                 lambda: versions.newest([*inputs, None]),
                 lambda: versions.newest(inputs, STRICT, tags=True),
                 lambda: versions.newest([mine, plain], WANTED),
+                lambda: versions.newest([[text], [mine], [None]], key=operator.itemgetter(0)),
+                lambda: versions.newest([text, 5], key=lambda item: wrong),
+                lambda: (SET.has_all(Series([*inputs, None], "")), versions.kinds(Series(inputs, mine))),
                 lambda: MINE.from_tag(text),
                 lambda: MINE.from_tag(mine),
                 lambda: versions.Version.from_tag(wrong, text),

@@ -244,6 +244,25 @@ class Calls(LongLists):
             self.assertRaisesRegex(ValueError, words, newest, texts, **named)
         self.assertEqual(newest(texts, None, None, False), "1.10")
 
+    def test_newest_of_rows(self):
+        # Of each scheme one version, and two after it that tie, by docs/SCHEMES.md.
+        tied = {"mixed": "1.0rc1 1.0 0:1.0", "deb": "1.0~rc1 1.0 1.0-0", "rpm": "1.0~rc1 1.0 0:1.0",
+                "pypi": "1.0rc1 1.0 1.0.0", "semver": "1.0.0-rc.1 1.0.0 1.0.0+a", "gem": "1.0.rc1 1.0 1.0.0"}
+        self.assertEqual(set(tied), set(SCHEMES))
+        for scheme, texts in tied.items():
+            before, *level = texts.split()
+            rows = [(text,) for text in (before, *level, "", "1 0", None, float("nan"))]
+            for order in itertools.permutations(rows[:5]):
+                found = versions.newest((*order, *rows[5:]), key=lambda row: row[0], scheme=scheme)
+                self.assertIs(found, next(row for row in order if row[0] in level), (scheme, order))
+            made = [(Version(text, scheme=scheme),) for text in (before, *level)]
+            self.assertIs(versions.newest(made[::-1], key=lambda row: row[0], scheme=scheme), made[2])
+            some = VersionSet(f"<{level[0]}", scheme=scheme)
+            self.assertIs(versions.newest(rows, some, key=lambda row: row[0], scheme=scheme), rows[0])
+            self.assertIsNone(versions.newest(rows[3:], key=lambda row: row[0], scheme=scheme))
+        self.assertRaisesRegex(ValueError, "mixed alone", versions.newest, [], tags=True, key=str, scheme="deb")
+        self.assertRaises(TypeError, versions.newest, [5], key=lambda row: Version("1"), scheme="deb")
+
     def test_texts_of_arrow(self):
         texts = [b"1.0~rc1", None, b"a1", b"1.10-1", b"\xff"]
         wanted = versions.sort_keys(["1.0~rc1", None, None, "1.10-1", None], scheme="deb")

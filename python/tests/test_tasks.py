@@ -4,6 +4,7 @@ changed, what comes next; why a version doesn't match, and which requirements ex
 
 import copy
 import inspect
+import operator
 import pickle
 import random
 import unittest
@@ -12,7 +13,7 @@ import arrow
 import versions
 from lists import LongLists
 from versions import Difference, DifferenceKind, Mismatch, Reason, Stability
-from versions import InvalidRequirement, InvalidVersion, Requirement, Version
+from versions import InvalidRequirement, InvalidVersion, Requirement, Version, VersionSet
 
 # Tags, and the version in each.
 TAGS = {
@@ -234,9 +235,9 @@ INCREASING = "abc.0 0.0 1a.0 1.2.git 1.2 1.2.0-rc.1 1.2.0 1.2.3rc9 1.2.3rc10 1.2
 
 
 def newest_by_model(items, requirement=None, stability=None, tags=False):
-    """By the calls on one version, and by comparisons of Python."""
+    """Its place, or None: by the calls on one version, and by comparisons of Python."""
     newest = of_newest = None
-    for item in items:
+    for place, item in enumerate(items):
         text = item if isinstance(item, str) else Version(item) if isinstance(item, Version) else ""
         try:
             version = Version.from_tag(text) if tags else Version(text)
@@ -247,7 +248,7 @@ def newest_by_model(items, requirement=None, stability=None, tags=False):
         if stability is not None and version.stability < stability:
             continue
         if newest is None or version > of_newest:
-            newest, of_newest = item, version
+            newest, of_newest = place, version
     return newest
 
 
@@ -324,8 +325,12 @@ class Newest(LongLists):
             items[1:1] = chosen.choices([None, nan, "1.0"], k=chosen.randrange(2))
             requirement = chosen.choice(requirements)
             how = chosen.choice([None, None, None, *Stability]), chosen.random() < 0.4
-            wanted = newest_by_model(items, requirement, *how)
+            place = newest_by_model(items, requirement, *how)
+            wanted = None if place is None else items[place]
             self.assertIs(versions.newest(items, requirement, *how), wanted, (items, requirement, how))
+            rows = [[item] for item in items]
+            found = versions.newest(iter(rows), requirement, *how, key=operator.itemgetter(0))
+            self.assertIs(found, None if place is None else rows[place], (items, requirement, how))
             if requirement is not None:
                 self.assertIs(versions.newest(iter(items), Requirement(requirement), *how), wanted)
             found_some += wanted is not None
@@ -367,9 +372,46 @@ class Newest(LongLists):
                 self.assertEqual(str(raised.exception), f"{names} {wrong!r}")
         for wrong in ((), ([], None, None, False, None)):
             self.assertRaises(TypeError, versions.newest, *wrong)
-        self.assertRaises(TypeError, versions.newest, [], key=str)
-        signature = "(texts, requirement=None, stability=None, tags=False, *, scheme='mixed')"
+        self.assertRaises(TypeError, versions.newest, [], None, None, False, str)
+        signature = "(texts, requirement=None, stability=None, tags=False, *, key=None, scheme='mixed')"
         self.assertEqual(str(inspect.signature(versions.newest)), signature)
+
+    def test_rows_by_a_key(self):
+        rows = [{"v": "1.9"}, {"v": None}, {"v": "1.10"}, {"v": "x y"}, {"v": Version("0:1.10")}, {"v": "2-dev"}, {}]
+        key = {"key": lambda row: row.get("v", float("nan"))}
+        # By docs/ORDER.md `1.10` and `0:1.10` tie.
+        for given, place in ((rows[:5], 2), (iter(rows), 5), (rows[:2] + rows[3:5], 4), (rows[4:1:-1], 4)):
+            self.assertIs(versions.newest(given, **key), rows[place])
+        self.assertIs(versions.newest(rows, stability="stable", **key), rows[2])
+        self.assertIs(versions.newest(rows, VersionSet("<1.10"), **key), rows[0])
+        self.assertIs(versions.newest(rows, "<1.10", **key), rows[0])
+        self.assertIsNone(versions.newest(rows, ">3", **key))
+        self.assertIsNone(versions.newest([rows[1], rows[3], {}], **key))
+        self.assertEqual(versions.newest([("v1.9.0", 1), ("v1.10.0", 2)], tags=True, key=lambda row: row[0])[1], 2)
+        # Any item, and the same text of two.
+        self.assertEqual(versions.newest([3, 20, 1], key=str), 20)
+        self.assertIsNone(versions.newest([None, 1], key=lambda item: "2" if item is None else "1"))
+        one = "1.5"
+        self.assertEqual(versions.newest([(1, None), (2, one), (3, one), (4, "1.4")], key=lambda row: row[1]), (2, one))
+        self.assertEqual(versions.newest(["1", "2"], key=None), "2")
+        for nothing in ([], (), iter(()), {}):
+            self.assertIsNone(versions.newest(nothing, key=str))
+
+    def test_a_key_is_called_once_for_each_item_in_their_order(self):
+        called = []
+        versions.newest("3 1 2".split(), key=lambda item: called.append(item) or item)
+        self.assertEqual(called, ["3", "1", "2"])
+
+    def test_a_key_that_fails(self):
+        def failing(item):
+            if item == "2":
+                raise OSError("mine")
+            return item
+
+        self.assertRaisesRegex(OSError, "mine", versions.newest, ["1", "2", "3"], key=failing)
+        for key in (5, "text", lambda: "1", lambda a, b: "1", lambda item: 5, lambda item: ["1"], lambda item: b"1"):
+            self.assertRaises(TypeError, versions.newest, ["1"], key=key)
+        self.assertRaisesRegex(TypeError, "many texts are wanted", versions.newest, "12", key=str)
 
     def test_what_fails_midway(self):
         def midway():

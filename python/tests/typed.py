@@ -56,6 +56,8 @@ has_all: list[Optional[bool]] = in_set.has_all(["1.2", version, None]) + version
 kept_versions: list[Version] = in_set.filter(in_order)
 kept_texts: list[str] = in_set.filter(["1.2", None])
 intervals: tuple[tuple[bytes, Optional[bytes]], ...] = in_set.intervals
+newest_row: Optional[tuple[int, Optional[str]]] = versions.newest([(1, "1.2"), (2, None)], key=lambda row: row[1])
+newest_row_of_deb: Optional[int] = versions.newest([1, 2], ">1", key=str, scheme="deb")
 newest_in_set: Optional[str] = versions.newest(["1.2", None], in_set, tags=True)
 no_set = InvalidVersionSet("1")
 why_no_set: tuple[str, int, str] = (no_set.text, no_set.start, no_set.reason)
@@ -76,6 +78,20 @@ newest_of_deb: Optional[str] = versions.newest(["1.0", None], ">=1", scheme="deb
 sorted_of_deb: list[str] = versions.sorted(["1.0"], scheme="deb")
 rows_of_deb: list[tuple[int, str]] = versions.sorted([(1, "1")], key=lambda row: row[1], invalid="last", scheme="deb")
 set_of_deb: VersionSet = VersionSet.of(of_deb, scheme="deb") | VersionSet(">=1", scheme="deb")
+
+
+class Series:
+    """As one of pandas."""
+
+    index: list[int] = []
+    iloc: list[str] = []
+    name: str = ""
+
+
+# Any, but no list.
+column: Series = in_set.has_all(Series())
+columns: list[Series] = [versions.kinds(Series()), versions.sort_keys(Series(), scheme="deb")]
+columns += [versions.match_all("*", Series()), versions.stabilities(Series()), versions.in_tags(Series())]
 
 
 class Mine(Version):
@@ -102,13 +118,14 @@ Version(1.2)  # type: ignore[arg-type]
 versions.sorted(["1.2", None])  # type: ignore[type-var]
 versions.sorted([("1.2",)])  # type: ignore[type-var]
 versions.sorted([1], key=lambda row: row)  # type: ignore[arg-type,return-value]
-versions.match_all(version, [])  # type: ignore[arg-type]
+versions.match_all(version, [])  # type: ignore[call-overload]
 versions.kinds([1.2])  # type: ignore[list-item]
 wanted.why_not(1.2)  # type: ignore[arg-type]
 version.difference(1.2)  # type: ignore[arg-type]
 versions.newest([1.2])  # type: ignore[type-var]
-versions.newest(["1.2"], stability="betta")  # type: ignore[arg-type]
-versions.newest(["1.2"], stability=True)  # type: ignore[arg-type]
+versions.newest([1], key=lambda row: row)  # type: ignore[arg-type,return-value]
+versions.newest(["1.2"], stability="betta")  # type: ignore[call-overload]
+versions.newest(["1.2"], stability=True)  # type: ignore[call-overload]
 version.key = b""  # type: ignore[misc]
 VersionSet(version)  # type: ignore[arg-type]
 VersionSet.of(1.2)  # type: ignore[arg-type]

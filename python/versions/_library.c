@@ -627,6 +627,19 @@ static int ask_iterable(const struct call *call, PyObject *iterable, PyObject *a
   return failed;
 }
 
+/* A Series of the answers where the texts are one, and else the list; the list is given away. */
+static PyObject *in_series(const struct call *call, PyObject *texts, PyObject *answers) {
+  PyObject *module, *made = NULL;
+
+  if (PyList_Check(texts) || PyTuple_Check(texts)) return answers;
+  module = PyImport_ImportModule("versions._series");
+  if (module != NULL)
+    made = PyObject_CallMethod(module, "answers_of", "(OOi)", texts, answers, call->ask == ask_matches);
+  Py_XDECREF(module);
+  Py_DECREF(answers);
+  return made;
+}
+
 static PyObject *answers_of(const struct call *call, PyObject *texts) {
   PyObject *answers;
   int found;
@@ -635,8 +648,11 @@ static PyObject *answers_of(const struct call *call, PyObject *texts) {
   answers = PyList_New(0);
   if (answers == NULL) return NULL;
   found = ask_arrow(call, texts, answers);
-  if (found < 0 || (found == 0 && ask_iterable(call, texts, answers) < 0)) Py_CLEAR(answers);
-  return answers;
+  if (found < 0 || (found == 0 && ask_iterable(call, texts, answers) < 0)) {
+    Py_DECREF(answers);
+    return NULL;
+  }
+  return in_series(call, texts, answers);
 }
 
 static char *texts_alone[] = {"texts", NULL};
@@ -1080,20 +1096,53 @@ static PyObject *newest_in_other(uint32_t scheme, PyObject *texts, PyObject *req
   return item;
 }
 
-static PyObject *newest(PyObject *Py_UNUSED(module), PyObject *args, PyObject *named) {
-  static char *names[] = {"texts", "requirement", "stability", "tags", "scheme", NULL};
-  PyObject *texts, *requirement = Py_None, *stability = Py_None, *name = NULL;
-  uint32_t scheme = VERSIONS_MIXED;
-  int tags = 0;
+/* What newest is asked, but for the items. */
+struct asked {
+  uint32_t scheme;
+  PyObject *requirement, *stability;
+  int tags;
+};
 
-  if (!PyArg_ParseTupleAndKeywords(args, named, "O|OOp$O:newest", names, &texts, &requirement, &stability, &tags,
-                                   &name) ||
-      (name != NULL && read_scheme(name, &scheme) < 0) || refuse_one(texts) < 0)
+static PyObject *newest_of(const struct asked *asked, PyObject *texts) {
+  if (asked->scheme != VERSIONS_MIXED) return newest_in_other(asked->scheme, texts, asked->requirement);
+  return newest_in_mixed(texts, asked->requirement, asked->stability, asked->tags);
+}
+
+/* The item of a text that newest_of found. Of the places of one object it finds the first, as of all that tie. */
+static PyObject *item_of(PyObject *items, PyObject *texts, PyObject *found) {
+  Py_ssize_t place = 0, count = found == Py_None ? 0 : PyList_Size(texts);
+  PyObject *item;
+
+  while (place < count && PyList_GetItem(texts, place) != found) place++;
+  item = place < count ? PyList_GetItem(items, place) : Py_None;
+  Py_INCREF(item);
+  return item;
+}
+
+/* The newest of items by what the key gives for each. */
+static PyObject *newest_by(const struct asked *asked, PyObject *key, PyObject *iterable) {
+  PyObject *items = PySequence_List(iterable), *texts = items == NULL ? NULL : texts_by(key, items);
+  PyObject *found = texts == NULL ? NULL : newest_of(asked, texts);
+  PyObject *item = found == NULL ? NULL : item_of(items, texts, found);
+
+  Py_XDECREF(found);
+  Py_XDECREF(texts);
+  Py_XDECREF(items);
+  return item;
+}
+
+static PyObject *newest(PyObject *Py_UNUSED(module), PyObject *args, PyObject *named) {
+  static char *names[] = {"texts", "requirement", "stability", "tags", "key", "scheme", NULL};
+  struct asked asked = {VERSIONS_MIXED, Py_None, Py_None, 0};
+  PyObject *texts, *key = Py_None, *name = NULL;
+
+  if (!PyArg_ParseTupleAndKeywords(args, named, "O|OOp$OO:newest", names, &texts, &asked.requirement,
+                                   &asked.stability, &asked.tags, &key, &name) ||
+      (name != NULL && read_scheme(name, &asked.scheme) < 0) || refuse_one(texts) < 0)
     return NULL;
-  if (scheme == VERSIONS_MIXED) return newest_in_mixed(texts, requirement, stability, tags);
-  if (stability != Py_None || tags)
+  if (asked.scheme != VERSIONS_MIXED && (asked.stability != Py_None || asked.tags))
     return fail(PyExc_ValueError, "stability and tags are for the scheme mixed alone, and this is %U", name);
-  return newest_in_other(scheme, texts, requirement);
+  return key == Py_None ? newest_of(&asked, texts) : newest_by(&asked, key, texts);
 }
 
 /*
@@ -1159,7 +1208,7 @@ PyDoc_STRVAR(
     "be\n"
     "exported, or are of another type, is iterated. A missing value has the answer None: None, a NaN of Python or "
     "numpy,\n"
-    "and NA and NaT of pandas.\n"
+    "and NA and NaT of pandas. Of a Series of pandas the answers are a Series with its index.\n"
     "\n"
     ">>> kinds([\"1.2.3\", None, \"1.2\", \"1..2\"])\n"
     "['ideal', None, 'general', None]\n");
@@ -1168,9 +1217,11 @@ PyDoc_STRVAR(sort_keys_doc,
              "sort_keys(texts, *, scheme='mixed')\n--\n\n"
              "The sort key of each of many texts, as `sort_key` gives it, and None for a text that is not a version.\n"
              "\n"
-             "`texts` is what `kinds` takes. Beside the answers, in mixed the call allocates three bytes for each byte "
-             "of the\n"
-             "texts and 13 for each text.\n"
+             "`texts` is what `kinds` takes. So pandas takes it as the key of a sort, and places what has no key as "
+             "missing:\n"
+             "`table.sort_values(\"version\", key=sort_keys)`. Beside the answers, in mixed the call allocates three "
+             "bytes for\n"
+             "each byte of the texts and 13 for each text.\n"
              "\n"
              ">>> keys = sort_keys([\"1.10\", None, \"1.9\", \"1..2\"])\n"
              ">>> [key is None for key in keys], keys[0] > keys[2]\n"
@@ -1182,7 +1233,9 @@ PyDoc_STRVAR(match_all_doc,
              "\n"
              "`requirement` is a `Requirement` or a text, or a `VersionSet`, of which the answers are those of its "
              "`has_all`.\n"
-             "`texts` is what `kinds` takes. `InvalidRequirement` where the text is not a requirement.\n"
+             "`texts` is what `kinds` takes. Of a Series of pandas the answers are a mask: of bool, and False where "
+             "there is no\n"
+             "version. `InvalidRequirement` where the text is not a requirement.\n"
              "\n"
              ">>> match_all(\">=1.1.1,<2.0.0\", [\"1.5\", \"2.0.0\", \"1..2\", None])\n"
              "[True, False, None, None]\n");
@@ -1230,7 +1283,7 @@ PyDoc_STRVAR(in_tags_doc,
              "['1.2.3', '1.10', '1.9', None, None]\n");
 
 PyDoc_STRVAR(newest_doc,
-             "newest(texts, requirement=None, stability=None, tags=False, *, scheme='mixed')\n--\n\n"
+             "newest(texts, requirement=None, stability=None, tags=False, *, key=None, scheme='mixed')\n--\n\n"
              "The newest of many texts and `Version`s by precedence, the first of those that tie; None where none is "
              "left.\n"
              "\n"
@@ -1243,6 +1296,9 @@ PyDoc_STRVAR(newest_doc,
              "its name. With `tags`, a text has its version as `Version.from_tag` finds it, and the text of a "
              "`Version` counts\n"
              "as a tag too. `InvalidRequirement` where the text is not a requirement.\n"
+             "With `key`, the items may be anything, and go by what `key` returns for each: a text, a `Version` or a "
+             "missing\n"
+             "value.\n"
              "With another `scheme` than mixed, one of `SCHEMES`, the `requirement` is a `VersionSet` of it or its "
              "text, and\n"
              "there is neither `stability` nor `tags`.\n"
@@ -1254,7 +1310,9 @@ PyDoc_STRVAR(newest_doc,
              ">>> newest([\"v1.10.0\", \"v2.0.0-beta.1\", \"v2.0.0\"], \"<2\", tags=True)\n"
              "'v1.10.0'\n"
              ">>> newest([\"1.9\", \"1.10\", \"2.0rc1\"], stability=\"stable\")\n"
-             "'1.10'\n");
+             "'1.10'\n"
+             ">>> newest([(\"a\", \"1.10\"), (\"b\", \"1.9\"), (\"c\", None)], key=lambda item: item[1])\n"
+             "('a', '1.10')\n");
 
 static PyMethodDef functions[] = {
     {"kind", NAMED(kind), METH_VARARGS | METH_KEYWORDS, kind_doc},

@@ -2,13 +2,13 @@
 
 from __future__ import annotations
 
-from typing import TYPE_CHECKING, Any, Optional, SupportsIndex, Union
+from typing import TYPE_CHECKING, Any, Optional, SupportsIndex, Union, overload
 
 from . import _library
 from ._value import shown_scheme
 
 if TYPE_CHECKING:
-    from ._library import Texts
+    from ._library import Series, Texts
 
 
 class VersionSet(_library.Formed):
@@ -60,10 +60,15 @@ class VersionSet(_library.Formed):
             if getattr(cls, name) is getattr(VersionSet, name):
                 setattr(cls, name, None)
 
-    def has_all(self, texts: Texts) -> list[Optional[bool]]:
+    @overload
+    def has_all(self, texts: Series) -> Any: ...
+    @overload
+    def has_all(self, texts: Texts) -> list[Optional[bool]]: ...
+    def has_all(self, texts: Any) -> Any:
         """Whether the version of each of many texts is in it, and None for a text that is not a version.
 
-        `texts` is what `kinds` takes.
+        `texts` is what `kinds` takes. Of a Series of pandas the answers are a mask, as `match_all` has it:
+        `table[wanted.has_all(table["version"])]`.
 
         >>> VersionSet("^1.2 || =3").has_all(["1.5", "2.0.0", "1..2", None, Version("3")])
         [True, False, None, None, True]
