@@ -1,5 +1,5 @@
 """The recipes of docs/COOKBOOK.md for pandas and for locks, and of docs/PYTHON.md for pyarrow, run as they stand; columns
-of pandas; what the cookbook has of other systems, beside these (tests/support/schemes.py); and examples/resolver.
+of pandas; what the cookbook has of other systems, beside these (tests/support/schemes.py); examples/resolver and form.
 
     recipes.py
 
@@ -8,6 +8,7 @@ a stand-in of this file has its place. The last line is 'N passed, M failed'.
 """
 
 import contextlib
+import http.client
 import io
 import itertools
 import json
@@ -24,6 +25,8 @@ import unittest
 import warnings
 from collections import Counter
 from functools import partial
+from html.parser import HTMLParser
+from urllib.parse import quote
 
 import numpy
 import pandas
@@ -218,6 +221,97 @@ class Locks(unittest.TestCase):
         new = "\n".join(f"P_{n}==1.{n + n % 2}" for n in range(100_000)).replace("P_", "p")
         found = self.changes("frozen", old, new, "pypi")
         self.assertEqual((len(found), found[0]), (50_000, "p1 rose 1.1 1.2"))
+
+
+class Form(unittest.TestCase):
+    """examples/form, as a browser has it."""
+
+    PROGRAM = os.path.join(HERE, "../../examples/form/form.py")
+    TAGS = ["html", "meta", "title", "style", "form", "label", "input", "button", "p"]
+
+    @classmethod
+    def setUpClass(cls):
+        how = {"stdout": subprocess.PIPE, "stderr": subprocess.DEVNULL, "text": True}
+        cls.process = subprocess.Popen([sys.executable, cls.PROGRAM, "0"], **how)
+        cls.addClassCleanup(cls.process.wait)
+        cls.addClassCleanup(cls.process.terminate)
+        cls.addClassCleanup(cls.process.stdout.close)
+        cls.address = re.fullmatch(r"http://(127\.0\.0\.1:\d+)/\n", cls.process.stdout.readline())[1]
+
+    def get(self, target):
+        connection = http.client.HTTPConnection(self.address, timeout=30)
+        with contextlib.closing(connection):
+            connection.putrequest("GET", target, skip_accept_encoding=True)
+            connection.endheaders()
+            answer = connection.getresponse()
+            return answer.status, answer.headers, answer.read().decode()
+
+    def read(self, query):
+        """What the input holds, what is said, and which tags there are, as a browser reads the page."""
+        status, headers, page = self.get("/" + query)
+        self.assertEqual((status, headers["Content-Type"]), (200, "text/html; charset=utf-8"))
+        self.assertIn("default-src 'none'", headers["Content-Security-Policy"])
+        tags, values, said = [], [], []
+
+        class Reader(HTMLParser):
+            def handle_starttag(self, tag, attributes):
+                tags.append(tag)
+                values.extend(attributes if tag == "input" else ())
+
+            def handle_data(self, data):
+                if "p" in tags:
+                    said.append(data)
+
+        reader = Reader()
+        reader.feed(page)
+        reader.close()
+        named = dict(values)
+        self.assertEqual((len(values), {*named}), (3, {"name", "value", "autofocus"}))
+        return named["value"], "".join(said).strip(), tags
+
+    def test_the_form_alone(self):
+        for query in ("", "?", "?other=1.2", "?Text=1"):
+            self.assertEqual(self.read(query), ("", "", self.TAGS))
+        for query in ("?text", "?text=", "?text=&text=1"):
+            self.assertEqual(self.read(query), ("", "is no version.", [*self.TAGS, "code"]))
+
+    def test_each_kind(self):
+        # By docs/GRAMMAR.md.
+        for text, kind in (("1.2.3", "ideal"), ("1.2.3-rc.1+x", "ideal"), ("1:2.0rc1-3", "general"),
+                           ("20.0026.1_0-2+0.93", "complex")):
+            value, said, tags = self.read("?text=" + quote(text))
+            self.assertEqual((value, said), (text, f"{text} is a version: {kind}."))
+            self.assertEqual(tags, [*self.TAGS, "code"])
+        self.assertEqual(self.read("?text=1.2%2B3&text=1..2")[1], "1.2+3 is a version: general.")
+        self.assertEqual(self.read("?text=1.2+3")[1], "1.2 3 is no version.")
+
+    def test_what_is_typed_is_shown_as_it_is(self):
+        for text in ("1..2", "<script>alert(1)</script>", '"><b>x', "' onfocus='alert(1)", "&amp;", "&lt;b&gt;", "{text}",
+                     "{0}", "%s", "</code></p><p>", "<!--", "]]>", "é版\U0001f600", "a  b", "-->", "\\", "x=1&y=2"):
+            value, said, tags = self.read("?text=" + quote(text, safe=""))
+            self.assertEqual((value, said), (text, f"{text} is no version."))
+            self.assertEqual(tags, [*self.TAGS, "code"])
+
+    def test_what_is_no_text(self):
+        for query in ("?text=%ff", "?text=%ED%A0%80", "?text=%"):
+            value, said, tags = self.read(query)
+            self.assertEqual(set(value), {"%"} if query.endswith("%") else {"\ufffd"})
+            self.assertEqual((said, tags), (f"{value} is no version.", [*self.TAGS, "code"]))
+        self.assertEqual(self.read("?text=1.2%00")[2], [*self.TAGS, "code"])
+
+    def test_long(self):
+        text = "1." * 30_000 + "1"
+        self.assertEqual(self.read("?text=" + text)[:2], (text, f"{text} is a version: general."))
+        self.assertEqual(self.read("?" + "text=&" * 10_000)[0], "")
+        status, _, _ = self.get("/?text=" + "1" * 70_000)
+        self.assertEqual(status, 414)
+
+    def test_other_pages(self):
+        for path in ("/other?text=1.2", "/<b>", "*", "//[?text=1.2"):
+            status, _, page = self.get(path)
+            self.assertEqual(status, 404)
+            self.assertNotIn("<b>", page)
+        self.assertEqual(self.read("?text=1.2")[0], "1.2")
 
 
 class Systems(LongLists):
