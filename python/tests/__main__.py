@@ -1,8 +1,9 @@
 """Runs the tests of the installed package, and the examples of its docstrings, of docs/PYTHON.md, docs/COOKBOOK.md, docs/SCHEMES.md and both README.md.
 
-    python/tests [MODULE ..]
+    python/tests [interpreter]
 
-The modules that are named are left out, as test_faults. The last line is 'N passed, M failed'.
+With that word it leaves out the tests of what the library answers, which is the same by each Python: the extension is
+one binary for all. The last line is 'N passed, M failed'.
 """
 
 import doctest
@@ -26,8 +27,11 @@ class Finder(doctest.DocTestFinder):
         return str(getattr(object, "__module__", "")).startswith("versions._") or super()._from_module(module, object)
 
 
-names = {name[: -len(".py")] for name in os.listdir(HERE) if name.startswith("test_") and name.endswith(".py")}
-suites = {name: unittest.defaultTestLoader.loadTestsFromName(name) for name in sorted(names - set(sys.argv[1:]))}
+names = sorted(name[: -len(".py")] for name in os.listdir(HERE) if name.startswith("test_") and name.endswith(".py"))
+suites = {name: unittest.defaultTestLoader.loadTestsFromName(name) for name in names}
+if sys.argv[1:] == ["interpreter"]:
+    suites = {name: unittest.TestSuite(counted.of_interpreter(suite)) for name, suite in suites.items()}
+    suites = {name: suite for name, suite in suites.items() if suite.countTestCases()}
 suites["versions"] = doctest.DocTestSuite(versions, test_finder=Finder())
 suites["versions._library"] = doctest.DocTestSuite(versions._library, extraglobs=vars(versions))
 for page in PAGES:

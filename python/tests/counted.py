@@ -7,6 +7,21 @@ import unittest
 REASONS = ["no interpreter has a lock of its own before Python 3.12"]
 
 
+def of_library(test):
+    """Marks a test, or a class of them, of what the library answers: that is the same by each Python."""
+    test.of_library = True
+    return test
+
+
+def of_interpreter(suite):
+    """The tests of a suite that have no such mark: what they try goes by the interpreter too."""
+    for test in suite:
+        if isinstance(test, unittest.TestSuite):
+            yield from of_interpreter(test)
+        elif not hasattr(test, "of_library") and not hasattr(getattr(test, test._testMethodName), "of_library"):
+            yield test
+
+
 class Result(unittest.TextTestResult):
     passed = 0
 

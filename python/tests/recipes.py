@@ -216,11 +216,11 @@ class Locks(unittest.TestCase):
         self.assertRaises(KeyError, self.names["locked"], '{"lockfileVersion": 1, "dependencies": {}}')
         self.assertRaises(ValueError, self.names["locked"], "")
 
-    def test_a_hundred_thousand_packages(self):
-        old = "\n".join(f"p{n}==1.{n}" for n in range(100_000))
-        new = "\n".join(f"P_{n}==1.{n + n % 2}" for n in range(100_000)).replace("P_", "p")
+    def test_many_packages(self):
+        old = "\n".join(f"p{n}==1.{n}" for n in range(20_000))
+        new = "\n".join(f"P{n}==1.{n + n % 2}" for n in range(20_000))
         found = self.changes("frozen", old, new, "pypi")
-        self.assertEqual((len(found), found[0]), (50_000, "p1 rose 1.1 1.2"))
+        self.assertEqual((len(found), found[0]), (10_000, "p1 rose 1.1 1.2"))
 
 
 class Form(unittest.TestCase):

@@ -10,6 +10,7 @@ import subprocess
 import sys
 
 import versions
+from counted import of_library
 from lists import LongLists
 
 HERE = os.path.dirname(os.path.abspath(__file__))
@@ -41,6 +42,7 @@ def text_of(line):
     return line.decode("utf-8", "surrogateescape")
 
 
+@of_library
 class BesideVers(LongLists):
     @classmethod
     def setUpClass(cls):

@@ -15,6 +15,7 @@ from unittest import mock
 
 import arrow
 import versions
+from counted import of_library
 from lists import LongLists
 
 # The folder of versions.h: of the library that the package was built with, or else of the repository.
@@ -171,6 +172,7 @@ class One(unittest.TestCase):
             versions.sort_key(Evil("1..2"))
         self.assertEqual((type(raised.exception.text), str(raised.exception)), (str, "not a version: '1..2'"))
 
+    @of_library
     def test_a_text_of_every_length_around_the_room_on_the_stack(self):
         for length in (*range(1, 20), *range(320, 360), *range(500, 530), 1000, 5000, 65536, 65537, 200_000):
             for text in ("a" * length, "1." * (length // 2) + "1"):
@@ -206,6 +208,7 @@ class Many(LongLists):
         wanted = versions.Requirement("^1.2")
         self.assertEqual(versions.match_all(wanted, ["1.5", "2", ".", None]), [True, False, None, None])
 
+    @of_library
     def test_a_million(self):
         texts = [f"{n % 7}.{n % 1000}.{n}" if n % 10 else "1..2" for n in range(1_000_000)]
         kinds, keys, matches = versions.kinds(texts), versions.sort_keys(texts), versions.match_all(">=3", texts)
@@ -214,6 +217,7 @@ class Many(LongLists):
         for n in range(0, 1_000_000, 997):
             self.assertEqual(keys[n], key_of(texts[n]))
 
+    @of_library
     def test_long(self):
         texts = ["1_" * 500_000 + "1", "x y", "9" * 5_000_000, "\0" * 1_000_000]
         self.assertEqual(versions.sort_keys(texts), [key_of(text) for text in texts])

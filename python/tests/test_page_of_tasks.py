@@ -4,6 +4,7 @@ import os
 import re
 import unittest
 
+from counted import of_library
 from versions import InvalidVersion, Stability, Version
 
 PAGE = os.path.join(os.path.dirname(os.path.abspath(__file__)), "..", "..", "docs", "TASKS.md")
@@ -27,6 +28,7 @@ def answer(call, *words):
         return []
 
 
+@of_library
 class Page(unittest.TestCase):
     def test_tags(self):
         count = 0

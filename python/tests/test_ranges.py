@@ -7,6 +7,7 @@ import sqlite3
 import unittest
 
 import versions
+from counted import of_library
 from versions import Range, Requirement, Version
 
 ALL = ("ideal", "general", "complex")
@@ -32,6 +33,7 @@ TEXTS = """0 0.0.2 0.0.3 0.0.3-rc.1 0.0.4 0:1.0 1.0 1.0.0 1.0+x 1.00 1.0_1 1.0-1
     1:1.1 1:1.2rc1 1:1.2 1:1.2_1 1:2.0 a.1""".split()
 
 
+@of_library
 class Ranges(unittest.TestCase):
     def test_bounds(self):
         for text, (low, high, kinds, exact) in WANTED.items():

@@ -10,6 +10,7 @@ import unittest
 
 import arrow
 import versions
+from counted import of_library
 from lists import LongLists
 from versions import InvalidVersion, InvalidVersionSet, Requirement, SCHEMES, Version, VersionSet
 
@@ -280,6 +281,7 @@ class Calls(LongLists):
                     words = "offsets of texts descend, are negative or leave their buffer"
                     self.assertRaisesRegex(ValueError, words, versions.sort_keys, array, scheme=scheme)
 
+    @of_library
     def test_long(self):
         for text in ("1." * 1_000_000 + "1", "9" * 3_000_000, "1" + "~" * 1_000_000, "1" + "a1" * 500_000):
             key = versions.sort_key(text, scheme="deb")
@@ -292,6 +294,7 @@ class Calls(LongLists):
             text = "1" + "~" * length
             self.assertEqual([versions.sort_key(text, scheme="deb")], versions.sort_keys([text], scheme="deb"))
 
+    @of_library
     def test_a_million(self):
         texts = [f"{n % 7}.{n % 1000}~{n}" if n % 10 else "a1" for n in range(1_000_000)]
         keys = versions.sort_keys(texts, scheme="deb")

@@ -11,6 +11,7 @@ import unittest
 import weakref
 
 import versions
+from counted import of_library
 from lists import LongLists
 from versions import InvalidVersion, InvalidVersionSet, Requirement, Version, VersionSet, sort_key
 
@@ -451,10 +452,11 @@ def is_set(text):
         return False
 
 
+@of_library
 class Laws(unittest.TestCase):
     def test_what_is_a_set_and_what_is_in_it_beside_the_model(self):
         chosen, rights, inside = random.Random(3), 0, 0
-        for _ in range(4000):
+        for _ in range(1000):
             text = drawn_text(chosen)
             if not is_set(text):
                 self.assertRaises(InvalidVersionSet, VersionSet, text)
@@ -462,7 +464,7 @@ class Laws(unittest.TestCase):
             answers = [MODEL.has(MODEL.read(text), version) for version in VERSIONS]
             self.assertEqual(VersionSet(text).has_all(VERSIONS), answers, text)
             rights, inside = rights + 1, inside + sum(answers)
-        self.assertTrue(1500 < rights < 3500, rights)
+        self.assertTrue(400 < rights < 900, rights)
         self.assertTrue(0.1 < inside / (rights * len(VERSIONS)) < 0.9, inside)
 
     def drawn(self, seed, count):
@@ -572,6 +574,7 @@ class Newest(unittest.TestCase):
         self.assertRaises(ValueError, versions.newest, ["1"], ALL, "betta")
         self.assertEqual(versions.newest([], ALL), versions.newest([], ALL, tags=True))
 
+    @of_library
     def test_beside_what_is_done_by_hand(self):
         chosen, found_some = random.Random(8), 0
         texts = [*VERSIONS, *("v" + version for version in VERSIONS), "release-1.2.3", "x y", "", "\ud800", "latest"]
@@ -590,6 +593,7 @@ class Newest(unittest.TestCase):
 
 
 class Hostile(LongLists):
+    @of_library
     def test_a_megabyte_of_blanks(self):
         blanks = " \t" * 500_000
         with self.assertRaises(InvalidVersionSet) as raised:
@@ -600,6 +604,7 @@ class Hostile(LongLists):
         # Blanks take no room, and the form no more than it is long.
         self.assertLess(sys.getsizeof(made._form), 200)
 
+    @of_library
     def test_a_megabyte_of_what_is_wrong(self):
         for text, start in (("|" * 1_000_001, 0), ("," * 1_000_000, 0), ("é" * 500_000, 0), ("*" * 1_000_000, 0),
                             ("=" * 1_000_000, 2), ("* " * 500_000 + "é", 1_000_000), ("=1 ||" * 200_000, 1_000_000),
@@ -609,6 +614,7 @@ class Hostile(LongLists):
             self.assertEqual(raised.exception.start, start, text[:5])
             self.assertTrue(str(raised.exception).endswith(raised.exception.reason))
 
+    @of_library
     def test_twenty_thousand_alternatives(self):
         numbers = list(range(20_000))
         random.Random(9).shuffle(numbers)
@@ -630,6 +636,7 @@ class Hostile(LongLists):
             left &= VersionSet(f"!=1.{n}.0")
         self.assertEqual((len(left.intervals), left < made), (19_900, True))
 
+    @of_library
     def test_long_versions(self):
         for long in ("1." * 1_000_000 + "1", "1_" * 1_000_000 + "1", "9" * 5_000_000):
             made, key = VersionSet(f">={long} <9.9.9.9"), sort_key(long)

@@ -11,6 +11,7 @@ import unittest
 
 import arrow
 import versions
+from counted import of_library
 from lists import LongLists
 from versions import Difference, DifferenceKind, Mismatch, Reason, Stability
 from versions import InvalidRequirement, InvalidVersion, Requirement, Version, VersionSet
@@ -125,6 +126,7 @@ class Tags(unittest.TestCase):
         self.assertRaises(TypeError, Version.from_tag)
         self.assertRaises(TypeError, Version.from_tag, "v1", Version("1"))
 
+    @of_library
     def test_long(self):
         ten = 10_000_000
         for front in ("-" * ten, "v" * ten + "-", "v-" * (ten // 2), "a.b-" * (ten // 4), "é" * ten):
@@ -167,6 +169,7 @@ class Stabilities(unittest.TestCase):
             self.assertIs(Stability(int(member)), Stability[member.name])
         self.assertRaises(AttributeError, setattr, Version("1.2"), "stability", Stability.DEV)
 
+    @of_library
     def test_long(self):
         word, many = "a" * 10_000_000, 5_000_000
         for text, stability in ((word, 5), ("1.0.0-" + word, 2), ("1_" * many + "dev", 1), ("b." * many + "rc1", 4)):
@@ -222,6 +225,7 @@ class Columns(LongLists):
             self.assertRaises(TypeError, call)
             self.assertEqual(str(inspect.signature(call)), "(texts)")
 
+    @of_library
     def test_a_million(self):
         texts = [f"v{n % 7}.{n}" + "rc1" * (n % 3 == 0) if n % 10 else "x" for n in range(1_000_000)]
         self.assertAlike(versions.in_tags(texts), [text[1:] or None for text in texts])
@@ -312,6 +316,7 @@ class Newest(LongLists):
                     found = versions.newest(given, of(requirement))
                     self.assertIs(found, next(item for item in given if str(item) == text), (requirement, given))
 
+    @of_library
     def test_beside_a_model(self):
         chosen = random.Random(2)
         tags = [tag for tag in TAGS if len(tag) < 20]
@@ -425,17 +430,21 @@ class Newest(LongLists):
         self.assertRaisesRegex(OSError, "midway", versions.newest, midway())
         self.assertRaisesRegex(OSError, "mine", versions.newest, ["1"], tags=NoTruth())
 
+    @of_library
     def test_a_million(self):
         texts = [f"{n % 7}.{n % 1000}.{n}" if n % 10 else "1..2" for n in range(1_000_000)]
-        in_order = sorted((tuple(map(int, text.split("."))), text) for text in texts if text != "1..2")
-        wanted = in_order[-1][1]
+        def highest(below):
+            right = (n for n in range(1_000_000) if n % 10 and n % 7 < below)
+            return texts[max(right, key=lambda n: (n % 7, n % 1000, n))]
+
+        wanted = highest(7)
         self.assertEqual(versions.newest(texts), wanted)
         self.assertEqual(versions.newest(["v" + text for text in texts], tags=True), "v" + wanted)
-        below = [text for numbers, text in in_order if numbers < (3,)]
-        self.assertEqual(versions.newest(texts, "<3"), below[-1])
+        self.assertEqual(versions.newest(texts, "<3"), highest(3))
         some = [Version(text) for text in texts[1:200_000:3] if text != "1..2"]
         self.assertIs(versions.newest(some), max(some))
 
+    @of_library
     def test_long(self):
         long = "1_" * 500_000 + "1"
         for texts in ([long, "x y", "1"], ["1", Version(long)], [Version("1"), long], ["\0" * 1_000_000, long]):
@@ -512,6 +521,7 @@ class Differences(unittest.TestCase):
                 # Parts before it have the same numbers.
                 self.assertEqual([x.nth(n) for n in range(part)], [y.nth(n) for n in range(part)])
 
+    @of_library
     def test_long(self):
         parts = "1." * 1_000_000
         self.assertEqual(Version(parts + "1").difference(parts + "2"), (DifferenceKind.PART, 1_000_000))
@@ -561,6 +571,7 @@ class Next(unittest.TestCase):
             self.assertRaises(TypeError, version.next, place)
         self.assertEqual(str(version.next(True)), "1.3.0")
 
+    @of_library
     def test_it_is_the_least(self):
         chosen = random.Random(4)
         for _ in range(5000):
@@ -581,6 +592,7 @@ class Next(unittest.TestCase):
                 else:
                     self.assertEqual(str(version.next(place)), wanted, (text, place))
 
+    @of_library
     def test_long(self):
         # Around the room on the stack, and long.
         for count in (*range(120, 135), 5_000_000):
@@ -645,6 +657,7 @@ class WhyNot(unittest.TestCase):
             for other in (None, 1.2, b"1.2", requirement, float("nan")):
                 self.assertRaisesRegex(TypeError, f"of type {type(other).__name__}", requirement.why_not, other)
 
+    @of_library
     def test_beside_the_ranges_of_members(self):
         chosen = random.Random(5)
         operators, texts = "= > >= < <= ~ ^".split(), [*INCREASING, *LEVEL, *RATED, "1_2", "1:1_2", "1.5.0", "2.0.0"]
@@ -671,6 +684,7 @@ class WhyNot(unittest.TestCase):
             seen.add(reason)
         self.assertEqual(seen, set(Reason))
 
+    @of_library
     def test_long(self):
         long = "1." * 1_000_000 + "1"
         found = Requirement("*," * 1_000_000 + f">{long}").why_not(long)
@@ -698,6 +712,7 @@ class Conflicts(unittest.TestCase):
         self.assertIsNone(type("Mine", (Requirement,), {})("*").conflict)
         self.assertEqual(set(Requirement(Evil("<1,>2")).conflict), {"<1", ">2"})
 
+    @of_library
     def test_beside_the_ranges_of_members(self):
         chosen = random.Random(6)
         operators, texts = "= > >= < <= ~ ^".split(), [*INCREASING, *LEVEL, "1_2", "1:1_2", "1.5.0", "2.0.0"]
@@ -722,6 +737,7 @@ class Conflicts(unittest.TestCase):
             found_some += 1
         self.assertTrue(500 < found_some < 2900, found_some)
 
+    @of_library
     def test_long(self):
         long = "1." * 1_000_000 + "1"
         self.assertIsNone(Requirement("*," * 1_000_000 + f">={long},<={long}").conflict)

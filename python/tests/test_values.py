@@ -10,6 +10,7 @@ import re
 import unittest
 import weakref
 
+from counted import of_library
 from versions import InvalidRequirement, InvalidVersion, Requirement, Version, compare, sort_key, sort_keys
 
 # In increasing order by docs/ORDER.md.
@@ -287,6 +288,7 @@ class Versions(unittest.TestCase):
         self.assertIn(loud, Requirement("=1.4"))
         self.assertEqual(repr(mine), "MyVersion('1.3')")
 
+    @of_library
     def test_long(self):
         for text in ("1." * 1_000_000 + "1", "1_" * 1_000_000 + "1", "a" * 10_000_000, "9" * 10_000_000):
             version = Version(text)
@@ -355,6 +357,7 @@ class Requirements(unittest.TestCase):
         # One made by hand of a text that is a requirement
         self.assertEqual((InvalidRequirement("*,*").start, InvalidRequirement("*,*").member), (0, "*,*"))
 
+    @of_library
     def test_the_member_that_is_wrong_of_many_lists(self):
         # By docs/REQUIREMENTS.md; what has a lone surrogate is wrong.
         right = ["*", ">=1", "^1.2.3", "=1.0", "~2", "<2.0-1", ">1:2"]

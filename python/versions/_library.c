@@ -1020,12 +1020,9 @@ static int read_stability(PyObject *object, uint32_t *number) {
 
 /* A list of the items that are searched: all, or those in a set, where its form is not null. */
 static PyObject *items_of(PyObject *texts, const struct set *set, bool tags) {
-  PyObject *items = PySequence_List(texts), *kept;
-
-  if (items == NULL || set->form == NULL) return items;
-  kept = kept_in(set, items, tags);
-  Py_DECREF(items);
-  return kept;
+  if (set->form != NULL) return kept_in(set, texts, tags);
+  Py_INCREF(texts);
+  return texts;
 }
 
 static PyObject *newest_in_mixed(PyObject *texts, PyObject *requirement, PyObject *stability, bool tags) {
@@ -1103,28 +1100,28 @@ struct asked {
   int tags;
 };
 
+/* The newest of the texts in a list that only this call knows; None where there is none. */
 static PyObject *newest_of(const struct asked *asked, PyObject *texts) {
   if (asked->scheme != VERSIONS_MIXED) return newest_in_other(asked->scheme, texts, asked->requirement);
   return newest_in_mixed(texts, asked->requirement, asked->stability, asked->tags);
 }
 
-/* The item of a text that newest_of found. Of the places of one object it finds the first, as of all that tie. */
+/* The item of a text that was found, which is borrowed. Of one object it is the first item, as of all that tie. */
 static PyObject *item_of(PyObject *items, PyObject *texts, PyObject *found) {
-  Py_ssize_t place = 0, count = found == Py_None ? 0 : PyList_Size(texts);
-  PyObject *item;
+  Py_ssize_t place = 0, count = PyList_Size(texts);
 
+  if (items == texts || found == Py_None) return found;
   while (place < count && PyList_GetItem(texts, place) != found) place++;
-  item = place < count ? PyList_GetItem(items, place) : Py_None;
-  Py_INCREF(item);
-  return item;
+  return place < count ? PyList_GetItem(items, place) : Py_None;
 }
 
-/* The newest of items by what the key gives for each. */
+/* The newest of items by what the key gives for each; None where there is none. */
 static PyObject *newest_by(const struct asked *asked, PyObject *key, PyObject *iterable) {
   PyObject *items = PySequence_List(iterable), *texts = items == NULL ? NULL : texts_by(key, items);
   PyObject *found = texts == NULL ? NULL : newest_of(asked, texts);
   PyObject *item = found == NULL ? NULL : item_of(items, texts, found);
 
+  Py_XINCREF(item);
   Py_XDECREF(found);
   Py_XDECREF(texts);
   Py_XDECREF(items);
@@ -1142,7 +1139,7 @@ static PyObject *newest(PyObject *Py_UNUSED(module), PyObject *args, PyObject *n
     return NULL;
   if (asked.scheme != VERSIONS_MIXED && (asked.stability != Py_None || asked.tags))
     return fail(PyExc_ValueError, "stability and tags are for the scheme mixed alone, and this is %U", name);
-  return key == Py_None ? newest_of(&asked, texts) : newest_by(&asked, key, texts);
+  return newest_by(&asked, key, texts);
 }
 
 /*
