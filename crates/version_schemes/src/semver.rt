@@ -11,7 +11,7 @@ ghost use Rattle.version_rules.specs.grammar.Bytes.{dot, is_identifier_byte, is_
 ghost use Rattle.version_rules.specs.grammar.DigitRun.{run_value};
 ghost use Rattle.version_rules.specs.grammar.Front.{begins};
 ghost use Rattle.version_rules.specs.key.Codes.{Writes};
-ghost use Rattle.version_rules.specs.order.Lists.{none_last_cmp};
+ghost use Rattle.version_rules.specs.order.Lists.{bytes_cmp, none_last_cmp};
 ghost use Rattle.version_rules.specs.order.ReleaseOrder.{release_cmp};
 ghost use Rattle.version_rules.specs.order.SemVerOrder.{semver_cmp};
 ghost use Rattle.version_texts.specs.order.Piece.{is_dot};
@@ -245,10 +245,26 @@ fn compare_values(x: &[u8], y: &[u8]) -> Ordering
     requires y { is_number y.now ≡ true }
     ensures { result ≡ nat_cmp (run_value x.now) (run_value y.now) }
 {
-    match x.len().cmp(&y.len()) {
-        Ordering::Equal => x.cmp(y),
-        order => order,
+    if x.len() != y.len() {
+        return x.len().cmp(&y.len());
     }
+    compare_alike(x, y)
+}
+
+// Compares two texts of one length by their bytes. Most are of one or two, for which a loop takes less than a call.
+#[inline(always)]
+fn compare_alike(x: &[u8], y: &[u8]) -> Ordering
+    requires { length x.now ≡ length y.now }
+    ensures { result ≡ bytes_cmp x.now y.now }
+{
+    let mut place = 0;
+    while place < x.len() {
+        if x[place] != y[place] {
+            return x[place].cmp(&y[place]);
+        }
+        place += 1;
+    }
+    Ordering::Equal
 }
 
 // Compares two pre-releases. None comes last.

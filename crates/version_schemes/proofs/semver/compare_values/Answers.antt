@@ -1,4 +1,6 @@
-use Rattle.std.proofs.Common.{◌∙◌, ap, sym}
+use Rattle.std.proofs.Common.{◌∙◌, ap, length, sym}
+use Rattle.std.specs.Cmp.{nat_cmp_is}
+use Rattle.std.specs.FinMap.{nat_cmp-IsAntisymmetric}
 use Rattle.std.specs.Ordering.{ordering_then}
 use Rattle.std.specs.declared.cmp.Ordering.{Ordering}
 use Rattle.std.specs.declared.cmp.Ordering.TheVariants.{Equal}
@@ -8,16 +10,20 @@ use Rattle.version_rules.specs.order.Lists.{bytes_cmp}
 use Rattle.version_schemes.proofs.lemmas.SemVer.Values.{values_compared}
 use Rattle.version_schemes.proofs.semver.compare_values.Goals as goal
 
-pub returns-in-Equal : goal.returns-in-Equal
-returns-in-Equal c =
-    let bytes = bytes_cmp c.args.x.now c.args.y.now in
-    c.cmp-in-Equal.ensures
-    ∙ ap (λ (o : Ordering). ordering_then o bytes) c.in-Equal.ensures
-    ∙ values_compared c.args.x.now c.args.y.now c.requires.x c.requires.y
+pub returns-then-x-y : goal.returns-then-x-y
+returns-then-x-y c =
+    let x = c.args.x.now in
+    let y = c.args.y.now in
+    let bytes = bytes_cmp x y in
+    sym (then_decided c.cmp.result bytes Equal
+    (λ e. c.if-x-y.true (nat_cmp-IsAntisymmetric (length x) (length y) (sym c.cmp.ensures ∙ e)))
+    ∙ then_equal c.cmp.result)
+    ∙ ap (λ (o : Ordering). ordering_then o bytes) c.cmp.ensures ∙ values_compared x y c.requires.x c.requires.y
 
-pub returns-in_default : goal.returns-in_default
-returns-in_default c =
-    let bytes = bytes_cmp c.args.x.now c.args.y.now in
-    sym (then_decided c.cmp.result bytes Equal c.in_default.not-Equal ∙ then_equal c.cmp.result)
-    ∙ ap (λ (o : Ordering). ordering_then o bytes) c.cmp.ensures
-    ∙ values_compared c.args.x.now c.args.y.now c.requires.x c.requires.y
+pub returns : goal.returns
+returns c =
+    let x = c.args.x.now in
+    let y = c.args.y.now in
+    c.compare_alike.ensures
+    ∙ ap (λ (o : Ordering). ordering_then o (bytes_cmp x y)) (nat_cmp_is (length x) (length y) Equal c.if-x-y.false)
+    ∙ values_compared x y c.requires.x c.requires.y
