@@ -44,8 +44,17 @@ impl<'t> Deb<'t> {
     {
         match Deb::read_plain(&[], text) {
             Some(version) => Some(version),
-            None => Deb::read_any(text),
+            None => Deb::read_slowly(text),
         }
+    }
+
+    // Reads any version. A function of its own, so that only this makes room for what the call returns.
+    #[inline(always)]
+    fn read_slowly(text: &'t [u8]) -> Option<Deb<'t>>
+        ensures { option_map plain_deb result ≡ deb_of text.now }
+    {
+        let version = Deb::read_any(text)?;
+        Some(version)
     }
 
     // Reads what stands behind an epoch if it has at most one hyphen and no colon, as most has, in one pass. Where it
@@ -82,6 +91,10 @@ impl<'t> Deb<'t> {
         ensures { option_map plain_deb result ≡ deb_of text.now }
     {
         let (epoch, rest) = split_epoch(text, LARGEST_EPOCH)?;
+        // A text without an epoch is known not to be plain.
+        if epoch.is_empty() {
+            return Deb::read_behind(epoch, rest);
+        }
         match Deb::read_plain(epoch, rest) {
             Some(version) => Some(version),
             None => Deb::read_behind(epoch, rest),
@@ -149,7 +162,7 @@ fn is_revision(text: &[u8]) -> bool
 fn are_of_revision(text: &[u8]) -> bool
     ensures { result ≡ list_all is_of_revision text.now }
 {
-    text.iter().all(|byte| is_of_revision(*byte))
+    split_kinds(text, OF_REVISION).1.is_empty()
 }
 
 #[inline(always)]

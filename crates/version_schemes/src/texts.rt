@@ -104,6 +104,21 @@ pub(crate) fn split_kinds(text: &[u8], end: u8) -> (&[u8], &[u8])
 fn after_kinds(text: &[u8], end: u8) -> &[u8]
     ensures { result.now ≡ drop (prefix_len (λ byte. nat_lt (byte_kind byte) end) text.now) text.now }
 {
+    // The first look-up, before the loop, keeps the address of the table out of the loop.
+    let [first, rest @ ..] = text else {
+        return text;
+    };
+    if byte_kind(*first) >= end {
+        return text;
+    }
+    after_more(rest, end)
+}
+
+// Returns the same, for what follows a byte of these kinds.
+#[inline(always)]
+fn after_more(text: &[u8], end: u8) -> &[u8]
+    ensures { result.now ≡ drop (prefix_len (λ byte. nat_lt (byte_kind byte) end) text.now) text.now }
+{
     let mut left = text;
     while let [byte, rest @ ..] = left {
         if byte_kind(*byte) >= end {

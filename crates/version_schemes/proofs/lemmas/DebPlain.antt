@@ -1,8 +1,10 @@
 -- Versions of Debian with at most one hyphen, behind an epoch or none.
-use Rattle.std.proofs.Common.{◌≡◌, ◌∙◌, ◌<◌, ◌++◌, ◌∷◌, [], ℕ, List, None, Some, ap, get_or, length, nat_lt, refl, sym, true}
+use Rattle.std.proofs.Common.{◌≡◌, ◌∙◌, ◌<◌, ◌==◌, ◌++◌, ◌∷◌, [], ℕ, List, None, Some, ap, append-nil, arith, false, get_or, length, nat_lt, refl, sym, true}
+use Rattle.std.proofs.lemmas.List.Folds.{list_all-append}
 use Rattle.std.specs.List.{list_all}
 use Rattle.version_rules.proofs.lemmas.Front.Runs.{all_weaker}
 use Rattle.version_rules.specs.grammar.DigitRun.{starts_with_digit}
+use Rattle.version_rules.specs.grammar.Front.{begins}
 use Rattle.version_schemes.proofs.lemmas.Kinds.{of_revision}
 use Rattle.version_schemes.proofs.lemmas.Plain.{behind, cut_plain, not_cut_plain}
 use Rattle.version_schemes.specs.Kinds.{byte_kind}
@@ -15,6 +17,20 @@ all_plain : (text : List ℕ) → list_all (λ byte. nat_lt (byte_kind byte) 1) 
 all_plain text kinds =
     let plain = all_weaker (λ byte. nat_lt (byte_kind byte) 1) is_of_revision (λ b e. sym (of_revision b) ∙ e) text kinds in
     (plain, all_weaker is_of_revision is_of_upstream (λ b e. rw e refl) text plain)
+
+-- a text is of a revision's bytes if nothing follows those that it begins with
+pub whole_revision : (text front rest : List ℕ) → text ≡ front ++ rest
+    → list_all (λ byte. nat_lt (byte_kind byte) 1) front ≡ true
+    → begins (λ byte. nat_lt (byte_kind byte) 1) rest ≡ false
+    → (length rest == 0) ≡ list_all is_of_revision text
+whole_revision text front [] whole kinds other =
+    sym (ap (list_all is_of_revision) (whole ∙ append-nil front) ∙ (all_plain front kinds).0)
+whole_revision text front (byte ∷ rest) whole kinds other =
+    let some : (length (byte ∷ rest) == 0) ≡ false = grind arith in
+    let differs : is_of_revision byte ≡ false = sym (of_revision byte) ∙ other in
+    let all : list_all is_of_revision (front ++ byte ∷ rest) ≡ false =
+    list_all-append is_of_revision front (byte ∷ rest) ∙ rw ((all_plain front kinds).0, differs) refl in
+    some ∙ sym (ap (list_all is_of_revision) whole ∙ all)
 
 pub plain_whole : (epoch : ℕ) (text upstream rest : List ℕ) → length rest < 1 → text ≡ upstream ++ rest
     → starts_with_digit text ≡ true → list_all (λ byte. nat_lt (byte_kind byte) 1) upstream ≡ true

@@ -1,7 +1,7 @@
 use Rattle.std.proofs.Common.{◌≡◌, ℕ, Bool, drop, length, nat_lt}
 use Rattle.std.specs.List.{prefix_len}
 use Rattle.version_schemes.specs.Kinds.{byte_kind}
-use Rattle.version_schemes.proofs.texts.after_kinds.Given as goal
+use Rattle.version_schemes.proofs.texts.after_more.Given as goal
 
 -- all bytes so far are of these kinds
 abbrev pub invariant-loop-left : goal.invariant-loop-left
