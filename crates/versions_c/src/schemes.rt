@@ -114,13 +114,14 @@ fn compare<'t, V: Keyed<'t>>(a: &'t [u8], b: &'t [u8], order: &mut i32) -> i32
         (λ v. IfSome (V.read_as b.now) (λ w. order.new ≡ order_code (bytes_cmp v.key w.key))) }
     ensures kept { result ≢ OK → order.new ≡ order.old }
 {
-    match (V::read(a), V::read(b)) {
-        (Some(a), Some(b)) => {
-            *order = order_code(a.compare(&b));
-            OK
-        }
-        (a, b) => pair_status(a.is_some(), b.is_some()),
-    }
+    let Some(a) = V::read(a) else {
+        return pair_status(false, is_version::<V>(b));
+    };
+    let Some(b) = V::read(b) else {
+        return pair_status(true, false);
+    };
+    *order = order_code(a.compare(&b));
+    OK
 }
 
 /// Writes a size that is enough for the key of any text of a length in a scheme.

@@ -6,14 +6,14 @@ use Rattle.version_schemes.proofs.lemmas.Orders.{order_by_keys}
 use Rattle.versions_c.specs.Order.{order_code}
 use Rattle.versions_c.proofs.schemes.compare.Goals as goal
 
-pub returns-in-Some-Some-clause-order : goal.returns-in-Some-Some-clause-order
-returns-in-Some-Some-clause-order g c =
+pub returns-clause-order : goal.returns-clause-order
+returns-clause-order g c =
     let plain = g.V.Keyed.plain in
     let writes : Writes g.V.Keyed.order (λ version. (plain version).key) = search rules in
     let same : to_z w32 (of_z w32 c.order_code.result) ≡ c.order_code.result = search rules in
     let order = c.order_code.ensures ∙ ap order_code
-    (c.compare.ensures ∙ order_by_keys writes c.in-Some-Some.a c.in-Some-Some.b) in
+    (c.compare.ensures ∙ order_by_keys writes c.in-Some.a c.in-Some-read.b) in
     rw same (subst (λ one. IfSome one (λ v. IfSome (g.V.Keyed.read_as c.args.b.now)
-    (λ w. c.order_code.result ≡ order_code (bytes_cmp v.key w.key)))) c.in-Some-Some.ensures
-    (subst (λ other. IfSome other (λ w. c.order_code.result ≡ order_code (bytes_cmp (plain c.in-Some-Some.a).key w.key)))
-    c.in-Some-Some.ensures' order))
+    (λ w. c.order_code.result ≡ order_code (bytes_cmp v.key w.key)))) c.in-Some.ensures
+    (subst (λ other. IfSome other (λ w. c.order_code.result ≡ order_code (bytes_cmp (plain c.in-Some.a).key w.key)))
+    c.in-Some-read.ensures order))
