@@ -46,9 +46,16 @@ pub(crate) fn cut_last(text: &[u8], byte: u8) -> Option<(&[u8], &[u8])>
 /// None if what stands before the colon is no number, or one above `most`. Does not allocate.
 #[inline(always)]
 pub(crate) fn split_epoch<'t>(text: &'t [u8], most: &[u8]) -> Option<(&'t [u8], &'t [u8])>
+    requires { 9 ≤ run_value most.now }
     ensures { option_map (λ cut. (run_value cut.0.now, cut.1.now)) result
         ≡ split_epoch (run_value most.now) text.now }
 {
+    // Most epochs are one digit.
+    if let [digit, b':', ..] = text
+        && digit.is_ascii_digit()
+    {
+        return Some((&text[..1], &text[2..]));
+    }
     match cut_first(text, b':') {
         None => Some((&[], text)),
         Some(cut) if is_epoch(cut.0, most) => Some(cut),
