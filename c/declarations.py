@@ -111,6 +111,8 @@ def functions(header):
     made = []
     for call in header.proved():
         null, passed, refused = [], [], "-VERSIONS_NULL"
+        names = [name for _, name in call.parameters]
+        pointers = [name for kind, name in call.parameters if kind.endswith("*")]
         for (kind, name), (next_kind, next_name) in zip(call.parameters, [*call.parameters[1:], ("", "")]):
             is_pointer, is_const = kind.endswith("*"), kind.startswith("const ")
             is_array = is_pointer and next_kind == "size_t"
@@ -120,6 +122,8 @@ def functions(header):
                 if not is_const:
                     refused = "VERSIONS_NULL"
         made += [call.prototype() + " {"]
+        if names != passed:  # few calls have a null pointer, so the others take no test that they don't need
+            made += [f"  if ({' && '.join(pointers)}) return proved_{call.name}({', '.join(names)});"]
         made += [f"  if ({' || '.join(null)}) return {refused};"] if null else []
         made += [f"  return proved_{call.name}({', '.join(passed)});", "}"]
     return made
