@@ -115,7 +115,7 @@ fn compare<'t, V: Keyed<'t>>(a: &'t [u8], b: &'t [u8], order: &mut i32) -> i32
     ensures kept { result ≢ OK → order.new ≡ order.old }
 {
     let Some(a) = V::read(a) else {
-        return pair_status(false, is_version::<V>(b));
+        return pair_status(false, V::read(b).is_some());
     };
     let Some(b) = V::read(b) else {
         return pair_status(true, false);
