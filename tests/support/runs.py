@@ -115,6 +115,7 @@ OPERATORS = "[possible values: <, <=, =, >=, >, lt, le, eq, ge, gt]"
 STABILITIES = "[possible values: dev, alpha, beta, rc, stable]"
 PLACES = "[possible values: major, minor, patch, a number from 0]"
 WITH_SCHEME = "error: the argument '--explain' cannot be used with '--scheme <NAME>'"
+WITH_SCHEME_COLUMN = "error: the argument '--scheme-column <N>' cannot be used with '--scheme <NAME>' or '--match <SET>'"
 
 
 def tip(kind, meant):
@@ -139,6 +140,8 @@ VERSIONS = (
     Run("sort --scheme pypi -r -u -k 2", "a 1\nb 1.0.dev1\nc 1.0\nd 1.0.post1\n", "d 1.0.post1\na 1\nb 1.0.dev1\n"),
     Run("newest --scheme rpm -n 2 -g 1 -k 2", "a 1.0\nb 1\na 1.0^1\na 1.0~1\n", "a 1.0^1\na 1.0\nb 1\n"),
     Run("newest --scheme gem --prefix x-", "x-1.0.a\nx-1.0\nx-1\n", "x-1.0\n"),
+    Run("sort --scheme-column 1 -k 2", "gem 1\ndeb 1\ngem 1.a\ndeb 1~\n", "gem 1.a\ngem 1\ndeb 1~\ndeb 1\n"),
+    Run("newest --scheme-column 1 -k 2 -g 3", "rpm 1~ a\ngem 1.a b\nrpm 1 a\n", "rpm 1 a\ngem 1.a b\n"),
     Run("filter '>=1.2, <2'", "1.1\n1.2\nx y\n2.0\n", "1.2\n"),
     Run("filter --scheme deb '>= 1.0'", "1.0~rc1\n1.0-0\n1_0\n1:0\n", "1.0-0\n1:0\n"),
     Run("filter -v '>=1.2, <2'", "1.1\n1.2\nx y\n2.0\n", "1.1\n2.0\n"),
@@ -174,6 +177,7 @@ VERSIONS = (
     Run("compare --scheme deb 1 1_0", status=1, fault="versions: not a version: 1_0\n"),
     Run("filter --scheme deb ^1.2", "1.2\n", status=1, fault=f"versions: not a set: ^1.2; at byte 2: {NO_PARTS}\n"),
     Run("compare --explain --scheme deb 1 2", status=2, fault=f"{WITH_SCHEME}{MORE}"),
+    Run("sort --scheme-column 1 --scheme deb", status=2, fault=f"{WITH_SCHEME_COLUMN}{MORE}"),
     Run("filter >=1.0,", "1.0\n", status=1, fault=f"versions: not a set: >=1.0,; at byte 7: {NO_MEMBER}\n"),
     Run("test 1 lt 'x y'", status=2, fault="versions: not a version: x y\n"),
     Run("meets * 1.2", status=2, fault=f"versions: not a set: 1.2; at byte 1: {NO_OPERATOR}\n"),

@@ -24,11 +24,11 @@ SHORT.update(g="group", v="invert-match")
 ENDS = {"zero-terminated", "crlf"}
 PLACE = {"key", "field-separator", "tags", "prefix", "scheme"} | ENDS
 LINES = {"min-stability", "match", "invalid", "invalid-to", "progress"} | PLACE
-VALUED = (LINES | {"count", "group"}) - {"tags", "progress"} - ENDS
+VALUED = (LINES | {"count", "group", "scheme-column"}) - {"tags", "progress"} - ENDS
 # The options of each command, and how many words it takes.
 COMMANDS = {
-    "sort": ({"reverse", "unique"} | LINES, 0, None),
-    "newest": ({"count", "group"} | LINES, 0, None),
+    "sort": ({"reverse", "unique", "scheme-column"} | LINES, 0, None),
+    "newest": ({"count", "group", "scheme-column"} | LINES, 0, None),
     "filter": ({"invert-match"} | LINES, 1, None),
     "show": ({"json"} | ENDS, 0, None),
     "key": ({"scheme"} | ENDS, 0, None),
@@ -106,9 +106,26 @@ class Run:
 
     def texts(self, lines, number):
         """The version of each line, or None."""
-        columns = [self.column(line, number) for line in lines]
-        found = (self.of_mixed if self.scheme == "mixed" else self.of_scheme)(columns)
-        return [text if key else None for text, key in zip(found, versions.sort_keys(found, scheme=self.scheme))]
+        found = {}
+        for group in self.by_scheme(list(enumerate(lines)), 1):
+            columns = [self.column(line, number) for _, line in group]
+            texts = (self.of_mixed if self.scheme == "mixed" else self.of_scheme)(columns)
+            keys = versions.sort_keys(texts, scheme=self.scheme)
+            found.update((place, text) for (place, _), text, key in zip(group, texts, keys) if key)
+        return [found.get(place) for place in range(len(lines))]
+
+    def by_scheme(self, rows, of_line=0):
+        """The rows of each scheme, as schemes first appear: all where no column names them, none of what names none."""
+        groups = {}
+        for row in rows:
+            name = self.scheme
+            if "scheme-column" in self.options:
+                name = readable(self.column(row[of_line], number(self.options["scheme-column"])))
+            groups.setdefault(name, []).append(row)
+        for name, group in groups.items():
+            if name in versions.SCHEMES:
+                self.scheme = name
+                yield group
 
     def of_mixed(self, columns):
         """The texts in columns that are to be versions, or None: those in tags by the library, for mixed alone."""
@@ -169,20 +186,24 @@ class Run:
         bad = self.bad(lines, texts, asked)
         rows = [(line, text) for line, text in zip(lines, texts) if text is not None]
         least = STABILITIES.index(self.options.get("min-stability", "dev"))
-        levels = self.levels([text for _, text in rows])
-        rows = [row for row, level in zip(rows, levels) if level >= least]
+        stable = set()
+        for group in self.by_scheme(rows):
+            levels = self.levels([text for _, text in group])
+            stable.update(id(row) for row, level in zip(group, levels) if level >= least)
+        rows = [row for row in rows if id(row) in stable]
         if "match" in self.options:
             rows = matching(rows, wanted, True)
-        good = [line for line, _ in arrange(rows)]
+        good = [line for group in self.by_scheme(rows) for line, _ in arrange(group)]
         if "invalid-to" in self.options:
             self.written[self.options["invalid-to"]] = b"".join(line + self.end() for line in bad)
         kept = {"first": bad + good, "last": good + bad}.get(asked, good)
         return b"".join(line + self.end() for line in kept)
 
     def sort(self, *files):
-        reverse, is_mixed = "reverse" in self.options, self.scheme == "mixed"
+        reverse = "reverse" in self.options
 
         def arrange(rows):
+            is_mixed = self.scheme == "mixed"
             keyed = [(versions.sort_key(text, scheme=self.scheme), line, text) for line, text in rows]
             if "unique" in self.options:
                 first = {}
@@ -367,7 +388,7 @@ def parsed(command, words):
 
 
 def are_right(command, options):
-    numbers = [options[name] for name in ("key", "count", "group") if name in options]
+    numbers = [options[name] for name in ("key", "count", "group", "scheme-column") if name in options]
     separator = options.get("field-separator", ",")
     invalid = ["fail", "skip"] if command in ("newest", "diff") else ["fail", "skip", "first", "last"]
     return (
@@ -379,6 +400,7 @@ def are_right(command, options):
         and options.get("scheme", "mixed") in versions.SCHEMES
         and not ("tags" in options and "prefix" in options)
         and not ("explain" in options and "scheme" in options)
+        and not ("scheme-column" in options and ("scheme" in options or "match" in options))
         and (command != "diff" or "lists" in options or not options)
     )
 

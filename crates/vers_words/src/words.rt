@@ -73,6 +73,7 @@ fn options<'w>(alloc: Global) -> LineOptions<'w>
             naming: Naming::Bare,
             scheme: Scheme::Mixed,
         },
+        scheme_column: None,
         choice: Choice {
             least: Stability::Dev,
             wanted: None,

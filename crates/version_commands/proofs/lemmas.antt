@@ -1,3 +1,4 @@
+pub mod BySchemes
 pub mod Changes
 pub mod Each
 pub mod Ends

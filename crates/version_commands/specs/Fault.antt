@@ -12,12 +12,11 @@ use Rattle.version_lines.specs.declared.input.Trouble.{Trouble}
 use Rattle.version_lines.specs.declared.input.Trouble.TheVariants as trouble
 use Rattle.version_commands.specs.Bad.{Reports}
 use Rattle.version_commands.specs.Inputs.{IsRefused, Reading}
-use Rattle.version_commands.specs.Picked.{bad_lines, good_before}
+use Rattle.version_commands.specs.Picked.{bad_lines, good_before, Versions}
 use Rattle.version_commands.specs.Quote.{quoted}
 use Rattle.version_commands.specs.Sets.{IsWrongSet, keys_of}
 use Rattle.version_rules.specs.requirement.Requirements.{requirements_of}
 use Rattle.version_sets.specs.Reason.{reason_text}
-use Rattle.version_lines.specs.Sort.{Reads}
 use Rattle.version_schemes.specs.any.Order.{any_of}
 use Rattle.version_schemes.specs.declared.scheme.Scheme.{Scheme}
 use Rattle.version_commands.specs.declared.faults.Fault.{Fault}
@@ -101,9 +100,9 @@ ComesOfBad policy crlf bad =
     ComesOfBadAfter policy crlf bad.before (map (λ line. line.now) bad.lines.items)
 
 -- those of some lines
-abbrev pub ComesOfLines : Invalid → Bool → Reads → List (List ℕ) → Fault → Type 0
-ComesOfLines policy crlf reads lines =
-    ComesOfBadAfter policy crlf (good_before reads lines) (bad_lines reads lines)
+abbrev pub ComesOfLines : Invalid → Bool → Versions → List (List ℕ) → Fault → Type 0
+ComesOfLines policy crlf versions lines =
+    ComesOfBadAfter policy crlf (good_before versions lines) (bad_lines versions lines)
 
 -- the faults of `match` of `vers`, by the word of its list
 abbrev pub ComesOfMatching : List ℕ → Fault → Type 0

@@ -1,5 +1,6 @@
 pub mod Arranged
 pub mod Bad
+pub mod BySchemes
 pub mod Cause
 pub mod Choice
 pub mod Compare

@@ -31,7 +31,7 @@ lines_of_list lists input = lines_of lists.end (joined lists.end (input ∷ []))
 
 -- those that have no version
 abbrev pub bad_lines_of : Lists → List ℕ → List (List ℕ)
-bad_lines_of lists input = bad_lines (reads_of lists.place) (lines_of_list lists input)
+bad_lines_of lists input = bad_lines (version_in (reads_of lists.place)) (lines_of_list lists input)
 
 -- a name, and the version beside it
 abbrev pub Row : Type 0

@@ -1,32 +1,48 @@
 -- What `sort`, `newest` and `filter` write.
-use Rattle.std.specs.Prelude.{◌≡◌, ℕ, Bool, List, [], map, Option, Some, if◌then◌else◌}
+use Rattle.std.specs.Prelude.{◌≡◌, ℕ, Bool, List, [], map, Option, None, Some, if◌then◌else◌}
 use Rattle.version_commands.specs.Arranged.{arranged, placed, policy}
+use Rattle.version_commands.specs.BySchemes.{arranged_by_schemes, version_by}
 use Rattle.version_commands.specs.Choice.{keeps_of}
 use Rattle.std.specs.Option.{option_map}
 use Rattle.version_commands.specs.Inputs.{joined, names_read, AreInputs, Reading}
-use Rattle.version_commands.specs.Picked.{bad_lines, has, kept_lines}
+use Rattle.version_commands.specs.Picked.{Versions, bad_lines, has, kept_lines}
 use Rattle.version_commands.specs.Place.{group_text, reads_of}
 use Rattle.version_commands.specs.declared.options.Arrangement.{Arrangement}
 use Rattle.version_commands.specs.declared.options.Invalid.TheVariants.{Fail}
 use Rattle.version_commands.specs.declared.options.LineOptions.{LineOptions}
+use Rattle.version_commands.specs.declared.options.VersionPlace.{VersionPlace}
 use Rattle.version_lines.specs.Lines.{lines_of, lines_output, whole_line}
-use Rattle.version_lines.specs.Sort.{Reads}
+use Rattle.version_lines.specs.Sort.{Reads, version_in}
+use Rattle.version_lines.specs.declared.column.Column.{Column}
 use Rattle.version_schemes.specs.any.Order.{PlainAny}
 
 -- the lines of an input that are kept
-abbrev pub kept_in : Reads → (PlainAny → Bool) → LineOptions → List ℕ
+abbrev pub kept_in : Versions → (PlainAny → Bool) → LineOptions → List ℕ
     → List (List ℕ)
-kept_in reads keeps options input = kept_lines reads keeps (lines_of options.end input)
+kept_in versions keeps options input = kept_lines versions keeps (lines_of options.end input)
 
 -- what is written for a line of an input, if only lines that are kept are written
-abbrev pub kept_line : Reads → (PlainAny → Bool) → ℕ → List ℕ → List ℕ
-kept_line reads keeps end line = if has keeps reads line then whole_line end line else []
+abbrev pub kept_line : Versions → (PlainAny → Bool) → ℕ → List ℕ → List ℕ
+kept_line versions keeps end line = if has keeps versions line then whole_line end line else []
 
 -- the lines that are kept, arranged
 abbrev pub arranged_in : Reads → (PlainAny → Bool) → Arrangement → LineOptions
     → List ℕ → List (List ℕ)
 arranged_in reads keeps arrangement options input =
-    arranged reads (group_text options.place.crlf) arrangement (kept_in reads keeps options input)
+    arranged reads (group_text options.place.crlf) arrangement (kept_in (version_in reads) keeps options input)
+
+-- the version of each line: of the scheme that its column names, where there is such a column
+abbrev pub versions_by : VersionPlace → Option Column → Versions
+versions_by place None = version_in (reads_of place)
+versions_by place (Some column) = version_by place column
+
+-- the lines that are kept, arranged: those of each scheme, where a column names it
+abbrev pub ordered_by : Option Column → (PlainAny → Bool) → Arrangement → LineOptions → List ℕ → List (List ℕ)
+ordered_by None keeps arrangement options input =
+    arranged_in (reads_of options.place) keeps arrangement options input
+ordered_by (Some column) keeps arrangement options input =
+    arranged_by_schemes options.place column arrangement
+    (kept_in (version_by options.place column) keeps options input)
 
 -- the name of the file for lines without a version, if there is one
 abbrev pub bad_file : LineOptions → Option (List ℕ)
@@ -45,11 +61,11 @@ pub record IsPlaced (options : LineOptions) (bad lines : List (List ℕ))
   pub output_is : output ≡ lines_output (whole_line options.end) (placed (policy options) bad lines)
 
 -- the same with the lines of an input that have no version; there are none if the options want none
-pub record IsArranged (reads : Reads) (options : LineOptions) (input : List ℕ)
+pub record IsArranged (versions : Versions) (options : LineOptions) (input : List ℕ)
     (lines : List (List ℕ)) (leaves : Option (List ℕ × List ℕ) → Type 0)
     (output : List ℕ) : Type 0 where
-  pub good : policy options ≡ Fail → bad_lines reads (lines_of options.end input) ≡ []
-  pub is_placed : IsPlaced options (bad_lines reads (lines_of options.end input)) lines leaves output
+  pub good : policy options ≡ Fail → bad_lines versions (lines_of options.end input) ≡ []
+  pub is_placed : IsPlaced options (bad_lines versions (lines_of options.end input)) lines leaves output
 
 -- the same of a run whose inputs were read in turn
 pub record IsOrdered (arrangement : Arrangement) (options : LineOptions) (files : Reading)
@@ -60,6 +76,5 @@ pub record IsOrdered (arrangement : Arrangement) (options : LineOptions) (files 
   pub texts_are : AreInputs files old new (names_read (map (λ name. name.now) options.files.items))
       texts
   pub keeps_are : keeps_of options.place.scheme options.choice arrangement ≡ Some keeps
-  pub is_arranged : IsArranged (reads_of options.place) options (joined options.end texts)
-      (arranged_in (reads_of options.place) keeps arrangement options
-      (joined options.end texts)) leaves output
+  pub is_arranged : IsArranged (versions_by options.place options.scheme_column) options (joined options.end texts)
+      (ordered_by options.scheme_column keeps arrangement options (joined options.end texts)) leaves output

@@ -1,6 +1,7 @@
 //! The commands over lines: `sort`, `newest` and `filter`.
 ghost use Rattle.std.specs.Prelude.{◌≡◌, [], ℕ, List, if◌then◌else◌, false, map, None, Some, IfErr, IfOk, IsTrue, OnOk};
 ghost use Rattle.version_commands.specs.Arranged.{arranged, is_reversed};
+ghost use Rattle.version_commands.specs.BySchemes.{arranged_by_schemes, version_by};
 ghost use Rattle.version_commands.specs.Cause.{ComesOfArranged, ComesOfArranging};
 ghost use Rattle.version_commands.specs.Choice.{is_kept};
 ghost use Rattle.version_commands.specs.Early.{IfOfWord, UnlessLate};
@@ -12,8 +13,10 @@ ghost use Rattle.version_commands.specs.Place.{group_text, reads_of};
 ghost use Rattle.version_lines.specs.KeyedLines.{lines_in, AreRead};
 ghost use Rattle.version_lines.specs.Lines.{output_by, whole_line};
 ghost use Rattle.version_lines.specs.NewestLine.{newest_alone};
+ghost use Rattle.version_lines.specs.Sort.{version_in};
 
 use crate::bad::refuse_bad;
+use crate::by_schemes::{LinesOfSchemes, arrange_by_schemes};
 use crate::choice::Chooser;
 use crate::faults::Fault;
 use crate::files::{Files, Stage};
@@ -24,7 +27,7 @@ use crate::place::{ByColumn, ByVersion};
 use crate::write::{whole_if, write_answers, write_lines};
 use std::alloc::{AllocError, Global};
 use std::io::{Read, Write};
-use version_lines::{Answer, KeyedLines, LineCommand, NewestLine, SortBy, WholeLines};
+use version_lines::{Answer, Column, KeyedLines, LineCommand, NewestLine, SortBy, WholeLines};
 use version_schemes::AnyVersion;
 
 /// Reads the inputs, and writes those of their lines that the arrangement asks for.
@@ -49,15 +52,20 @@ pub fn serve_lines<'w, F: Files, R: Read, W: Write>(
     let chooser = Chooser::new(alloc, options.place.scheme, &options.choice, &arrangement)?;
     let input = read_inputs(alloc, options.files.as_slice(), options.end, files, reader)?;
     tell(options, files, Stage::Read(input.len()));
-    write_arranged(
-        alloc,
-        arrangement,
-        options,
-        &chooser,
-        input.as_slice(),
-        files,
-        writer,
-    )
+    let bytes = input.as_slice();
+    match options.scheme_column {
+        Some(column) => write_by_schemes(
+            alloc,
+            arrangement,
+            options,
+            column,
+            &chooser,
+            bytes,
+            files,
+            writer,
+        ),
+        None => write_arranged(alloc, arrangement, options, &chooser, bytes, files, writer),
+    }
 }
 
 // Writes those of the lines of an input that the arrangement asks for. Where each line is its version, all of them are
@@ -71,10 +79,10 @@ fn write_arranged<'w, F: Files, W: Write>(
     files: &mut F,
     writer: &mut W,
 ) -> Result<(), Fault<'w>>
-    ensures ends { Ends (IsArranged (reads_of options.now.place) options.now input.now
+    ensures ends { Ends (IsArranged (version_in (reads_of options.now.place)) options.now input.now
         (arranged_in (reads_of options.now.place) (is_kept chooser.now) arrangement.entry options.now
         input.now) (Leaves F.puts files.old files.new))
-        (ComesOfArranged options.now (reads_of options.now.place) input.now)
+        (ComesOfArranged options.now (version_in (reads_of options.now.place)) input.now)
         (W.contents writer.old) (W.contents writer.new) result }
     ensures files { AltersAtMost F.alters (bad_file options.now) files.old files.new }
     ensures kept { UnlessLate (files.new ≡ files.old) result }
@@ -128,10 +136,10 @@ fn write_keyed<'w, B: SortBy + Copy, C: Chooses, F: Files, W: Write>(
     writer: &mut W,
 ) -> Result<(), Fault<'w>>
     requires { is_reversed arrangement ≡ B.is_reversed by }
-    ensures ends { Ends (IsArranged (B.reads by) options.now input.now
+    ensures ends { Ends (IsArranged (version_in (B.reads by)) options.now input.now
         (arranged_in (B.reads by) (C.keeps chooser.now) arrangement.entry options.now input.now)
         (Leaves F.puts files.old files.new))
-        (ComesOfArranged options.now (B.reads by) input.now)
+        (ComesOfArranged options.now (version_in (B.reads by)) input.now)
         (W.contents writer.old) (W.contents writer.new) result }
     ensures files { AltersAtMost F.alters (bad_file options.now) files.old files.new }
     ensures kept { UnlessLate (files.new ≡ files.old) result }
@@ -146,6 +154,40 @@ fn write_keyed<'w, B: SortBy + Copy, C: Chooses, F: Files, W: Write>(
     arrange(alloc, arrangement, options.place.crlf, &mut kept)?;
     tell(options, files, Stage::Ordered(kept.count()));
     write_lines(alloc, options, &bad, &kept, files, writer)
+}
+
+// Writes the lines that are kept, those of each scheme arranged, one scheme after another.
+fn write_by_schemes<'w, F: Files, W: Write>(
+    alloc: Global,
+    arrangement: Arrangement<'_>,
+    options: &LineOptions<'w>,
+    column: Column,
+    chooser: &Chooser,
+    input: &[u8],
+    files: &mut F,
+    writer: &mut W,
+) -> Result<(), Fault<'w>>
+    ensures ends { Ends (IsArranged (version_by options.now.place column) options.now input.now
+        (arranged_by_schemes options.now.place column arrangement.entry
+        (kept_in (version_by options.now.place column) (is_kept chooser.now) options.now input.now))
+        (Leaves F.puts files.old files.new))
+        (ComesOfArranged options.now (version_by options.now.place column) input.now)
+        (W.contents writer.old) (W.contents writer.new) result }
+    ensures files { AltersAtMost F.alters (bad_file options.now) files.old files.new }
+    ensures kept { UnlessLate (files.new ≡ files.old) result }
+{
+    let place = options.place;
+    let mut kept = LinesOfSchemes {
+        place,
+        column,
+        lines: Vec::new(alloc),
+    };
+    let bad = pick(alloc, &mut kept, chooser, options.end, input)?;
+    refuse_bad(alloc, options, &bad)?;
+    tell(options, files, Stage::Kept(kept.lines.len()));
+    let lines = arrange_by_schemes(alloc, arrangement, &place, column, kept.lines.as_slice())?;
+    tell(options, files, Stage::Ordered(lines.len()));
+    write_lines(alloc, options, &bad, &lines, files, writer)
 }
 
 // Whether the newest line is asked for, and nothing told while lines are read: the others needn't be kept.
@@ -172,10 +214,10 @@ fn write_newest<'w, B: SortBy, C: Chooses, F: Files, W: Write>(
     files: &mut F,
     writer: &mut W,
 ) -> Result<(), Fault<'w>>
-    ensures ends { Ends (IsArranged (B.reads by) options.now input.now
-        (newest_alone (B.reads by) (kept_in (B.reads by) (C.keeps chooser.now) options.now input.now))
+    ensures ends { Ends (IsArranged (version_in (B.reads by)) options.now input.now
+        (newest_alone (B.reads by) (kept_in (version_in (B.reads by)) (C.keeps chooser.now) options.now input.now))
         (Leaves F.puts files.old files.new))
-        (ComesOfArranged options.now (B.reads by) input.now)
+        (ComesOfArranged options.now (version_in (B.reads by)) input.now)
         (W.contents writer.old) (W.contents writer.new) result }
     ensures files { AltersAtMost F.alters (bad_file options.now) files.old files.new }
     ensures kept { UnlessLate (files.new ≡ files.old) result }
@@ -186,8 +228,8 @@ fn write_newest<'w, B: SortBy, C: Chooses, F: Files, W: Write>(
     write_lines(alloc, options, &bad, &newest.line(), files, writer)
 }
 
-// Arranges lines that stand as they were added.
-fn arrange<B: SortBy>(
+/// Arranges lines that stand as they were added.
+pub fn arrange<B: SortBy>(
     alloc: Global,
     arrangement: Arrangement<'_>,
     crlf: bool,
@@ -218,8 +260,8 @@ fn arrange<B: SortBy>(
     }
 }
 
-// Whether lines are arranged from the last to the first.
-fn is_reversed(arrangement: &Arrangement<'_>) -> bool
+/// Whether lines are arranged from the last to the first.
+pub fn is_reversed(arrangement: &Arrangement<'_>) -> bool
     ensures { result ≡ is_reversed arrangement.now }
 {
     matches!(arrangement, Arrangement::Sort { reverse: true, .. })
@@ -234,10 +276,10 @@ fn write_kept<'w, F: Files, W: Write>(
     files: &mut F,
     writer: &mut W,
 ) -> Result<(), Fault<'w>>
-    ensures ends { Ends (IsArranged (reads_of options.now.place) options.now input.now
-        (kept_in (reads_of options.now.place) (is_kept chooser.now) options.now input.now)
+    ensures ends { Ends (IsArranged (version_in (reads_of options.now.place)) options.now input.now
+        (kept_in (version_in (reads_of options.now.place)) (is_kept chooser.now) options.now input.now)
         (Leaves F.puts files.old files.new))
-        (ComesOfArranged options.now (reads_of options.now.place) input.now)
+        (ComesOfArranged options.now (version_in (reads_of options.now.place)) input.now)
         (W.contents writer.old) (W.contents writer.new) result }
     ensures files { AltersAtMost F.alters (bad_file options.now) files.old files.new }
     ensures kept { UnlessLate (files.new ≡ files.old) result }
@@ -277,7 +319,7 @@ fn write_at_once<'w, W: Write>(
     writer: &mut W,
 ) -> Result<(), Fault<'w>>
     ensures { Ends (λ output. output ≡ output_by options.now.end
-        (kept_line (reads_of options.now.place) (is_kept chooser.now) options.now.end) input.now)
+        (kept_line (version_in (reads_of options.now.place)) (is_kept chooser.now) options.now.end) input.now)
         (λ fault. fault ≡ Fault.Memory) (W.contents writer.old) (W.contents writer.new) result }
 {
     let chosen = Chosen {
@@ -297,7 +339,7 @@ struct KeptLines<'w, 'a> {
 impl<'a> Takes<'a> for KeptLines<'_, 'a> {
     ghost use Rattle.std.specs.Prelude.{◌≡◌, ⊤, map};
 
-    ghost reads = { λ kept. reads_of kept.place };
+    ghost versions = { λ kept. version_in (reads_of kept.place) };
 
     ghost IsReady = { λ _. ⊤ };
 
@@ -324,7 +366,7 @@ struct Chosen<'c> {
 impl LineCommand for Chosen<'_> {
     ghost use Rattle.version_commands.specs.Ordered.{kept_line};
 
-    ghost line_output = { λ chosen. kept_line (reads_of chosen.place) (is_kept chosen.chooser.now) };
+    ghost line_output = { λ chosen. kept_line (version_in (reads_of chosen.place)) (is_kept chosen.chooser.now) };
 
     #[inline(always)]
     fn answer(&self, line: &[u8]) -> Answer {

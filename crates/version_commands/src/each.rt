@@ -207,8 +207,9 @@ impl<'a> Takes<'a> for Answers<'_, 'a> {
     ghost use Rattle.std.specs.Prelude.{◌≡◌, ⊤, map};
     ghost use Rattle.version_commands.specs.Each.{reads_by, scheme_of, HasSet, HaveAnswered};
     ghost use Rattle.version_commands.specs.Place.{line_text};
+    ghost use Rattle.version_lines.specs.Sort.{version_in};
 
-    ghost reads = { λ answers. reads_by (scheme_of answers.question) answers.crlf };
+    ghost versions = { λ answers. version_in (reads_by (scheme_of answers.question) answers.crlf) };
 
     ghost IsReady = { λ answers. HasSet answers.question answers.set };
 

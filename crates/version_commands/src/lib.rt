@@ -4,6 +4,7 @@
 
 mod arrange;
 mod bad;
+mod by_schemes;
 mod choice;
 mod compare;
 mod difference;

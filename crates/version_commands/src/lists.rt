@@ -5,6 +5,7 @@ ghost use Rattle.version_commands.specs.Lists.{difference_text, first_rows, line
 ghost use Rattle.version_commands.specs.Picked.{AreBadOf};
 ghost use Rattle.version_commands.specs.Place.{reads_of};
 ghost use Rattle.version_lines.specs.Lines.{lines_of, whole_line};
+ghost use Rattle.version_lines.specs.Sort.{version_in};
 ghost use Rattle.version_schemes.specs.any.AnyVersion.{plain_any};
 
 use crate::options::Lists;
@@ -79,7 +80,7 @@ pub fn read_names<'a>(
 ) -> Result<(Names<'a>, BadLines<'a>), AllocError>
     ensures names { IfOk result (λ read. AreNames (rows_of lists.now input.now) read.0) }
     ensures bad { IfOk result (λ read.
-        AreBadOf (reads_of lists.now.place) (lines_of lists.now.end input.now) read.1) }
+        AreBadOf (version_in (reads_of lists.now.place)) (lines_of lists.now.end input.now) read.1) }
 {
     let mut list = NamedList {
         lists,
@@ -101,8 +102,9 @@ impl<'a> Takes<'a> for NamedList<'_, '_, 'a> {
     ghost use Rattle.std.specs.List.{flat_map};
     ghost use Rattle.version_commands.specs.Lists.{rows_of_line, AreNames};
     ghost use Rattle.version_commands.specs.Place.{reads_of};
+    ghost use Rattle.version_lines.specs.Sort.{version_in};
 
-    ghost reads = { λ list. reads_of list.lists.now.place };
+    ghost versions = { λ list. version_in (reads_of list.lists.now.place) };
 
     ghost IsReady = { λ _. ⊤ };
 

@@ -78,6 +78,8 @@ pub struct LineOptions<'w> {
     /// The byte that ends a line.
     pub end: u8,
     pub place: VersionPlace<'w>,
+    /// The column that names the scheme of a line, in place of the one scheme of all; None where all are of one.
+    pub scheme_column: Option<Column>,
     pub choice: Choice<'w>,
     pub invalid: Invalid,
     /// The file that lines without a version are written to, in place of the output.

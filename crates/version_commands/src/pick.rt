@@ -1,9 +1,8 @@
 //! Which lines of an input are kept, and which have no version.
 ghost use Rattle.std.specs.Prelude.{◌≡◌, ◌<◌, ◌≤◌, ◌+◌, ◌^◌, ◌++◌, ◌∷◌, ℕ, Bool, List, [], false, true, Some, IfOk, OnOk};
 ghost use Rattle.std.specs.Option.{option_map};
-ghost use Rattle.version_commands.specs.Picked.{kept_lines, AreBadOf};
+ghost use Rattle.version_commands.specs.Picked.{is_bad, kept_lines, AreBadOf, Versions};
 ghost use Rattle.version_lines.specs.Lines.{lines_of};
-ghost use Rattle.version_lines.specs.Sort.{is_bad, version_in, Reads};
 ghost use Rattle.version_schemes.specs.any.AnyVersion.{plain_any};
 ghost use Rattle.version_schemes.specs.any.Order.{PlainAny};
 
@@ -48,7 +47,7 @@ pub struct BadLines<'a> {
 impl<'a> BadLines<'a> {
     /// None yet.
     pub fn new(alloc: Global) -> BadLines<'a>
-        ensures { (reads : Reads) → AreBadOf reads [] result }
+        ensures { (versions : Versions) → AreBadOf versions [] result }
     {
         BadLines {
             lines: Vec::new(alloc),
@@ -59,9 +58,9 @@ impl<'a> BadLines<'a> {
     /// Adds a line that has none.
     pub fn add(&mut self, line: &'a [u8]) -> Result<(), AllocError>
         ensures before { OnOk result (self.new.before ≡ self.old.before) }
-        ensures bad { OnOk result ((reads : Reads) → (lines : List (List ℕ))
-            → is_bad reads line.now ≡ true → AreBadOf reads lines self.old
-            → AreBadOf reads (lines ++ line.now ∷ []) self.new) }
+        ensures bad { OnOk result ((versions : Versions) → (lines : List (List ℕ))
+            → is_bad versions line.now ≡ true → AreBadOf versions lines self.old
+            → AreBadOf versions (lines ++ line.now ∷ []) self.new) }
     {
         self.lines.push(line)?;
         Ok(())
@@ -72,9 +71,9 @@ impl<'a> BadLines<'a> {
     pub fn pass(&mut self)
         requires { self.old.before + 1 < 2 ^ 64 }
         ensures before { self.new.before ≤ self.old.before + 1 }
-        ensures good { (reads : Reads) → (lines : List (List ℕ)) → (line : List ℕ)
-            → is_bad reads line ≡ false → AreBadOf reads lines self.old
-            → AreBadOf reads (lines ++ line ∷ []) self.new }
+        ensures good { (versions : Versions) → (lines : List (List ℕ)) → (line : List ℕ)
+            → is_bad versions line ≡ false → AreBadOf versions lines self.old
+            → AreBadOf versions (lines ++ line ∷ []) self.new }
     {
         if self.lines.is_empty() {
             self.before += 1;
@@ -84,8 +83,8 @@ impl<'a> BadLines<'a> {
 
 /// What takes lines that have a version, one after another.
 pub trait Takes<'a> {
-    // How lines are read.
-    ghost reads: { Self → Reads };
+    // The version of each line that has one.
+    ghost versions: { Self → Versions };
 
     // Whether it can take a line.
     ghost IsReady: { Self → Type 0 };
@@ -95,14 +94,14 @@ pub trait Takes<'a> {
 
     /// Returns the version of a line.
     fn version(&self, line: &'a [u8]) -> Option<AnyVersion<'a>>
-        ensures { option_map plain_any result ≡ version_in (reads self.now) line.now };
+        ensures { option_map plain_any result ≡ versions self.now line.now };
 
     /// Takes a line, whose version this is.
     fn take(&mut self, version: &AnyVersion<'a>, line: &'a [u8]) -> Result<(), AllocError>
         requires ready { IsReady self.old }
-        requires version { version_in (reads self.old) line.now ≡ Some (plain_any version.now) }
+        requires version { versions self.old line.now ≡ Some (plain_any version.now) }
         ensures ready { IsReady self.new }
-        ensures reads { reads self.new ≡ reads self.old }
+        ensures versions { versions self.new ≡ versions self.old }
         ensures taken { OnOk result ((first : Self) → (lines : List (List ℕ))
             → HasTaken first self.old lines → HasTaken first self.new (lines ++ line.now ∷ [])) };
 }
@@ -119,8 +118,8 @@ pub fn pick<'a, T: Takes<'a>, C: Chooses>(
     requires none { T.HasTaken taker.old taker.old [] }
     ensures ready { OnOk result (T.IsReady taker.new) }
     ensures taken { OnOk result (T.HasTaken taker.old taker.new
-        (kept_lines (T.reads taker.old) (C.keeps chooser.now) (lines_of end input.now))) }
-    ensures bad { IfOk result (AreBadOf (T.reads taker.old) (lines_of end input.now)) }
+        (kept_lines (T.versions taker.old) (C.keeps chooser.now) (lines_of end input.now))) }
+    ensures bad { IfOk result (AreBadOf (T.versions taker.old) (lines_of end input.now)) }
 {
     let mut bad = BadLines::new(alloc);
     let mut rest = input;
@@ -143,8 +142,9 @@ pub fn pick<'a, T: Takes<'a>, C: Chooses>(
 impl<'a, B: SortBy> Takes<'a> for KeyedLines<'a, B> {
     ghost use Rattle.std.specs.Prelude.{◌≡◌};
     ghost use Rattle.version_lines.specs.KeyedLines.{lines_in, AreRead};
+    ghost use Rattle.version_lines.specs.Sort.{version_in};
 
-    ghost reads = { λ lines. B.reads lines.by };
+    ghost versions = { λ lines. version_in (B.reads lines.by) };
 
     ghost IsReady = { λ lines. AreRead B.reads lines };
 
@@ -164,8 +164,9 @@ impl<'a, B: SortBy> Takes<'a> for KeyedLines<'a, B> {
 impl<'a, B: SortBy> Takes<'a> for NewestLine<'a, B> {
     ghost use Rattle.std.specs.Prelude.{◌≡◌, ⊤};
     ghost use Rattle.version_lines.specs.NewestLine.{IsNewestOf};
+    ghost use Rattle.version_lines.specs.Sort.{version_in};
 
-    ghost reads = { λ newest. B.reads newest.by };
+    ghost versions = { λ newest. version_in (B.reads newest.by) };
 
     ghost IsReady = { λ _. ⊤ };
 

@@ -1,5 +1,5 @@
 -- How lines compare by their versions.
-use Rattle.std.specs.Prelude.{ℕ, Bool, List, Option, is_some, not}
+use Rattle.std.specs.Prelude.{ℕ, List, Option}
 use Rattle.std.specs.Option.{option_cmp}
 use Rattle.std.specs.Ordering.{on}
 use Rattle.std.specs.declared.cmp.Ordering.{Ordering}
@@ -15,10 +15,6 @@ pub record Reads : Type 0 where
 -- the version of a line
 abbrev pub version_in : Reads → List ℕ → Option PlainAny
 version_in reads line = any_of reads.scheme (reads.text_of line)
-
--- whether a line has no version
-abbrev pub is_bad : Reads → List ℕ → Bool
-is_bad reads line = not (is_some (version_in reads line))
 
 -- two lines compare as their versions
 abbrev pub lines_cmp : Reads → List ℕ → List ℕ → Ordering

@@ -102,6 +102,10 @@ lines_rules = invalid_rule ∷ text_rule None (codes "invalid-to")
     ∷ scheme_rule ∷ text_rule None (codes "min-stability") ∷ text_rule None (codes "match") ∷ zero_rule
     ∷ crlf_rule ∷ flag_rule None (codes "progress") ∷ []
 
+-- the column that names the scheme of a line
+abbrev pub scheme_column_rule : Rule
+scheme_column_rule = number_rule None (codes "scheme-column")
+
 -- a command without commands of its own
 abbrev pub command_shape : List ℕ → List Rule → Shape
 command_shape name rules = record (new_shape name) { rules = rules }
@@ -131,9 +135,11 @@ sets_rules = word_rule (codes "SET") ∷ word_rule (codes "OTHER") ∷ scheme_ru
 -- what a command takes
 abbrev pub rules_of : Verb → List Rule
 rules_of verb.Sort =
-    words_rule ∷ flag_rule (Some 114) (codes "reverse") ∷ flag_rule (Some 117) (codes "unique") ∷ lines_rules
+    words_rule ∷ flag_rule (Some 114) (codes "reverse") ∷ flag_rule (Some 117) (codes "unique")
+    ∷ scheme_column_rule ∷ lines_rules
 rules_of verb.Newest =
-    words_rule ∷ number_rule (Some 110) (codes "count") ∷ number_rule (Some 103) (codes "group") ∷ lines_rules
+    words_rule ∷ number_rule (Some 110) (codes "count") ∷ number_rule (Some 103) (codes "group")
+    ∷ scheme_column_rule ∷ lines_rules
 rules_of verb.Filter =
     word_rule (codes "SET") ∷ words_rule ∷ flag_rule (Some 118) (codes "invert-match") ∷ lines_rules
 rules_of verb.Show = words_rule ∷ flag_rule None (codes "json") ∷ ending_rules

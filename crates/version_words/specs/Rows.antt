@@ -1,5 +1,5 @@
 -- What the rows say that `clap` made of a command's words.
-use Rattle.std.specs.Prelude.{◌-◌, ℕ, Bool, false, List, [], Option, None, Some, codes, is_some, option_and_then, option_map, unwrap_or, ◌||◌, if◌then◌else◌}
+use Rattle.std.specs.Prelude.{◌-◌, ℕ, Bool, false, List, [], Option, None, Some, codes, is_some, option_and_then, option_map, unwrap_or, ◌&&◌, ◌||◌, if◌then◌else◌}
 use Rattle.std.specs.Option.{option_map_or}
 use Rattle.std.specs.Str.{bytes_eq}
 use Rattle.clap.specs.Words.{all_of, first_of, rows_of, found_of, Row}
@@ -64,6 +64,11 @@ level_of rows = option_map_or stability_named (first_of (codes "min-stability") 
 -- the scheme that is asked for, or else mixed; None where the word names none
 abbrev pub scheme_of : List Row → Option Scheme
 scheme_of rows = option_map_or scheme_named (first_of (codes "scheme") rows) (Some Mixed)
+
+-- whether a column of schemes is given beside a scheme, or beside a set, which is one of a scheme
+abbrev pub has_two_schemes : List Row → Bool
+has_two_schemes rows = is_given (codes "scheme-column") rows
+    && (is_given (codes "scheme") rows || is_given (codes "match") rows)
 
 -- what is asked of lines without a version, if it is; None of all where the word names nothing that
 -- the command can do

@@ -18,7 +18,7 @@ use Rattle.version_commands.specs.declared.options.VersionPlace.{VersionPlace}
 use Rattle.version_lines.specs.declared.column.Column.{Column}
 use Rattle.version_schemes.specs.declared.scheme.Scheme.{Scheme}
 use Rattle.version_words.specs.Named.{operator_named, place_named}
-use Rattle.version_words.specs.Rows.{column_at, column_of, end_of, has_option_of_lists, invalid_of, is_given, is_set, level_of, number_of, scheme_of, separator_of, word_of, words_of}
+use Rattle.version_words.specs.Rows.{column_at, column_of, end_of, has_option_of_lists, has_two_schemes, invalid_of, is_given, is_set, level_of, number_of, scheme_of, separator_of, word_of, words_of}
 use Rattle.version_words.specs.declared.named.Verb.{Verb}
 use Rattle.version_words.specs.declared.named.Verb.TheVariants.{Compare, Diff, Filter, Implies, Key, Meets, Newest, Next, Show, Sort, Test, Why}
 
@@ -46,6 +46,8 @@ pub record AreLineOptions (command : Verb) (separator : Option ℕ) (rows : List
     (options : LineOptions) : Type 0 where
   pub end_is : options.end ≡ end_of rows
   pub place_is : IsPlace rows (column_of (codes "key") separator rows) options.place
+  pub scheme_column_is : options.scheme_column ≡ column_of (codes "scheme-column") separator rows
+  pub one_scheme : has_two_schemes rows ≡ false
   pub choice_is : IsChoice rows options.choice
   pub invalid_is : invalid_of command rows ≡ Some options.invalid
   pub invalid_to_is : option_map (λ name. name.now) options.invalid_to ≡ first_of (codes "invalid-to") rows
@@ -143,8 +145,8 @@ HasWrongPlace rows = (separator_of rows ≡ None)
 
 -- of the options of a command over lines
 abbrev pub HasWrongLines : Verb → List Row → Type 0
-HasWrongLines command rows =
-    HasWrongPlace rows ⊎ ((level_of rows ≡ None) ⊎ (invalid_of command rows ≡ None))
+HasWrongLines command rows = HasWrongPlace rows ⊎ ((has_two_schemes rows ≡ true)
+    ⊎ ((level_of rows ≡ None) ⊎ (invalid_of command rows ≡ None)))
 
 -- of `compare`: the scheme is none, or one is named where the difference is asked for, which is one of mixed
 abbrev pub HasWrongCompare : List Row → Type 0

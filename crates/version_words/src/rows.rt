@@ -1,8 +1,8 @@
 //! What the words say to a command.
 
-ghost use Rattle.std.specs.Prelude.{◌≡◌, ◌⊎◌, None, Some, map, option_map, IfErr, IfOk, unwrap_or};
+ghost use Rattle.std.specs.Prelude.{◌≡◌, ◌⊎◌, None, Some, codes, false, true, map, option_map, IfErr, IfOk, unwrap_or};
 ghost use Rattle.clap.specs.Words.{all_of, first_of, subcommand_rows_of};
-ghost use Rattle.version_words.specs.Rows.{column_at, column_of, end_of, has_option_of_lists, invalid_of, invalid_unasked, invalid_word, is_given, is_set, level_of, number_of, rows_in, scheme_of, separator_of, word_of, words_of};
+ghost use Rattle.version_words.specs.Rows.{column_at, column_of, end_of, has_option_of_lists, has_two_schemes, invalid_of, invalid_unasked, invalid_word, is_given, is_set, level_of, number_of, rows_in, scheme_of, separator_of, word_of, words_of};
 ghost use Rattle.version_words.specs.Words.{command_in, ComesOfWrong};
 
 use crate::faults::WordsFault;
@@ -151,6 +151,32 @@ pub fn scheme_of(alloc: Global, options: &ArgMatches<'_>) -> Result<Scheme, Word
         Some(scheme) => Ok(scheme),
         None => Err(wrong_scheme(alloc, word)),
     }
+}
+
+/// Returns the column that names the scheme of a line, if it is asked for.
+pub fn scheme_column_of(
+    alloc: Global,
+    separator: Option<u8>,
+    options: &ArgMatches<'_>,
+) -> Result<Option<Column>, WordsFault>
+    ensures column { IfOk result (λ column. column ≡ column_of (codes "scheme-column") separator (rows_in options.now)) }
+    ensures one { IfOk result (λ _. has_two_schemes (rows_in options.now) ≡ false) }
+    ensures faults { IfErr result (ComesOfWrong (has_two_schemes (rows_in options.now) ≡ true)) }
+{
+    if has_two_schemes(options) {
+        let what =
+            "the argument '--scheme-column <N>' cannot be used with '--scheme <NAME>' or '--match <SET>'";
+        return Err(wrong(alloc, what));
+    }
+    Ok(column_of(options, "scheme-column", separator))
+}
+
+// Returns whether a column of schemes is given beside a scheme or a set.
+fn has_two_schemes(options: &ArgMatches<'_>) -> bool
+    ensures { result ≡ has_two_schemes (rows_in options.now) }
+{
+    is_given(options, "scheme-column")
+        && (is_given(options, "scheme") || is_given(options, "match"))
 }
 
 /// Returns what becomes of lines without a version.

@@ -260,6 +260,13 @@ const SCHEME: Argument = Argument {
     help: "Whose order it goes by; mixed unless it is given [possible values: mixed, deb, rpm, pypi, semver, gem]",
 };
 
+const SCHEME_COLUMN: Argument = Argument {
+    form: Form::Number,
+    letter: None,
+    name: "scheme-column",
+    help: "Column N names the scheme of a line; the lines of each scheme together, as schemes first appear",
+};
+
 const ZERO_TERMINATED: Argument = Argument {
     form: Form::Flag,
     letter: Some('z'),
@@ -274,7 +281,7 @@ const CRLF: Argument = Argument {
     help: "A carriage return at a line's end belongs to the end",
 };
 
-static SORT: [Argument; 4] = [
+static SORT: [Argument; 5] = [
     FILES,
     Argument {
         form: Form::Flag,
@@ -288,6 +295,7 @@ static SORT: [Argument; 4] = [
         name: "unique",
         help: "Of lines whose versions tie in precedence, the first of the input alone",
     },
+    SCHEME_COLUMN,
     Argument {
         form: Form::Text("WHAT"),
         letter: None,
@@ -296,7 +304,7 @@ static SORT: [Argument; 4] = [
     },
 ];
 
-static NEWEST: [Argument; 4] = [
+static NEWEST: [Argument; 5] = [
     FILES,
     Argument {
         form: Form::Number,
@@ -310,6 +318,7 @@ static NEWEST: [Argument; 4] = [
         name: "group",
         help: "Of each value of column N, the groups as they first appear",
     },
+    SCHEME_COLUMN,
     Argument {
         form: Form::Text("WHAT"),
         letter: None,

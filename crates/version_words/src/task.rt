@@ -11,7 +11,8 @@ use crate::faults::WordsFault;
 use crate::named::{Verb, operator_named, place_named};
 use crate::rows::{
     column_at, column_of, command_in, end_of, has_option_of_lists, invalid_of, is_given, is_set,
-    level_of, number_of, scheme_of, separator_of, text_of, texts_of, word_of, words_of,
+    level_of, number_of, scheme_column_of, scheme_of, separator_of, text_of, texts_of, word_of,
+    words_of,
 };
 use crate::wrong::{wrong, wrong_operator, wrong_place};
 use clap::ArgMatches;
@@ -104,11 +105,13 @@ fn line_options<'w>(
     ensures faults { IfErr result (ComesOfWrong (HasWrongLines command (rows_in options.now))) }
 {
     let place = place_of(alloc, column_of(options, "key", separator), options)?;
+    let scheme_column = scheme_column_of(alloc, separator, options)?;
     let least = level_of(alloc, options)?;
     let invalid = invalid_of(alloc, command, options)?;
     Ok(LineOptions {
         end: end_of(options),
         place,
+        scheme_column,
         choice: Choice {
             least,
             wanted: text_of(options, "match"),

@@ -15,6 +15,7 @@ use Rattle.version_commands.specs.declared.options.Lists.{Lists}
 use Rattle.version_commands.specs.declared.pick.BadLines.{BadLines}
 use Rattle.version_commands.proofs.lemmas.Fault.{bad-cases, lines-bad, reading-cases}
 use Rattle.version_lines.specs.Lines.{lines_of}
+use Rattle.version_lines.specs.Sort.{version_in}
 
 -- a list is one input
 pub one-input : (reads : Reading) (old new : Option (List ℕ)) (name : List ℕ)
@@ -47,7 +48,7 @@ are-changes lists reads old between new first second before after output read is
 -- a list's lines without a version, by what the list holds
 pub input-bad : (lists : Lists) (text input : List ℕ) (bad : BadLines)
     → input ≡ joined lists.end (text ∷ [])
-    → AreBadOf (reads_of lists.place) (lines_of lists.end input) bad
+    → AreBadOf (version_in (reads_of lists.place)) (lines_of lists.end input) bad
     → (fault : Fault) → ComesOfBad lists.invalid lists.place.crlf bad fault
     → ComesOfOne lists text fault
 input-bad lists text input bad whole are fault is = grind (arith, lines-bad)
@@ -55,10 +56,10 @@ input-bad lists text input bad whole are fault is = grind (arith, lines-bad)
 -- where none is left, each line of the list has a version
 pub input-good : (lists : Lists) (text input : List ℕ) (bad : BadLines)
     → input ≡ joined lists.end (text ∷ [])
-    → AreBadOf (reads_of lists.place) (lines_of lists.end input) bad → bad.lines.items ≡ []
+    → AreBadOf (version_in (reads_of lists.place)) (lines_of lists.end input) bad → bad.lines.items ≡ []
     → bad_lines_of lists text ≡ []
 input-good lists text input bad whole (same, before) none =
-    ap (λ (i : List ℕ). bad_lines (reads_of lists.place) (lines_of lists.end i)) (sym whole)
+    ap (λ (i : List ℕ). bad_lines (version_in (reads_of lists.place)) (lines_of lists.end i)) (sym whole)
     ∙ sym same ∙ ap (map (λ (line : Bor (List ℕ)). line.now)) none
 
 -- so the faults of the lines without a version of a list are those of the two, if they are so for what

@@ -1,17 +1,16 @@
 -- What is written at a fault, and what it comes of.
 use Rattle.std.proofs.Common.{ℕ, Bool, Bor, List, String, Global, subst, arith}
 use Rattle.version_commands.specs.Fault.{ComesOfBad, ComesOfBadAfter, ComesOfLines, ComesOfReading}
-use Rattle.version_commands.specs.Picked.{bad_lines, AreBadOf}
+use Rattle.version_commands.specs.Picked.{bad_lines, AreBadOf, Versions}
 use Rattle.std.specs.List.{Contains}
 use Rattle.version_commands.specs.Inputs.{Reading}
-use Rattle.version_lines.specs.Sort.{Reads}
 use Rattle.version_commands.specs.declared.options.Invalid.{Invalid}
 use Rattle.version_commands.specs.declared.pick.BadLines.{BadLines}
 use Rattle.version_commands.specs.declared.faults.Fault.{Fault}
 use Rattle.version_commands.specs.declared.faults.Fault.TheVariants.{NotVersion, NotRequirement, NotSet, NotTested, NotTestedSet, BadLine, NoNext, Memory, Read, Write}
 
 -- the faults of lines without a version, by the lines themselves
-pub lines-bad : (invalid : Invalid) (crlf : Bool) (at : Reads) (lines : List (List ℕ))
+pub lines-bad : (invalid : Invalid) (crlf : Bool) (at : Versions) (lines : List (List ℕ))
     (bad : BadLines) → AreBadOf at lines bad → (fault : Fault) → ComesOfBad invalid crlf bad fault
     → ComesOfLines invalid crlf at lines fault
 lines-bad invalid crlf at lines bad (same, before) fault is =

@@ -166,18 +166,18 @@ all_lines line others rows names i before now are end whole =
 
 row-kept : (lists : Lists) (line : List ℕ) (others : List (List ℕ)) (v : Option PlainAny)
     → version_in (reads_of lists.place) line ≡ v
-    → flat_map (rows_of_line lists) (kept_lines (reads_of lists.place) (λ w. true) others)
+    → flat_map (rows_of_line lists) (kept_lines (version_in (reads_of lists.place)) (λ w. true) others)
     ≡ flat_map (rows_of_line lists) others
-    → flat_map (rows_of_line lists) (kept_lines (reads_of lists.place) (λ w. true) (line ∷ others))
+    → flat_map (rows_of_line lists) (kept_lines (version_in (reads_of lists.place)) (λ w. true) (line ∷ others))
     ≡ flat_map (rows_of_line lists) (line ∷ others)
 row-kept lists line others None is rest = rw is rest
 row-kept lists line others (Some v) is rest =
-    let kept : has (λ w. true) (reads_of lists.place) line ≡ true = rw is refl in
+    let kept : has (λ w. true) (version_in (reads_of lists.place)) line ≡ true = rw is refl in
     rw kept (ap (λ (l : List Row). rows_of_line lists line ++ l) rest)
 
 -- lines without a version name nothing
 pub rows-kept : (lists : Lists) (lines : List (List ℕ))
-    → flat_map (rows_of_line lists) (kept_lines (reads_of lists.place) (λ w. true) lines)
+    → flat_map (rows_of_line lists) (kept_lines (version_in (reads_of lists.place)) (λ w. true) lines)
     ≡ flat_map (rows_of_line lists) lines
 rows-kept lists [] = refl
 rows-kept lists (line ∷ lines) =

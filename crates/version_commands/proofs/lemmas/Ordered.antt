@@ -5,8 +5,8 @@ use Rattle.version_commands.specs.Cause.{ComesOfArranged, ComesOfArranging}
 use Rattle.version_commands.specs.Choice.{is_kept, keeps_of}
 use Rattle.version_commands.specs.Fault.{ComesOfPut}
 use Rattle.version_commands.specs.Inputs.{joined, names_read, AreInputs, Reading}
-use Rattle.version_commands.specs.Ordered.{arranged_in, kept_in, kept_line, IsArranged, IsOrdered, IsPlaced}
-use Rattle.version_commands.specs.Picked.{bad_lines, has, kept_lines}
+use Rattle.version_commands.specs.Ordered.{arranged_in, kept_in, kept_line, ordered_by, versions_by, IsArranged, IsOrdered, IsPlaced}
+use Rattle.version_commands.specs.Picked.{Versions, bad_lines, has, kept_lines}
 use Rattle.version_commands.specs.Place.{reads_of}
 use Rattle.version_commands.specs.declared.choice.Chooser.{Chooser}
 use Rattle.version_commands.specs.declared.faults.Fault.{Fault}
@@ -16,51 +16,50 @@ use Rattle.version_commands.specs.declared.options.Invalid.TheVariants.{Fail, Sk
 use Rattle.version_commands.specs.declared.options.LineOptions.{LineOptions}
 use Rattle.version_lines.specs.Lines.{lines_of, lines_output, output_by, whole_line}
 use Rattle.version_lines.proofs.lemmas.Sorting.{by_test}
-use Rattle.version_lines.specs.Sort.{Reads}
 use Rattle.version_schemes.specs.any.Order.{PlainAny}
 use Rattle.version_schemes.specs.declared.scheme.Scheme.TheVariants.{Mixed}
 
 -- the lines without a version that were found, and those that stand in order, are those of the input
-pub is-arranged : (reads : Reads) (options : LineOptions) (input : List ℕ)
+pub is-arranged : (versions : Versions) (options : LineOptions) (input : List ℕ)
     (bad rows lines : List (List ℕ)) (leaves : Option (List ℕ × List ℕ) → Type 0)
-    (output : List ℕ) → bad ≡ bad_lines reads (lines_of options.end input) → rows ≡ lines
+    (output : List ℕ) → bad ≡ bad_lines versions (lines_of options.end input) → rows ≡ lines
     → (policy options ≡ Fail → bad ≡ []) → IsPlaced options bad rows leaves output
-    → IsArranged reads options input lines leaves output
-is-arranged reads options input bad rows lines leaves output none are good placed = grind arith
+    → IsArranged versions options input lines leaves output
+is-arranged versions options input bad rows lines leaves output none are good placed = grind arith
 
 -- lines that are written as they are read are those that are kept
-written-at-once : (reads : Reads) (keeps : PlainAny → Bool) (end : ℕ)
+written-at-once : (versions : Versions) (keeps : PlainAny → Bool) (end : ℕ)
     (lines : List (List ℕ))
-    → flat_map (kept_line reads keeps end) lines
-    ≡ lines_output (whole_line end) (kept_lines reads keeps lines)
-written-at-once reads keeps end [] = refl
-written-at-once reads keeps end (line ∷ lines) =
-    let others = written-at-once reads keeps end lines in
-    by_test (has keeps reads line)
+    → flat_map (kept_line versions keeps end) lines
+    ≡ lines_output (whole_line end) (kept_lines versions keeps lines)
+written-at-once versions keeps end [] = refl
+written-at-once versions keeps end (line ∷ lines) =
+    let others = written-at-once versions keeps end lines in
+    by_test (has keeps versions line)
     (λ passes. rw passes (ap (λ (l : List ℕ). whole_line end line ++ l) others))
     (λ fails. rw fails others)
 
-pub at-once : (reads : Reads) (keeps : PlainAny → Bool) (options : LineOptions)
+pub at-once : (versions : Versions) (keeps : PlainAny → Bool) (options : LineOptions)
     (input : List ℕ) (leaves : Option (List ℕ × List ℕ) → Type 0) → options.invalid ≡ Skip
     → options.invalid_to ≡ None → leaves None → (output : List ℕ)
-    → output ≡ output_by options.end (kept_line reads keeps options.end) input
-    → IsArranged reads options input (kept_in reads keeps options input) leaves output
-at-once reads keeps options input leaves skips no_file left output is =
+    → output ≡ output_by options.end (kept_line versions keeps options.end) input
+    → IsArranged versions options input (kept_in versions keeps options input) leaves output
+at-once versions keeps options input leaves skips no_file left output is =
     grind (arith, written-at-once)
 
 -- the file for lines without a version is to blame
-pub put-faults : (options : LineOptions) (reads : Reads) (input : List ℕ)
-    (fault : Fault) → ComesOfPut options fault → ComesOfArranged options reads input fault
-put-faults options reads input (NotVersion text) is = absurd is
-put-faults options reads input (NotRequirement text) is = absurd is
-put-faults options reads input (NotSet wrong) is = absurd is
-put-faults options reads input (NotTested text) is = absurd is
-put-faults options reads input (NotTestedSet wrong) is = absurd is
-put-faults options reads input (BadLine number text ends more) is = absurd is
-put-faults options reads input (NoNext text) is = absurd is
-put-faults options reads input Memory is = is
-put-faults options reads input (Read name) is = absurd is
-put-faults options reads input (Write name) is = is
+pub put-faults : (options : LineOptions) (versions : Versions) (input : List ℕ)
+    (fault : Fault) → ComesOfPut options fault → ComesOfArranged options versions input fault
+put-faults options versions input (NotVersion text) is = absurd is
+put-faults options versions input (NotRequirement text) is = absurd is
+put-faults options versions input (NotSet wrong) is = absurd is
+put-faults options versions input (NotTested text) is = absurd is
+put-faults options versions input (NotTestedSet wrong) is = absurd is
+put-faults options versions input (BadLine number text ends more) is = absurd is
+put-faults options versions input (NoNext text) is = absurd is
+put-faults options versions input Memory is = is
+put-faults options versions input (Read name) is = absurd is
+put-faults options versions input (Write name) is = is
 
 -- where each line is its version and each version is kept, nothing has to be asked
 module _ (options : LineOptions) (chooser : Chooser) (arrangement : Arrangement) (input : List ℕ)
@@ -82,18 +81,18 @@ module _ (arrangement : Arrangement) (options : LineOptions) (files : Reading)
   read = subst (λ (n : List (Bor (List ℕ))).
       AreInputs files old new (names_read (map (λ name. name.now) n)) texts) same are
 
-  pub is-ordered : (output : List ℕ) → IsArranged (reads_of options.place) options input
-      (arranged_in (reads_of options.place) keeps arrangement options input) leaves output
+  pub is-ordered : (output : List ℕ) → IsArranged (versions_by options.place options.scheme_column) options input
+      (ordered_by options.scheme_column keeps arrangement options input) leaves output
       → IsOrdered arrangement options files old new leaves output
   is-ordered output arranged = grind (arith, read)
 
-  since-read : (fault : Fault) → ComesOfArranged options (reads_of options.place) input fault
+  since-read : (fault : Fault) → ComesOfArranged options (versions_by options.place options.scheme_column) input fault
       → (end : Option (List ℕ)) × (given : List (List ℕ))
       × AreInputs files old end (names_read (map (λ name. name.now) options.files.items)) given
-      × ComesOfArranged options (reads_of options.place) (joined options.end given) fault
+      × ComesOfArranged options (versions_by options.place options.scheme_column) (joined options.end given) fault
   since-read fault comes = grind (arith, read)
 
-  pub ordered-faults : (fault : Fault) → ComesOfArranged options (reads_of options.place) input fault
+  pub ordered-faults : (fault : Fault) → ComesOfArranged options (versions_by options.place options.scheme_column) input fault
       → ComesOfArranging arrangement options files old fault
   ordered-faults (NotVersion text) comes = since-read (NotVersion text) comes
   ordered-faults (NotRequirement text) comes = since-read (NotRequirement text) comes

@@ -2,11 +2,10 @@
 use Rattle.std.proofs.Common.{◌≡◌, ◌+◌, ◌<◌, ◌≤◌, ℕ, Bool, true, false, not, List, [], ◌∷◌, ◌++◌, length, Option, None, Some, refl, sym, ap, ◌∙◌, arith, append-nil, append_assoc}
 use Rattle.std.specs.List.{filter, prefix_len}
 use Rattle.std.proofs.lemmas.List.Elements.{filter-append}
-use Rattle.version_commands.specs.Picked.{AreBadOf, bad_lines, kept_lines, has}
+use Rattle.version_commands.specs.Picked.{AreBadOf, Versions, bad_lines, is_bad, kept_lines, has}
 use Rattle.version_commands.specs.declared.pick.BadLines.{BadLines}
 use Rattle.version_lines.specs.Lines.{lines_of}
 use Rattle.version_lines.proofs.lemmas.Sorting.{by_test}
-use Rattle.version_lines.specs.Sort.{Reads, is_bad, version_in}
 use Rattle.version_schemes.specs.any.Order.{PlainAny}
 
 -- an element that passes a test, and one that does not, after others
@@ -51,29 +50,29 @@ before-stays bad (y ∷ ys) x some =
     rw other (ap (λ (n : ℕ). 1 + n) (before-stays bad ys x rest)))
 
 -- the lines before a place are picked, the lines after it are not yet
-pub record IsPicked (reads : Reads) (keeps : PlainAny → Bool) (end : ℕ)
+pub record IsPicked (versions : Versions) (keeps : PlainAny → Bool) (end : ℕ)
     (input rest : List ℕ) (kept : List (List ℕ)) (bad : BadLines) : Type 0 where
   pub done : List (List ℕ)
   pub lines : lines_of end input ≡ done ++ lines_of end rest
-  pub kept_are : kept ≡ kept_lines reads keeps done
-  pub bad_are : AreBadOf reads done bad
+  pub kept_are : kept ≡ kept_lines versions keeps done
+  pub bad_are : AreBadOf versions done bad
   pub fits : bad.before + length rest ≤ length input
 
 -- none is picked
-pub picked-start : (reads : Reads) (keeps : PlainAny → Bool) (end : ℕ)
+pub picked-start : (versions : Versions) (keeps : PlainAny → Bool) (end : ℕ)
     (input : List ℕ) (kept : List (List ℕ)) (bad : BadLines) → kept ≡ []
-    → AreBadOf reads [] bad → IsPicked reads keeps end input input kept bad
-picked-start reads keeps end input kept bad none bad_are = grind arith
+    → AreBadOf versions [] bad → IsPicked versions keeps end input input kept bad
+picked-start versions keeps end input kept bad none bad_are = grind arith
 
 -- one line more
-picked-next : (reads : Reads) (keeps : PlainAny → Bool) (end : ℕ)
+picked-next : (versions : Versions) (keeps : PlainAny → Bool) (end : ℕ)
     (input rest after line : List ℕ) (kept longer : List (List ℕ)) (bad now : BadLines)
-    (so_far : IsPicked reads keeps end input rest kept bad)
+    (so_far : IsPicked versions keeps end input rest kept bad)
     → lines_of end rest ≡ line ∷ lines_of end after → length after < length rest
-    → longer ≡ kept_lines reads keeps (so_far.done ++ line ∷ [])
-    → AreBadOf reads (so_far.done ++ line ∷ []) now → now.before ≤ bad.before + 1
-    → IsPicked reads keeps end input after longer now
-picked-next reads keeps end input rest after line kept longer bad now so_far first shorter
+    → longer ≡ kept_lines versions keeps (so_far.done ++ line ∷ [])
+    → AreBadOf versions (so_far.done ++ line ∷ []) now → now.before ≤ bad.before + 1
+    → IsPicked versions keeps end input after longer now
+picked-next versions keeps end input rest after line kept longer bad now so_far first shorter
     kept_now bad_now step = record {
       done = so_far.done ++ line ∷ [];
       lines = so_far.lines ∙ ap (λ (l : List (List ℕ)). so_far.done ++ l) first
@@ -84,55 +83,55 @@ picked-next reads keeps end input rest after line kept longer bad now so_far fir
     }
 
 -- one that is left out
-pub picked-left : (reads : Reads) (keeps : PlainAny → Bool) (end : ℕ)
+pub picked-left : (versions : Versions) (keeps : PlainAny → Bool) (end : ℕ)
     (input rest after line : List ℕ) (kept : List (List ℕ)) (bad now : BadLines)
-    (v : PlainAny) → IsPicked reads keeps end input rest kept bad
+    (v : PlainAny) → IsPicked versions keeps end input rest kept bad
     → lines_of end rest ≡ line ∷ lines_of end after → length after < length rest
-    → version_in reads line ≡ Some v → keeps v ≡ false
-    → ((of : Reads) → (lines : List (List ℕ)) → (l : List ℕ) → is_bad of l ≡ false
+    → versions line ≡ Some v → keeps v ≡ false
+    → ((of : Versions) → (lines : List (List ℕ)) → (l : List ℕ) → is_bad of l ≡ false
     → AreBadOf of lines bad → AreBadOf of (lines ++ l ∷ []) now)
-    → now.before ≤ bad.before + 1 → IsPicked reads keeps end input after kept now
-picked-left reads keeps end input rest after line kept bad now v so_far first shorter some out
+    → now.before ≤ bad.before + 1 → IsPicked versions keeps end input after kept now
+picked-left versions keeps end input rest after line kept bad now v so_far first shorter some out
     passed step =
-    let good : is_bad reads line ≡ false = rw some refl in
-    let left : has keeps reads line ≡ false = rw some out in
-    picked-next reads keeps end input rest after line kept kept bad now so_far first shorter
+    let good : is_bad versions line ≡ false = rw some refl in
+    let left : has keeps versions line ≡ false = rw some out in
+    picked-next versions keeps end input rest after line kept kept bad now so_far first shorter
     (so_far.kept_are
-    ∙ sym (filter-fail (has keeps reads) so_far.done line left))
-    (passed reads so_far.done line good so_far.bad_are) step
+    ∙ sym (filter-fail (has keeps versions) so_far.done line left))
+    (passed versions so_far.done line good so_far.bad_are) step
 
 -- one that is kept
-pub picked-kept : (reads : Reads) (keeps : PlainAny → Bool) (end : ℕ)
+pub picked-kept : (versions : Versions) (keeps : PlainAny → Bool) (end : ℕ)
     (input rest after line : List ℕ) (kept longer : List (List ℕ)) (bad now : BadLines)
-    (v : PlainAny) → IsPicked reads keeps end input rest kept bad
+    (v : PlainAny) → IsPicked versions keeps end input rest kept bad
     → lines_of end rest ≡ line ∷ lines_of end after → length after < length rest
-    → version_in reads line ≡ Some v → keeps v ≡ true → longer ≡ kept ++ line ∷ []
-    → ((of : Reads) → (lines : List (List ℕ)) → (l : List ℕ) → is_bad of l ≡ false
+    → versions line ≡ Some v → keeps v ≡ true → longer ≡ kept ++ line ∷ []
+    → ((of : Versions) → (lines : List (List ℕ)) → (l : List ℕ) → is_bad of l ≡ false
     → AreBadOf of lines bad → AreBadOf of (lines ++ l ∷ []) now)
-    → now.before ≤ bad.before + 1 → IsPicked reads keeps end input after longer now
-picked-kept reads keeps end input rest after line kept longer bad now v so_far first shorter some
+    → now.before ≤ bad.before + 1 → IsPicked versions keeps end input after longer now
+picked-kept versions keeps end input rest after line kept longer bad now v so_far first shorter some
     stays added passed step =
-    let good : is_bad reads line ≡ false = rw some refl in
-    let here : has keeps reads line ≡ true = rw some stays in
-    picked-next reads keeps end input rest after line kept longer bad now so_far first shorter
+    let good : is_bad versions line ≡ false = rw some refl in
+    let here : has keeps versions line ≡ true = rw some stays in
+    picked-next versions keeps end input rest after line kept longer bad now so_far first shorter
     (added ∙ ap (λ (l : List (List ℕ)). l ++ line ∷ []) so_far.kept_are
-    ∙ sym (filter-pass (has keeps reads) so_far.done line here))
-    (passed reads so_far.done line good so_far.bad_are) step
+    ∙ sym (filter-pass (has keeps versions) so_far.done line here))
+    (passed versions so_far.done line good so_far.bad_are) step
 
 -- where no line is bad, each has a version
-kept-first : (reads : Reads) (line : List ℕ) (lines : List (List ℕ))
-    (v : Option PlainAny) → version_in reads line ≡ v
-    → bad_lines reads (line ∷ lines) ≡ []
-    → (bad_lines reads lines ≡ [] → kept_lines reads (λ w. true) lines ≡ lines)
-    → kept_lines reads (λ w. true) (line ∷ lines) ≡ line ∷ lines
-kept-first reads line lines None is none rest =
-    let bad : line ∷ bad_lines reads lines ≡ [] = rw is at none in cc
-kept-first reads line lines (Some v) is none rest =
-    let others : bad_lines reads lines ≡ [] = rw is at none in
+kept-first : (versions : Versions) (line : List ℕ) (lines : List (List ℕ))
+    (v : Option PlainAny) → versions line ≡ v
+    → bad_lines versions (line ∷ lines) ≡ []
+    → (bad_lines versions lines ≡ [] → kept_lines versions (λ w. true) lines ≡ lines)
+    → kept_lines versions (λ w. true) (line ∷ lines) ≡ line ∷ lines
+kept-first versions line lines None is none rest =
+    let bad : line ∷ bad_lines versions lines ≡ [] = rw is at none in cc
+kept-first versions line lines (Some v) is none rest =
+    let others : bad_lines versions lines ≡ [] = rw is at none in
     rw is (ap (λ (l : List (List ℕ)). line ∷ l) (rest others))
 
-pub all-kept : (reads : Reads) (lines : List (List ℕ)) → bad_lines reads lines ≡ []
-    → kept_lines reads (λ w. true) lines ≡ lines
-all-kept reads [] none = refl
-all-kept reads (line ∷ lines) none =
-    kept-first reads line lines (version_in reads line) refl none (all-kept reads lines)
+pub all-kept : (versions : Versions) (lines : List (List ℕ)) → bad_lines versions lines ≡ []
+    → kept_lines versions (λ w. true) lines ≡ lines
+all-kept versions [] none = refl
+all-kept versions (line ∷ lines) none =
+    kept-first versions line lines (versions line) refl none (all-kept versions lines)

@@ -4,7 +4,7 @@ use Rattle.version_commands.specs.Choice.{is_kept}
 use Rattle.version_commands.specs.Files.{Leaves}
 use Rattle.version_commands.specs.Ordered.{arranged_in, IsArranged}
 use Rattle.version_commands.specs.Place.{reads_of}
-use Rattle.version_lines.specs.Sort.{Reads}
+use Rattle.version_lines.specs.Sort.{Reads, version_in}
 use Rattle.version_schemes.specs.declared.scheme.Scheme.TheVariants.{Mixed}
 use Rattle.version_commands.proofs.lemmas.Ends.{ends-weaker}
 use Rattle.version_commands.proofs.lemmas.Ordered.{at-once, lines-alike}
@@ -23,10 +23,10 @@ returns-then-not-reverse g c =
     (c.keeps_all.ensures (search rules)) in
     record {
       ends = ends-weaker _ _ _ _ _ _ c.write_keyed.result
-          (λ output is. subst (λ (at : Reads). IsArranged at options input lines leaves output)
+          (λ output is. subst (λ (at : Reads). IsArranged (version_in at) options input lines leaves output)
           text (subst (λ (l : List (List ℕ)).
-          IsArranged (record { scheme = Mixed; text_of = λ line. line }) options input l leaves output) same is))
-          (λ fault. subst (λ (at : Reads). ComesOfArranged options at input fault) text)
+          IsArranged (version_in (record { scheme = Mixed; text_of = λ line. line })) options input l leaves output) same is))
+          (λ fault. subst (λ (at : Reads). ComesOfArranged options (version_in at) input fault) text)
           c.write_keyed.ensures.ends;
       files = c.write_keyed.ensures.files;
       kept = c.write_keyed.ensures.kept;
@@ -38,8 +38,8 @@ returns-then-leaves_others_out-clause-ends g c =
     let (skips, no_file) = c.leaves_others_out.ensures (search rules) in
     ends-weaker _ _ _ _ _ _ c.write_at_once.result
     (λ output is. rw c.in-Filter.is
-    (at-once (reads_of options.place) (is_kept c.args.chooser.now) options c.args.input.now
+    (at-once (version_in (reads_of options.place)) (is_kept c.args.chooser.now) options c.args.input.now
     (Leaves g.F.Files.puts c.args.files.now c.args.files.now) skips no_file refl output is))
-    (λ fault memory. subst (ComesOfArranged options (reads_of options.place) c.args.input.now)
+    (λ fault memory. subst (ComesOfArranged options (version_in (reads_of options.place)) c.args.input.now)
     (sym memory) tt)
     c.write_at_once.ensures

@@ -3,6 +3,7 @@ use Rattle.version_commands.specs.Arranged.{arranged}
 use Rattle.version_commands.specs.Picked.{bad_lines, kept_lines}
 use Rattle.version_commands.specs.Place.{group_text}
 use Rattle.version_lines.specs.Lines.{lines_of}
+use Rattle.version_lines.specs.Sort.{version_in}
 use Rattle.version_commands.proofs.lemmas.Ends.{ends-weaker}
 use Rattle.version_commands.proofs.lemmas.Ordered.{is-arranged, put-faults}
 use Rattle.version_commands.proofs.arrange.write_keyed.Goals as goal
@@ -18,9 +19,9 @@ returns-clause-ends g c =
     ∙ (λ i. arranged (g.B.SortBy.reads (stays i)) (group_text options.place.crlf)
     c.args.arrangement (kept i))
     ∙ (λ i. arranged (g.B.SortBy.reads (by i)) (group_text options.place.crlf) c.args.arrangement
-    (kept_lines (g.B.SortBy.reads (by i)) (g.C.Chooses.keeps c.args.chooser.now) lines)) in
+    (kept_lines (version_in (g.B.SortBy.reads (by i))) (g.C.Chooses.keeps c.args.chooser.now) lines)) in
     ends-weaker _ _ _ _ _ _ c.write_lines.result
-    (λ output. is-arranged reads options c.args.input.now _ _ _ _ output
-    (c.in_ok-bad.ensures.bad.0 ∙ (λ i. bad_lines (g.B.SortBy.reads (by i)) lines)) rows
+    (λ output. is-arranged (version_in reads) options c.args.input.now _ _ _ _ output
+    (c.in_ok-bad.ensures.bad.0 ∙ (λ i. bad_lines (version_in (g.B.SortBy.reads (by i))) lines)) rows
     (λ fail. ap (map (λ (line : Bor (List ℕ)). line.now)) (c.in_ok-refuse_bad.ensures.none fail)))
-    (put-faults options reads c.args.input.now) c.write_lines.ensures.ends
+    (put-faults options (version_in reads) c.args.input.now) c.write_lines.ensures.ends

@@ -1,6 +1,7 @@
 use Rattle.std.proofs.Common.{ℕ, List, Bor, map, ap, ◌∙◌}
 use Rattle.version_commands.specs.Picked.{bad_lines, kept_lines}
 use Rattle.version_lines.specs.Lines.{lines_of}
+use Rattle.version_lines.specs.Sort.{version_in}
 use Rattle.version_lines.specs.NewestLine.{newest_alone}
 use Rattle.version_commands.proofs.lemmas.Ends.{ends-weaker}
 use Rattle.version_commands.proofs.lemmas.Ordered.{is-arranged, put-faults}
@@ -14,11 +15,11 @@ returns-clause-ends g c =
     let by = c.new-newest.ensures.by in
     let rows = c.line.ensures _ newest
     ∙ (λ i. newest_alone (g.B.SortBy.reads (stays i))
-    (kept_lines (g.B.SortBy.reads c.new-newest.result.by) (g.C.Chooses.keeps c.args.chooser.now) lines))
+    (kept_lines (version_in (g.B.SortBy.reads c.new-newest.result.by)) (g.C.Chooses.keeps c.args.chooser.now) lines))
     ∙ (λ i. newest_alone (g.B.SortBy.reads (by i))
-    (kept_lines (g.B.SortBy.reads (by i)) (g.C.Chooses.keeps c.args.chooser.now) lines)) in
+    (kept_lines (version_in (g.B.SortBy.reads (by i))) (g.C.Chooses.keeps c.args.chooser.now) lines)) in
     ends-weaker _ _ _ _ _ _ c.write_lines.result
-    (λ output. is-arranged (g.B.SortBy.reads c.args.by) options c.args.input.now _ _ _ _ output
-    (c.in_ok-bad.ensures.bad.0 ∙ (λ i. bad_lines (g.B.SortBy.reads (by i)) lines)) rows
+    (λ output. is-arranged (version_in (g.B.SortBy.reads c.args.by)) options c.args.input.now _ _ _ _ output
+    (c.in_ok-bad.ensures.bad.0 ∙ (λ i. bad_lines (version_in (g.B.SortBy.reads (by i))) lines)) rows
     (λ fail. ap (map (λ (line : Bor (List ℕ)). line.now)) (c.in_ok-refuse_bad.ensures.none fail)))
-    (put-faults options (g.B.SortBy.reads c.args.by) c.args.input.now) c.write_lines.ensures.ends
+    (put-faults options (version_in (g.B.SortBy.reads c.args.by)) c.args.input.now) c.write_lines.ensures.ends

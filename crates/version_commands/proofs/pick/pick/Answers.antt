@@ -1,7 +1,7 @@
 use Rattle.std.proofs.Common.{◌≡◌, ◌∙◌, ◌∷◌, ◌++◌, [], Some, ap, refl, sym}
 use Rattle.std.specs.Option.{option_map}
 use Rattle.version_commands.proofs.lemmas.Picked.{picked-kept, picked-left, picked-start}
-use Rattle.version_lines.specs.Sort.{Reads, version_in}
+use Rattle.version_commands.specs.Picked.{Versions}
 use Rattle.version_schemes.specs.any.AnyVersion.{plain_any}
 use Rattle.version_commands.proofs.pick.pick.Goals as goal
 
@@ -11,7 +11,7 @@ loop-rest-init g c = (
   refl,
   [],
   c.requires.none,
-  picked-start _ _ _ _ _ _ refl (c.new-bad.ensures (g.T.Takes.reads c.args.taker.now)),
+  picked-start _ _ _ _ _ _ refl (c.new-bad.ensures (g.T.Takes.versions c.args.taker.now)),
 )
 
 pub loop-rest-preserved-in_ok-take-in-Some : goal.loop-rest-preserved-in_ok-take-in-Some
@@ -19,11 +19,11 @@ loop-rest-preserved-in_ok-take-in-Some g c =
     let (ready, same, kept, taken, so_far) = c.loop-rest.invariant in
     let line = c.split_line.result.0.now in
     let version = plain_any c.in-Some.version in
-    let some : version_in (g.T.Takes.reads c.args.taker.now) line ≡ Some version =
-    ap (λ (reads : Reads). version_in reads line) (sym same) ∙ sym c.version.ensures
+    let some : g.T.Takes.versions c.args.taker.now line ≡ Some version =
+    ap (λ (versions : Versions). versions line) (sym same) ∙ sym c.version.ensures
     ∙ ap (option_map plain_any) c.in-Some.is in (
       c.take.ensures.ready,
-      c.take.ensures.reads ∙ same,
+      c.take.ensures.versions ∙ same,
       kept ++ line ∷ [],
       c.in_ok-take-in-Some.ensures.taken c.args.taker.now kept taken,
       picked-kept _ _ _ _ _ _ line kept _ _ _ version so_far c.split_line.ensures.lines
@@ -36,8 +36,8 @@ loop-rest-preserved g c =
     let (ready, same, kept, taken, so_far) = c.loop-rest.invariant in
     let line = c.split_line.result.0.now in
     let version = plain_any c.in-Some.version in
-    let some : version_in (g.T.Takes.reads c.args.taker.now) line ≡ Some version =
-    ap (λ (reads : Reads). version_in reads line) (sym same) ∙ sym c.version.ensures
+    let some : g.T.Takes.versions c.args.taker.now line ≡ Some version =
+    ap (λ (versions : Versions). versions line) (sym same) ∙ sym c.version.ensures
     ∙ ap (option_map plain_any) c.in-Some.is in (
       ready,
       same,

@@ -6,9 +6,9 @@ use Rattle.version_commands.proofs.pick.pick.Given as goal
 abbrev pub invariant-loop-rest : goal.invariant-loop-rest
 invariant-loop-rest g l =
     let first = l.initial.taker in
-    g.T.Takes.IsReady l.taker × (g.T.Takes.reads l.taker ≡ g.T.Takes.reads first)
+    g.T.Takes.IsReady l.taker × (g.T.Takes.versions l.taker ≡ g.T.Takes.versions first)
     × (kept : List (List ℕ)) × g.T.Takes.HasTaken first l.taker kept
-    × IsPicked (g.T.Takes.reads first) (g.C.Chooses.keeps l.chooser) l.end l.input l.rest kept l.bad
+    × IsPicked (g.T.Takes.versions first) (g.C.Chooses.keeps l.chooser) l.end l.input l.rest kept l.bad
 
 abbrev pub decreases-loop-rest : goal.decreases-loop-rest
 decreases-loop-rest g l = length l.rest

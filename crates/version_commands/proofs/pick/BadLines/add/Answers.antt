@@ -1,12 +1,12 @@
 use Rattle.std.proofs.Common.{◌≡◌, ◌++◌, ◌∷◌, ℕ, List, [], map, rules, ap, sym, ◌∙◌, Bor}
 use Rattle.std.proofs.lemmas.List.{map_push}
-use Rattle.version_lines.specs.Sort.{is_bad}
+use Rattle.version_commands.specs.Picked.{is_bad}
 use Rattle.version_commands.proofs.lemmas.Picked.{before-bad, filter-pass}
 use Rattle.version_commands.proofs.pick.BadLines.add.Goals as goal
 
 pub returns-clause-bad : goal.returns-clause-bad
-returns-clause-bad c = λ reads lines is so_far.
-    let bad = is_bad reads in
+returns-clause-bad c = λ versions lines is so_far.
+    let bad = is_bad versions in
     let pushed : c.push.new.self.items ≡ c.args.self.now.lines.items ++ c.args.line ∷ [] =
     search rules in (
       ap (map (λ (l : Bor (List ℕ)). l.now)) pushed

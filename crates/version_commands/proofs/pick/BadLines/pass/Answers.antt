@@ -1,13 +1,13 @@
 use Rattle.std.proofs.Common.{◌≡◌, ◌+◌, ◌<◌, ℕ, List, [], length, map, rules, ap, sym, ◌∙◌, arith, Bor}
 use Rattle.std.specs.List.{filter}
 use Rattle.std.proofs.lemmas.List.{length-map, nil_from_length}
-use Rattle.version_lines.specs.Sort.{is_bad}
+use Rattle.version_commands.specs.Picked.{is_bad}
 use Rattle.version_commands.proofs.lemmas.Picked.{before-good, before-stays, filter-fail}
 use Rattle.version_commands.proofs.pick.BadLines.pass.Goals as goal
 
 pub returns-then-is_empty-clause-good : goal.returns-then-is_empty-clause-good
-returns-then-is_empty-clause-good c = λ reads lines line good so_far.
-    let bad = is_bad reads in
+returns-then-is_empty-clause-good c = λ versions lines line good so_far.
+    let bad = is_bad versions in
     let nothing : length c.args.self.now.lines.items ≡ 0 =
     search (rules, c.if-is_empty.ensures) in
     let empty : c.args.self.now.lines.items ≡ [] = nil_from_length _ nothing in
@@ -18,8 +18,8 @@ returns-then-is_empty-clause-good c = λ reads lines line good so_far.
     )
 
 pub returns-else-is_empty-clause-good : goal.returns-else-is_empty-clause-good
-returns-else-is_empty-clause-good c = λ reads lines line good so_far.
-    let bad = is_bad reads in
+returns-else-is_empty-clause-good c = λ versions lines line good so_far.
+    let bad = is_bad versions in
     let items = c.args.self.now.lines.items in
     let some : 0 < length items = search (rules, c.if-is_empty.ensures) in
     let others : ¬ (filter bad lines ≡ []) = λ none.
