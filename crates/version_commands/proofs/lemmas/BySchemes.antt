@@ -1,7 +1,6 @@
 -- Lines of many schemes, one by one.
 use Rattle.std.proofs.Common.{◌≡◌, ◌<◌, ◌+◌, ℕ, Bool, true, List, [], ◌∷◌, ◌++◌, None, Some, length, drop, get_or, refl, sym, ap, ◌∙◌, add-one, append_assoc}
 use Rattle.std.proofs.Math.Seq.{drop-cons}
-use Rattle.std.specs.List.{flat_map}
 use Rattle.version_commands.specs.BySchemes.{schemes_after, scheme_in, with_scheme}
 use Rattle.version_commands.specs.Picked.{Versions, has, kept_lines}
 use Rattle.version_commands.specs.declared.options.VersionPlace.{VersionPlace}
@@ -16,14 +15,6 @@ pub schemes-next : (place : VersionPlace) (column : Column) (schemes : List Sche
     ≡ schemes_after place column (with_scheme schemes (scheme_in place column line)) (drop (i + 1) lines)
 schemes-next place column schemes lines i line inside same =
     ap (schemes_after place column schemes) (drop-cons lines i [] inside) ∙ rw (add-one i, same) refl
-
--- what there is for the schemes from a place on
-pub blocks-next : (block : Scheme → List (List ℕ)) (schemes : List Scheme) (i : ℕ) (default : Scheme)
-    → i < length schemes
-    → flat_map block (drop i schemes)
-    ≡ block (get_or schemes i default) ++ flat_map block (drop (i + 1) schemes)
-blocks-next block schemes i default inside =
-    ap (flat_map block) (drop-cons schemes i default inside) ∙ rw (add-one i) refl
 
 -- lines that are kept, and those that are left from a place on
 module _ (versions : Versions) (keeps : PlainAny → Bool) (lines : List (List ℕ)) (i : ℕ) (line : List ℕ)
